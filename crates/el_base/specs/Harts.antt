@@ -1,0 +1,8 @@
+-- Sets of harts.
+use Rattle.std.specs.Prelude.{ℕ, Bool, ◌==◌, ◌&&◌, nat_lt}
+use Rattle.std.specs.Int.{bit_at}
+use Rattle.el_base.specs.declared.hart_set.Harts.{Harts}
+
+-- whether the set has the hart of this number; no set has a hart above 7
+abbrev pub has_hart : Harts → ℕ → Bool
+has_hart harts h = nat_lt h 8 && bit_at harts.bits h == 1

@@ -1,0 +1,32 @@
+ghost use Rattle.std.specs.Prelude.{◌≡◌, ◌<◌, ◌↔◌, IsNone, IfSome};
+
+/// The most harts that a machine has.
+pub const MAX_HARTS: u8 = 8;
+
+/// One hart of a machine, by its number from 0 to 7.
+#[derive(Clone, Copy, Debug, PartialEq, Eq)]
+pub struct HartId {
+    pub number: u8,
+    pub ghost small: { number < 8 },
+}
+
+impl HartId {
+    /// The hart of this number, or `None` where the number is above 7.
+    pub fn new(number: u8) -> Option<HartId>
+        ensures none_exactly_above_7 { IsNone result ↔ (7 < number) }
+        ensures number_kept { IfSome result (λ hart. hart.number ≡ number) }
+    {
+        if number < MAX_HARTS {
+            Some(HartId { number })
+        } else {
+            None
+        }
+    }
+
+    /// The number that the hart was made of.
+    pub fn number(self) -> u8
+        ensures { result ≡ self.number }
+    {
+        self.number
+    }
+}

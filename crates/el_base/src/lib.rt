@@ -1,19 +1,33 @@
-//! The words that every crate of the simulator speaks: harts and sets of harts, lines of memory, and
-//! the one answer for want of memory.
+//! The words that every crate of the simulator speaks: harts and sets of harts, lines of memory, the
+//! configuration of a machine, its events with their outcomes, and the one answer for want of memory.
 //!
 //! It stands on nothing but std, and no call of it takes memory. Contracts see a hart and a line by
-//! their `number`, and a set of harts by `has_hart`, a test on hart numbers.
+//! their `number`, a set of harts by the test `has_hart` on hart numbers, the losers of an event by
+//! the map `beaten_by`, and anything that keeps a history by its list of entries. It says what the
+//! words are, and nothing of what a machine does.
 #![tactic(auto)]
 
+mod conflicts;
+mod entries;
+mod events;
 mod hart_id;
 mod hart_set;
 mod line;
-mod memory;
+mod no_memory;
+mod outcomes;
+mod settings;
+mod stamps;
 
+pub use conflicts::Losers;
+pub use entries::{Chronicled, Entry};
+pub use events::{Event, Kind};
 pub use hart_id::HartId;
 pub use hart_set::Harts;
 pub use line::{LineAddr, line_of};
-pub use memory::NoMemory;
+pub use no_memory::NoMemory;
+pub use outcomes::{Cause, Need, Outcome, Why};
+pub use settings::{Config, ConfigFault, Mode};
+pub use stamps::Stamped;
 
 #[cfg(test)]
 mod tests;

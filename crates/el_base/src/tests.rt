@@ -1,4 +1,5 @@
 use super::*;
+use std::mem::size_of;
 use std::test::Fail;
 
 #[test]
@@ -48,4 +49,119 @@ fn a_set_keeps_each_hart_apart(rt: HostRuntime) -> Result<(), Fail> {
 fn want_of_memory_is_one_answer(rt: HostRuntime) {
     let from_alloc: NoMemory = std::alloc::AllocError.into();
     assert_eq!(rt; from_alloc, NoMemory);
+}
+
+#[test]
+fn a_hart_has_the_last_winner_given(rt: HostRuntime) -> Result<(), Fail> {
+    let first = HartId::new(0).ok_or("no hart 0")?;
+    let third = HartId::new(2).ok_or("no hart 2")?;
+    let last = HartId::new(7).ok_or("no hart 7")?;
+    let losers = Losers::none()
+        .with(third, last)
+        .with(last, first)
+        .with(third, first);
+    for (loser, winner) in [(first, None), (third, Some(first)), (last, Some(first))] {
+        assert_eq!(rt; Losers::none().winner_of(loser), None);
+        assert_eq!(rt; losers.winner_of(loser), winner);
+    }
+    let other_way_round = Losers::none().with(last, first).with(third, first);
+    assert_eq!(rt; losers, other_way_round);
+    Ok(())
+}
+
+#[test]
+fn each_field_has_its_range(rt: HostRuntime) {
+    let usual = Config::usual();
+    assert_eq!(rt; usual.check(), Ok(()));
+    for (harts, checked) in [
+        (0, Err(ConfigFault::Harts)),
+        (1, Ok(())),
+        (8, Ok(())),
+        (9, Err(ConfigFault::Harts)),
+    ] {
+        assert_eq!(rt; Config { harts, ..usual }.check(), checked);
+    }
+    for sets in 0..=255 {
+        let known = [1, 2, 4, 8, 16, 32, 64].contains(&sets);
+        assert_eq!(rt;
+            Config { sets, ..usual }.check().is_ok(),
+            known,
+            "at {sets}"
+        );
+    }
+    for (ways, checked) in [
+        (0, Err(ConfigFault::Ways)),
+        (1, Ok(())),
+        (8, Ok(())),
+        (9, Err(ConfigFault::Ways)),
+    ] {
+        assert_eq!(rt; Config { ways, ..usual }.check(), checked);
+    }
+    for (lines, checked) in [
+        (0, Err(ConfigFault::Lines)),
+        (1, Ok(())),
+        (32, Ok(())),
+        (33, Err(ConfigFault::Lines)),
+    ] {
+        assert_eq!(rt; Config { lines, ..usual }.check(), checked);
+    }
+    for (long, checked) in [
+        (1, Err(ConfigFault::Long)),
+        (2, Ok(())),
+        (65_536, Ok(())),
+        (65_537, Err(ConfigFault::Long)),
+    ] {
+        assert_eq!(rt; Config { long, ..usual }.check(), checked);
+    }
+    for (steps, checked) in [
+        (0, Err(ConfigFault::Steps)),
+        (1, Ok(())),
+        (16_777_216, Ok(())),
+        (16_777_217, Err(ConfigFault::Steps)),
+    ] {
+        assert_eq!(rt; Config { steps, ..usual }.check(), checked);
+    }
+}
+
+#[test]
+fn the_first_fault_is_answered(rt: HostRuntime) {
+    let nothing_right = Config {
+        harts: 0,
+        mode: Mode::Plain,
+        sets: 0,
+        ways: 0,
+        lines: 0,
+        long: 0,
+        steps: 0,
+    };
+    let usual = Config::usual();
+    let without_harts = Config {
+        harts: usual.harts,
+        ..nothing_right
+    };
+    let without_sets = Config {
+        sets: usual.sets,
+        ..without_harts
+    };
+    for (config, number) in [(nothing_right, 1), (without_harts, 2), (without_sets, 3)] {
+        assert_eq!(rt; config.check().map_err(|fault| fault as u8), Err(number));
+    }
+    assert_eq!(rt;
+        [
+            ConfigFault::Lines as u8,
+            ConfigFault::Long as u8,
+            ConfigFault::Steps as u8
+        ],
+        [4, 5, 6]
+    );
+}
+
+#[test]
+fn an_entry_takes_16_bytes(rt: HostRuntime) {
+    assert_eq!(rt; size_of::<Losers>(), 8);
+    assert!(rt;
+        size_of::<Entry>() <= 16,
+        "an entry takes {} bytes",
+        size_of::<Entry>()
+    );
 }

@@ -1,0 +1,66 @@
+use crate::conflicts::Losers;
+use crate::hart_id::HartId;
+use crate::line::LineAddr;
+
+/// What a hart wants of a line.
+#[derive(Clone, Copy, Debug, PartialEq, Eq)]
+pub enum Need {
+    Read,
+    Write,
+}
+
+/// Why a section was rolled back by its own hart, with no other hart in its way.
+#[derive(Clone, Copy, Debug, PartialEq, Eq)]
+pub enum Cause {
+    /// The cache has no room for a line beside the lines that the section has touched.
+    Room,
+    /// The section would write more lines than a hart can hold back.
+    Lines,
+    /// The section has run as many instructions as one may.
+    Long,
+    /// The next instruction is a call, or it stops the hart.
+    Call,
+    /// The section stores to its own lock word, and this is not its release.
+    Mixed,
+}
+
+/// Why a request was not served.
+#[derive(Clone, Copy, Debug, PartialEq, Eq)]
+pub enum Why {
+    /// Another request for the line comes first.
+    Behind,
+    /// A section keeps the line.
+    Retained,
+    /// Another hart holds the line until its next step.
+    Locked,
+}
+
+/// What came of one event.
+#[derive(Clone, Copy, Debug, PartialEq, Eq)]
+pub enum Outcome {
+    /// There was nothing to do.
+    Idle,
+    /// The hart waits for its request to be served.
+    Stalled,
+    /// The hart's next instruction needs a line that its cache does not give; a request was raised.
+    Missed { line: LineAddr, need: Need },
+    /// One instruction ran outside of a section.
+    Ran,
+    /// A section began: its acquire was elided.
+    Began,
+    /// One instruction ran in a section.
+    Buffered,
+    /// A section took effect as a whole, with all its `count` instructions, acquire and release
+    /// included.
+    Committed { count: u32 },
+    /// A section left nothing behind, and its hart stands before the acquire again.
+    RolledBack { cause: Cause },
+    /// A request took its place in the order; these sections lost to it.
+    Ordered { losers: Losers },
+    /// A request was served; these sections lost to the next one for its line.
+    Served { losers: Losers },
+    /// A request was not served, because of the hart `by`.
+    Blocked { why: Why, by: HartId },
+    /// A message was taken; these sections lost by it.
+    Delivered { losers: Losers },
+}

@@ -1,0 +1,11 @@
+//! The instruction words of RV32I and its A extension: `Insn` names each instruction with its
+//! fields, `decode` reads a word and `encode` writes one.
+//!
+//! It stands on nothing but std, and takes no memory.
+#![tactic(auto)]
+
+mod insn;
+mod reg;
+
+pub use insn::{Alu, AmoOp, Insn, LoadWidth, StoreWidth, Test};
+pub use reg::Reg;

@@ -1,0 +1,9 @@
+pub mod Field
+pub mod Immediate
+pub mod Arithmetic
+pub mod Comparison
+pub mod Load
+pub mod Store
+pub mod Atomic
+pub mod Meaning
+pub mod Decoding

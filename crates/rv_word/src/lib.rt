@@ -4,6 +4,10 @@
 //! It stands on nothing but std, and takes no memory.
 #![tactic(auto)]
 
+mod decode;
+mod table;
+mod field;
+mod immediate;
 mod insn;
 mod reg;
 

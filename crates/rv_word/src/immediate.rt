@@ -1,0 +1,60 @@
+ghost use Rattle.std.specs.Prelude.{◌≡◌, ◌^◌, ◌<◌, ◌≤◌};
+ghost use Rattle.rv_word.specs.Immediate.{signed, imm_i, imm_s, imm_b, imm_u, imm_j};
+ghost use Rattle.rv_word.specs.Arithmetic.{op_immediate};
+
+use crate::field::field_at;
+use crate::insn::Alu;
+
+/// A number of `width` bits read as two's complement.
+fn sign_extend(value: u32, width: u32) -> i32
+    requires some_bits { 1 ≤ width }
+    requires narrow { width < 31 }
+    requires fits { value < 2 ^ width }
+    ensures exact { result ≡ signed width value }
+{
+    if value < 1 << (width - 1) { value as i32 } else { value as i32 - (1 << width) }
+}
+
+pub(crate) fn i_immediate(word: u32) -> i32
+    ensures exact { result ≡ imm_i word }
+{
+    sign_extend(field_at(word, 20, 12), 12)
+}
+
+pub(crate) fn s_immediate(word: u32) -> i32
+    ensures exact { result ≡ imm_s word }
+{
+    sign_extend((field_at(word, 25, 7) << 5) + field_at(word, 7, 5), 12)
+}
+
+pub(crate) fn b_immediate(word: u32) -> i32
+    ensures exact { result ≡ imm_b word }
+{
+    let high = (field_at(word, 31, 1) << 12) + (field_at(word, 7, 1) << 11);
+    let low = (field_at(word, 25, 6) << 5) + (field_at(word, 8, 4) << 1);
+    sign_extend(high + low, 13)
+}
+
+pub(crate) fn u_immediate(word: u32) -> u32
+    ensures exact { result ≡ imm_u word }
+{
+    field_at(word, 12, 20) << 12
+}
+
+pub(crate) fn j_immediate(word: u32) -> i32
+    ensures exact { result ≡ imm_j word }
+{
+    let high = (field_at(word, 31, 1) << 20) + (field_at(word, 12, 8) << 12);
+    let low = (field_at(word, 20, 1) << 11) + (field_at(word, 21, 10) << 1);
+    sign_extend(high + low, 21)
+}
+
+/// The immediate of an operation on a register and an immediate.
+pub(crate) fn op_immediate_of(word: u32, op: Alu) -> i32
+    ensures exact { result ≡ op_immediate word op }
+{
+    match op {
+        Alu::Sll | Alu::Srl | Alu::Sra => field_at(word, 20, 5) as i32,
+        _ => i_immediate(word),
+    }
+}

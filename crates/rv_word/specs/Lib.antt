@@ -6,4 +6,5 @@ pub mod Load
 pub mod Store
 pub mod Atomic
 pub mod Meaning
+pub mod Validity
 pub mod Decoding

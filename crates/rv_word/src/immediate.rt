@@ -1,11 +1,13 @@
-ghost use Rattle.std.specs.Prelude.{◌≡◌, ◌^◌, ◌<◌, ◌≤◌};
+ghost use Rattle.std.specs.Prelude.{◌≡◌, ℕ, ◌%◌, ◌^◌, ◌<◌, ◌≤◌};
 ghost use Rattle.rv_word.specs.Immediate.{signed, imm_i, imm_s, imm_b, imm_u, imm_j};
 ghost use Rattle.rv_word.specs.Arithmetic.{op_immediate};
+ghost use Rattle.rv_word.specs.Validity.{FitsSignedBits, IsEven};
 
 use crate::field::field_at;
 use crate::insn::Alu;
 
 /// A number of `width` bits read as two's complement.
+#[tactic(auto, using(crate::proofs::Powers::pow_narrow, crate::proofs::Powers::pow_halves))]
 fn sign_extend(value: u32, width: u32) -> i32
     requires some_bits { 1 ≤ width }
     requires narrow { width < 31 }
@@ -13,6 +15,21 @@ fn sign_extend(value: u32, width: u32) -> i32
     ensures exact { result ≡ signed width value }
 {
     if value < 1 << (width - 1) { value as i32 } else { value as i32 - (1 << width) }
+}
+
+/// The low bits of a number that fits `width` bits.
+#[tactic(auto, using(crate::proofs::Powers::pow_narrow, crate::proofs::Powers::pow_halves))]
+pub(crate) fn low_bits(value: i32, width: u32) -> u32
+    requires some_bits { 1 ≤ width }
+    requires narrow { width < 31 }
+    requires fits { FitsSignedBits width value }
+    ensures in_range { result < 2 ^ width }
+    ensures back { signed width result ≡ value }
+    ensures only { (n : ℕ) → n < 2 ^ width → signed width n ≡ value → n ≡ result }
+    ensures even { IsEven value → result % 2 ≡ 0 }
+{
+    let bits = if value < 0 { value + (1 << width) } else { value };
+    bits.cast_unsigned()
 }
 
 pub(crate) fn i_immediate(word: u32) -> i32

@@ -7,6 +7,7 @@
 mod decode;
 mod table;
 mod field;
+mod form;
 mod immediate;
 mod insn;
 mod reg;

@@ -6,6 +6,8 @@
 
 mod decode;
 mod table;
+mod validity;
+mod encode;
 mod field;
 mod form;
 mod immediate;

@@ -1,5 +1,5 @@
 //! The codes of the operations of each kind, read from and written into a word.
-ghost use Rattle.std.specs.Prelude.{◌≡◌, ◌↔◌, IsTrue, Some};
+ghost use Rattle.std.specs.Prelude.{◌≡◌, ◌<◌, ◌^◌, ◌↔◌, IsTrue, Some};
 ghost use Rattle.rv_word.specs.Arithmetic.{is_op_row, op_at, is_op_imm_row, op_imm_at};
 ghost use Rattle.rv_word.specs.Comparison.{test_code, test_at};
 ghost use Rattle.rv_word.specs.Load.{load_code, load_width_at};
@@ -113,5 +113,64 @@ pub(crate) fn op_imm_of(word: u32) -> Option<Alu>
         (0b110, _) => Some(Alu::Or),
         (0b111, _) => Some(Alu::And),
         _ => None,
+    }
+}
+
+/// funct3 of a branch that makes this test.
+pub(crate) fn code_of_test(test: Test) -> u32
+    ensures exact { result ≡ test_code test }
+    ensures in_range { result < 2 ^ 3 }
+{
+    match test {
+        Test::Eq => 0b000,
+        Test::Ne => 0b001,
+        Test::Lt => 0b100,
+        Test::Ge => 0b101,
+        Test::Ltu => 0b110,
+        Test::Geu => 0b111,
+    }
+}
+
+/// funct3 of a load of this width.
+pub(crate) fn code_of_load(width: LoadWidth) -> u32
+    ensures exact { result ≡ load_code width }
+    ensures in_range { result < 2 ^ 3 }
+{
+    match width {
+        LoadWidth::Byte => 0b000,
+        LoadWidth::Half => 0b001,
+        LoadWidth::Word => 0b010,
+        LoadWidth::ByteU => 0b100,
+        LoadWidth::HalfU => 0b101,
+    }
+}
+
+/// funct3 of a store of this width.
+pub(crate) fn code_of_store(width: StoreWidth) -> u32
+    ensures exact { result ≡ store_code width }
+    ensures in_range { result < 2 ^ 3 }
+{
+    match width {
+        StoreWidth::Byte => 0b000,
+        StoreWidth::Half => 0b001,
+        StoreWidth::Word => 0b010,
+    }
+}
+
+/// funct5 of an atomic memory operation.
+pub(crate) fn code_of_amo(op: AmoOp) -> u32
+    ensures exact { result ≡ amo_code op }
+    ensures in_range { result < 2 ^ 5 }
+{
+    match op {
+        AmoOp::Swap => 0b00001,
+        AmoOp::Add => 0b00000,
+        AmoOp::Xor => 0b00100,
+        AmoOp::And => 0b01100,
+        AmoOp::Or => 0b01000,
+        AmoOp::Min => 0b10000,
+        AmoOp::Max => 0b10100,
+        AmoOp::Minu => 0b11000,
+        AmoOp::Maxu => 0b11100,
     }
 }

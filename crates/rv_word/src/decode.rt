@@ -1,7 +1,8 @@
-ghost use Rattle.std.specs.Prelude.{◌≡◌, ◌↔◌, Some};
+ghost use Rattle.std.specs.Prelude.{◌≡◌, ◌↔◌, Some, IfSome};
 ghost use Rattle.rv_word.specs.Field.{opcode_of, funct3_of};
 ghost use Rattle.rv_word.specs.Meaning.{Means};
 ghost use Rattle.rv_word.specs.Decoding.{decoded, atomic_decoded};
+ghost use Rattle.rv_word.specs.Validity.{Valid};
 ghost use Rattle.rv_word.specs.declared.insn.Insn.{Insn};
 
 use crate::field::{aq, field_at, funct3, funct5, opcode, rd, rl, rs1, rs2};
@@ -18,6 +19,7 @@ use crate::table::{amo_of, load_width_of, op_imm_of, op_of, store_width_of, test
 pub fn decode(word: u32) -> Option<Insn>
     ensures row { (insn : Insn) → (result ≡ Some insn) ↔ Means word insn }
     ensures exact { result ≡ decoded word }
+    ensures valid { IfSome result (λ insn. Valid insn) }
 {
     let insn = match opcode(word) {
         0b0110111 => Insn::Lui {
@@ -85,6 +87,7 @@ fn atomic(word: u32) -> Option<Insn>
     requires word_size { funct3_of word ≡ 0b010 }
     ensures row { (insn : Insn) → (result ≡ Some insn) ↔ Means word insn }
     ensures exact { result ≡ atomic_decoded word }
+    ensures valid { IfSome result (λ insn. Valid insn) }
 {
     let insn = match funct5(word) {
         0b00010 if field_at(word, 20, 5) == 0 => Insn::Lr {

@@ -1,7 +1,7 @@
-ghost use Rattle.std.specs.Prelude.{◌≡◌, ℕ, ◌%◌, ◌^◌, ◌<◌, ◌≤◌};
+ghost use Rattle.std.specs.Prelude.{◌≡◌, ◌≢◌, ℕ, ◌%◌, ◌^◌, ◌<◌, ◌≤◌};
 ghost use Rattle.rv_word.specs.Immediate.{signed, imm_i, imm_s, imm_b, imm_u, imm_j};
 ghost use Rattle.rv_word.specs.Arithmetic.{op_immediate};
-ghost use Rattle.rv_word.specs.Validity.{FitsSignedBits, IsEven};
+ghost use Rattle.rv_word.specs.Validity.{FitsSignedBits, IsEven, IsOpImmediate};
 
 use crate::field::field_at;
 use crate::insn::Alu;
@@ -13,6 +13,8 @@ fn sign_extend(value: u32, width: u32) -> i32
     requires narrow { width < 31 }
     requires fits { value < 2 ^ width }
     ensures exact { result ≡ signed width value }
+    ensures fits { FitsSignedBits width result }
+    ensures even { value % 2 ≡ 0 → IsEven result }
 {
     if value < 1 << (width - 1) { value as i32 } else { value as i32 - (1 << width) }
 }
@@ -34,18 +36,22 @@ pub(crate) fn low_bits(value: i32, width: u32) -> u32
 
 pub(crate) fn i_immediate(word: u32) -> i32
     ensures exact { result ≡ imm_i word }
+    ensures fits { FitsSignedBits 12 result }
 {
     sign_extend(field_at(word, 20, 12), 12)
 }
 
 pub(crate) fn s_immediate(word: u32) -> i32
     ensures exact { result ≡ imm_s word }
+    ensures fits { FitsSignedBits 12 result }
 {
     sign_extend((field_at(word, 25, 7) << 5) + field_at(word, 7, 5), 12)
 }
 
 pub(crate) fn b_immediate(word: u32) -> i32
     ensures exact { result ≡ imm_b word }
+    ensures fits { FitsSignedBits 13 result }
+    ensures even { IsEven result }
 {
     let high = (field_at(word, 31, 1) << 12) + (field_at(word, 7, 1) << 11);
     let low = (field_at(word, 25, 6) << 5) + (field_at(word, 8, 4) << 1);
@@ -54,12 +60,15 @@ pub(crate) fn b_immediate(word: u32) -> i32
 
 pub(crate) fn u_immediate(word: u32) -> u32
     ensures exact { result ≡ imm_u word }
+    ensures low_bits_clear { result % 2 ^ 12 ≡ 0 }
 {
     field_at(word, 12, 20) << 12
 }
 
 pub(crate) fn j_immediate(word: u32) -> i32
     ensures exact { result ≡ imm_j word }
+    ensures fits { FitsSignedBits 21 result }
+    ensures even { IsEven result }
 {
     let high = (field_at(word, 31, 1) << 20) + (field_at(word, 12, 8) << 12);
     let low = (field_at(word, 20, 1) << 11) + (field_at(word, 21, 10) << 1);
@@ -69,6 +78,7 @@ pub(crate) fn j_immediate(word: u32) -> i32
 /// The immediate of an operation on a register and an immediate.
 pub(crate) fn op_immediate_of(word: u32, op: Alu) -> i32
     ensures exact { result ≡ op_immediate word op }
+    ensures fits { op ≢ Alu.Sub → IsOpImmediate op result }
 {
     match op {
         Alu::Sll | Alu::Srl | Alu::Sra => field_at(word, 20, 5) as i32,

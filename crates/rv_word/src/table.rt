@@ -1,5 +1,5 @@
 //! The codes of the operations of each kind, read from and written into a word.
-ghost use Rattle.std.specs.Prelude.{◌≡◌, ◌<◌, ◌^◌, ◌↔◌, IsTrue, Some};
+ghost use Rattle.std.specs.Prelude.{◌≡◌, ◌≢◌, ◌<◌, ◌^◌, ◌↔◌, IsTrue, Some};
 ghost use Rattle.rv_word.specs.Arithmetic.{is_op_row, op_at, is_op_imm_row, op_imm_at};
 ghost use Rattle.rv_word.specs.Comparison.{test_code, test_at};
 ghost use Rattle.rv_word.specs.Load.{load_code, load_width_at};
@@ -100,6 +100,7 @@ pub(crate) fn op_of(word: u32) -> Option<Alu>
 #[tactic(auto, unfolding(crate::specs::Arithmetic::op_imm_at))]
 pub(crate) fn op_imm_of(word: u32) -> Option<Alu>
     ensures row { (op : Alu) → (result ≡ Some op) ↔ IsTrue (is_op_imm_row word op) }
+    ensures never_sub { result ≢ Some Alu.Sub }
     ensures exact { result ≡ op_imm_at word }
 {
     match (funct3(word), funct7(word)) {

@@ -1,2 +1,6 @@
 pub mod Numbers
 pub mod Program
+pub mod Header
+pub mod Layout
+pub mod Faults
+pub mod Loaded

@@ -3,9 +3,13 @@
 
 mod bytes;
 mod code;
+mod fault;
+mod header;
 mod image;
+mod program_header;
 mod segment;
 
 pub use code::Code;
+pub use fault::{Fault, FaultKind};
 pub use image::Image;
 pub use segment::Segment;

@@ -1,0 +1,170 @@
+-- The grammar of images: the first of sixteen faults, or none.
+use Rattle.std.specs.Prelude.{ℕ, ◌+◌, ◌-◌, ◌*◌, ◌%◌, Bool, true, false, not, ◌&&◌, ◌==◌, nat_lt, nat_le, if◌then◌else◌, List, [], ◌∷◌, ◌++◌, map, length, slice_index, Option, Some, None, find, option_map}
+use Rattle.std.specs.Option.{option_or}
+use Rattle.std.specs.List.{list_any}
+use Rattle.elf_image.specs.declared.fault.Fault.{Fault}
+use Rattle.elf_image.specs.declared.fault.FaultKind.{FaultKind}
+use Rattle.elf_image.specs.declared.fault.FaultKind.TheVariants.{Short, Magic, Class, ByteOrder, Version, FileKind, Machine, Flags, Table, Dynamic, Segment, Overlap, TooWide, TooHigh, Entry, Empty}
+use Rattle.elf_image.specs.declared.program_header.ProgramHeader.{ProgramHeader}
+use Rattle.elf_image.specs.Header.{file_header, program_headers}
+use Rattle.elf_image.specs.Layout.{is_load, is_dynamic, is_executable, spans_word, segments_of, first_overlap, memory_base, memory_end}
+
+abbrev pub number_of : FaultKind → ℕ
+number_of Short = 1
+number_of Magic = 2
+number_of Class = 3
+number_of ByteOrder = 4
+number_of Version = 5
+number_of FileKind = 6
+number_of Machine = 7
+number_of Flags = 8
+number_of Table = 9
+number_of Dynamic = 10
+number_of Segment = 11
+number_of Overlap = 12
+number_of TooWide = 13
+number_of TooHigh = 14
+number_of Entry = 15
+number_of Empty = 16
+
+-- the fault of a kind at a place of the file
+abbrev pub fault_of : FaultKind → ℕ → Fault
+fault_of kind place = record { number = number_of kind; place = place }
+
+abbrev pub fault_if : Bool → FaultKind → ℕ → Option Fault
+fault_if condition kind place = if condition then Some (fault_of kind place) else None
+
+abbrev pub differs : ℕ → ℕ → Bool
+differs value wanted = not (value == wanted)
+
+-- the first that is some
+abbrev pub first_of : List (Option Fault) → Option Fault
+first_of [] = None
+first_of (fault ∷ faults) = option_or fault (first_of faults)
+
+-- e_ident
+
+abbrev pub short_fault : List ℕ → Option Fault
+short_fault file = fault_if (nat_lt (length file) 52) Short (length file)
+
+-- at the first byte that differs
+abbrev pub magic_fault : List ℕ → Option Fault
+magic_fault file =
+    first_of
+        ( fault_if (differs (slice_index file 0) 0x7f) Magic 0
+        ∷ fault_if (differs (slice_index file 1) 0x45) Magic 1
+        ∷ fault_if (differs (slice_index file 2) 0x4c) Magic 2
+        ∷ fault_if (differs (slice_index file 3) 0x46) Magic 3
+        ∷ [])
+
+-- EI_CLASS is ELFCLASS32
+abbrev pub class_fault : List ℕ → Option Fault
+class_fault file = fault_if (differs (slice_index file 4) 1) Class 4
+
+-- EI_DATA is ELFDATA2LSB
+abbrev pub byte_order_fault : List ℕ → Option Fault
+byte_order_fault file = fault_if (differs (slice_index file 5) 1) ByteOrder 5
+
+-- EI_VERSION and e_version are EV_CURRENT
+abbrev pub version_fault : List ℕ → Option Fault
+version_fault file =
+    first_of
+        ( fault_if (differs (slice_index file 6) 1) Version 6
+        ∷ fault_if (differs (file_header file).e_version 1) Version 20
+        ∷ [])
+
+-- The other fields of the ELF header
+
+-- e_type is ET_EXEC
+abbrev pub file_kind_fault : List ℕ → Option Fault
+file_kind_fault file = fault_if (differs (file_header file).e_type 2) FileKind 16
+
+-- e_machine is EM_RISCV
+abbrev pub machine_fault : List ℕ → Option Fault
+machine_fault file = fault_if (differs (file_header file).e_machine 243) Machine 18
+
+-- EF_RISCV_RVC, EF_RISCV_FLOAT_ABI and EF_RISCV_RVE are the low four bits
+abbrev pub flags_fault : List ℕ → Option Fault
+flags_fault file = fault_if (differs ((file_header file).e_flags % 16) 0) Flags 36
+
+-- the sizes are those of ELF32, there are few headers, and all lie in the file
+abbrev pub table_fault : List ℕ → Option Fault
+table_fault file =
+    let header = file_header file in
+    first_of
+        ( fault_if (differs header.e_ehsize 52) Table 40
+        ∷ fault_if (nat_lt 64 header.e_phnum) Table 44
+        ∷ fault_if (nat_le 1 header.e_phnum && differs header.e_phentsize 32) Table 42
+        ∷ fault_if (nat_lt (length file) (header.e_phoff + 32 * header.e_phnum)) Table 28
+        ∷ [])
+
+-- The program headers
+
+abbrev pub dynamic_fault : List ℕ → Option Fault
+dynamic_fault file = option_map (λ header. fault_of Dynamic header.place) (find is_dynamic (program_headers file))
+
+-- of one header of type PT_LOAD: it has no more bytes in the file than in memory, and these lie in the
+-- file
+abbrev pub load_fault : ℕ → ProgramHeader → Option Fault
+load_fault file_len header =
+    if is_load header
+    then first_of
+        ( fault_if (nat_lt header.p_memsz header.p_filesz) Segment (header.place + 16)
+        ∷ fault_if (nat_le 1 header.p_filesz && nat_lt file_len (header.p_offset + header.p_filesz)) Segment (header.place + 4)
+        ∷ [])
+    else None
+
+abbrev pub segment_fault : List ℕ → Option Fault
+segment_fault file = first_of (map (load_fault (length file)) (program_headers file))
+
+-- Memory
+
+abbrev pub overlap_fault : List ℕ → Option Fault
+overlap_fault file = option_map (λ segment. fault_of Overlap segment.place) (first_overlap (segments_of file))
+
+abbrev pub has_segment : List ProgramHeader → Bool
+has_segment [] = false
+has_segment (segment ∷ segments) = true
+
+abbrev pub too_wide_fault : List ℕ → ℕ → Option Fault
+too_wide_fault file harts =
+    let segments = segments_of file in
+    fault_if (has_segment segments && nat_lt 16777216 (memory_end segments harts - memory_base segments)) TooWide 28
+
+abbrev pub too_high_fault : List ℕ → ℕ → Option Fault
+too_high_fault file harts =
+    let segments = segments_of file in
+    fault_if (has_segment segments && nat_lt 0xffff0000 (memory_end segments harts)) TooHigh 28
+
+-- the entry is the address of a whole instruction of one executable segment
+abbrev pub is_entry : List ProgramHeader → ℕ → Bool
+is_entry segments entry =
+    entry % 4 == 0 && list_any (λ segment. is_executable segment && spans_word entry segment) segments
+
+abbrev pub entry_fault : List ℕ → Option Fault
+entry_fault file =
+    let segments = segments_of file in
+    fault_if (has_segment segments && not (is_entry segments (file_header file).e_entry)) Entry 24
+
+abbrev pub empty_fault : List ℕ → Option Fault
+empty_fault file = fault_if (not (has_segment (segments_of file))) Empty 44
+
+-- All of them in order
+
+abbrev pub ident_faults : List ℕ → List (Option Fault)
+ident_faults file =
+    short_fault file ∷ magic_fault file ∷ class_fault file ∷ byte_order_fault file ∷ version_fault file ∷ []
+
+abbrev pub header_faults : List ℕ → List (Option Fault)
+header_faults file = file_kind_fault file ∷ machine_fault file ∷ flags_fault file ∷ table_fault file ∷ []
+
+abbrev pub table_faults : List ℕ → List (Option Fault)
+table_faults file = dynamic_fault file ∷ segment_fault file ∷ []
+
+abbrev pub memory_faults : List ℕ → ℕ → List (Option Fault)
+memory_faults file harts =
+    overlap_fault file ∷ too_wide_fault file harts ∷ too_high_fault file harts ∷ entry_fault file ∷ empty_fault file ∷ []
+
+-- the first fault of a file as the image of a program for a number of harts, or none
+unfoldable pub fault : List ℕ → ℕ → Option Fault
+fault file harts = first_of (ident_faults file ++ header_faults file ++ table_faults file ++ memory_faults file harts)

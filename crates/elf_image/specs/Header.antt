@@ -1,0 +1,41 @@
+-- The headers of a file, with the field names of the ELF specification.
+use Rattle.std.specs.Prelude.{ℕ, ◌+◌, ◌*◌, List, map}
+use Rattle.std.specs.List.{range_with_len}
+use Rattle.elf_image.specs.declared.header.FileHeader.{FileHeader}
+use Rattle.elf_image.specs.declared.program_header.ProgramHeader.{ProgramHeader}
+use Rattle.elf_image.specs.Numbers.{half_at, word_at}
+
+-- the ELF header
+unfoldable pub file_header : List ℕ → FileHeader
+file_header file = record {
+  e_type = half_at file 16;
+  e_machine = half_at file 18;
+  e_version = word_at file 20;
+  e_entry = word_at file 24;
+  e_phoff = word_at file 28;
+  e_flags = word_at file 36;
+  e_ehsize = half_at file 40;
+  e_phentsize = half_at file 42;
+  e_phnum = half_at file 44;
+}
+
+-- the program header at a place of the file
+unfoldable pub program_header : List ℕ → ℕ → ProgramHeader
+program_header file place = record {
+  place = place;
+  p_type = word_at file place;
+  p_offset = word_at file (place + 4);
+  p_vaddr = word_at file (place + 8);
+  p_filesz = word_at file (place + 16);
+  p_memsz = word_at file (place + 20);
+  p_flags = word_at file (place + 24);
+}
+
+-- the place of a program header, by its index in the table
+abbrev pub program_header_place : List ℕ → ℕ → ℕ
+program_header_place file index = (file_header file).e_phoff + 32 * index
+
+-- the program headers in the order of the table
+unfoldable pub program_headers : List ℕ → List ProgramHeader
+program_headers file =
+    map (λ index. program_header file (program_header_place file index)) (range_with_len 0 (file_header file).e_phnum)

@@ -1,0 +1,43 @@
+-- The program that an accepted file loads.
+use Rattle.std.specs.Prelude.{ℕ, ◌+◌, ◌-◌, Bool, ◌&&◌, nat_lt, nat_le, List, map, slice_index, slice_range, Option, find, filter}
+use Rattle.std.specs.List.{range_with_len}
+use Rattle.std.specs.Option.{option_map_or}
+use Rattle.elf_image.specs.declared.program_header.ProgramHeader.{ProgramHeader}
+use Rattle.elf_image.specs.Header.{file_header}
+use Rattle.elf_image.specs.Layout.{is_executable, segments_of, memory_base, memory_end}
+use Rattle.elf_image.specs.Program.{Program, CodeSegment}
+
+-- the address is that of one of the segment's first p_filesz bytes, which stand in the file
+abbrev pub is_filled : ℕ → ProgramHeader → Bool
+is_filled address segment = nat_le segment.p_vaddr address && nat_lt address (segment.p_vaddr + segment.p_filesz)
+
+-- the byte at an address: that of the file where a segment has it there, else 0
+unfoldable pub loaded_byte : List ℕ → List ProgramHeader → ℕ → ℕ
+loaded_byte file segments address =
+    option_map_or (λ segment. slice_index file (segment.p_offset + (address - segment.p_vaddr)))
+        (find (is_filled address) segments) 0
+
+-- memory from its base on
+unfoldable pub loaded_bytes : List ℕ → ℕ → List ℕ
+loaded_bytes file harts =
+    let segments = segments_of file in
+    let base = memory_base segments in
+    map (loaded_byte file segments) (range_with_len base (memory_end segments harts - base))
+
+-- an executable segment as it lies in memory, of which the base and the bytes are given
+abbrev pub code_segment : ℕ → List ℕ → ProgramHeader → CodeSegment
+code_segment base bytes segment =
+    let from = segment.p_vaddr - base in
+    record { start = segment.p_vaddr; bytes = slice_range bytes from (from + segment.p_memsz) }
+
+unfoldable pub program_of : List ℕ → ℕ → Program
+program_of file harts =
+    let base = memory_base (segments_of file) in
+    let bytes = loaded_bytes file harts in
+    record {
+      base = base;
+      bytes = bytes;
+      entry = (file_header file).e_entry;
+      harts = harts;
+      code = map (code_segment base bytes) (filter is_executable (segments_of file));
+    }

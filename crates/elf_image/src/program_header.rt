@@ -1,0 +1,93 @@
+//! The program headers, of which each tells of a segment.
+
+ghost use Rattle.std.specs.Prelude.{◌≡◌, ◌≤◌, ◌+◌, ◌<◌, ◌^◌, length};
+ghost use Rattle.elf_image.specs.Header.{program_header};
+ghost use Rattle.elf_image.specs.Layout as layout;
+
+use crate::bytes::word_at;
+
+/// The bytes of a program header.
+pub const PROGRAM_HEADER_LEN: usize = 32;
+
+/// The most program headers that an image may have.
+pub const MOST_PROGRAM_HEADERS: usize = 64;
+
+const PT_LOAD: u32 = 1;
+const PT_DYNAMIC: u32 = 2;
+const PT_INTERP: u32 = 3;
+const PF_X: u32 = 1;
+
+/// The fields of a program header that are read, as the ELF specification names them, and the place
+/// of the header in the file.
+#[derive(Clone, Copy, Debug, Default)]
+pub struct ProgramHeader {
+    pub place: u32,
+    pub p_type: u32,
+    pub p_offset: u32,
+    pub p_vaddr: u32,
+    pub p_filesz: u32,
+    pub p_memsz: u32,
+    pub p_flags: u32,
+}
+
+impl ProgramHeader {
+    /// The program header at a place of a file.
+    #[tactic(auto, unfolding(crate::specs::Header::program_header))]
+    pub fn read(file: &[u8], place: u32) -> ProgramHeader
+        requires { place + 32 ≤ length file.now }
+        ensures { result ≡ program_header file.now place }
+    {
+        let at = place as usize;
+        ProgramHeader {
+            place,
+            p_type: word_at(file, at),
+            p_offset: word_at(file, at + 4),
+            p_vaddr: word_at(file, at + 8),
+            p_filesz: word_at(file, at + 16),
+            p_memsz: word_at(file, at + 20),
+            p_flags: word_at(file, at + 24),
+        }
+    }
+
+    /// Whether the header asks for a dynamic linker.
+    pub fn is_dynamic(&self) -> bool
+        ensures { result ≡ layout.is_dynamic self.now }
+    {
+        self.p_type == PT_DYNAMIC || self.p_type == PT_INTERP
+    }
+
+    /// Whether the header is that of a loaded segment, which has at least one byte of memory.
+    pub fn is_segment(&self) -> bool
+        ensures { result ≡ layout.is_segment self.now }
+    {
+        self.p_type == PT_LOAD && self.p_memsz >= 1
+    }
+
+    /// Whether the segment's bytes are instructions.
+    pub fn is_executable(&self) -> bool
+        ensures { result ≡ layout.is_executable self.now }
+    {
+        self.p_flags & PF_X != 0
+    }
+
+    /// The address behind the segment's last byte of memory.
+    pub fn end(&self) -> u64
+        ensures { result ≡ layout.segment_end self.now }
+    {
+        self.p_vaddr as u64 + self.p_memsz as u64
+    }
+
+    /// Whether two segments have a byte of memory in common.
+    pub fn shares_byte(&self, other: &ProgramHeader) -> bool
+        ensures { result ≡ layout.shares_byte self.now other.now }
+    {
+        (self.p_vaddr as u64) < other.end() && (other.p_vaddr as u64) < self.end()
+    }
+
+    /// Whether the four bytes at an address all lie in the segment.
+    pub fn has_word(&self, address: u32) -> bool
+        ensures { result ≡ layout.spans_word address self.now }
+    {
+        self.p_vaddr <= address && address as u64 + 4 <= self.end()
+    }
+}

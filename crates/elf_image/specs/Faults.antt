@@ -1,13 +1,14 @@
 -- The grammar of images: the first of sixteen faults, or none.
-use Rattle.std.specs.Prelude.{ℕ, ◌+◌, ◌-◌, ◌*◌, ◌%◌, Bool, true, false, not, ◌&&◌, ◌==◌, nat_lt, nat_le, if◌then◌else◌, List, [], ◌∷◌, ◌++◌, map, length, slice_index, Option, Some, None, find, option_map}
+use Rattle.std.specs.Prelude.{ℕ, ◌+◌, ◌-◌, ◌*◌, ◌%◌, Bool, true, false, not, ◌&&◌, ◌==◌, nat_lt, nat_le, if◌then◌else◌, List, [], ◌∷◌, ◌++◌, map, length, slice_index, Option, Some, None, find, position, zip, option_map}
 use Rattle.std.specs.Option.{option_or}
 use Rattle.std.specs.List.{list_any}
 use Rattle.elf_image.specs.declared.fault.Fault.{Fault}
 use Rattle.elf_image.specs.declared.fault.FaultKind.{FaultKind}
 use Rattle.elf_image.specs.declared.fault.FaultKind.TheVariants.{Short, Magic, Class, ByteOrder, Version, FileKind, Machine, Flags, Table, Dynamic, Segment, Overlap, TooWide, TooHigh, Entry, Empty}
+use Rattle.elf_image.specs.declared.header.FileHeader.{FileHeader}
 use Rattle.elf_image.specs.declared.program_header.ProgramHeader.{ProgramHeader}
 use Rattle.elf_image.specs.Header.{file_header, program_headers}
-use Rattle.elf_image.specs.Layout.{is_load, is_dynamic, is_executable, spans_word, segments_of, first_overlap, memory_base, memory_end}
+use Rattle.elf_image.specs.Layout.{is_load, is_dynamic, has_instruction, segments_of, first_overlap, memory_base, memory_end}
 
 abbrev pub number_of : FaultKind → ℕ
 number_of Short = 1
@@ -47,15 +48,16 @@ first_of (fault ∷ faults) = option_or fault (first_of faults)
 abbrev pub short_fault : List ℕ → Option Fault
 short_fault file = fault_if (nat_lt (length file) 52) Short (length file)
 
--- at the first byte that differs
+-- the bytes 0x7f, 'E', 'L', 'F'
+abbrev pub elf_magic : List ℕ
+elf_magic = 0x7f ∷ 0x45 ∷ 0x4c ∷ 0x46 ∷ []
+
+-- the place of the first byte that is not ELF's magic one
+abbrev pub magic_difference : List ℕ → Option ℕ
+magic_difference file = position (λ (byte, wanted). differs byte wanted) (zip file elf_magic)
+
 abbrev pub magic_fault : List ℕ → Option Fault
-magic_fault file =
-    first_of
-        ( fault_if (differs (slice_index file 0) 0x7f) Magic 0
-        ∷ fault_if (differs (slice_index file 1) 0x45) Magic 1
-        ∷ fault_if (differs (slice_index file 2) 0x4c) Magic 2
-        ∷ fault_if (differs (slice_index file 3) 0x46) Magic 3
-        ∷ [])
+magic_fault file = option_map (fault_of Magic) (magic_difference file)
 
 -- EI_CLASS is ELFCLASS32
 abbrev pub class_fault : List ℕ → Option Fault
@@ -88,20 +90,26 @@ abbrev pub flags_fault : List ℕ → Option Fault
 flags_fault file = fault_if (differs ((file_header file).e_flags % 16) 0) Flags 36
 
 -- the sizes are those of ELF32, there are few headers, and all lie in the file
-abbrev pub table_fault : List ℕ → Option Fault
-table_fault file =
-    let header = file_header file in
+abbrev pub table_form_fault : FileHeader → ℕ → Option Fault
+table_form_fault header file_len =
     first_of
         ( fault_if (differs header.e_ehsize 52) Table 40
         ∷ fault_if (nat_lt 64 header.e_phnum) Table 44
         ∷ fault_if (nat_le 1 header.e_phnum && differs header.e_phentsize 32) Table 42
-        ∷ fault_if (nat_lt (length file) (header.e_phoff + 32 * header.e_phnum)) Table 28
+        ∷ fault_if (nat_lt file_len (header.e_phoff + 32 * header.e_phnum)) Table 28
         ∷ [])
+
+abbrev pub table_fault : List ℕ → Option Fault
+table_fault file = table_form_fault (file_header file) (length file)
 
 -- The program headers
 
-abbrev pub dynamic_fault : List ℕ → Option Fault
-dynamic_fault file = option_map (λ header. fault_of Dynamic header.place) (find is_dynamic (program_headers file))
+-- the place of the first header that asks for a dynamic linker
+abbrev pub first_dynamic : List ProgramHeader → Option ℕ
+first_dynamic headers = option_map (λ header. header.place) (find is_dynamic headers)
+
+abbrev pub dynamic_fault : List ProgramHeader → Option Fault
+dynamic_fault headers = option_map (fault_of Dynamic) (first_dynamic headers)
 
 -- of one header of type PT_LOAD: it has no more bytes in the file than in memory, and these lie in the
 -- file
@@ -114,40 +122,34 @@ load_fault file_len header =
         ∷ [])
     else None
 
-abbrev pub segment_fault : List ℕ → Option Fault
-segment_fault file = first_of (map (load_fault (length file)) (program_headers file))
+abbrev pub segment_fault : List ProgramHeader → ℕ → Option Fault
+segment_fault headers file_len = first_of (map (load_fault file_len) headers)
 
--- Memory
+-- The segments in memory
 
-abbrev pub overlap_fault : List ℕ → Option Fault
-overlap_fault file = option_map (λ segment. fault_of Overlap segment.place) (first_overlap (segments_of file))
+abbrev pub overlap_fault : List ProgramHeader → Option Fault
+overlap_fault segments = option_map (λ segment. fault_of Overlap segment.place) (first_overlap segments)
 
 abbrev pub has_segment : List ProgramHeader → Bool
-has_segment [] = false
-has_segment (segment ∷ segments) = true
+has_segment segments = nat_lt 0 (length segments)
 
-abbrev pub too_wide_fault : List ℕ → ℕ → Option Fault
-too_wide_fault file harts =
-    let segments = segments_of file in
+abbrev pub too_wide_fault : List ProgramHeader → ℕ → Option Fault
+too_wide_fault segments harts =
     fault_if (has_segment segments && nat_lt 16777216 (memory_end segments harts - memory_base segments)) TooWide 28
 
-abbrev pub too_high_fault : List ℕ → ℕ → Option Fault
-too_high_fault file harts =
-    let segments = segments_of file in
+abbrev pub too_high_fault : List ProgramHeader → ℕ → Option Fault
+too_high_fault segments harts =
     fault_if (has_segment segments && nat_lt 0xffff0000 (memory_end segments harts)) TooHigh 28
 
--- the entry is the address of a whole instruction of one executable segment
+-- an instruction is aligned, and all of it lies in one executable segment
 abbrev pub is_entry : List ProgramHeader → ℕ → Bool
-is_entry segments entry =
-    entry % 4 == 0 && list_any (λ segment. is_executable segment && spans_word entry segment) segments
+is_entry segments entry = entry % 4 == 0 && list_any (has_instruction entry) segments
 
-abbrev pub entry_fault : List ℕ → Option Fault
-entry_fault file =
-    let segments = segments_of file in
-    fault_if (has_segment segments && not (is_entry segments (file_header file).e_entry)) Entry 24
+abbrev pub entry_fault : List ProgramHeader → ℕ → Option Fault
+entry_fault segments entry = fault_if (has_segment segments && not (is_entry segments entry)) Entry 24
 
-abbrev pub empty_fault : List ℕ → Option Fault
-empty_fault file = fault_if (not (has_segment (segments_of file))) Empty 44
+abbrev pub empty_fault : List ProgramHeader → Option Fault
+empty_fault segments = fault_if (not (has_segment segments)) Empty 44
 
 -- All of them in order
 
@@ -158,13 +160,23 @@ ident_faults file =
 abbrev pub header_faults : List ℕ → List (Option Fault)
 header_faults file = file_kind_fault file ∷ machine_fault file ∷ flags_fault file ∷ table_fault file ∷ []
 
-abbrev pub table_faults : List ℕ → List (Option Fault)
-table_faults file = dynamic_fault file ∷ segment_fault file ∷ []
+abbrev pub table_faults : List ProgramHeader → ℕ → List (Option Fault)
+table_faults headers file_len = dynamic_fault headers ∷ segment_fault headers file_len ∷ []
 
-abbrev pub memory_faults : List ℕ → ℕ → List (Option Fault)
-memory_faults file harts =
-    overlap_fault file ∷ too_wide_fault file harts ∷ too_high_fault file harts ∷ entry_fault file ∷ empty_fault file ∷ []
+abbrev pub memory_faults : List ProgramHeader → ℕ → ℕ → List (Option Fault)
+memory_faults segments entry harts =
+    overlap_fault segments
+    ∷ too_wide_fault segments harts
+    ∷ too_high_fault segments harts
+    ∷ entry_fault segments entry
+    ∷ empty_fault segments
+    ∷ []
 
 -- the first fault of a file as the image of a program for a number of harts, or none
 unfoldable pub fault : List ℕ → ℕ → Option Fault
-fault file harts = first_of (ident_faults file ++ header_faults file ++ table_faults file ++ memory_faults file harts)
+fault file harts =
+    first_of
+        ( ident_faults file
+        ++ header_faults file
+        ++ table_faults (program_headers file) (length file)
+        ++ memory_faults (segments_of file) (file_header file).e_entry harts)

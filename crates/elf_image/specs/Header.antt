@@ -1,5 +1,5 @@
 -- The headers of a file, with the field names of the ELF specification.
-use Rattle.std.specs.Prelude.{ℕ, ◌+◌, ◌*◌, List, map}
+use Rattle.std.specs.Prelude.{ℕ, ◌+◌, ◌*◌, ◌≤◌, List, map, length}
 use Rattle.std.specs.List.{range_with_len}
 use Rattle.elf_image.specs.declared.header.FileHeader.{FileHeader}
 use Rattle.elf_image.specs.declared.program_header.ProgramHeader.{ProgramHeader}
@@ -31,11 +31,15 @@ program_header file place = record {
   p_flags = word_at file (place + 24);
 }
 
--- the place of a program header, by its index in the table
-abbrev pub program_header_place : List ℕ → ℕ → ℕ
-program_header_place file index = (file_header file).e_phoff + 32 * index
+-- so many program headers, the first of them at a place of the file
+unfoldable pub headers_at : List ℕ → ℕ → ℕ → List ProgramHeader
+headers_at file place count = map (λ index. program_header file (place + 32 * index)) (range_with_len 0 count)
 
 -- the program headers in the order of the table
 unfoldable pub program_headers : List ℕ → List ProgramHeader
-program_headers file =
-    map (λ index. program_header file (program_header_place file index)) (range_with_len 0 (file_header file).e_phnum)
+program_headers file = headers_at file (file_header file).e_phoff (file_header file).e_phnum
+
+-- the table of program headers is short and lies in the file
+pub record HasTable (file : List ℕ) : Type 0 where
+  pub few : (file_header file).e_phnum ≤ 64
+  pub inside : (file_header file).e_phoff + 32 * (file_header file).e_phnum ≤ length file

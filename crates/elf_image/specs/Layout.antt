@@ -29,8 +29,11 @@ abbrev pub shares_byte : ProgramHeader → ProgramHeader → Bool
 shares_byte a b = nat_lt a.p_vaddr (segment_end b) && nat_lt b.p_vaddr (segment_end a)
 
 -- the four bytes at an address all lie in the segment
-abbrev pub spans_word : ℕ → ProgramHeader → Bool
-spans_word address segment = nat_le segment.p_vaddr address && nat_le (address + 4) (segment_end segment)
+abbrev pub has_word : ℕ → ProgramHeader → Bool
+has_word address segment = nat_le segment.p_vaddr address && nat_le (address + 4) (segment_end segment)
+
+abbrev pub has_instruction : ℕ → ProgramHeader → Bool
+has_instruction address segment = is_executable segment && has_word address segment
 
 -- the segments, in the order of the table
 unfoldable pub segments_of : List ℕ → List ProgramHeader

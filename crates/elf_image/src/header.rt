@@ -1,8 +1,13 @@
 //! The ELF header.
 
-ghost use Rattle.std.specs.Prelude.{◌≡◌, ◌≤◌, length};
-ghost use Rattle.elf_image.specs.Header.{file_header};
+ghost use Rattle.std.specs.Prelude.{◌≡◌, ◌≤◌, ◌<◌, ◌+◌, ◌*◌, IfSome, OnOk, length};
+ghost use Rattle.std.specs.Result.{result_err};
+ghost use Rattle.elf_image.specs.Header.{file_header, HasTable};
+ghost use Rattle.elf_image.specs.Faults as faults;
+ghost use Rattle.elf_image.specs.Faults.{first_of, ident_faults, header_faults};
 
+use crate::fault::{Fault, FaultKind};
+use crate::program_header::{MOST_PROGRAM_HEADERS, PROGRAM_HEADER_LEN};
 use crate::bytes::{half_at, word_at};
 
 /// The bytes of an ELF header.
@@ -41,4 +46,108 @@ impl FileHeader {
             e_phnum: half_at(file, 44),
         }
     }
+}
+
+/// The first four bytes of an ELF file.
+const ELF_MAGIC: [u8; 4] = [0x7f, 0x45, 0x4c, 0x46];
+
+// The places of the fields in the file.
+const EI_CLASS: usize = 4;
+const EI_DATA: usize = 5;
+const EI_VERSION: usize = 6;
+const E_TYPE: u32 = 16;
+const E_MACHINE: u32 = 18;
+const E_VERSION: u32 = 20;
+pub const E_ENTRY: u32 = 24;
+pub const E_PHOFF: u32 = 28;
+const E_FLAGS: u32 = 36;
+const E_EHSIZE: u32 = 40;
+const E_PHENTSIZE: u32 = 42;
+pub const E_PHNUM: u32 = 44;
+
+const ELFCLASS32: u8 = 1;
+const ELFDATA2LSB: u8 = 1;
+const EV_CURRENT: u8 = 1;
+const ET_EXEC: u16 = 2;
+const EM_RISCV: u16 = 243;
+
+/// The flags of compressed instructions, of the floating-point ABI and of the embedded base, in the
+/// RISC-V psABI's 'File Header'.
+const EF_REFUSED: u32 = 0xf;
+
+/// The place of the first byte that is not ELF's.
+fn magic_difference(file: &[u8]) -> Option<usize>
+    ensures exact { result ≡ faults.magic_difference file.now }
+    ensures below { IfSome result (λ place. place < 4) }
+{
+    file.iter()
+        .zip(&ELF_MAGIC)
+        .position(|(byte, wanted)| byte != wanted)
+}
+
+/// Whether the file is an ELF file of 32 bits, little endian, in the current version.
+pub fn check_ident(file: &[u8]) -> Result<(), Fault>
+    requires { length file.now ≤ 33554432 }
+    ensures exact { result_err result ≡ first_of (ident_faults file.now) }
+    ensures whole { OnOk result (52 ≤ length file.now) }
+{
+    if file.len() < FILE_HEADER_LEN {
+        return Err(Fault::new(FaultKind::Short, file.len() as u32));
+    }
+    if let Some(place) = magic_difference(file) {
+        return Err(Fault::new(FaultKind::Magic, place as u32));
+    }
+    if file[EI_CLASS] != ELFCLASS32 {
+        return Err(Fault::new(FaultKind::Class, EI_CLASS as u32));
+    }
+    if file[EI_DATA] != ELFDATA2LSB {
+        return Err(Fault::new(FaultKind::ByteOrder, EI_DATA as u32));
+    }
+    if file[EI_VERSION] != EV_CURRENT {
+        return Err(Fault::new(FaultKind::Version, EI_VERSION as u32));
+    }
+    if FileHeader::read(file).e_version != EV_CURRENT as u32 {
+        return Err(Fault::new(FaultKind::Version, E_VERSION));
+    }
+    Ok(())
+}
+
+/// Whether the file is an executable for RISC-V whose program headers all lie in it.
+pub fn check_header(file: &[u8]) -> Result<(), Fault>
+    requires { 52 ≤ length file.now }
+    ensures exact { result_err result ≡ first_of (header_faults file.now) }
+    ensures table { OnOk result (HasTable file.now) }
+{
+    let header = FileHeader::read(file);
+    if header.e_type != ET_EXEC {
+        return Err(Fault::new(FaultKind::FileKind, E_TYPE));
+    }
+    if header.e_machine != EM_RISCV {
+        return Err(Fault::new(FaultKind::Machine, E_MACHINE));
+    }
+    if header.e_flags & EF_REFUSED != 0 {
+        return Err(Fault::new(FaultKind::Flags, E_FLAGS));
+    }
+    check_table(&header, file.len())
+}
+
+/// Whether a table of program headers has a form that is taken and lies in a file of `file_len` bytes.
+fn check_table(header: &FileHeader, file_len: usize) -> Result<(), Fault>
+    ensures exact { result_err result ≡ faults.table_form_fault header.now file_len }
+    ensures few { OnOk result (header.now.e_phnum ≤ 64) }
+    ensures inside { OnOk result (header.now.e_phoff + 32 * header.now.e_phnum ≤ file_len) }
+{
+    if header.e_ehsize as usize != FILE_HEADER_LEN {
+        return Err(Fault::new(FaultKind::Table, E_EHSIZE));
+    }
+    if header.e_phnum as usize > MOST_PROGRAM_HEADERS {
+        return Err(Fault::new(FaultKind::Table, E_PHNUM));
+    }
+    if header.e_phnum >= 1 && header.e_phentsize as usize != PROGRAM_HEADER_LEN {
+        return Err(Fault::new(FaultKind::Table, E_PHENTSIZE));
+    }
+    if header.e_phoff as usize + header.e_phnum as usize * PROGRAM_HEADER_LEN > file_len {
+        return Err(Fault::new(FaultKind::Table, E_PHOFF));
+    }
+    Ok(())
 }

@@ -7,7 +7,9 @@ mod fault;
 mod header;
 mod image;
 mod program_header;
+mod memory;
 mod segment;
+mod table;
 
 pub use code::Code;
 pub use fault::{Fault, FaultKind};

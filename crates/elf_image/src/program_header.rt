@@ -3,8 +3,11 @@
 ghost use Rattle.std.specs.Prelude.{◌≡◌, ◌≤◌, ◌+◌, ◌<◌, ◌^◌, length};
 ghost use Rattle.elf_image.specs.Header.{program_header};
 ghost use Rattle.elf_image.specs.Layout as layout;
+ghost use Rattle.elf_image.specs.Faults.{load_fault};
+ghost use Rattle.std.specs.Result.{result_err};
 
 use crate::bytes::word_at;
+use crate::fault::{Fault, FaultKind};
 
 /// The bytes of a program header.
 pub const PROGRAM_HEADER_LEN: usize = 32;
@@ -16,6 +19,10 @@ const PT_LOAD: u32 = 1;
 const PT_DYNAMIC: u32 = 2;
 const PT_INTERP: u32 = 3;
 const PF_X: u32 = 1;
+
+// The places of the fields in a program header.
+const P_OFFSET: u32 = 4;
+const P_FILESZ: u32 = 16;
 
 /// The fields of a program header that are read, as the ELF specification names them, and the place
 /// of the header in the file.
@@ -49,6 +56,24 @@ impl ProgramHeader {
         }
     }
 
+    /// Whether the header, if it is of type PT_LOAD, fits a file of `file_len` bytes: it has no more
+    /// bytes in the file than in memory, and these lie in the file.
+    pub fn check(&self, file_len: usize) -> Result<(), Fault>
+        requires { self.now.place ≤ 33554432 }
+        ensures { result_err result ≡ load_fault file_len self.now }
+    {
+        if self.p_type != PT_LOAD {
+            return Ok(());
+        }
+        if self.p_filesz > self.p_memsz {
+            return Err(Fault::new(FaultKind::Segment, self.place + P_FILESZ));
+        }
+        if self.p_filesz >= 1 && self.p_offset as usize + self.p_filesz as usize > file_len {
+            return Err(Fault::new(FaultKind::Segment, self.place + P_OFFSET));
+        }
+        Ok(())
+    }
+
     /// Whether the header asks for a dynamic linker.
     pub fn is_dynamic(&self) -> bool
         ensures { result ≡ layout.is_dynamic self.now }
@@ -72,7 +97,8 @@ impl ProgramHeader {
 
     /// The address behind the segment's last byte of memory.
     pub fn end(&self) -> u64
-        ensures { result ≡ layout.segment_end self.now }
+        ensures exact { result ≡ layout.segment_end self.now }
+        ensures bound { result < 2 ^ 33 }
     {
         self.p_vaddr as u64 + self.p_memsz as u64
     }
@@ -86,8 +112,14 @@ impl ProgramHeader {
 
     /// Whether the four bytes at an address all lie in the segment.
     pub fn has_word(&self, address: u32) -> bool
-        ensures { result ≡ layout.spans_word address self.now }
+        ensures { result ≡ layout.has_word address self.now }
     {
         self.p_vaddr <= address && address as u64 + 4 <= self.end()
+    }
+    /// Whether the segment is executable and has the four bytes at an address.
+    pub fn has_instruction(&self, address: u32) -> bool
+        ensures { result ≡ layout.has_instruction address self.now }
+    {
+        self.is_executable() && self.has_word(address)
     }
 }

@@ -1,0 +1,93 @@
+//! The table of program headers.
+
+ghost use Rattle.std.specs.Prelude.{◌≡◌, ◌≤◌, ◌+◌, ◌*◌, All, filter, length};
+ghost use Rattle.std.specs.Result.{result_err};
+ghost use Rattle.elf_image.specs.Header.{HasTable, headers_at, program_headers};
+ghost use Rattle.elf_image.specs.Layout.{is_segment};
+ghost use Rattle.elf_image.specs.Faults as faults;
+ghost use Rattle.elf_image.specs.Faults.{first_of, segment_fault, table_faults};
+
+use arrayvec::ArrayVec;
+
+use crate::fault::{Fault, FaultKind};
+use crate::header::FileHeader;
+use crate::program_header::{MOST_PROGRAM_HEADERS, PROGRAM_HEADER_LEN, ProgramHeader};
+
+/// As many program headers as an image may have, in the order of their table.
+pub type ProgramHeaders = ArrayVec<ProgramHeader, MOST_PROGRAM_HEADERS>;
+
+/// The program headers of a file.
+#[tactic(auto, unfolding(crate::specs::Header::program_headers))]
+pub fn read_table(file: &[u8]) -> ProgramHeaders
+    requires whole { 52 ≤ length file.now }
+    requires within_limit { length file.now ≤ 33554432 }
+    requires table { HasTable file.now }
+    ensures exact { result.items ≡ program_headers file.now }
+    ensures places { All (λ header. header.place ≤ 33554432) result.items }
+{
+    let header = FileHeader::read(file);
+    read_headers(file, header.e_phoff, header.e_phnum)
+}
+
+/// So many program headers, the first of them at a place of the file.
+#[tactic(auto, unfolding(crate::specs::Header::headers_at))]
+fn read_headers(file: &[u8], place: u32, count: u16) -> ProgramHeaders
+    requires within_limit { length file.now ≤ 33554432 }
+    requires few { count ≤ 64 }
+    requires inside { place + 32 * count ≤ length file.now }
+    ensures exact { result.items ≡ headers_at file.now place count }
+    ensures places { All (λ header. header.place ≤ 33554432) result.items }
+{
+    let mut headers = ProgramHeaders::new();
+    for index in 0..count {
+        let at = place + PROGRAM_HEADER_LEN as u32 * index as u32;
+        headers.push(ProgramHeader::read(file, at));
+    }
+    headers
+}
+
+/// Whether no header asks for a dynamic linker and each segment fits a file of `file_len` bytes.
+pub fn check_table(headers: &[ProgramHeader], file_len: usize) -> Result<(), Fault>
+    requires { All (λ header. header.place ≤ 33554432) headers.now }
+    ensures { result_err result ≡ first_of (table_faults headers.now file_len) }
+{
+    if let Some(place) = first_dynamic(headers) {
+        return Err(Fault::new(FaultKind::Dynamic, place));
+    }
+    check_each(headers, file_len)
+}
+
+/// The place of the first header that asks for a dynamic linker.
+fn first_dynamic(headers: &[ProgramHeader]) -> Option<u32>
+    ensures { result ≡ faults.first_dynamic headers.now }
+{
+    headers
+        .iter()
+        .find(|header| header.is_dynamic())
+        .map(|header| header.place)
+}
+
+/// Whether each segment fits a file of `file_len` bytes.
+fn check_each(headers: &[ProgramHeader], file_len: usize) -> Result<(), Fault>
+    requires { All (λ header. header.place ≤ 33554432) headers.now }
+    ensures { result_err result ≡ segment_fault headers.now file_len }
+{
+    for header in headers {
+        header.check(file_len)?;
+    }
+    Ok(())
+}
+
+/// The headers of the segments.
+pub fn segments_of(headers: &[ProgramHeader]) -> ProgramHeaders
+    requires { length headers.now ≤ 64 }
+    ensures { result.items ≡ filter is_segment headers.now }
+{
+    let mut segments = ProgramHeaders::new();
+    for header in headers {
+        if header.is_segment() {
+            segments.push(*header);
+        }
+    }
+    segments
+}

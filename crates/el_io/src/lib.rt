@@ -1,0 +1,17 @@
+//! Devices by what was asked of them: a shelf of named files, and a sink that takes bytes.
+//!
+//! It stands on `el_base`. Each device counts its own faults, so that a caller can say of an
+//! answer that a device failed *only where that device counted a fault in this very call*:
+//! a [`Shelf`] keeps the list of its failed calls, and a [`Sink`] a count. What is put and what
+//! is written are exact where the device tells its contents.
+//!
+//! `SureShelf` and `SureSink` are in memory and never fail; `MemShelf` and `MemSink` are in memory
+//! and fail where they are told to; `FolderShelf` and `StreamSink` are the edge to real files and
+//! streams, whose own behaviour is trusted.
+#![tactic(auto)]
+
+mod shelf;
+mod sink;
+
+pub use shelf::{Call, Shelf, ShelfFault};
+pub use sink::{Failed, Sink, put_all};

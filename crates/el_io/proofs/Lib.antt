@@ -1,1 +1,4 @@
+pub mod Causes
+pub mod Keeping
+pub mod Storing
 pub mod Taking

@@ -10,8 +10,13 @@
 //! streams, whose own behaviour is trusted.
 #![tactic(auto)]
 
+mod files;
 mod shelf;
 mod sink;
+mod sure_shelf;
+mod sure_sink;
 
 pub use shelf::{Call, Shelf, ShelfFault};
 pub use sink::{Failed, Sink, put_all};
+pub use sure_shelf::SureShelf;
+pub use sure_sink::SureSink;

@@ -3,7 +3,7 @@ use Rattle.std.proofs.Common.{◌≡◌, ℕ, ◌+◌, min, Bool, ◌||◌, nat_
 use Rattle.std.proofs.Math.Seq.{take-append-add}
 use Rattle.std.proofs.lemmas.List.{take_min}
 use Rattle.std.proofs.lemmas.Bool.Decides.{nat_tests}
-use Rattle.el_io.specs.SureSink.{Keeper, after_put}
+use Rattle.el_io.specs.SureSink.{SureSinkState, after_put}
 
 -- the bytes that fit behind those that are kept
 keep-fitting : (room left : ℕ) (kept bytes : List ℕ) → length kept + left ≡ room → kept ++ take (min left (length bytes)) bytes ≡ take room (kept ++ bytes)
@@ -17,9 +17,9 @@ pass-left : (room left kept more : ℕ) → kept + left ≡ room → nat_lt left
 pass-left room left kept more all = grind (arith, nat_tests)
 
 -- a sink that has the fitting bytes behind what it kept is the one after the put
-pub keeper-after_put : (keeper : Keeper) (bytes held : List ℕ) (left : ℕ) → length keeper.kept + left ≡ keeper.room
-    → held ≡ keeper.kept ++ take (min left (length bytes)) bytes
-    → record { kept = held; room = keeper.room; passed = keeper.passed || nat_lt left (length bytes) } ≡ after_put keeper bytes
-keeper-after_put keeper bytes held left all e =
-    let kept_same : held ≡ take keeper.room (keeper.kept ++ bytes) = e ∙ keep-fitting keeper.room left keeper.kept bytes all in
-    rw (kept_same, pass-left keeper.room left (length keeper.kept) (length bytes) all)
+pub state-after_put : (sink : SureSinkState) (bytes held : List ℕ) (left : ℕ) → length sink.kept + left ≡ sink.room
+    → held ≡ sink.kept ++ take (min left (length bytes)) bytes
+    → record { kept = held; room = sink.room; passed = sink.passed || nat_lt left (length bytes) } ≡ after_put sink bytes
+state-after_put sink bytes held left all e =
+    let kept_same : held ≡ take sink.room (sink.kept ++ bytes) = e ∙ keep-fitting sink.room left sink.kept bytes all in
+    rw (kept_same, pass-left sink.room left (length sink.kept) (length bytes) all)

@@ -1,6 +1,10 @@
 pub mod Counts
-pub mod Sink
-pub mod Shelf
+pub mod FailurePlan
+pub mod FailureList
 pub mod Files
-pub mod SureSink
+pub mod MemShelf
+pub mod MemSink
+pub mod Shelf
+pub mod Sink
 pub mod SureShelf
+pub mod SureSink

@@ -10,12 +10,18 @@
 //! streams, whose own behaviour is trusted.
 #![tactic(auto)]
 
+mod failure_list;
+mod failure_plan;
 mod files;
+mod mem_shelf;
+mod mem_sink;
 mod shelf;
 mod sink;
 mod sure_shelf;
 mod sure_sink;
 
+pub use mem_shelf::MemShelf;
+pub use mem_sink::MemSink;
 pub use shelf::{Call, Shelf, ShelfFault};
 pub use sink::{Failed, Sink, put_all};
 pub use sure_shelf::SureShelf;

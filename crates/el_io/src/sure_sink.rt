@@ -1,5 +1,5 @@
 ghost use Rattle.std.specs.Prelude.{◌≡◌, ℕ, ◌≤◌, [], length, false, IfOk, vec_capacity};
-ghost use Rattle.el_io.specs.SureSink.{Keeper, told, after_put};
+ghost use Rattle.el_io.specs.SureSink.{SureSinkState, told, after_put};
 
 use crate::sink::{Failed, Sink};
 use el_base::NoMemory;
@@ -18,7 +18,7 @@ pub struct SureSink {
 }
 
 impl Model for SureSink {
-    ghost Value = { Keeper };
+    ghost Value = { SureSinkState };
 
     ghost view = { λ s. record { kept = s.kept.items; room = s.room; passed = s.passed } };
 

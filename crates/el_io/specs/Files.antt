@@ -21,8 +21,8 @@ abbrev pub contents_of : Files → Contents
 contents_of files name = unwrap_or (file_of files name) []
 
 -- the contents at the first place that has this name, if one has
-abbrev pub given : List (String Global) → List (Vec ℕ) → List ℕ → Option (List ℕ)
-given names contents name =
+abbrev pub file_given : List (String Global) → List (Vec ℕ) → List ℕ → Option (List ℕ)
+file_given names contents name =
     option_map (λ file. file.items) (lookup (λ listed. bytes_eq (string_bytes listed) name) (zip names contents))
 
 -- the file of this name after these bytes were written under another name or the same

@@ -2,7 +2,7 @@
 ghost use Rattle.std.specs.Prelude.{◌≡◌, ℕ, List, length, Option, IfOk, OnOk, OnErr, IfErr};
 ghost use Rattle.std.specs.Option.{option_copied};
 ghost use Rattle.std.specs.BTreeMap.{IsUnchanged};
-ghost use Rattle.el_io.specs.Files.{file_of, file_after, given};
+ghost use Rattle.el_io.specs.Files.{file_of, file_after, file_given};
 
 use std::alloc::{AllocError, Global};
 use std::collections::BTreeMap;
@@ -18,7 +18,7 @@ pub(crate) fn files_of(
 ) -> Result<Files, AllocError>
     requires same_length { length names.now ≡ length contents.now }
     ensures exact { IfOk result (λ files.
-        (name : List ℕ) → file_of files name ≡ given names.now contents.now name) }
+        (name : List ℕ) → file_of files name ≡ file_given names.now contents.now name) }
 {
     let mut files = BTreeMap::new(alloc);
     let mut place = names.len();

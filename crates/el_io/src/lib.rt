@@ -13,16 +13,23 @@
 mod failure_list;
 mod failure_plan;
 mod files;
+mod folder_shelf;
 mod mem_shelf;
 mod mem_sink;
 mod shelf;
 mod sink;
+mod stream_sink;
 mod sure_shelf;
 mod sure_sink;
 
+pub use folder_shelf::FolderShelf;
 pub use mem_shelf::MemShelf;
 pub use mem_sink::MemSink;
 pub use shelf::{Call, Shelf, ShelfFault};
 pub use sink::{Failed, Sink, put_all};
+pub use stream_sink::StreamSink;
 pub use sure_shelf::SureShelf;
 pub use sure_sink::SureSink;
+
+#[cfg(test)]
+mod tests;

@@ -1,6 +1,6 @@
 ghost use Rattle.std.specs.Prelude.{◌≡◌, ℕ, List, [], length, Some, IfOk, OnOk};
 ghost use Rattle.std.specs.Option.{unwrap_or};
-ghost use Rattle.el_io.specs.Files.{given};
+ghost use Rattle.el_io.specs.Files.{file_given};
 ghost use Rattle.el_io.specs.MemShelf.{file as file_told, contents as contents_told, plan as plan_of, failed_calls, ReadAnswers, WriteAnswers, Counts};
 ghost use Rattle.el_io.specs.Shelf.{Records, KeepsOthers};
 
@@ -31,7 +31,7 @@ impl MemShelf {
     ) -> Result<MemShelf, NoMemory>
         requires same_length { length names.now ≡ length contents.now }
         ensures files_given { IfOk result (λ shelf. (name : List ℕ) →
-            file_told shelf name ≡ given names.now contents.now name) }
+            file_told shelf name ≡ file_given names.now contents.now name) }
         ensures plan_given { IfOk result (λ shelf.
             plan_of shelf ≡ record { failing = failing.now; calls = 0 }) }
         ensures no_failures { IfOk result (λ shelf. failed_calls shelf ≡ []) }

@@ -1,6 +1,6 @@
 ghost use Rattle.std.specs.Prelude.{◌≡◌, ◌≢◌, ℕ, List, [], length, Some, IfOk};
 ghost use Rattle.std.specs.Option.{unwrap_or};
-ghost use Rattle.el_io.specs.Files.{given};
+ghost use Rattle.el_io.specs.Files.{file_given};
 ghost use Rattle.el_io.specs.SureShelf.{contents as contents_told};
 
 use crate::files::{self, Files};
@@ -24,7 +24,7 @@ impl SureShelf {
     ) -> Result<SureShelf, NoMemory>
         requires same_length { length names.now ≡ length contents.now }
         ensures exact { IfOk result (λ shelf. (name : List ℕ) →
-            contents_told shelf name ≡ unwrap_or (given names.now contents.now name) []) }
+            contents_told shelf name ≡ unwrap_or (file_given names.now contents.now name) []) }
     {
         Ok(SureShelf {
             files: files::files_of(alloc, names, contents)?,

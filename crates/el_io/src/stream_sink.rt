@@ -1,0 +1,62 @@
+ghost use Rattle.std.specs.Prelude.{◌≡◌, ℕ, ◌<◌, ◌≤◌, None, IsTrue, IsSome, IfOk, OnErr, length, take, is_ok, if◌then◌else◌};
+ghost use Rattle.el_io.specs.Counts.{one_more};
+ghost use Rattle.el_io.specs.Sink.{Took};
+
+use crate::sink::{Failed, Sink};
+use std::io::Write;
+
+/// A sink that hands the bytes on to a writer of the standard library, and counts a fault at each
+/// error of the writer and where it takes nothing of some bytes.
+///
+/// What a real writer does with the bytes is trusted. The sink tells what the writer tells, if it
+/// was made by [`StreamSink::telling`].
+#[derive(Drop)]
+pub struct StreamSink<W: Write> {
+    writer: W,
+    faults: u64,
+    tells: bool,
+    ghost known: { IsTrue tells → IsSome (W.contents writer) },
+}
+
+impl<W: Write> StreamSink<W> {
+    /// A sink over any writer, which tells nothing.
+    pub fn new(writer: W) -> StreamSink<W>
+        ensures untold { ⟦<StreamSink<W> as Sink>⟧.taken result ≡ None }
+        ensures no_faults { ⟦<StreamSink<W> as Sink>⟧.faults result ≡ 0 }
+    {
+        StreamSink {
+            writer,
+            faults: 0,
+            tells: false,
+        }
+    }
+
+    /// A sink over a writer that tells what it holds.
+    pub fn telling(writer: W) -> StreamSink<W>
+        requires writer_tells { IsSome (W.contents writer) }
+        ensures told { ⟦<StreamSink<W> as Sink>⟧.taken result ≡ W.contents writer }
+        ensures no_faults { ⟦<StreamSink<W> as Sink>⟧.faults result ≡ 0 }
+    {
+        StreamSink {
+            writer,
+            faults: 0,
+            tells: true,
+        }
+    }
+}
+
+impl<W: Write> Sink for StreamSink<W> {
+    ghost taken = { λ s. if s.tells then W.contents s.writer else None };
+
+    ghost faults = { λ s. s.faults };
+
+    fn put(&mut self, bytes: &[u8]) -> Result<usize, Failed> {
+        match self.writer.write(bytes) {
+            Ok(count) if count > 0 || bytes.is_empty() => Ok(count),
+            _ => {
+                self.faults = self.faults.saturating_add(1);
+                Err(Failed)
+            }
+        }
+    }
+}

@@ -1,4 +1,4 @@
-use Rattle.std.proofs.Common.{◌≡◌, ◌≢◌, ℕ, Some, refl, arith}
+use Rattle.std.proofs.Common.{◌≡◌, ◌≢◌, Some, refl, arith}
 use Rattle.rv_word.specs.declared.insn.AmoOp.{AmoOp}
 use Rattle.rv_word.specs.declared.insn.AmoOp.TheVariants.{Swap, Add, Xor, And, Or, Min, Max, Minu, Maxu}
 use Rattle.rv_word.specs.declared.insn.LoadWidth.{LoadWidth}

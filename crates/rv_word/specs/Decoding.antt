@@ -13,12 +13,12 @@ use Rattle.rv_word.specs.Atomic.{amo_at}
 abbrev pub atomic_decoded : ℕ → Option Insn
 atomic_decoded word =
     if funct5_of word == 0b00010 then
-        (if field 20 5 word == 0 then Some (Lr (rd_of word) (rs1_of word) (aq_of word) (rl_of word)) else None)
+    (if field 20 5 word == 0 then Some (Lr (rd_of word) (rs1_of word) (aq_of word) (rl_of word)) else None)
     else if funct5_of word == 0b00011 then
-        Some (Sc (rd_of word) (rs1_of word) (rs2_of word) (aq_of word) (rl_of word))
+    Some (Sc (rd_of word) (rs1_of word) (rs2_of word) (aq_of word) (rl_of word))
     else
-        option_map (λ op. Amo op (rd_of word) (rs1_of word) (rs2_of word) (aq_of word) (rl_of word))
-            (amo_at (funct5_of word))
+    option_map (λ op. Amo op (rd_of word) (rs1_of word) (rs2_of word) (aq_of word) (rl_of word))
+    (amo_at (funct5_of word))
 
 -- the instruction that the word means, or none: `Means` as a function
 unfoldable pub decoded : ℕ → Option Insn
@@ -27,21 +27,21 @@ decoded word =
     else if opcode_of word == 0b0010111 then Some (Auipc (rd_of word) (imm_u word))
     else if opcode_of word == 0b1101111 then Some (Jal (rd_of word) (imm_j word))
     else if opcode_of word == 0b1100111 then
-        (if funct3_of word == 0b000 then Some (Jalr (rd_of word) (rs1_of word) (imm_i word)) else None)
+    (if funct3_of word == 0b000 then Some (Jalr (rd_of word) (rs1_of word) (imm_i word)) else None)
     else if opcode_of word == 0b1100011 then
-        option_map (λ test. Branch test (rs1_of word) (rs2_of word) (imm_b word)) (test_at (funct3_of word))
+    option_map (λ test. Branch test (rs1_of word) (rs2_of word) (imm_b word)) (test_at (funct3_of word))
     else if opcode_of word == 0b0000011 then
-        option_map (λ width. Load width (rd_of word) (rs1_of word) (imm_i word)) (load_width_at (funct3_of word))
+    option_map (λ width. Load width (rd_of word) (rs1_of word) (imm_i word)) (load_width_at (funct3_of word))
     else if opcode_of word == 0b0100011 then
-        option_map (λ width. Store width (rs1_of word) (rs2_of word) (imm_s word)) (store_width_at (funct3_of word))
+    option_map (λ width. Store width (rs1_of word) (rs2_of word) (imm_s word)) (store_width_at (funct3_of word))
     else if opcode_of word == 0b0010011 then
-        option_map (λ op. OpImm op (rd_of word) (rs1_of word) (op_immediate word op)) (op_imm_at word)
+    option_map (λ op. OpImm op (rd_of word) (rs1_of word) (op_immediate word op)) (op_imm_at word)
     else if opcode_of word == 0b0110011 then
-        option_map (λ op. Op op (rd_of word) (rs1_of word) (rs2_of word)) (op_at word)
+    option_map (λ op. Op op (rd_of word) (rs1_of word) (rs2_of word)) (op_at word)
     else if opcode_of word == 0b0001111 then
-        (if funct3_of word == 0b000 then Some Fence else None)
+    (if funct3_of word == 0b000 then Some Fence else None)
     else if word == 0x00000073 then Some Ecall
     else if word == 0x00100073 then Some Ebreak
     else if opcode_of word == 0b0101111 then
-        (if funct3_of word == 0b010 then atomic_decoded word else None)
+    (if funct3_of word == 0b010 then atomic_decoded word else None)
     else None

@@ -17,7 +17,9 @@ fn reg_at(word: u32, low: u32) -> Reg
     requires starts_inside { low < 32 }
     ensures exact { result ≡ reg_field low word }
 {
-    Reg { number: field_at(word, low, 5) as u8 }
+    Reg {
+        number: field_at(word, low, 5) as u8,
+    }
 }
 
 pub(crate) fn opcode(word: u32) -> u32

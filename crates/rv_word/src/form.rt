@@ -21,10 +21,8 @@ pub(crate) fn r_form(opcode: u32, rd: Reg, funct3: u32, rs1: Reg, rs2: Reg, func
     ensures has_rs1 { rs1_of result ≡ rs1 }
     ensures has_rs2 { rs2_of result ≡ rs2 }
     ensures has_funct7 { funct7_of result ≡ funct7 }
-    ensures only {
-        (w : ℕ) → w < 2 ^ 32 → opcode_of w ≡ opcode → rd_of w ≡ rd → funct3_of w ≡ funct3
-        → rs1_of w ≡ rs1 → rs2_of w ≡ rs2 → funct7_of w ≡ funct7 → w ≡ result
-    }
+    ensures only { (w : ℕ) → w < 2 ^ 32 → opcode_of w ≡ opcode → rd_of w ≡ rd → funct3_of w ≡ funct3
+        → rs1_of w ≡ rs1 → rs2_of w ≡ rs2 → funct7_of w ≡ funct7 → w ≡ result }
 {
     let low = opcode + ((rd.number as u32) << 7) + (funct3 << 12);
     let high = ((rs1.number as u32) << 15) + ((rs2.number as u32) << 20) + (funct7 << 25);
@@ -44,10 +42,8 @@ pub(crate) fn shift_form(rd: Reg, funct3: u32, rs1: Reg, amount: i32, funct7: u3
     ensures has_rs1 { rs1_of result ≡ rs1 }
     ensures has_amount { pos (shamt_of result) ≡ amount }
     ensures has_funct7 { funct7_of result ≡ funct7 }
-    ensures only {
-        (w : ℕ) → w < 2 ^ 32 → opcode_of w ≡ 0b0010011 → rd_of w ≡ rd → funct3_of w ≡ funct3
-        → rs1_of w ≡ rs1 → pos (shamt_of w) ≡ amount → funct7_of w ≡ funct7 → w ≡ result
-    }
+    ensures only { (w : ℕ) → w < 2 ^ 32 → opcode_of w ≡ 0b0010011 → rd_of w ≡ rd → funct3_of w ≡ funct3
+        → rs1_of w ≡ rs1 → pos (shamt_of w) ≡ amount → funct7_of w ≡ funct7 → w ≡ result }
 {
     let low = 0b0010011 + ((rd.number as u32) << 7) + (funct3 << 12);
     let high = ((rs1.number as u32) << 15) + ((amount as u32) << 20) + (funct7 << 25);
@@ -67,11 +63,9 @@ pub(crate) fn atomic_form(rd: Reg, rs1: Reg, rs2: Reg, funct5: u32, aq: bool, rl
     ensures has_funct5 { funct5_of result ≡ funct5 }
     ensures has_aq { aq_of result ≡ aq }
     ensures has_rl { rl_of result ≡ rl }
-    ensures only {
-        (w : ℕ) → w < 2 ^ 32 → opcode_of w ≡ 0b0101111 → rd_of w ≡ rd → funct3_of w ≡ 0b010
+    ensures only { (w : ℕ) → w < 2 ^ 32 → opcode_of w ≡ 0b0101111 → rd_of w ≡ rd → funct3_of w ≡ 0b010
         → rs1_of w ≡ rs1 → field 20 5 w ≡ rs2.number → funct5_of w ≡ funct5 → aq_of w ≡ aq → rl_of w ≡ rl
-        → w ≡ result
-    }
+        → w ≡ result }
 {
     let low = 0b0101111 + ((rd.number as u32) << 7) + (0b010 << 12);
     let middle = ((rs1.number as u32) << 15) + ((rs2.number as u32) << 20);
@@ -90,10 +84,8 @@ pub(crate) fn i_form(opcode: u32, rd: Reg, funct3: u32, rs1: Reg, imm: i32) -> u
     ensures has_funct3 { funct3_of result ≡ funct3 }
     ensures has_rs1 { rs1_of result ≡ rs1 }
     ensures has_imm { imm_i result ≡ imm }
-    ensures only {
-        (w : ℕ) → w < 2 ^ 32 → opcode_of w ≡ opcode → rd_of w ≡ rd → funct3_of w ≡ funct3
-        → rs1_of w ≡ rs1 → imm_i w ≡ imm → w ≡ result
-    }
+    ensures only { (w : ℕ) → w < 2 ^ 32 → opcode_of w ≡ opcode → rd_of w ≡ rd → funct3_of w ≡ funct3
+        → rs1_of w ≡ rs1 → imm_i w ≡ imm → w ≡ result }
 {
     let low = opcode + ((rd.number as u32) << 7) + (funct3 << 12);
     low + ((rs1.number as u32) << 15) + (low_bits(imm, 12) << 20)
@@ -110,10 +102,8 @@ pub(crate) fn s_form(opcode: u32, funct3: u32, rs1: Reg, rs2: Reg, imm: i32) -> 
     ensures has_rs1 { rs1_of result ≡ rs1 }
     ensures has_rs2 { rs2_of result ≡ rs2 }
     ensures has_imm { imm_s result ≡ imm }
-    ensures only {
-        (w : ℕ) → w < 2 ^ 32 → opcode_of w ≡ opcode → funct3_of w ≡ funct3 → rs1_of w ≡ rs1
-        → rs2_of w ≡ rs2 → imm_s w ≡ imm → w ≡ result
-    }
+    ensures only { (w : ℕ) → w < 2 ^ 32 → opcode_of w ≡ opcode → funct3_of w ≡ funct3 → rs1_of w ≡ rs1
+        → rs2_of w ≡ rs2 → imm_s w ≡ imm → w ≡ result }
 {
     let bits = low_bits(imm, 12);
     let low = opcode + (field_at(bits, 0, 5) << 7) + (funct3 << 12);
@@ -133,10 +123,8 @@ pub(crate) fn b_form(opcode: u32, funct3: u32, rs1: Reg, rs2: Reg, imm: i32) -> 
     ensures has_rs1 { rs1_of result ≡ rs1 }
     ensures has_rs2 { rs2_of result ≡ rs2 }
     ensures has_imm { imm_b result ≡ imm }
-    ensures only {
-        (w : ℕ) → w < 2 ^ 32 → opcode_of w ≡ opcode → funct3_of w ≡ funct3 → rs1_of w ≡ rs1
-        → rs2_of w ≡ rs2 → imm_b w ≡ imm → w ≡ result
-    }
+    ensures only { (w : ℕ) → w < 2 ^ 32 → opcode_of w ≡ opcode → funct3_of w ≡ funct3 → rs1_of w ≡ rs1
+        → rs2_of w ≡ rs2 → imm_b w ≡ imm → w ≡ result }
 {
     let bits = low_bits(imm, 13);
     let low = opcode + (field_at(bits, 11, 1) << 7) + (field_at(bits, 1, 4) << 8) + (funct3 << 12);
@@ -152,9 +140,7 @@ pub(crate) fn u_form(opcode: u32, rd: Reg, imm: u32) -> u32
     ensures has_opcode { opcode_of result ≡ opcode }
     ensures has_rd { rd_of result ≡ rd }
     ensures has_imm { imm_u result ≡ imm }
-    ensures only {
-        (w : ℕ) → w < 2 ^ 32 → opcode_of w ≡ opcode → rd_of w ≡ rd → imm_u w ≡ imm → w ≡ result
-    }
+    ensures only { (w : ℕ) → w < 2 ^ 32 → opcode_of w ≡ opcode → rd_of w ≡ rd → imm_u w ≡ imm → w ≡ result }
 {
     opcode + ((rd.number as u32) << 7) + imm
 }
@@ -168,9 +154,7 @@ pub(crate) fn j_form(opcode: u32, rd: Reg, imm: i32) -> u32
     ensures has_opcode { opcode_of result ≡ opcode }
     ensures has_rd { rd_of result ≡ rd }
     ensures has_imm { imm_j result ≡ imm }
-    ensures only {
-        (w : ℕ) → w < 2 ^ 32 → opcode_of w ≡ opcode → rd_of w ≡ rd → imm_j w ≡ imm → w ≡ result
-    }
+    ensures only { (w : ℕ) → w < 2 ^ 32 → opcode_of w ≡ opcode → rd_of w ≡ rd → imm_j w ≡ imm → w ≡ result }
 {
     let bits = low_bits(imm, 21);
     let low = opcode + ((rd.number as u32) << 7) + (field_at(bits, 12, 8) << 12);

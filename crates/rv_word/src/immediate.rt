@@ -16,7 +16,11 @@ fn sign_extend(value: u32, width: u32) -> i32
     ensures fits { FitsSignedBits width result }
     ensures even { value % 2 ≡ 0 → IsEven result }
 {
-    if value < 1 << (width - 1) { value as i32 } else { value as i32 - (1 << width) }
+    if value < 1 << (width - 1) {
+        value as i32
+    } else {
+        value as i32 - (1 << width)
+    }
 }
 
 /// The low bits of a number that fits `width` bits.
@@ -30,7 +34,11 @@ pub(crate) fn low_bits(value: i32, width: u32) -> u32
     ensures only { (n : ℕ) → n < 2 ^ width → signed width n ≡ value → n ≡ result }
     ensures even { IsEven value → result % 2 ≡ 0 }
 {
-    let bits = if value < 0 { value + (1 << width) } else { value };
+    let bits = if value < 0 {
+        value + (1 << width)
+    } else {
+        value
+    };
     bits.cast_unsigned()
 }
 

@@ -4,15 +4,17 @@
 //! It stands on nothing but std, and takes no memory.
 #![tactic(auto)]
 
-mod decode;
-mod table;
-mod validity;
-mod encode;
+mod decoding;
+mod encoding;
 mod field;
 mod form;
 mod immediate;
 mod insn;
 mod reg;
+mod table;
+mod validity;
 
+pub use decoding::decode;
+pub use encoding::encode;
 pub use insn::{Alu, AmoOp, Insn, LoadWidth, StoreWidth, Test};
 pub use reg::Reg;

@@ -17,7 +17,11 @@ impl Insn {
                 fits_signed_bits(offset, 12)
             }
             Insn::OpImm { op: Alu::Sub, .. } => false,
-            Insn::OpImm { op: Alu::Sll | Alu::Srl | Alu::Sra, imm, .. } => 0 <= imm && imm < 32,
+            Insn::OpImm {
+                op: Alu::Sll | Alu::Srl | Alu::Sra,
+                imm,
+                ..
+            } => 0 <= imm && imm < 32,
             Insn::OpImm { imm, .. } => fits_signed_bits(imm, 12),
             Insn::Op { .. } | Insn::Fence | Insn::Ecall | Insn::Ebreak => true,
             Insn::Lr { .. } | Insn::Sc { .. } | Insn::Amo { .. } => true,

@@ -21,25 +21,45 @@ pub fn encode(insn: Insn) -> u32
         Insn::Auipc { rd, imm } => u_form(0b0010111, rd, imm),
         Insn::Jal { rd, offset } => j_form(0b1101111, rd, offset),
         Insn::Jalr { rd, rs1, offset } => i_form(0b1100111, rd, 0b000, rs1, offset),
-        Insn::Branch { test, rs1, rs2, offset } => {
-            b_form(0b1100011, code_of_test(test), rs1, rs2, offset)
-        }
-        Insn::Load { width, rd, rs1, offset } => {
-            i_form(0b0000011, rd, code_of_load(width), rs1, offset)
-        }
-        Insn::Store { width, rs1, rs2, offset } => {
-            s_form(0b0100011, code_of_store(width), rs1, rs2, offset)
-        }
+        Insn::Branch {
+            test,
+            rs1,
+            rs2,
+            offset,
+        } => { b_form(0b1100011, code_of_test(test), rs1, rs2, offset) }
+        Insn::Load {
+            width,
+            rd,
+            rs1,
+            offset,
+        } => { i_form(0b0000011, rd, code_of_load(width), rs1, offset) }
+        Insn::Store {
+            width,
+            rs1,
+            rs2,
+            offset,
+        } => { s_form(0b0100011, code_of_store(width), rs1, rs2, offset) }
         Insn::OpImm { op, rd, rs1, imm } => op_imm_word(op, rd, rs1, imm),
         Insn::Op { op, rd, rs1, rs2 } => op_word(op, rd, rs1, rs2),
         Insn::Fence => 0x0ff0_000f,
         Insn::Ecall => 0x0000_0073,
         Insn::Ebreak => 0x0010_0073,
         Insn::Lr { rd, rs1, aq, rl } => atomic_form(rd, rs1, Reg { number: 0 }, 0b00010, aq, rl),
-        Insn::Sc { rd, rs1, rs2, aq, rl } => atomic_form(rd, rs1, rs2, 0b00011, aq, rl),
-        Insn::Amo { op, rd, rs1, rs2, aq, rl } => {
-            atomic_form(rd, rs1, rs2, code_of_amo(op), aq, rl)
-        }
+        Insn::Sc {
+            rd,
+            rs1,
+            rs2,
+            aq,
+            rl,
+        } => atomic_form(rd, rs1, rs2, 0b00011, aq, rl),
+        Insn::Amo {
+            op,
+            rd,
+            rs1,
+            rs2,
+            aq,
+            rl,
+        } => { atomic_form(rd, rs1, rs2, code_of_amo(op), aq, rl) }
     }
 }
 

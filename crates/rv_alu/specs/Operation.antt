@@ -1,0 +1,75 @@
+-- the results of RV32IA's operations on words of 32 bits, which are numbers below 2 ^ 32
+use Rattle.std.specs.Prelude.{ℕ, ℤ, Bool, ◌+◌, ◌-◌, ◌*◌, ◌/◌, ◌%◌, ◌^◌, ◌==◌, nat_lt, not, if◌then◌else◌, bit_and, bit_or, bit_xor, int_lt, min, max}
+use Rattle.std.specs.Int.{cast_signed, cast_unsigned, int_shr, w32}
+use Rattle.rv_word.specs.declared.insn.Alu.{Alu}
+use Rattle.rv_word.specs.declared.insn.Alu.TheVariants as alus
+use Rattle.rv_word.specs.declared.insn.Test.{Test}
+use Rattle.rv_word.specs.declared.insn.Test.TheVariants as tests
+use Rattle.rv_word.specs.declared.insn.AmoOp.{AmoOp}
+use Rattle.rv_word.specs.declared.insn.AmoOp.TheVariants as amos
+use Rattle.rv_word.specs.declared.insn.LoadWidth.{LoadWidth}
+use Rattle.rv_word.specs.declared.insn.LoadWidth.TheVariants as widths
+
+-- a word read as a signed number in two's complement
+abbrev pub signed : ℕ → ℤ
+signed word = cast_signed w32 word
+
+-- whether a word is less than another as signed numbers
+abbrev pub signed_less : ℕ → ℕ → Bool
+signed_less left right = int_lt (signed left) (signed right)
+
+-- 1 where a test holds, else 0
+abbrev pub flag : Bool → ℕ
+flag test = if test then 1 else 0
+
+-- the sum of two words, modulo 2 ^ 32
+abbrev pub plus : ℕ → ℕ → ℕ
+plus left right = (left + right) % 2 ^ 32
+
+-- a word moved by a signed offset, modulo 2 ^ 32
+abbrev pub moved : ℕ → ℤ → ℕ
+moved word offset = plus word (cast_unsigned w32 offset)
+
+abbrev pub alu_of : Alu → ℕ → ℕ → ℕ
+alu_of alus.Add left right = plus left right
+alu_of alus.Sub left right = (left + (2 ^ 32 - right)) % 2 ^ 32
+alu_of alus.Sll left right = left * 2 ^ (right % 32) % 2 ^ 32
+alu_of alus.Slt left right = flag (signed_less left right)
+alu_of alus.Sltu left right = flag (nat_lt left right)
+alu_of alus.Xor left right = bit_xor left right
+alu_of alus.Srl left right = left / 2 ^ (right % 32)
+alu_of alus.Sra left right = cast_unsigned w32 (int_shr (signed left) (right % 32))
+alu_of alus.Or left right = bit_or left right
+alu_of alus.And left right = bit_and left right
+
+abbrev pub taken_of : Test → ℕ → ℕ → Bool
+taken_of tests.Eq left right = left == right
+taken_of tests.Ne left right = not (left == right)
+taken_of tests.Lt left right = signed_less left right
+taken_of tests.Ge left right = not (signed_less left right)
+taken_of tests.Ltu left right = nat_lt left right
+taken_of tests.Geu left right = not (nat_lt left right)
+
+-- what an atomic memory operation stores
+abbrev pub amo_of : AmoOp → ℕ → ℕ → ℕ
+amo_of amos.Swap old source = source
+amo_of amos.Add old source = plus old source
+amo_of amos.Xor old source = bit_xor old source
+amo_of amos.And old source = bit_and old source
+amo_of amos.Or old source = bit_or old source
+amo_of amos.Min old source = if signed_less source old then source else old
+amo_of amos.Max old source = if signed_less source old then old else source
+amo_of amos.Minu old source = min old source
+amo_of amos.Maxu old source = max old source
+
+-- the low bits of a number, the last of them its sign, as a word: `half` is the weight of that bit
+abbrev pub sign_extended : ℕ → ℕ → ℕ
+sign_extended low half = if nat_lt low half then low else low + (2 ^ 32 - 2 * half)
+
+-- what a load puts into its register, of the loaded bytes as a number
+abbrev pub extend_of : LoadWidth → ℕ → ℕ
+extend_of widths.Byte raw = sign_extended (raw % 2 ^ 8) (2 ^ 7)
+extend_of widths.Half raw = sign_extended (raw % 2 ^ 16) (2 ^ 15)
+extend_of widths.Word raw = raw
+extend_of widths.ByteU raw = raw % 2 ^ 8
+extend_of widths.HalfU raw = raw % 2 ^ 16

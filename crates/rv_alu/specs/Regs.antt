@@ -1,0 +1,10 @@
+-- the 32 integer registers, as a list of words of which the first is 0
+use Rattle.std.specs.Prelude.{ℕ, List, slice_index, slice_set, if◌then◌else◌, nat_eq}
+
+-- the word in a register
+abbrev pub get : List ℕ → ℕ → ℕ
+get regs reg = slice_index regs reg
+
+-- the registers after a write, which register 0 ignores
+abbrev pub set : List ℕ → ℕ → ℕ → List ℕ
+set regs reg value = if nat_eq reg 0 then regs else slice_set regs reg value

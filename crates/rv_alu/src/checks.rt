@@ -1,0 +1,168 @@
+ghost use Rattle.std.specs.Prelude.{◌≡◌, ◌≤◌};
+ghost use Rattle.rv_alu.specs.Footprint.{IsFootprint, access_of, appends, calls, conditional, indirect, is_call, is_reserved, jumps, load_size, reads, store_size, writes};
+
+use crate::footprint::Access;
+use crate::operation::{offset_by, taken};
+use crate::regs::Regs;
+use crate::span::Span;
+use crate::syscall::{A0, A1, A7, EXIT, WRITE, WriteCall, write_call};
+use rv_word::{Insn, LoadWidth, StoreWidth};
+
+/// The access of an instruction at `pc`, before anything happens: its footprint, trap or exit (RISC-V
+/// unprivileged manual, chapters I and A; the order of the tests is this project's profile).
+/// Misalignment is tested before the bounds of memory, and `room` is what the output has left.
+#[tactic(auto, using(crate::proofs::Footprints::footprint), unfolding(crate::specs::Footprint::access_of))]
+pub fn access(
+    insn: &Insn,
+    pc: u32,
+    regs: &Regs,
+    reserved: Option<u32>,
+    span: Span,
+    room: u32,
+) -> Access
+    ensures value { result ≡ access_of insn.now pc regs.now reserved span room }
+    ensures inside { IsFootprint insn.now span room result }
+{
+    match *insn {
+        Insn::Lui { .. }
+        | Insn::Auipc { .. }
+        | Insn::OpImm { .. }
+        | Insn::Op { .. }
+        | Insn::Fence => { Access::Nothing }
+        Insn::Jal { offset, .. } => jump(offset_by(pc, offset)),
+        Insn::Jalr { rs1, offset, .. } => jump(indirect_target(offset_by(regs.get(rs1), offset))),
+        Insn::Branch {
+            test,
+            rs1,
+            rs2,
+            offset,
+        } => {
+            if taken(test, regs.get(rs1), regs.get(rs2)) {
+                jump(offset_by(pc, offset))
+            } else {
+                Access::Nothing
+            }
+        }
+        Insn::Load {
+            width,
+            rs1,
+            offset,
+            ..
+        } => { read(span, offset_by(regs.get(rs1), offset), bytes_loaded(width)) }
+        Insn::Store {
+            width,
+            rs1,
+            offset,
+            ..
+        } => { write(span, offset_by(regs.get(rs1), offset), bytes_stored(width)) }
+        Insn::Ecall => call(regs, span, room),
+        Insn::Ebreak => Access::Trap { cause: 3 },
+        Insn::Lr { rs1, .. } => read(span, regs.get(rs1), 4),
+        Insn::Sc { rs1, .. } => store_conditional(reserved, write(span, regs.get(rs1), 4)),
+        Insn::Amo { rs1, .. } => write(span, regs.get(rs1), 4),
+    }
+}
+
+/// Whether an instruction makes a system call.
+pub fn makes_call(insn: &Insn) -> bool
+    ensures { result ≡ is_call insn.now }
+{
+    matches!(insn, Insn::Ecall)
+}
+
+/// How many bytes a load reads.
+fn bytes_loaded(width: LoadWidth) -> u32
+    ensures { result ≡ load_size width }
+{
+    match width {
+        LoadWidth::Byte | LoadWidth::ByteU => 1,
+        LoadWidth::Half | LoadWidth::HalfU => 2,
+        LoadWidth::Word => 4,
+    }
+}
+
+/// How many bytes a store writes.
+fn bytes_stored(width: StoreWidth) -> u32
+    ensures { result ≡ store_size width }
+{
+    match width {
+        StoreWidth::Byte => 1,
+        StoreWidth::Half => 2,
+        StoreWidth::Word => 4,
+    }
+}
+
+fn read(span: Span, address: u32, size: u32) -> Access
+    requires { 1 ≤ size }
+    ensures { result ≡ reads span address size }
+{
+    if address % size != 0 {
+        Access::Trap { cause: 4 }
+    } else if span.holds(address, size) {
+        Access::Read { address, len: size }
+    } else {
+        Access::Trap { cause: 5 }
+    }
+}
+
+fn write(span: Span, address: u32, size: u32) -> Access
+    requires { 1 ≤ size }
+    ensures { result ≡ writes span address size }
+{
+    if address % size != 0 {
+        Access::Trap { cause: 6 }
+    } else if span.holds(address, size) {
+        Access::Write { address, len: size }
+    } else {
+        Access::Trap { cause: 7 }
+    }
+}
+
+fn jump(target: u32) -> Access
+    ensures { result ≡ jumps target }
+{
+    if target % 4 == 0 {
+        Access::Nothing
+    } else {
+        Access::Trap { cause: 0 }
+    }
+}
+
+/// The target of JALR, whose lowest bit is cleared.
+pub fn indirect_target(sum: u32) -> u32
+    ensures { result ≡ indirect sum }
+{
+    sum - sum % 2
+}
+
+/// Whether an address is the one that the hart reserved.
+pub fn has_reserved(reserved: Option<u32>, address: u32) -> bool
+    ensures { result ≡ is_reserved reserved address }
+{
+    reserved == Some(address)
+}
+
+fn store_conditional(reserved: Option<u32>, store: Access) -> Access
+    ensures { result ≡ conditional reserved store }
+{
+    match store {
+        Access::Write { address, .. } if !has_reserved(reserved, address) => Access::Nothing,
+        other => other,
+    }
+}
+
+fn call(regs: &Regs, span: Span, room: u32) -> Access
+    ensures { result ≡ calls regs.now span room }
+{
+    match regs.get(A7) {
+        EXIT => Access::Exit { code: regs.get(A0) },
+        WRITE => match write_call(regs, span, room) {
+            WriteCall::Answer { .. } => Access::Nothing,
+            WriteCall::Append { count } => Access::Read {
+                address: regs.get(A1),
+                len: count,
+            },
+        },
+        _ => Access::Nothing,
+    }
+}

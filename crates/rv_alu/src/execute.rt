@@ -1,0 +1,100 @@
+ghost use Rattle.std.specs.Prelude.{◌≡◌};
+ghost use Rattle.rv_alu.specs.Execute.{effect_of, puts, stored_of};
+
+use crate::checks::{has_reserved, indirect_target};
+use crate::operation::{alu, amo, extend, offset_by, taken};
+use crate::regs::Regs;
+use crate::span::Span;
+use crate::syscall::{A0, call_result};
+use crate::view::HartView;
+use rv_word::{Insn, Reg};
+
+/// The hart goes on to the next instruction in memory, with a value in a register.
+fn put(view: &mut HartView, rd: Reg, value: u32)
+    ensures { view.new ≡ puts view.old rd.number value }
+{
+    view.regs.set(rd, value);
+    view.pc = view.pc.wrapping_add(4);
+}
+
+/// What an instruction does to its hart, given the bytes that its access touches as one number
+/// (`loaded`, which only loads, LR and atomic operations read). It is meant for an instruction that
+/// neither traps nor exits, as `access` tells. Sources are read before rd is written (RISC-V
+/// unprivileged manual, chapters I and A; the write call is this project's profile).
+#[tactic(auto, unfolding(crate::specs::Execute::effect_of))]
+pub fn effect(insn: &Insn, view: &mut HartView, span: Span, room: u32, loaded: u32)
+    ensures { view.new ≡ effect_of insn.now view.old span room loaded }
+{
+    let next = view.pc.wrapping_add(4);
+    match *insn {
+        Insn::Lui { rd, imm } => put(view, rd, imm),
+        Insn::Auipc { rd, imm } => put(view, rd, view.pc.wrapping_add(imm)),
+        Insn::Jal { rd, offset } => {
+            view.regs.set(rd, next);
+            view.pc = offset_by(view.pc, offset);
+        }
+        Insn::Jalr { rd, rs1, offset } => {
+            let target = indirect_target(offset_by(view.regs.get(rs1), offset));
+            view.regs.set(rd, next);
+            view.pc = target;
+        }
+        Insn::Branch {
+            test,
+            rs1,
+            rs2,
+            offset,
+        } => {
+            let goes = taken(test, view.regs.get(rs1), view.regs.get(rs2));
+            view.pc = if goes {
+                offset_by(view.pc, offset)
+            } else {
+                next
+            };
+        }
+        Insn::Load { width, rd, .. } => put(view, rd, extend(width, loaded)),
+        Insn::Store { .. } => {
+            view.reserved = None;
+            view.pc = next;
+        }
+        Insn::OpImm { op, rd, rs1, imm } => {
+            let value = alu(op, view.regs.get(rs1), imm.cast_unsigned());
+            put(view, rd, value);
+        }
+        Insn::Op { op, rd, rs1, rs2 } => {
+            let value = alu(op, view.regs.get(rs1), view.regs.get(rs2));
+            put(view, rd, value);
+        }
+        Insn::Fence => view.pc = next,
+        Insn::Ecall => {
+            let answer = call_result(&view.regs, span, room);
+            put(view, A0, answer);
+        }
+        Insn::Ebreak => {}
+        Insn::Lr { rd, rs1, .. } => {
+            view.reserved = Some(view.regs.get(rs1));
+            put(view, rd, loaded);
+        }
+        Insn::Sc { rd, rs1, .. } => {
+            let fails = !has_reserved(view.reserved, view.regs.get(rs1));
+            view.reserved = None;
+            put(view, rd, u32::from(fails));
+        }
+        Insn::Amo { rd, .. } => {
+            view.reserved = None;
+            put(view, rd, loaded);
+        }
+    }
+}
+
+/// The number whose low bytes an instruction stores, where it writes: that of rs2, or the result of
+/// an atomic operation on the old word and rs2.
+#[tactic(auto, unfolding(crate::specs::Execute::stored_of))]
+pub fn stored(insn: &Insn, regs: &Regs, loaded: u32) -> u32
+    ensures { result ≡ stored_of insn.now regs.now loaded }
+{
+    match *insn {
+        Insn::Store { rs2, .. } | Insn::Sc { rs2, .. } => regs.get(rs2),
+        Insn::Amo { op, rs2, .. } => amo(op, loaded, regs.get(rs2)),
+        _ => 0,
+    }
+}

@@ -1,0 +1,94 @@
+ghost use Rattle.std.specs.Prelude.{◌≡◌, ◌≤◌, ◌+◌, ◌-◌, ◌^◌};
+ghost use Rattle.rv_alu.specs.Syscall.{call_answer, negative, write_call_of};
+
+use crate::regs::Regs;
+use crate::span::Span;
+use rv_word::Reg;
+
+/// The number of the Linux RISC-V system call `exit`.
+pub const EXIT: u32 = 93;
+
+/// The number of the Linux RISC-V system call `write`.
+pub const WRITE: u32 = 64;
+
+const BAD_FILE: u32 = 9;
+
+const BAD_ADDRESS: u32 = 14;
+
+const NO_SPACE: u32 = 28;
+
+const NO_SUCH_CALL: u32 = 38;
+
+const LINE: u32 = 64;
+
+/// The registers of a call's number, arguments and answer (psABI).
+pub const A0: Reg = Reg { number: 10 };
+
+pub const A1: Reg = Reg { number: 11 };
+
+const A2: Reg = Reg { number: 12 };
+
+pub const A7: Reg = Reg { number: 17 };
+
+/// How a write call goes.
+#[derive(Clone, Copy, Debug, PartialEq, Eq)]
+pub enum WriteCall {
+    /// It writes nothing, and x10 becomes `value`.
+    Answer { value: u32 },
+    /// It writes `count` bytes from x11 on, and x10 becomes `count`.
+    Append { count: u32 },
+}
+
+/// How the write call that these registers ask for goes, where the output has room for `room` bytes
+/// (this project's profile): to file 1 or 2, of at least one byte, from a line in memory, and no
+/// further than the end of that line.
+pub fn write_call(regs: &Regs, span: Span, room: u32) -> WriteCall
+    ensures { result ≡ write_call_of regs.now span room }
+{
+    let file = regs.get(A0);
+    let address = regs.get(A1);
+    let count = regs.get(A2);
+    if file != 1 && file != 2 {
+        return WriteCall::Answer {
+            value: error(BAD_FILE),
+        };
+    }
+    if count == 0 {
+        return WriteCall::Answer { value: 0 };
+    }
+    let in_line = address % LINE;
+    if !span.holds(address - in_line, LINE) {
+        return WriteCall::Answer {
+            value: error(BAD_ADDRESS),
+        };
+    }
+    if room == 0 {
+        return WriteCall::Answer {
+            value: error(NO_SPACE),
+        };
+    }
+    WriteCall::Append {
+        count: count.min((LINE - in_line).min(room)),
+    }
+}
+
+/// The number that a call other than exit leaves in x10.
+pub fn call_result(regs: &Regs, span: Span, room: u32) -> u32
+    ensures { result ≡ call_answer regs.now span room }
+{
+    if regs.get(A7) != WRITE {
+        return error(NO_SUCH_CALL);
+    }
+    match write_call(regs, span, room) {
+        WriteCall::Answer { value } => value,
+        WriteCall::Append { count } => count,
+    }
+}
+
+/// A Linux error number as a system call answers it.
+fn error(number: u32) -> u32
+    requires { 1 ≤ number }
+    ensures { result ≡ negative number }
+{
+    u32::MAX - (number - 1)
+}

@@ -1,0 +1,4 @@
+pub mod FlatState
+pub mod Memory
+pub mod Step
+pub mod Run

@@ -1,0 +1,49 @@
+ghost use Rattle.std.specs.Prelude.{◌≡◌, ◌<◌, ◌≤◌, IfOk, map};
+ghost use Rattle.std.specs.List.{range_with_len};
+ghost use Rattle.rv_flat.specs.FlatState.{first_view};
+
+use el_base::NoMemory;
+use elf_image::Image;
+use rv_alu::{HartStatus, HartView, Regs};
+use rv_word::Reg;
+use std::alloc::Global;
+
+/// The bytes of the stack of each hart, at the end of memory.
+const STACK_SIZE: u32 = 65_536;
+
+const SP: Reg = Reg { number: 2 };
+
+const A0: Reg = Reg { number: 10 };
+
+const A1: Reg = Reg { number: 11 };
+
+/// A hart before its first step, with its number, the number of harts and its own stack (this
+/// project's profile).
+#[tactic(auto, unfolding(crate::specs::FlatState::first_view))]
+fn first_hart(image: &Image, hart: u8) -> HartView
+    requires { hart < image.now.harts }
+    ensures { result ≡ first_view image.now hart }
+{
+    let mut regs = Regs::zero();
+    regs.set(A0, u32::from(hart));
+    regs.set(A1, u32::from(image.harts()));
+    let end = image.base() + image.bytes().len() as u32;
+    regs.set(SP, end - STACK_SIZE * u32::from(hart));
+    HartView {
+        pc: image.entry(),
+        regs,
+        reserved: None,
+        status: HartStatus::Running,
+    }
+}
+
+/// All harts before their first step.
+pub fn first_views(alloc: Global, image: &Image) -> Result<Vec<HartView>, NoMemory>
+    ensures { IfOk result (λ views. views.items ≡ map (first_view image.now) (range_with_len 0 image.now.harts)) }
+{
+    let mut views = Vec::new(alloc);
+    for hart in 0..image.harts() {
+        views.push(first_hart(image, hart))?;
+    }
+    Ok(views)
+}

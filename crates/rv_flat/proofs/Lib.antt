@@ -1,1 +1,5 @@
 pub mod PutBytes
+pub mod StepCases
+pub mod StepLaws
+pub mod Reading
+pub mod Outputs

@@ -2,3 +2,4 @@ pub mod FlatState
 pub mod Memory
 pub mod Step
 pub mod Run
+pub mod Laws

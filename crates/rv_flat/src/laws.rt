@@ -1,0 +1,75 @@
+//! Laws of the flat step, over every state and every hart. Each is the contract of a function that
+//! does nothing.
+
+ghost use Rattle.std.specs.Prelude.{◌≡◌, ◌≢◌, ◌<◌, ◌+◌, ℕ, List, ◌++◌, length, slice_index};
+ghost use Rattle.elf_image.specs.Program.{Program};
+ghost use Rattle.rv_alu.specs.declared.view.HartStatus.TheVariants.{Running};
+ghost use Rattle.rv_flat.specs.FlatState.{FlatState, start, status_of, view_of};
+ghost use Rattle.rv_flat.specs.Laws.{AgreeOn, HasRegs, IsNoCall, KeepsShape, SameBut, Writes, footprint_of, next_insn, seen_after, with_bytes, with_output};
+ghost use Rattle.rv_flat.specs.Run.{alone, run};
+ghost use Rattle.rv_flat.specs.Step.{flat};
+
+/// A hart that has stopped changes nothing.
+#[tactic(auto, using(crate::proofs::StepLaws::still))]
+pub fn stopped_hart_changes_nothing()
+    ensures { (state : FlatState) (hart : ℕ) → status_of state hart ≢ Running → flat state hart ≡ state }
+{}
+
+/// A step keeps where memory lies, its length, the code and the number of harts, and the output only
+/// grows at its end.
+pub fn step_keeps_shape()
+    ensures { (state : FlatState) (hart : ℕ) → KeepsShape state (flat state hart) }
+{}
+
+/// A step reads memory only where its footprint touches: over other bytes that are the same there, it
+/// leaves the same harts and output, and each byte that was the same is the same.
+#[tactic(auto, using(crate::proofs::Reading::reads_footprint))]
+pub fn step_reads_only_its_footprint()
+    ensures { (state : FlatState) (bytes : List ℕ) (hart : ℕ) → length bytes ≡ length state.bytes →
+        AgreeOn (footprint_of state hart) state.base bytes state.bytes →
+        SameBut (flat (with_bytes state bytes) hart) (flat state hart) bytes state.bytes }
+{}
+
+/// A step changes memory only where its footprint writes.
+#[tactic(auto, using(crate::proofs::StepLaws::writes_in_footprint))]
+pub fn step_writes_only_its_footprint()
+    ensures { (state : FlatState) (hart place : ℕ) → (Writes (footprint_of state hart) (state.base + place) → ⊥) →
+        slice_index (flat state hart).bytes place ≡ slice_index state.bytes place }
+{}
+
+/// A step changes no view but its own hart's, except that a write takes the other harts' reservations
+/// of words on its line.
+#[tactic(auto, using(crate::proofs::StepLaws::keeps_others))]
+pub fn step_keeps_other_views()
+    ensures { (state : FlatState) (hart other : ℕ) → other ≢ hart →
+        view_of (flat state hart) other ≡ seen_after (footprint_of state hart) (view_of state other) }
+{}
+
+/// A step that makes no call does not depend on the output.
+#[tactic(auto, using(crate::proofs::Outputs::any_output))]
+pub fn step_ignores_output_outside_calls()
+    ensures { (state : FlatState) (output : List ℕ) (hart : ℕ) → IsNoCall (next_insn state hart) →
+        flat (with_output state output) hart ≡ with_output (flat state hart) output }
+{}
+
+/// Each hart of a program has 32 registers of which the first is 0, before its first step.
+pub fn start_has_registers()
+    ensures { (program : Program) → HasRegs (start program) }
+{}
+
+/// Where each hart has 32 registers of which the first is 0, each has after a step.
+pub fn step_keeps_register_zero()
+    ensures { (state : FlatState) (hart : ℕ) → HasRegs state → HasRegs (flat state hart) }
+{}
+
+/// A run of two lists is a run of the second after a run of the first.
+#[tactic(auto, using(crate::proofs::StepLaws::run_append))]
+pub fn run_of_two_lists()
+    ensures { (state : FlatState) (first second : List ℕ) → run state (first ++ second) ≡ run (run state first) second }
+{}
+
+/// Steps of one hart alone are made one after the other.
+#[tactic(auto, using(crate::proofs::StepLaws::alone_sum))]
+pub fn alone_of_a_sum()
+    ensures { (state : FlatState) (hart m n : ℕ) → alone state hart (m + n) ≡ alone (alone state hart m) hart n }
+{}

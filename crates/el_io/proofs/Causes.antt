@@ -1,8 +1,7 @@
 -- What the count of a sink and the list of a shelf say after a fault.
-use Rattle.std.proofs.Common.{◌≡◌, ℕ, ◌+◌, ◌<◌, ◌⊎◌, min, List, [], ◌∷◌, ◌++◌, length, drop, Contains, refl, ap, sym, ◌∙◌, inl, inr, arith, rules, append_assoc}
-use Rattle.std.proofs.lemmas.Grind.{common_steps}
+use Rattle.std.proofs.Common.{◌≡◌, ℕ, List, [], ◌∷◌, ◌++◌, length, drop, refl, ap, sym, ◌∙◌, arith}
 use Rattle.std.proofs.Math.Seq.{drop-append_seam}
-use Rattle.el_io.specs.Counts.{last_count, one_more, Rose}
+use Rattle.el_io.specs.Counts.{one_more, Rose}
 use Rattle.el_io.specs.Shelf.{NamedCall, ShelfCause}
 
 -- a count that got one more rose, or stands at its last value

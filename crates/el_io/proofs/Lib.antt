@@ -2,3 +2,4 @@ pub mod Causes
 pub mod Keeping
 pub mod Storing
 pub mod Taking
+mod Worked

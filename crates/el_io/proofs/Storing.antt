@@ -1,11 +1,11 @@
 -- What a map of files has after one more file.
-use Rattle.std.proofs.Common.{◌≡◌, ℕ, Bool, true, false, List, ◌∷◌, Option, Some, String, string_bytes, cond, refl, ap, sym, ◌∙◌}
-use Rattle.std.specs.Global.{Global, Vec}
+use Rattle.std.proofs.Common.{◌≡◌, ℕ, Bool, true, false, List, Option, Some, cond, refl, ap, ◌∙◌}
+use Rattle.std.specs.Global.{Vec}
 use Rattle.std.specs.Option.{option_map}
 use Rattle.std.specs.Str.{bytes_eq}
 use Rattle.std.specs.Map.{update}
 use Rattle.std.specs.BTreeMap.{get_by_text}
-use Rattle.el_io.specs.Files.{Files, file_of, file_after, file_given}
+use Rattle.el_io.specs.Files.{Files, file_of, file_after}
 
 items-cond : (b : Bool) (file : Vec ℕ) (bytes : List ℕ) (old : Option (Vec ℕ)) → file.items ≡ bytes → option_map {T = Vec ℕ} {U = List ℕ} (λ v. v.items) (cond b (Some file) old) ≡ cond b (Some bytes) (option_map (λ v. v.items) old)
 items-cond true file bytes old e = ap Some e

@@ -1,5 +1,5 @@
 -- The list of a shelf's failed calls.
-use Rattle.std.specs.Prelude.{List, map, string_bytes}
+use Rattle.std.specs.Prelude.{string_bytes}
 use Rattle.el_io.specs.declared.failure_list.FailedCall.{FailedCall}
 use Rattle.el_io.specs.Shelf.{NamedCall}
 

@@ -1,5 +1,5 @@
 -- A sink that never fails, and keeps the first bytes that it takes.
-use Rattle.std.specs.Prelude.{ℕ, ◌+◌, Bool, true, false, ◌||◌, nat_lt, List, ◌++◌, length, take, Option, None, Some, if◌then◌else◌}
+use Rattle.std.specs.Prelude.{ℕ, ◌+◌, Bool, ◌||◌, nat_lt, List, ◌++◌, length, take, Option, None, Some, if◌then◌else◌}
 
 -- the bytes that are kept, how many there is room for, and whether bytes were put beyond that room
 pub record SureSinkState : Type 0 where

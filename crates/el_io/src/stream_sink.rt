@@ -50,7 +50,22 @@ impl<W: Write> Sink for StreamSink<W> {
 
     ghost faults = { λ s. s.faults };
 
-    fn put(&mut self, bytes: &[u8]) -> Result<usize, Failed> {
+    fn put(&mut self, bytes: &[u8]) -> Result<usize, Failed>
+        ensures within { IfOk result (λ count. count ≤ length bytes.now) }
+        ensures goes_on { IfOk result (λ count. 0 < length bytes.now → 0 < count) }
+        ensures taken { IfOk result (λ count.
+            Took (⟦<StreamSink<W> as Sink>⟧.taken self.old) (⟦<StreamSink<W> as Sink>⟧.taken self.new)
+            (take count bytes.now)) }
+        ensures nothing_after_failed { OnErr result
+            (⟦<StreamSink<W> as Sink>⟧.taken self.new ≡ ⟦<StreamSink<W> as Sink>⟧.taken self.old) }
+        ensures still_telling { IsSome (⟦<StreamSink<W> as Sink>⟧.taken self.old) →
+            IsSome (⟦<StreamSink<W> as Sink>⟧.taken self.new) }
+        ensures faults_counted { ⟦<StreamSink<W> as Sink>⟧.faults self.new ≡ (if is_ok result
+            then ⟦<StreamSink<W> as Sink>⟧.faults self.old
+            else one_more (⟦<StreamSink<W> as Sink>⟧.faults self.old)) }
+        ensures count_never_falls { ⟦<StreamSink<W> as Sink>⟧.faults self.old ≤
+            ⟦<StreamSink<W> as Sink>⟧.faults self.new }
+    {
         match self.writer.write(bytes) {
             Ok(count) if count > 0 || bytes.is_empty() => Ok(count),
             _ => {

@@ -1,4 +1,4 @@
-use Rattle.std.proofs.Common.{rules, ◌≡◌, ℕ, ◌≤◌, length, take, drop, arith, ◌∙◌, length-take, length-drop}
+use Rattle.std.proofs.Common.{arith, ◌∙◌, length-take, length-drop}
 use Rattle.el_io.proofs.Taking.{took-next}
 use Rattle.el_io.proofs.sink.put_all.Goals as goal
 

@@ -1,4 +1,4 @@
-use Rattle.std.proofs.Common.{◌≡◌, ◌+◌, ◌++◌, arith, take, length, rules}
+use Rattle.std.proofs.Common.{arith}
 use Rattle.std.proofs.lemmas.Grind.{common_steps}
 use Rattle.el_io.proofs.Keeping.{state-after_put}
 use Rattle.el_io.proofs.sure_sink.SureSinkSink.put.Goals as goal

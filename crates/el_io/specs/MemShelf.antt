@@ -1,5 +1,5 @@
 -- A shelf in memory that fails where it is told to, as callers see it.
-use Rattle.std.specs.Prelude.{◌≡◌, ℕ, ◌<◌, ◌≤◌, ◌⊎◌, List, length, Option, None, Some, Result, Ok, Err}
+use Rattle.std.specs.Prelude.{◌≡◌, ◌≢◌, ℕ, ◌<◌, ◌≤◌, ◌⊎◌, List, length, Option, None, Some, Result, Ok, Err}
 use Rattle.std.specs.Global.{Vec}
 use Rattle.el_io.specs.declared.shelf.ShelfFault.{ShelfFault}
 use Rattle.el_io.specs.declared.shelf.ShelfFault.TheVariants.{Failed, TooBig, NoMemory}
@@ -23,6 +23,16 @@ plan shelf = shelf.plan
 -- the calls that failed
 abbrev pub failed_calls : MemShelf → List NamedCall
 failed_calls shelf = shelf.failures
+
+-- the files are as they were, and so are the bytes of each name
+pub record SameFiles (before now : MemShelf) : Type 0 where
+  pub files : file now ≡ file before
+  pub bytes : contents now ≡ contents before
+
+-- the name has a file with these bytes, and nothing changed under the other names
+pub record OneFileWritten (before now : MemShelf) (name bytes : List ℕ) : Type 0 where
+  pub written : file now name ≡ Some bytes
+  pub others : (other : List ℕ) → other ≢ name → file now other ≡ file before other
 
 -- a read of this name fails: it is planned to, or there is no such file
 abbrev pub ReadFails : MemShelf → List ℕ → Type 0

@@ -1,8 +1,7 @@
-ghost use Rattle.std.specs.Prelude.{◌≡◌, ℕ, List, [], length, Some, IfOk, OnOk};
-ghost use Rattle.std.specs.Option.{unwrap_or};
+ghost use Rattle.std.specs.Prelude.{◌≡◌, ℕ, List, [], length, Some, IfOk, OnOk, OnErr};
 ghost use Rattle.el_io.specs.Files.{file_given};
-ghost use Rattle.el_io.specs.MemShelf.{file as file_told, contents as contents_told, plan as plan_of, failed_calls, ReadAnswers, WriteAnswers, Counts};
-ghost use Rattle.el_io.specs.Shelf.{Records, KeepsOthers};
+ghost use Rattle.el_io.specs.MemShelf.{file as file_told, contents as contents_told, plan as plan_of, failed_calls, SameFiles, OneFileWritten, ReadAnswers, WriteAnswers, Counts};
+ghost use Rattle.el_io.specs.Shelf.{KeepsOthers, Records};
 
 use crate::failure_list::FailureList;
 use crate::failure_plan::FailurePlan;
@@ -58,7 +57,7 @@ impl Shelf for MemShelf {
 
     fn read(&mut self, alloc: Global, name: &str, limit: u32) -> Result<Vec<u8>, ShelfFault>
         ensures exact { ReadAnswers self.old name.now limit result }
-        ensures contents_stay { contents_told self.new ≡ contents_told self.old }
+        ensures files_stay { SameFiles self.old self.new }
         ensures counted { Counts result self.old self.new }
         ensures failures_listed { Records result
             (failed_calls self.old) (failed_calls self.new) (Call.Read, name.now) }
@@ -80,11 +79,10 @@ impl Shelf for MemShelf {
 
     fn write(&mut self, alloc: Global, name: &str, bytes: &[u8]) -> Result<(), ShelfFault>
         ensures exact { WriteAnswers self.old result }
-        ensures written { OnOk result (contents_told self.new name.now ≡ bytes.now) }
+        ensures written { OnOk result (OneFileWritten self.old self.new name.now bytes.now) }
         ensures others_stay { KeepsOthers (Some (contents_told self.old))
             (Some (contents_told self.new)) name.now }
-        ensures contents_stay_without_memory { result ≡ Err ShelfFault.NoMemory →
-            contents_told self.new ≡ contents_told self.old }
+        ensures files_stay_after_error { OnErr result (SameFiles self.old self.new) }
         ensures counted { Counts result self.old self.new }
         ensures failures_listed { Records result
             (failed_calls self.old) (failed_calls self.new) (Call.Write, name.now) }

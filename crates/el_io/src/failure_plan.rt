@@ -1,5 +1,5 @@
 //! Which calls of a device in memory fail.
-ghost use Rattle.std.specs.Prelude.{◌≡◌, ◌↔◌, ℕ, IsTrue, IfOk};
+ghost use Rattle.std.specs.Prelude.{◌≡◌, ◌↔◌, IsTrue, IfOk};
 ghost use Rattle.el_io.specs.FailurePlan.{Plan, NextFails, after_call};
 
 use std::alloc::{AllocError, Global};

@@ -1,5 +1,5 @@
 //! Files in memory, by name: what the shelves in memory share.
-ghost use Rattle.std.specs.Prelude.{◌≡◌, ℕ, List, length, Option, IfOk, OnOk, OnErr, IfErr};
+ghost use Rattle.std.specs.Prelude.{◌≡◌, ℕ, List, length, Option, IfOk, OnOk, OnErr};
 ghost use Rattle.std.specs.Option.{option_copied};
 ghost use Rattle.std.specs.BTreeMap.{IsUnchanged};
 ghost use Rattle.el_io.specs.Files.{file_of, file_after, file_given};

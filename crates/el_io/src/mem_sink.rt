@@ -1,4 +1,4 @@
-ghost use Rattle.std.specs.Prelude.{◌≡◌, ℕ, ◌<◌, ◌≤◌, ◌^◌, [], length, take, Some, IfOk, OnErr, vec_capacity};
+ghost use Rattle.std.specs.Prelude.{◌≡◌, ◌<◌, ◌≤◌, [], length, take, Some, IfOk, OnErr, vec_capacity};
 ghost use Rattle.el_io.specs.MemSink.{MemSinkState, Fails, part, after_fault, after_taking};
 
 use crate::failure_plan::FailurePlan;

@@ -1,4 +1,4 @@
-ghost use Rattle.std.specs.Prelude.{◌≡◌, ℕ, ◌<◌, ◌≤◌, None, IsTrue, IsSome, IfOk, OnErr, length, take, is_ok, if◌then◌else◌};
+ghost use Rattle.std.specs.Prelude.{◌≡◌, ◌<◌, ◌≤◌, None, IsTrue, IsSome, IfOk, OnErr, length, take, is_ok, if◌then◌else◌};
 ghost use Rattle.el_io.specs.Counts.{one_more};
 ghost use Rattle.el_io.specs.Sink.{Took};
 

@@ -1,4 +1,4 @@
-ghost use Rattle.std.specs.Prelude.{◌≡◌, ◌≢◌, ℕ, List, [], length, Some, IfOk};
+ghost use Rattle.std.specs.Prelude.{◌≡◌, ℕ, List, [], length, Some, IfOk};
 ghost use Rattle.std.specs.Option.{unwrap_or};
 ghost use Rattle.el_io.specs.Files.{file_given};
 ghost use Rattle.el_io.specs.SureShelf.{contents as contents_told};

@@ -1,4 +1,4 @@
-ghost use Rattle.std.specs.Prelude.{◌≡◌, ℕ, ◌≤◌, [], length, false, IfOk, vec_capacity};
+ghost use Rattle.std.specs.Prelude.{◌≡◌, ◌≤◌, [], length, false, IfOk, vec_capacity};
 ghost use Rattle.el_io.specs.SureSink.{SureSinkState, told, after_put};
 
 use crate::sink::{Failed, Sink};

@@ -52,6 +52,7 @@ impl Sink for SureSink {
 
     ghost faults = { λ _. 0 };
 
+    #[tactic(auto, using(crate::proofs::Keeping::keep_fitting, crate::proofs::Keeping::pass_left))]
     fn put(&mut self, bytes: &[u8]) -> Result<usize, Failed>
         ensures all_taken { result ≡ Ok (length bytes.now) }
         ensures exact { self.new ≡ after_put self.old bytes.now }

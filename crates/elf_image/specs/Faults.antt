@@ -153,30 +153,39 @@ empty_fault segments = fault_if (not (has_segment segments)) Empty 44
 
 -- All of them in order
 
-abbrev pub ident_faults : List ℕ → List (Option Fault)
-ident_faults file =
-    short_fault file ∷ magic_fault file ∷ class_fault file ∷ byte_order_fault file ∷ version_fault file ∷ []
+unfoldable pub ident_fault : List ℕ → Option Fault
+ident_fault file =
+    first_of
+        ( short_fault file
+        ∷ magic_fault file
+        ∷ class_fault file
+        ∷ byte_order_fault file
+        ∷ version_fault file
+        ∷ [])
 
-abbrev pub header_faults : List ℕ → List (Option Fault)
-header_faults file = file_kind_fault file ∷ machine_fault file ∷ flags_fault file ∷ table_fault file ∷ []
+unfoldable pub header_fault : List ℕ → Option Fault
+header_fault file =
+    first_of (file_kind_fault file ∷ machine_fault file ∷ flags_fault file ∷ table_fault file ∷ [])
 
-abbrev pub table_faults : List ProgramHeader → ℕ → List (Option Fault)
-table_faults headers file_len = dynamic_fault headers ∷ segment_fault headers file_len ∷ []
+unfoldable pub headers_fault : List ProgramHeader → ℕ → Option Fault
+headers_fault headers file_len = first_of (dynamic_fault headers ∷ segment_fault headers file_len ∷ [])
 
-abbrev pub memory_faults : List ProgramHeader → ℕ → ℕ → List (Option Fault)
-memory_faults segments entry harts =
-    overlap_fault segments
-    ∷ too_wide_fault segments harts
-    ∷ too_high_fault segments harts
-    ∷ entry_fault segments entry
-    ∷ empty_fault segments
-    ∷ []
+unfoldable pub memory_fault : List ProgramHeader → ℕ → ℕ → Option Fault
+memory_fault segments entry harts =
+    first_of
+        ( overlap_fault segments
+        ∷ too_wide_fault segments harts
+        ∷ too_high_fault segments harts
+        ∷ entry_fault segments entry
+        ∷ empty_fault segments
+        ∷ [])
 
 -- the first fault of a file as the image of a program for a number of harts, or none
 unfoldable pub fault : List ℕ → ℕ → Option Fault
 fault file harts =
     first_of
-        ( ident_faults file
-        ++ header_faults file
-        ++ table_faults (program_headers file) (length file)
-        ++ memory_faults (segments_of file) (file_header file).e_entry harts)
+        ( ident_fault file
+        ∷ header_fault file
+        ∷ headers_fault (program_headers file) (length file)
+        ∷ memory_fault (segments_of file) (file_header file).e_entry harts
+        ∷ [])

@@ -1,21 +1,23 @@
 -- The program that an accepted file loads.
-use Rattle.std.specs.Prelude.{ℕ, ◌+◌, ◌-◌, Bool, ◌&&◌, nat_lt, nat_le, List, map, slice_index, slice_range, Option, find, filter}
+use Rattle.std.specs.Prelude.{◌≤◌, ℕ, ◌+◌, ◌-◌, Bool, ◌&&◌, nat_lt, nat_le, List, map, slice_index, slice_range, Option, find, filter}
 use Rattle.std.specs.List.{range_with_len}
 use Rattle.std.specs.Option.{option_map_or}
 use Rattle.elf_image.specs.declared.program_header.ProgramHeader.{ProgramHeader}
 use Rattle.elf_image.specs.Header.{file_header}
-use Rattle.elf_image.specs.Layout.{is_executable, segments_of, memory_base, memory_end}
+use Rattle.elf_image.specs.Layout.{is_executable, segment_end, segments_of, memory_base, memory_end}
 use Rattle.elf_image.specs.Program.{Program, CodeSegment}
 
 -- the address is that of one of the segment's first p_filesz bytes, which stand in the file
 abbrev pub is_filled : ℕ → ProgramHeader → Bool
 is_filled address segment = nat_le segment.p_vaddr address && nat_lt address (segment.p_vaddr + segment.p_filesz)
 
+-- the byte of the file at an address that a segment fills
+abbrev pub file_byte : List ℕ → ℕ → ProgramHeader → ℕ
+file_byte file address segment = slice_index file (segment.p_offset + (address - segment.p_vaddr))
+
 -- the byte at an address: that of the file where a segment has it there, else 0
 unfoldable pub loaded_byte : List ℕ → List ProgramHeader → ℕ → ℕ
-loaded_byte file segments address =
-    option_map_or (λ segment. slice_index file (segment.p_offset + (address - segment.p_vaddr)))
-        (find (is_filled address) segments) 0
+loaded_byte file segments address = option_map_or (file_byte file address) (find (is_filled address) segments) 0
 
 -- memory from its base on
 unfoldable pub loaded_bytes : List ℕ → ℕ → List ℕ
@@ -41,3 +43,14 @@ program_of file harts =
       harts = harts;
       code = map (code_segment base bytes) (filter is_executable (segments_of file));
     }
+
+-- a segment lies in so many bytes from a base on
+pub record IsInside (base size : ℕ) (segment : ProgramHeader) : Type 0 where
+  pub above : base ≤ segment.p_vaddr
+  pub below : segment_end segment ≤ base + size
+
+-- and what it has in the file stands there
+pub record Fits (file_len base size : ℕ) (segment : ProgramHeader) : Type 0 where
+  pub inside : IsInside base size segment
+  pub filled : segment.p_filesz ≤ segment.p_memsz
+  pub in_file : 1 ≤ segment.p_filesz → segment.p_offset + segment.p_filesz ≤ file_len

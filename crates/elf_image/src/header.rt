@@ -4,7 +4,6 @@ ghost use Rattle.std.specs.Prelude.{◌≡◌, ◌≤◌, ◌<◌, ◌+◌, ◌*
 ghost use Rattle.std.specs.Result.{result_err};
 ghost use Rattle.elf_image.specs.Header.{file_header, HasTable};
 ghost use Rattle.elf_image.specs.Faults as faults;
-ghost use Rattle.elf_image.specs.Faults.{first_of, ident_faults, header_faults};
 
 use crate::fault::{Fault, FaultKind};
 use crate::program_header::{MOST_PROGRAM_HEADERS, PROGRAM_HEADER_LEN};
@@ -86,9 +85,10 @@ fn magic_difference(file: &[u8]) -> Option<usize>
 }
 
 /// Whether the file is an ELF file of 32 bits, little endian, in the current version.
+#[tactic(auto, unfolding(crate::specs::Faults::ident_fault))]
 pub fn check_ident(file: &[u8]) -> Result<(), Fault>
     requires { length file.now ≤ 33554432 }
-    ensures exact { result_err result ≡ first_of (ident_faults file.now) }
+    ensures exact { result_err result ≡ faults.ident_fault file.now }
     ensures whole { OnOk result (52 ≤ length file.now) }
 {
     if file.len() < FILE_HEADER_LEN {
@@ -113,9 +113,10 @@ pub fn check_ident(file: &[u8]) -> Result<(), Fault>
 }
 
 /// Whether the file is an executable for RISC-V whose program headers all lie in it.
+#[tactic(auto, unfolding(crate::specs::Faults::header_fault))]
 pub fn check_header(file: &[u8]) -> Result<(), Fault>
     requires { 52 ≤ length file.now }
-    ensures exact { result_err result ≡ first_of (header_faults file.now) }
+    ensures exact { result_err result ≡ faults.header_fault file.now }
     ensures table { OnOk result (HasTable file.now) }
 {
     let header = FileHeader::read(file);

@@ -6,12 +6,15 @@ mod code;
 mod fault;
 mod header;
 mod image;
+mod loader;
 mod program_header;
-mod memory;
+mod layout;
+mod loaded;
 mod segment;
 mod table;
 
 pub use code::Code;
 pub use fault::{Fault, FaultKind};
 pub use image::Image;
+pub use loader::ImageFault;
 pub use segment::Segment;

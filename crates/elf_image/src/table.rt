@@ -5,7 +5,6 @@ ghost use Rattle.std.specs.Result.{result_err};
 ghost use Rattle.elf_image.specs.Header.{HasTable, headers_at, program_headers};
 ghost use Rattle.elf_image.specs.Layout.{is_segment};
 ghost use Rattle.elf_image.specs.Faults as faults;
-ghost use Rattle.elf_image.specs.Faults.{first_of, segment_fault, table_faults};
 
 use arrayvec::ArrayVec;
 
@@ -47,9 +46,10 @@ fn read_headers(file: &[u8], place: u32, count: u16) -> ProgramHeaders
 }
 
 /// Whether no header asks for a dynamic linker and each segment fits a file of `file_len` bytes.
+#[tactic(auto, unfolding(crate::specs::Faults::headers_fault))]
 pub fn check_table(headers: &[ProgramHeader], file_len: usize) -> Result<(), Fault>
     requires { All (λ header. header.place ≤ 33554432) headers.now }
-    ensures { result_err result ≡ first_of (table_faults headers.now file_len) }
+    ensures { result_err result ≡ faults.headers_fault headers.now file_len }
 {
     if let Some(place) = first_dynamic(headers) {
         return Err(Fault::new(FaultKind::Dynamic, place));
@@ -70,7 +70,7 @@ fn first_dynamic(headers: &[ProgramHeader]) -> Option<u32>
 /// Whether each segment fits a file of `file_len` bytes.
 fn check_each(headers: &[ProgramHeader], file_len: usize) -> Result<(), Fault>
     requires { All (λ header. header.place ≤ 33554432) headers.now }
-    ensures { result_err result ≡ segment_fault headers.now file_len }
+    ensures { result_err result ≡ faults.segment_fault headers.now file_len }
 {
     for header in headers {
         header.check(file_len)?;

@@ -5,7 +5,6 @@ ghost use Rattle.std.specs.List.{list_any};
 ghost use Rattle.std.specs.Result.{result_err};
 ghost use Rattle.elf_image.specs.Layout as layout;
 ghost use Rattle.elf_image.specs.Faults as faults;
-ghost use Rattle.elf_image.specs.Faults.{first_of, memory_faults};
 
 use crate::fault::{Fault, FaultKind};
 use crate::header::{E_ENTRY, E_PHNUM, E_PHOFF};
@@ -67,8 +66,9 @@ pub fn memory_end(segments: &[ProgramHeader], harts: u8) -> u64
 
 /// Whether the segments are apart, lie in one span of memory that is not too large or too high, and
 /// have the entry.
+#[tactic(auto, unfolding(crate::specs::Faults::memory_fault))]
 pub fn check_memory(segments: &[ProgramHeader], entry: u32, harts: u8) -> Result<(), Fault>
-    ensures { result_err result ≡ first_of (memory_faults segments.now entry harts) }
+    ensures { result_err result ≡ faults.memory_fault segments.now entry harts }
 {
     check_overlap(segments)?;
     if segments.is_empty() {

@@ -1,0 +1,92 @@
+-- Memory as it is filled segment by segment.
+use Rattle.std.proofs.Common.{◌≡◌, ◌≤◌, ◌<◌, ℕ, zero, suc, ◌+◌, ◌-◌, Bool, true, false, cond, ◌&&◌, nat_le, nat_lt, List, [], ◌∷◌, ◌++◌, length, get_or, take, drop, map, slice_range, inl, inr, refl, sym, ◌∙◌, ap, arith}
+use Rattle.std.specs.Prelude.{Option, Some, None, find, All}
+use Rattle.std.specs.Option.{option_map_or, option_or}
+use Rattle.std.specs.List.{list_any, range_with_len}
+use Rattle.std.proofs.lemmas.Bool.{cases_lt, cases_Bool, or_parts}
+use Rattle.std.proofs.lemmas.Bool.Decides.{nat_tests}
+use Rattle.std.proofs.lemmas.Grind.{common_steps}
+use Rattle.std.proofs.lemmas.List.{places, take_more, append-nil, append_assoc, ext_get_or}
+use Rattle.std.proofs.lemmas.List.Edits.{length-between, get_or-between}
+use Rattle.std.proofs.lemmas.List.Folds.{find-append}
+use Rattle.std.proofs.lemmas.List.Elements.{All-head, All-tail, All-take, All-weaker}
+use Rattle.std.proofs.lemmas.List.FromFn.{length-map-range_with_len, get_or-map-range_with_len}
+use borrow.Rule.Slice.PartMut.{put_mid}
+use Rattle.elf_image.specs.declared.program_header.ProgramHeader.{ProgramHeader}
+use Rattle.elf_image.specs.Layout.{shares_byte, overlap_after, first_overlap}
+use Rattle.elf_image.specs.Loaded.{Fits, is_filled, file_byte, loaded_byte}
+
+-- an element after a write of `part` over the n elements from `from` on
+pub get_or-put_mid : (xs part : List ℕ) (from n k : ℕ) → length part ≡ n → from + n ≤ length xs → k < length xs → get_or (put_mid from n xs part) k 0 ≡ cond (nat_le from k && nat_lt k (from + n)) (get_or part (k - from) 0) (get_or xs k 0)
+get_or-put_mid xs part from n k len inside below =
+    elim (cases_lt k from) [
+    | inl before ↦ grind (arith, places, nat_tests)
+    | inr behind ↦ elim (cases_lt k (from + n)) [ inl within ↦ grind (arith, places, nat_tests) | inr past ↦ grind (arith, places, nat_tests) ]
+    ]
+
+-- the same where the part is the bytes of a segment in the file
+pub get_or-filled : (bytes file part : List ℕ) (base vaddr offset filesz k : ℕ) → base ≤ vaddr → part ≡ slice_range file offset (offset + filesz) → offset + filesz ≤ length file → vaddr + filesz ≤ base + length bytes → k < length bytes → get_or (put_mid (vaddr - base) (vaddr - base + filesz - (vaddr - base)) bytes part) k 0 ≡ cond (nat_le vaddr (base + k) && nat_lt (base + k) (vaddr + filesz)) (get_or file (offset + (base + k - vaddr)) 0) (get_or bytes k 0)
+get_or-filled bytes file part base vaddr offset filesz k low is inside fits below =
+    let size : length part ≡ vaddr - base + filesz - (vaddr - base) = ap length is ∙ (length-between file offset (offset + filesz) inside ∙ omega arith) in
+    get_or-put_mid bytes part (vaddr - base) (vaddr - base + filesz - (vaddr - base)) k size (omega arith) below
+    ∙ elim (cases_lt (base + k) vaddr) [
+    | inl before ↦ grind (arith, nat_tests)
+    | inr behind ↦ elim (cases_lt (base + k) (vaddr + filesz)) [
+      | inl within ↦
+        let at = get_or-between file offset (offset + filesz) (k - (vaddr - base)) 0 (omega arith) in
+        let byte : get_or part (k - (vaddr - base)) 0 ≡ get_or file (offset + (base + k - vaddr)) 0 = ap (λ xs. get_or xs (k - (vaddr - base)) 0) is ∙ at ∙ ap (λ i. get_or file i 0) (omega arith) in
+        grind (arith, nat_tests)
+      | inr past ↦ grind (arith, nat_tests)
+      ]
+    ]
+
+-- memory at an address, once one more segment is filled in
+step : (f : ProgramHeader → ℕ) (b : Bool) (segment : ProgramHeader) (earlier : Option ProgramHeader) → (b ≡ true → earlier ≡ None) → option_map_or f (option_or earlier (cond b (Some segment) None)) 0 ≡ cond b (f segment) (option_map_or f earlier 0)
+step f true segment earlier none = rw (none refl) refl
+step f false segment None none = refl
+step f false segment (Some other) none = refl
+
+pub loaded_more : (file : List ℕ) (segments : List ProgramHeader) (i : ℕ) (d : ProgramHeader) (a : ℕ) → i < length segments → (is_filled a (get_or segments i d) ≡ true → find (is_filled a) (take i segments) ≡ None) → loaded_byte file (take (i + 1) segments) a ≡ cond (is_filled a (get_or segments i d)) (file_byte file a (get_or segments i d)) (loaded_byte file (take i segments) a)
+unfolding loaded_byte
+loaded_more file segments i d a below none =
+    rw (take_more segments i d below, find-append (is_filled a))
+    (step (file_byte file a) (is_filled a (get_or segments i d)) (get_or segments i d) (find (is_filled a) (take i segments)) none)
+
+-- no segment shares a byte with an earlier one
+none_parts : (b : Bool) (x : ProgramHeader) (o : Option ProgramHeader) → cond b (Some x) o ≡ None → (b ≡ false) × (o ≡ None)
+none_parts true x o e = cc
+none_parts false x o e = (refl, e)
+
+pub apart_after : (earlier later : List ProgramHeader) (i : ℕ) (d : ProgramHeader) → overlap_after earlier later ≡ None → i < length later → list_any (shares_byte (get_or later i d)) (earlier ++ take i later) ≡ false
+apart_after earlier [] i d e below = absurd (omega arith)
+apart_after earlier (x ∷ later) zero d e below = rw append-nil (none_parts _ x _ e).0
+apart_after earlier (x ∷ later) (suc i) d e below =
+    let rest = apart_after (earlier ++ x ∷ []) later i d (none_parts _ x _ e).1 (omega arith) in
+    rw append_assoc at rest
+
+-- so the address of one's byte in the file is no other's
+pub filled_once : (a : ℕ) (segment : ProgramHeader) (others : List ProgramHeader) → is_filled a segment ≡ true → segment.p_filesz ≤ segment.p_memsz → All (λ other. other.p_filesz ≤ other.p_memsz) others → list_any (shares_byte segment) others ≡ false → find (is_filled a) others ≡ None
+filled_once a segment [] here short all apart = refl
+filled_once a segment (x ∷ others) here short all apart =
+    let head : x.p_filesz ≤ x.p_memsz = All-head (λ other. other.p_filesz ≤ other.p_memsz) x others all in
+    let tail = All-tail (λ other. other.p_filesz ≤ other.p_memsz) x others all in
+    let parts = or_parts (shares_byte segment x) (list_any (shares_byte segment) others) apart in
+    let rest : find (is_filled a) others ≡ None = filled_once a segment others here short tail parts.1 in
+    elim (cases_Bool (is_filled a x)) [ inl there ↦ grind (arith, nat_tests) | inr there ↦ grind (arith, nat_tests) ]
+
+pub all_loaded : (f : ℕ → ℕ) (base : ℕ) (xs : List ℕ) → ((k : ℕ) → k < length xs → get_or xs k 0 ≡ f (base + k)) → xs ≡ map f (range_with_len base (length xs))
+all_loaded f base xs each =
+    ext_get_or 0 xs (map f (range_with_len base (length xs))) (sym (length-map-range_with_len f base (length xs)))
+    (λ k below. each k below ∙ sym (get_or-map-range_with_len f base (length xs) k (base + k) 0 below refl))
+
+-- memory at an address as one more segment is filled in
+pub filled_more : (file : List ℕ) (segments : List ProgramHeader) (i base size a new old : ℕ) (d : ProgramHeader) → All (Fits (length file) base size) segments → first_overlap segments ≡ None → i < length segments → new ≡ cond (is_filled a (get_or segments i d)) (file_byte file a (get_or segments i d)) old → old ≡ loaded_byte file (take i segments) a → new ≡ loaded_byte file (take (i + 1) segments) a
+filled_more file segments i base size a new old d fit apart below now before =
+    let Short : ProgramHeader → Type 0 = λ segment. segment.p_filesz ≤ segment.p_memsz in
+    let short = All-weaker (Fits (length file) base size) Short (λ segment fits. fits.filled) segments fit in
+    let once : is_filled a (get_or segments i d) ≡ true → find (is_filled a) (take i segments) ≡ None =
+      λ here. filled_once a (get_or segments i d) (take i segments) here (short i d below) (All-take Short i segments short) (apart_after [] segments i d apart below)
+    in
+    now
+    ∙ ap (cond (is_filled a (get_or segments i d)) (file_byte file a (get_or segments i d))) before
+    ∙ sym (loaded_more file segments i d a below once)

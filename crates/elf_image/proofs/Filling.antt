@@ -53,7 +53,7 @@ loaded_more file segments i d a below none =
     (step (file_byte file a) (is_filled a (get_or segments i d)) (get_or segments i d) (find (is_filled a) (take i segments)) none)
 
 -- no segment shares a byte with an earlier one
-none_parts : (b : Bool) (x : ProgramHeader) (o : Option ProgramHeader) → cond b (Some x) o ≡ None → (b ≡ false) × (o ≡ None)
+pub none_parts : (b : Bool) (x : ProgramHeader) (o : Option ProgramHeader) → cond b (Some x) o ≡ None → (b ≡ false) × (o ≡ None)
 none_parts true x o e = cc
 none_parts false x o e = (refl, e)
 

@@ -1,10 +1,10 @@
 -- The program that an accepted file loads.
-use Rattle.std.specs.Prelude.{◌≤◌, ℕ, ◌+◌, ◌-◌, Bool, ◌&&◌, nat_lt, nat_le, List, map, slice_index, slice_range, Option, find, filter}
+use Rattle.std.specs.Prelude.{◌≡◌, ◌≤◌, ℕ, ◌+◌, ◌-◌, Bool, ◌&&◌, nat_lt, nat_le, List, map, slice_index, slice_range, Option, None, All, find, filter, length}
 use Rattle.std.specs.List.{range_with_len}
 use Rattle.std.specs.Option.{option_map_or}
 use Rattle.elf_image.specs.declared.program_header.ProgramHeader.{ProgramHeader}
 use Rattle.elf_image.specs.Header.{file_header}
-use Rattle.elf_image.specs.Layout.{is_executable, segment_end, segments_of, memory_base, memory_end}
+use Rattle.elf_image.specs.Layout.{is_executable, segment_end, first_overlap, segments_of, memory_base, memory_end}
 use Rattle.elf_image.specs.Program.{Program, CodeSegment}
 
 -- the address is that of one of the segment's first p_filesz bytes, which stand in the file
@@ -54,3 +54,11 @@ pub record Fits (file_len base size : ℕ) (segment : ProgramHeader) : Type 0 wh
   pub inside : IsInside base size segment
   pub filled : segment.p_filesz ≤ segment.p_memsz
   pub in_file : 1 ≤ segment.p_filesz → segment.p_offset + segment.p_filesz ≤ file_len
+
+-- what loading needs of a file and its segments
+pub record IsLoadable (file : List ℕ) (segments : List ProgramHeader) (harts : ℕ) : Type 0 where
+  pub whole : 52 ≤ length file
+  pub fits : All (Fits (length file) (memory_base segments) (memory_end segments harts - memory_base segments)) segments
+  pub apart : first_overlap segments ≡ None
+  pub ordered : memory_base segments ≤ memory_end segments harts
+  pub low : memory_end segments harts ≤ 0xffff0000

@@ -16,5 +16,5 @@ mod table;
 pub use code::Code;
 pub use fault::{Fault, FaultKind};
 pub use image::Image;
-pub use loader::ImageFault;
+pub use loader::{ImageFault, load};
 pub use segment::Segment;

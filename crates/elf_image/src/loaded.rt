@@ -23,7 +23,8 @@ pub fn load_bytes(
 ) -> Result<Vec<u8>, NoMemory>
     requires fits { All (Fits (length file.now) base size) segments.now }
     requires apart { first_overlap segments.now ≡ None }
-    ensures { IfOk result (λ bytes. bytes.items ≡ map (loaded_byte file.now segments.now) (range_with_len base size)) }
+    ensures exact { IfOk result (λ bytes. bytes.items ≡ map (loaded_byte file.now segments.now) (range_with_len base size)) }
+    ensures len { IfOk result (λ bytes. length bytes.items ≡ size) }
 {
     let mut bytes = vec![in alloc; 0; size]?;
     fill(&mut bytes, base, file, segments);

@@ -1,0 +1,193 @@
+-- What a file without a fault is known to have.
+use Rattle.std.proofs.Common.{◌≡◌, ◌≤◌, ◌<◌, ℕ, zero, suc, ◌+◌, ◌-◌, ◌*◌, ◌/◌, ◌%◌, ◌^◌, min, max, Bool, true, false, cond, ◌&&◌, not, nat_lt, nat_le, List, [], ◌∷◌, length, map, refl, arith, ltb-true, ltb-false, get_or}
+use Rattle.std.specs.Prelude.{Option, Some, None, All, filter, fold, option_map}
+use Rattle.std.specs.Option.{option_or}
+use Rattle.std.proofs.lemmas.Bool.{and_parts, not-false}
+use Rattle.std.proofs.lemmas.Bool.Decides.{nat_tests}
+use Rattle.std.proofs.lemmas.List.{length-map}
+use Rattle.std.proofs.lemmas.List.FromFn.{length-map-range_with_len}
+use Rattle.std.proofs.lemmas.List.Elements.{All-nil, All-cons, All-filter, All-weaker, filter_passes}
+use Rattle.elf_image.specs.declared.fault.Fault.{Fault}
+use Rattle.elf_image.specs.declared.fault.FaultKind.{FaultKind}
+use Rattle.elf_image.specs.declared.fault.FaultKind.TheVariants.{Short, Table, Overlap, TooWide, TooHigh, Entry, Empty}
+use Rattle.elf_image.specs.declared.program_header.ProgramHeader.{ProgramHeader}
+use Rattle.elf_image.specs.Header.{file_header, headers_at, program_headers}
+use Rattle.elf_image.specs.Layout.{is_load, is_segment, segment_end, segments_of, first_overlap, lowest, highest, memory_base, memory_end}
+use Rattle.elf_image.specs.Faults.{fault, fault_of, fault_if, first_of, ident_fault, header_fault, headers_fault, memory_fault, differs, short_fault, file_kind_fault, machine_fault, flags_fault, table_fault, dynamic_fault, load_fault, segment_fault, overlap_fault, too_wide_fault, too_high_fault, entry_fault, empty_fault, has_segment, is_entry}
+use Rattle.elf_image.specs.Loaded.{Fits, IsInside, IsLoadable}
+
+-- Parts of what is none
+
+pub none_first : (a b : Option Fault) → option_or a b ≡ None → a ≡ None
+none_first None b e = refl
+none_first (Some x) b e = cc
+
+pub none_second : (a b : Option Fault) → option_or a b ≡ None → b ≡ None
+none_second None b e = e
+none_second (Some x) b e = cc
+
+pub not_fault : (condition : Bool) (kind : FaultKind) (place : ℕ) → fault_if condition kind place ≡ None → condition ≡ false
+not_fault true kind place e = cc
+not_fault false kind place e = refl
+
+none_before : {X : Type 0} (f : X → Fault) (o : Option X) → option_map f o ≡ None → o ≡ None
+none_before f None e = refl
+none_before f (Some x) e = cc
+
+all_none : {X : Type 0} (f : X → Option Fault) (xs : List X) → first_of (map f xs) ≡ None → All (λ x. f x ≡ None) xs
+all_none f [] e = All-nil (λ x. f x ≡ None)
+all_none f (x ∷ xs) e = All-cons (λ x. f x ≡ None) x xs (none_first (f x) _ e) (all_none f xs (none_second (f x) _ e))
+
+-- a default for a place past the end of a list
+pub any_header : ProgramHeader
+any_header = record { place = 0; p_type = 0; p_offset = 0; p_vaddr = 0; p_filesz = 0; p_memsz = 0; p_flags = 0 }
+
+-- The four parts of the fault
+pub record Faultless (file : List ℕ) (harts : ℕ) : Type 0 where
+  pub ident : ident_fault file ≡ None
+  pub header : header_fault file ≡ None
+  pub headers : headers_fault (program_headers file) (length file) ≡ None
+  pub memory : memory_fault (segments_of file) (file_header file).e_entry harts ≡ None
+
+pub faultless : (file : List ℕ) (harts : ℕ) → fault file harts ≡ None → Faultless file harts
+unfolding fault
+faultless file harts e =
+    let e1 = none_second (ident_fault file) _ e in
+    let e2 = none_second (header_fault file) _ e1 in
+    let e3 = none_second (headers_fault (program_headers file) (length file)) _ e2 in
+    record {
+      ident = none_first (ident_fault file) _ e;
+      header = none_first (header_fault file) _ e1;
+      headers = none_first (headers_fault (program_headers file) (length file)) _ e2;
+      memory = none_first (memory_fault (segments_of file) (file_header file).e_entry harts) _ e3;
+    }
+
+-- The header
+
+pub whole_header : (file : List ℕ) → ident_fault file ≡ None → 52 ≤ length file
+unfolding ident_fault
+whole_header file e =
+    ltb-false (length file) 52 (not_fault (nat_lt (length file) 52) Short (length file) (none_first (short_fault file) _ e))
+
+pub few_headers : (file : List ℕ) → header_fault file ≡ None → (file_header file).e_phnum ≤ 64
+unfolding header_fault
+few_headers file e =
+    let header = file_header file in
+    let machine = none_second (file_kind_fault file) _ e in
+    let flags = none_second (machine_fault file) _ machine in
+    let table = none_first (table_fault file) None (none_second (flags_fault file) _ flags) in
+    let rest = none_second (fault_if (differs header.e_ehsize 52) Table 40) _ table in
+    ltb-false 64 header.e_phnum (not_fault (nat_lt 64 header.e_phnum) Table 44 (none_first (fault_if (nat_lt 64 header.e_phnum) Table 44) _ rest))
+
+-- The segments in the file
+
+-- of a segment
+pub record InFile (file_len : ℕ) (segment : ProgramHeader) : Type 0 where
+  pub filled : segment.p_filesz ≤ segment.p_memsz
+  pub in_file : 1 ≤ segment.p_filesz → segment.p_offset + segment.p_filesz ≤ file_len
+
+in_file : (file_len : ℕ) (segment : ProgramHeader) → load_fault file_len segment ≡ None → is_segment segment ≡ true → InFile file_len segment
+in_file file_len segment e is = record { filled = grind (arith, nat_tests); in_file = λ some. grind (arith, nat_tests) }
+
+pub all_in_file : (file : List ℕ) → headers_fault (program_headers file) (length file) ≡ None → All (InFile (length file)) (segments_of file)
+unfolding headers_fault segments_of
+all_in_file file e =
+    let headers = program_headers file in
+    let none = all_none (load_fault (length file)) headers (none_first (segment_fault headers (length file)) None (none_second (dynamic_fault headers) _ e)) in
+    let kept = All-filter is_segment (λ header. load_fault (length file) header ≡ None) headers none in
+    let passed = filter_passes is_segment headers in
+    λ k d below. in_file (length file) _ (kept k d below) (passed k d below)
+
+-- The segments in memory
+
+lowest_below : (segments : List ProgramHeader) (start : ℕ) → fold (λ low segment. min low segment.p_vaddr) start segments ≤ start
+lowest_below [] start = omega arith
+lowest_below (x ∷ segments) start = let rest = lowest_below segments (min start x.p_vaddr) in omega arith
+
+above_lowest : (segments : List ProgramHeader) (start : ℕ) → All (λ segment. fold (λ low other. min low other.p_vaddr) start segments ≤ segment.p_vaddr) segments
+above_lowest [] start = All-nil (λ segment. start ≤ segment.p_vaddr)
+above_lowest (x ∷ segments) start =
+    let low = lowest_below segments (min start x.p_vaddr) in
+    All-cons (λ segment. fold (λ low other. min low other.p_vaddr) (min start x.p_vaddr) segments ≤ segment.p_vaddr) x segments
+    (omega arith)
+    (above_lowest segments (min start x.p_vaddr))
+
+highest_above : (segments : List ProgramHeader) (start : ℕ) → start ≤ fold (λ high segment. max high (segment_end segment)) start segments
+highest_above [] start = omega arith
+highest_above (x ∷ segments) start = let rest = highest_above segments (max start (segment_end x)) in omega arith
+
+below_highest : (segments : List ProgramHeader) (start : ℕ) → All (λ segment. segment_end segment ≤ fold (λ high other. max high (segment_end other)) start segments) segments
+below_highest [] start = All-nil (λ segment. segment_end segment ≤ start)
+below_highest (x ∷ segments) start =
+    let high = highest_above segments (max start (segment_end x)) in
+    All-cons (λ segment. segment_end segment ≤ fold (λ high other. max high (segment_end other)) (max start (segment_end x)) segments) x segments
+    (omega arith)
+    (below_highest segments (max start (segment_end x)))
+
+-- memory spans the segments and the stacks behind them
+pub record Spans (harts base end : ℕ) (segment : ProgramHeader) : Type 0 where
+  pub above : base ≤ segment.p_vaddr
+  pub below : segment_end segment + 65536 * harts ≤ end
+
+pub spans : (segments : List ProgramHeader) (harts : ℕ) → All (Spans harts (memory_base segments) (memory_end segments harts)) segments
+unfolding memory_base memory_end
+spans segments harts k d within =
+    let low = above_lowest segments (2 ^ 32) k d within in
+    let high = below_highest segments 0 k d within in
+    record { above = omega arith; below = omega arith }
+
+-- The checks on memory
+pub record InMemory (segments : List ProgramHeader) (entry harts : ℕ) : Type 0 where
+  pub some : 0 < length segments
+  pub apart : first_overlap segments ≡ None
+  pub narrow : memory_end segments harts - memory_base segments ≤ 16777216
+  pub low : memory_end segments harts ≤ 0xffff0000
+  pub starts : is_entry segments entry ≡ true
+
+unless_both : (a b : Bool) → a ≡ true → (a && b) ≡ false → b ≡ false
+unless_both a b here none = grind (arith, nat_tests)
+
+pub in_memory : (segments : List ProgramHeader) (entry harts : ℕ) → memory_fault segments entry harts ≡ None → InMemory segments entry harts
+unfolding memory_fault
+in_memory segments entry harts e =
+    let e1 = none_second (overlap_fault segments) _ e in
+    let e2 = none_second (too_wide_fault segments harts) _ e1 in
+    let e3 = none_second (too_high_fault segments harts) _ e2 in
+    let e4 = none_second (entry_fault segments entry) _ e3 in
+    let size = memory_end segments harts - memory_base segments in
+    let here : has_segment segments ≡ true = not-false _ (not_fault (not (has_segment segments)) Empty 44 (none_first (empty_fault segments) None e4)) in
+    let wide = not_fault (has_segment segments && nat_lt 16777216 size) TooWide 28 (none_first (too_wide_fault segments harts) _ e1) in
+    let high = not_fault (has_segment segments && nat_lt 0xffff0000 (memory_end segments harts)) TooHigh 28 (none_first (too_high_fault segments harts) _ e2) in
+    let out = not_fault (has_segment segments && not (is_entry segments entry)) Entry 24 (none_first (entry_fault segments entry) _ e3) in
+    record {
+      some = ltb-true 0 (length segments) here;
+      apart = none_before (λ segment. fault_of Overlap segment.place) (first_overlap segments) (none_first (overlap_fault segments) _ e);
+      narrow = ltb-false 16777216 size (unless_both (has_segment segments) _ here wide);
+      low = ltb-false 0xffff0000 (memory_end segments harts) (unless_both (has_segment segments) _ here high);
+      starts = not-false _ (unless_both (has_segment segments) _ here out);
+    }
+
+-- Loading
+
+pub fits : (file : List ℕ) (harts : ℕ) → headers_fault (program_headers file) (length file) ≡ None → All (Fits (length file) (memory_base (segments_of file)) (memory_end (segments_of file) harts - memory_base (segments_of file))) (segments_of file)
+fits file harts e k d within =
+    let part = all_in_file file e k d within in
+    let place = spans (segments_of file) harts k d within in
+    let above = place.above in
+    let below = place.below in
+    record { inside = record { above = above; below = omega arith }; filled = part.filled; in_file = part.in_file }
+
+pub loadable : (file : List ℕ) (harts : ℕ) → fault file harts ≡ None → IsLoadable file (segments_of file) harts
+loadable file harts e =
+    let parts = faultless file harts e in
+    let memory = in_memory (segments_of file) (file_header file).e_entry harts parts.memory in
+    let place = spans (segments_of file) harts 0 any_header memory.some in
+    let above = place.above in
+    let below = place.below in
+    record {
+      whole = whole_header file parts.ident;
+      fits = fits file harts parts.headers;
+      apart = memory.apart;
+      ordered = omega arith;
+      low = memory.low;
+    }

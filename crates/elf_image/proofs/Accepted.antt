@@ -1,20 +1,18 @@
 -- What a file without a fault is known to have.
-use Rattle.std.proofs.Common.{◌≡◌, ◌≤◌, ◌<◌, ℕ, zero, suc, ◌+◌, ◌-◌, ◌*◌, ◌/◌, ◌%◌, ◌^◌, min, max, Bool, true, false, cond, ◌&&◌, not, nat_lt, nat_le, List, [], ◌∷◌, length, map, refl, arith, ltb-true, ltb-false, get_or}
-use Rattle.std.specs.Prelude.{Option, Some, None, All, filter, fold, option_map}
+use Rattle.std.proofs.Common.{◌≡◌, ◌≤◌, ◌<◌, ℕ, ◌+◌, ◌-◌, ◌*◌, ◌^◌, min, max, Bool, true, false, ◌&&◌, not, nat_lt, List, [], ◌∷◌, length, map, refl, arith, ltb-true, ltb-false}
+use Rattle.std.specs.Prelude.{Option, Some, None, All, fold, option_map}
 use Rattle.std.specs.Option.{option_or}
-use Rattle.std.proofs.lemmas.Bool.{and_parts, not-false}
+use Rattle.std.proofs.lemmas.Bool.{not-false}
 use Rattle.std.proofs.lemmas.Bool.Decides.{nat_tests}
-use Rattle.std.proofs.lemmas.List.{length-map}
-use Rattle.std.proofs.lemmas.List.FromFn.{length-map-range_with_len}
-use Rattle.std.proofs.lemmas.List.Elements.{All-nil, All-cons, All-filter, All-weaker, filter_passes}
+use Rattle.std.proofs.lemmas.List.Elements.{All-nil, All-cons, All-filter, filter_passes}
 use Rattle.elf_image.specs.declared.fault.Fault.{Fault}
 use Rattle.elf_image.specs.declared.fault.FaultKind.{FaultKind}
 use Rattle.elf_image.specs.declared.fault.FaultKind.TheVariants.{Short, Table, Overlap, TooWide, TooHigh, Entry, Empty}
 use Rattle.elf_image.specs.declared.program_header.ProgramHeader.{ProgramHeader}
-use Rattle.elf_image.specs.Header.{file_header, headers_at, program_headers}
-use Rattle.elf_image.specs.Layout.{is_load, is_segment, segment_end, segments_of, first_overlap, lowest, highest, memory_base, memory_end}
+use Rattle.elf_image.specs.Header.{file_header, program_headers}
+use Rattle.elf_image.specs.Layout.{is_segment, segment_end, segments_of, first_overlap, memory_base, memory_end}
 use Rattle.elf_image.specs.Faults.{fault, fault_of, fault_if, first_of, ident_fault, header_fault, headers_fault, memory_fault, differs, short_fault, file_kind_fault, machine_fault, flags_fault, table_fault, dynamic_fault, load_fault, segment_fault, overlap_fault, too_wide_fault, too_high_fault, entry_fault, empty_fault, has_segment, is_entry}
-use Rattle.elf_image.specs.Loaded.{Fits, IsInside, IsLoadable}
+use Rattle.elf_image.specs.Loaded.{Fits, IsLoadable}
 
 -- Parts of what is none
 

@@ -1,11 +1,11 @@
 -- Segments that are apart have together no more bytes than the memory that they lie in: each address is
 -- counted for at most one of them.
-use Rattle.std.proofs.Common.{◌≡◌, ◌≤◌, ◌<◌, ℕ, zero, suc, ◌+◌, ◌-◌, min, max, Bool, true, false, cond, ◌&&◌, ◌||◌, nat_le, nat_lt, List, [], ◌∷◌, ◌++◌, length, get_or, map, inl, inr, refl, sym, ◌∙◌, ap, arith}
-use Rattle.std.specs.Prelude.{Some, None, All, filter, sum_by, count_by, slice_range}
+use Rattle.std.proofs.Common.{◌≡◌, ◌≤◌, ℕ, zero, suc, ◌+◌, ◌-◌, min, max, Bool, true, false, cond, ◌&&◌, nat_le, nat_lt, List, [], ◌∷◌, ◌++◌, length, map, inl, inr, refl, ◌∙◌, arith}
+use Rattle.std.specs.Prelude.{None, All, filter, sum_by, count_by}
 use Rattle.std.specs.List.{list_any, range_with_len}
 use Rattle.std.proofs.lemmas.Bool.{cases_Bool, or_parts}
 use Rattle.std.proofs.lemmas.Bool.Decides.{nat_tests}
-use Rattle.std.proofs.lemmas.List.{append-nil, append_assoc, length-take, length-drop}
+use Rattle.std.proofs.lemmas.List.{append-nil, append_assoc, length-take}
 use Rattle.std.proofs.lemmas.List.Elements.{All-head, All-tail}
 use Rattle.std.proofs.lemmas.List.Folds.{list_any-append, fold-map}
 use Rattle.std.proofs.lemmas.List.FromFn.{length-range_with_len}
@@ -13,7 +13,7 @@ use Rattle.std.proofs.lemmas.List.Sums.{sum_by-cons, count_by-le-length, sum_by-
 use Rattle.elf_image.specs.declared.program_header.ProgramHeader.{ProgramHeader}
 use Rattle.elf_image.specs.Layout.{is_executable, segment_end, shares_byte, overlap_after, first_overlap}
 use Rattle.elf_image.specs.Loaded.{IsInside, code_segment}
-use Rattle.elf_image.specs.Program.{CodeSegment, code_length}
+use Rattle.elf_image.specs.Program.{code_length}
 use Rattle.elf_image.proofs.Filling.{none_parts}
 
 -- the address is one of the segment's memory
@@ -51,8 +51,8 @@ one_more : (a : ℕ) (earlier : List ProgramHeader) (x : ProgramHeader) → list
 one_more a earlier x apart =
     let split = list_any-append (has_address a) earlier (x ∷ []) in
     elim (cases_Bool (has_address a x)) [
-    | inl here ↦ let none = no_address a x earlier apart here in grind (arith, nat_tests)
-    | inr here ↦ grind (arith, nat_tests)
+      | inl here ↦ let none = no_address a x earlier apart here in grind (arith, nat_tests)
+      | inr here ↦ grind (arith, nat_tests)
     ]
 
 -- the addresses of the segments, counted

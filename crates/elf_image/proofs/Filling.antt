@@ -1,11 +1,10 @@
 -- Memory as it is filled segment by segment.
-use Rattle.std.proofs.Common.{◌≡◌, ◌≤◌, ◌<◌, ℕ, zero, suc, ◌+◌, ◌-◌, Bool, true, false, cond, ◌&&◌, nat_le, nat_lt, List, [], ◌∷◌, ◌++◌, length, get_or, take, drop, map, slice_range, inl, inr, refl, sym, ◌∙◌, ap, arith}
+use Rattle.std.proofs.Common.{◌≡◌, ◌≤◌, ◌<◌, ℕ, zero, suc, ◌+◌, ◌-◌, Bool, true, false, cond, ◌&&◌, nat_le, nat_lt, List, [], ◌∷◌, ◌++◌, length, get_or, take, map, slice_range, inl, inr, refl, sym, ◌∙◌, ap, arith}
 use Rattle.std.specs.Prelude.{Option, Some, None, find, All}
 use Rattle.std.specs.Option.{option_map_or, option_or}
 use Rattle.std.specs.List.{list_any, range_with_len}
 use Rattle.std.proofs.lemmas.Bool.{cases_lt, cases_Bool, or_parts}
 use Rattle.std.proofs.lemmas.Bool.Decides.{nat_tests}
-use Rattle.std.proofs.lemmas.Grind.{common_steps}
 use Rattle.std.proofs.lemmas.List.{places, take_more, append-nil, append_assoc, ext_get_or}
 use Rattle.std.proofs.lemmas.List.Edits.{length-between, get_or-between}
 use Rattle.std.proofs.lemmas.List.Folds.{find-append}
@@ -20,8 +19,8 @@ use Rattle.elf_image.specs.Loaded.{Fits, is_filled, file_byte, loaded_byte}
 pub get_or-put_mid : (xs part : List ℕ) (from n k : ℕ) → length part ≡ n → from + n ≤ length xs → k < length xs → get_or (put_mid from n xs part) k 0 ≡ cond (nat_le from k && nat_lt k (from + n)) (get_or part (k - from) 0) (get_or xs k 0)
 get_or-put_mid xs part from n k len inside below =
     elim (cases_lt k from) [
-    | inl before ↦ grind (arith, places, nat_tests)
-    | inr behind ↦ elim (cases_lt k (from + n)) [ inl within ↦ grind (arith, places, nat_tests) | inr past ↦ grind (arith, places, nat_tests) ]
+      | inl before ↦ grind (arith, places, nat_tests)
+      | inr behind ↦ elim (cases_lt k (from + n)) [ inl within ↦ grind (arith, places, nat_tests) | inr past ↦ grind (arith, places, nat_tests) ]
     ]
 
 -- the same where the part is the bytes of a segment in the file
@@ -30,13 +29,13 @@ get_or-filled bytes file part base vaddr offset filesz k low is inside fits belo
     let size : length part ≡ vaddr - base + filesz - (vaddr - base) = ap length is ∙ (length-between file offset (offset + filesz) inside ∙ omega arith) in
     get_or-put_mid bytes part (vaddr - base) (vaddr - base + filesz - (vaddr - base)) k size (omega arith) below
     ∙ elim (cases_lt (base + k) vaddr) [
-    | inl before ↦ grind (arith, nat_tests)
-    | inr behind ↦ elim (cases_lt (base + k) (vaddr + filesz)) [
-      | inl within ↦
-        let at = get_or-between file offset (offset + filesz) (k - (vaddr - base)) 0 (omega arith) in
-        let byte : get_or part (k - (vaddr - base)) 0 ≡ get_or file (offset + (base + k - vaddr)) 0 = ap (λ xs. get_or xs (k - (vaddr - base)) 0) is ∙ at ∙ ap (λ i. get_or file i 0) (omega arith) in
-        grind (arith, nat_tests)
-      | inr past ↦ grind (arith, nat_tests)
+      | inl before ↦ grind (arith, nat_tests)
+      | inr behind ↦ elim (cases_lt (base + k) (vaddr + filesz)) [
+        | inl within ↦
+            let at = get_or-between file offset (offset + filesz) (k - (vaddr - base)) 0 (omega arith) in
+            let byte : get_or part (k - (vaddr - base)) 0 ≡ get_or file (offset + (base + k - vaddr)) 0 = ap (λ xs. get_or xs (k - (vaddr - base)) 0) is ∙ at ∙ ap (λ i. get_or file i 0) (omega arith) in
+            grind (arith, nat_tests)
+        | inr past ↦ grind (arith, nat_tests)
       ]
     ]
 
@@ -85,7 +84,7 @@ filled_more file segments i base size a new old d fit apart below now before =
     let Short : ProgramHeader → Type 0 = λ segment. segment.p_filesz ≤ segment.p_memsz in
     let short = All-weaker (Fits (length file) base size) Short (λ segment fits. fits.filled) segments fit in
     let once : is_filled a (get_or segments i d) ≡ true → find (is_filled a) (take i segments) ≡ None =
-      λ here. filled_once a (get_or segments i d) (take i segments) here (short i d below) (All-take Short i segments short) (apart_after [] segments i d apart below)
+    λ here. filled_once a (get_or segments i d) (take i segments) here (short i d below) (All-take Short i segments short) (apart_after [] segments i d apart below)
     in
     now
     ∙ ap (cond (is_filled a (get_or segments i d)) (file_byte file a (get_or segments i d))) before

@@ -1,13 +1,12 @@
 -- A file without a fault is a program.
-use Rattle.std.proofs.Common.{◌≡◌, ◌≤◌, ◌<◌, ℕ, ◌+◌, ◌-◌, ◌*◌, ◌/◌, ◌%◌, Bool, true, false, cond, List, [], ◌∷◌, length, map, inl, inr, refl, sym, ◌∙◌, ap, arith, eqb-true, IsSome}
+use Rattle.std.proofs.Common.{◌≡◌, ◌≤◌, ℕ, ◌+◌, ◌-◌, ◌*◌, ◌/◌, ◌%◌, true, List, [], ◌∷◌, length, map, inl, inr, refl, ◌∙◌, ap, arith, eqb-true, IsSome}
 use Rattle.std.specs.Prelude.{Option, Some, None, All, find, filter, option_map, ◌==◌}
-use Rattle.std.specs.List.{list_any, range_with_len}
+use Rattle.std.specs.List.{list_any}
 use Rattle.std.proofs.Math.Nat.{mul-mod_left}
-use Rattle.std.proofs.lemmas.Bool.{and_parts, cases_Bool, cond-true, cond-false}
-use Rattle.std.proofs.lemmas.Bool.Decides.{nat_tests}
+use Rattle.std.proofs.lemmas.Bool.{and_parts, cases_Bool}
 use Rattle.std.proofs.lemmas.List.{length-map}
 use Rattle.std.proofs.lemmas.List.Edits.{length-between}
-use Rattle.std.proofs.lemmas.List.Elements.{All-head, All-tail, All-weaker}
+use Rattle.std.proofs.lemmas.List.Elements.{All-head, All-tail}
 use Rattle.std.proofs.lemmas.List.FromFn.{length-map-range_with_len}
 use Rattle.std.proofs.lemmas.List.Sums.{length-filter, count_by-le-length}
 use Rattle.elf_image.specs.declared.program_header.ProgramHeader.{ProgramHeader}
@@ -15,8 +14,8 @@ use Rattle.elf_image.specs.Header.{file_header, program_header, headers_at, prog
 use Rattle.elf_image.specs.Layout as layout
 use Rattle.elf_image.specs.Layout.{is_segment, is_executable, has_instruction, segments_of, lowest, highest, memory_base, memory_end}
 use Rattle.elf_image.specs.Faults.{fault}
-use Rattle.elf_image.specs.Loaded.{Fits, IsInside, code_segment, loaded_byte, loaded_bytes, program_of}
-use Rattle.elf_image.specs.Program.{CodeSegment, IsProgram, code_word, has_word, segment_word}
+use Rattle.elf_image.specs.Loaded.{IsInside, code_segment, loaded_byte, loaded_bytes, program_of}
+use Rattle.elf_image.specs.Program.{IsProgram, code_word, has_word, segment_word}
 use Rattle.elf_image.proofs.Accepted.{any_header, faultless, few_headers, in_memory, fits, spans, loadable}
 use Rattle.elf_image.proofs.CodeLength.{memory_length, code_within}
 
@@ -41,11 +40,11 @@ found base bytes pc (x ∷ segments) inside has =
     let word = same_word base bytes pc x (All-head (IsInside base (length bytes)) x segments inside) in
     let tail = All-tail (IsInside base (length bytes)) x segments inside in
     elim (cases_Bool (is_executable x)) [
-    | inl runs ↦ rw runs (elim (cases_Bool (layout.has_word pc x)) [
-      | inl here ↦ rw (word, here) refl
-      | inr there ↦ rw (word, there) (found base bytes pc segments tail (rw (runs, there) at has))
+      | inl runs ↦ rw runs (elim (cases_Bool (layout.has_word pc x)) [
+        | inl here ↦ rw (word, here) refl
+        | inr there ↦ rw (word, there) (found base bytes pc segments tail (rw (runs, there) at has))
       ])
-    | inr idle ↦ rw idle (found base bytes pc segments tail (rw idle at has))
+      | inr idle ↦ rw idle (found base bytes pc segments tail (rw idle at has))
     ]
 
 -- Numbers

@@ -1,11 +1,10 @@
 -- The definitions, computed on a file of 122 bytes and on changes of it. The file has one segment, which
 -- is the whole file and begins at 0x10000; it prints 'A' and a newline.
-use Rattle.std.proofs.Common.{◌≡◌, ℕ, ◌+◌, List, [], ◌∷◌, ◌++◌, take, drop, length, Option, Some, None, refl}
+use Rattle.std.proofs.Common.{◌≡◌, ℕ, ◌+◌, List, [], ◌∷◌, ◌++◌, take, drop, length, Some, None, refl}
 use Rattle.std.specs.Prelude.{flat_map}
-use Rattle.std.specs.List.{range_with_len, list_all}
 use Rattle.byteorder.specs.Endian.{big_bytes}
 use Rattle.elf_image.specs.declared.program_header.ProgramHeader.{ProgramHeader}
-use Rattle.elf_image.specs.declared.fault.FaultKind.TheVariants.{Short, Magic, Class, ByteOrder, Version, FileKind, Machine, Flags, Table, Dynamic, Segment, Overlap, TooWide, TooHigh, Entry, Empty}
+use Rattle.elf_image.specs.declared.fault.FaultKind.TheVariants.{Short, Magic, Class, ByteOrder, Version, FileKind, Machine, Flags, Table, Dynamic, Segment, TooHigh, Entry, Empty}
 use Rattle.elf_image.specs.Header.{file_header, program_header, headers_at, program_headers}
 use Rattle.elf_image.specs.Layout.{segments_of, first_overlap, memory_base, memory_end}
 use Rattle.elf_image.specs.Faults.{fault, fault_of, ident_fault, header_fault, headers_fault, memory_fault}
@@ -145,7 +144,13 @@ entry_cut_off = refl
 -- a segment as far as its place in memory goes
 abbrev segment : ℕ → ℕ → ProgramHeader
 segment address bytes = record {
-  place = 0; p_type = 1; p_offset = 0; p_vaddr = address; p_filesz = 0; p_memsz = bytes; p_flags = 5;
+  place = 0;
+  p_type = 1;
+  p_offset = 0;
+  p_vaddr = address;
+  p_filesz = 0;
+  p_memsz = bytes;
+  p_flags = 5;
 }
 
 -- what a linker makes of a program with data

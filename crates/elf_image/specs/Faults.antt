@@ -1,5 +1,5 @@
 -- The grammar of images: the first of sixteen faults, or none.
-use Rattle.std.specs.Prelude.{ℕ, ◌+◌, ◌-◌, ◌*◌, ◌%◌, Bool, true, false, not, ◌&&◌, ◌==◌, nat_lt, nat_le, if◌then◌else◌, List, [], ◌∷◌, ◌++◌, map, length, slice_index, Option, Some, None, find, position, zip, option_map}
+use Rattle.std.specs.Prelude.{ℕ, ◌+◌, ◌-◌, ◌*◌, ◌%◌, Bool, not, ◌&&◌, ◌==◌, nat_lt, nat_le, if◌then◌else◌, List, [], ◌∷◌, map, length, slice_index, Option, Some, None, find, position, zip, option_map}
 use Rattle.std.specs.Option.{option_or}
 use Rattle.std.specs.List.{list_any}
 use Rattle.elf_image.specs.declared.fault.Fault.{Fault}
@@ -71,9 +71,9 @@ byte_order_fault file = fault_if (differs (slice_index file 5) 1) ByteOrder 5
 abbrev pub version_fault : List ℕ → Option Fault
 version_fault file =
     first_of
-        ( fault_if (differs (slice_index file 6) 1) Version 6
-        ∷ fault_if (differs (file_header file).e_version 1) Version 20
-        ∷ [])
+    (fault_if (differs (slice_index file 6) 1) Version 6
+    ∷ fault_if (differs (file_header file).e_version 1) Version 20
+    ∷ [])
 
 -- The other fields of the ELF header
 
@@ -93,11 +93,11 @@ flags_fault file = fault_if (differs ((file_header file).e_flags % 16) 0) Flags 
 abbrev pub table_form_fault : FileHeader → ℕ → Option Fault
 table_form_fault header file_len =
     first_of
-        ( fault_if (differs header.e_ehsize 52) Table 40
-        ∷ fault_if (nat_lt 64 header.e_phnum) Table 44
-        ∷ fault_if (nat_le 1 header.e_phnum && differs header.e_phentsize 32) Table 42
-        ∷ fault_if (nat_lt file_len (header.e_phoff + 32 * header.e_phnum)) Table 28
-        ∷ [])
+    (fault_if (differs header.e_ehsize 52) Table 40
+    ∷ fault_if (nat_lt 64 header.e_phnum) Table 44
+    ∷ fault_if (nat_le 1 header.e_phnum && differs header.e_phentsize 32) Table 42
+    ∷ fault_if (nat_lt file_len (header.e_phoff + 32 * header.e_phnum)) Table 28
+    ∷ [])
 
 abbrev pub table_fault : List ℕ → Option Fault
 table_fault file = table_form_fault (file_header file) (length file)
@@ -117,9 +117,9 @@ abbrev pub load_fault : ℕ → ProgramHeader → Option Fault
 load_fault file_len header =
     if is_load header
     then first_of
-        ( fault_if (nat_lt header.p_memsz header.p_filesz) Segment (header.place + 16)
-        ∷ fault_if (nat_le 1 header.p_filesz && nat_lt file_len (header.p_offset + header.p_filesz)) Segment (header.place + 4)
-        ∷ [])
+    (fault_if (nat_lt header.p_memsz header.p_filesz) Segment (header.place + 16)
+    ∷ fault_if (nat_le 1 header.p_filesz && nat_lt file_len (header.p_offset + header.p_filesz)) Segment (header.place + 4)
+    ∷ [])
     else None
 
 abbrev pub segment_fault : List ProgramHeader → ℕ → Option Fault
@@ -156,12 +156,12 @@ empty_fault segments = fault_if (not (has_segment segments)) Empty 44
 unfoldable pub ident_fault : List ℕ → Option Fault
 ident_fault file =
     first_of
-        ( short_fault file
-        ∷ magic_fault file
-        ∷ class_fault file
-        ∷ byte_order_fault file
-        ∷ version_fault file
-        ∷ [])
+    (short_fault file
+    ∷ magic_fault file
+    ∷ class_fault file
+    ∷ byte_order_fault file
+    ∷ version_fault file
+    ∷ [])
 
 unfoldable pub header_fault : List ℕ → Option Fault
 header_fault file =
@@ -173,19 +173,19 @@ headers_fault headers file_len = first_of (dynamic_fault headers ∷ segment_fau
 unfoldable pub memory_fault : List ProgramHeader → ℕ → ℕ → Option Fault
 memory_fault segments entry harts =
     first_of
-        ( overlap_fault segments
-        ∷ too_wide_fault segments harts
-        ∷ too_high_fault segments harts
-        ∷ entry_fault segments entry
-        ∷ empty_fault segments
-        ∷ [])
+    (overlap_fault segments
+    ∷ too_wide_fault segments harts
+    ∷ too_high_fault segments harts
+    ∷ entry_fault segments entry
+    ∷ empty_fault segments
+    ∷ [])
 
 -- the first fault of a file as the image of a program for a number of harts, or none
 unfoldable pub fault : List ℕ → ℕ → Option Fault
 fault file harts =
     first_of
-        ( ident_fault file
-        ∷ header_fault file
-        ∷ headers_fault (program_headers file) (length file)
-        ∷ memory_fault (segments_of file) (file_header file).e_entry harts
-        ∷ [])
+    (ident_fault file
+    ∷ header_fault file
+    ∷ headers_fault (program_headers file) (length file)
+    ∷ memory_fault (segments_of file) (file_header file).e_entry harts
+    ∷ [])

@@ -1,5 +1,5 @@
 -- The program that an accepted file loads.
-use Rattle.std.specs.Prelude.{◌≡◌, ◌≤◌, ℕ, ◌+◌, ◌-◌, Bool, ◌&&◌, nat_lt, nat_le, List, map, slice_index, slice_range, Option, None, All, find, filter, length}
+use Rattle.std.specs.Prelude.{◌≡◌, ◌≤◌, ℕ, ◌+◌, ◌-◌, Bool, ◌&&◌, nat_lt, nat_le, List, map, slice_index, slice_range, None, All, find, filter, length}
 use Rattle.std.specs.List.{range_with_len}
 use Rattle.std.specs.Option.{option_map_or}
 use Rattle.elf_image.specs.declared.program_header.ProgramHeader.{ProgramHeader}

@@ -5,9 +5,9 @@ ghost use Rattle.std.specs.Result.{result_err};
 ghost use Rattle.elf_image.specs.Header.{file_header, HasTable};
 ghost use Rattle.elf_image.specs.Faults as faults;
 
+use crate::bytes::{half_at, word_at};
 use crate::fault::{Fault, FaultKind};
 use crate::program_header::{MOST_PROGRAM_HEADERS, PROGRAM_HEADER_LEN};
-use crate::bytes::{half_at, word_at};
 
 /// The bytes of an ELF header.
 pub const FILE_HEADER_LEN: usize = 52;
@@ -52,22 +52,37 @@ const ELF_MAGIC: [u8; 4] = [0x7f, 0x45, 0x4c, 0x46];
 
 // The places of the fields in the file.
 const EI_CLASS: usize = 4;
+
 const EI_DATA: usize = 5;
+
 const EI_VERSION: usize = 6;
+
 const E_TYPE: u32 = 16;
+
 const E_MACHINE: u32 = 18;
+
 const E_VERSION: u32 = 20;
+
 pub const E_ENTRY: u32 = 24;
+
 pub const E_PHOFF: u32 = 28;
+
 const E_FLAGS: u32 = 36;
+
 const E_EHSIZE: u32 = 40;
+
 const E_PHENTSIZE: u32 = 42;
+
 pub const E_PHNUM: u32 = 44;
 
 const ELFCLASS32: u8 = 1;
+
 const ELFDATA2LSB: u8 = 1;
+
 const EV_CURRENT: u8 = 1;
+
 const ET_EXEC: u16 = 2;
+
 const EM_RISCV: u16 = 243;
 
 /// The flags of compressed instructions, of the floating-point ABI and of the embedded base, in the

@@ -6,10 +6,10 @@ mod code;
 mod fault;
 mod header;
 mod image;
-mod loader;
-mod program_header;
 mod layout;
 mod loaded;
+mod loader;
+mod program_header;
 mod segment;
 mod table;
 

@@ -5,13 +5,11 @@ ghost use Rattle.std.specs.List.{range_with_len};
 ghost use Rattle.elf_image.specs.Layout.{first_overlap, is_executable};
 ghost use Rattle.elf_image.specs.Loaded.{Fits, IsInside, code_segment, file_byte, is_filled, loaded_byte};
 
-use std::alloc::Global;
-
-use el_base::NoMemory;
-
 use crate::code::Code;
 use crate::program_header::ProgramHeader;
 use crate::segment::Segment;
+use el_base::NoMemory;
+use std::alloc::Global;
 
 /// Memory of `size` bytes from `base` on, with the bytes of the segments that stand in the file.
 pub fn load_bytes(

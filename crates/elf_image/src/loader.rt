@@ -8,10 +8,6 @@ ghost use Rattle.elf_image.specs.Layout as layout;
 ghost use Rattle.elf_image.specs.Loaded.{IsLoadable, program_of};
 ghost use Rattle.elf_image.specs.Program.{IsProgram};
 
-use std::alloc::Global;
-
-use thiserror::Error;
-
 use crate::fault::Fault;
 use crate::header::{FileHeader, check_header, check_ident};
 use crate::image::Image;
@@ -19,6 +15,8 @@ use crate::layout::{check_memory, memory_base, memory_end};
 use crate::loaded::{load_bytes, load_code};
 use crate::program_header::ProgramHeader;
 use crate::table::{ProgramHeaders, check_table, read_table, segments_of};
+use std::alloc::Global;
+use thiserror::Error;
 
 /// Why a file gives no image.
 #[derive(Clone, Copy, Debug, PartialEq, Eq, Error)]

@@ -16,12 +16,16 @@ pub const PROGRAM_HEADER_LEN: usize = 32;
 pub const MOST_PROGRAM_HEADERS: usize = 64;
 
 const PT_LOAD: u32 = 1;
+
 const PT_DYNAMIC: u32 = 2;
+
 const PT_INTERP: u32 = 3;
+
 const PF_X: u32 = 1;
 
 // The places of the fields in a program header.
 const P_OFFSET: u32 = 4;
+
 const P_FILESZ: u32 = 16;
 
 /// The fields of a program header that are read, as the ELF specification names them, and the place

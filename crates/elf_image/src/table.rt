@@ -6,11 +6,10 @@ ghost use Rattle.elf_image.specs.Header.{HasTable, headers_at, program_headers};
 ghost use Rattle.elf_image.specs.Layout.{is_segment};
 ghost use Rattle.elf_image.specs.Faults as faults;
 
-use arrayvec::ArrayVec;
-
 use crate::fault::{Fault, FaultKind};
 use crate::header::FileHeader;
 use crate::program_header::{MOST_PROGRAM_HEADERS, PROGRAM_HEADER_LEN, ProgramHeader};
+use arrayvec::ArrayVec;
 
 /// As many program headers as an image may have, in the order of their table.
 pub type ProgramHeaders = ArrayVec<ProgramHeader, MOST_PROGRAM_HEADERS>;

@@ -1,4 +1,4 @@
-use Rattle.std.proofs.Common.{◌≡◌, ◌<◌, ◌+◌, length, get_or, take, ap, ◌∙◌, arith}
+use Rattle.std.proofs.Common.{◌≡◌, ◌+◌, length, get_or, take, ap, ◌∙◌, arith}
 use Rattle.std.proofs.lemmas.List.{get_or-replicate, take_all}
 use Rattle.elf_image.specs.Loaded.{loaded_byte}
 use Rattle.elf_image.proofs.Filling.{filled_more, all_loaded}
@@ -20,4 +20,4 @@ returns c =
     let all : take c.loop-segment.segment-index c.args.segments.now ≡ c.args.segments.now = take_all _ _ c.loop-segment-test.false in
     rw (← c.loop-segment.auto.bytes)
     (all_loaded (loaded_byte c.args.file.now c.args.segments.now) c.args.base c.loop-segment.bytes
-     (rw all at c.loop-segment.invariant))
+    (rw all at c.loop-segment.invariant))

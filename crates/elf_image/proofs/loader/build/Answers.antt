@@ -1,5 +1,4 @@
-use Rattle.std.proofs.Common.{◌≡◌, ◌-◌, length, ap, arith}
-use Rattle.elf_image.specs.Layout.{memory_base, memory_end}
+use Rattle.std.proofs.Common.{◌≡◌, length, ap, arith}
 use Rattle.elf_image.proofs.loader.build.Goals as goal
 
 pub load_code-requires : goal.load_code-requires

@@ -1,5 +1,4 @@
-use Rattle.std.proofs.Common.{◌≡◌, ◌∙◌, sym}
-use Rattle.elf_image.specs.Loaded.{IsLoadable}
+use Rattle.std.proofs.Common.{sym}
 use Rattle.elf_image.proofs.Accepted.{loadable}
 use Rattle.elf_image.proofs.Valid.{is_program}
 use Rattle.elf_image.proofs.loader.load.Goals as goal

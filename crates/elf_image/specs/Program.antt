@@ -17,6 +17,11 @@ pub record Program : Type 0 where
   pub harts : ℕ
   pub code : List CodeSegment
 
+-- the program of these parts
+abbrev pub program_from : ℕ → List ℕ → ℕ → ℕ → List CodeSegment → Program
+program_from base bytes entry harts code =
+    record { base = base; bytes = bytes; entry = entry; harts = harts; code = code }
+
 -- the four bytes at pc all lie in the segment
 abbrev pub has_word : ℕ → CodeSegment → Bool
 has_word pc segment = nat_le segment.start pc && nat_le (pc + 4) (segment.start + length segment.bytes)

@@ -3,7 +3,8 @@
 ghost use Rattle.std.specs.Prelude.{◌≡◌};
 ghost use Rattle.elf_image.specs.Faults.{number_of, fault_of};
 
-/// The sixteen faults of an image, by number. The first of them is the answer.
+/// The sixteen faults of an image in the order in which they are judged. Their numbers and their order
+/// are this project's.
 #[derive(Clone, Copy, Debug, PartialEq, Eq)]
 pub enum FaultKind {
     /// The file is shorter than an ELF header.
@@ -20,7 +21,7 @@ pub enum FaultKind {
     FileKind,
     /// e_machine is not EM_RISCV.
     Machine,
-    /// e_flags names compressed instructions, a floating-point ABI or the embedded base.
+    /// e_flags names compressed instructions, a floating-point ABI in registers or the embedded base.
     Flags,
     /// The table of program headers has another form, is too long or leaves the file.
     Table,

@@ -1,4 +1,5 @@
-//! The ELF header.
+//! The ELF header, of the ELF specification's chapter 'ELF Header', with the values that the RISC-V
+//! psABI gives it.
 
 ghost use Rattle.std.specs.Prelude.{◌≡◌, ◌≤◌, ◌<◌, ◌+◌, ◌*◌, IfSome, OnOk, length};
 ghost use Rattle.std.specs.Result.{result_err};
@@ -9,10 +10,54 @@ use crate::bytes::{half_at, word_at};
 use crate::fault::{Fault, FaultKind};
 use crate::program_header::{MOST_PROGRAM_HEADERS, PROGRAM_HEADER_LEN};
 
-/// The bytes of an ELF header.
+/// The bytes of an ELF header of class ELFCLASS32.
 pub const FILE_HEADER_LEN: usize = 52;
 
-/// The fields of the ELF header that are read, as the ELF specification names them.
+/// The first four bytes of an ELF file, EI_MAG0 to EI_MAG3.
+const ELF_MAGIC: [u8; 4] = [0x7f, b'E', b'L', b'F'];
+
+// The places of the fields in the file.
+const EI_CLASS: usize = 4;
+
+const EI_DATA: usize = 5;
+
+const EI_VERSION: usize = 6;
+
+const E_TYPE: u32 = 16;
+
+const E_MACHINE: u32 = 18;
+
+const E_VERSION: u32 = 20;
+
+pub const E_ENTRY: u32 = 24;
+
+pub const E_PHOFF: u32 = 28;
+
+const E_FLAGS: u32 = 36;
+
+const E_EHSIZE: u32 = 40;
+
+const E_PHENTSIZE: u32 = 42;
+
+pub const E_PHNUM: u32 = 44;
+
+// The values that are taken.
+const ELFCLASS32: u8 = 1;
+
+const ELFDATA2LSB: u8 = 1;
+
+const EV_CURRENT: u8 = 1;
+
+const ET_EXEC: u16 = 2;
+
+const EM_RISCV: u16 = 243;
+
+/// The flags of compressed instructions (EF_RISCV_RVC), of a floating-point ABI
+/// (EF_RISCV_FLOAT_ABI) and of the embedded base (EF_RISCV_RVE). That of total store order, 0x10, is
+/// taken: plain shared memory keeps it.
+const EF_REFUSED: u32 = 0xf;
+
+/// The fields of the ELF header that are read.
 #[derive(Clone, Copy, Debug)]
 pub struct FileHeader {
     pub e_type: u16,
@@ -47,48 +92,6 @@ impl FileHeader {
     }
 }
 
-/// The first four bytes of an ELF file.
-const ELF_MAGIC: [u8; 4] = [0x7f, 0x45, 0x4c, 0x46];
-
-// The places of the fields in the file.
-const EI_CLASS: usize = 4;
-
-const EI_DATA: usize = 5;
-
-const EI_VERSION: usize = 6;
-
-const E_TYPE: u32 = 16;
-
-const E_MACHINE: u32 = 18;
-
-const E_VERSION: u32 = 20;
-
-pub const E_ENTRY: u32 = 24;
-
-pub const E_PHOFF: u32 = 28;
-
-const E_FLAGS: u32 = 36;
-
-const E_EHSIZE: u32 = 40;
-
-const E_PHENTSIZE: u32 = 42;
-
-pub const E_PHNUM: u32 = 44;
-
-const ELFCLASS32: u8 = 1;
-
-const ELFDATA2LSB: u8 = 1;
-
-const EV_CURRENT: u8 = 1;
-
-const ET_EXEC: u16 = 2;
-
-const EM_RISCV: u16 = 243;
-
-/// The flags of compressed instructions, of the floating-point ABI and of the embedded base, in the
-/// RISC-V psABI's 'File Header'.
-const EF_REFUSED: u32 = 0xf;
-
 /// The place of the first byte that is not ELF's.
 fn magic_difference(file: &[u8]) -> Option<usize>
     ensures exact { result ≡ faults.magic_difference file.now }
@@ -99,7 +102,8 @@ fn magic_difference(file: &[u8]) -> Option<usize>
         .position(|(byte, wanted)| byte != wanted)
 }
 
-/// Whether the file is an ELF file of 32 bits, little endian, in the current version.
+/// Judges e_ident, and e_version with it: an ELF file of 32 bits, little endian, in the current
+/// version.
 #[tactic(auto, unfolding(crate::specs::Faults::ident_fault))]
 pub fn check_ident(file: &[u8]) -> Result<(), Fault>
     requires { length file.now ≤ 33554432 }
@@ -127,7 +131,7 @@ pub fn check_ident(file: &[u8]) -> Result<(), Fault>
     Ok(())
 }
 
-/// Whether the file is an executable for RISC-V whose program headers all lie in it.
+/// Judges the rest of the header: an executable for RISC-V whose program headers all lie in the file.
 #[tactic(auto, unfolding(crate::specs::Faults::header_fault))]
 pub fn check_header(file: &[u8]) -> Result<(), Fault>
     requires { 52 ≤ length file.now }
@@ -147,7 +151,7 @@ pub fn check_header(file: &[u8]) -> Result<(), Fault>
     check_table(&header, file.len())
 }
 
-/// Whether a table of program headers has a form that is taken and lies in a file of `file_len` bytes.
+/// Judges the sizes: those of class ELFCLASS32, and of a table that lies in a file of `file_len` bytes.
 fn check_table(header: &FileHeader, file_len: usize) -> Result<(), Fault>
     ensures exact { result_err result ≡ faults.table_form_fault header.now file_len }
     ensures few { OnOk result (header.now.e_phnum ≤ 64) }

@@ -1,5 +1,5 @@
 ghost use Rattle.std.specs.Prelude.{◌≡◌};
-ghost use Rattle.elf_image.specs.Program.{IsProgram, code_word};
+ghost use Rattle.elf_image.specs.Program.{IsProgram, code_word, program_from};
 
 use crate::code::Code;
 use std::marker::Model;
@@ -15,20 +15,20 @@ pub struct Image {
 }
 
 impl Model for Image {
-    ghost use Rattle.elf_image.specs.Program.{Program, IsProgram};
+    ghost use Rattle.elf_image.specs.Program.{Program, IsProgram, program_from};
 
     ghost Value = { Program };
 
-    ghost view = { λ a. record { base = a.base; bytes = a.bytes.items; entry = a.entry; harts = a.harts; code = a.code } };
+    ghost view = { λ a. program_from a.base a.bytes.items a.entry a.harts a.code };
 
-    ghost invariant = { λ a. IsProgram (record { base = a.base; bytes = a.bytes.items; entry = a.entry; harts = a.harts; code = a.code }) };
+    ghost invariant = { λ a. IsProgram (program_from a.base a.bytes.items a.entry a.harts a.code) };
 }
 
 impl Image {
     /// The program of these parts.
     pub(crate) fn new(base: u32, bytes: Vec<u8>, entry: u32, harts: u8, code: Code) -> Image
-        requires { IsProgram (record { base = base; bytes = bytes.items; entry = entry; harts = harts; code = code }) }
-        ensures { result ≡ record { base = base; bytes = bytes.items; entry = entry; harts = harts; code = code } }
+        requires { IsProgram (program_from base bytes.items entry harts code) }
+        ensures { result ≡ program_from base bytes.items entry harts code }
     {
         Image {
             base,

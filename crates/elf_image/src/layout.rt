@@ -1,4 +1,4 @@
-//! Where the segments lie in memory.
+//! Where the segments lie in memory. The lines, the stacks and the limits are this project's profile.
 
 ghost use Rattle.std.specs.Prelude.{◌≡◌, ◌≤◌, ◌^◌};
 ghost use Rattle.std.specs.List.{list_any};
@@ -64,8 +64,8 @@ pub fn memory_end(segments: &[ProgramHeader], harts: u8) -> u64
     (highest(segments) + (LINE - 1)) / LINE * LINE + STACK * harts as u64
 }
 
-/// Whether the segments are apart, lie in one span of memory that is not too large or too high, and
-/// have the entry.
+/// Judges the segments in memory: they are apart, memory with the stacks is not too large and does not
+/// end too high, and the entry is an instruction's.
 #[tactic(auto, unfolding(crate::specs::Faults::memory_fault))]
 pub fn check_memory(segments: &[ProgramHeader], entry: u32, harts: u8) -> Result<(), Fault>
     ensures { result_err result ≡ faults.memory_fault segments.now entry harts }
@@ -87,7 +87,7 @@ pub fn check_memory(segments: &[ProgramHeader], entry: u32, harts: u8) -> Result
     Ok(())
 }
 
-/// Whether no two segments share a byte.
+/// Judges whether no two segments share a byte.
 fn check_overlap(segments: &[ProgramHeader]) -> Result<(), Fault>
     ensures { result_err result ≡ faults.overlap_fault segments.now }
 {

@@ -1,6 +1,7 @@
 //! What a file without a fault puts into memory.
 
-ghost use Rattle.std.specs.Prelude.{◌≡◌, ◌≤◌, ◌<◌, ◌+◌, ℕ, None, All, IfOk, if◌then◌else◌, filter, length, map, replicate, slice_index};
+ghost use Rattle.std.specs.Prelude.{◌≡◌, ◌≤◌, ◌<◌, ◌+◌, ℕ, None, All, IfOk, if◌then◌else◌};
+ghost use Rattle.std.specs.Prelude.{filter, length, map, replicate, slice_index};
 ghost use Rattle.std.specs.List.{range_with_len};
 ghost use Rattle.elf_image.specs.Layout.{first_overlap, is_executable};
 ghost use Rattle.elf_image.specs.Loaded.{Fits, IsInside, code_segment, file_byte, is_filled, loaded_byte};
@@ -21,7 +22,8 @@ pub fn load_bytes(
 ) -> Result<Vec<u8>, NoMemory>
     requires fits { All (Fits (length file.now) base size) segments.now }
     requires apart { first_overlap segments.now ≡ None }
-    ensures exact { IfOk result (λ bytes. bytes.items ≡ map (loaded_byte file.now segments.now) (range_with_len base size)) }
+    ensures exact { IfOk result (λ bytes.
+        bytes.items ≡ map (loaded_byte file.now segments.now) (range_with_len base size)) }
     ensures len { IfOk result (λ bytes. length bytes.items ≡ size) }
 {
     let mut bytes = vec![in alloc; 0; size]?;
@@ -44,7 +46,11 @@ fn fill(bytes: &mut [u8], base: u32, file: &[u8], segments: &[ProgramHeader])
 /// Writes the bytes of a segment that stand in the file.
 fn fill_segment(bytes: &mut [u8], base: u32, file: &[u8], segment: &ProgramHeader)
     requires { Fits (length file.now) base (length bytes.old) segment.now }
-    ensures { (k : ℕ) → k < length bytes.old → slice_index bytes.new k ≡ (if is_filled (base + k) segment.now then file_byte file.now (base + k) segment.now else slice_index bytes.old k) }
+    ensures { (k : ℕ) → k < length bytes.old →
+        slice_index bytes.new k ≡
+        (if is_filled (base + k) segment.now
+        then file_byte file.now (base + k) segment.now
+        else slice_index bytes.old k) }
 {
     // The place in the file of no bytes at all may lie anywhere.
     if segment.p_filesz == 0 {
@@ -64,7 +70,8 @@ pub fn load_code(
     base: u32,
 ) -> Result<Code, NoMemory>
     requires { All (IsInside base (length bytes.now)) segments.now }
-    ensures { IfOk result (λ code. code ≡ map (code_segment base bytes.now) (filter is_executable segments.now)) }
+    ensures { IfOk result (λ code.
+        code ≡ map (code_segment base bytes.now) (filter is_executable segments.now)) }
 {
     let mut code = Code::new(alloc);
     for segment in segments {

@@ -93,8 +93,10 @@ fn build(
 pub fn load(alloc: Global, file: &[u8], harts: u8) -> Result<Image, ImageFault>
     requires harts_in_range { (1 ≤ harts) × (harts ≤ 8) }
     requires within_limit { length file.now ≤ 33554432 }
-    ensures accepted { IfOk result (λ image. (fault file.now harts ≡ None) × (image ≡ program_of file.now harts)) }
-    ensures refused { (number place : ℕ) → result ≡ Err (Bad number place) → fault file.now harts ≡ Some (record { number = number; place = place }) }
+    ensures accepted { IfOk result (λ image.
+        (fault file.now harts ≡ None) × (image ≡ program_of file.now harts)) }
+    ensures refused { (number place : ℕ) → result ≡ Err (Bad number place) →
+        fault file.now harts ≡ Some (record { number = number; place = place }) }
     ensures memory_after_faults { result ≡ Err NoMemory → fault file.now harts ≡ None }
 {
     let segments = judge(file, harts)?;

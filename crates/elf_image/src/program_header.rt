@@ -1,4 +1,5 @@
-//! The program headers, of which each tells of a segment.
+//! The program headers, of the ELF specification's chapter 'Program Header'. Those of type PT_LOAD tell
+//! of the segments.
 
 ghost use Rattle.std.specs.Prelude.{◌≡◌, ◌≤◌, ◌+◌, ◌<◌, ◌^◌, length};
 ghost use Rattle.elf_image.specs.Header.{program_header};
@@ -28,8 +29,7 @@ const P_OFFSET: u32 = 4;
 
 const P_FILESZ: u32 = 16;
 
-/// The fields of a program header that are read, as the ELF specification names them, and the place
-/// of the header in the file.
+/// The fields of a program header that are read, and the place of the header in the file.
 #[derive(Clone, Copy, Debug, Default)]
 pub struct ProgramHeader {
     pub place: u32,
@@ -60,8 +60,8 @@ impl ProgramHeader {
         }
     }
 
-    /// Whether the header, if it is of type PT_LOAD, fits a file of `file_len` bytes: it has no more
-    /// bytes in the file than in memory, and these lie in the file.
+    /// Judges a header of type PT_LOAD: it has no more bytes in the file than in memory, and these lie
+    /// in a file of `file_len` bytes.
     pub fn check(&self, file_len: usize) -> Result<(), Fault>
         requires { self.now.place ≤ 33554432 }
         ensures { result_err result ≡ load_fault file_len self.now }

@@ -44,14 +44,14 @@ impl Segment {
     }
 
     /// Whether the four bytes at `pc` all lie in this segment.
-    pub fn has_word(&self, pc: u32) -> bool
+    pub(crate) fn has_word(&self, pc: u32) -> bool
         ensures { result ≡ has_word pc self.now }
     {
         self.start <= pc && (pc - self.start) as usize + 4 <= self.bytes.len()
     }
 
     /// The little-endian word at `pc`.
-    pub fn word(&self, pc: u32) -> u32
+    pub(crate) fn word(&self, pc: u32) -> u32
         requires { IsTrue (has_word pc self.now) }
         ensures { result ≡ segment_word pc self.now }
     {

@@ -11,7 +11,7 @@ use crate::header::FileHeader;
 use crate::program_header::{MOST_PROGRAM_HEADERS, PROGRAM_HEADER_LEN, ProgramHeader};
 use arrayvec::ArrayVec;
 
-/// As many program headers as an image may have, in the order of their table.
+/// Program headers, in the order of their table.
 pub type ProgramHeaders = ArrayVec<ProgramHeader, MOST_PROGRAM_HEADERS>;
 
 /// The program headers of a file.
@@ -44,7 +44,8 @@ fn read_headers(file: &[u8], place: u32, count: u16) -> ProgramHeaders
     headers
 }
 
-/// Whether no header asks for a dynamic linker and each segment fits a file of `file_len` bytes.
+/// Judges the headers: none asks for a dynamic linker, and what is loaded lies in a file of `file_len`
+/// bytes.
 #[tactic(auto, unfolding(crate::specs::Faults::headers_fault))]
 pub fn check_table(headers: &[ProgramHeader], file_len: usize) -> Result<(), Fault>
     requires { All (λ header. header.place ≤ 33554432) headers.now }
@@ -66,7 +67,7 @@ fn first_dynamic(headers: &[ProgramHeader]) -> Option<u32>
         .map(|header| header.place)
 }
 
-/// Whether each segment fits a file of `file_len` bytes.
+/// Judges each header of type PT_LOAD.
 fn check_each(headers: &[ProgramHeader], file_len: usize) -> Result<(), Fault>
     requires { All (λ header. header.place ≤ 33554432) headers.now }
     ensures { result_err result ≡ faults.segment_fault headers.now file_len }
@@ -77,7 +78,7 @@ fn check_each(headers: &[ProgramHeader], file_len: usize) -> Result<(), Fault>
     Ok(())
 }
 
-/// The headers of the segments.
+/// The headers of the segments: those of type PT_LOAD that have memory.
 pub fn segments_of(headers: &[ProgramHeader]) -> ProgramHeaders
     requires { length headers.now ≤ 64 }
     ensures { result.items ≡ filter is_segment headers.now }

@@ -1,0 +1,298 @@
+use super::*;
+use std::alloc::{AllocError, Global};
+use std::process::Abort;
+use std::test::Fail;
+
+/// A program that prints 'A' and a newline, in one segment at 0x10000 that is the whole file.
+const FILE: [u8; 122] = [
+    0x7f, 0x45, 0x4c, 0x46, 0x01, 0x01, 0x01, 0x00, 0x00, 0x00, 0x00, 0x00, 0x00, 0x00, 0x00, 0x00,
+    0x02, 0x00, 0xf3, 0x00, 0x01, 0x00, 0x00, 0x00, 0x54, 0x00, 0x01, 0x00, 0x34, 0x00, 0x00, 0x00,
+    0x00, 0x00, 0x00, 0x00, 0x00, 0x00, 0x00, 0x00, 0x34, 0x00, 0x20, 0x00, 0x01, 0x00, 0x00, 0x00,
+    0x00, 0x00, 0x00, 0x00, 0x01, 0x00, 0x00, 0x00, 0x00, 0x00, 0x00, 0x00, 0x00, 0x00, 0x01, 0x00,
+    0x00, 0x00, 0x01, 0x00, 0x7a, 0x00, 0x00, 0x00, 0x7a, 0x00, 0x00, 0x00, 0x05, 0x00, 0x00, 0x00,
+    0x00, 0x10, 0x00, 0x00, 0x13, 0x05, 0x10, 0x00, 0x97, 0x05, 0x00, 0x00, 0x93, 0x85, 0x05, 0x02,
+    0x13, 0x06, 0x20, 0x00, 0x93, 0x08, 0x00, 0x04, 0x73, 0x00, 0x00, 0x00, 0x13, 0x05, 0x00, 0x00,
+    0x93, 0x08, 0xd0, 0x05, 0x73, 0x00, 0x00, 0x00, 0x41, 0x0a,
+];
+
+/// The most bytes of a file.
+const LIMIT: usize = 33_554_432;
+
+/// The image, or the number and the place of the fault.
+fn loaded(
+    rt: &impl Abort,
+    alloc: Global,
+    file: &[u8],
+    harts: u8,
+) -> Result<Result<Image, (u8, u32)>, AllocError> {
+    assert!(rt; file.len() <= LIMIT);
+    assert!(rt; (1..=8).contains(&harts));
+    match load(alloc, file, harts) {
+        Ok(image) => Ok(Ok(image)),
+        Err(ImageFault::Bad { number, place }) => Ok(Err((number, place))),
+        Err(ImageFault::NoMemory) => Err(AllocError),
+    }
+}
+
+/// The number and the place of the fault, or none.
+fn judged(
+    rt: &impl Abort,
+    alloc: Global,
+    file: &[u8],
+    harts: u8,
+) -> Result<Option<(u8, u32)>, AllocError> {
+    Ok(loaded(rt, alloc, file, harts)?.err())
+}
+
+/// The file with bytes written over it, each with its place.
+fn changed(edits: &[(usize, u8)]) -> [u8; 122] {
+    let mut file = FILE;
+    for (place, value) in edits {
+        if let Some(byte) = file.get_mut(*place) {
+            *byte = *value;
+        }
+    }
+    file
+}
+
+/// A file of these program headers, each as p_type, p_offset, p_vaddr, p_filesz, p_memsz and p_flags,
+/// with nothing but `0xee` behind them, up to a length.
+fn file_of(
+    alloc: Global,
+    entry: u32,
+    headers: &[[u32; 6]],
+    len: usize,
+) -> Result<Vec<u8>, AllocError> {
+    let mut file = FILE[..24].to_vec(alloc)?;
+    file.extend_from_slice(&entry.to_le_bytes())?;
+    file.extend_from_slice(&FILE[28..44])?;
+    file.push(headers.len().to_le_bytes()[0])?;
+    file.extend_from_slice(&FILE[45..52])?;
+    for [p_type, p_offset, p_vaddr, p_filesz, p_memsz, p_flags] in headers {
+        for field in [
+            p_type, p_offset, p_vaddr, p_vaddr, p_filesz, p_memsz, p_flags, &0,
+        ] {
+            file.extend_from_slice(&field.to_le_bytes())?;
+        }
+    }
+    file.resize(len, 0xee)?;
+    Ok(file)
+}
+
+#[test]
+fn cut_files_are_refused(rt: HostRuntime) -> Result<(), Fail> {
+    for len in 0..FILE.len() {
+        let want = match len {
+            0..52 => (1, len as u32),
+            52..84 => (9, 28),
+            _ => (11, 56),
+        };
+        let found = judged(&rt, rt.alloc(), &FILE[..len], 1)?;
+        assert_eq!(rt; found, Some(want), "cut to {len}");
+    }
+    Ok(())
+}
+
+#[test]
+fn changed_files_have_their_first_fault(rt: HostRuntime) -> Result<(), Fail> {
+    let changes: [(&[(usize, u8)], Option<(u8, u32)>); 29] = [
+        (&[], None),
+        (&[(0, 0)], Some((2, 0))),
+        (&[(3, 0x47), (1, 0)], Some((2, 1))),
+        (&[(4, 2)], Some((3, 4))),
+        (&[(5, 2)], Some((4, 5))),
+        (&[(6, 2), (20, 2)], Some((5, 6))),
+        (&[(20, 2)], Some((5, 20))),
+        (&[(16, 3), (36, 1)], Some((6, 16))),
+        (&[(18, 0x28)], Some((7, 18))),
+        (&[(36, 1), (40, 64)], Some((8, 36))),
+        (&[(36, 8)], Some((8, 36))),
+        (&[(36, 0x10)], None),
+        (&[(40, 64)], Some((9, 40))),
+        (&[(42, 56)], Some((9, 42))),
+        (&[(44, 0xff), (45, 0xff)], Some((9, 44))),
+        (&[(44, 65)], Some((9, 44))),
+        (&[(44, 64)], Some((9, 28))),
+        (&[(44, 0), (42, 0)], Some((16, 44))),
+        (
+            &[(28, 0xff), (29, 0xff), (30, 0xff), (31, 0xff)],
+            Some((9, 28)),
+        ),
+        (&[(52, 2)], Some((10, 52))),
+        (&[(52, 3)], Some((10, 52))),
+        (&[(52, 0)], Some((16, 44))),
+        (
+            &[
+                (60, 0),
+                (61, 0xff),
+                (62, 0xff),
+                (63, 0xff),
+                (72, 0),
+                (73, 2),
+            ],
+            Some((14, 28)),
+        ),
+        (&[(72, 0x79)], Some((11, 68))),
+        (
+            &[(59, 0xff), (58, 0xff), (57, 0xff), (56, 0xff)],
+            Some((11, 56)),
+        ),
+        (&[(76, 4)], Some((15, 24))),
+        (&[(24, 0x56)], Some((15, 24))),
+        (&[(24, 0x78)], Some((15, 24))),
+        (&[(76, 7)], None),
+    ];
+    for (edits, want) in changes {
+        let found = judged(&rt, rt.alloc(), &changed(edits), 1)?;
+        assert_eq!(rt; found, want, "{edits:?}");
+    }
+    Ok(())
+}
+
+#[test]
+fn the_file_is_loaded_behind_zeros(rt: HostRuntime) -> Result<(), Fail> {
+    let image = loaded(&rt, rt.alloc(), &FILE, 1)?.ok().ok_or("refused")?;
+    assert_eq!(rt; image.base(), 0x10000);
+    assert_eq!(rt; image.entry(), 0x10054);
+    assert_eq!(rt; image.harts(), 1);
+    let bytes = image.bytes();
+    assert_eq!(rt; bytes.len(), 0x20080 - 0x10000);
+    assert_eq!(rt; &bytes[..122], FILE.as_slice());
+    assert!(rt; bytes[122..].iter().all(|byte| *byte == 0));
+    for (pc, word) in [
+        (0x10054, Some(0x0010_0513)),
+        (0x10058, Some(0x0000_0597)),
+        (0x10074, Some(0x0000_0073)),
+        (0x10076, Some(0x0a41_0000)),
+        (0x10077, None),
+        (0x10078, None),
+        (0xfffc, None),
+        (0xffff_ffff, None),
+    ] {
+        assert_eq!(rt; image.code_word(pc), word, "at {pc:#x}");
+    }
+    let copy = image.code().try_clone(rt.alloc()).ok().ok_or("no memory")?;
+    assert_eq!(rt; copy.segments().len(), 1);
+    for segment in copy.segments() {
+        assert_eq!(rt; segment.start(), 0x10000);
+        assert_eq!(rt; segment.bytes(), FILE.as_slice());
+    }
+    Ok(())
+}
+
+#[test]
+fn a_linkers_usual_image_is_taken(rt: HostRuntime) -> Result<(), Fail> {
+    let headers = [
+        [0x7000_0003, 0x6f0, 0, 0x1a, 0, 4],
+        [1, 0, 0x10000, 0x6d4, 0x6d4, 5],
+        [1, 0x6d4, 0x116d4, 0x1c, 0x14c, 6],
+        [0x6474_e551, 0, 0, 0, 0, 6],
+    ];
+    let file = file_of(rt.alloc(), 0x100b4, &headers, 0x70a)?;
+    let image = loaded(&rt, rt.alloc(), &file, 8)?.ok().ok_or("refused")?;
+    assert_eq!(rt; image.base(), 0x10000);
+    assert_eq!(rt; image.bytes().len(), 0x91840 - 0x10000);
+    for (address, byte) in [
+        (0x10000, 0x7f),
+        (0x106d3, 0xee),
+        (0x106d4, 0),
+        (0x116d3, 0),
+        (0x116d4, 0xee),
+        (0x116ef, 0xee),
+        (0x116f0, 0),
+        (0x9183f, 0),
+    ] {
+        let found = image.bytes().get(address - 0x10000).copied();
+        assert_eq!(rt; found, Some(byte), "at {address:#x}");
+    }
+    assert_eq!(rt; image.code_word(0x116d4), None);
+    Ok(())
+}
+
+#[test]
+fn segments_share_no_byte(rt: HostRuntime) -> Result<(), Fail> {
+    let code = [1, 0x94, 0x10000, 8, 8, 5];
+    let rows: [([u32; 6], [u32; 6], Option<(u8, u32)>); 6] = [
+        // adjacent, in either order
+        (
+            [1, 0x94, 0x10008, 4, 8, 6],
+            [1, 0x94, 0xfff0, 4, 16, 6],
+            None,
+        ),
+        // one byte shared, with the first and with the second
+        (
+            [1, 0x94, 0x10007, 4, 8, 6],
+            [0, 0, 0, 0, 0, 0],
+            Some((12, 84)),
+        ),
+        (
+            [1, 0x94, 0x10010, 4, 8, 6],
+            [1, 0x94, 0xfff8, 4, 9, 6],
+            Some((12, 116)),
+        ),
+        // the same bytes twice
+        (
+            [1, 0x94, 0x10008, 4, 8, 6],
+            [1, 0x94, 0x10008, 4, 8, 6],
+            Some((12, 116)),
+        ),
+        // a header without memory is no segment, and one without bytes in the file may name any place
+        (
+            [1, 0x94, 0x10000, 0, 0, 6],
+            [1, 0xffff_ffff, 0x10008, 0, 8, 6],
+            None,
+        ),
+        // a sum that 32 bits do not hold
+        (
+            [1, 0xffff_fffc, 0x10008, 8, 8, 6],
+            [0, 0, 0, 0, 0, 0],
+            Some((11, 88)),
+        ),
+    ];
+    for (second, third, want) in rows {
+        let file = file_of(rt.alloc(), 0x10000, &[code, second, third], 0x9c)?;
+        let found = judged(&rt, rt.alloc(), &file, 1)?;
+        assert_eq!(rt; found, want, "{second:?} {third:?}");
+    }
+    Ok(())
+}
+
+#[test]
+fn a_word_lies_in_one_segment(rt: HostRuntime) -> Result<(), Fail> {
+    let headers = [[1, 0x74, 0x10000, 6, 6, 5], [1, 0x74, 0x10006, 6, 6, 5]];
+    let file = file_of(rt.alloc(), 0x10000, &headers, 0x7a)?;
+    let image = loaded(&rt, rt.alloc(), &file, 1)?.ok().ok_or("refused")?;
+    let word = Some(0xeeee_eeee);
+    for (pc, found) in [
+        (0x10000, word),
+        (0x10002, word),
+        (0x10003, None),
+        (0x10005, None),
+        (0x10006, word),
+        (0x10008, word),
+        (0x10009, None),
+    ] {
+        assert_eq!(rt; image.code_word(pc), found, "at {pc:#x}");
+    }
+    Ok(())
+}
+
+#[test]
+fn memory_has_at_most_16_mib(rt: HostRuntime) -> Result<(), Fail> {
+    for (memory, harts, want) in [
+        (16_711_680, 1, None),
+        (16_711_681, 1, Some((13, 28))),
+        (16_252_928, 8, None),
+        (16_252_929, 8, Some((13, 28))),
+        (u32::MAX, 1, Some((13, 28))),
+    ] {
+        let headers = [[1, 0x54, 0x8000_0000, 4, memory, 5]];
+        let file = file_of(rt.alloc(), 0x8000_0000, &headers, 0x58)?;
+        let image = loaded(&rt, rt.alloc(), &file, harts)?;
+        if let Ok(image) = &image {
+            assert_eq!(rt; image.bytes().len(), 16_777_216);
+        }
+        assert_eq!(rt; image.err(), want, "{memory} bytes, {harts} harts");
+    }
+    Ok(())
+}

@@ -1,4 +1,4 @@
 pub mod Powers
 pub mod Registers
 pub mod Codes
-pub mod Unique
+pub mod Meanings

@@ -36,21 +36,28 @@ op_imm_at-row word Or row = grind (arith, common_steps)
 op_imm_at-row word And row = grind (arith, common_steps)
 
 -- the instruction that a word means is the one that `decoded` gives
-pub decoded-means : (word : ℕ) (insn : Insn) → Means word insn → decoded word ≡ Some insn
+pub decoded_means : (word : ℕ) (insn : Insn) → Means word insn → decoded word ≡ Some insn
 unfolding decoded
-decoded-means word (Lui rd imm) m = grind (arith, common_steps)
-decoded-means word (Auipc rd imm) m = grind (arith, common_steps)
-decoded-means word (Jal rd offset) m = grind (arith, common_steps)
-decoded-means word (Jalr rd rs1 offset) m = grind (arith, common_steps)
-decoded-means word (Branch test rs1 rs2 offset) m = grind (arith, common_steps, test_at-code test)
-decoded-means word (Load width rd rs1 offset) m = grind (arith, common_steps, load_width_at-code width)
-decoded-means word (Store width rs1 rs2 offset) m = grind (arith, common_steps, store_width_at-code width)
-decoded-means word (OpImm op rd rs1 imm) m = grind (arith, common_steps, op_imm_at-row word op)
-decoded-means word (Op op rd rs1 rs2) m = grind (arith, common_steps, op_at-row word op)
-decoded-means word Fence m = grind (arith, common_steps)
-decoded-means word Ecall m = grind (arith, common_steps)
-decoded-means word Ebreak m = grind (arith, common_steps)
-decoded-means word (Lr rd rs1 aq rl) m = grind (arith, common_steps)
-decoded-means word (Sc rd rs1 rs2 aq rl) m = grind (arith, common_steps)
-decoded-means word (Amo op rd rs1 rs2 aq rl) m =
+decoded_means word (Lui rd imm) m = grind (arith, common_steps)
+decoded_means word (Auipc rd imm) m = grind (arith, common_steps)
+decoded_means word (Jal rd offset) m = grind (arith, common_steps)
+decoded_means word (Jalr rd rs1 offset) m = grind (arith, common_steps)
+decoded_means word (Branch test rs1 rs2 offset) m = grind (arith, common_steps, test_at-code test)
+decoded_means word (Load width rd rs1 offset) m = grind (arith, common_steps, load_width_at-code width)
+decoded_means word (Store width rs1 rs2 offset) m = grind (arith, common_steps, store_width_at-code width)
+decoded_means word (OpImm op rd rs1 imm) m = grind (arith, common_steps, op_imm_at-row word op)
+decoded_means word (Op op rd rs1 rs2) m = grind (arith, common_steps, op_at-row word op)
+decoded_means word Fence m = grind (arith, common_steps)
+decoded_means word Ecall m = grind (arith, common_steps)
+decoded_means word Ebreak m = grind (arith, common_steps)
+decoded_means word (Lr rd rs1 aq rl) m = grind (arith, common_steps)
+decoded_means word (Sc rd rs1 rs2 aq rl) m = grind (arith, common_steps)
+decoded_means word (Amo op rd rs1 rs2 aq rl) m =
     grind (arith, common_steps, amo_at-code op, amo_code-ne-lr op, amo_code-ne-sc op)
+
+-- no word means two instructions
+pub one_meaning : (word : ℕ) (insn other : Insn) → Means word insn → Means word other → insn ≡ other
+one_meaning word insn other m n =
+    let first : decoded word ≡ Some insn = decoded_means word insn m in
+    let second : decoded word ≡ Some other = decoded_means word other n in
+    cc

@@ -15,11 +15,7 @@ use crate::table::{amo_of, load_width_of, op_imm_of, op_of, store_width_of, test
 /// The instruction that the word means, or none where it means none (RISC-V unprivileged manual,
 /// chapter 'RV32/64G Instruction Set Listings', RV32I and RV32A). A `FENCE` is one whatever its
 /// other fields; a `FENCE.I`, a CSR instruction and a compressed one are none.
-#[tactic(
-    auto,
-    using(crate::proofs::Meanings::one_meaning),
-    unfolding(crate::specs::Decoding::decoded)
-)]
+#[tactic(auto, using(crate::proofs::Meanings::one_meaning), unfolding(crate::specs::Decoding::decoded))]
 pub fn decode(word: u32) -> Option<Insn>
     ensures row { (insn : Insn) → (result ≡ Some insn) ↔ Means word insn }
     ensures unique { (insn other : Insn) → Means word insn → Means word other → insn ≡ other }

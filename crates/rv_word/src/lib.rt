@@ -13,6 +13,8 @@ mod insn;
 mod laws;
 mod reg;
 mod table;
+#[cfg(test)]
+mod tests;
 mod validity;
 
 pub use decoding::decode;

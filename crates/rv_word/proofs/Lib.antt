@@ -2,3 +2,4 @@ pub mod Powers
 pub mod Registers
 pub mod Codes
 pub mod Meanings
+mod Examples

@@ -4,41 +4,41 @@ ghost use Rattle.rv_word.specs.Validity.{Valid, IsOpImmediate};
 
 use crate::form::{atomic_form, b_form, i_form, j_form, r_form, s_form, shift_form, u_form};
 use crate::insn::{Alu, Insn};
+use crate::opcode::{AUIPC, BRANCH, JAL, JALR, LOAD, LUI, OP, OP_IMM, STORE};
 use crate::reg::Reg;
-use crate::table::{code_of_amo, code_of_load, code_of_store, code_of_test};
 
 /// The word that means the instruction. Of the many words that mean `Fence` it is `0x0ff0000f`,
 /// which orders everything before it and everything after it.
 #[tactic(auto, using(crate::proofs::Registers::rs2_number))]
 pub fn encode(insn: Insn) -> u32
     requires { Valid insn }
-    ensures row { Means result insn }
-    ensures only { (w : ℕ) → w < 2 ^ 32 → Means w insn → insn ≢ Insn.Fence → w ≡ result }
+    ensures means_it { Means result insn }
+    ensures no_other_word_does { (w : ℕ) → w < 2 ^ 32 → Means w insn → insn ≢ Insn.Fence → w ≡ result }
     ensures fence { insn ≡ Insn.Fence → result ≡ 0x0ff0000f }
 {
     match insn {
-        Insn::Lui { rd, imm } => u_form(0b0110111, rd, imm),
-        Insn::Auipc { rd, imm } => u_form(0b0010111, rd, imm),
-        Insn::Jal { rd, offset } => j_form(0b1101111, rd, offset),
-        Insn::Jalr { rd, rs1, offset } => i_form(0b1100111, rd, 0b000, rs1, offset),
+        Insn::Lui { rd, imm } => u_form(LUI, rd, imm),
+        Insn::Auipc { rd, imm } => u_form(AUIPC, rd, imm),
+        Insn::Jal { rd, offset } => j_form(JAL, rd, offset),
+        Insn::Jalr { rd, rs1, offset } => i_form(JALR, rd, 0b000, rs1, offset),
         Insn::Branch {
             test,
             rs1,
             rs2,
             offset,
-        } => { b_form(0b1100011, code_of_test(test), rs1, rs2, offset) }
+        } => b_form(BRANCH, test.code(), rs1, rs2, offset),
         Insn::Load {
             width,
             rd,
             rs1,
             offset,
-        } => { i_form(0b0000011, rd, code_of_load(width), rs1, offset) }
+        } => i_form(LOAD, rd, width.code(), rs1, offset),
         Insn::Store {
             width,
             rs1,
             rs2,
             offset,
-        } => { s_form(0b0100011, code_of_store(width), rs1, rs2, offset) }
+        } => s_form(STORE, width.code(), rs1, rs2, offset),
         Insn::OpImm { op, rd, rs1, imm } => op_imm_word(op, rd, rs1, imm),
         Insn::Op { op, rd, rs1, rs2 } => op_word(op, rd, rs1, rs2),
         Insn::Fence => 0x0ff0_000f,
@@ -59,43 +59,43 @@ pub fn encode(insn: Insn) -> u32
             rs2,
             aq,
             rl,
-        } => { atomic_form(rd, rs1, rs2, code_of_amo(op), aq, rl) }
+        } => atomic_form(rd, rs1, rs2, op.code(), aq, rl),
     }
 }
 
 fn op_imm_word(op: Alu, rd: Reg, rs1: Reg, imm: i32) -> u32
     requires { IsOpImmediate op imm }
-    ensures row { Means result (Insn.OpImm op rd rs1 imm) }
+    ensures means_it { Means result (Insn.OpImm op rd rs1 imm) }
     ensures only { (w : ℕ) → w < 2 ^ 32 → Means w (Insn.OpImm op rd rs1 imm) → w ≡ result }
 {
     match op {
-        Alu::Add => i_form(0b0010011, rd, 0b000, rs1, imm),
+        Alu::Add => i_form(OP_IMM, rd, 0b000, rs1, imm),
         Alu::Sll => shift_form(rd, 0b001, rs1, imm, 0b0000000),
-        Alu::Slt => i_form(0b0010011, rd, 0b010, rs1, imm),
-        Alu::Sltu => i_form(0b0010011, rd, 0b011, rs1, imm),
-        Alu::Xor => i_form(0b0010011, rd, 0b100, rs1, imm),
+        Alu::Slt => i_form(OP_IMM, rd, 0b010, rs1, imm),
+        Alu::Sltu => i_form(OP_IMM, rd, 0b011, rs1, imm),
+        Alu::Xor => i_form(OP_IMM, rd, 0b100, rs1, imm),
         Alu::Srl => shift_form(rd, 0b101, rs1, imm, 0b0000000),
         Alu::Sra => shift_form(rd, 0b101, rs1, imm, 0b0100000),
-        Alu::Or => i_form(0b0010011, rd, 0b110, rs1, imm),
-        Alu::And => i_form(0b0010011, rd, 0b111, rs1, imm),
+        Alu::Or => i_form(OP_IMM, rd, 0b110, rs1, imm),
+        Alu::And => i_form(OP_IMM, rd, 0b111, rs1, imm),
         Alu::Sub => unreachable!(),
     }
 }
 
 fn op_word(op: Alu, rd: Reg, rs1: Reg, rs2: Reg) -> u32
-    ensures row { Means result (Insn.Op op rd rs1 rs2) }
+    ensures means_it { Means result (Insn.Op op rd rs1 rs2) }
     ensures only { (w : ℕ) → w < 2 ^ 32 → Means w (Insn.Op op rd rs1 rs2) → w ≡ result }
 {
     match op {
-        Alu::Add => r_form(0b0110011, rd, 0b000, rs1, rs2, 0b0000000),
-        Alu::Sub => r_form(0b0110011, rd, 0b000, rs1, rs2, 0b0100000),
-        Alu::Sll => r_form(0b0110011, rd, 0b001, rs1, rs2, 0b0000000),
-        Alu::Slt => r_form(0b0110011, rd, 0b010, rs1, rs2, 0b0000000),
-        Alu::Sltu => r_form(0b0110011, rd, 0b011, rs1, rs2, 0b0000000),
-        Alu::Xor => r_form(0b0110011, rd, 0b100, rs1, rs2, 0b0000000),
-        Alu::Srl => r_form(0b0110011, rd, 0b101, rs1, rs2, 0b0000000),
-        Alu::Sra => r_form(0b0110011, rd, 0b101, rs1, rs2, 0b0100000),
-        Alu::Or => r_form(0b0110011, rd, 0b110, rs1, rs2, 0b0000000),
-        Alu::And => r_form(0b0110011, rd, 0b111, rs1, rs2, 0b0000000),
+        Alu::Add => r_form(OP, rd, 0b000, rs1, rs2, 0b0000000),
+        Alu::Sub => r_form(OP, rd, 0b000, rs1, rs2, 0b0100000),
+        Alu::Sll => r_form(OP, rd, 0b001, rs1, rs2, 0b0000000),
+        Alu::Slt => r_form(OP, rd, 0b010, rs1, rs2, 0b0000000),
+        Alu::Sltu => r_form(OP, rd, 0b011, rs1, rs2, 0b0000000),
+        Alu::Xor => r_form(OP, rd, 0b100, rs1, rs2, 0b0000000),
+        Alu::Srl => r_form(OP, rd, 0b101, rs1, rs2, 0b0000000),
+        Alu::Sra => r_form(OP, rd, 0b101, rs1, rs2, 0b0100000),
+        Alu::Or => r_form(OP, rd, 0b110, rs1, rs2, 0b0000000),
+        Alu::And => r_form(OP, rd, 0b111, rs1, rs2, 0b0000000),
     }
 }

@@ -7,6 +7,7 @@ ghost use Rattle.rv_word.specs.Validity.{FitsSignedBits, IsEven};
 
 use crate::field::field_at;
 use crate::immediate::low_bits;
+use crate::opcode::{AMO, OP_IMM};
 use crate::reg::Reg;
 
 /// The R format.
@@ -45,7 +46,7 @@ pub(crate) fn shift_form(rd: Reg, funct3: u32, rs1: Reg, amount: i32, funct7: u3
     ensures only { (w : ℕ) → w < 2 ^ 32 → opcode_of w ≡ 0b0010011 → rd_of w ≡ rd → funct3_of w ≡ funct3
         → rs1_of w ≡ rs1 → pos (shamt_of w) ≡ amount → funct7_of w ≡ funct7 → w ≡ result }
 {
-    let low = 0b0010011 + ((rd.number as u32) << 7) + (funct3 << 12);
+    let low = OP_IMM + ((rd.number as u32) << 7) + (funct3 << 12);
     let high = ((rs1.number as u32) << 15) + ((amount as u32) << 20) + (funct7 << 25);
     low + high
 }
@@ -67,7 +68,7 @@ pub(crate) fn atomic_form(rd: Reg, rs1: Reg, rs2: Reg, funct5: u32, aq: bool, rl
         → rs1_of w ≡ rs1 → field 20 5 w ≡ rs2.number → funct5_of w ≡ funct5 → aq_of w ≡ aq → rl_of w ≡ rl
         → w ≡ result }
 {
-    let low = 0b0101111 + ((rd.number as u32) << 7) + (0b010 << 12);
+    let low = AMO + ((rd.number as u32) << 7) + (0b010 << 12);
     let middle = ((rs1.number as u32) << 15) + ((rs2.number as u32) << 20);
     let high = ((rl as u32) << 25) + ((aq as u32) << 26) + (funct5 << 27);
     low + middle + high

@@ -4,6 +4,7 @@
 //! It stands on nothing but std, and takes no memory.
 #![tactic(auto)]
 
+mod code;
 mod decoding;
 mod encoding;
 mod field;
@@ -11,8 +12,8 @@ mod form;
 mod immediate;
 mod insn;
 mod laws;
+mod opcode;
 mod reg;
-mod table;
 #[cfg(test)]
 mod tests;
 mod validity;

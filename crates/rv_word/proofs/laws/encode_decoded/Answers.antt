@@ -11,6 +11,6 @@ pub returns-clause-same : goal.returns-clause-same
 returns-clause-same c insn decodes other =
     let decoded_insn : Insn = c.in_ok-decode.field-0 in
     let same : insn ≡ decoded_insn = one_value _ _ _ decodes c.in_ok-decode.ensures.exact in
-    let meant : Means c.args.word decoded_insn = (c.in_ok-decode.ensures.row decoded_insn).0 refl in
+    let meant : Means c.args.word decoded_insn = (c.in_ok-decode.ensures.is_the_meaning decoded_insn).0 refl in
     let not_fence : decoded_insn ≢ Fence = λ fence. other (same ∙ fence) in
-    ap Some (sym (c.encode.ensures.only c.args.word c.ranges.word.fits meant not_fence))
+    ap Some (sym (c.encode.ensures.no_other_word_does c.args.word c.ranges.word.fits meant not_fence))

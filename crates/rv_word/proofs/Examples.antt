@@ -1,4 +1,4 @@
-use Rattle.std.proofs.Common.{◌≡◌, ℤ, pos, negsuc, None, refl}
+use Rattle.std.proofs.Common.{◌≡◌, pos, negsuc, None, refl}
 use Rattle.rv_word.specs.Decoding.{decoded}
 use Rattle.rv_word.specs.Field.{rd_of, rs1_of, rs2_of, funct5_of, reg_field}
 use Rattle.rv_word.specs.Immediate.{imm_i, imm_s, imm_b, imm_u, imm_j}

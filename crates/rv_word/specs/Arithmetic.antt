@@ -28,7 +28,7 @@ is_op_imm_row word Srl = funct3_of word == 0b101 && funct7_of word == 0b0000000
 is_op_imm_row word Sra = funct3_of word == 0b101 && funct7_of word == 0b0100000
 is_op_imm_row word Or = funct3_of word == 0b110
 is_op_imm_row word And = funct3_of word == 0b111
-is_op_imm_row word Sub = false
+is_op_imm_row word _ = false
 
 -- their immediate: a shift's amount stands in the place of rs2
 abbrev pub op_immediate : ℕ → Alu → ℤ

@@ -1,6 +1,6 @@
 use Rattle.std.specs.Prelude.{◌≡◌, ℕ, ◌-◌, ◌%◌, ◌^◌, ℤ, pos, negsuc, ◌≤ℤ◌, ◌<ℤ◌, unsigned_abs}
 use Rattle.rv_word.specs.declared.insn.Alu.{Alu}
-use Rattle.rv_word.specs.declared.insn.Alu.TheVariants.{Sub, Sll, Srl, Sra}
+use Rattle.rv_word.specs.declared.insn.Alu.TheVariants.{Add, Sll, Slt, Sltu, Xor, Srl, Sra, Or, And}
 use Rattle.rv_word.specs.declared.insn.Insn.{Insn}
 use Rattle.rv_word.specs.declared.insn.Insn.TheVariants.{Lui, Auipc, Jal, Jalr, Branch, Load, Store, OpImm}
 
@@ -11,13 +11,18 @@ FitsSignedBits width z = (negsuc (2 ^ (width - 1) - 1) ≤ℤ z) × (z <ℤ pos 
 abbrev pub IsEven : ℤ → Type 0
 IsEven z = unsigned_abs z % 2 ≡ 0
 
--- the immediates that an operation has: those of a shift are 0 to 31
+-- the immediates that an operation may have: a shift's are 0 to 31, and subtraction has none
 abbrev pub IsOpImmediate : Alu → ℤ → Type 0
-IsOpImmediate Sub imm = ⊥
 IsOpImmediate Sll imm = (pos 0 ≤ℤ imm) × (imm <ℤ pos 32)
 IsOpImmediate Srl imm = (pos 0 ≤ℤ imm) × (imm <ℤ pos 32)
 IsOpImmediate Sra imm = (pos 0 ≤ℤ imm) × (imm <ℤ pos 32)
-IsOpImmediate _ imm = FitsSignedBits 12 imm
+IsOpImmediate Add imm = FitsSignedBits 12 imm
+IsOpImmediate Slt imm = FitsSignedBits 12 imm
+IsOpImmediate Sltu imm = FitsSignedBits 12 imm
+IsOpImmediate Xor imm = FitsSignedBits 12 imm
+IsOpImmediate Or imm = FitsSignedBits 12 imm
+IsOpImmediate And imm = FitsSignedBits 12 imm
+IsOpImmediate _ imm = ⊥
 
 -- the immediates fit their forms, so that there is a word that means the instruction
 abbrev pub Valid : Insn → Type 0

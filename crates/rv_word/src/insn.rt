@@ -121,6 +121,7 @@ pub enum Insn {
         rs1: Reg,
         rs2: Reg,
     },
+    /// Any fence, whatever it orders.
     Fence,
     Ecall,
     Ebreak,

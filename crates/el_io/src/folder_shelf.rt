@@ -1,4 +1,4 @@
-ghost use Rattle.std.specs.Prelude.{◌≡◌, ◌≤◌, [], None, length, IfOk};
+ghost use Rattle.std.specs.Prelude.{◌≡◌, ◌<◌, ◌≤◌, [], None, length, IfOk, IfSome};
 
 use crate::failure_list::FailureList;
 use crate::shelf::{Call, Shelf, ShelfFault};
@@ -68,12 +68,24 @@ fn read_file<R: Files>(
     ensures within_limit { IfOk result (λ bytes. length bytes.items ≤ limit) }
 {
     let mut file = fs::open(files, name).map_err(|_| ShelfFault::Failed)?;
+    read_up_to(&mut file, alloc, limit)
+}
+
+/// All that a reader has left, if it is at most the limit, and else `TooBig`. It reads at most one
+/// byte more than the limit, and fails where the reader does.
+fn read_up_to<R: Read>(reader: &mut R, alloc: Global, limit: u32) -> Result<Vec<u8>, ShelfFault>
+    ensures within_limit { IfOk result (λ bytes. length bytes.items ≤ limit) }
+    ensures all_that_is_left { IfOk result (λ bytes.
+        IfSome (R.remaining reader.old) (λ left. bytes.items ≡ left)) }
+    ensures too_big_only_over_limit { result ≡ Err ShelfFault.TooBig →
+        IfSome (R.remaining reader.old) (λ left. limit < length left) }
+{
     let mut bytes = Vec::new(alloc);
     let mut piece = [0; PIECE];
     let most = limit as usize + 1;
     while bytes.len() < most {
         let wanted = PIECE.min(most - bytes.len());
-        let count = file
+        let count = reader
             .read(&mut piece[..wanted])
             .map_err(|_| ShelfFault::Failed)?;
         if count == 0 {

@@ -1,0 +1,5 @@
+pub mod ModelState
+pub mod Step
+pub mod Runs
+pub mod RoundRobin
+pub mod Laws

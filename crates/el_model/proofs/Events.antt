@@ -1,13 +1,12 @@
 -- what one event does, case by case
 use Rattle.std.proofs.Common.{◌≡◌, ℕ, zero, suc, List, ◌∷◌, [], replicate, Bool, true, false, ◌&&◌, refl, sym, append-nil}
 use Rattle.std.specs.Prelude.{◌↔◌, IsTrue, slice_index_or}
-use Rattle.std.specs.List.{list_all}
 use Rattle.chronicle.specs.Serial.{effects}
 use Rattle.el_base.specs.declared.events.Event.{Event}
 use Rattle.el_base.specs.declared.events.Kind.{Kind}
 use Rattle.el_base.specs.declared.events.Kind.TheVariants.{Step, Order, Serve, Deliver}
 use Rattle.el_base.specs.declared.outcomes.Outcome.TheVariants.{Idle, Ran}
-use Rattle.el_model.specs.ModelState.{ModelState, Turn, is_over, has_stopped}
+use Rattle.el_model.specs.ModelState.{ModelState, Turn, is_over, has_stopped, all_stopped}
 use Rattle.el_model.specs.Step.{next, kind_turn, status_turn}
 use Rattle.rv_alu.specs.declared.view.HartStatus.{HartStatus}
 use Rattle.rv_alu.specs.declared.view.HartStatus.TheVariants.{Running, Exited, Trapped}
@@ -109,7 +108,7 @@ both_right true b h = h
 both_right false b h = cc
 
 -- where every hart has stopped
-stopped_at : (views : List HartView) (hart : ℕ) → list_all (λ view. has_stopped view.status) views ≡ true → has_stopped (slice_index_or views hart no_hart).status ≡ true
+stopped_at : (views : List HartView) (hart : ℕ) → all_stopped views ≡ true → has_stopped (slice_index_or views hart no_hart).status ≡ true
 stopped_at [] hart h = refl
 stopped_at (view ∷ views) zero h = both_left _ _ h
 stopped_at (view ∷ views) (suc hart) h = stopped_at views hart (both_right (has_stopped view.status) _ h)

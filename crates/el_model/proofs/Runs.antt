@@ -40,6 +40,10 @@ serial_run state (event ∷ events) =
     ∙ ap (λ committed. run committed (serial (entries_from (next state event).state events))) (next_effect state event)
     ∙ sym (run_append state.committed (replicate (effects (next state event).outcome) event.hart.number) (serial (entries_from (next state event).state events)))
 
+pub length-entries_from : (state : ModelState) (events : List Event) → length (entries_from state events) ≡ length events
+length-entries_from state [] = refl
+length-entries_from state (event ∷ events) = ap suc (length-entries_from (next state event).state events)
+
 -- the events and the outcomes of entries are those that were made
 pub events-entries_from : (state : ModelState) (made : List Event) → events (entries_from state made) ≡ made
 events-entries_from state [] = refl

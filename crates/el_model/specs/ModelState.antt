@@ -1,11 +1,12 @@
 -- the state of a machine, as its definition has it: no copies of memory, no buffers and no checkpoints
-use Rattle.std.specs.Prelude.{Bool, false, true}
+use Rattle.std.specs.Prelude.{Bool, false, true, List}
 use Rattle.std.specs.List.{list_all}
 use Rattle.el_base.specs.declared.outcomes.Outcome.{Outcome}
 use Rattle.el_base.specs.declared.settings.Config.{Config}
 use Rattle.elf_image.specs.Program.{Program}
 use Rattle.rv_alu.specs.declared.view.HartStatus.{HartStatus}
 use Rattle.rv_alu.specs.declared.view.HartStatus.TheVariants.{Running, Exited, Trapped}
+use Rattle.rv_alu.specs.declared.view.HartView.{HartView}
 use Rattle.rv_flat.specs.FlatState.{FlatState, start}
 
 -- the state that the program's effects have reached
@@ -27,6 +28,9 @@ has_stopped Running = false
 has_stopped (Exited code) = true
 has_stopped (Trapped cause pc) = true
 
+abbrev pub all_stopped : List HartView → Bool
+all_stopped views = list_all (λ view. has_stopped view.status) views
+
 -- every hart has stopped
 unfoldable pub is_over : ModelState → Bool
-is_over state = list_all (λ view. has_stopped view.status) state.committed.harts
+is_over state = all_stopped state.committed.harts

@@ -1,0 +1,52 @@
+-- stories that go on
+use Rattle.std.proofs.Common.{◌≡◌, ◌-◌, length, length-append, arith, List, [], ◌∷◌, ◌++◌, sym, ◌∙◌, ap, append-nil, append_assoc}
+use Rattle.std.proofs.lemmas.List.{map-append}
+use Rattle.chronicle.specs.Chronicle.{events}
+use Rattle.el_base.specs.declared.events.Event.{Event}
+use Rattle.el_base.specs.declared.outcomes.Outcome.{Outcome}
+use Rattle.el_model.proofs.Runs.{entries_from-append, length-entries_from, events-entries_from, state_after-append}
+use Rattle.el_model.specs.ModelState.{begin}
+use Rattle.el_model.specs.Runs.{after, entries_from, state_after}
+use Rattle.el_model.specs.Step.{next}
+use Rattle.machine.specs.Story.{Story, continued, left_of, state_of}
+
+-- the state after further events
+pub state_of_continued : (story : Story) (made : List Event) → state_of (continued story made) ≡ state_after (state_of story) made
+state_of_continued story made =
+    ap (λ list. after story.program story.config list)
+    (map-append _ story.entries (entries_from (state_of story) made)
+    ∙ ap (λ list. events story.entries ++ list) (events-entries_from (state_of story) made))
+    ∙ state_after-append (begin story.program story.config) (events story.entries) made
+
+-- a story that does not go on
+pub nothing_more : (story : Story) → continued story [] ≡ story
+nothing_more story = ap (λ list. record story { entries = list }) (append-nil story.entries)
+
+-- the steps that are left then
+pub left_of_continued : (story : Story) (made : List Event) → left_of (continued story made) ≡ left_of story - length made
+left_of_continued story made =
+    omega (arith, length-append story.entries (entries_from (state_of story) made), length-entries_from (state_of story) made)
+
+-- going on twice
+pub continued_twice : (story : Story) (first second : List Event) →
+    continued (continued story first) second ≡ continued story (first ++ second)
+continued_twice story first second =
+    ap (λ list. record story { entries = list })
+    (ap (λ state. (story.entries ++ entries_from (state_of story) first) ++ entries_from state second) (state_of_continued story first)
+    ∙ append_assoc story.entries (entries_from (state_of story) first) (entries_from (state_after (state_of story) first) second)
+    ∙ ap (λ list. story.entries ++ list) (sym (entries_from-append (state_of story) first second)))
+
+-- going on by one event, as a machine tells it
+pub continued_once : (story : Story) (event : Event) (outcome : Outcome) → outcome ≡ (next (state_of story) event).outcome →
+    record story { entries = story.entries ++ record { event = event; outcome = outcome } ∷ [] } ≡ continued story (event ∷ [])
+continued_once story event outcome told =
+    ap (λ o. record story { entries = story.entries ++ record { event = event; outcome = o } ∷ [] }) told
+
+-- one event more
+pub continued_more : (before now later : Story) (made : List Event) (event : Event) (outcome : Outcome) → now ≡ continued before made →
+    later ≡ record now { entries = now.entries ++ record { event = event; outcome = outcome } ∷ [] } →
+    outcome ≡ (next (state_of now) event).outcome → later ≡ continued before (made ++ event ∷ [])
+continued_more before now later made event outcome reached more told =
+    more ∙ continued_once now event outcome told
+    ∙ ap (λ story. continued story (event ∷ [])) reached
+    ∙ continued_twice before made (event ∷ [])

@@ -1,0 +1,4 @@
+mod Beginning
+pub mod Continued
+mod GoesOn
+mod Stopping

@@ -1,0 +1,20 @@
+//! Laws of stories. Each is the contract of a function that does nothing.
+
+ghost use Rattle.std.specs.Prelude.{◌≡◌, ◌++◌, List};
+ghost use Rattle.el_base.specs.declared.events.Event.{Event};
+ghost use Rattle.el_model.specs.Runs.{state_after};
+ghost use Rattle.machine.specs.Story.{Story, continued, state_of};
+
+/// A story that goes on by some events is in the state that they lead to.
+#[tactic(auto, using(crate::proofs::Continued::state_of_continued))]
+pub fn continued_story_reaches_the_state_after()
+    ensures { (story : Story) (made : List Event) →
+        state_of (continued story made) ≡ state_after (state_of story) made }
+{}
+
+/// To go on by some events and then by others is to go on by all of them.
+#[tactic(auto, using(crate::proofs::Continued::continued_twice))]
+pub fn stories_go_on_event_by_event()
+    ensures { (story : Story) (first second : List Event) →
+        continued (continued story first) second ≡ continued story (first ++ second) }
+{}

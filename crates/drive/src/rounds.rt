@@ -1,0 +1,46 @@
+ghost use Rattle.std.specs.Prelude.{◌≡◌, ◌<◌, ◌≤◌, ◌%◌, ◌/◌};
+ghost use Rattle.drive.specs.Drivers.{MakesRoundRobin};
+ghost use Rattle.el_model.specs.RoundRobin.{IsTurnAt, kind_place};
+
+use el_base::{Event, HartId, Kind};
+use machine::Machine;
+
+/// Makes events until every hart has stopped or no step is left: the harts in ascending order, each
+/// with an event of each kind, over and over.
+pub fn round_robin(machine: &mut Machine)
+    ensures { MakesRoundRobin machine.old machine.new }
+{
+    let harts = machine.config().harts;
+    for place in 0..machine.steps_left() {
+        if machine.over() {
+            break;
+        }
+        machine.step(turn_at(harts, place));
+    }
+}
+
+/// The event at a place of the round robin of so many harts.
+fn turn_at(harts: u8, place: u32) -> Event
+    requires some { 1 ≤ harts }
+    requires few { harts ≤ 8 }
+    ensures { IsTurnAt harts place result }
+{
+    Event {
+        kind: kind_at(place),
+        hart: HartId {
+            number: (place / 4 % u32::from(harts)) as u8,
+        },
+    }
+}
+
+/// The kind at a place: each hart's turn has one event of each kind.
+fn kind_at(place: u32) -> Kind
+    ensures { kind_place result ≡ place % 4 }
+{
+    match place % 4 {
+        0 => Kind::Step,
+        1 => Kind::Order,
+        2 => Kind::Serve,
+        _ => Kind::Deliver,
+    }
+}

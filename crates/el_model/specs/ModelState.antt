@@ -1,5 +1,5 @@
 -- the state of a machine, as its definition has it: no copies of memory, no buffers and no checkpoints
-use Rattle.std.specs.Prelude.{Bool, false, true, List}
+use Rattle.std.specs.Prelude.{ℕ, Bool, false, true, List}
 use Rattle.std.specs.List.{list_all}
 use Rattle.el_base.specs.declared.outcomes.Outcome.{Outcome}
 use Rattle.el_base.specs.declared.settings.Config.{Config}
@@ -7,7 +7,7 @@ use Rattle.elf_image.specs.Program.{Program}
 use Rattle.rv_alu.specs.declared.view.HartStatus.{HartStatus}
 use Rattle.rv_alu.specs.declared.view.HartStatus.TheVariants.{Running, Exited, Trapped}
 use Rattle.rv_alu.specs.declared.view.HartView.{HartView}
-use Rattle.rv_flat.specs.FlatState.{FlatState, start}
+use Rattle.rv_flat.specs.FlatState.{FlatState, start, view_of}
 
 -- the state that the program's effects have reached
 pub record ModelState : Type 0 where
@@ -21,6 +21,10 @@ pub record Turn : Type 0 where
 -- a program before its first event
 unfoldable pub begin : Program → Config → ModelState
 begin program config = record { committed = start program }
+
+-- what a hart itself sees: outside of a section, its view in the committed state
+abbrev pub shown_of : ModelState → ℕ → HartView
+shown_of state hart = view_of state.committed hart
 
 -- it exited or trapped
 abbrev pub has_stopped : HartStatus → Bool

@@ -15,7 +15,7 @@ use Rattle.el_model.specs.ModelState.{ModelState, begin}
 use Rattle.el_model.specs.Runs.{after, outcomes}
 use Rattle.el_model.specs.Step.{next}
 use Rattle.machine.specs.Stands.{Stands}
-use Rattle.machine.specs.Story.{Story, IsOneRun, committed, left_of, state_of}
+use Rattle.machine.specs.Story.{Story, IsOneRun, committed, left_of, memory_of, state_of}
 use Rattle.rv_flat.proofs.StepLaws.{run_append}
 use Rattle.rv_flat.specs.FlatState.{FlatState, span_of, start}
 use Rattle.rv_flat.specs.Laws.{KeepsShape}
@@ -104,8 +104,7 @@ stands_more story old new room event outcome stands below left state told =
 
 -- memory lies where the program's does
 pub same_span : (story : Story) (reached : ModelState) (room : ℕ) → Stands story reached room →
-    span_of reached.committed ≡ span_of (start story.program)
-unfolding start
+    span_of reached.committed ≡ memory_of story.program
 same_span story reached room stands =
     let now : reached.committed ≡ committed story = ap (λ s. s.committed) stands.state ∙ stands.run.committed in
     ap span_of now

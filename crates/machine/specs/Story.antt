@@ -1,5 +1,5 @@
 -- a machine as contracts see it
-use Rattle.std.specs.Prelude.{ℕ, ◌≡◌, ◌-◌, ◌++◌, List, length, map}
+use Rattle.std.specs.Prelude.{ℕ, ◌≡◌, ◌+◌, ◌-◌, ◌++◌, List, length, map}
 use Rattle.chronicle.specs.Chronicle.{Chronicle, events}
 use Rattle.chronicle.specs.Serial.{serial}
 use Rattle.el_base.specs.declared.entries.Entry.{Entry}
@@ -8,6 +8,7 @@ use Rattle.el_base.specs.declared.settings.Config.{Config}
 use Rattle.el_model.specs.ModelState.{ModelState}
 use Rattle.el_model.specs.Runs.{after, entries_from, outcomes}
 use Rattle.elf_image.specs.Program.{Program}
+use Rattle.rv_alu.specs.declared.span.Span.{Span}
 use Rattle.rv_flat.specs.FlatState.{FlatState, start}
 use Rattle.rv_flat.specs.Run.{run}
 
@@ -24,6 +25,10 @@ state_of story = after story.program story.config (events story.entries)
 -- the state of one run of the program on plain shared memory, in the serial order of these events
 abbrev pub committed : Story → FlatState
 committed story = run (start story.program) (serial story.entries)
+
+-- the addresses of memory
+abbrev pub memory_of : Program → Span
+memory_of program = record { base = program.base; end = program.base + length program.bytes }
 
 -- how many more events may be made
 abbrev pub left_of : Story → ℕ

@@ -1,6 +1,6 @@
 ghost use Rattle.std.specs.Prelude.{◌≡◌, ◌<◌, ◌≤◌, ◌↔◌, IfOk, IfSome, IsNone, length, false};
 ghost use Rattle.el_base.specs.declared.settings.Config.{Config};
-ghost use Rattle.el_model.specs.ModelState.{begin, is_over};
+ghost use Rattle.el_model.specs.ModelState.{begin, is_over, shown_of};
 ghost use Rattle.el_model.specs.Step.{next, step_turn};
 ghost use Rattle.rv_alu.specs.Span.{holds};
 ghost use Rattle.rv_flat.specs.FlatState.{output_limit, span_of, view_of};
@@ -88,6 +88,14 @@ impl Engine {
     pub fn hart(&self, hart: HartId) -> HartView
         requires { hart.number < length self.now.committed.harts }
         ensures { result ≡ view_of self.now.committed hart.number }
+    {
+        self.flat.hart(hart)
+    }
+
+    /// What a hart itself sees.
+    pub fn shown(&self, hart: HartId) -> HartView
+        requires { hart.number < length self.now.committed.harts }
+        ensures { result ≡ shown_of self.now hart.number }
     {
         self.flat.hart(hart)
     }

@@ -22,11 +22,11 @@ ghost use Rattle.chronicle.specs.Chronicle.{events};
 ghost use Rattle.el_base.specs.Config.{IsInRange, config_fault};
 ghost use Rattle.el_base.specs.declared.settings.ConfigFault.{ConfigFault};
 ghost use Rattle.el_base.specs.declared.settings.Mode.TheVariants.{Plain};
-ghost use Rattle.el_model.specs.ModelState.{is_over};
+ghost use Rattle.el_model.specs.ModelState.{is_over, shown_of};
 ghost use Rattle.el_model.specs.Step.{next};
-ghost use Rattle.machine.specs.Story.{IsOneRun, Story, committed, history_of, left_of, state_of};
+ghost use Rattle.machine.specs.Story.{IsOneRun, Story, committed, history_of, left_of, memory_of, state_of};
 ghost use Rattle.rv_alu.specs.Span.{holds};
-ghost use Rattle.rv_flat.specs.FlatState.{output_limit, span_of, start, view_of};
+ghost use Rattle.rv_flat.specs.FlatState.{output_limit, view_of};
 ghost use Rattle.rv_flat.specs.Memory.{byte_in};
 
 use crate::engine::Engine;
@@ -144,17 +144,17 @@ impl Machine {
         self.engine.hart(hart)
     }
 
-    /// What a hart itself sees. Outside of a section it is the committed view.
+    /// What a hart itself sees: outside of a section, its committed view.
     pub fn shown(&self, hart: HartId) -> HartView
         requires { hart.number < self.now.config.harts }
-        ensures { result ≡ view_of (committed self.now) hart.number }
+        ensures { result ≡ shown_of (state_of self.now) hart.number }
     {
-        self.engine.hart(hart)
+        self.engine.shown(hart)
     }
 
     /// The committed byte at an address, or none outside memory.
     pub fn byte(&self, address: u32) -> Option<u8>
-        ensures none_exactly_outside { IsNone result ↔ (holds (span_of (start self.now.program)) address 1 ≡ false) }
+        ensures none_exactly_outside { IsNone result ↔ (holds (memory_of self.now.program) address 1 ≡ false) }
         ensures exact { IfSome result (λ byte. byte ≡ byte_in self.now.program.base (committed self.now).bytes address) }
     {
         self.engine.byte(address)

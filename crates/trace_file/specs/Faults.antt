@@ -1,0 +1,142 @@
+-- The faults of a trace: the file is read from left to right, each field is judged as soon as it is
+-- whole, and the first fault is the answer.
+use Rattle.std.specs.Prelude.{◌≡◌, ℕ, ◌+◌, ◌/◌, ◌%◌, Bool, not, ◌&&◌, ◌==◌, nat_lt, nat_le, if◌then◌else◌, List, [], ◌∷◌, length, take, drop, slice_index, Option, Some, None, Result, Ok, Err, position}
+use Rattle.std.specs.Option.{option_or, option_map}
+use Rattle.std.specs.List.{list_any}
+use Rattle.byteorder.specs.Endian.{little_number}
+use Rattle.el_base.specs.Config.{within, set_counts}
+use Rattle.el_base.specs.declared.settings.Config as settings
+use Rattle.el_base.specs.declared.settings.Mode.{Mode}
+use Rattle.el_base.specs.declared.settings.Mode.TheVariants.{Plain, Sle, Tlr}
+use Rattle.trace_file.specs.declared.fault.FaultKind.{FaultKind}
+use Rattle.trace_file.specs.declared.fault.FaultKind.TheVariants.{Short, Magic, Version, Config, Event, Tail}
+use Rattle.trace_file.specs.declared.fault.TraceFault.{TraceFault}
+use Rattle.trace_file.specs.declared.fault.TraceFault.TheVariants.{Bad}
+
+abbrev pub number_of : FaultKind → ℕ
+number_of Short = 1
+number_of Magic = 2
+number_of Version = 3
+number_of Config = 4
+number_of Event = 5
+number_of Tail = 6
+
+-- the fault of a kind at a place of the file
+abbrev pub fault_of : FaultKind → ℕ → TraceFault
+fault_of kind place = Bad (number_of kind) place
+
+abbrev pub fault_if : Bool → FaultKind → ℕ → Option TraceFault
+fault_if condition kind place = if condition then Some (fault_of kind place) else None
+
+-- the first that is some
+abbrev pub first_of : List (Option TraceFault) → Option TraceFault
+first_of [] = None
+first_of (fault ∷ faults) = option_or fault (first_of faults)
+
+-- a field that ends at this place: the file ends in it, or it has this fault, if it has one
+unfoldable pub field : List ℕ → ℕ → Option TraceFault → Option TraceFault
+field file end fault = if nat_lt (length file) end then Some (fault_of Short (length file)) else fault
+
+-- the byte at a place is not the one that is wanted there
+abbrev pub wrong : List ℕ → ℕ → ℕ → FaultKind → Option TraceFault
+wrong file place wanted kind = fault_if (not (slice_index file place == wanted)) kind place
+
+-- the number of four bytes at a place, the lowest first
+abbrev pub number_at : List ℕ → ℕ → ℕ
+number_at file place = little_number 4 (drop place file)
+
+-- a byte of the configuration, and a number of four bytes
+unfoldable pub byte_fault : List ℕ → ℕ → ℕ → ℕ → Option TraceFault
+byte_fault file place low high =
+    field file (place + 1) (fault_if (not (within low high (slice_index file place))) Config place)
+
+unfoldable pub number_fault : List ℕ → ℕ → ℕ → ℕ → Option TraceFault
+number_fault file place low high =
+    field file (place + 4) (fault_if (not (within low high (number_at file place))) Config place)
+
+unfoldable pub magic_fault : List ℕ → Option TraceFault
+magic_fault file =
+    field file 4
+      (first_of
+        ( wrong file 0 0x45 Magic
+        ∷ wrong file 1 0x4c Magic
+        ∷ wrong file 2 0x54 Magic
+        ∷ wrong file 3 0x52 Magic
+        ∷ []))
+
+unfoldable pub version_fault : List ℕ → Option TraceFault
+version_fault file = field file 5 (wrong file 4 1 Version)
+
+unfoldable pub sets_fault : List ℕ → Option TraceFault
+sets_fault file =
+    field file 8 (fault_if (not (list_any (λ n. n == slice_index file 7) set_counts)) Config 7)
+
+-- the last number of a mode that machines are built for
+abbrev pub last_mode : ℕ
+last_mode = 0
+
+-- the fields of the configuration, in their order
+unfoldable pub settings_fault : List ℕ → Option TraceFault
+settings_fault file =
+    first_of
+      ( byte_fault file 5 1 8
+      ∷ byte_fault file 6 0 last_mode
+      ∷ sets_fault file
+      ∷ byte_fault file 8 1 8
+      ∷ byte_fault file 9 1 32
+      ∷ number_fault file 10 2 65536
+      ∷ number_fault file 14 1 16777216
+      ∷ [])
+
+-- the fields before the events; there are no more events than steps
+unfoldable pub head_fault : List ℕ → Option TraceFault
+head_fault file =
+    first_of
+      ( magic_fault file
+      ∷ version_fault file
+      ∷ settings_fault file
+      ∷ number_fault file 18 0 (number_at file 14)
+      ∷ [])
+
+-- the byte of an event: a kind of 0 to 3 above a hart below this many
+abbrev pub is_event : ℕ → ℕ → Bool
+is_event harts byte = nat_le (byte / 16) 3 && nat_lt (byte % 16) harts
+
+-- the bytes of the events, as many as are there
+abbrev pub event_bytes : List ℕ → List ℕ
+event_bytes file = take (number_at file 18) (drop 22 file)
+
+unfoldable pub event_fault : List ℕ → Option TraceFault
+event_fault file =
+    option_map
+      (λ i. fault_of Event (22 + i))
+      (position (λ byte. not (is_event (slice_index file 5) byte)) (event_bytes file))
+
+-- the file ends before the last event, or goes on behind it
+unfoldable pub end_fault : List ℕ → Option TraceFault
+end_fault file =
+    field file (22 + number_at file 18) (fault_if (nat_lt (22 + number_at file 18) (length file)) Tail (22 + number_at file 18))
+
+-- the first fault of a file, if it has one
+unfoldable pub trace_fault : List ℕ → Option TraceFault
+trace_fault file = first_of (head_fault file ∷ event_fault file ∷ end_fault file ∷ [])
+
+-- what the fields of the configuration say
+abbrev pub mode_at : ℕ → Mode
+mode_at number = if number == 0 then Plain else if number == 1 then Sle else Tlr
+
+unfoldable pub config_at : List ℕ → settings.Config
+config_at file = record {
+    harts = slice_index file 5;
+    mode = mode_at (slice_index file 6);
+    sets = slice_index file 7;
+    ways = slice_index file 8;
+    lines = slice_index file 9;
+    long = number_at file 10;
+    steps = number_at file 14
+}
+
+-- what a reader of a field answers: the value, or the fault
+abbrev pub Answers : {X : Type 0} → Result X TraceFault → X → Option TraceFault → Type 0
+Answers (Ok x) value fault = (x ≡ value) × (fault ≡ None)
+Answers (Err e) value fault = fault ≡ Some e

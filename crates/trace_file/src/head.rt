@@ -1,0 +1,98 @@
+//! The fields before the events.
+
+ghost use Rattle.std.specs.Prelude.{◌≡◌, ◌≤◌, None, Some, length, slice_index, MatchResult};
+ghost use Rattle.trace_file.specs.Faults.{Answers, head_fault, magic_fault, version_fault, sets_fault, settings_fault, number_at, mode_at, config_at};
+
+use crate::fault::{FaultKind, TraceFault};
+use crate::fields::{byte_within, expect, number_within, reaches};
+use el_base::{Config, Mode};
+
+/// The configuration of a trace, and how many events it says that it has.
+pub struct Head {
+    pub config: Config,
+    pub count: u32,
+}
+
+/// The fields before the events, or the first fault among them.
+#[tactic(auto, unfolding(crate::specs::Faults::head_fault, crate::specs::Faults::config_at))]
+pub fn head_of(file: &[u8]) -> Result<Head, TraceFault>
+    ensures {
+        MatchResult result
+            (λ head. (head.config ≡ config_at file.now)
+                × (head.count ≡ number_at file.now 18)
+                × (22 ≤ length file.now)
+                × (head_fault file.now ≡ None))
+            (λ fault. head_fault file.now ≡ Some fault)
+    }
+{
+    check_magic(file)?;
+    check_version(file)?;
+    let config = config_of(file)?;
+    let count = number_within(file, 18, 0, config.steps)?;
+    Ok(Head { config, count })
+}
+
+#[tactic(auto, unfolding(crate::specs::Faults::field, crate::specs::Faults::magic_fault))]
+fn check_magic(file: &[u8]) -> Result<(), TraceFault>
+    ensures { MatchResult result (λ _. magic_fault file.now ≡ None) (λ fault. magic_fault file.now ≡ Some fault) }
+{
+    reaches(file, 4)?;
+    expect(file[0] == b'E', FaultKind::Magic, 0)?;
+    expect(file[1] == b'L', FaultKind::Magic, 1)?;
+    expect(file[2] == b'T', FaultKind::Magic, 2)?;
+    expect(file[3] == b'R', FaultKind::Magic, 3)
+}
+
+#[tactic(auto, unfolding(crate::specs::Faults::field, crate::specs::Faults::version_fault))]
+fn check_version(file: &[u8]) -> Result<(), TraceFault>
+    ensures { MatchResult result (λ _. version_fault file.now ≡ None) (λ fault. version_fault file.now ≡ Some fault) }
+{
+    reaches(file, 5)?;
+    expect(file[4] == 1, FaultKind::Version, 4)
+}
+
+#[tactic(auto, unfolding(crate::specs::Faults::settings_fault, crate::specs::Faults::config_at))]
+fn config_of(file: &[u8]) -> Result<Config, TraceFault>
+    ensures { Answers result (config_at file.now) (settings_fault file.now) }
+{
+    let harts = byte_within(file, 5, 1, 8)?;
+    let mode = mode_of(byte_within(file, 6, 0, LAST_MODE)?);
+    let sets = sets_of(file)?;
+    let ways = byte_within(file, 8, 1, 8)?;
+    let lines = byte_within(file, 9, 1, 32)?;
+    let long = number_within(file, 10, 2, 65_536)?;
+    let steps = number_within(file, 14, 1, 16_777_216)?;
+    Ok(Config {
+        harts,
+        mode,
+        sets,
+        ways,
+        lines,
+        long,
+        steps,
+    })
+}
+
+/// The last number of a mode that machines are built for: so far 0, the plain one.
+const LAST_MODE: u8 = 0;
+
+fn mode_of(number: u8) -> Mode
+    ensures { result ≡ mode_at number }
+{
+    match number {
+        0 => Mode::Plain,
+        1 => Mode::Sle,
+        _ => Mode::Tlr,
+    }
+}
+
+#[tactic(auto, unfolding(crate::specs::Faults::field, crate::specs::Faults::sets_fault))]
+fn sets_of(file: &[u8]) -> Result<u8, TraceFault>
+    ensures { Answers result (slice_index file.now 7) (sets_fault file.now) }
+{
+    reaches(file, 8)?;
+    let sets = file[7];
+    let known = matches!(sets, 1 | 2 | 4 | 8 | 16 | 32 | 64);
+    expect(known, FaultKind::Config, 7)?;
+    Ok(sets)
+}

@@ -1,0 +1,16 @@
+//! Traces: the configuration of a run and the events that it made, as a file.
+//!
+//! It stands on `el_base`, `chronicle`, `el_io`, `byteorder` and `thiserror`. The form is this
+//! project's own, version 1: 22 bytes of head, and one byte an event. A trace has one spelling, and
+//! each file that is no spelling has one first fault, read from left to right. `read_trace` answers
+//! one or the other for every string of bytes, and `write_trace` writes the spelling.
+#![tactic(auto)]
+
+mod fault;
+mod fields;
+mod head;
+
+
+pub use fault::TraceFault;
+
+

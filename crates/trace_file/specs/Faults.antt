@@ -102,24 +102,25 @@ head_fault file =
 abbrev pub is_event : ℕ → ℕ → Bool
 is_event harts byte = nat_le (byte / 16) 3 && nat_lt (byte % 16) harts
 
--- the bytes of the events, as many as are there
-abbrev pub event_bytes : List ℕ → List ℕ
-event_bytes file = take (number_at file 18) (drop 22 file)
-
-unfoldable pub event_fault : List ℕ → Option TraceFault
-event_fault file =
+-- the first byte that is no event, among those of this many events that are there
+unfoldable pub event_fault : ℕ → ℕ → List ℕ → Option TraceFault
+event_fault harts count file =
     option_map
       (λ i. fault_of Event (22 + i))
-      (position (λ byte. not (is_event (slice_index file 5) byte)) (event_bytes file))
+      (position (λ byte. not (is_event harts byte)) (take count (drop 22 file)))
 
--- the file ends before the last event, or goes on behind it
-unfoldable pub end_fault : List ℕ → Option TraceFault
-end_fault file =
-    field file (22 + number_at file 18) (fault_if (nat_lt (22 + number_at file 18) (length file)) Tail (22 + number_at file 18))
+-- the file ends before the last of this many events, or goes on behind it
+unfoldable pub end_fault : ℕ → List ℕ → Option TraceFault
+end_fault count file = field file (22 + count) (fault_if (nat_lt (22 + count) (length file)) Tail (22 + count))
 
 -- the first fault of a file, if it has one
 unfoldable pub trace_fault : List ℕ → Option TraceFault
-trace_fault file = first_of (head_fault file ∷ event_fault file ∷ end_fault file ∷ [])
+trace_fault file =
+    first_of
+      ( head_fault file
+      ∷ event_fault (slice_index file 5) (number_at file 18) file
+      ∷ end_fault (number_at file 18) file
+      ∷ [])
 
 -- what the fields of the configuration say
 abbrev pub mode_at : ℕ → Mode

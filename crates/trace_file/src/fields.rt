@@ -36,9 +36,10 @@ pub fn expect(holds: bool, kind: FaultKind, place: u32) -> Result<(), TraceFault
 #[tactic(auto, unfolding(crate::specs::Faults::field, crate::specs::Faults::byte_fault))]
 pub fn byte_within(file: &[u8], place: u32, low: u8, high: u8) -> Result<u8, TraceFault>
     requires { place < 22 }
-    ensures {
+    ensures exact {
         Answers result (slice_index file.now place) (byte_fault file.now place low high)
     }
+    ensures inside { IfOk result (λ byte. (low ≤ byte) × (byte ≤ high)) }
 {
     reaches(file, place + 1)?;
     let byte = file[place as usize];
@@ -53,7 +54,8 @@ pub fn number_within(file: &[u8], place: u32, low: u32, high: u32) -> Result<u32
     ensures exact {
         Answers result (number_at file.now place) (number_fault file.now place low high)
     }
-    ensures inside { IfOk result (λ _. place + 4 ≤ length file.now) }
+    ensures inside { IfOk result (λ number. (low ≤ number) × (number ≤ high)) }
+    ensures whole { IfOk result (λ _. place + 4 ≤ length file.now) }
 {
     reaches(file, place + 4)?;
     let number = LittleEndian::read_u32(&file[place as usize..]);

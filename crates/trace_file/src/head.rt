@@ -1,6 +1,8 @@
 //! The fields before the events.
 
-ghost use Rattle.std.specs.Prelude.{◌≡◌, ◌≤◌, None, Some, length, slice_index, MatchResult};
+ghost use Rattle.std.specs.Prelude.{◌≡◌, ◌≤◌, None, Some, length, slice_index, IsTrue, IfOk, ◌==◌, MatchResult};
+ghost use Rattle.std.specs.List.{list_any};
+ghost use Rattle.el_base.specs.Config.{IsInRange, set_counts};
 ghost use Rattle.trace_file.specs.Faults.{Answers, head_fault, magic_fault, version_fault, sets_fault, settings_fault, number_at, mode_at, config_at};
 
 use crate::fault::{FaultKind, TraceFault};
@@ -16,14 +18,16 @@ pub struct Head {
 /// The fields before the events, or the first fault among them.
 #[tactic(auto, unfolding(crate::specs::Faults::head_fault, crate::specs::Faults::config_at))]
 pub fn head_of(file: &[u8]) -> Result<Head, TraceFault>
-    ensures {
+    ensures exact {
         MatchResult result
             (λ head. (head.config ≡ config_at file.now)
                 × (head.count ≡ number_at file.now 18)
-                × (22 ≤ length file.now)
                 × (head_fault file.now ≡ None))
             (λ fault. head_fault file.now ≡ Some fault)
     }
+    ensures whole { IfOk result (λ _. 22 ≤ length file.now) }
+    ensures settings { IfOk result (λ head. IsInRange head.config × (head.config.mode ≡ Mode.Plain)) }
+    ensures few { IfOk result (λ head. head.count ≤ head.config.steps) }
 {
     check_magic(file)?;
     check_version(file)?;
@@ -53,7 +57,9 @@ fn check_version(file: &[u8]) -> Result<(), TraceFault>
 
 #[tactic(auto, unfolding(crate::specs::Faults::settings_fault, crate::specs::Faults::config_at))]
 fn config_of(file: &[u8]) -> Result<Config, TraceFault>
-    ensures { Answers result (config_at file.now) (settings_fault file.now) }
+    ensures exact { Answers result (config_at file.now) (settings_fault file.now) }
+    ensures in_range { IfOk result (λ config. IsInRange config) }
+    ensures is_built { IfOk result (λ config. config.mode ≡ Mode.Plain) }
 {
     let harts = byte_within(file, 5, 1, 8)?;
     let mode = mode_of(byte_within(file, 6, 0, LAST_MODE)?);
@@ -88,7 +94,8 @@ fn mode_of(number: u8) -> Mode
 
 #[tactic(auto, unfolding(crate::specs::Faults::field, crate::specs::Faults::sets_fault))]
 fn sets_of(file: &[u8]) -> Result<u8, TraceFault>
-    ensures { Answers result (slice_index file.now 7) (sets_fault file.now) }
+    ensures exact { Answers result (slice_index file.now 7) (sets_fault file.now) }
+    ensures known { IfOk result (λ sets. IsTrue (list_any (λ n. n == sets) set_counts)) }
 {
     reaches(file, 8)?;
     let sets = file[7];

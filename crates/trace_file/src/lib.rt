@@ -6,11 +6,14 @@
 //! one or the other for every string of bytes, and `write_trace` writes the spelling.
 #![tactic(auto)]
 
+mod content;
 mod fault;
 mod fields;
 mod head;
+mod reading;
 
 
+pub use content::{Events, Trace};
 pub use fault::TraceFault;
 
 

@@ -10,8 +10,7 @@ use Rattle.el_base.specs.declared.settings.Mode.{Mode}
 use Rattle.el_base.specs.declared.settings.Mode.TheVariants.{Plain, Sle, Tlr}
 use Rattle.trace_file.specs.declared.fault.FaultKind.{FaultKind}
 use Rattle.trace_file.specs.declared.fault.FaultKind.TheVariants.{Short, Magic, Version, Config, Event, Tail}
-use Rattle.trace_file.specs.declared.fault.TraceFault.{TraceFault}
-use Rattle.trace_file.specs.declared.fault.TraceFault.TheVariants.{Bad}
+use Rattle.trace_file.specs.declared.fault.Fault.{Fault}
 
 abbrev pub number_of : FaultKind → ℕ
 number_of Short = 1
@@ -22,23 +21,23 @@ number_of Event = 5
 number_of Tail = 6
 
 -- the fault of a kind at a place of the file
-abbrev pub fault_of : FaultKind → ℕ → TraceFault
-fault_of kind place = Bad (number_of kind) place
+abbrev pub fault_of : FaultKind → ℕ → Fault
+fault_of kind place = record { number = number_of kind; place = place }
 
-abbrev pub fault_if : Bool → FaultKind → ℕ → Option TraceFault
+abbrev pub fault_if : Bool → FaultKind → ℕ → Option Fault
 fault_if condition kind place = if condition then Some (fault_of kind place) else None
 
 -- the first that is some
-abbrev pub first_of : List (Option TraceFault) → Option TraceFault
+abbrev pub first_of : List (Option Fault) → Option Fault
 first_of [] = None
 first_of (fault ∷ faults) = option_or fault (first_of faults)
 
 -- a field that ends at this place: the file ends in it, or it has this fault, if it has one
-unfoldable pub field : List ℕ → ℕ → Option TraceFault → Option TraceFault
+unfoldable pub field : List ℕ → ℕ → Option Fault → Option Fault
 field file end fault = if nat_lt (length file) end then Some (fault_of Short (length file)) else fault
 
 -- the byte at a place is not the one that is wanted there
-abbrev pub wrong : List ℕ → ℕ → ℕ → FaultKind → Option TraceFault
+abbrev pub wrong : List ℕ → ℕ → ℕ → FaultKind → Option Fault
 wrong file place wanted kind = fault_if (not (slice_index file place == wanted)) kind place
 
 -- the number of four bytes at a place, the lowest first
@@ -46,15 +45,15 @@ abbrev pub number_at : List ℕ → ℕ → ℕ
 number_at file place = little_number 4 (drop place file)
 
 -- a byte of the configuration, and a number of four bytes
-unfoldable pub byte_fault : List ℕ → ℕ → ℕ → ℕ → Option TraceFault
+unfoldable pub byte_fault : List ℕ → ℕ → ℕ → ℕ → Option Fault
 byte_fault file place low high =
     field file (place + 1) (fault_if (not (within low high (slice_index file place))) Config place)
 
-unfoldable pub number_fault : List ℕ → ℕ → ℕ → ℕ → Option TraceFault
+unfoldable pub number_fault : List ℕ → ℕ → ℕ → ℕ → Option Fault
 number_fault file place low high =
     field file (place + 4) (fault_if (not (within low high (number_at file place))) Config place)
 
-unfoldable pub magic_fault : List ℕ → Option TraceFault
+unfoldable pub magic_fault : List ℕ → Option Fault
 magic_fault file =
     field file 4
       (first_of
@@ -64,10 +63,10 @@ magic_fault file =
         ∷ wrong file 3 0x52 Magic
         ∷ []))
 
-unfoldable pub version_fault : List ℕ → Option TraceFault
+unfoldable pub version_fault : List ℕ → Option Fault
 version_fault file = field file 5 (wrong file 4 1 Version)
 
-unfoldable pub sets_fault : List ℕ → Option TraceFault
+unfoldable pub sets_fault : List ℕ → Option Fault
 sets_fault file =
     field file 8 (fault_if (not (list_any (λ n. n == slice_index file 7) set_counts)) Config 7)
 
@@ -76,7 +75,7 @@ abbrev pub last_mode : ℕ
 last_mode = 0
 
 -- the fields of the configuration, in their order
-unfoldable pub settings_fault : List ℕ → Option TraceFault
+unfoldable pub settings_fault : List ℕ → Option Fault
 settings_fault file =
     first_of
       ( byte_fault file 5 1 8
@@ -89,7 +88,7 @@ settings_fault file =
       ∷ [])
 
 -- the fields before the events; there are no more events than steps
-unfoldable pub head_fault : List ℕ → Option TraceFault
+unfoldable pub head_fault : List ℕ → Option Fault
 head_fault file =
     first_of
       ( magic_fault file
@@ -103,18 +102,18 @@ abbrev pub is_event : ℕ → ℕ → Bool
 is_event harts byte = nat_le (byte / 16) 3 && nat_lt (byte % 16) harts
 
 -- the first byte that is no event, among those of this many events that are there
-unfoldable pub event_fault : ℕ → ℕ → List ℕ → Option TraceFault
+unfoldable pub event_fault : ℕ → ℕ → List ℕ → Option Fault
 event_fault harts count file =
     option_map
       (λ i. fault_of Event (22 + i))
       (position (λ byte. not (is_event harts byte)) (take count (drop 22 file)))
 
 -- the file ends before the last of this many events, or goes on behind it
-unfoldable pub end_fault : ℕ → List ℕ → Option TraceFault
+unfoldable pub end_fault : ℕ → List ℕ → Option Fault
 end_fault count file = field file (22 + count) (fault_if (nat_lt (22 + count) (length file)) Tail (22 + count))
 
 -- the first fault of a file, if it has one
-unfoldable pub trace_fault : List ℕ → Option TraceFault
+unfoldable pub trace_fault : List ℕ → Option Fault
 trace_fault file =
     first_of
       ( head_fault file
@@ -138,6 +137,6 @@ config_at file = record {
 }
 
 -- what a reader of a field answers: the value, or the fault
-abbrev pub Answers : {X : Type 0} → Result X TraceFault → X → Option TraceFault → Type 0
+abbrev pub Answers : {X : Type 0} → Result X Fault → X → Option Fault → Type 0
 Answers (Ok x) value fault = (x ≡ value) × (fault ≡ None)
 Answers (Err e) value fault = fault ≡ Some e

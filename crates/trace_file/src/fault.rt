@@ -1,6 +1,6 @@
 //! What is wrong with a file that is no trace.
 
-use std::alloc::{AllocError, AllocFailed};
+use el_base::NoMemory;
 use thiserror::Error;
 
 /// The kinds of faults, by number.
@@ -20,6 +20,28 @@ pub enum FaultKind {
     Tail = 6,
 }
 
+/// A fault of a file: its number, and the place in the file that shows it.
+#[derive(Clone, Copy, Debug, PartialEq, Eq)]
+pub struct Fault {
+    pub number: u8,
+    pub place: u32,
+}
+
+impl Fault {
+    ghost use Rattle.std.specs.Prelude.{◌≡◌};
+    ghost use Rattle.trace_file.specs.Faults.{fault_of};
+
+    /// The fault of a kind at a place of the file.
+    pub fn new(kind: FaultKind, place: u32) -> Fault
+        ensures { result ≡ fault_of kind place }
+    {
+        Fault {
+            number: kind as u8,
+            place,
+        }
+    }
+}
+
 /// Why a file was not read as a trace.
 #[derive(Clone, Copy, Debug, PartialEq, Eq, Error)]
 pub enum TraceFault {
@@ -32,39 +54,27 @@ pub enum TraceFault {
     NoMemory,
 }
 
-impl TraceFault {
+impl From<Fault> for TraceFault {
     ghost use Rattle.std.specs.Prelude.{◌≡◌};
-    ghost use Rattle.trace_file.specs.Faults.{fault_of};
+    ghost use Rattle.trace_file.specs.declared.fault.TraceFault.TheVariants.{Bad};
 
-    /// The fault of a kind at a place of the file.
-    pub(crate) fn new(kind: FaultKind, place: u32) -> TraceFault
-        ensures { result ≡ fault_of kind place }
-    {
+    ghost from_gives = { λ fault answer. answer ≡ Bad fault.number fault.place };
+
+    fn from(fault: Fault) -> TraceFault {
         TraceFault::Bad {
-            number: kind as u8,
-            place,
+            number: fault.number,
+            place: fault.place,
         }
     }
 }
 
-impl From<AllocError> for TraceFault {
+impl From<NoMemory> for TraceFault {
     ghost use Rattle.std.specs.Prelude.{◌≡◌};
     ghost use Rattle.trace_file.specs.declared.fault.TraceFault.TheVariants.{NoMemory};
 
-    ghost from_gives = { λ _ fault. fault ≡ NoMemory };
+    ghost from_gives = { λ _ answer. answer ≡ NoMemory };
 
-    fn from(_refused: AllocError) -> TraceFault {
-        TraceFault::NoMemory
-    }
-}
-
-impl<T: Drop> From<AllocFailed<T>> for TraceFault {
-    ghost use Rattle.std.specs.Prelude.{◌≡◌};
-    ghost use Rattle.trace_file.specs.declared.fault.TraceFault.TheVariants.{NoMemory};
-
-    ghost from_gives = { λ _ fault. fault ≡ NoMemory };
-
-    fn from(_refused: AllocFailed<T>) -> TraceFault {
+    fn from(_refused: NoMemory) -> TraceFault {
         TraceFault::NoMemory
     }
 }

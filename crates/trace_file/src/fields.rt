@@ -3,12 +3,12 @@
 ghost use Rattle.std.specs.Prelude.{◌≡◌, ◌+◌, ◌<◌, ◌≤◌, ◌^◌, None, Some, not, length, slice_index, IfOk, MatchResult};
 ghost use Rattle.trace_file.specs.Faults.{Answers, field, wrong, fault_if, fault_of, byte_fault, number_at, number_fault};
 
-use crate::fault::{FaultKind, TraceFault};
+use crate::fault::{Fault, FaultKind};
 use byteorder::{ByteOrder, LittleEndian};
 
 /// That the file does not end before this place.
 #[tactic(auto, unfolding(crate::specs::Faults::field))]
-pub fn reaches(file: &[u8], end: u32) -> Result<(), TraceFault>
+pub fn reaches(file: &[u8], end: u32) -> Result<(), Fault>
     ensures {
         MatchResult result
             (λ _. end ≤ length file.now)
@@ -16,25 +16,25 @@ pub fn reaches(file: &[u8], end: u32) -> Result<(), TraceFault>
     }
 {
     if file.len() < end as usize {
-        return Err(TraceFault::new(FaultKind::Short, file.len() as u32));
+        return Err(Fault::new(FaultKind::Short, file.len() as u32));
     }
     Ok(())
 }
 
 /// That a condition holds. Where it does not, the place shows the fault.
-pub fn expect(holds: bool, kind: FaultKind, place: u32) -> Result<(), TraceFault>
+pub fn expect(holds: bool, kind: FaultKind, place: u32) -> Result<(), Fault>
     ensures { Answers result tt (fault_if (not holds) kind place) }
 {
     if holds {
         Ok(())
     } else {
-        Err(TraceFault::new(kind, place))
+        Err(Fault::new(kind, place))
     }
 }
 
 /// The byte at a place, which is to lie from `low` to `high`.
 #[tactic(auto, unfolding(crate::specs::Faults::field, crate::specs::Faults::byte_fault))]
-pub fn byte_within(file: &[u8], place: u32, low: u8, high: u8) -> Result<u8, TraceFault>
+pub fn byte_within(file: &[u8], place: u32, low: u8, high: u8) -> Result<u8, Fault>
     requires { place < 22 }
     ensures exact {
         Answers result (slice_index file.now place) (byte_fault file.now place low high)
@@ -49,7 +49,7 @@ pub fn byte_within(file: &[u8], place: u32, low: u8, high: u8) -> Result<u8, Tra
 
 /// The number of four bytes at a place, which is to lie from `low` to `high`.
 #[tactic(auto, unfolding(crate::specs::Faults::field, crate::specs::Faults::number_fault))]
-pub fn number_within(file: &[u8], place: u32, low: u32, high: u32) -> Result<u32, TraceFault>
+pub fn number_within(file: &[u8], place: u32, low: u32, high: u32) -> Result<u32, Fault>
     requires { place < 22 }
     ensures exact {
         Answers result (number_at file.now place) (number_fault file.now place low high)

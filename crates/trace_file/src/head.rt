@@ -1,15 +1,17 @@
 //! The fields before the events.
 
-ghost use Rattle.std.specs.Prelude.{◌≡◌, ◌≤◌, None, Some, length, slice_index, IsTrue, IfOk, ◌==◌, MatchResult};
+ghost use Rattle.std.specs.Prelude.{◌≡◌, ◌≤◌, ◌++◌, drop, None, Some, length, slice_index, IsTrue, IfOk, ◌==◌, MatchResult};
 ghost use Rattle.std.specs.List.{list_any};
 ghost use Rattle.el_base.specs.Config.{IsInRange, set_counts};
 ghost use Rattle.trace_file.specs.Faults.{Answers, head_fault, magic_fault, version_fault, sets_fault, settings_fault, number_at, mode_at, config_at};
+ghost use Rattle.trace_file.specs.Spelling.{head};
 
-use crate::fault::{FaultKind, TraceFault};
+use crate::fault::{Fault, FaultKind};
 use crate::fields::{byte_within, expect, number_within, reaches};
 use el_base::{Config, Mode};
 
 /// The configuration of a trace, and how many events it says that it has.
+#[derive(Drop)]
 pub struct Head {
     pub config: Config,
     pub count: u32,
@@ -17,7 +19,7 @@ pub struct Head {
 
 /// The fields before the events, or the first fault among them.
 #[tactic(auto, unfolding(crate::specs::Faults::head_fault, crate::specs::Faults::config_at))]
-pub fn head_of(file: &[u8]) -> Result<Head, TraceFault>
+pub fn head_of(file: &[u8]) -> Result<Head, Fault>
     ensures exact {
         MatchResult result
             (λ head. (head.config ≡ config_at file.now)
@@ -28,6 +30,7 @@ pub fn head_of(file: &[u8]) -> Result<Head, TraceFault>
     ensures whole { IfOk result (λ _. 22 ≤ length file.now) }
     ensures settings { IfOk result (λ head. IsInRange head.config × (head.config.mode ≡ Mode.Plain)) }
     ensures few { IfOk result (λ head. head.count ≤ head.config.steps) }
+    ensures spelled { IfOk result (λ found. file.now ≡ head found.config found.count ++ drop 22 file.now) }
 {
     check_magic(file)?;
     check_version(file)?;
@@ -37,7 +40,7 @@ pub fn head_of(file: &[u8]) -> Result<Head, TraceFault>
 }
 
 #[tactic(auto, unfolding(crate::specs::Faults::field, crate::specs::Faults::magic_fault))]
-fn check_magic(file: &[u8]) -> Result<(), TraceFault>
+fn check_magic(file: &[u8]) -> Result<(), Fault>
     ensures { MatchResult result (λ _. magic_fault file.now ≡ None) (λ fault. magic_fault file.now ≡ Some fault) }
 {
     reaches(file, 4)?;
@@ -48,7 +51,7 @@ fn check_magic(file: &[u8]) -> Result<(), TraceFault>
 }
 
 #[tactic(auto, unfolding(crate::specs::Faults::field, crate::specs::Faults::version_fault))]
-fn check_version(file: &[u8]) -> Result<(), TraceFault>
+fn check_version(file: &[u8]) -> Result<(), Fault>
     ensures { MatchResult result (λ _. version_fault file.now ≡ None) (λ fault. version_fault file.now ≡ Some fault) }
 {
     reaches(file, 5)?;
@@ -56,7 +59,7 @@ fn check_version(file: &[u8]) -> Result<(), TraceFault>
 }
 
 #[tactic(auto, unfolding(crate::specs::Faults::settings_fault, crate::specs::Faults::config_at))]
-fn config_of(file: &[u8]) -> Result<Config, TraceFault>
+fn config_of(file: &[u8]) -> Result<Config, Fault>
     ensures exact { Answers result (config_at file.now) (settings_fault file.now) }
     ensures in_range { IfOk result (λ config. IsInRange config) }
     ensures is_built { IfOk result (λ config. config.mode ≡ Mode.Plain) }
@@ -93,7 +96,7 @@ fn mode_of(number: u8) -> Mode
 }
 
 #[tactic(auto, unfolding(crate::specs::Faults::field, crate::specs::Faults::sets_fault))]
-fn sets_of(file: &[u8]) -> Result<u8, TraceFault>
+fn sets_of(file: &[u8]) -> Result<u8, Fault>
     ensures exact { Answers result (slice_index file.now 7) (sets_fault file.now) }
     ensures known { IfOk result (λ sets. IsTrue (list_any (λ n. n == sets) set_counts)) }
 {

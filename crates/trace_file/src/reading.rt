@@ -1,14 +1,15 @@
 //! From bytes to a trace.
 
-ghost use Rattle.std.specs.Prelude.{◌≡◌, ℕ, ◌+◌, ◌<◌, ◌≤◌, None, Some, Err, IsTrue, not, position, length, map, slice_index, take, drop, All, IfOk, IfErr, MatchResult};
+ghost use Rattle.std.specs.Prelude.{◌≡◌, ℕ, ◌+◌, ◌++◌, ◌<◌, ◌≤◌, None, Some, Err, IsTrue, not, position, length, map, slice_index, take, drop, All, IfNone, IfOk, MatchResult};
+ghost use Rattle.el_base.specs.Config.{IsInRange};
 ghost use Rattle.trace_file.specs.Faults.{is_event, event_fault, end_fault, trace_fault, config_at, number_at};
-ghost use Rattle.trace_file.specs.Spelling.{event_byte, kind_number, spelling, IsTrace};
+ghost use Rattle.trace_file.specs.Spelling.{event_byte, kind_number, head, spelling, IsTrace};
 
 use crate::content::{Events, Trace};
-use crate::fault::{FaultKind, TraceFault};
+use crate::fault::{Fault, FaultKind, TraceFault};
 use crate::fields::{expect, reaches};
 use crate::head::{Head, head_of};
-use el_base::{Event, HartId, Kind};
+use el_base::{Event, HartId, Kind, Mode, NoMemory};
 use std::alloc::Global;
 
 /// How many bytes stand before the events.
@@ -33,31 +34,36 @@ fn at_most(count: usize, bytes: &[u8]) -> &[u8]
 }
 
 /// The place of the first byte that is no event.
+#[tactic(auto, using(crate::proofs::EventBytes::none_fails))]
 fn first_other(bytes: &[u8], harts: u8) -> Option<usize>
-    ensures { result ≡ position (λ byte. not (is_event harts byte)) bytes.now }
+    ensures exact { result ≡ position (λ byte. not (is_event harts byte)) bytes.now }
+    ensures each { IfNone result (All (λ byte. IsTrue (is_event harts byte)) bytes.now) }
 {
     bytes.iter().position(|byte| !is_event(*byte, harts))
 }
 
 #[tactic(auto, unfolding(crate::specs::Faults::event_fault))]
-fn check_events(file: &[u8], harts: u8, count: u32) -> Result<(), TraceFault>
+fn check_events(file: &[u8], harts: u8, count: u32) -> Result<(), Fault>
     requires head { 22 ≤ length file.now }
     requires few { count ≤ 16777216 }
-    ensures {
+    ensures exact {
         MatchResult result
             (λ _. event_fault harts count file.now ≡ None)
             (λ fault. event_fault harts count file.now ≡ Some fault)
+    }
+    ensures each {
+        IfOk result (λ _. All (λ byte. IsTrue (is_event harts byte)) (take count (drop 22 file.now)))
     }
 {
     let events = at_most(count as usize, &file[HEAD_BYTES..]);
     match first_other(events, harts) {
         None => Ok(()),
-        Some(place) => Err(TraceFault::new(FaultKind::Event, 22 + place as u32)),
+        Some(place) => Err(Fault::new(FaultKind::Event, 22 + place as u32)),
     }
 }
 
 #[tactic(auto, unfolding(crate::specs::Faults::field, crate::specs::Faults::end_fault))]
-fn check_end(file: &[u8], count: u32) -> Result<(), TraceFault>
+fn check_end(file: &[u8], count: u32) -> Result<(), Fault>
     requires few { count ≤ 16777216 }
     ensures exact {
         MatchResult result
@@ -92,4 +98,61 @@ fn event_of(byte: u8, harts: u8) -> Event
         kind: kind_of(byte / 16),
         hart: HartId { number: byte % 16 },
     }
+}
+
+/// The fields before the events of a file that is a trace, or the first fault.
+#[tactic(auto, using(crate::proofs::EventBytes::all_taken), unfolding(crate::specs::Faults::trace_fault, crate::specs::Faults::config_at))]
+fn checked(file: &[u8]) -> Result<Head, Fault>
+    ensures exact {
+        MatchResult result
+            (λ _. trace_fault file.now ≡ None)
+            (λ fault. trace_fault file.now ≡ Some fault)
+    }
+    ensures settings { IfOk result (λ found. IsInRange found.config × (found.config.mode ≡ Mode.Plain)) }
+    ensures few { IfOk result (λ found. found.count ≤ found.config.steps) }
+    ensures whole { IfOk result (λ found. length file.now ≡ 22 + found.count) }
+    ensures spelled { IfOk result (λ found. file.now ≡ head found.config found.count ++ drop 22 file.now) }
+    ensures events {
+        IfOk result (λ found. All (λ byte. IsTrue (is_event found.config.harts byte)) (drop 22 file.now))
+    }
+{
+    let head = head_of(file)?;
+    check_events(file, head.config.harts, head.count)?;
+    check_end(file, head.count)?;
+    Ok(head)
+}
+
+/// The events that these bytes are, one each.
+fn events_of(alloc: Global, bytes: &[u8], harts: u8) -> Result<Events, NoMemory>
+    requires known { All (λ byte. IsTrue (is_event harts byte)) bytes.now }
+    requires few { harts ≤ 8 }
+    ensures spelled { IfOk result (λ events. map event_byte events ≡ bytes.now) }
+    ensures within { IfOk result (λ events. All (λ event. event.hart.number < harts) events) }
+{
+    let mut list = Vec::with_capacity(alloc, bytes.len())?;
+    for byte in bytes {
+        let event = event_of(*byte, harts);
+        list.push_reserved(event);
+    }
+    Ok(Events::of_list(list))
+}
+
+/// The trace that the file spells, or its first fault. It takes no memory before the whole file was
+/// found to be a trace, and then one place an event.
+pub fn read_trace(alloc: Global, file: &[u8]) -> Result<Trace, TraceFault>
+    ensures accepted {
+        IfOk result (λ trace. IsTrace trace.config trace.events × (file.now ≡ spelling trace.config trace.events))
+    }
+    ensures refused {
+        (number place : ℕ) → result ≡ Err (TraceFault.Bad number place) →
+            trace_fault file.now ≡ Some (record { number = number; place = place })
+    }
+    ensures memory_after_faults { result ≡ Err TraceFault.NoMemory → trace_fault file.now ≡ None }
+{
+    let head = checked(file)?;
+    let events = events_of(alloc, &file[HEAD_BYTES..], head.config.harts)?;
+    Ok(Trace {
+        config: head.config,
+        events,
+    })
 }

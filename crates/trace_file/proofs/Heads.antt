@@ -1,0 +1,202 @@
+-- A head without a fault is spelled by what stands in it.
+use Rattle.std.proofs.Common.{◌≡◌, ℕ, ◌+◌, ◌*◌, ◌/◌, ◌%◌, ◌≤◌, ◌<◌, Bool, true, false, not, cond, ◌==◌, ltb, List, [], ◌∷◌, ◌++◌, length, get_or, drop, zero, suc, Option, Some, None, refl, sym, ap, ◌∙◌, arith}
+use Rattle.std.specs.Int.{w32}
+use Rattle.std.proofs.Math.Seq.{drop-cons}
+use Rattle.std.proofs.lemmas.Bool.{ltb-false}
+use Rattle.std.proofs.lemmas.List.{get_or-drop, length-drop, drop-drop}
+use Rattle.std.proofs.lemmas.Nat.{le_bytes_4}
+use Rattle.std.specs.Option.{option_or}
+use Rattle.std.proofs.lemmas.Bool.Decides.{nat_tests}
+use Rattle.el_base.specs.Config.{within}
+use Rattle.byteorder.specs.Endian.{little_bytes, little_number}
+use Rattle.el_base.specs.declared.settings.Config.{Config}
+use Rattle.trace_file.specs.declared.fault.Fault.{Fault}
+use Rattle.trace_file.specs.declared.fault.FaultKind.{FaultKind}
+use Rattle.trace_file.specs.declared.fault.FaultKind.TheVariants.{Short, Magic, Version, Config as config_kind}
+use Rattle.trace_file.specs.Spelling.{head, mode_number}
+use Rattle.trace_file.specs.Faults.{fault_of, fault_if, first_of, field, last_mode, wrong, byte_fault, magic_fault, version_fault, sets_fault, settings_fault, number_fault, head_fault, number_at, mode_at, config_at}
+
+abbrev pub IsBytes : List ℕ → Type 0
+IsBytes bytes = (i : ℕ) → get_or bytes i 0 < 256
+
+-- ---- numbers
+
+cells_of : (n a b c d : ℕ) → n ≡ a + 256 * (b + 256 * (c + 256 * (d + 256 * 0))) →
+    a < 256 → b < 256 → c < 256 → d < 256 →
+    little_bytes 4 n ≡ a ∷ b ∷ c ∷ d ∷ []
+cells_of n a b c d is ha hb hc hd =
+    let e0 : n % 256 ≡ a = omega arith in
+    let e1 : n / 256 % 256 ≡ b = omega arith in
+    let e2 : n / 65536 % 256 ≡ c = omega arith in
+    let e3 : n / 16777216 % 256 ≡ d = omega arith in
+    rw (e0, e1, e2, e3) refl
+
+cell : (bytes : List ℕ) (i : ℕ) → i < length bytes → drop i bytes ≡ get_or bytes i 0 ∷ drop (suc i) bytes
+cell bytes i within = drop-cons bytes i 0 within
+
+front : (bytes : List ℕ) → 4 ≤ length bytes →
+    bytes ≡ get_or bytes 0 0 ∷ get_or bytes 1 0 ∷ get_or bytes 2 0 ∷ get_or bytes 3 0 ∷ drop 4 bytes
+front bytes long =
+    cell bytes 0 (omega arith)
+      ∙ ap (λ (t : List ℕ). get_or bytes 0 0 ∷ t) (cell bytes 1 (omega arith))
+      ∙ ap (λ (t : List ℕ). get_or bytes 0 0 ∷ get_or bytes 1 0 ∷ t) (cell bytes 2 (omega arith))
+      ∙ ap (λ (t : List ℕ). get_or bytes 0 0 ∷ get_or bytes 1 0 ∷ get_or bytes 2 0 ∷ t) (cell bytes 3 (omega arith))
+
+-- four bytes are the little-endian bytes of their number
+four_bytes : (bytes : List ℕ) → IsBytes bytes → 4 ≤ length bytes →
+    little_bytes 4 (little_number 4 bytes) ++ drop 4 bytes ≡ bytes
+four_bytes bytes fits long =
+    ap
+      (λ (cells : List ℕ). cells ++ drop 4 bytes)
+      (cells_of (little_number 4 bytes) _ _ _ _ refl (fits 0) (fits 1) (fits 2) (fits 3))
+    ∙ sym (front bytes long)
+
+bytes_behind : (place : ℕ) (file : List ℕ) → IsBytes file → IsBytes (drop place file)
+bytes_behind place file fits i = rw get_or-drop (fits (place + i))
+
+four_at : (file : List ℕ) (place end : ℕ) → IsBytes file → end ≤ length file → place + 4 ≡ end →
+    little_bytes 4 (number_at file place) ++ drop end file ≡ drop place file
+four_at file place end fits long is =
+    let skipped : drop end file ≡ drop 4 (drop place file) =
+        ap (λ (n : ℕ). drop n file) (sym is) ∙ sym (drop-drop 4 place file)
+    in
+    rw skipped (four_bytes (drop place file) (bytes_behind place file fits) (omega (arith, length-drop place file)))
+
+-- ---- faults
+
+pub or_none : (a b : Option Fault) → option_or a b ≡ None → (a ≡ None) × (b ≡ None)
+or_none None b none = (refl, none)
+or_none (Some fault) b none = absurd cc
+
+if_none : (wrong : Bool) (kind : FaultKind) (place : ℕ) → fault_if wrong kind place ≡ None → wrong ≡ false
+if_none true kind place none = absurd cc
+if_none false kind place none = refl
+
+neither : (short : Bool) (x : Fault) (fault : Option Fault) → cond short (Some x) fault ≡ None →
+    (short ≡ false) × (fault ≡ None)
+neither true x fault none = absurd cc
+neither false x fault none = (refl, none)
+
+field_none : (file : List ℕ) (end : ℕ) (fault : Option Fault) → field file end fault ≡ None →
+    (end ≤ length file) × (fault ≡ None)
+unfolding field
+field_none file end fault none =
+    let e = neither (ltb (length file) end) (fault_of Short (length file)) fault none in
+    (ltb-false (length file) end e.0, e.1)
+
+same_of : (x wanted : ℕ) → not (x == wanted) ≡ false → x ≡ wanted
+same_of x wanted e = grind (arith, nat_tests)
+
+wrong_none : (file : List ℕ) (place wanted : ℕ) (kind : FaultKind) → wrong file place wanted kind ≡ None →
+    get_or file place 0 ≡ wanted
+wrong_none file place wanted kind none =
+    same_of (get_or file place 0) wanted (if_none (not (get_or file place 0 == wanted)) kind place none)
+
+magic_none : (file : List ℕ) → magic_fault file ≡ None →
+    (get_or file 0 0 ≡ 0x45) × (get_or file 1 0 ≡ 0x4c) × (get_or file 2 0 ≡ 0x54) × (get_or file 3 0 ≡ 0x52)
+unfolding magic_fault
+magic_none file none =
+    let third = wrong file 3 0x52 Magic ∷ [] in
+    let second = wrong file 2 0x54 Magic ∷ third in
+    let first = wrong file 1 0x4c Magic ∷ second in
+    let e = field_none file 4 (first_of (wrong file 0 0x45 Magic ∷ first)) none in
+    let e0 = or_none (wrong file 0 0x45 Magic) (first_of first) e.1 in
+    let e1 = or_none (wrong file 1 0x4c Magic) (first_of second) e0.1 in
+    let e2 = or_none (wrong file 2 0x54 Magic) (first_of third) e1.1 in
+    let e3 = or_none (wrong file 3 0x52 Magic) None e2.1 in
+    ( wrong_none file 0 0x45 Magic e0.0
+    , wrong_none file 1 0x4c Magic e1.0
+    , wrong_none file 2 0x54 Magic e2.0
+    , wrong_none file 3 0x52 Magic e3.0
+    )
+
+version_none : (file : List ℕ) → version_fault file ≡ None → get_or file 4 0 ≡ 1
+unfolding version_fault
+version_none file none = wrong_none file 4 1 Version (field_none file 5 (wrong file 4 1 Version) none).1
+
+pub mode_again : (n : ℕ) → n ≤ 2 → mode_number (mode_at n) ≡ n
+mode_again zero small = refl
+mode_again (suc zero) small = refl
+mode_again (suc (suc zero)) small = refl
+mode_again (suc (suc (suc n))) small = absurd (omega arith)
+
+within_of : (low high n : ℕ) → not (within low high n) ≡ false → (low ≤ n) × (n ≤ high)
+within_of low high n e = grind (arith, nat_tests)
+
+byte_none : (file : List ℕ) (place low high : ℕ) → byte_fault file place low high ≡ None →
+    (low ≤ get_or file place 0) × (get_or file place 0 ≤ high)
+unfolding byte_fault
+byte_none file place low high none =
+    let beyond = not (within low high (get_or file place 0)) in
+    let e = field_none file (place + 1) (fault_if beyond config_kind place) none in
+    within_of low high (get_or file place 0) (if_none beyond config_kind place e.1)
+
+mode_none : (file : List ℕ) → settings_fault file ≡ None → mode_number (mode_at (get_or file 6 0)) ≡ get_or file 6 0
+unfolding settings_fault
+mode_none file none =
+    let numbers = number_fault file 10 2 65536 ∷ number_fault file 14 1 16777216 ∷ [] in
+    let behind = sets_fault file ∷ byte_fault file 8 1 8 ∷ byte_fault file 9 1 32 ∷ numbers in
+    let e = or_none (byte_fault file 5 1 8) (first_of (byte_fault file 6 0 last_mode ∷ behind)) none in
+    let mode = or_none (byte_fault file 6 0 last_mode) (first_of behind) e.1 in
+    let small : get_or file 6 0 ≤ last_mode = (byte_none file 6 0 last_mode mode.0).1 in
+    mode_again (get_or file 6 0) (omega arith)
+
+-- ---- the head
+
+numbers : (file : List ℕ) → IsBytes file → 22 ≤ length file →
+    little_bytes 4 (number_at file 10)
+        ++ (little_bytes 4 (number_at file 14) ++ (little_bytes 4 (number_at file 18) ++ drop 22 file))
+      ≡ drop 10 file
+numbers file fits long =
+    ap
+      (λ (t : List ℕ). little_bytes 4 (number_at file 10) ++ (little_bytes 4 (number_at file 14) ++ t))
+      (four_at file 18 22 fits long refl)
+    ∙ ap (λ (t : List ℕ). little_bytes 4 (number_at file 10) ++ t) (four_at file 14 18 fits (omega arith) refl)
+    ∙ four_at file 10 14 fits (omega arith) refl
+
+-- the cell at a place holds this value
+holds : (file : List ℕ) (place value : ℕ) → place < length file → get_or file place 0 ≡ value →
+    drop place file ≡ value ∷ drop (suc place) file
+holds file place value within is = cell file place within ∙ ap (λ (x : ℕ). x ∷ drop (suc place) file) is
+
+settings_spelled : (file : List ℕ) → IsBytes file → 22 ≤ length file →
+    get_or file 6 0 ≡ mode_number (mode_at (get_or file 6 0)) →
+    drop 5 file ≡
+      get_or file 5 0 ∷ mode_number (mode_at (get_or file 6 0)) ∷ get_or file 7 0 ∷ get_or file 8 0 ∷ get_or file 9 0
+        ∷ (little_bytes 4 (number_at file 10)
+          ++ (little_bytes 4 (number_at file 14) ++ (little_bytes 4 (number_at file 18) ++ drop 22 file)))
+settings_spelled file fits long mode =
+    cell file 5 (omega arith)
+      ∙ ap (λ (t : List ℕ). get_or file 5 0 ∷ t)
+        (holds file 6 (mode_number (mode_at (get_or file 6 0))) (omega arith) mode
+          ∙ ap (λ (t : List ℕ). mode_number (mode_at (get_or file 6 0)) ∷ t)
+            (cell file 7 (omega arith)
+              ∙ ap (λ (t : List ℕ). get_or file 7 0 ∷ t)
+                (cell file 8 (omega arith)
+                  ∙ ap (λ (t : List ℕ). get_or file 8 0 ∷ t)
+                    (cell file 9 (omega arith)
+                      ∙ ap (λ (t : List ℕ). get_or file 9 0 ∷ t) (sym (numbers file fits long))))))
+
+pub head_spelled : (file : List ℕ) (config : Config) (count : ℕ) → IsBytes file → 22 ≤ length file →
+    magic_fault file ≡ None → version_fault file ≡ None → settings_fault file ≡ None →
+    config ≡ config_at file → count ≡ number_at file 18 →
+    file ≡ head config count ++ drop 22 file
+unfolding config_at
+head_spelled file config count fits long magic version settings config-is count-is =
+    let letters = magic_none file magic in
+    let mode = sym (mode_none file settings) in
+    let spelled : file ≡ head (config_at file) (number_at file 18) ++ drop 22 file =
+        holds file 0 0x45 (omega arith) letters.0
+          ∙ ap (λ (t : List ℕ). 0x45 ∷ t)
+            (holds file 1 0x4c (omega arith) letters.1
+              ∙ ap (λ (t : List ℕ). 0x4c ∷ t)
+                (holds file 2 0x54 (omega arith) letters.2
+                  ∙ ap (λ (t : List ℕ). 0x54 ∷ t)
+                    (holds file 3 0x52 (omega arith) letters.3
+                      ∙ ap (λ (t : List ℕ). 0x52 ∷ t)
+                        (holds file 4 1 (omega arith) (version_none file version)
+                          ∙ ap (λ (t : List ℕ). 1 ∷ t) (settings_spelled file fits long mode)))))
+    in
+    spelled
+    ∙ ap (λ (c : Config). head c (number_at file 18) ++ drop 22 file) (sym config-is)
+    ∙ ap (λ (n : ℕ). head config n ++ drop 22 file) (sym count-is)

@@ -1,0 +1,2 @@
+pub mod EventBytes
+pub mod Heads

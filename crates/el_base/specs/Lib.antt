@@ -1,3 +1,4 @@
 pub mod Config
+pub mod HartIds
 pub mod Harts
 pub mod Losers

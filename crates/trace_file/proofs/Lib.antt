@@ -1,2 +1,3 @@
 pub mod EventBytes
 pub mod Heads
+pub mod Spelled

@@ -13,8 +13,8 @@ use Rattle.el_base.specs.declared.settings.Config.{Config}
 use Rattle.trace_file.specs.declared.fault.Fault.{Fault}
 use Rattle.trace_file.specs.declared.fault.FaultKind.{FaultKind}
 use Rattle.trace_file.specs.declared.fault.FaultKind.TheVariants.{Short, Magic, Version, Config as config_kind}
-use Rattle.trace_file.specs.Spelling.{head, mode_number}
-use Rattle.trace_file.specs.Faults.{fault_of, fault_if, first_of, field, last_mode, wrong, byte_fault, magic_fault, version_fault, sets_fault, settings_fault, number_fault, head_fault, number_at, mode_at, config_at}
+use Rattle.trace_file.specs.Spelling.{head, mode_number, last_mode}
+use Rattle.trace_file.specs.Faults.{fault_of, fault_if, first_of, field, wrong, byte_fault, magic_fault, version_fault, sets_fault, settings_fault, number_fault, head_fault, number_at, mode_at, config_at}
 
 abbrev pub IsBytes : List ℕ → Type 0
 IsBytes bytes = (i : ℕ) → get_or bytes i 0 < 256

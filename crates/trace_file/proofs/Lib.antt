@@ -1,3 +1,4 @@
+pub mod EntryBytes
 pub mod EventBytes
 pub mod Heads
 pub mod Spelled

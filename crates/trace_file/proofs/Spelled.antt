@@ -1,10 +1,10 @@
 -- A trace that is spelled has no fault, and no two traces are spelled the same.
-use Rattle.std.proofs.Common.{◌≡◌, ℕ, zero, suc, ◌+◌, ◌*◌, ◌/◌, ◌%◌, ◌^◌, ◌≤◌, ◌<◌, Bool, true, false, not, ◌&&◌, ◌==◌, cond, ltb, leb, List, [], ◌∷◌, ◌++◌, length, map, get_or, take, drop, Option, Some, None, IsTrue, refl, sym, ap, ◌∙◌, inl, inr, arith}
+use Rattle.std.proofs.Common.{◌≡◌, ℕ, zero, suc, ◌+◌, ◌-◌, ◌*◌, ◌/◌, ◌%◌, ◌^◌, ◌≤◌, ◌<◌, Bool, true, false, not, ◌&&◌, ◌==◌, cond, ltb, leb, List, [], ◌∷◌, ◌++◌, length, map, get_or, take, drop, Option, Some, None, IsTrue, refl, sym, ap, ◌∙◌, inl, inr, arith}
 use Rattle.std.specs.Prelude.{All}
 use Rattle.std.specs.List.{list_any, position, position_or_len}
 use Rattle.std.proofs.lemmas.Bool.{cases_lt, le-ltb}
 use Rattle.std.proofs.lemmas.Bool.Decides.{nat_tests}
-use Rattle.std.proofs.lemmas.List.{length-append, length-map, take_all}
+use Rattle.std.proofs.lemmas.List.{length-append, length-map, length-drop, take_all, take_rest}
 use Rattle.std.proofs.lemmas.List.Sums.{passes_at_first}
 use Rattle.std.proofs.lemmas.List.Elements.{All-map}
 use Rattle.std.specs.Option.{option_or}
@@ -24,7 +24,7 @@ use Rattle.el_base.specs.declared.settings.Mode.TheVariants.{Plain, Sle, Tlr}
 use Rattle.trace_file.specs.declared.fault.Fault.{Fault}
 use Rattle.trace_file.specs.declared.fault.FaultKind.{FaultKind}
 use Rattle.trace_file.specs.declared.fault.FaultKind.TheVariants.{Short, Config as config_kind, Tail}
-use Rattle.trace_file.specs.Spelling.{head, spelling, mode_number, kind_number, event_byte, IsTrace}
+use Rattle.trace_file.specs.Spelling.{head, spelling, mode_number, kind_number, event_byte, last_mode, IsTrace, IsBuilt}
 use Rattle.trace_file.specs.Faults.{fault_of, fault_if, first_of, field, byte_fault, magic_fault, version_fault, sets_fault, settings_fault, number_fault, head_fault, number_at, mode_at, is_event, event_fault, end_fault, trace_fault}
 
 -- ---- a configuration in range
@@ -121,18 +121,21 @@ both_none : (a b : Option Fault) → a ≡ None → b ≡ None → option_or a b
 both_none None b first second = second
 both_none (Some fault) b first second = absurd cc
 
-settings_pass : (c : Config) (es : List Event) → Ranges c → c.mode ≡ Plain → settings_fault (spelling c es) ≡ None
+count_within : (count steps : ℕ) → count ≤ steps → within 0 steps count ≡ true
+count_within count steps few = grind (arith, nat_tests)
+
+settings_pass : (c : Config) (es : List Event) → Ranges c → IsBuilt c.mode → settings_fault (spelling c es) ≡ None
 unfolding settings_fault sets_fault
 settings_pass c es r built =
     let file = spelling c es in
     let long = spelled_length c es in
     let small = at_most 2 65536 c.long r.long in
     let few = at_most 1 16777216 c.steps r.steps in
-    let mode : within 0 0 (mode_number c.mode) ≡ true = rw built refl in
+    let mode = count_within (mode_number c.mode) last_mode built in
     let long-in : within 2 65536 (number_at file 10) ≡ true = rw (long_is c es (omega arith)) r.long in
     let steps-in : within 1 16777216 (number_at file 14) ≡ true = rw (steps_is c es (omega arith)) r.steps in
     both_none (byte_fault file 5 1 8) _ (byte_passes file 5 1 8 (omega arith) r.harts)
-      (both_none (byte_fault file 6 0 0) _ (byte_passes file 6 0 0 (omega arith) mode)
+      (both_none (byte_fault file 6 0 last_mode) _ (byte_passes file 6 0 last_mode (omega arith) mode)
         (both_none (sets_fault file) _
           (field_passes file 8 _ (omega arith) (holds_passes (list_any (λ n. n == c.sets) set_counts) config_kind 7 r.sets))
           (both_none (byte_fault file 8 1 8) _ (byte_passes file 8 1 8 (omega arith) r.ways)
@@ -140,10 +143,7 @@ settings_pass c es r built =
               (both_none (number_fault file 10 2 65536) _ (number_passes file 10 2 65536 (omega arith) long-in)
                 (both_none (number_fault file 14 1 16777216) None (number_passes file 14 1 16777216 (omega arith) steps-in) refl))))))
 
-count_within : (count steps : ℕ) → count ≤ steps → within 0 steps count ≡ true
-count_within count steps few = grind (arith, nat_tests)
-
-head_passes : (c : Config) (es : List Event) → Ranges c → c.mode ≡ Plain → length es ≤ c.steps →
+head_passes : (c : Config) (es : List Event) → Ranges c → IsBuilt c.mode → length es ≤ c.steps →
     head_fault (spelling c es) ≡ None
 unfolding head_fault magic_fault version_fault
 head_passes c es r built few =
@@ -209,16 +209,16 @@ end_passes c es =
     let over : ltb (22 + length es) (length file) ≡ false = le-ltb (22 + length es) (length file) (omega arith) in
     field_passes file (22 + length es) _ (omega arith) (rw over refl)
 
-pub no_fault : (c : Config) (es : List Event) (file : List ℕ) → IsTrace c es → file ≡ spelling c es →
+pub no_fault : (c : Config) (es : List Event) (file : List ℕ) → IsTrace c es → IsBuilt c.mode → file ≡ spelling c es →
     trace_fault file ≡ None
 unfolding trace_fault
-no_fault c es file is file-is =
+no_fault c es file is built file-is =
     let r = ranges c is.in_range in
     let most = at_most 1 16777216 c.steps r.steps in
     let few = is.few in
     let count = count_is c es (omega arith) in
     let spelled : trace_fault (spelling c es) ≡ None =
-        both_none (head_fault (spelling c es)) _ (head_passes c es r is.is_built is.few)
+        both_none (head_fault (spelling c es)) _ (head_passes c es r built is.few)
           (both_none (event_fault c.harts (number_at (spelling c es) 18) (spelling c es)) _
             (ap (λ (n : ℕ). event_fault c.harts n (spelling c es)) count ∙ events_pass c es is.harts)
             (both_none (end_fault (number_at (spelling c es) 18) (spelling c es)) None
@@ -309,3 +309,24 @@ one_spelling c d es fs is is' same =
         sym (steps_is c es (omega arith)) ∙ ap (λ (l : List ℕ). number_at l 14) same ∙ steps_is d fs (omega arith)
     in
     (same_config c d harts-are mode-is sets-are ways-are lines-are long-is steps-are, same_events es fs (ap (λ (l : List ℕ). drop 22 l) same))
+
+-- what was read of a file is a trace that the file spells
+pub read_is : (file : List ℕ) (c : Config) (count : ℕ) (es : List Event) → IsInRange c → count ≤ c.steps →
+    length file ≡ 22 + count → file ≡ head c count ++ drop 22 file →
+    map event_byte es ≡ take (length file - 22) (drop 22 file) →
+    All (λ (event : Event). event.hart.number < c.harts) es →
+    IsTrace c es × (file ≡ spelling c es)
+read_is file c count es in-range few whole spelled events harts =
+    let rest : map event_byte es ≡ drop 22 file = events ∙ take_rest file 22 in
+    let many : length es ≡ count =
+        omega (arith, length-map es event_byte, ap length rest, length-drop 22 file)
+    in
+    ( record {
+      in_range = in-range;
+      few = omega arith;
+      harts = harts
+    }
+    , spelled
+      ∙ ap (λ (n : ℕ). head c n ++ drop 22 file) (sym many)
+      ∙ ap (λ (l : List ℕ). head c (length es) ++ l) (sym rest)
+    )

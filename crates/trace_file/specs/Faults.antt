@@ -10,6 +10,7 @@ use Rattle.el_base.specs.declared.settings.Mode.{Mode}
 use Rattle.el_base.specs.declared.settings.Mode.TheVariants.{Plain, Sle, Tlr}
 use Rattle.trace_file.specs.declared.fault.FaultKind.{FaultKind}
 use Rattle.trace_file.specs.declared.fault.FaultKind.TheVariants.{Short, Magic, Version, Config, Event, Tail}
+use Rattle.trace_file.specs.Spelling.{last_mode}
 use Rattle.trace_file.specs.declared.fault.Fault.{Fault}
 
 abbrev pub number_of : FaultKind → ℕ
@@ -69,10 +70,6 @@ version_fault file = field file 5 (wrong file 4 1 Version)
 unfoldable pub sets_fault : List ℕ → Option Fault
 sets_fault file =
     field file 8 (fault_if (not (list_any (λ n. n == slice_index file 7) set_counts)) Config 7)
-
--- the last number of a mode that machines are built for
-abbrev pub last_mode : ℕ
-last_mode = 0
 
 -- the fields of the configuration, in their order
 unfoldable pub settings_fault : List ℕ → Option Fault

@@ -43,10 +43,16 @@ head config count =
 abbrev pub spelling : Config → List Event → List ℕ
 spelling config events = head config (length events) ++ map event_byte events
 
--- what has a spelling that is read: a configuration in range, and no more events than its steps, all of
--- harts below its harts
+-- what has a spelling: a configuration in range, and no more events than its steps, all of harts below
+-- its harts
 pub record IsTrace (config : Config) (events : List Event) : Type 0 where
   pub in_range : IsInRange config
-  pub is_built : config.mode ≡ Plain
   pub few : length events ≤ config.steps
   pub harts : All (λ event. event.hart.number < config.harts) events
+
+-- the last number of a mode that machines are built for, of which alone traces are read
+abbrev pub last_mode : ℕ
+last_mode = 0
+
+abbrev pub IsBuilt : Mode → Type 0
+IsBuilt mode = mode_number mode ≤ last_mode

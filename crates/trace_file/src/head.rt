@@ -4,7 +4,7 @@ ghost use Rattle.std.specs.Prelude.{◌≡◌, ◌≤◌, ◌++◌, drop, None, 
 ghost use Rattle.std.specs.List.{list_any};
 ghost use Rattle.el_base.specs.Config.{IsInRange, set_counts};
 ghost use Rattle.trace_file.specs.Faults.{Answers, head_fault, magic_fault, version_fault, sets_fault, settings_fault, number_at, mode_at, config_at};
-ghost use Rattle.trace_file.specs.Spelling.{head};
+ghost use Rattle.trace_file.specs.Spelling.{head, IsBuilt};
 
 use crate::fault::{Fault, FaultKind};
 use crate::fields::{byte_within, expect, number_within, reaches};
@@ -28,7 +28,7 @@ pub fn head_of(file: &[u8]) -> Result<Head, Fault>
             (λ fault. head_fault file.now ≡ Some fault)
     }
     ensures whole { IfOk result (λ _. 22 ≤ length file.now) }
-    ensures settings { IfOk result (λ head. IsInRange head.config × (head.config.mode ≡ Mode.Plain)) }
+    ensures settings { IfOk result (λ head. IsInRange head.config × IsBuilt head.config.mode) }
     ensures few { IfOk result (λ head. head.count ≤ head.config.steps) }
     ensures spelled { IfOk result (λ found. file.now ≡ head found.config found.count ++ drop 22 file.now) }
 {
@@ -62,7 +62,7 @@ fn check_version(file: &[u8]) -> Result<(), Fault>
 fn config_of(file: &[u8]) -> Result<Config, Fault>
     ensures exact { Answers result (config_at file.now) (settings_fault file.now) }
     ensures in_range { IfOk result (λ config. IsInRange config) }
-    ensures is_built { IfOk result (λ config. config.mode ≡ Mode.Plain) }
+    ensures is_built { IfOk result (λ config. IsBuilt config.mode) }
 {
     let harts = byte_within(file, 5, 1, 8)?;
     let mode = mode_of(byte_within(file, 6, 0, LAST_MODE)?);

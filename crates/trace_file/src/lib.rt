@@ -11,9 +11,12 @@ mod fault;
 mod fields;
 mod head;
 mod reading;
+mod writing;
 
 
 pub use content::{Events, Trace};
+pub use reading::read_trace;
+pub use writing::write_trace;
 pub use fault::TraceFault;
 
 

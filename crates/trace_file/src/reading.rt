@@ -1,9 +1,10 @@
 //! From bytes to a trace.
 
-ghost use Rattle.std.specs.Prelude.{◌≡◌, ℕ, ◌+◌, ◌++◌, ◌<◌, ◌≤◌, None, Some, Err, IsTrue, not, position, length, map, slice_index, take, drop, All, IfNone, IfOk, MatchResult};
+ghost use Rattle.std.specs.Prelude.{◌≡◌, ℕ, List, ◌+◌, ◌++◌, ◌<◌, ◌≤◌, None, Some, Err, IsTrue, not, position, length, map, slice_index, take, drop, All, IfNone, IfOk, MatchResult};
 ghost use Rattle.el_base.specs.Config.{IsInRange};
+ghost use Rattle.el_base.specs.declared.settings.Config.{Config};
 ghost use Rattle.trace_file.specs.Faults.{is_event, event_fault, end_fault, trace_fault, config_at, number_at};
-ghost use Rattle.trace_file.specs.Spelling.{event_byte, kind_number, head, spelling, IsTrace};
+ghost use Rattle.trace_file.specs.Spelling.{event_byte, kind_number, head, spelling, IsTrace, IsBuilt};
 
 use crate::content::{Events, Trace};
 use crate::fault::{Fault, FaultKind, TraceFault};
@@ -108,7 +109,7 @@ fn checked(file: &[u8]) -> Result<Head, Fault>
             (λ _. trace_fault file.now ≡ None)
             (λ fault. trace_fault file.now ≡ Some fault)
     }
-    ensures settings { IfOk result (λ found. IsInRange found.config × (found.config.mode ≡ Mode.Plain)) }
+    ensures settings { IfOk result (λ found. IsInRange found.config × IsBuilt found.config.mode) }
     ensures few { IfOk result (λ found. found.count ≤ found.config.steps) }
     ensures whole { IfOk result (λ found. length file.now ≡ 22 + found.count) }
     ensures spelled { IfOk result (λ found. file.now ≡ head found.config found.count ++ drop 22 file.now) }
@@ -139,15 +140,25 @@ fn events_of(alloc: Global, bytes: &[u8], harts: u8) -> Result<Events, NoMemory>
 
 /// The trace that the file spells, or its first fault. It takes no memory before the whole file was
 /// found to be a trace, and then one place an event.
+#[tactic(auto, using(crate::proofs::Spelled::no_fault, crate::proofs::Spelled::one_spelling))]
 pub fn read_trace(alloc: Global, file: &[u8]) -> Result<Trace, TraceFault>
     ensures accepted {
-        IfOk result (λ trace. IsTrace trace.config trace.events × (file.now ≡ spelling trace.config trace.events))
+        IfOk result (λ trace. IsTrace trace.config trace.events
+            × IsBuilt trace.config.mode
+            × (file.now ≡ spelling trace.config trace.events))
     }
     ensures refused {
         (number place : ℕ) → result ≡ Err (TraceFault.Bad number place) →
             trace_fault file.now ≡ Some (record { number = number; place = place })
     }
     ensures memory_after_faults { result ≡ Err TraceFault.NoMemory → trace_fault file.now ≡ None }
+    // What is spelled is read as what it spells, unless memory runs out.
+    ensures spelled {
+        (config : Config) (events : List Event) → IsTrace config events → IsBuilt config.mode →
+            file.now ≡ spelling config events →
+            (trace_fault file.now ≡ None)
+                × IfOk result (λ trace. (trace.config ≡ config) × (trace.events ≡ events))
+    }
 {
     let head = checked(file)?;
     let events = events_of(alloc, &file[HEAD_BYTES..], head.config.harts)?;

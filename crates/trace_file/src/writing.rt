@@ -1,0 +1,114 @@
+//! From a history to bytes.
+
+ghost use Rattle.std.specs.Prelude.{◌≡◌, ◌≢◌, ◌+◌, ◌++◌, ◌<◌, ◌≤◌, Err, length, map, All, IfOk, OnOk};
+ghost use Rattle.chronicle.specs.Chronicle.{events};
+ghost use Rattle.el_base.specs.Config.{IsInRange};
+ghost use Rattle.el_io.specs.Shelf.{Holds, KeepsOthers, Records};
+ghost use Rattle.trace_file.specs.Spelling.{mode_number, kind_number, event_byte, head, spelling};
+
+use chronicle::History;
+use el_base::{Chronicled, Config, Event, Kind, Mode, NoMemory};
+use el_io::{Call, Shelf, ShelfFault};
+use std::alloc::Global;
+
+fn mode_number(mode: Mode) -> u8
+    ensures { result ≡ mode_number mode }
+{
+    match mode {
+        Mode::Plain => 0,
+        Mode::Sle => 1,
+        Mode::Tlr => 2,
+    }
+}
+
+fn kind_number(kind: Kind) -> u8
+    ensures exact { result ≡ kind_number kind }
+    ensures small { result ≤ 3 }
+{
+    match kind {
+        Kind::Step => 0,
+        Kind::Order => 1,
+        Kind::Serve => 2,
+        Kind::Deliver => 3,
+    }
+}
+
+fn event_byte(event: Event) -> u8
+    ensures { result ≡ event_byte event }
+{
+    16 * kind_number(event.kind) + event.hart.number
+}
+
+/// What stands before the events.
+fn head_bytes(config: &Config, count: u32) -> [u8; 22]
+    ensures { result ≡ head config.now count }
+{
+    let [long_0, long_1, long_2, long_3] = config.long.to_le_bytes();
+    let [steps_0, steps_1, steps_2, steps_3] = config.steps.to_le_bytes();
+    let [count_0, count_1, count_2, count_3] = count.to_le_bytes();
+    [
+        b'E',
+        b'L',
+        b'T',
+        b'R',
+        1,
+        config.harts,
+        mode_number(config.mode),
+        config.sets,
+        config.ways,
+        config.lines,
+        long_0,
+        long_1,
+        long_2,
+        long_3,
+        steps_0,
+        steps_1,
+        steps_2,
+        steps_3,
+        count_0,
+        count_1,
+        count_2,
+        count_3,
+    ]
+}
+
+/// The spelling of a configuration and the events of a history.
+fn spelled(alloc: Global, config: &Config, history: &History) -> Result<Vec<u8>, NoMemory>
+    ensures { IfOk result (λ bytes. bytes.items ≡ spelling config.now (events history.now.entries)) }
+{
+    let count = history.length();
+    let mut bytes = Vec::from_slice(alloc, &head_bytes(config, count))?;
+    for place in 0..count {
+        bytes.push(event_byte(history.entry(place).event))?;
+    }
+    Ok(bytes)
+}
+
+/// Makes the spelling of the configuration and the history's events the contents of the name. Every
+/// other name keeps its contents.
+///
+/// `Failed` comes only where the shelf lists this write among its failed calls; what the name holds
+/// is then unknown. After want of memory no file has changed. It never answers `TooBig`.
+pub fn write_trace<S: Shelf>(
+    alloc: Global,
+    shelf: &mut S,
+    name: &str,
+    config: &Config,
+    history: &History,
+) -> Result<(), ShelfFault>
+    requires in_range { IsInRange config.now }
+    requires few { length history.now.entries ≤ config.now.steps }
+    requires harts { All (λ event. event.hart.number < config.now.harts) (events history.now.entries) }
+    ensures written {
+        OnOk result (Holds (S.told shelf.new) name.now (spelling config.now (events history.now.entries)))
+    }
+    ensures others_stay { KeepsOthers (S.told shelf.old) (S.told shelf.new) name.now }
+    ensures contents_stay_without_memory { result ≡ Err ShelfFault.NoMemory → S.told shelf.new ≡ S.told shelf.old }
+    ensures never_too_big { result ≢ Err ShelfFault.TooBig }
+    ensures failures_listed { Records result (S.failures shelf.old) (S.failures shelf.new) (Call.Write, name.now) }
+{
+    let Ok(bytes) = spelled(alloc, config, history) else {
+        return Err(ShelfFault::NoMemory);
+    };
+    shelf.write(alloc, name, &bytes)
+}

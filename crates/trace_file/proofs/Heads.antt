@@ -68,7 +68,7 @@ pub or_none : (a b : Option Fault) → option_or a b ≡ None → (a ≡ None) �
 or_none None b none = (refl, none)
 or_none (Some fault) b none = absurd cc
 
-if_none : (wrong : Bool) (kind : FaultKind) (place : ℕ) → fault_if wrong kind place ≡ None → wrong ≡ false
+pub if_none : (wrong : Bool) (kind : FaultKind) (place : ℕ) → fault_if wrong kind place ≡ None → wrong ≡ false
 if_none true kind place none = absurd cc
 if_none false kind place none = refl
 
@@ -77,7 +77,7 @@ neither : (short : Bool) (x : Fault) (fault : Option Fault) → cond short (Some
 neither true x fault none = absurd cc
 neither false x fault none = (refl, none)
 
-field_none : (file : List ℕ) (end : ℕ) (fault : Option Fault) → field file end fault ≡ None →
+pub field_none : (file : List ℕ) (end : ℕ) (fault : Option Fault) → field file end fault ≡ None →
     (end ≤ length file) × (fault ≡ None)
 unfolding field
 field_none file end fault none =
@@ -131,7 +131,8 @@ byte_none file place low high none =
     let e = field_none file (place + 1) (fault_if beyond config_kind place) none in
     within_of low high (get_or file place 0) (if_none beyond config_kind place e.1)
 
-mode_none : (file : List ℕ) → settings_fault file ≡ None → mode_number (mode_at (get_or file 6 0)) ≡ get_or file 6 0
+pub mode_none : (file : List ℕ) → settings_fault file ≡ None →
+    (mode_number (mode_at (get_or file 6 0)) ≡ get_or file 6 0) × (get_or file 6 0 ≤ last_mode)
 unfolding settings_fault
 mode_none file none =
     let numbers = number_fault file 10 2 65536 ∷ number_fault file 14 1 16777216 ∷ [] in
@@ -139,7 +140,7 @@ mode_none file none =
     let e = or_none (byte_fault file 5 1 8) (first_of (byte_fault file 6 0 last_mode ∷ behind)) none in
     let mode = or_none (byte_fault file 6 0 last_mode) (first_of behind) e.1 in
     let small : get_or file 6 0 ≤ last_mode = (byte_none file 6 0 last_mode mode.0).1 in
-    mode_again (get_or file 6 0) (omega arith)
+    (mode_again (get_or file 6 0) (omega arith), small)
 
 -- ---- the head
 
@@ -184,7 +185,7 @@ pub head_spelled : (file : List ℕ) (config : Config) (count : ℕ) → IsBytes
 unfolding config_at
 head_spelled file config count fits long magic version settings config-is count-is =
     let letters = magic_none file magic in
-    let mode = sym (mode_none file settings) in
+    let mode = sym (mode_none file settings).0 in
     let spelled : file ≡ head (config_at file) (number_at file 18) ++ drop 22 file =
         holds file 0 0x45 (omega arith) letters.0
           ∙ ap (λ (t : List ℕ). 0x45 ∷ t)

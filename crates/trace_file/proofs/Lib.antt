@@ -1,4 +1,5 @@
 pub mod EntryBytes
 pub mod EventBytes
 pub mod Heads
+pub mod Judged
 pub mod Spelled

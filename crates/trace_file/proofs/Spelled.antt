@@ -30,13 +30,13 @@ use Rattle.trace_file.specs.Faults.{fault_of, fault_if, first_of, field, byte_fa
 -- ---- a configuration in range
 
 -- each field of the configuration is in its range
-record Ranges (c : Config) : Type 0 where
-  harts : within 1 8 c.harts ≡ true
-  sets : list_any (λ n. n == c.sets) set_counts ≡ true
-  ways : within 1 8 c.ways ≡ true
-  lines : within 1 32 c.lines ≡ true
-  long : within 2 65536 c.long ≡ true
-  steps : within 1 16777216 c.steps ≡ true
+pub record Ranges (c : Config) : Type 0 where
+  pub harts : within 1 8 c.harts ≡ true
+  pub sets : list_any (λ n. n == c.sets) set_counts ≡ true
+  pub ways : within 1 8 c.ways ≡ true
+  pub lines : within 1 32 c.lines ≡ true
+  pub long : within 2 65536 c.long ≡ true
+  pub steps : within 1 16777216 c.steps ≡ true
 
 passed : (holds : Bool) (fault : ConfigFault) (later : Option ConfigFault) →
     cond (not holds) (Some fault) later ≡ None → (holds ≡ true) × (later ≡ None)
@@ -65,7 +65,7 @@ ranges c none =
       steps = steps.0
     }
 
-at_most : (low high n : ℕ) → within low high n ≡ true → n ≤ high
+pub at_most : (low high n : ℕ) → within low high n ≡ true → n ≤ high
 at_most low high n e = grind (arith, nat_tests)
 
 -- ---- fields without a fault
@@ -228,7 +228,7 @@ no_fault c es file is built file-is =
 
 -- ---- one spelling each
 
-kind_at : ℕ → Kind
+unfoldable pub kind_at : ℕ → Kind
 kind_at n = cond (n == 0) Step (cond (n == 1) Order (cond (n == 2) Serve Deliver))
 
 kind_back : (kind : Kind) → kind_at (kind_number kind) ≡ kind

@@ -10,11 +10,13 @@ mod content;
 mod fault;
 mod fields;
 mod head;
+mod laws;
 mod reading;
 mod writing;
 
 
 pub use content::{Events, Trace};
+pub use laws::grammar;
 pub use reading::read_trace;
 pub use writing::write_trace;
 pub use fault::TraceFault;

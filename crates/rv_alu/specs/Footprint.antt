@@ -67,6 +67,7 @@ abbrev pub appends : ℕ → WriteCall → Access
 appends address (Answer value) = Nothing
 appends address (Append count) = Read address count
 
+-- what a system call touches, by its number in x17: 93 is exit, 64 is write, and no other is there
 abbrev pub calls : List ℕ → Span → ℕ → Access
 calls regs span room =
     if get regs 17 == 93 then Exit (get regs 10)
@@ -102,6 +103,7 @@ pub record IsPiece (span : Span) (address len : ℕ) : Type 0 where
 abbrev pub IsSize : ℕ → Type 0
 IsSize size = (size ≡ 1) ⊎ (size ≡ 2) ⊎ (size ≡ 4)
 
+-- whether an instruction makes a system call
 abbrev pub is_call : Insn → Bool
 is_call insns.Ecall = true
 is_call _ = false

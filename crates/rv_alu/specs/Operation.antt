@@ -30,6 +30,8 @@ plus left right = (left + right) % 2 ^ 32
 abbrev pub moved : ℕ → ℤ → ℕ
 moved word offset = plus word (cast_unsigned w32 offset)
 
+-- the result of a register operation; shifts take the low five bits of the right word, and `Sra` fills
+-- with the sign
 abbrev pub alu_of : Alu → ℕ → ℕ → ℕ
 alu_of alus.Add left right = plus left right
 alu_of alus.Sub left right = (left + (2 ^ 32 - right)) % 2 ^ 32
@@ -42,6 +44,7 @@ alu_of alus.Sra left right = cast_unsigned w32 (int_shr (signed left) (right % 3
 alu_of alus.Or left right = bit_or left right
 alu_of alus.And left right = bit_and left right
 
+-- whether a branch is taken
 abbrev pub taken_of : Test → ℕ → ℕ → Bool
 taken_of tests.Eq left right = left == right
 taken_of tests.Ne left right = not (left == right)

@@ -8,9 +8,16 @@ use crate::span::Span;
 use crate::syscall::{A0, A1, A7, EXIT, WRITE, WriteCall, write_call};
 use rv_word::{Insn, LoadWidth, StoreWidth};
 
-/// The access of an instruction at `pc`, before anything happens: its footprint, trap or exit (RISC-V
-/// unprivileged manual, chapters I and A; the order of the tests is this project's profile).
-/// Misalignment is tested before the bounds of memory, and `room` is what the output has left.
+/// What an instruction at `pc` would touch, or how it would stop its hart, before anything happens.
+/// `room` is how many bytes the output still takes.
+///
+/// A jump or a branch that is taken traps with cause 0 where its target is no multiple of 4, and EBREAK
+/// traps with 3. A load or LR traps with 4 where its address is no multiple of its size, and with 5
+/// where it is one and not all of its bytes are in memory; a store, SC or atomic operation likewise
+/// with 6 and 7. An SC that does not trap touches its word only where that word is reserved, and a
+/// write call reads the bytes that it appends to the output. (RISC-V unprivileged manual, chapter 2
+/// and 'A Standard Extension for Atomic Instructions'; causes as in the privileged manual's `mcause`;
+/// the order of the tests and the calls are this project's profile.)
 #[tactic(auto, using(crate::proofs::Footprints::footprint), unfolding(crate::specs::Footprint::access_of))]
 pub fn access(
     insn: &Insn,
@@ -63,7 +70,8 @@ pub fn access(
     }
 }
 
-/// Whether an instruction makes a system call.
+/// Whether an instruction makes a system call. Where such an instruction reads memory, the bytes go to the
+/// output and not to a register.
 pub fn makes_call(insn: &Insn) -> bool
     ensures { result ≡ is_call insn.now }
 {
@@ -92,6 +100,7 @@ fn bytes_stored(width: StoreWidth) -> u32
     }
 }
 
+/// A load of so many bytes.
 fn read(span: Span, address: u32, size: u32) -> Access
     requires { 1 ≤ size }
     ensures { result ≡ reads span address size }
@@ -105,6 +114,7 @@ fn read(span: Span, address: u32, size: u32) -> Access
     }
 }
 
+/// A store of so many bytes.
 fn write(span: Span, address: u32, size: u32) -> Access
     requires { 1 ≤ size }
     ensures { result ≡ writes span address size }
@@ -118,6 +128,7 @@ fn write(span: Span, address: u32, size: u32) -> Access
     }
 }
 
+/// A jump that is taken.
 fn jump(target: u32) -> Access
     ensures { result ≡ jumps target }
 {
@@ -142,6 +153,7 @@ pub fn has_reserved(reserved: Option<u32>, address: u32) -> bool
     reserved == Some(address)
 }
 
+/// What is left of a store on the condition that its word is reserved.
 fn store_conditional(reserved: Option<u32>, store: Access) -> Access
     ensures { result ≡ conditional reserved store }
 {
@@ -151,6 +163,7 @@ fn store_conditional(reserved: Option<u32>, store: Access) -> Access
     }
 }
 
+/// A system call, by its number in x17.
 fn call(regs: &Regs, span: Span, room: u32) -> Access
     ensures { result ≡ calls regs.now span room }
 {

@@ -4,7 +4,9 @@
 //! the results of the operations (`alu`, `taken`, `amo`, `extend`), what an instruction would touch
 //! before it happens (`access`), and what it does given the bytes that it loads (`effect`, `stored`).
 //! Every call is total, takes no memory and equals its definition in `specs/`, which is in the terms
-//! of the RISC-V unprivileged manual, chapters I and A.
+//! of the RISC-V unprivileged manual, chapter 2 and the chapter 'A Standard Extension for Atomic
+//! Instructions'. What the manual leaves to the system is this project's profile: misaligned accesses
+//! trap, a trap stops its hart, and there are two system calls, write and exit.
 #![tactic(auto)]
 
 mod checks;
@@ -22,5 +24,7 @@ pub use footprint::Access;
 pub use operation::{alu, amo, extend, taken};
 pub use regs::Regs;
 pub use span::Span;
-pub use syscall::{WriteCall, write_call};
 pub use view::{HartStatus, HartView};
+
+#[cfg(test)]
+mod tests;

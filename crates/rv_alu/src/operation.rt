@@ -3,8 +3,8 @@ ghost use Rattle.rv_alu.specs.Operation.{alu_of, amo_of, extend_of, moved, sign_
 
 use rv_word::{Alu, AmoOp, LoadWidth, Test};
 
-/// The result of a register operation (RISC-V unprivileged manual, chapter I, integer computational
-/// instructions). Shifts take the low five bits of `right`.
+/// The result of a register operation (RISC-V unprivileged manual, chapter 2, 'Integer Computational
+/// Instructions'). Sums and differences wrap; shifts take the low five bits of `right`.
 pub fn alu(op: Alu, left: u32, right: u32) -> u32
     ensures { result ≡ alu_of op left right }
 {
@@ -22,7 +22,7 @@ pub fn alu(op: Alu, left: u32, right: u32) -> u32
     }
 }
 
-/// Whether a branch is taken (RISC-V unprivileged manual, chapter I, conditional branches).
+/// Whether a branch is taken (RISC-V unprivileged manual, chapter 2, 'Conditional Branches').
 pub fn taken(test: Test, left: u32, right: u32) -> bool
     ensures { result ≡ taken_of test left right }
 {
@@ -37,7 +37,7 @@ pub fn taken(test: Test, left: u32, right: u32) -> bool
 }
 
 /// The word that an atomic memory operation stores, of the old word and the source register (RISC-V
-/// unprivileged manual, chapter A).
+/// unprivileged manual, 'Atomic Memory Operations').
 pub fn amo(op: AmoOp, old: u32, source: u32) -> u32
     ensures { result ≡ amo_of op old source }
 {
@@ -67,7 +67,8 @@ pub fn amo(op: AmoOp, old: u32, source: u32) -> u32
 }
 
 /// The word that a load puts into its register, of the loaded bytes as a number: sign-extended, or
-/// zero-extended by the unsigned widths (RISC-V unprivileged manual, chapter I, loads).
+/// zero-extended by the unsigned widths (RISC-V unprivileged manual, chapter 2, 'Load and Store
+/// Instructions'). Bits of `raw` beyond the width do not count.
 pub fn extend(width: LoadWidth, raw: u32) -> u32
     ensures { result ≡ extend_of width raw }
 {

@@ -19,9 +19,11 @@ const NO_SPACE: u32 = 28;
 
 const NO_SUCH_CALL: u32 = 38;
 
+/// The bytes of a line of memory.
 const LINE: u32 = 64;
 
-/// The registers of a call's number, arguments and answer (psABI).
+/// The registers of a call: its number in x17, its arguments in x10, x11 and x12, its answer in x10
+/// (Linux RISC-V system calls).
 pub const A0: Reg = Reg { number: 10 };
 
 pub const A1: Reg = Reg { number: 11 };
@@ -39,9 +41,11 @@ pub enum WriteCall {
     Append { count: u32 },
 }
 
-/// How the write call that these registers ask for goes, where the output has room for `room` bytes
-/// (this project's profile): to file 1 or 2, of at least one byte, from a line in memory, and no
-/// further than the end of that line.
+/// How the write call that these registers ask for goes, where the output has room for `room` bytes.
+/// The tests, in this order: the file is 1 or 2, both of which are the one output (else -9, 'bad file');
+/// the length is not 0 (else 0); the line of the first byte is in memory (else -14, 'bad address'); the
+/// output has room (else -28, 'no space'). It then writes no further than the end of the line and no more
+/// than the room. (Arguments and errors as in Linux; short writes are this project's profile.)
 pub fn write_call(regs: &Regs, span: Span, room: u32) -> WriteCall
     ensures { result ≡ write_call_of regs.now span room }
 {
@@ -72,7 +76,7 @@ pub fn write_call(regs: &Regs, span: Span, room: u32) -> WriteCall
     }
 }
 
-/// The number that a call other than exit leaves in x10.
+/// The number that a call other than exit leaves in x10: -38, 'no such call', for all but write.
 pub fn call_result(regs: &Regs, span: Span, room: u32) -> u32
     ensures { result ≡ call_answer regs.now span room }
 {

@@ -1,0 +1,215 @@
+use super::*;
+use rv_word::{Alu, AmoOp, LoadWidth, Reg, Test};
+
+/// Two words, their sum, difference, signed and unsigned 'less than', exclusive or, or, and, and the
+/// lesser and greater of them, signed and unsigned.
+const EXTREMES: [[u32; 13]; 25] = [
+    [0, 0, 0, 0, 0, 0, 0, 0, 0, 0, 0, 0, 0],
+    [0, 1, 1, ONES, 1, 1, 1, 1, 0, 0, 1, 0, 1],
+    [0, ONES, ONES, 1, 0, 1, ONES, ONES, 0, ONES, 0, 0, ONES],
+    [
+        0, LEAST, LEAST, LEAST, 0, 1, LEAST, LEAST, 0, LEAST, 0, 0, LEAST,
+    ],
+    [
+        0, MOST, MOST, 0x80000001, 1, 1, MOST, MOST, 0, 0, MOST, 0, MOST,
+    ],
+    [1, 0, 1, 1, 0, 0, 1, 1, 0, 0, 1, 0, 1],
+    [1, 1, 2, 0, 0, 0, 0, 1, 1, 1, 1, 1, 1],
+    [1, ONES, 0, 2, 0, 1, 0xfffffffe, ONES, 1, ONES, 1, 1, ONES],
+    [
+        1, LEAST, 0x80000001, 0x80000001, 0, 1, 0x80000001, 0x80000001, 0, LEAST, 1, 1, LEAST,
+    ],
+    [
+        1, MOST, LEAST, 0x80000002, 1, 1, 0x7ffffffe, MOST, 1, 1, MOST, 1, MOST,
+    ],
+    [ONES, 0, ONES, ONES, 1, 0, ONES, ONES, 0, ONES, 0, 0, ONES],
+    [
+        ONES, 1, 0, 0xfffffffe, 1, 0, 0xfffffffe, ONES, 1, ONES, 1, 1, ONES,
+    ],
+    [
+        ONES, ONES, 0xfffffffe, 0, 0, 0, 0, ONES, ONES, ONES, ONES, ONES, ONES,
+    ],
+    [
+        ONES, LEAST, MOST, MOST, 0, 0, MOST, ONES, LEAST, LEAST, ONES, LEAST, ONES,
+    ],
+    [
+        ONES, MOST, 0x7ffffffe, LEAST, 1, 0, LEAST, ONES, MOST, ONES, MOST, MOST, ONES,
+    ],
+    [
+        LEAST, 0, LEAST, LEAST, 1, 0, LEAST, LEAST, 0, LEAST, 0, 0, LEAST,
+    ],
+    [
+        LEAST, 1, 0x80000001, MOST, 1, 0, 0x80000001, 0x80000001, 0, LEAST, 1, 1, LEAST,
+    ],
+    [
+        LEAST, ONES, MOST, 0x80000001, 1, 1, MOST, ONES, LEAST, LEAST, ONES, LEAST, ONES,
+    ],
+    [
+        LEAST, LEAST, 0, 0, 0, 0, 0, LEAST, LEAST, LEAST, LEAST, LEAST, LEAST,
+    ],
+    [
+        LEAST, MOST, ONES, 1, 1, 0, ONES, ONES, 0, LEAST, MOST, MOST, LEAST,
+    ],
+    [MOST, 0, MOST, MOST, 0, 0, MOST, MOST, 0, 0, MOST, 0, MOST],
+    [
+        MOST, 1, LEAST, 0x7ffffffe, 0, 0, 0x7ffffffe, MOST, 1, 1, MOST, 1, MOST,
+    ],
+    [
+        MOST, ONES, 0x7ffffffe, LEAST, 0, 1, LEAST, ONES, MOST, ONES, MOST, MOST, ONES,
+    ],
+    [
+        MOST, LEAST, ONES, ONES, 0, 1, ONES, ONES, 0, LEAST, MOST, MOST, LEAST,
+    ],
+    [
+        MOST, MOST, 0xfffffffe, 0, 0, 0, 0, MOST, MOST, MOST, MOST, MOST, MOST,
+    ],
+];
+
+/// A word, a shift's amount, and the word shifted left, right, and right with its sign.
+const SHIFTS: [[u32; 5]; 30] = [
+    [1, 0, 1, 1, 1],
+    [1, 1, 2, 0, 0],
+    [1, 31, LEAST, 0, 0],
+    [1, 32, 1, 1, 1],
+    [1, 33, 2, 0, 0],
+    [1, ONES, LEAST, 0, 0],
+    [ONES, 0, ONES, ONES, ONES],
+    [ONES, 1, 0xfffffffe, MOST, ONES],
+    [ONES, 31, LEAST, 1, ONES],
+    [ONES, 32, ONES, ONES, ONES],
+    [ONES, 33, 0xfffffffe, MOST, ONES],
+    [ONES, ONES, LEAST, 1, ONES],
+    [LEAST, 0, LEAST, LEAST, LEAST],
+    [LEAST, 1, 0, 0x40000000, 0xc0000000],
+    [LEAST, 31, 0, 1, ONES],
+    [LEAST, 32, LEAST, LEAST, LEAST],
+    [LEAST, 33, 0, 0x40000000, 0xc0000000],
+    [LEAST, ONES, 0, 1, ONES],
+    [MOST, 0, MOST, MOST, MOST],
+    [MOST, 1, 0xfffffffe, 0x3fffffff, 0x3fffffff],
+    [MOST, 31, LEAST, 0, 0],
+    [MOST, 32, MOST, MOST, MOST],
+    [MOST, 33, 0xfffffffe, 0x3fffffff, 0x3fffffff],
+    [MOST, ONES, LEAST, 0, 0],
+    [0x87654321, 0, 0x87654321, 0x87654321, 0x87654321],
+    [0x87654321, 1, 0xeca8642, 0x43b2a190, 0xc3b2a190],
+    [0x87654321, 31, LEAST, 1, ONES],
+    [0x87654321, 32, 0x87654321, 0x87654321, 0x87654321],
+    [0x87654321, 33, 0xeca8642, 0x43b2a190, 0xc3b2a190],
+    [0x87654321, ONES, LEAST, 1, ONES],
+];
+
+/// Loaded bytes as a number, and what LB, LH, LW, LBU and LHU put into a register.
+const LOADS: [[u32; 6]; 13] = [
+    [0, 0, 0, 0, 0, 0],
+    [1, 1, 1, 1, 1, 1],
+    [0x7f, 0x7f, 0x7f, 0x7f, 0x7f, 0x7f],
+    [0x80, 0xffffff80, 0x80, 0x80, 0x80, 0x80],
+    [0xff, ONES, 0xff, 0xff, 0xff, 0xff],
+    [0x100, 0, 0x100, 0x100, 0, 0x100],
+    [0x7fff, ONES, 0x7fff, 0x7fff, 0xff, 0x7fff],
+    [0x8000, 0, 0xffff8000, 0x8000, 0, 0x8000],
+    [0xffff, ONES, ONES, 0xffff, 0xff, 0xffff],
+    [0x17f80, 0xffffff80, 0x7f80, 0x17f80, 0x80, 0x7f80],
+    [MOST, ONES, ONES, MOST, 0xff, 0xffff],
+    [LEAST, 0, 0, LEAST, 0, 0],
+    [ONES, ONES, ONES, ONES, 0xff, 0xffff],
+];
+
+#[test]
+fn operations_at_their_extremes(rt: HostRuntime) {
+    for row in EXTREMES {
+        let [
+            left,
+            right,
+            add,
+            sub,
+            slt,
+            sltu,
+            xor,
+            or,
+            and,
+            min,
+            max,
+            minu,
+            maxu,
+        ] = row;
+        for (op, want) in [
+            (Alu::Add, add),
+            (Alu::Sub, sub),
+            (Alu::Slt, slt),
+            (Alu::Sltu, sltu),
+            (Alu::Xor, xor),
+            (Alu::Or, or),
+            (Alu::And, and),
+        ] {
+            assert_eq!(rt; alu(op, left, right), want, "{op:?} {left:#x} {right:#x}");
+        }
+        for (op, want) in [
+            (AmoOp::Swap, right),
+            (AmoOp::Add, add),
+            (AmoOp::Xor, xor),
+            (AmoOp::And, and),
+            (AmoOp::Or, or),
+            (AmoOp::Min, min),
+            (AmoOp::Max, max),
+            (AmoOp::Minu, minu),
+            (AmoOp::Maxu, maxu),
+        ] {
+            assert_eq!(rt; amo(op, left, right), want, "{op:?} {left:#x} {right:#x}");
+        }
+        for (test, want) in [
+            (Test::Eq, sub == 0),
+            (Test::Ne, sub != 0),
+            (Test::Lt, slt == 1),
+            (Test::Ge, slt == 0),
+            (Test::Ltu, sltu == 1),
+            (Test::Geu, sltu == 0),
+        ] {
+            assert_eq!(rt;
+                taken(test, left, right),
+                want,
+                "{test:?} {left:#x} {right:#x}"
+            );
+        }
+    }
+}
+
+#[test]
+fn shifts_take_the_low_five_bits(rt: HostRuntime) {
+    for [word, amount, sll, srl, sra] in SHIFTS {
+        for (op, want) in [(Alu::Sll, sll), (Alu::Srl, srl), (Alu::Sra, sra)] {
+            assert_eq!(rt; alu(op, word, amount), want, "{op:?} {word:#x} by {amount}");
+        }
+    }
+}
+
+#[test]
+fn loads_extend_by_sign_or_zeros(rt: HostRuntime) {
+    for [raw, byte, half, word, byte_u, half_u] in LOADS {
+        for (width, want) in [
+            (LoadWidth::Byte, byte),
+            (LoadWidth::Half, half),
+            (LoadWidth::Word, word),
+            (LoadWidth::ByteU, byte_u),
+            (LoadWidth::HalfU, half_u),
+        ] {
+            assert_eq!(rt; extend(width, raw), want, "{width:?} of {raw:#x}");
+        }
+    }
+}
+
+#[test]
+fn register_0_stays_0(rt: HostRuntime) {
+    let mut regs = Regs::zero();
+    for number in 0..32 {
+        if let Some(reg) = Reg::new(number) {
+            regs.set(reg, ONES);
+            assert_eq!(rt;
+                regs.get(reg),
+                if number == 0 { 0 } else { ONES },
+                "x{number}"
+            );
+        }
+    }
+}

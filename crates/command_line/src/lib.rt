@@ -1,0 +1,17 @@
+//! What the words of a command line ask for.
+//!
+//! The crate stands on `el_base`. It knows which words there are, `run` and `replay` with their
+//! positional words and options, and what they mean: a command with the names of its files, and the
+//! configuration of its machine. It opens no file and says nothing of what a command does.
+#![tactic(auto)]
+
+mod command;
+mod numbers;
+mod reading;
+mod settings;
+
+pub use command::{Command, RunCommand};
+pub use reading::read_words;
+
+#[cfg(test)]
+mod tests;

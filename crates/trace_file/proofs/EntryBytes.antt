@@ -21,7 +21,7 @@ pub one_more : (front before after : List ℕ) (entries : List Entry) (place : �
     after ≡ front ++ map event_byte (events (take (place + 1) entries))
 one_more front before after entries place entry found so-far pushed =
     let next : events (take (place + 1) entries) ≡ events (take place entries) ++ entry.event ∷ [] =
-        rw (add-one, take_next entries place entry found) (map-append _ _ _)
+    rw (add-one, take_next entries place entry found) (map-append _ _ _)
     in
     pushed
     ∙ ap (λ (l : List ℕ). l ++ event_byte entry.event ∷ []) so-far

@@ -38,17 +38,17 @@ front : (bytes : List ℕ) → 4 ≤ length bytes →
     bytes ≡ get_or bytes 0 0 ∷ get_or bytes 1 0 ∷ get_or bytes 2 0 ∷ get_or bytes 3 0 ∷ drop 4 bytes
 front bytes long =
     cell bytes 0 (omega arith)
-      ∙ ap (λ (t : List ℕ). get_or bytes 0 0 ∷ t) (cell bytes 1 (omega arith))
-      ∙ ap (λ (t : List ℕ). get_or bytes 0 0 ∷ get_or bytes 1 0 ∷ t) (cell bytes 2 (omega arith))
-      ∙ ap (λ (t : List ℕ). get_or bytes 0 0 ∷ get_or bytes 1 0 ∷ get_or bytes 2 0 ∷ t) (cell bytes 3 (omega arith))
+    ∙ ap (λ (t : List ℕ). get_or bytes 0 0 ∷ t) (cell bytes 1 (omega arith))
+    ∙ ap (λ (t : List ℕ). get_or bytes 0 0 ∷ get_or bytes 1 0 ∷ t) (cell bytes 2 (omega arith))
+    ∙ ap (λ (t : List ℕ). get_or bytes 0 0 ∷ get_or bytes 1 0 ∷ get_or bytes 2 0 ∷ t) (cell bytes 3 (omega arith))
 
 -- four bytes are the little-endian bytes of their number
 four_bytes : (bytes : List ℕ) → IsBytes bytes → 4 ≤ length bytes →
     little_bytes 4 (little_number 4 bytes) ++ drop 4 bytes ≡ bytes
 four_bytes bytes fits long =
     ap
-      (λ (cells : List ℕ). cells ++ drop 4 bytes)
-      (cells_of (little_number 4 bytes) _ _ _ _ refl (fits 0) (fits 1) (fits 2) (fits 3))
+    (λ (cells : List ℕ). cells ++ drop 4 bytes)
+    (cells_of (little_number 4 bytes) _ _ _ _ refl (fits 0) (fits 1) (fits 2) (fits 3))
     ∙ sym (front bytes long)
 
 bytes_behind : (place : ℕ) (file : List ℕ) → IsBytes file → IsBytes (drop place file)
@@ -58,7 +58,7 @@ four_at : (file : List ℕ) (place end : ℕ) → IsBytes file → end ≤ lengt
     little_bytes 4 (number_at file place) ++ drop end file ≡ drop place file
 four_at file place end fits long is =
     let skipped : drop end file ≡ drop 4 (drop place file) =
-        ap (λ (n : ℕ). drop n file) (sym is) ∙ sym (drop-drop 4 place file)
+    ap (λ (n : ℕ). drop n file) (sym is) ∙ sym (drop-drop 4 place file)
     in
     rw skipped (four_bytes (drop place file) (bytes_behind place file fits) (omega (arith, length-drop place file)))
 
@@ -103,11 +103,11 @@ magic_none file none =
     let e0 = or_none (wrong file 0 0x45 Magic) (first_of first) e.1 in
     let e1 = or_none (wrong file 1 0x4c Magic) (first_of second) e0.1 in
     let e2 = or_none (wrong file 2 0x54 Magic) (first_of third) e1.1 in
-    let e3 = or_none (wrong file 3 0x52 Magic) None e2.1 in
-    ( wrong_none file 0 0x45 Magic e0.0
-    , wrong_none file 1 0x4c Magic e1.0
-    , wrong_none file 2 0x54 Magic e2.0
-    , wrong_none file 3 0x52 Magic e3.0
+    let e3 = or_none (wrong file 3 0x52 Magic) None e2.1 in (
+      wrong_none file 0 0x45 Magic e0.0,
+      wrong_none file 1 0x4c Magic e1.0,
+      wrong_none file 2 0x54 Magic e2.0,
+      wrong_none file 3 0x52 Magic e3.0,
     )
 
 version_none : (file : List ℕ) → version_fault file ≡ None → get_or file 4 0 ≡ 1
@@ -146,12 +146,12 @@ mode_none file none =
 
 numbers : (file : List ℕ) → IsBytes file → 22 ≤ length file →
     little_bytes 4 (number_at file 10)
-        ++ (little_bytes 4 (number_at file 14) ++ (little_bytes 4 (number_at file 18) ++ drop 22 file))
-      ≡ drop 10 file
+    ++ (little_bytes 4 (number_at file 14) ++ (little_bytes 4 (number_at file 18) ++ drop 22 file))
+    ≡ drop 10 file
 numbers file fits long =
     ap
-      (λ (t : List ℕ). little_bytes 4 (number_at file 10) ++ (little_bytes 4 (number_at file 14) ++ t))
-      (four_at file 18 22 fits long refl)
+    (λ (t : List ℕ). little_bytes 4 (number_at file 10) ++ (little_bytes 4 (number_at file 14) ++ t))
+    (four_at file 18 22 fits long refl)
     ∙ ap (λ (t : List ℕ). little_bytes 4 (number_at file 10) ++ t) (four_at file 14 18 fits (omega arith) refl)
     ∙ four_at file 10 14 fits (omega arith) refl
 
@@ -163,20 +163,20 @@ holds file place value within is = cell file place within ∙ ap (λ (x : ℕ). 
 settings_spelled : (file : List ℕ) → IsBytes file → 22 ≤ length file →
     get_or file 6 0 ≡ mode_number (mode_at (get_or file 6 0)) →
     drop 5 file ≡
-      get_or file 5 0 ∷ mode_number (mode_at (get_or file 6 0)) ∷ get_or file 7 0 ∷ get_or file 8 0 ∷ get_or file 9 0
-        ∷ (little_bytes 4 (number_at file 10)
-          ++ (little_bytes 4 (number_at file 14) ++ (little_bytes 4 (number_at file 18) ++ drop 22 file)))
+    get_or file 5 0 ∷ mode_number (mode_at (get_or file 6 0)) ∷ get_or file 7 0 ∷ get_or file 8 0 ∷ get_or file 9 0
+    ∷ (little_bytes 4 (number_at file 10)
+    ++ (little_bytes 4 (number_at file 14) ++ (little_bytes 4 (number_at file 18) ++ drop 22 file)))
 settings_spelled file fits long mode =
     cell file 5 (omega arith)
-      ∙ ap (λ (t : List ℕ). get_or file 5 0 ∷ t)
-        (holds file 6 (mode_number (mode_at (get_or file 6 0))) (omega arith) mode
-          ∙ ap (λ (t : List ℕ). mode_number (mode_at (get_or file 6 0)) ∷ t)
-            (cell file 7 (omega arith)
-              ∙ ap (λ (t : List ℕ). get_or file 7 0 ∷ t)
-                (cell file 8 (omega arith)
-                  ∙ ap (λ (t : List ℕ). get_or file 8 0 ∷ t)
-                    (cell file 9 (omega arith)
-                      ∙ ap (λ (t : List ℕ). get_or file 9 0 ∷ t) (sym (numbers file fits long))))))
+    ∙ ap (λ (t : List ℕ). get_or file 5 0 ∷ t)
+    (holds file 6 (mode_number (mode_at (get_or file 6 0))) (omega arith) mode
+    ∙ ap (λ (t : List ℕ). mode_number (mode_at (get_or file 6 0)) ∷ t)
+    (cell file 7 (omega arith)
+    ∙ ap (λ (t : List ℕ). get_or file 7 0 ∷ t)
+    (cell file 8 (omega arith)
+    ∙ ap (λ (t : List ℕ). get_or file 8 0 ∷ t)
+    (cell file 9 (omega arith)
+    ∙ ap (λ (t : List ℕ). get_or file 9 0 ∷ t) (sym (numbers file fits long))))))
 
 pub head_spelled : (file : List ℕ) (config : Config) (count : ℕ) → IsBytes file → 22 ≤ length file →
     magic_fault file ≡ None → version_fault file ≡ None → settings_fault file ≡ None →
@@ -187,16 +187,16 @@ head_spelled file config count fits long magic version settings config-is count-
     let letters = magic_none file magic in
     let mode = sym (mode_none file settings).0 in
     let spelled : file ≡ head (config_at file) (number_at file 18) ++ drop 22 file =
-        holds file 0 0x45 (omega arith) letters.0
-          ∙ ap (λ (t : List ℕ). 0x45 ∷ t)
-            (holds file 1 0x4c (omega arith) letters.1
-              ∙ ap (λ (t : List ℕ). 0x4c ∷ t)
-                (holds file 2 0x54 (omega arith) letters.2
-                  ∙ ap (λ (t : List ℕ). 0x54 ∷ t)
-                    (holds file 3 0x52 (omega arith) letters.3
-                      ∙ ap (λ (t : List ℕ). 0x52 ∷ t)
-                        (holds file 4 1 (omega arith) (version_none file version)
-                          ∙ ap (λ (t : List ℕ). 1 ∷ t) (settings_spelled file fits long mode)))))
+    holds file 0 0x45 (omega arith) letters.0
+    ∙ ap (λ (t : List ℕ). 0x45 ∷ t)
+    (holds file 1 0x4c (omega arith) letters.1
+    ∙ ap (λ (t : List ℕ). 0x4c ∷ t)
+    (holds file 2 0x54 (omega arith) letters.2
+    ∙ ap (λ (t : List ℕ). 0x54 ∷ t)
+    (holds file 3 0x52 (omega arith) letters.3
+    ∙ ap (λ (t : List ℕ). 0x52 ∷ t)
+    (holds file 4 1 (omega arith) (version_none file version)
+    ∙ ap (λ (t : List ℕ). 1 ∷ t) (settings_spelled file fits long mode)))))
     in
     spelled
     ∙ ap (λ (c : Config). head c (number_at file 18) ++ drop 22 file) (sym config-is)

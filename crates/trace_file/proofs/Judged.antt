@@ -72,7 +72,7 @@ settings_within file none =
       ways = byte_within file 8 1 8 e3.0;
       lines = byte_within file 9 1 32 e4.0;
       long = (number_within file 10 2 65536 e5.0).1;
-      steps = (number_within file 14 1 16777216 e6.0).1
+      steps = (number_within file 14 1 16777216 e6.0).1;
     }
 
 passing : (holds : Bool) (fault : ConfigFault) (later : Option ConfigFault) → holds ≡ true → later ≡ None →
@@ -83,11 +83,11 @@ passing false fault later passes none = absurd cc
 in_range : (c : Config) → Ranges c → IsInRange c
 in_range c r =
     passing (within 1 8 c.harts) Harts _ r.harts
-      (passing (list_any (λ n. n == c.sets) set_counts) Sets _ r.sets
-        (passing (within 1 8 c.ways) Ways _ r.ways
-          (passing (within 1 32 c.lines) Lines _ r.lines
-            (passing (within 2 65536 c.long) Long _ r.long
-              (passing (within 1 16777216 c.steps) Steps None r.steps refl)))))
+    (passing (list_any (λ n. n == c.sets) set_counts) Sets _ r.sets
+    (passing (within 1 8 c.ways) Ways _ r.ways
+    (passing (within 1 32 c.lines) Lines _ r.lines
+    (passing (within 2 65536 c.long) Long _ r.long
+    (passing (within 1 16777216 c.steps) Steps None r.steps refl)))))
 
 -- ---- the events
 
@@ -117,10 +117,10 @@ events_of : (harts : ℕ) → harts ≤ 8 → (bytes : List ℕ) → All (λ byt
 events_of harts few [] known = ([], refl, λ k d within. absurd (omega arith))
 events_of harts few (byte ∷ bytes) known =
     let first = event_of harts byte few (known 0 0 (omega arith)) in
-    let later = events_of harts few bytes (λ k d within. known (suc k) d (omega arith)) in
-    ( first.0 ∷ later.0
-    , ap (λ (b : ℕ). b ∷ map event_byte later.0) first.1 ∙ ap (λ (l : List ℕ). byte ∷ l) later.1
-    , All-cons (λ (event : Event). event.hart.number < harts) first.0 later.0 first.2 later.2
+    let later = events_of harts few bytes (λ k d within. known (suc k) d (omega arith)) in (
+      first.0 ∷ later.0,
+      ap (λ (b : ℕ). b ∷ map event_byte later.0) first.1 ∙ ap (λ (l : List ℕ). byte ∷ l) later.1,
+      All-cons (λ (event : Event). event.hart.number < harts) first.0 later.0 first.2 later.2,
     )
 
 -- ---- the whole file
@@ -157,9 +157,9 @@ faultless file fits none =
     let known' = rw bytes-are at known in
     let events = events_of harts (at_most 1 8 harts r.harts) bytes known' in
     let is =
-        read_is file c count events.0 (in_range c r) (at_most 0 (number_at file 14) count number.1) whole spelled
-          (events.1 ∙ sym (take_rest file 22))
-          events.2
+    read_is file c count events.0 (in_range c r) (at_most 0 (number_at file 14) count number.1) whole spelled
+    (events.1 ∙ sym (take_rest file 22))
+    events.2
     in
     let mode = mode_none file h2.0 in
     let built : IsBuilt c.mode = omega (arith, mode.0, mode.1) in

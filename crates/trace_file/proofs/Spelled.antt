@@ -62,7 +62,7 @@ ranges c none =
       ways = ways.0;
       lines = lines.0;
       long = long.0;
-      steps = steps.0
+      steps = steps.0;
     }
 
 pub at_most : (low high n : ℕ) → within low high n ≡ true → n ≤ high
@@ -100,7 +100,7 @@ long_is : (config : Config) (events : List Event) → config.long < 2 ^ 32 →
     number_at (spelling config events) 10 ≡ config.long
 long_is config events small =
     little_number-reads_back 4 config.long
-      (little_bytes 4 config.steps ++ (little_bytes 4 (length events) ++ map event_byte events)) small
+    (little_bytes 4 config.steps ++ (little_bytes 4 (length events) ++ map event_byte events)) small
 
 steps_is : (config : Config) (events : List Event) → config.steps < 2 ^ 32 →
     number_at (spelling config events) 14 ≡ config.steps
@@ -135,13 +135,13 @@ settings_pass c es r built =
     let long-in : within 2 65536 (number_at file 10) ≡ true = rw (long_is c es (omega arith)) r.long in
     let steps-in : within 1 16777216 (number_at file 14) ≡ true = rw (steps_is c es (omega arith)) r.steps in
     both_none (byte_fault file 5 1 8) _ (byte_passes file 5 1 8 (omega arith) r.harts)
-      (both_none (byte_fault file 6 0 last_mode) _ (byte_passes file 6 0 last_mode (omega arith) mode)
-        (both_none (sets_fault file) _
-          (field_passes file 8 _ (omega arith) (holds_passes (list_any (λ n. n == c.sets) set_counts) config_kind 7 r.sets))
-          (both_none (byte_fault file 8 1 8) _ (byte_passes file 8 1 8 (omega arith) r.ways)
-            (both_none (byte_fault file 9 1 32) _ (byte_passes file 9 1 32 (omega arith) r.lines)
-              (both_none (number_fault file 10 2 65536) _ (number_passes file 10 2 65536 (omega arith) long-in)
-                (both_none (number_fault file 14 1 16777216) None (number_passes file 14 1 16777216 (omega arith) steps-in) refl))))))
+    (both_none (byte_fault file 6 0 last_mode) _ (byte_passes file 6 0 last_mode (omega arith) mode)
+    (both_none (sets_fault file) _
+    (field_passes file 8 _ (omega arith) (holds_passes (list_any (λ n. n == c.sets) set_counts) config_kind 7 r.sets))
+    (both_none (byte_fault file 8 1 8) _ (byte_passes file 8 1 8 (omega arith) r.ways)
+    (both_none (byte_fault file 9 1 32) _ (byte_passes file 9 1 32 (omega arith) r.lines)
+    (both_none (number_fault file 10 2 65536) _ (number_passes file 10 2 65536 (omega arith) long-in)
+    (both_none (number_fault file 14 1 16777216) None (number_passes file 14 1 16777216 (omega arith) steps-in) refl))))))
 
 head_passes : (c : Config) (es : List Event) → Ranges c → IsBuilt c.mode → length es ≤ c.steps →
     head_fault (spelling c es) ≡ None
@@ -151,13 +151,13 @@ head_passes c es r built few =
     let long = spelled_length c es in
     let most = at_most 1 16777216 c.steps r.steps in
     let count-in : within 0 (number_at file 14) (number_at file 18) ≡ true =
-        rw (steps_is c es (omega arith), count_is c es (omega arith)) (count_within (length es) c.steps few)
+    rw (steps_is c es (omega arith), count_is c es (omega arith)) (count_within (length es) c.steps few)
     in
     both_none (magic_fault file) _ (field_passes file 4 _ (omega arith) refl)
-      (both_none (version_fault file) _ (field_passes file 5 _ (omega arith) refl)
-        (both_none (settings_fault file) _ (settings_pass c es r built)
-          (both_none (number_fault file 18 0 (number_at file 14)) None
-            (number_passes file 18 0 (number_at file 14) (omega arith) count-in) refl)))
+    (both_none (version_fault file) _ (field_passes file 5 _ (omega arith) refl)
+    (both_none (settings_fault file) _ (settings_pass c es r built)
+    (both_none (number_fault file 18 0 (number_at file 14)) None
+    (number_passes file 18 0 (number_at file 14) (omega arith) count-in) refl)))
 
 kind_small : (kind : Kind) → kind_number kind ≤ 3
 kind_small Step = omega arith
@@ -176,9 +176,9 @@ none_other test xs each =
     let p : ℕ → Bool = λ x. not (test x) in
     elim (cases_lt (position_or_len p xs) (length xs)) [
       | inl found ↦
-        let bad : not (test (get_or xs (position_or_len p xs) 0)) ≡ true = passes_at_first p xs 0 found in
-        let good : test (get_or xs (position_or_len p xs) 0) ≡ true = each (position_or_len p xs) 0 found in
-        absurd (not_both _ good bad)
+          let bad : not (test (get_or xs (position_or_len p xs) 0)) ≡ true = passes_at_first p xs 0 found in
+          let good : test (get_or xs (position_or_len p xs) 0) ≡ true = each (position_or_len p xs) 0 found in
+          absurd (not_both _ good bad)
       | inr past ↦ rw (le-ltb (position_or_len p xs) (length xs) past) refl
     ]
 
@@ -189,15 +189,15 @@ events_pass c es each =
     let bytes = map event_byte es in
     let all : take (length es) bytes ≡ bytes = take_all (length es) bytes (omega (arith, length-map es event_byte)) in
     let known : All (λ byte. IsTrue (is_event c.harts byte)) bytes =
-        All-map (λ byte. IsTrue (is_event c.harts byte)) event_byte es
-          (λ k d within.
-            parts
-              (kind_number (get_or es k d).kind)
-              (get_or es k d).hart.number
-              c.harts
-              (kind_small (get_or es k d).kind)
-              (get_or es k d).hart.small
-              (each k d within))
+    All-map (λ byte. IsTrue (is_event c.harts byte)) event_byte es
+    (λ k d within.
+    parts
+    (kind_number (get_or es k d).kind)
+    (get_or es k d).hart.number
+    c.harts
+    (kind_small (get_or es k d).kind)
+    (get_or es k d).hart.small
+    (each k d within))
     in
     rw (all, none_other (is_event c.harts) bytes known) refl
 
@@ -218,11 +218,11 @@ no_fault c es file is built file-is =
     let few = is.few in
     let count = count_is c es (omega arith) in
     let spelled : trace_fault (spelling c es) ≡ None =
-        both_none (head_fault (spelling c es)) _ (head_passes c es r built is.few)
-          (both_none (event_fault c.harts (number_at (spelling c es) 18) (spelling c es)) _
-            (ap (λ (n : ℕ). event_fault c.harts n (spelling c es)) count ∙ events_pass c es is.harts)
-            (both_none (end_fault (number_at (spelling c es) 18) (spelling c es)) None
-              (ap (λ (n : ℕ). end_fault n (spelling c es)) count ∙ end_passes c es) refl))
+    both_none (head_fault (spelling c es)) _ (head_passes c es r built is.few)
+    (both_none (event_fault c.harts (number_at (spelling c es) 18) (spelling c es)) _
+    (ap (λ (n : ℕ). event_fault c.harts n (spelling c es)) count ∙ events_pass c es is.harts)
+    (both_none (end_fault (number_at (spelling c es) 18) (spelling c es)) None
+    (ap (λ (n : ℕ). end_fault n (spelling c es)) count ∙ end_passes c es) refl))
     in
     ap trace_fault file-is ∙ spelled
 
@@ -266,13 +266,13 @@ same_events (x ∷ xs) (y ∷ ys) same =
 
 abbrev config_of : ℕ → Mode → ℕ → ℕ → ℕ → ℕ → ℕ → Config
 config_of harts mode sets ways lines long steps = record {
-    harts = harts;
-    mode = mode;
-    sets = sets;
-    ways = ways;
-    lines = lines;
-    long = long;
-    steps = steps
+  harts = harts;
+  mode = mode;
+  sets = sets;
+  ways = ways;
+  lines = lines;
+  long = long;
+  steps = steps;
 }
 
 same_config : (c d : Config) → c.harts ≡ d.harts → c.mode ≡ d.mode → c.sets ≡ d.sets → c.ways ≡ d.ways →
@@ -297,16 +297,16 @@ one_spelling c d es fs is is' same =
     let steps' = at_most 1 16777216 d.steps r'.steps in
     let harts-are : c.harts ≡ d.harts = ap (λ (l : List ℕ). get_or l 5 0) same in
     let mode-is : c.mode ≡ d.mode =
-        sym (mode_back c.mode) ∙ ap (λ (l : List ℕ). mode_at (get_or l 6 0)) same ∙ mode_back d.mode
+    sym (mode_back c.mode) ∙ ap (λ (l : List ℕ). mode_at (get_or l 6 0)) same ∙ mode_back d.mode
     in
     let sets-are : c.sets ≡ d.sets = ap (λ (l : List ℕ). get_or l 7 0) same in
     let ways-are : c.ways ≡ d.ways = ap (λ (l : List ℕ). get_or l 8 0) same in
     let lines-are : c.lines ≡ d.lines = ap (λ (l : List ℕ). get_or l 9 0) same in
     let long-is : c.long ≡ d.long =
-        sym (long_is c es (omega arith)) ∙ ap (λ (l : List ℕ). number_at l 10) same ∙ long_is d fs (omega arith)
+    sym (long_is c es (omega arith)) ∙ ap (λ (l : List ℕ). number_at l 10) same ∙ long_is d fs (omega arith)
     in
     let steps-are : c.steps ≡ d.steps =
-        sym (steps_is c es (omega arith)) ∙ ap (λ (l : List ℕ). number_at l 14) same ∙ steps_is d fs (omega arith)
+    sym (steps_is c es (omega arith)) ∙ ap (λ (l : List ℕ). number_at l 14) same ∙ steps_is d fs (omega arith)
     in
     (same_config c d harts-are mode-is sets-are ways-are lines-are long-is steps-are, same_events es fs (ap (λ (l : List ℕ). drop 22 l) same))
 
@@ -319,14 +319,14 @@ pub read_is : (file : List ℕ) (c : Config) (count : ℕ) (es : List Event) →
 read_is file c count es in-range few whole spelled events harts =
     let rest : map event_byte es ≡ drop 22 file = events ∙ take_rest file 22 in
     let many : length es ≡ count =
-        omega (arith, length-map es event_byte, ap length rest, length-drop 22 file)
-    in
-    ( record {
-      in_range = in-range;
-      few = omega arith;
-      harts = harts
-    }
-    , spelled
-      ∙ ap (λ (n : ℕ). head c n ++ drop 22 file) (sym many)
-      ∙ ap (λ (l : List ℕ). head c (length es) ++ l) (sym rest)
+    omega (arith, length-map es event_byte, ap length rest, length-drop 22 file)
+    in (
+      record {
+        in_range = in-range;
+        few = omega arith;
+        harts = harts;
+      },
+      spelled
+          ∙ ap (λ (n : ℕ). head c n ++ drop 22 file) (sym many)
+          ∙ ap (λ (l : List ℕ). head c (length es) ++ l) (sym rest),
     )

@@ -57,12 +57,12 @@ number_fault file place low high =
 unfoldable pub magic_fault : List ℕ → Option Fault
 magic_fault file =
     field file 4
-      (first_of
-        ( wrong file 0 0x45 Magic
-        ∷ wrong file 1 0x4c Magic
-        ∷ wrong file 2 0x54 Magic
-        ∷ wrong file 3 0x52 Magic
-        ∷ []))
+    (first_of
+    (wrong file 0 0x45 Magic
+    ∷ wrong file 1 0x4c Magic
+    ∷ wrong file 2 0x54 Magic
+    ∷ wrong file 3 0x52 Magic
+    ∷ []))
 
 unfoldable pub version_fault : List ℕ → Option Fault
 version_fault file = field file 5 (wrong file 4 1 Version)
@@ -75,24 +75,24 @@ sets_fault file =
 unfoldable pub settings_fault : List ℕ → Option Fault
 settings_fault file =
     first_of
-      ( byte_fault file 5 1 8
-      ∷ byte_fault file 6 0 last_mode
-      ∷ sets_fault file
-      ∷ byte_fault file 8 1 8
-      ∷ byte_fault file 9 1 32
-      ∷ number_fault file 10 2 65536
-      ∷ number_fault file 14 1 16777216
-      ∷ [])
+    (byte_fault file 5 1 8
+    ∷ byte_fault file 6 0 last_mode
+    ∷ sets_fault file
+    ∷ byte_fault file 8 1 8
+    ∷ byte_fault file 9 1 32
+    ∷ number_fault file 10 2 65536
+    ∷ number_fault file 14 1 16777216
+    ∷ [])
 
 -- the fields before the events; there are no more events than steps
 unfoldable pub head_fault : List ℕ → Option Fault
 head_fault file =
     first_of
-      ( magic_fault file
-      ∷ version_fault file
-      ∷ settings_fault file
-      ∷ number_fault file 18 0 (number_at file 14)
-      ∷ [])
+    (magic_fault file
+    ∷ version_fault file
+    ∷ settings_fault file
+    ∷ number_fault file 18 0 (number_at file 14)
+    ∷ [])
 
 -- the byte of an event: a kind of 0 to 3 above a hart below this many
 abbrev pub is_event : ℕ → ℕ → Bool
@@ -102,8 +102,8 @@ is_event harts byte = nat_le (byte / 16) 3 && nat_lt (byte % 16) harts
 unfoldable pub event_fault : ℕ → ℕ → List ℕ → Option Fault
 event_fault harts count file =
     option_map
-      (λ i. fault_of Event (22 + i))
-      (position (λ byte. not (is_event harts byte)) (take count (drop 22 file)))
+    (λ i. fault_of Event (22 + i))
+    (position (λ byte. not (is_event harts byte)) (take count (drop 22 file)))
 
 -- the file ends before the last of this many events, or goes on behind it
 unfoldable pub end_fault : ℕ → List ℕ → Option Fault
@@ -113,10 +113,10 @@ end_fault count file = field file (22 + count) (fault_if (nat_lt (22 + count) (l
 unfoldable pub trace_fault : List ℕ → Option Fault
 trace_fault file =
     first_of
-      ( head_fault file
-      ∷ event_fault (slice_index file 5) (number_at file 18) file
-      ∷ end_fault (number_at file 18) file
-      ∷ [])
+    (head_fault file
+    ∷ event_fault (slice_index file 5) (number_at file 18) file
+    ∷ end_fault (number_at file 18) file
+    ∷ [])
 
 -- what the fields of the configuration say
 abbrev pub mode_at : ℕ → Mode
@@ -124,13 +124,13 @@ mode_at number = if number == 0 then Plain else if number == 1 then Sle else Tlr
 
 unfoldable pub config_at : List ℕ → settings.Config
 config_at file = record {
-    harts = slice_index file 5;
-    mode = mode_at (slice_index file 6);
-    sets = slice_index file 7;
-    ways = slice_index file 8;
-    lines = slice_index file 9;
-    long = number_at file 10;
-    steps = number_at file 14
+  harts = slice_index file 5;
+  mode = mode_at (slice_index file 6);
+  sets = slice_index file 7;
+  ways = slice_index file 8;
+  lines = slice_index file 9;
+  long = number_at file 10;
+  steps = number_at file 14;
 }
 
 -- what a reader of a field answers: the value, or the fault

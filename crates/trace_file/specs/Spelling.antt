@@ -35,10 +35,10 @@ event_byte event = 16 * kind_number event.kind + event.hart.number
 abbrev pub head : Config → ℕ → List ℕ
 head config count =
     magic
-      ++ version ∷ config.harts ∷ mode_number config.mode ∷ config.sets ∷ config.ways ∷ config.lines ∷ []
-      ++ little_bytes 4 config.long
-      ++ little_bytes 4 config.steps
-      ++ little_bytes 4 count
+    ++ version ∷ config.harts ∷ mode_number config.mode ∷ config.sets ∷ config.ways ∷ config.lines ∷ []
+    ++ little_bytes 4 config.long
+    ++ little_bytes 4 config.steps
+    ++ little_bytes 4 count
 
 abbrev pub spelling : Config → List Event → List ℕ
 spelling config events = head config (length events) ++ map event_byte events

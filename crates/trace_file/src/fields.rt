@@ -9,11 +9,9 @@ use byteorder::{ByteOrder, LittleEndian};
 /// That the file does not end before this place.
 #[tactic(auto, unfolding(crate::specs::Faults::field))]
 pub fn reaches(file: &[u8], end: u32) -> Result<(), Fault>
-    ensures {
-        MatchResult result
-            (λ _. end ≤ length file.now)
-            (λ fault. (length file.now < end) × (fault ≡ fault_of FaultKind.Short (length file.now)))
-    }
+    ensures { MatchResult result
+        (λ _. end ≤ length file.now)
+        (λ fault. (length file.now < end) × (fault ≡ fault_of FaultKind.Short (length file.now))) }
 {
     if file.len() < end as usize {
         return Err(Fault::new(FaultKind::Short, file.len() as u32));
@@ -36,9 +34,7 @@ pub fn expect(holds: bool, kind: FaultKind, place: u32) -> Result<(), Fault>
 #[tactic(auto, unfolding(crate::specs::Faults::field, crate::specs::Faults::byte_fault))]
 pub fn byte_within(file: &[u8], place: u32, low: u8, high: u8) -> Result<u8, Fault>
     requires { place < 22 }
-    ensures exact {
-        Answers result (slice_index file.now place) (byte_fault file.now place low high)
-    }
+    ensures exact { Answers result (slice_index file.now place) (byte_fault file.now place low high) }
     ensures inside { IfOk result (λ byte. (low ≤ byte) × (byte ≤ high)) }
 {
     reaches(file, place + 1)?;
@@ -51,9 +47,7 @@ pub fn byte_within(file: &[u8], place: u32, low: u8, high: u8) -> Result<u8, Fau
 #[tactic(auto, unfolding(crate::specs::Faults::field, crate::specs::Faults::number_fault))]
 pub fn number_within(file: &[u8], place: u32, low: u32, high: u32) -> Result<u32, Fault>
     requires { place < 22 }
-    ensures exact {
-        Answers result (number_at file.now place) (number_fault file.now place low high)
-    }
+    ensures exact { Answers result (number_at file.now place) (number_fault file.now place low high) }
     ensures inside { IfOk result (λ number. (low ≤ number) × (number ≤ high)) }
     ensures whole { IfOk result (λ _. place + 4 ≤ length file.now) }
 {

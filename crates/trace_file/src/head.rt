@@ -20,13 +20,11 @@ pub struct Head {
 /// The fields before the events, or the first fault among them.
 #[tactic(auto, unfolding(crate::specs::Faults::head_fault, crate::specs::Faults::config_at))]
 pub fn head_of(file: &[u8]) -> Result<Head, Fault>
-    ensures exact {
-        MatchResult result
-            (λ head. (head.config ≡ config_at file.now)
-                × (head.count ≡ number_at file.now 18)
-                × (head_fault file.now ≡ None))
-            (λ fault. head_fault file.now ≡ Some fault)
-    }
+    ensures exact { MatchResult result
+        (λ head. (head.config ≡ config_at file.now)
+        × (head.count ≡ number_at file.now 18)
+        × (head_fault file.now ≡ None))
+        (λ fault. head_fault file.now ≡ Some fault) }
     ensures whole { IfOk result (λ _. 22 ≤ length file.now) }
     ensures settings { IfOk result (λ head. IsInRange head.config × IsBuilt head.config.mode) }
     ensures few { IfOk result (λ head. head.count ≤ head.config.steps) }

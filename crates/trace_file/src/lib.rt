@@ -14,11 +14,11 @@ mod laws;
 mod reading;
 mod writing;
 
-
 pub use content::{Events, Trace};
+pub use fault::TraceFault;
 pub use laws::grammar;
 pub use reading::read_trace;
 pub use writing::write_trace;
-pub use fault::TraceFault;
 
-
+#[cfg(test)]
+mod tests;

@@ -47,14 +47,10 @@ fn first_other(bytes: &[u8], harts: u8) -> Option<usize>
 fn check_events(file: &[u8], harts: u8, count: u32) -> Result<(), Fault>
     requires head { 22 ≤ length file.now }
     requires few { count ≤ 16777216 }
-    ensures exact {
-        MatchResult result
-            (λ _. event_fault harts count file.now ≡ None)
-            (λ fault. event_fault harts count file.now ≡ Some fault)
-    }
-    ensures each {
-        IfOk result (λ _. All (λ byte. IsTrue (is_event harts byte)) (take count (drop 22 file.now)))
-    }
+    ensures exact { MatchResult result
+        (λ _. event_fault harts count file.now ≡ None)
+        (λ fault. event_fault harts count file.now ≡ Some fault) }
+    ensures each { IfOk result (λ _. All (λ byte. IsTrue (is_event harts byte)) (take count (drop 22 file.now))) }
 {
     let events = at_most(count as usize, &file[HEAD_BYTES..]);
     match first_other(events, harts) {
@@ -66,15 +62,17 @@ fn check_events(file: &[u8], harts: u8, count: u32) -> Result<(), Fault>
 #[tactic(auto, unfolding(crate::specs::Faults::field, crate::specs::Faults::end_fault))]
 fn check_end(file: &[u8], count: u32) -> Result<(), Fault>
     requires few { count ≤ 16777216 }
-    ensures exact {
-        MatchResult result
-            (λ _. end_fault count file.now ≡ None)
-            (λ fault. end_fault count file.now ≡ Some fault)
-    }
+    ensures exact { MatchResult result
+        (λ _. end_fault count file.now ≡ None)
+        (λ fault. end_fault count file.now ≡ Some fault) }
     ensures whole { IfOk result (λ _. length file.now ≡ 22 + count) }
 {
     reaches(file, 22 + count)?;
-    expect(file.len() == HEAD_BYTES + count as usize, FaultKind::Tail, 22 + count)
+    expect(
+        file.len() == HEAD_BYTES + count as usize,
+        FaultKind::Tail,
+        22 + count,
+    )
 }
 
 fn kind_of(number: u8) -> Kind
@@ -104,18 +102,14 @@ fn event_of(byte: u8, harts: u8) -> Event
 /// The fields before the events of a file that is a trace, or the first fault.
 #[tactic(auto, using(crate::proofs::EventBytes::all_taken), unfolding(crate::specs::Faults::trace_fault, crate::specs::Faults::config_at))]
 fn checked(file: &[u8]) -> Result<Head, Fault>
-    ensures exact {
-        MatchResult result
-            (λ _. trace_fault file.now ≡ None)
-            (λ fault. trace_fault file.now ≡ Some fault)
-    }
+    ensures exact { MatchResult result
+        (λ _. trace_fault file.now ≡ None)
+        (λ fault. trace_fault file.now ≡ Some fault) }
     ensures settings { IfOk result (λ found. IsInRange found.config × IsBuilt found.config.mode) }
     ensures few { IfOk result (λ found. found.count ≤ found.config.steps) }
     ensures whole { IfOk result (λ found. length file.now ≡ 22 + found.count) }
     ensures spelled { IfOk result (λ found. file.now ≡ head found.config found.count ++ drop 22 file.now) }
-    ensures events {
-        IfOk result (λ found. All (λ byte. IsTrue (is_event found.config.harts byte)) (drop 22 file.now))
-    }
+    ensures events { IfOk result (λ found. All (λ byte. IsTrue (is_event found.config.harts byte)) (drop 22 file.now)) }
 {
     let head = head_of(file)?;
     check_events(file, head.config.harts, head.count)?;
@@ -142,23 +136,17 @@ fn events_of(alloc: Global, bytes: &[u8], harts: u8) -> Result<Events, NoMemory>
 /// found to be a trace, and then one place an event.
 #[tactic(auto, using(crate::proofs::Spelled::no_fault, crate::proofs::Spelled::one_spelling))]
 pub fn read_trace(alloc: Global, file: &[u8]) -> Result<Trace, TraceFault>
-    ensures accepted {
-        IfOk result (λ trace. IsTrace trace.config trace.events
-            × IsBuilt trace.config.mode
-            × (file.now ≡ spelling trace.config trace.events))
-    }
-    ensures refused {
-        (number place : ℕ) → result ≡ Err (TraceFault.Bad number place) →
-            trace_fault file.now ≡ Some (record { number = number; place = place })
-    }
+    ensures accepted { IfOk result (λ trace. IsTrace trace.config trace.events
+        × IsBuilt trace.config.mode
+        × (file.now ≡ spelling trace.config trace.events)) }
+    ensures refused { (number place : ℕ) → result ≡ Err (TraceFault.Bad number place) →
+        trace_fault file.now ≡ Some (record { number = number; place = place }) }
     ensures memory_after_faults { result ≡ Err TraceFault.NoMemory → trace_fault file.now ≡ None }
     // What is spelled is read as what it spells, unless memory runs out.
-    ensures spelled {
-        (config : Config) (events : List Event) → IsTrace config events → IsBuilt config.mode →
-            file.now ≡ spelling config events →
-            (trace_fault file.now ≡ None)
-                × IfOk result (λ trace. (trace.config ≡ config) × (trace.events ≡ events))
-    }
+    ensures spelled { (config : Config) (events : List Event) → IsTrace config events → IsBuilt config.mode →
+        file.now ≡ spelling config events →
+        (trace_fault file.now ≡ None)
+        × IfOk result (λ trace. (trace.config ≡ config) × (trace.events ≡ events)) }
 {
     let head = checked(file)?;
     let events = events_of(alloc, &file[HEAD_BYTES..], head.config.harts)?;

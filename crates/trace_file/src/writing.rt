@@ -99,9 +99,7 @@ pub fn write_trace<S: Shelf>(
     requires in_range { IsInRange config.now }
     requires few { length history.now.entries ≤ config.now.steps }
     requires harts { All (λ event. event.hart.number < config.now.harts) (events history.now.entries) }
-    ensures written {
-        OnOk result (Holds (S.told shelf.new) name.now (spelling config.now (events history.now.entries)))
-    }
+    ensures written { OnOk result (Holds (S.told shelf.new) name.now (spelling config.now (events history.now.entries))) }
     ensures others_stay { KeepsOthers (S.told shelf.old) (S.told shelf.new) name.now }
     ensures contents_stay_without_memory { result ≡ Err ShelfFault.NoMemory → S.told shelf.new ≡ S.told shelf.old }
     ensures never_too_big { result ≢ Err ShelfFault.TooBig }

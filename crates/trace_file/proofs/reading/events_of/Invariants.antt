@@ -6,7 +6,7 @@ use Rattle.trace_file.proofs.reading.events_of.Given as goal
 
 abbrev pub invariant-loop-byte : goal.invariant-loop-byte
 invariant-loop-byte l = record {
-    spelled : map event_byte l.list.items ≡ take l.byte-index l.bytes;
-    within : All (λ (event : Event). event.hart.number < l.harts) l.list.items;
-    room : length l.bytes ≤ vec_capacity l.list
+  spelled : map event_byte l.list.items ≡ take l.byte-index l.bytes;
+  within : All (λ (event : Event). event.hart.number < l.harts) l.list.items;
+  room : length l.bytes ≤ vec_capacity l.list;
 }

@@ -5,18 +5,18 @@ use Rattle.trace_file.proofs.reading.read_trace.Goals as goal
 pub returns-clause-spelled : goal.returns-clause-spelled
 returns-clause-spelled c config events is built file-is =
     let found =
-        read_is
-          c.args.file.now
-          c.in_ok-head.head.config
-          c.in_ok-head.head.count
-          c.in_ok-events.events
-          c.in_ok-head.ensures.settings.0
-          c.in_ok-head.ensures.few
-          c.in_ok-head.ensures.whole
-          c.in_ok-head.ensures.spelled
-          c.in_ok-events.ensures.spelled
-          c.in_ok-events.ensures.within
-    in
-    ( no_fault config events c.args.file.now is built file-is
-    , one_spelling c.in_ok-head.head.config config c.in_ok-events.events events found.0 is (sym found.1 ∙ file-is)
+    read_is
+    c.args.file.now
+    c.in_ok-head.head.config
+    c.in_ok-head.head.count
+    c.in_ok-events.events
+    c.in_ok-head.ensures.settings.0
+    c.in_ok-head.ensures.few
+    c.in_ok-head.ensures.whole
+    c.in_ok-head.ensures.spelled
+    c.in_ok-events.ensures.spelled
+    c.in_ok-events.ensures.within
+    in (
+      no_fault config events c.args.file.now is built file-is,
+      one_spelling c.in_ok-head.head.config config c.in_ok-events.events events found.0 is (sym found.1 ∙ file-is),
     )

@@ -6,12 +6,12 @@ use Rattle.trace_file.proofs.writing.spelled.Goals as goal
 pub loop-place-preserved : goal.loop-place-preserved
 loop-place-preserved c =
     one_more
-      (head c.args.config.now (length c.args.history.now.entries))
-      c.loop-place.bytes.items
-      c.push.new.self.items
-      c.args.history.now.entries
-      c.loop-place.place
-      c.entry.result
-      c.entry.ensures
-      c.loop-place.invariant
-      (c.in_ok-push.ensures.items ∙ ap (λ (byte : ℕ). c.loop-place.bytes.items ++ byte ∷ []) c.event_byte.ensures)
+    (head c.args.config.now (length c.args.history.now.entries))
+    c.loop-place.bytes.items
+    c.push.new.self.items
+    c.args.history.now.entries
+    c.loop-place.place
+    c.entry.result
+    c.entry.ensures
+    c.loop-place.invariant
+    (c.in_ok-push.ensures.items ∙ ap (λ (byte : ℕ). c.loop-place.bytes.items ++ byte ∷ []) c.event_byte.ensures)

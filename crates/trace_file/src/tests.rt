@@ -1,0 +1,199 @@
+ghost use Rattle.std.specs.Prelude.{◌≡◌, ◌^◌, ◌<◌, length, IfOk};
+ghost use Rattle.chronicle.specs.Chronicle.{events};
+
+use super::*;
+use chronicle::History;
+use el_base::{Config, Entry, Event, HartId, Kind, Mode, Outcome};
+use el_io::{MemShelf, ShelfFault, SureShelf};
+use std::alloc::Global;
+use std::test::Fail;
+
+/// The head of the worked trace, a plain run of one hart with 33 events.
+const HEAD: [u8; 22] = [
+    0x45, 0x4c, 0x54, 0x52, 0x01, 0x01, 0x00, 0x10, 0x04, 0x10, 0xd0, 0x07, 0x00, 0x00, 0x00, 0x09,
+    0x3d, 0x00, 0x21, 0x00, 0x00, 0x00,
+];
+
+const KINDS: [Kind; 4] = [Kind::Step, Kind::Order, Kind::Serve, Kind::Deliver];
+
+/// The worked trace: the head, then eight times a round of the four kinds, then one step.
+fn worked(alloc: Global) -> Result<Vec<u8>, Fail> {
+    let mut file = Vec::from_slice(alloc, &HEAD)?;
+    for _ in 0..8 {
+        file.extend_from_slice(&[0x00, 0x10, 0x20, 0x30])?;
+    }
+    file.push(0x00)?;
+    Ok(file)
+}
+
+fn plain() -> Config {
+    Config {
+        mode: Mode::Plain,
+        ..Config::usual()
+    }
+}
+
+/// A history of these events, in which nothing was done.
+fn history_of(alloc: Global, made: &[Event]) -> Result<History, Fail>
+    requires { length made.now < 2 ^ 32 }
+    ensures { IfOk result (λ history. events history.entries ≡ made.now) }
+{
+    let mut history = History::make(alloc, made.len() as u32)?;
+    for event in made {
+        history.push(Entry {
+            event: *event,
+            outcome: Outcome::Idle,
+        });
+    }
+    Ok(history)
+}
+
+fn change(file: &mut [u8], changes: &[(usize, u8)]) {
+    for (place, byte) in changes {
+        if let Some(slot) = file.get_mut(*place) {
+            *slot = *byte;
+        }
+    }
+}
+
+fn fault_of(alloc: Global, file: &[u8]) -> Option<(u8, u32)> {
+    match read_trace(alloc, file) {
+        Err(TraceFault::Bad { number, place }) => Some((number, place)),
+        _ => None,
+    }
+}
+
+#[test]
+fn the_worked_trace_is_read(rt: HostRuntime) -> Result<(), Fail> {
+    let trace = read_trace(rt.alloc(), &worked(rt.alloc())?)?;
+    assert_eq!(rt; trace.config, plain());
+    assert_eq!(rt; trace.events.as_slice().len(), 33);
+    let hart = HartId::new(0).ok_or("no hart 0")?;
+    for (place, event) in trace.events.as_slice().iter().enumerate() {
+        assert_eq!(rt;
+            *event,
+            Event {
+                kind: KINDS[place % 4],
+                hart
+            },
+            "at {place}"
+        );
+    }
+    Ok(())
+}
+
+/// Eight harts and each kind: the high half of a byte is the kind, the low half the hart.
+#[test]
+fn each_kind_and_hart_has_its_byte(rt: HostRuntime) -> Result<(), Fail> {
+    let mut file = Vec::from_slice(rt.alloc(), &HEAD)?;
+    assert_eq!(rt; file.len(), 22);
+    file[5] = 8;
+    file[18] = 32;
+    for byte in 0..0x40_u8 {
+        if byte % 16 < 8 {
+            file.push(byte)?;
+        }
+    }
+    let trace = read_trace(rt.alloc(), &file)?;
+    assert_eq!(rt; trace.config.harts, 8);
+    assert_eq!(rt; trace.events.as_slice().len(), 32);
+    for (place, event) in trace.events.as_slice().iter().enumerate() {
+        assert_eq!(rt; event.kind, KINDS[place / 8 % 4], "at {place}");
+        assert_eq!(rt; event.hart.number as usize, place % 8, "at {place}");
+    }
+    let history = history_of(rt.alloc(), trace.events.as_slice())?;
+    let mut shelf = SureShelf::make(rt.alloc(), &[], &[])?;
+    write_trace(rt.alloc(), &mut shelf, "t", &trace.config, &history)?;
+    assert_eq!(rt; shelf.contents("t"), file.as_slice());
+    Ok(())
+}
+
+#[test]
+fn each_cut_is_short(rt: HostRuntime) -> Result<(), Fail> {
+    let mut file = worked(rt.alloc())?;
+    for len in 0..55_u32 {
+        assert!(rt; len as usize <= file.len());
+        let cut = fault_of(rt.alloc(), &file[..len as usize]);
+        assert_eq!(rt; cut, Some((1, len)), "cut to {len}");
+    }
+    file.push(0x00)?;
+    assert_eq!(rt; fault_of(rt.alloc(), &file), Some((6, 55)));
+    Ok(())
+}
+
+#[test]
+fn the_first_fault_is_answered(rt: HostRuntime) -> Result<(), Fail> {
+    let cases: [(&[(usize, u8)], Option<(u8, u32)>); 36] = [
+        (&[], None),
+        (&[(0, 0x46)], Some((2, 0))),
+        (&[(1, 0x00)], Some((2, 1))),
+        (&[(2, 0x74)], Some((2, 2))),
+        (&[(3, 0x53)], Some((2, 3))),
+        (&[(3, 0x53), (1, 0x00)], Some((2, 1))),
+        (&[(4, 0)], Some((3, 4))),
+        (&[(4, 2)], Some((3, 4))),
+        (&[(5, 0)], Some((4, 5))),
+        (&[(5, 8)], None),
+        (&[(5, 9)], Some((4, 5))),
+        (&[(6, 1)], Some((4, 6))),
+        (&[(6, 2)], Some((4, 6))),
+        (&[(6, 3)], Some((4, 6))),
+        (&[(7, 0)], Some((4, 7))),
+        (&[(7, 3)], Some((4, 7))),
+        (&[(7, 128)], Some((4, 7))),
+        (&[(8, 0)], Some((4, 8))),
+        (&[(8, 9)], Some((4, 8))),
+        (&[(9, 0)], Some((4, 9))),
+        (&[(9, 33)], Some((4, 9))),
+        (&[(10, 1), (11, 0)], Some((4, 10))),
+        (&[(10, 0), (11, 0), (12, 1)], None),
+        (&[(10, 1), (11, 0), (12, 1)], Some((4, 10))),
+        (&[(15, 0), (16, 0)], Some((4, 14))),
+        (&[(14, 1), (15, 0), (16, 0), (17, 1)], Some((4, 14))),
+        (&[(14, 0x21), (15, 0), (16, 0)], None),
+        (&[(14, 0x20), (15, 0), (16, 0)], Some((4, 18))),
+        (&[(18, 0), (21, 0x21)], Some((4, 18))),
+        (&[(18, 0x22)], Some((1, 55))),
+        (&[(18, 0x20)], Some((6, 54))),
+        (&[(22, 0x08)], Some((5, 22))),
+        (&[(22, 0x01)], Some((5, 22))),
+        (&[(22, 0x40)], Some((5, 22))),
+        (&[(54, 0xff), (18, 0x22)], Some((5, 54))),
+        (&[(5, 0), (7, 0), (22, 0xff)], Some((4, 5))),
+    ];
+    for (changes, fault) in cases {
+        let mut file = worked(rt.alloc())?;
+        change(&mut file, changes);
+        assert_eq!(rt; fault_of(rt.alloc(), &file), fault, "after {changes:?}");
+        assert_eq!(rt;
+            read_trace(rt.alloc(), &file).is_ok(),
+            fault.is_none(),
+            "after {changes:?}"
+        );
+    }
+    Ok(())
+}
+
+#[test]
+fn the_worked_trace_is_written(rt: HostRuntime) -> Result<(), Fail> {
+    let file = worked(rt.alloc())?;
+    let trace = read_trace(rt.alloc(), &file)?;
+    let history = history_of(rt.alloc(), trace.events.as_slice())?;
+    let mut shelf = SureShelf::make(rt.alloc(), &[], &[])?;
+    write_trace(rt.alloc(), &mut shelf, "t", &trace.config, &history)?;
+    assert_eq!(rt; shelf.contents("t"), file.as_slice());
+    Ok(())
+}
+
+#[test]
+fn a_shelf_that_fails_is_told_of(rt: HostRuntime) -> Result<(), Fail> {
+    let file = worked(rt.alloc())?;
+    let trace = read_trace(rt.alloc(), &file)?;
+    let history = history_of(rt.alloc(), trace.events.as_slice())?;
+    let mut shelf = MemShelf::make(rt.alloc(), &[], &[], &[1])?;
+    let first = write_trace(rt.alloc(), &mut shelf, "t", &trace.config, &history);
+    assert_eq!(rt; first, Err(ShelfFault::Failed));
+    write_trace(rt.alloc(), &mut shelf, "t", &trace.config, &history)?;
+    assert_eq!(rt; shelf.contents("t"), file.as_slice());
+    Ok(())
+}

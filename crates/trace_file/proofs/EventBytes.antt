@@ -1,5 +1,5 @@
 -- Events as bytes.
-use Rattle.std.proofs.Common.{◌≡◌, ℕ, ◌+◌, ◌≤◌, ◌<◌, Bool, true, false, not, List, length, take, get_or, ap, sym, ◌∙◌, ltb, cond, Option, Some, None, IsTrue, refl, arith}
+use Rattle.std.proofs.Common.{◌≡◌, ℕ, ◌≤◌, Bool, true, false, not, List, length, take, get_or, ap, sym, ◌∙◌, cond, Some, None, IsTrue, refl, arith}
 use Rattle.std.specs.Prelude.{All}
 use Rattle.std.specs.List.{position, position_or_len}
 use Rattle.std.proofs.lemmas.List.Sums.{fails_before_first}

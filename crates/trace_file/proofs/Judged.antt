@@ -1,24 +1,23 @@
 -- A file without a fault is the spelling of a trace.
-use Rattle.std.proofs.Common.{◌≡◌, ℕ, zero, suc, ◌+◌, ◌-◌, ◌*◌, ◌/◌, ◌%◌, ◌≤◌, ◌<◌, Bool, true, false, not, ◌==◌, cond, ltb, leb, List, [], ◌∷◌, ◌++◌, length, map, get_or, take, drop, Option, Some, None, IsTrue, refl, sym, ap, ◌∙◌, arith}
+use Rattle.std.proofs.Common.{◌≡◌, ℕ, zero, suc, ◌+◌, ◌/◌, ◌%◌, ◌≤◌, ◌<◌, Bool, true, false, not, ◌==◌, cond, ltb, List, [], ◌∷◌, length, map, get_or, take, drop, Option, Some, None, IsTrue, refl, ap, ◌∙◌, arith}
 use Rattle.std.specs.Prelude.{All}
-use Rattle.std.specs.List.{list_any, position}
-use Rattle.std.specs.Option.{option_or, option_map}
+use Rattle.std.specs.List.{list_any}
+use Rattle.std.specs.Option.{option_map}
 use Rattle.std.proofs.lemmas.Bool.{ltb-false}
 use Rattle.std.proofs.lemmas.Bool.Decides.{nat_tests}
 use Rattle.std.proofs.lemmas.List.Elements.{All-cons}
-use Rattle.std.proofs.lemmas.List.{take_rest, length-map, length-drop}
+use Rattle.std.proofs.lemmas.List.{length-drop}
 use Rattle.el_base.specs.Config.{within, set_counts, IsInRange}
 use Rattle.el_base.specs.declared.hart_id.HartId.{HartId}
 use Rattle.el_base.specs.declared.events.Event.{Event}
 use Rattle.el_base.specs.declared.settings.Config.{Config}
 use Rattle.el_base.specs.declared.settings.ConfigFault.{ConfigFault}
 use Rattle.el_base.specs.declared.settings.ConfigFault.TheVariants.{Harts, Sets, Ways, Lines, Long, Steps}
-use Rattle.trace_file.specs.declared.fault.Fault.{Fault}
 use Rattle.trace_file.specs.declared.fault.FaultKind.TheVariants.{Config as config_kind, Event as event_kind, Tail}
-use Rattle.trace_file.specs.Spelling.{head, spelling, mode_number, kind_number, event_byte, last_mode, IsTrace, IsBuilt}
-use Rattle.trace_file.specs.Faults.{fault_of, fault_if, first_of, field, byte_fault, magic_fault, version_fault, sets_fault, settings_fault, number_fault, head_fault, number_at, mode_at, config_at, is_event, event_fault, end_fault, trace_fault}
+use Rattle.trace_file.specs.Spelling.{spelling, kind_number, event_byte, last_mode, IsTrace, IsBuilt}
+use Rattle.trace_file.specs.Faults.{fault_of, fault_if, first_of, byte_fault, magic_fault, version_fault, sets_fault, settings_fault, number_fault, head_fault, number_at, config_at, is_event, event_fault, end_fault, trace_fault}
 use Rattle.trace_file.proofs.EventBytes.{none_fails, all_taken}
-use Rattle.trace_file.proofs.Heads.{IsBytes, or_none, if_none, field_none, mode_again, mode_none, head_spelled}
+use Rattle.trace_file.proofs.Heads.{IsBytes, or_none, if_none, field_none, mode_none, head_spelled}
 use Rattle.trace_file.proofs.Spelled.{kind_at, Ranges, at_most, read_is}
 
 -- ---- the configuration
@@ -158,7 +157,7 @@ faultless file fits none =
     let events = events_of harts (at_most 1 8 harts r.harts) bytes known' in
     let is =
     read_is file c count events.0 (in_range c r) (at_most 0 (number_at file 14) count number.1) whole spelled
-    (events.1 ∙ sym (take_rest file 22))
+    events.1
     events.2
     in
     let mode = mode_none file h2.0 in

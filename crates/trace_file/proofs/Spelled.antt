@@ -1,16 +1,16 @@
 -- A trace that is spelled has no fault, and no two traces are spelled the same.
-use Rattle.std.proofs.Common.{◌≡◌, ℕ, zero, suc, ◌+◌, ◌-◌, ◌*◌, ◌/◌, ◌%◌, ◌^◌, ◌≤◌, ◌<◌, Bool, true, false, not, ◌&&◌, ◌==◌, cond, ltb, leb, List, [], ◌∷◌, ◌++◌, length, map, get_or, take, drop, Option, Some, None, IsTrue, refl, sym, ap, ◌∙◌, inl, inr, arith}
+use Rattle.std.proofs.Common.{◌≡◌, ℕ, ◌+◌, ◌*◌, ◌/◌, ◌%◌, ◌^◌, ◌≤◌, ◌<◌, Bool, true, false, not, ◌==◌, cond, ltb, List, [], ◌∷◌, ◌++◌, length, map, get_or, take, drop, Option, Some, None, IsTrue, refl, sym, ap, ◌∙◌, inl, inr, arith}
 use Rattle.std.specs.Prelude.{All}
 use Rattle.std.specs.List.{list_any, position, position_or_len}
 use Rattle.std.proofs.lemmas.Bool.{cases_lt, le-ltb}
 use Rattle.std.proofs.lemmas.Bool.Decides.{nat_tests}
-use Rattle.std.proofs.lemmas.List.{length-append, length-map, length-drop, take_all, take_rest}
+use Rattle.std.proofs.lemmas.List.{length-map, length-drop, take_all}
 use Rattle.std.proofs.lemmas.List.Sums.{passes_at_first}
 use Rattle.std.proofs.lemmas.List.Elements.{All-map}
 use Rattle.std.specs.Option.{option_or}
-use Rattle.byteorder.specs.Endian.{little_bytes, little_number}
+use Rattle.byteorder.specs.Endian.{little_bytes}
 use Rattle.byteorder.specs.Numbers.{little_number-reads_back}
-use Rattle.el_base.specs.Config.{within, set_counts, config_fault, IsInRange}
+use Rattle.el_base.specs.Config.{within, set_counts, IsInRange}
 use Rattle.el_base.specs.HartIds.{same_hart}
 use Rattle.el_base.specs.declared.hart_id.HartId.{HartId}
 use Rattle.el_base.specs.declared.events.Event.{Event}
@@ -23,9 +23,9 @@ use Rattle.el_base.specs.declared.settings.Mode.{Mode}
 use Rattle.el_base.specs.declared.settings.Mode.TheVariants.{Plain, Sle, Tlr}
 use Rattle.trace_file.specs.declared.fault.Fault.{Fault}
 use Rattle.trace_file.specs.declared.fault.FaultKind.{FaultKind}
-use Rattle.trace_file.specs.declared.fault.FaultKind.TheVariants.{Short, Config as config_kind, Tail}
+use Rattle.trace_file.specs.declared.fault.FaultKind.TheVariants.{Config as config_kind}
 use Rattle.trace_file.specs.Spelling.{head, spelling, mode_number, kind_number, event_byte, last_mode, IsTrace, IsBuilt}
-use Rattle.trace_file.specs.Faults.{fault_of, fault_if, first_of, field, byte_fault, magic_fault, version_fault, sets_fault, settings_fault, number_fault, head_fault, number_at, mode_at, is_event, event_fault, end_fault, trace_fault}
+use Rattle.trace_file.specs.Faults.{fault_if, field, byte_fault, magic_fault, version_fault, sets_fault, settings_fault, number_fault, head_fault, number_at, mode_at, is_event, event_fault, end_fault, trace_fault}
 
 -- ---- a configuration in range
 
@@ -312,14 +312,12 @@ one_spelling c d es fs is is' same =
 
 -- what was read of a file is a trace that the file spells
 pub read_is : (file : List ℕ) (c : Config) (count : ℕ) (es : List Event) → IsInRange c → count ≤ c.steps →
-    length file ≡ 22 + count → file ≡ head c count ++ drop 22 file →
-    map event_byte es ≡ take (length file - 22) (drop 22 file) →
+    length file ≡ 22 + count → file ≡ head c count ++ drop 22 file → map event_byte es ≡ drop 22 file →
     All (λ (event : Event). event.hart.number < c.harts) es →
     IsTrace c es × (file ≡ spelling c es)
 read_is file c count es in-range few whole spelled events harts =
-    let rest : map event_byte es ≡ drop 22 file = events ∙ take_rest file 22 in
     let many : length es ≡ count =
-    omega (arith, length-map es event_byte, ap length rest, length-drop 22 file)
+    omega (arith, length-map es event_byte, ap length events, length-drop 22 file)
     in (
       record {
         in_range = in-range;
@@ -328,5 +326,5 @@ read_is file c count es in-range few whole spelled events harts =
       },
       spelled
           ∙ ap (λ (n : ℕ). head c n ++ drop 22 file) (sym many)
-          ∙ ap (λ (l : List ℕ). head c (length es) ++ l) (sym rest),
+          ∙ ap (λ (l : List ℕ). head c (length es) ++ l) (sym events),
     )

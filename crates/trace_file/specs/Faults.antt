@@ -133,6 +133,11 @@ config_at file = record {
   steps = number_at file 14;
 }
 
+-- an error is the first fault, and there is none without an error
+abbrev pub Judges : {X : Type 0} → Result X Fault → Option Fault → Type 0
+Judges (Ok x) fault = fault ≡ None
+Judges (Err e) fault = fault ≡ Some e
+
 -- what a reader of a field answers: the value, or the fault
 abbrev pub Answers : {X : Type 0} → Result X Fault → X → Option Fault → Type 0
 Answers (Ok x) value fault = (x ≡ value) × (fault ≡ None)

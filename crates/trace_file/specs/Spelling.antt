@@ -1,5 +1,5 @@
 -- The one spelling of a trace: the concatenation of its fields.
-use Rattle.std.specs.Prelude.{ℕ, ◌+◌, ◌*◌, ◌<◌, ◌≤◌, ◌≡◌, List, [], ◌∷◌, ◌++◌, length, map, All}
+use Rattle.std.specs.Prelude.{ℕ, ◌+◌, ◌*◌, ◌<◌, ◌≤◌, List, [], ◌∷◌, ◌++◌, length, map, All}
 use Rattle.byteorder.specs.Endian.{little_bytes}
 use Rattle.el_base.specs.Config.{IsInRange}
 use Rattle.el_base.specs.declared.events.Event.{Event}

@@ -1,9 +1,9 @@
 //! The fields before the events.
 
-ghost use Rattle.std.specs.Prelude.{◌≡◌, ◌≤◌, ◌++◌, drop, None, Some, length, slice_index, IsTrue, IfOk, ◌==◌, MatchResult};
+ghost use Rattle.std.specs.Prelude.{◌≡◌, ◌≤◌, ◌++◌, drop, None, Some, length, slice_index, IsTrue, IfOk, ◌==◌};
 ghost use Rattle.std.specs.List.{list_any};
 ghost use Rattle.el_base.specs.Config.{IsInRange, set_counts};
-ghost use Rattle.trace_file.specs.Faults.{Answers, head_fault, magic_fault, version_fault, sets_fault, settings_fault, number_at, mode_at, config_at};
+ghost use Rattle.trace_file.specs.Faults.{Answers, Judges, head_fault, magic_fault, version_fault, sets_fault, settings_fault, number_at, mode_at, config_at};
 ghost use Rattle.trace_file.specs.Spelling.{head, IsBuilt};
 
 use crate::fault::{Fault, FaultKind};
@@ -20,11 +20,8 @@ pub struct Head {
 /// The fields before the events, or the first fault among them.
 #[tactic(auto, unfolding(crate::specs::Faults::head_fault, crate::specs::Faults::config_at))]
 pub fn head_of(file: &[u8]) -> Result<Head, Fault>
-    ensures exact { MatchResult result
-        (λ head. (head.config ≡ config_at file.now)
-        × (head.count ≡ number_at file.now 18)
-        × (head_fault file.now ≡ None))
-        (λ fault. head_fault file.now ≡ Some fault) }
+    ensures exact { Judges result (head_fault file.now) }
+    ensures fields { IfOk result (λ head. (head.config ≡ config_at file.now) × (head.count ≡ number_at file.now 18)) }
     ensures whole { IfOk result (λ _. 22 ≤ length file.now) }
     ensures settings { IfOk result (λ head. IsInRange head.config × IsBuilt head.config.mode) }
     ensures few { IfOk result (λ head. head.count ≤ head.config.steps) }
@@ -39,7 +36,7 @@ pub fn head_of(file: &[u8]) -> Result<Head, Fault>
 
 #[tactic(auto, unfolding(crate::specs::Faults::field, crate::specs::Faults::magic_fault))]
 fn check_magic(file: &[u8]) -> Result<(), Fault>
-    ensures { MatchResult result (λ _. magic_fault file.now ≡ None) (λ fault. magic_fault file.now ≡ Some fault) }
+    ensures { Judges result (magic_fault file.now) }
 {
     reaches(file, 4)?;
     expect(file[0] == b'E', FaultKind::Magic, 0)?;
@@ -50,7 +47,7 @@ fn check_magic(file: &[u8]) -> Result<(), Fault>
 
 #[tactic(auto, unfolding(crate::specs::Faults::field, crate::specs::Faults::version_fault))]
 fn check_version(file: &[u8]) -> Result<(), Fault>
-    ensures { MatchResult result (λ _. version_fault file.now ≡ None) (λ fault. version_fault file.now ≡ Some fault) }
+    ensures { Judges result (version_fault file.now) }
 {
     reaches(file, 5)?;
     expect(file[4] == 1, FaultKind::Version, 4)

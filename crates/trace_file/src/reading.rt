@@ -1,9 +1,9 @@
 //! From bytes to a trace.
 
-ghost use Rattle.std.specs.Prelude.{◌≡◌, ℕ, List, ◌+◌, ◌++◌, ◌<◌, ◌≤◌, None, Some, Err, IsTrue, not, position, length, map, slice_index, take, drop, All, IfNone, IfOk, MatchResult};
+ghost use Rattle.std.specs.Prelude.{◌≡◌, ℕ, List, ◌+◌, ◌++◌, ◌<◌, ◌≤◌, None, Some, Err, IsTrue, not, position, length, map, slice_index, take, drop, All, IfNone, IfOk};
 ghost use Rattle.el_base.specs.Config.{IsInRange};
 ghost use Rattle.el_base.specs.declared.settings.Config.{Config};
-ghost use Rattle.trace_file.specs.Faults.{is_event, event_fault, end_fault, trace_fault, config_at, number_at};
+ghost use Rattle.trace_file.specs.Faults.{Judges, is_event, event_fault, end_fault, trace_fault, config_at, number_at};
 ghost use Rattle.trace_file.specs.Spelling.{event_byte, kind_number, head, spelling, IsTrace, IsBuilt};
 
 use crate::content::{Events, Trace};
@@ -47,9 +47,7 @@ fn first_other(bytes: &[u8], harts: u8) -> Option<usize>
 fn check_events(file: &[u8], harts: u8, count: u32) -> Result<(), Fault>
     requires head { 22 ≤ length file.now }
     requires few { count ≤ 16777216 }
-    ensures exact { MatchResult result
-        (λ _. event_fault harts count file.now ≡ None)
-        (λ fault. event_fault harts count file.now ≡ Some fault) }
+    ensures exact { Judges result (event_fault harts count file.now) }
     ensures each { IfOk result (λ _. All (λ byte. IsTrue (is_event harts byte)) (take count (drop 22 file.now))) }
 {
     let events = at_most(count as usize, &file[HEAD_BYTES..]);
@@ -62,9 +60,7 @@ fn check_events(file: &[u8], harts: u8, count: u32) -> Result<(), Fault>
 #[tactic(auto, unfolding(crate::specs::Faults::field, crate::specs::Faults::end_fault))]
 fn check_end(file: &[u8], count: u32) -> Result<(), Fault>
     requires few { count ≤ 16777216 }
-    ensures exact { MatchResult result
-        (λ _. end_fault count file.now ≡ None)
-        (λ fault. end_fault count file.now ≡ Some fault) }
+    ensures exact { Judges result (end_fault count file.now) }
     ensures whole { IfOk result (λ _. length file.now ≡ 22 + count) }
 {
     reaches(file, 22 + count)?;
@@ -102,9 +98,7 @@ fn event_of(byte: u8, harts: u8) -> Event
 /// The fields before the events of a file that is a trace, or the first fault.
 #[tactic(auto, using(crate::proofs::EventBytes::all_taken), unfolding(crate::specs::Faults::trace_fault, crate::specs::Faults::config_at))]
 fn checked(file: &[u8]) -> Result<Head, Fault>
-    ensures exact { MatchResult result
-        (λ _. trace_fault file.now ≡ None)
-        (λ fault. trace_fault file.now ≡ Some fault) }
+    ensures exact { Judges result (trace_fault file.now) }
     ensures settings { IfOk result (λ found. IsInRange found.config × IsBuilt found.config.mode) }
     ensures few { IfOk result (λ found. found.count ≤ found.config.steps) }
     ensures whole { IfOk result (λ found. length file.now ≡ 22 + found.count) }

@@ -1,4 +1,5 @@
 use Rattle.std.proofs.Common.{sym, ◌∙◌}
+use Rattle.std.proofs.lemmas.List.{take_rest}
 use Rattle.trace_file.proofs.Spelled.{no_fault, one_spelling, read_is}
 use Rattle.trace_file.proofs.reading.read_trace.Goals as goal
 
@@ -14,7 +15,7 @@ returns-clause-spelled c config events is built file-is =
     c.in_ok-head.ensures.few
     c.in_ok-head.ensures.whole
     c.in_ok-head.ensures.spelled
-    c.in_ok-events.ensures.spelled
+    (c.in_ok-events.ensures.spelled ∙ take_rest c.args.file.now 22)
     c.in_ok-events.ensures.within
     in (
       no_fault config events c.args.file.now is built file-is,

@@ -3,3 +3,4 @@ pub mod StepCases
 pub mod StepLaws
 pub mod Reading
 pub mod Outputs
+mod OneLine

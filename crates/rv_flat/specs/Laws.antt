@@ -6,7 +6,8 @@ use Rattle.rv_alu.specs.declared.footprint.Access.TheVariants.{Nothing, Read, Wr
 use Rattle.rv_alu.specs.declared.view.HartStatus.{HartStatus}
 use Rattle.rv_alu.specs.declared.view.HartStatus.TheVariants.{Running, Exited, Trapped}
 use Rattle.rv_alu.specs.declared.view.HartView.{HartView}
-use Rattle.rv_alu.specs.Footprint.{is_call}
+use Rattle.rv_alu.specs.declared.span.Span.{Span}
+use Rattle.rv_alu.specs.Footprint.{IsPiece, is_call}
 use Rattle.rv_word.specs.Decoding.{decoded}
 use Rattle.rv_word.specs.declared.insn.Insn.{Insn}
 use Rattle.rv_flat.specs.FlatState.{FlatState, status_of, view_of}
@@ -34,6 +35,14 @@ touched_in state hart (Trapped cause pc) = Nothing
 -- instruction
 abbrev pub footprint_of : FlatState → ℕ → Access
 footprint_of state hart = touched_in state hart (status_of state hart)
+
+-- what the access touches is a piece of one line of memory
+abbrev pub IsInOneLine : Span → Access → Type 0
+IsInOneLine span (Read from len) = IsPiece span from len
+IsInOneLine span (Write from len) = IsPiece span from len
+IsInOneLine span Nothing = Unit {0}
+IsInOneLine span (Trap cause) = Unit {0}
+IsInOneLine span (Exit code) = Unit {0}
 
 -- an address is one that the access touches
 abbrev pub Touches : Access → ℕ → Type 0

@@ -4,8 +4,8 @@
 ghost use Rattle.std.specs.Prelude.{◌≡◌, ◌≢◌, ◌<◌, ◌+◌, ℕ, List, ◌++◌, length, slice_index};
 ghost use Rattle.elf_image.specs.Program.{Program};
 ghost use Rattle.rv_alu.specs.declared.view.HartStatus.TheVariants.{Running};
-ghost use Rattle.rv_flat.specs.FlatState.{FlatState, start, status_of, view_of};
-ghost use Rattle.rv_flat.specs.Laws.{AgreeOn, HasRegs, IsNoCall, KeepsShape, SameBut, Writes, footprint_of, next_insn, seen_after, with_bytes, with_output};
+ghost use Rattle.rv_flat.specs.FlatState.{FlatState, span_of, start, status_of, view_of};
+ghost use Rattle.rv_flat.specs.Laws.{AgreeOn, HasRegs, IsInOneLine, IsNoCall, KeepsShape, SameBut, Writes, footprint_of, next_insn, seen_after, with_bytes, with_output};
 ghost use Rattle.rv_flat.specs.Run.{alone, run};
 ghost use Rattle.rv_flat.specs.Step.{flat};
 
@@ -19,6 +19,12 @@ pub fn stopped_hart_changes_nothing()
 /// grows at its end.
 pub fn step_keeps_shape()
     ensures { (state : FlatState) (hart : ℕ) → KeepsShape state (flat state hart) }
+{}
+
+/// What a step touches lies in memory, and in one line of it.
+#[tactic(auto, using(crate::proofs::OneLine::one_line))]
+pub fn step_touches_one_line()
+    ensures { (state : FlatState) (hart : ℕ) → IsInOneLine (span_of state) (footprint_of state hart) }
 {}
 
 /// A step reads memory only where its footprint touches: over other bytes that are the same there, it

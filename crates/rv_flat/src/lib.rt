@@ -16,5 +16,9 @@ pub use flat_state::Flat;
 pub use laws::{
     alone_of_a_sum, run_of_two_lists, start_has_registers, step_ignores_output_outside_calls,
     step_keeps_other_views, step_keeps_register_zero, step_keeps_shape,
-    step_reads_only_its_footprint, step_writes_only_its_footprint, stopped_hart_changes_nothing,
+    step_reads_only_its_footprint, step_touches_one_line, step_writes_only_its_footprint,
+    stopped_hart_changes_nothing,
 };
+
+#[cfg(test)]
+mod tests;

@@ -1,0 +1,40 @@
+-- The one line that a refusal puts to err.
+use Rattle.std.specs.Prelude.{ℕ, List, [], ◌∷◌, ◌++◌, ◌==◌, codes, if◌then◌else◌}
+use Rattle.std.specs.Fmt.{decimal}
+use Rattle.tool.specs.declared.messages.Refusal.{Refusal}
+use Rattle.tool.specs.declared.messages.Refusal.TheVariants.{Usage, TooBig, Image}
+
+-- the name of an image fault, by its number
+unfoldable pub image_fault_name : ℕ → List ℕ
+image_fault_name number =
+    if number == 1 then codes "Short"
+    else if number == 2 then codes "Magic"
+    else if number == 3 then codes "Class"
+    else if number == 4 then codes "ByteOrder"
+    else if number == 5 then codes "Version"
+    else if number == 6 then codes "FileKind"
+    else if number == 7 then codes "Machine"
+    else if number == 8 then codes "Flags"
+    else if number == 9 then codes "Table"
+    else if number == 10 then codes "Dynamic"
+    else if number == 11 then codes "Segment"
+    else if number == 12 then codes "Overlap"
+    else if number == 13 then codes "TooWide"
+    else if number == 14 then codes "TooHigh"
+    else if number == 15 then codes "Entry"
+    else codes "Empty"
+
+abbrev pub newline : List ℕ
+newline = 10 ∷ []
+
+-- the line of a fault of a file, by what the file is, and the fault's number, name and place
+abbrev pub fault_line : List ℕ → ℕ → List ℕ → ℕ → List ℕ
+fault_line file number name place =
+    file ++ codes " fault " ++ decimal number ++ codes " " ++ name ++ codes " at byte " ++ decimal place ++ newline
+
+-- the line of a refusal, with its newline
+abbrev pub line_of : Refusal → List ℕ
+line_of Usage =
+    codes "usage: elide run IMAGE [options], elide replay IMAGE TRACE, elide gen KIND NUMBER FILE" ++ newline
+line_of (TooBig limit) = codes "file too big: limit " ++ decimal limit ++ newline
+line_of (Image number place) = fault_line (codes "image") number (image_fault_name number) place

@@ -1,0 +1,75 @@
+//! The lines that refusals put to err.
+ghost use Rattle.std.specs.Prelude.{◌≡◌, IfOk, string_bytes};
+ghost use Rattle.tool.specs.Messages.{fault_line as line_of_fault, image_fault_name as name_of_image_fault, line_of};
+
+use std::alloc::{AllocError, Global};
+
+const USAGE: &str =
+    "usage: elide run IMAGE [options], elide replay IMAGE TRACE, elide gen KIND NUMBER FILE\n";
+
+/// Why a command is refused.
+#[derive(Clone, Copy, Debug, PartialEq, Eq)]
+pub(crate) enum Refusal {
+    /// The words are no command line.
+    Usage,
+    /// A file has more bytes than its limit.
+    TooBig { limit: u32 },
+    /// The first fault of an image file.
+    Image { number: u8, place: u32 },
+}
+
+impl Refusal {
+    /// The line of a refusal, with its newline.
+    pub(crate) fn line(self, alloc: Global) -> Result<String, AllocError>
+        ensures { IfOk result (λ line. string_bytes line ≡ line_of self) }
+    {
+        match self {
+            Refusal::Usage => String::from_str(alloc, USAGE),
+            Refusal::TooBig { limit } => format!(in alloc; "file too big: limit {limit}\n"),
+            Refusal::Image { number, place } => {
+                fault_line(alloc, "image", number, image_fault_name(number), place)
+            }
+        }
+    }
+}
+
+/// The line of a fault of a file, by what the file is, and the fault's number, name and place.
+fn fault_line(
+    alloc: Global,
+    file: &str,
+    number: u8,
+    name: &str,
+    place: u32,
+) -> Result<String, AllocError>
+    ensures { IfOk result (λ line. string_bytes line ≡ line_of_fault file.now number name.now place) }
+{
+    let mut line = format!(in alloc; "{file} fault {number} ")?;
+    line.push_str(name)?;
+    writeln!(line, " at byte {place}")?;
+    Ok(line)
+}
+
+/// The name of an image fault, by its number from 1 to 16.
+#[tactic(auto, unfolding(crate::specs::Messages::image_fault_name))]
+fn image_fault_name(number: u8) -> &'static str
+    ensures { result.now ≡ name_of_image_fault number }
+{
+    match number {
+        1 => "Short",
+        2 => "Magic",
+        3 => "Class",
+        4 => "ByteOrder",
+        5 => "Version",
+        6 => "FileKind",
+        7 => "Machine",
+        8 => "Flags",
+        9 => "Table",
+        10 => "Dynamic",
+        11 => "Segment",
+        12 => "Overlap",
+        13 => "TooWide",
+        14 => "TooHigh",
+        15 => "Entry",
+        _ => "Empty",
+    }
+}

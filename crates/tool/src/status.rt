@@ -1,0 +1,28 @@
+ghost use Rattle.std.specs.Prelude.{◌≡◌};
+ghost use Rattle.tool.specs.Statuses.{number_of};
+
+/// How the program ends.
+#[derive(Clone, Copy, Debug, PartialEq, Eq)]
+pub enum Status {
+    /// Every hart exited with code 0.
+    Done = 0,
+    /// Every hart has stopped, and not all exited with code 0.
+    HartFailed = 1,
+    /// The words, or a file that they name, were refused.
+    Refused = 2,
+    /// The steps are used up, and a hart still runs.
+    StepLimit = 3,
+    /// The shelf or a sink failed.
+    DeviceFault = 4,
+    /// Want of memory.
+    NoMemory = 5,
+}
+
+impl Status {
+    /// The exit status of the process.
+    pub fn number(self) -> u8
+        ensures { result ≡ number_of self }
+    {
+        self as u8
+    }
+}

@@ -16,3 +16,6 @@ mod run;
 pub use fault::MakeFault;
 pub use laws::{continued_story_reaches_the_state_after, stories_go_on_event_by_event};
 pub use run::Machine;
+
+#[cfg(test)]
+mod tests;

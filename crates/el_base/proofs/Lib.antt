@@ -1,1 +1,2 @@
 pub mod BitSets
+pub mod SameLosers

@@ -46,4 +46,9 @@ impl Losers {
     {
         HartId::new(self.winners[loser.number as usize])
     }
+
+    /// Losers are told apart by their winners alone.
+    pub fn equal_by_winners()
+        ensures { (a b : Losers) → ((h : ℕ) → beaten_by a h ≡ beaten_by b h) → a ≡ b }
+    {}
 }

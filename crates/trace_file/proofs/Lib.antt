@@ -3,3 +3,4 @@ pub mod EventBytes
 pub mod Heads
 pub mod Judged
 pub mod Spelled
+pub mod Worked

@@ -3,12 +3,15 @@
 ghost use Rattle.std.specs.Prelude.{◌≡◌, ◌≤◌, ◌++◌, drop, None, Some, length, slice_index, IsTrue, IfOk, ◌==◌};
 ghost use Rattle.std.specs.List.{list_any};
 ghost use Rattle.el_base.specs.Config.{IsInRange, set_counts};
-ghost use Rattle.trace_file.specs.Faults.{Answers, Judges, head_fault, magic_fault, version_fault, sets_fault, settings_fault, number_at, mode_at, config_at};
-ghost use Rattle.trace_file.specs.Spelling.{head, IsBuilt};
+ghost use Rattle.trace_file.specs.Faults.{Answers, Judges, head_fault, magic_fault, version_fault, byte_fault, sets_fault, settings_fault, number_at, mode_at, config_at};
+ghost use Rattle.trace_file.specs.Spelling.{head, last_mode, IsBuilt};
 
 use crate::fault::{Fault, FaultKind};
 use crate::fields::{byte_within, expect, number_within, reaches};
 use el_base::{Config, Mode};
+
+/// How many bytes stand before the events.
+pub const HEAD_BYTES: u32 = 22;
 
 /// The configuration of a trace, and how many events it says that it has.
 #[derive(Drop)]
@@ -60,7 +63,7 @@ fn config_of(file: &[u8]) -> Result<Config, Fault>
     ensures is_built { IfOk result (λ config. IsBuilt config.mode) }
 {
     let harts = byte_within(file, 5, 1, 8)?;
-    let mode = mode_of(byte_within(file, 6, 0, LAST_MODE)?);
+    let mode = mode_of(file)?;
     let sets = sets_of(file)?;
     let ways = byte_within(file, 8, 1, 8)?;
     let lines = byte_within(file, 9, 1, 32)?;
@@ -80,13 +83,15 @@ fn config_of(file: &[u8]) -> Result<Config, Fault>
 /// The last number of a mode that machines are built for: so far 0, the plain one.
 const LAST_MODE: u8 = 0;
 
-fn mode_of(number: u8) -> Mode
-    ensures { result ≡ mode_at number }
+/// The mode, one of those that machines are built for.
+fn mode_of(file: &[u8]) -> Result<Mode, Fault>
+    ensures exact { Answers result (mode_at (slice_index file.now 6)) (byte_fault file.now 6 0 last_mode) }
+    ensures is_built { IfOk result (λ mode. IsBuilt mode) }
 {
-    match number {
-        0 => Mode::Plain,
-        1 => Mode::Sle,
-        _ => Mode::Tlr,
+    match byte_within(file, 6, 0, LAST_MODE)? {
+        0 => Ok(Mode::Plain),
+        1 => Ok(Mode::Sle),
+        _ => Ok(Mode::Tlr),
     }
 }
 

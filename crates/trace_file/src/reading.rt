@@ -9,12 +9,9 @@ ghost use Rattle.trace_file.specs.Spelling.{event_byte, kind_number, head, spell
 use crate::content::{Events, Trace};
 use crate::fault::{Fault, FaultKind, TraceFault};
 use crate::fields::{expect, reaches};
-use crate::head::{Head, head_of};
-use el_base::{Event, HartId, Kind, Mode, NoMemory};
+use crate::head::{HEAD_BYTES, Head, head_of};
+use el_base::{Event, HartId, Kind, NoMemory};
 use std::alloc::Global;
-
-/// How many bytes stand before the events.
-const HEAD_BYTES: usize = 22;
 
 /// Whether a byte is an event of one of so many harts.
 fn is_event(byte: u8, harts: u8) -> bool
@@ -50,10 +47,10 @@ fn check_events(file: &[u8], harts: u8, count: u32) -> Result<(), Fault>
     ensures exact { Judges result (event_fault harts count file.now) }
     ensures each { IfOk result (λ _. All (λ byte. IsTrue (is_event harts byte)) (take count (drop 22 file.now))) }
 {
-    let events = at_most(count as usize, &file[HEAD_BYTES..]);
+    let events = at_most(count as usize, &file[HEAD_BYTES as usize..]);
     match first_other(events, harts) {
         None => Ok(()),
-        Some(place) => Err(Fault::new(FaultKind::Event, 22 + place as u32)),
+        Some(place) => Err(Fault::new(FaultKind::Event, HEAD_BYTES + place as u32)),
     }
 }
 
@@ -63,12 +60,9 @@ fn check_end(file: &[u8], count: u32) -> Result<(), Fault>
     ensures exact { Judges result (end_fault count file.now) }
     ensures whole { IfOk result (λ _. length file.now ≡ 22 + count) }
 {
-    reaches(file, 22 + count)?;
-    expect(
-        file.len() == HEAD_BYTES + count as usize,
-        FaultKind::Tail,
-        22 + count,
-    )
+    reaches(file, HEAD_BYTES + count)?;
+    let ends = file.len() == (HEAD_BYTES + count) as usize;
+    expect(ends, FaultKind::Tail, HEAD_BYTES + count)
 }
 
 fn kind_of(number: u8) -> Kind
@@ -143,7 +137,7 @@ pub fn read_trace(alloc: Global, file: &[u8]) -> Result<Trace, TraceFault>
         × IfOk result (λ trace. (trace.config ≡ config) × (trace.events ≡ events)) }
 {
     let head = checked(file)?;
-    let events = events_of(alloc, &file[HEAD_BYTES..], head.config.harts)?;
+    let events = events_of(alloc, &file[HEAD_BYTES as usize..], head.config.harts)?;
     Ok(Trace {
         config: head.config,
         events,

@@ -4,3 +4,4 @@ pub mod StepLaws
 pub mod Reading
 pub mod Outputs
 mod OneLine
+mod OwnView

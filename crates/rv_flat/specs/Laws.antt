@@ -68,12 +68,15 @@ seen_after Nothing view = view
 seen_after (Trap cause) view = view
 seen_after (Exit code) view = view
 
--- the same state over other bytes, or with another output
+-- the same state over other bytes, with another output, or with other views
 abbrev pub with_bytes : FlatState → List ℕ → FlatState
 with_bytes state bytes = record state { bytes = bytes }
 
 abbrev pub with_output : FlatState → List ℕ → FlatState
 with_output state output = record state { output = output }
+
+abbrev pub with_harts : FlatState → List HartView → FlatState
+with_harts state harts = record state { harts = harts }
 
 -- bytes of memory from a base on are the same wherever the access touches them
 abbrev pub AgreeOn : Access → ℕ → List ℕ → List ℕ → Type 0
@@ -103,6 +106,12 @@ pub record SameBut (left right : FlatState) (left_bytes right_bytes : List ℕ) 
   pub harts : left.harts ≡ right.harts
   pub output : left.output ≡ right.output
   pub bytes : (place : ℕ) → slice_index left_bytes place ≡ slice_index right_bytes place → slice_index left.bytes place ≡ slice_index right.bytes place
+
+-- two steps of a hart came to the same memory and output and to the same view of that hart
+pub record SameOwn (left right : FlatState) (hart : ℕ) : Type 0 where
+  pub own : view_of left hart ≡ view_of right hart
+  pub bytes : left.bytes ≡ right.bytes
+  pub output : left.output ≡ right.output
 
 -- each hart has 32 registers of which the first is 0
 abbrev pub HasRegs : FlatState → Type 0

@@ -4,8 +4,9 @@
 ghost use Rattle.std.specs.Prelude.{◌≡◌, ◌≢◌, ◌<◌, ◌+◌, ℕ, List, ◌++◌, length, slice_index};
 ghost use Rattle.elf_image.specs.Program.{Program};
 ghost use Rattle.rv_alu.specs.declared.view.HartStatus.TheVariants.{Running};
+ghost use Rattle.rv_alu.specs.declared.view.HartView.{HartView};
 ghost use Rattle.rv_flat.specs.FlatState.{FlatState, span_of, start, status_of, view_of};
-ghost use Rattle.rv_flat.specs.Laws.{AgreeOn, HasRegs, IsInOneLine, IsNoCall, KeepsShape, SameBut, Writes, footprint_of, next_insn, seen_after, with_bytes, with_output};
+ghost use Rattle.rv_flat.specs.Laws.{AgreeOn, HasRegs, IsInOneLine, IsNoCall, KeepsShape, SameBut, SameOwn, Writes, footprint_of, next_insn, seen_after, with_bytes, with_harts, with_output};
 ghost use Rattle.rv_flat.specs.Run.{alone, run};
 ghost use Rattle.rv_flat.specs.Step.{flat};
 
@@ -49,6 +50,14 @@ pub fn step_writes_only_its_footprint()
 pub fn step_keeps_other_views()
     ensures { (state : FlatState) (hart other : ℕ) → other ≢ hart →
         view_of (flat state hart) other ≡ seen_after (footprint_of state hart) (view_of state other) }
+{}
+
+/// A step depends on no view but its own hart's: among other views, where its own hart's is the same,
+/// it comes to the same memory and output and to the same view of its own hart.
+pub fn step_depends_on_no_other_view()
+    ensures { (state : FlatState) (harts : List HartView) (hart : ℕ) → hart < length harts → hart < length state.harts →
+        view_of (with_harts state harts) hart ≡ view_of state hart →
+        SameOwn (flat (with_harts state harts) hart) (flat state hart) hart }
 {}
 
 /// A step that makes no call does not depend on the output.

@@ -10,3 +10,6 @@ mod rounds;
 
 pub use following::follow;
 pub use rounds::round_robin;
+
+#[cfg(test)]
+mod tests;

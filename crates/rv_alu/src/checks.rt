@@ -11,13 +11,13 @@ use rv_word::{Insn, LoadWidth, StoreWidth};
 /// What an instruction at `pc` would touch, or how it would stop its hart, before anything happens.
 /// `room` is how many bytes the output still takes.
 ///
-/// A jump or a branch that is taken traps with cause 0 where its target is no multiple of 4, and EBREAK
-/// traps with 3. A load or LR traps with 4 where its address is no multiple of its size, and with 5
-/// where it is one and not all of its bytes are in memory; a store, SC or atomic operation likewise
-/// with 6 and 7. An SC that does not trap touches its word only where that word is reserved, and a
-/// write call reads the bytes that it appends to the output. (RISC-V unprivileged manual, chapter 2
-/// and 'A Standard Extension for Atomic Instructions'; causes as in the privileged manual's `mcause`;
-/// the order of the tests and the calls are this project's profile.)
+/// A jump or a branch that is taken traps with cause 0 where its target is no multiple of 4, and
+/// EBREAK traps with 3. A load or LR traps with 4 where its address is no multiple of its size, and
+/// with 5 where it is one and not all of its bytes are in memory; a store, SC or atomic operation
+/// likewise with 6 and 7. An SC that does not trap touches its word only where that word is
+/// reserved, and a write call reads the bytes that it appends to the output. (RISC-V unprivileged
+/// manual, chapter 2 and 'A Standard Extension for Atomic Instructions'; causes as in the
+/// privileged manual's `mcause`; the order of the tests and the calls are this project's profile.)
 #[tactic(auto, using(crate::proofs::Footprints::footprint), unfolding(crate::specs::Footprint::access_of))]
 pub fn access(
     insn: &Insn,
@@ -70,8 +70,8 @@ pub fn access(
     }
 }
 
-/// Whether an instruction makes a system call. Where such an instruction reads memory, the bytes go to the
-/// output and not to a register.
+/// Whether an instruction makes a system call. Where such an instruction reads memory, the bytes go
+/// to the output and not to a register.
 pub fn makes_call(insn: &Insn) -> bool
     ensures { result ≡ is_call insn.now }
 {

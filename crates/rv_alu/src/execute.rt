@@ -17,12 +17,13 @@ fn put(view: &mut HartView, rd: Reg, value: u32)
     view.pc = view.pc.wrapping_add(4);
 }
 
-/// What an instruction does to its hart, given the bytes that its access touches as one little-endian
-/// number (`loaded`, which only loads, LR and atomic operations read). It is meant for an instruction
-/// that neither traps nor exits, as [`crate::access`] tells; the memory that it stores and the output
-/// that it writes are not its matter. Sources are read before rd is written. LR reserves its word, and
-/// a store, SC or atomic operation ends the hart's own reservation (RISC-V unprivileged manual, chapter 2
-/// and 'A Standard Extension for Atomic Instructions'; calls are this project's profile).
+/// What an instruction does to its hart, given the bytes that its access touches as one
+/// little-endian number (`loaded`, which only loads, LR and atomic operations read). It is meant
+/// for an instruction that neither traps nor exits, as [`crate::access`] tells; the memory that it
+/// stores and the output that it writes are not its matter. Sources are read before rd is written.
+/// LR reserves its word, and a store, SC or atomic operation ends the hart's own reservation
+/// (RISC-V unprivileged manual, chapter 2 and 'A Standard Extension for Atomic Instructions'; calls
+/// are this project's profile).
 #[tactic(auto, unfolding(crate::specs::Execute::effect_of))]
 pub fn effect(insn: &Insn, view: &mut HartView, span: Span, room: u32, loaded: u32)
     ensures { view.new ≡ effect_of insn.now view.old span room loaded }

@@ -3,8 +3,9 @@ ghost use Rattle.rv_alu.specs.Operation.{alu_of, amo_of, extend_of, moved, sign_
 
 use rv_word::{Alu, AmoOp, LoadWidth, Test};
 
-/// The result of a register operation (RISC-V unprivileged manual, chapter 2, 'Integer Computational
-/// Instructions'). Sums and differences wrap; shifts take the low five bits of `right`.
+/// The result of a register operation (RISC-V unprivileged manual, chapter 2, 'Integer
+/// Computational Instructions'). Sums and differences wrap; shifts take the low five bits of
+/// `right`.
 pub fn alu(op: Alu, left: u32, right: u32) -> u32
     ensures { result ≡ alu_of op left right }
 {

@@ -5,8 +5,8 @@ use rv_word::Reg;
 use std::marker::Model;
 
 /// The 32 integer registers of a hart, words of 32 bits, of which the first is always 0 (RISC-V
-/// unprivileged manual, chapter 2, 'Programmers' Model for Base Integer ISA'). Contracts see them as the
-/// list of the words.
+/// unprivileged manual, chapter 2, 'Programmers' Model for Base Integer ISA'). Contracts see them
+/// as the list of the words.
 #[derive(Clone, Copy, Debug, PartialEq, Eq)]
 pub struct Regs {
     words: [u32; 32],

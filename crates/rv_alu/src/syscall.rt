@@ -41,11 +41,12 @@ pub enum WriteCall {
     Append { count: u32 },
 }
 
-/// How the write call that these registers ask for goes, where the output has room for `room` bytes.
-/// The tests, in this order: the file is 1 or 2, both of which are the one output (else -9, 'bad file');
-/// the length is not 0 (else 0); the line of the first byte is in memory (else -14, 'bad address'); the
-/// output has room (else -28, 'no space'). It then writes no further than the end of the line and no more
-/// than the room. (Arguments and errors as in Linux; short writes are this project's profile.)
+/// How the write call that these registers ask for goes, where the output has room for `room`
+/// bytes. The tests, in this order: the file is 1 or 2, both of which are the one output (else -9,
+/// 'bad file'); the length is not 0 (else 0); the line of the first byte is in memory (else -14,
+/// 'bad address'); the output has room (else -28, 'no space'). It then writes no further than the
+/// end of the line and no more than the room. (Arguments and errors as in Linux; short writes are
+/// this project's profile.)
 pub fn write_call(regs: &Regs, span: Span, room: u32) -> WriteCall
     ensures { result ≡ write_call_of regs.now span room }
 {

@@ -1,5 +1,5 @@
-//! Expected values are those of the RISC-V unprivileged manual, computed on whole numbers apart from
-//! this code; those of system calls are Linux's error numbers.
+//! Expected values are those of the RISC-V unprivileged manual, computed on whole numbers apart
+//! from this code; those of system calls are Linux's error numbers.
 
 use super::*;
 

@@ -20,8 +20,8 @@ use std::marker::Model;
 /// The most bytes that a program may write.
 pub const OUTPUT_LIMIT: usize = 16_777_216;
 
-/// Harts over plain shared memory. Contracts see the list of their views, memory as its base and the
-/// list of its bytes, what instructions are fetched from, and the output as one list.
+/// Harts over plain shared memory. Contracts see the list of their views, memory as its base and
+/// the list of its bytes, what instructions are fetched from, and the output as one list.
 #[derive(Drop)]
 pub struct Flat {
     harts: Vec<HartView>,
@@ -47,9 +47,9 @@ impl Model for Flat {
 }
 
 impl Flat {
-    /// A program before its first step: each hart at the entry, with its number in x10, the number of
-    /// harts in x11, its stack's end in x2 and 0 in the other registers. It takes all memory that a run
-    /// needs, that of the whole output too.
+    /// A program before its first step: each hart at the entry, with its number in x10, the number
+    /// of harts in x11, its stack's end in x2 and 0 in the other registers. It takes all memory
+    /// that a run needs, that of the whole output too.
     #[tactic(auto, unfolding(crate::specs::FlatState::start))]
     pub fn make(alloc: Global, image: &Image) -> Result<Flat, NoMemory>
         ensures { IfOk result (λ flat. flat ≡ start image.now) }
@@ -103,9 +103,9 @@ impl Flat {
         self.output.as_slice()
     }
 
-    /// One step of a hart: its next instruction, or the trap that it meets (RISC-V unprivileged manual,
-    /// chapter 2 and 'A Standard Extension for Atomic Instructions'; what a trap and a call do is this
-    /// project's profile). A stopped hart changes nothing. It takes no memory.
+    /// One step of a hart: its next instruction, or the trap that it meets (RISC-V unprivileged
+    /// manual, chapter 2 and 'A Standard Extension for Atomic Instructions'; what a trap and a call
+    /// do is this project's profile). A stopped hart changes nothing. It takes no memory.
     #[tactic(auto, unfolding(crate::specs::Step::flat))]
     pub fn step(&mut self, hart: HartId)
         requires { hart.number < length self.old.harts }

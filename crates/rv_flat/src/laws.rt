@@ -16,8 +16,8 @@ pub fn stopped_hart_changes_nothing()
     ensures { (state : FlatState) (hart : ℕ) → status_of state hart ≢ Running → flat state hart ≡ state }
 {}
 
-/// A step keeps where memory lies, its length, the code and the number of harts, and the output only
-/// grows at its end.
+/// A step keeps where memory lies, its length, the code and the number of harts, and the output
+/// only grows at its end.
 pub fn step_keeps_shape()
     ensures { (state : FlatState) (hart : ℕ) → KeepsShape state (flat state hart) }
 {}
@@ -28,8 +28,8 @@ pub fn step_touches_one_line()
     ensures { (state : FlatState) (hart : ℕ) → IsInOneLine (span_of state) (footprint_of state hart) }
 {}
 
-/// A step reads memory only where its footprint touches: over other bytes that are the same there, it
-/// leaves the same harts and output, and each byte that was the same is the same.
+/// A step reads memory only where its footprint touches: over other bytes that are the same there,
+/// it leaves the same harts and output, and each byte that was the same is the same.
 #[tactic(auto, using(crate::proofs::Reading::reads_footprint))]
 pub fn step_reads_only_its_footprint()
     ensures { (state : FlatState) (bytes : List ℕ) (hart : ℕ) → length bytes ≡ length state.bytes →
@@ -44,16 +44,16 @@ pub fn step_writes_only_its_footprint()
         slice_index (flat state hart).bytes place ≡ slice_index state.bytes place }
 {}
 
-/// A step changes no view but its own hart's, except that a write takes the other harts' reservations
-/// of words on its line.
+/// A step changes no view but its own hart's, except that a write takes the other harts'
+/// reservations of words on its line.
 #[tactic(auto, using(crate::proofs::StepLaws::keeps_others))]
 pub fn step_keeps_other_views()
     ensures { (state : FlatState) (hart other : ℕ) → other ≢ hart →
         view_of (flat state hart) other ≡ seen_after (footprint_of state hart) (view_of state other) }
 {}
 
-/// A step depends on no view but its own hart's: among other views, where its own hart's is the same,
-/// it comes to the same memory and output and to the same view of its own hart.
+/// A step depends on no view but its own hart's: among other views, where its own hart's is the
+/// same, it comes to the same memory and output and to the same view of its own hart.
 pub fn step_depends_on_no_other_view()
     ensures { (state : FlatState) (harts : List HartView) (hart : ℕ) → hart < length harts → hart < length state.harts →
         view_of (with_harts state harts) hart ≡ view_of state hart →

@@ -1,9 +1,10 @@
 //! Plain shared memory: the machine without caches, buffers, sections and locks.
 //!
-//! The crate stands on the images of `elf_image` and the instructions of `rv_alu`. It has one state,
-//! `Flat`, whose `step` is one instruction of one hart, the whole of it at once: the meaning that
-//! every other machine of this project is measured by. Its definitions `start`, `flat`, `run` and
-//! `alone` stand in `specs/`. `make` takes all memory of a run; `step` takes none and refuses nothing.
+//! The crate stands on the images of `elf_image` and the instructions of `rv_alu`. It has one
+//! state, `Flat`, whose `step` is one instruction of one hart, the whole of it at once: the meaning
+//! that every other machine of this project is measured by. Its definitions `start`, `flat`, `run`
+//! and `alone` stand in `specs/`. `make` takes all memory of a run; `step` takes none and refuses
+//! nothing.
 #![tactic(auto)]
 
 mod beginning;

@@ -1,5 +1,5 @@
-//! Programs are the words that GNU as makes of the instructions beside them; what they leave behind is
-//! worked out by hand from the RISC-V unprivileged manual.
+//! Programs are the words that GNU as makes of the instructions beside them; what they leave behind
+//! is worked out by hand from the RISC-V unprivileged manual.
 
 use super::*;
 use el_base::HartId;
@@ -16,7 +16,8 @@ mod sharing;
 mod stopping;
 
 /// The ELF header and the program header of a file that is one segment at 0x10000, to be read,
-/// written and executed, with the entry behind them. The file's length is left out, at bytes 68 to 75.
+/// written and executed, with the entry behind them. The file's length is left out, at bytes 68 to
+/// 75.
 const HEADERS: [u8; 84] = [
     0x7f, 0x45, 0x4c, 0x46, 0x01, 0x01, 0x01, 0x00, 0x00, 0x00, 0x00, 0x00, 0x00, 0x00, 0x00, 0x00,
     0x02, 0x00, 0xf3, 0x00, 0x01, 0x00, 0x00, 0x00, 0x54, 0x00, 0x01, 0x00, 0x34, 0x00, 0x00, 0x00,

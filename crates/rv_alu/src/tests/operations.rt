@@ -1,8 +1,8 @@
 use super::*;
 use rv_word::{Alu, AmoOp, LoadWidth, Reg, Test};
 
-/// Two words, their sum, difference, signed and unsigned 'less than', exclusive or, or, and, and the
-/// lesser and greater of them, signed and unsigned.
+/// Two words, their sum, difference, signed and unsigned 'less than', exclusive or, or, and, and
+/// the lesser and greater of them, signed and unsigned.
 const EXTREMES: [[u32; 13]; 25] = [
     [0, 0, 0, 0, 0, 0, 0, 0, 0, 0, 0, 0, 0],
     [0, 1, 1, ONES, 1, 1, 1, 1, 0, 0, 1, 0, 1],

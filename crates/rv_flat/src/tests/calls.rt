@@ -1,7 +1,8 @@
 use super::*;
 
-/// Instructions behind `lui x11,0x10; addi x11,x11,0x36; addi x12,x0,200; addi x10,x0,1; addi x17,x0,64`,
-/// which ask for 200 bytes from 10 bytes before the end of a line, x10 after them, and the output.
+/// Instructions behind `lui x11,0x10; addi x11,x11,0x36; addi x12,x0,200; addi x10,x0,1; addi
+/// x17,x0,64`, which ask for 200 bytes from 10 bytes before the end of a line, x10 after them, and
+/// the output.
 const CALLS: [(&[u32], u32, &[u8]); 10] = [
     // ecall
     (

@@ -128,8 +128,8 @@ const LOADS_AND_STORES: [(&[u32], &[(u8, u32)]); 9] = [
     ),
 ];
 
-/// Instructions behind `addi x5,x2,-64; addi x6,x5,4; addi x8,x0,7`, so that x5 and x6 are two words of
-/// the last line of memory, and registers that they leave behind.
+/// Instructions behind `addi x5,x2,-64; addi x6,x5,4; addi x8,x0,7`, so that x5 and x6 are two
+/// words of the last line of memory, and registers that they leave behind.
 const RESERVATIONS: [(&[u32], &[(u8, u32)]); 15] = [
     // lr.w x7,(x5); sc.w x9,x8,(x5); lw x12,0(x5)
     (

@@ -1,3 +1,4 @@
-pub mod Steps
-pub mod Answering
+pub mod FileContents
+pub mod Ending
+pub mod Judging
 pub mod Putting

@@ -1,67 +1,136 @@
--- Which bytes were put when the program ended with a status, and what a fault of a device shows.
-use Rattle.std.specs.Prelude.{◌≡◌, ℕ, ◌⊎◌, List, [], take, Contains, Option}
-use Rattle.el_io.specs.Counts.{Rose}
-use Rattle.el_io.specs.Shelf.{NamedCall, ShelfCause}
+-- What was put and written when the program ended with a status, and what a fault of a device shows.
+use Rattle.std.specs.Prelude.{◌≡◌, ℕ, ◌⊎◌, List, [], ◌∷◌, ◌++◌, map, take, Contains, Option, None, Some}
+use Rattle.std.specs.Option.{option_to_list}
+use Rattle.command_line.specs.Words.{Job, Run, Replay}
+use Rattle.el_base.specs.declared.events.Event.{Event}
+use Rattle.el_base.specs.declared.settings.Config.{Config}
+use Rattle.el_base.specs.declared.settings.Mode.TheVariants.{Plain}
+use Rattle.el_io.specs.Shelf.{Contents, Holds, KeepsOthers, NamedCall, ShelfCause}
 use Rattle.el_io.specs.Sink.{Took}
-use Rattle.el_io.specs.declared.shelf.Call.TheVariants.{Read}
-use Rattle.tool.specs.declared.messages.Refusal.TheVariants.{TooBig}
+use Rattle.el_io.specs.declared.shelf.Call.TheVariants.{Read, Write}
+use Rattle.el_io.specs.declared.shelf.ShelfFault.{ShelfFault}
+use Rattle.el_io.specs.declared.shelf.ShelfFault.TheVariants as faults
+use Rattle.elf_image.specs.declared.fault.Fault.{Fault}
+use Rattle.trace_file.specs.declared.fault.Fault as trace_faults
+use Rattle.trace_file.specs.Faults.{trace_fault}
+use Rattle.trace_file.specs.Spelling.{IsTrace, spelling}
+use Rattle.tool.specs.declared.messages.Refusal.{Refusal}
+use Rattle.tool.specs.declared.messages.Refusal.TheVariants.{Image, TooBig, Trace}
 use Rattle.tool.specs.declared.status.Status.{Status}
-use Rattle.tool.specs.declared.status.Status.TheVariants.{Done, HartFailed, Refused, StepLimit, DeviceFault, NoMemory}
+use Rattle.tool.specs.declared.status.Status.TheVariants.{DeviceFault, NoMemory}
 use Rattle.tool.specs.declared.stop.Stop.{Stop}
 use Rattle.tool.specs.declared.stop.Stop.TheVariants as stops
 use Rattle.tool.specs.Answer.{Answer, refused}
 
--- what out and err tell
+-- what out, err and the shelf tell
 pub record Told : Type 0 where
   pub out : Option (List ℕ)
   pub err : Option (List ℕ)
+  pub files : Option Contents
 
 -- a sink took some of these bytes, from the first on
 pub record TookSome (before now : Option (List ℕ)) (bytes : List ℕ) : Type 0 where
   pub count : ℕ
   pub part : Took before now (take count bytes)
 
--- these bytes were put to out, and these to err
-pub record PutAll (before now : Told) (out err : List ℕ) : Type 0 where
-  pub to_out : Took before.out now.out out
-  pub to_err : Took before.err now.err err
+-- a file has these bytes, where one was written, and every other is as it was
+abbrev pub Wrote : Option Contents → Option Contents → Option (List ℕ × List ℕ) → Type 0
+Wrote before now None = now ≡ before
+Wrote before now (Some file) = KeepsOthers before now file.0 × Holds now file.0 file.1
 
--- some of these bytes were put to out, and none to err
-pub record PutOut (before now : Told) (out : List ℕ) : Type 0 where
-  pub to_out : TookSome before.out now.out out
-  pub to_err : Took before.err now.err []
+-- a file was to be written, and every other is as it was
+abbrev pub TriedToWrite : Option Contents → Option Contents → Option (List ℕ × List ℕ) → Type 0
+TriedToWrite before now None = ⊥
+TriedToWrite before now (Some file) = KeepsOthers before now file.0
 
--- all of these bytes were put to out, and some of these to err
-pub record PutErr (before now : Told) (out err : List ℕ) : Type 0 where
-  pub to_out : Took before.out now.out out
-  pub to_err : TookSome before.err now.err err
+-- all of an answer was put and written
+pub record PutAll (before now : Told) (answer : Answer) : Type 0 where
+  pub out : Took before.out now.out answer.out
+  pub written : Wrote before.files now.files answer.written
+  pub err : Took before.err now.err answer.err
 
--- bytes were put to out and then to err, up to a fault
-abbrev pub PutPart : Told → Told → List ℕ → List ℕ → Type 0
-PutPart before now out err = PutOut before now out ⊎ PutErr before now out err
+-- some was put to out, and nothing after that
+pub record PutOut (before now : Told) (answer : Answer) : Type 0 where
+  pub out : TookSome before.out now.out answer.out
+  pub written : now.files ≡ before.files
+  pub err : Took before.err now.err []
 
--- a call that ended with this status put exactly an answer's bytes, or after want of memory or a fault of
--- a device the first of them
+-- all was put to out, the write of the file failed, and nothing after that
+pub record PutFile (before now : Told) (answer : Answer) : Type 0 where
+  pub out : Took before.out now.out answer.out
+  pub written : TriedToWrite before.files now.files answer.written
+  pub err : Took before.err now.err []
+
+-- all was put to out, the file was written, and some was put to err
+pub record PutErr (before now : Told) (answer : Answer) : Type 0 where
+  pub out : Took before.out now.out answer.out
+  pub written : Wrote before.files now.files answer.written
+  pub err : TookSome before.err now.err answer.err
+
+-- an answer was put and written up to a fault
+abbrev pub PutPart : Told → Told → Answer → Type 0
+PutPart before now answer = PutOut before now answer ⊎ (PutFile before now answer ⊎ PutErr before now answer)
+
+-- nothing was put or written
+pub record PutNothing (before now : Told) : Type 0 where
+  pub out : now.out ≡ before.out
+  pub err : now.err ≡ before.err
+  pub written : now.files ≡ before.files
+
+-- a call that ended with this status gave exactly one of these answers; after want of memory or a fault of
+-- a device, it gave nothing or the beginning of one
 abbrev pub Comes : (Answer → Type 0) → Status → Told → Told → Type 0
-Comes Answers NoMemory before now = (answer : Answer) × Answers answer × PutOut before now answer.out
-Comes Answers DeviceFault before now = (answer : Answer) × Answers answer × PutPart before now answer.out answer.err
-Comes Answers status before now = (answer : Answer) × Answers answer × (status ≡ answer.status) × PutAll before now answer.out answer.err
+Comes Answers NoMemory before now = PutNothing before now ⊎ ((answer : Answer) × Answers answer × PutOut before now answer)
+Comes Answers DeviceFault before now = PutNothing before now ⊎ ((answer : Answer) × Answers answer × PutPart before now answer)
+Comes Answers status before now = (answer : Answer) × Answers answer × (status ≡ answer.status) × PutAll before now answer
 
--- the list of a shelf's failed calls got the read of one of these files
-pub record ReadFailed (files : List (List ℕ)) (before now : List NamedCall) : Type 0 where
-  pub name : List ℕ
-  pub named : Contains files name
-  pub cause : ShelfCause before now (Read, name)
+-- the calls that a job makes of the shelf: it reads these files, and writes the trace
+abbrev pub calls_of : Option Job → List NamedCall
+calls_of None = []
+calls_of (Some (Run job)) = (Read, job.image) ∷ map (λ name. (Write, name)) (option_to_list job.trace)
+calls_of (Some (Replay image trace)) = (Read, image) ∷ (Read, trace) ∷ []
 
--- what stopped a command before it could end: a refusal that is an answer, a fault of the shelf, or want
--- of memory
+-- the list of a shelf's failed calls got one of these calls
+pub record CallFailed (calls before now : List NamedCall) : Type 0 where
+  pub call : NamedCall
+  pub made : Contains calls call
+  pub cause : ShelfCause before now call
+
+-- what stopped a command before its run had ended: a refusal that is an answer, a fault of the shelf, or
+-- want of memory
 abbrev pub Stops : (Answer → Type 0) → Type 0 → Stop → Type 0
 Stops Answers Fault (stops.Refused refusal) = Answers (refused refusal)
 Stops Answers Fault stops.DeviceFault = Fault
 Stops Answers Fault stops.NoMemory = Unit {0}
 
--- what stopped a read of a file: the limit, which it may pass, a fault of the shelf, or want of memory
+-- what stopped a read of a file: the limit, which the file may pass, a fault of the shelf, or want of
+-- memory
 abbrev pub StopsRead : ℕ → Type 0 → Type 0 → Stop → Type 0
 StopsRead limit Over Fault (stops.Refused refusal) = (refusal ≡ TooBig limit) × Over
 StopsRead limit Over Fault stops.DeviceFault = Fault
 StopsRead limit Over Fault stops.NoMemory = Unit {0}
+
+-- what stopped a machine from being made of a file: the fault of the image, or want of memory
+abbrev pub StopsImage : Option Fault → Stop → Type 0
+StopsImage found (stops.Refused refusal) = (fault : Fault) × (found ≡ Some fault) × (refusal ≡ Image fault.number fault.place)
+StopsImage found stops.DeviceFault = ⊥
+StopsImage found stops.NoMemory = Unit {0}
+
+-- what stopped the reading of a trace: its fault, or want of memory
+abbrev pub StopsTrace : Option trace_faults.Fault → Stop → Type 0
+StopsTrace found (stops.Refused refusal) = (fault : trace_faults.Fault) × (found ≡ Some fault) × (refusal ≡ Trace fault.number fault.place)
+StopsTrace found stops.DeviceFault = ⊥
+StopsTrace found stops.NoMemory = Unit {0}
+
+-- a trace that a machine can be made for, and what spells it
+pub record IsTraceOf (file : List ℕ) (config : Config) (made : List Event) : Type 0 where
+  pub accepted : trace_fault file ≡ None
+  pub is_trace : IsTrace config made
+  pub plain : config.mode ≡ Plain
+  pub spelled : file ≡ spelling config made
+
+-- what stopped the write of a file: a fault of the shelf, or want of memory
+abbrev pub StopsWrite : Type 0 → Type 0 → Type 0 → ShelfFault → Type 0
+StopsWrite Tried Fault Same faults.Failed = Tried × Fault
+StopsWrite Tried Fault Same faults.TooBig = ⊥
+StopsWrite Tried Fault Same faults.NoMemory = Same

@@ -1,7 +1,6 @@
 pub mod Statuses
-pub mod Words
 pub mod Messages
 pub mod Contents
-pub mod Run
+pub mod Report
 pub mod Answer
 pub mod Comes

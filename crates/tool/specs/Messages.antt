@@ -1,8 +1,10 @@
 -- The one line that a refusal puts to err.
 use Rattle.std.specs.Prelude.{ℕ, List, [], ◌∷◌, ◌++◌, ◌==◌, codes, if◌then◌else◌}
 use Rattle.std.specs.Fmt.{decimal}
+use Rattle.el_base.specs.declared.settings.ConfigFault.{ConfigFault}
+use Rattle.el_base.specs.declared.settings.ConfigFault.TheVariants.{Harts, Sets, Ways, Lines, Long, Steps}
 use Rattle.tool.specs.declared.messages.Refusal.{Refusal}
-use Rattle.tool.specs.declared.messages.Refusal.TheVariants.{Usage, TooBig, Image}
+use Rattle.tool.specs.declared.messages.Refusal.TheVariants as refusals
 
 -- the name of an image fault, by its number
 unfoldable pub image_fault_name : ℕ → List ℕ
@@ -24,8 +26,31 @@ image_fault_name number =
     else if number == 15 then codes "Entry"
     else codes "Empty"
 
+-- the name of a trace fault, by its number
+unfoldable pub trace_fault_name : ℕ → List ℕ
+trace_fault_name number =
+    if number == 1 then codes "Short"
+    else if number == 2 then codes "Magic"
+    else if number == 3 then codes "Version"
+    else if number == 4 then codes "Config"
+    else if number == 5 then codes "Event"
+    else codes "Tail"
+
+-- the number and the name of a fault of a configuration
+unfoldable pub config_fault_text : ConfigFault → List ℕ
+config_fault_text Harts = codes "1 Harts"
+config_fault_text Sets = codes "2 Sets"
+config_fault_text Ways = codes "3 Ways"
+config_fault_text Lines = codes "4 Lines"
+config_fault_text Long = codes "5 Long"
+config_fault_text Steps = codes "6 Steps"
+
 abbrev pub newline : List ℕ
 newline = 10 ∷ []
+
+-- the line of a fault of a configuration
+abbrev pub config_line : ConfigFault → List ℕ
+config_line fault = codes "config fault " ++ config_fault_text fault ++ newline
 
 -- the line of a fault of a file, by what the file is, and the fault's number, name and place
 abbrev pub fault_line : List ℕ → ℕ → List ℕ → ℕ → List ℕ
@@ -33,8 +58,10 @@ fault_line file number name place =
     file ++ codes " fault " ++ decimal number ++ codes " " ++ name ++ codes " at byte " ++ decimal place ++ newline
 
 -- the line of a refusal, with its newline
-abbrev pub line_of : Refusal → List ℕ
-line_of Usage =
+unfoldable pub line_of : Refusal → List ℕ
+line_of refusals.Usage =
     codes "usage: elide run IMAGE [options], elide replay IMAGE TRACE, elide gen KIND NUMBER FILE" ++ newline
-line_of (TooBig limit) = codes "file too big: limit " ++ decimal limit ++ newline
-line_of (Image number place) = fault_line (codes "image") number (image_fault_name number) place
+line_of (refusals.Config fault) = config_line fault
+line_of (refusals.TooBig limit) = codes "file too big: limit " ++ decimal limit ++ newline
+line_of (refusals.Image number place) = fault_line (codes "image") number (image_fault_name number) place
+line_of (refusals.Trace number place) = fault_line (codes "trace") number (trace_fault_name number) place

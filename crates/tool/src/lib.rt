@@ -1,20 +1,18 @@
 //! The top call: the words of a command line, done over a shelf of files and two sinks.
 //!
-//! It stands on the devices of `el_io`, the images of `elf_image` and the flat memory of `rv_flat`.
-//! `specs/Answer.antt` says what the program answers to its words over its files, and [`tool`]
-//! promises that exactly this is put. Words, what is done, and texts stand apart: `words` says what
-//! a command line asks for, `run_command` does it, and `messages` has every line of a refusal.
+//! It stands on the devices of `el_io`, the words of `command_line`, the images of `elf_image`, the
+//! machine with its drivers, and the traces of `trace_file`. `specs/Answer.antt` says what the
+//! program answers to its words over its files, and [`tool`] promises that exactly this is put and
+//! written. `doing` makes a machine and runs it, `telling` puts what there is to say, and
+//! `messages` has every line of a refusal.
 #![tactic(auto)]
 
+mod doing;
 mod messages;
-mod run_command;
 mod status;
 mod stop;
+mod telling;
 mod top_call;
-mod words;
 
 pub use status::Status;
 pub use top_call::tool;
-
-#[cfg(test)]
-mod tests;

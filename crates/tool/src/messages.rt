@@ -1,7 +1,8 @@
 //! The lines that refusals put to err.
 ghost use Rattle.std.specs.Prelude.{◌≡◌, IfOk, string_bytes};
-ghost use Rattle.tool.specs.Messages.{fault_line as line_of_fault, image_fault_name as name_of_image_fault, line_of};
+ghost use Rattle.tool.specs.Messages.{config_fault_text as text_of_config_fault, config_line as line_of_config, fault_line as line_of_fault, image_fault_name as name_of_image_fault, line_of, trace_fault_name as name_of_trace_fault};
 
+use el_base::ConfigFault;
 use std::alloc::{AllocError, Global};
 
 const USAGE: &str =
@@ -12,25 +13,42 @@ const USAGE: &str =
 pub(crate) enum Refusal {
     /// The words are no command line.
     Usage,
+    /// The first field of the configuration that is out of its range.
+    Config { fault: ConfigFault },
     /// A file has more bytes than its limit.
     TooBig { limit: u32 },
     /// The first fault of an image file.
     Image { number: u8, place: u32 },
+    /// The first fault of a trace.
+    Trace { number: u8, place: u32 },
 }
 
 impl Refusal {
     /// The line of a refusal, with its newline.
+    #[tactic(auto, unfolding(crate::specs::Messages::line_of))]
     pub(crate) fn line(self, alloc: Global) -> Result<String, AllocError>
         ensures { IfOk result (λ line. string_bytes line ≡ line_of self) }
     {
         match self {
             Refusal::Usage => String::from_str(alloc, USAGE),
+            Refusal::Config { fault } => config_line(alloc, fault),
             Refusal::TooBig { limit } => format!(in alloc; "file too big: limit {limit}\n"),
             Refusal::Image { number, place } => {
                 fault_line(alloc, "image", number, image_fault_name(number), place)
             }
+            Refusal::Trace { number, place } => {
+                fault_line(alloc, "trace", number, trace_fault_name(number), place)
+            }
         }
     }
+}
+
+/// The line of a fault of a configuration.
+fn config_line(alloc: Global, fault: ConfigFault) -> Result<String, AllocError>
+    ensures { IfOk result (λ line. string_bytes line ≡ line_of_config fault) }
+{
+    let text = config_fault_text(fault);
+    format!(in alloc; "config fault {text}\n")
 }
 
 /// The line of a fault of a file, by what the file is, and the fault's number, name and place.
@@ -47,6 +65,21 @@ fn fault_line(
     line.push_str(name)?;
     writeln!(line, " at byte {place}")?;
     Ok(line)
+}
+
+/// The number and the name of a fault of a configuration.
+#[tactic(auto, unfolding(crate::specs::Messages::config_fault_text))]
+fn config_fault_text(fault: ConfigFault) -> &'static str
+    ensures { result.now ≡ text_of_config_fault fault }
+{
+    match fault {
+        ConfigFault::Harts => "1 Harts",
+        ConfigFault::Sets => "2 Sets",
+        ConfigFault::Ways => "3 Ways",
+        ConfigFault::Lines => "4 Lines",
+        ConfigFault::Long => "5 Long",
+        ConfigFault::Steps => "6 Steps",
+    }
 }
 
 /// The name of an image fault, by its number from 1 to 16.
@@ -71,5 +104,20 @@ fn image_fault_name(number: u8) -> &'static str
         14 => "TooHigh",
         15 => "Entry",
         _ => "Empty",
+    }
+}
+
+/// The name of a trace fault, by its number from 1 to 6.
+#[tactic(auto, unfolding(crate::specs::Messages::trace_fault_name))]
+fn trace_fault_name(number: u8) -> &'static str
+    ensures { result.now ≡ name_of_trace_fault number }
+{
+    match number {
+        1 => "Short",
+        2 => "Magic",
+        3 => "Version",
+        4 => "Config",
+        5 => "Event",
+        _ => "Tail",
     }
 }

@@ -1,9 +1,9 @@
 ghost use Rattle.std.specs.Prelude.{◌≡◌};
 
 use crate::messages::Refusal;
-use el_base::NoMemory;
+use el_base::ConfigFault;
 
-/// What stops a command before it has run to its end.
+/// What stops a command before its run has ended.
 #[derive(Clone, Copy, Debug)]
 pub(crate) enum Stop {
     Refused(Refusal),
@@ -12,12 +12,13 @@ pub(crate) enum Stop {
     NoMemory,
 }
 
-impl From<NoMemory> for Stop {
-    ghost use Rattle.tool.specs.declared.stop.Stop.TheVariants as stops;
+impl From<ConfigFault> for Stop {
+    ghost use Rattle.tool.specs.declared.messages.Refusal.TheVariants.{Config};
+    ghost use Rattle.tool.specs.declared.stop.Stop.TheVariants.{Refused};
 
-    ghost from_gives = { λ _ stop. stop ≡ stops.NoMemory };
+    ghost from_gives = { λ fault stop. stop ≡ Refused (Config fault) };
 
-    fn from(_want: NoMemory) -> Stop {
-        Stop::NoMemory
+    fn from(fault: ConfigFault) -> Stop {
+        Stop::Refused(Refusal::Config { fault })
     }
 }

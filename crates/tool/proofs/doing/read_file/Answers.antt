@@ -1,6 +1,6 @@
 use Rattle.std.proofs.Common.{refl, ap, Err}
-use Rattle.tool.proofs.Answering.{may_have, may_pass}
-use Rattle.tool.proofs.run_command.read_file.Goals as goal
+use Rattle.tool.proofs.FileContents.{may_have, may_pass}
+use Rattle.tool.proofs.doing.read_file.Goals as goal
 
 pub returns-in-Ok-clause-given : goal.returns-in-Ok-clause-given
 returns-in-Ok-clause-given g c = may_have (g.S.Shelf.told c.args.shelf.now) c.args.name.now _ c.in-Ok.ensures.exact

@@ -103,7 +103,8 @@ impl Engine {
     /// A byte of committed memory, or none outside it.
     pub fn byte(&self, address: u32) -> Option<u8>
         ensures none_exactly_outside { IsNone result ↔ (holds (span_of self.now.committed) address 1 ≡ false) }
-        ensures exact { IfSome result (λ byte. byte ≡ byte_in self.now.committed.base self.now.committed.bytes address) }
+        ensures exact { IfSome result (λ byte.
+            byte ≡ byte_in self.now.committed.base self.now.committed.bytes address) }
     {
         self.flat.byte(address)
     }

@@ -55,7 +55,9 @@ impl Model for Machine {
 
     ghost view = { λ m. record { program = m.image; config = m.config; entries = m.history.entries } };
 
-    ghost invariant = { λ m. Stands (record { program = m.image; config = m.config; entries = m.history.entries }) m.engine m.history.places };
+    ghost invariant = { λ m.
+        Stands (record { program = m.image; config = m.config; entries = m.history.entries })
+        m.engine m.history.places };
 }
 
 impl Machine {
@@ -64,9 +66,11 @@ impl Machine {
     pub fn make(alloc: Global, image: Image, config: Config) -> Result<Machine, MakeFault>
         requires one_hart_each { image.harts ≡ config.harts }
         requires plain { config.mode ≡ Plain }
-        ensures made { IfOk result (λ machine. machine ≡ record { program = image; config = config; entries = [] }) }
+        ensures made { IfOk result (λ machine.
+            machine ≡ record { program = image; config = config; entries = [] }) }
         ensures in_range { OnOk result (IsInRange config) }
-        ensures refused { (fault : ConfigFault) → result ≡ Err (MakeFault.Config fault) → config_fault config ≡ Some fault }
+        ensures refused { (fault : ConfigFault) →
+            result ≡ Err (MakeFault.Config fault) → config_fault config ≡ Some fault }
         ensures memory_after_faults { result ≡ Err MakeFault.NoMemory → IsInRange config }
     {
         prove!(image.harts() == config.harts);
@@ -85,7 +89,9 @@ impl Machine {
     pub fn step(&mut self, event: Event) -> Outcome
         requires hart_exists { event.hart.number < self.old.config.harts }
         requires step_left { 1 ≤ left_of self.old }
-        ensures one_entry_more { self.new ≡ record self.old { entries = self.old.entries ++ record { event = event; outcome = result } ∷ [] } }
+        ensures one_entry_more { self.new ≡ record self.old {
+          entries = self.old.entries ++ record { event = event; outcome = result } ∷ [];
+        } }
         ensures outcome { result ≡ (next (state_of self.old) event).outcome }
         ensures state { state_of self.new ≡ (next (state_of self.old) event).state }
         ensures one_run { IsOneRun self.new }
@@ -155,7 +161,8 @@ impl Machine {
     /// The committed byte at an address, or none outside memory.
     pub fn byte(&self, address: u32) -> Option<u8>
         ensures none_exactly_outside { IsNone result ↔ (holds (memory_of self.now.program) address 1 ≡ false) }
-        ensures exact { IfSome result (λ byte. byte ≡ byte_in self.now.program.base (committed self.now).bytes address) }
+        ensures exact { IfSome result (λ byte.
+            byte ≡ byte_in self.now.program.base (committed self.now).bytes address) }
     {
         self.engine.byte(address)
     }

@@ -1,5 +1,5 @@
 -- The answer over files, from what was found in them.
-use Rattle.std.proofs.Common.{◌≡◌, ℕ, ◌+◌, ◌-◌, ◌<◌, ◌≤◌, List, [], ◌∷◌, length, Option, None, Some, Result, Ok, Err, refl, ap, sym, subst, ◌∙◌, arith}
+use Rattle.std.proofs.Common.{◌≡◌, ℕ, ◌-◌, ◌≤◌, List, [], ◌∷◌, length, Option, None, Some, Result, Ok, Err, refl, ap, sym, subst, ◌∙◌, arith}
 use Rattle.std.specs.Prelude.{MatchResult}
 use Rattle.command_line.specs.Settings.{config_of}
 use Rattle.command_line.specs.Words.{Job, Run, Replay, RunJob, job_of}
@@ -23,7 +23,7 @@ use Rattle.tool.specs.declared.messages.Refusal.{Refusal}
 use Rattle.tool.specs.declared.messages.Refusal.TheVariants as refusals
 use Rattle.tool.specs.declared.stop.Stop.{Stop}
 use Rattle.tool.specs.declared.stop.Stop.TheVariants as stops
-use Rattle.tool.specs.Answer.{Answer, ConfigAnswer, FollowAnswer, ImageAnswer, IsReplayAnswer, IsAnswer, IsRunAnswer, JobAnswer, OverImage, ReplayAnswer, RoundRobinAnswer, RunAnswer, TraceAnswer, TraceFollowed, Within, ended, image_limit, refused, story_of, trace_limit}
+use Rattle.tool.specs.Answer.{Answer, ConfigAnswer, FollowAnswer, ImageAnswer, IsReplayAnswer, IsAnswer, IsRunAnswer, JobAnswer, OverImage, ReplayAnswer, RoundRobinAnswer, RunAnswer, TraceAnswer, TraceFollowed, Within, ended, image_limit, refused, trace_limit}
 use Rattle.tool.specs.Comes.{CallFailed, IsTraceOf, Stops, StopsImage, StopsRead, StopsTrace}
 use Rattle.tool.specs.Contents.{MayHave, MayHold, MayPass}
 use Rattle.tool.proofs.FileContents.{some_contents, some_file, within-over, within-small}

@@ -2,3 +2,4 @@ pub mod FileContents
 pub mod Ending
 pub mod Judging
 pub mod Putting
+pub mod Repeating

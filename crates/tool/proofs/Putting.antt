@@ -1,6 +1,6 @@
 -- What was put and written of an answer.
-use Rattle.std.proofs.Common.{◌≡◌, ℕ, ◌⊎◌, List, [], ◌∷◌, ◌++◌, length, map, take, take_all, zero, suc, false, Option, None, Some, Result, Ok, Err, refl, ap, subst, sym, inl, inr, arith}
-use Rattle.std.specs.Prelude.{Contains, MatchResult, OnOk, is_err}
+use Rattle.std.proofs.Common.{◌≡◌, ℕ, ◌⊎◌, List, [], ◌∷◌, length, map, take, take_all, suc, false, Option, Some, Result, Ok, Err, refl, subst, sym, inl, inr, arith}
+use Rattle.std.specs.Prelude.{MatchResult, OnOk, is_err}
 use Rattle.std.specs.Option.{option_map, option_to_list}
 use Rattle.chronicle.specs.Chronicle.{Chronicle, events}
 use Rattle.el_base.specs.declared.settings.Config.{Config}

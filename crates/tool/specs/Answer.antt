@@ -1,5 +1,5 @@
 -- What the program answers to its words, over files.
-use Rattle.std.specs.Prelude.{◌≡◌, ℕ, Bool, true, false, List, [], ◌∷◌, length, nat_lt, Option, None, Some}
+use Rattle.std.specs.Prelude.{◌≡◌, ℕ, Bool, true, false, List, [], length, nat_lt, Option, None, Some}
 use Rattle.std.specs.Option.{option_map}
 use Rattle.chronicle.specs.Chronicle.{events}
 use Rattle.command_line.specs.Settings.{config_of}

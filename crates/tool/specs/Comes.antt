@@ -1,5 +1,5 @@
 -- What was put and written when the program ended with a status, and what a fault of a device shows.
-use Rattle.std.specs.Prelude.{◌≡◌, ℕ, ◌⊎◌, List, [], ◌∷◌, ◌++◌, map, take, Contains, Option, None, Some}
+use Rattle.std.specs.Prelude.{◌≡◌, ℕ, ◌⊎◌, List, [], ◌∷◌, map, take, Contains, Option, None, Some}
 use Rattle.std.specs.Option.{option_to_list}
 use Rattle.command_line.specs.Words.{Job, Run, Replay}
 use Rattle.el_base.specs.declared.events.Event.{Event}
@@ -14,7 +14,6 @@ use Rattle.elf_image.specs.declared.fault.Fault.{Fault}
 use Rattle.trace_file.specs.declared.fault.Fault as trace_faults
 use Rattle.trace_file.specs.Faults.{trace_fault}
 use Rattle.trace_file.specs.Spelling.{IsTrace, spelling}
-use Rattle.tool.specs.declared.messages.Refusal.{Refusal}
 use Rattle.tool.specs.declared.messages.Refusal.TheVariants.{Image, TooBig, Trace}
 use Rattle.tool.specs.declared.status.Status.{Status}
 use Rattle.tool.specs.declared.status.Status.TheVariants.{DeviceFault, NoMemory}

@@ -4,3 +4,4 @@ pub mod Contents
 pub mod Report
 pub mod Answer
 pub mod Comes
+pub mod Laws

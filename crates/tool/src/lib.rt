@@ -8,11 +8,13 @@
 #![tactic(auto)]
 
 mod doing;
+mod laws;
 mod messages;
 mod status;
 mod stop;
 mod telling;
 mod top_call;
 
+pub use laws::replay_repeats_run;
 pub use status::Status;
 pub use top_call::tool;

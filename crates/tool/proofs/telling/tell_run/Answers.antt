@@ -1,4 +1,4 @@
-use Rattle.std.proofs.Common.{◌≡◌, refl, inr, sym, ◌∙◌, false}
+use Rattle.std.proofs.Common.{◌≡◌, refl, inr, false}
 use Rattle.std.specs.Prelude.{is_err}
 use Rattle.el_io.proofs.Taking.{took-nothing}
 use Rattle.tool.proofs.Putting.{ok-part, took-all}

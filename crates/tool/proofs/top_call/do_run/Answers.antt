@@ -1,6 +1,6 @@
 use Rattle.command_line.specs.Words.{run_meaning}
-use Rattle.tool.specs.Answer.{IsReplayAnswer, IsRunAnswer, refused}
-use Rattle.tool.proofs.Putting.{comes-one, failed-more, failed-none}
+use Rattle.tool.specs.Answer.{IsRunAnswer, refused}
+use Rattle.tool.proofs.Putting.{comes-one, failed-more}
 use Rattle.tool.proofs.top_call.do_run.Goals as goal
 
 pub returns-in-Ok-clause-exact : goal.returns-in-Ok-clause-exact

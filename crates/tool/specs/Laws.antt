@@ -1,0 +1,21 @@
+-- What holds of answers, whatever the files.
+use Rattle.std.specs.Prelude.{◌≡◌, ℕ, List, Some}
+use Rattle.command_line.specs.Words.{Run, Replay, RunJob}
+use Rattle.el_io.specs.Shelf.{Contents}
+use Rattle.tool.specs.Answer.{Answer, JobAnswer}
+
+-- two answers put the same bytes and end with the same status
+pub record SaysTheSame (one other : Answer) : Type 0 where
+  pub status : one.status ≡ other.status
+  pub out : one.out ≡ other.out
+  pub err : one.err ≡ other.err
+
+-- a run that wrote a trace, and a replay of that trace on the same image
+abbrev pub ReplayRepeatsRun : Type 0
+ReplayRepeatsRun =
+    (job : RunJob) (name : List ℕ) (before after : Contents) (ran replayed : Answer) →
+    JobAnswer (Some (Run job)) before before ran →
+    ran.written ≡ Some (name, after name) →
+    after job.image ≡ before job.image →
+    JobAnswer (Some (Replay job.image name)) after after replayed →
+    SaysTheSame ran replayed

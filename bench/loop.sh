@@ -1,6 +1,7 @@
 #!/bin/sh
-# Prints how many steps a second the built program makes of a loop of 3,999,998 steps, the best of
-# five runs. The time is that of the whole run, from the start of the process to its end.
+# Prints how many steps and events a second the built program makes of a loop of 3,999,998 steps, the
+# best of five runs. The round robin of one hart makes four events a step. The time is that of the
+# whole run, from the start of the process to its end.
 set -eu
 cd "$(dirname "$0")/.."
 image=$(mktemp)
@@ -33,7 +34,7 @@ with open(sys.argv[1], "wb") as image:
     image.write(header + segment + struct.pack("<%dI" % len(CODE), *CODE))
 PYTHON
 
-./elide run "$image" > /dev/null 2>&1 # builds the program where it is not built
+./elide run "$image" > /dev/null 2>&1 || true # builds the program where it is not built
 python3 - "$image" <<'PYTHON'
 import subprocess, sys, time
 
@@ -41,8 +42,9 @@ STEPS = 3 + 8 * 499_999 + 3
 best = None
 for _ in range(5):
     start = time.monotonic()
-    subprocess.run(["./elide", "run", sys.argv[1]], check=True, capture_output=True)
+    subprocess.run(["./elide", "run", sys.argv[1], "--steps", "16777216"], check=True, capture_output=True)
     taken = time.monotonic() - start
     best = taken if best is None else min(best, taken)
-print(f"{STEPS} steps in {best:.3f} s: {STEPS / best:,.0f} steps a second, {best / STEPS * 1e9:.0f} ns a step")
+events = 4 * (STEPS - 1) + 1
+print(f"{STEPS} steps, {events} events in {best:.3f} s: {best / STEPS * 1e9:.0f} ns a step, {best / events * 1e9:.1f} ns an event")
 PYTHON

@@ -1,0 +1,165 @@
+//! One device call fails at a time.
+use crate::support::{HELLO, REPORT, TRACE, strings};
+use el_io::{MemShelf, MemSink};
+use std::test::Fail;
+use tool::tool;
+
+/// The calls that fail, of the shelf, of out and of err, and what was put to out and to err.
+#[derive(Clone, Copy)]
+struct Row {
+    words: &'static [&'static str],
+    shelf: &'static [u32],
+    out: &'static [u32],
+    err: &'static [u32],
+    put: &'static str,
+    told: &'static str,
+}
+
+const RUN: &[&str] = &["run", "a"];
+
+const RUN_WITH_TRACE: &[&str] = &["run", "a", "--trace", "t"];
+
+const REPLAY: &[&str] = &["replay", "a", "t"];
+
+#[test]
+fn nothing_is_put_or_written_after_a_fault(rt: HostRuntime) -> Result<(), Fail> {
+    let rows = [
+        Row {
+            words: RUN,
+            shelf: &[1],
+            out: &[],
+            err: &[],
+            put: "",
+            told: "",
+        },
+        Row {
+            words: &["run", "b"],
+            shelf: &[],
+            out: &[],
+            err: &[],
+            put: "",
+            told: "",
+        },
+        Row {
+            words: RUN,
+            shelf: &[],
+            out: &[1],
+            err: &[],
+            put: "",
+            told: "",
+        },
+        Row {
+            words: RUN,
+            shelf: &[],
+            out: &[2],
+            err: &[],
+            put: "A",
+            told: "",
+        },
+        Row {
+            words: RUN,
+            shelf: &[],
+            out: &[],
+            err: &[1],
+            put: "A\n",
+            told: "",
+        },
+        Row {
+            words: RUN_WITH_TRACE,
+            shelf: &[1],
+            out: &[],
+            err: &[],
+            put: "",
+            told: "",
+        },
+        Row {
+            words: RUN_WITH_TRACE,
+            shelf: &[2],
+            out: &[],
+            err: &[],
+            put: "A\n",
+            told: "",
+        },
+        Row {
+            words: REPLAY,
+            shelf: &[1],
+            out: &[],
+            err: &[],
+            put: "",
+            told: "",
+        },
+        Row {
+            words: REPLAY,
+            shelf: &[2],
+            out: &[],
+            err: &[],
+            put: "",
+            told: "",
+        },
+        Row {
+            words: REPLAY,
+            shelf: &[],
+            out: &[],
+            err: &[1],
+            put: "A\n",
+            told: "",
+        },
+    ];
+    for row in rows {
+        let names = strings(rt.alloc(), &["a", "t"])?;
+        let contents = [
+            Vec::from_slice(rt.alloc(), &HELLO)?,
+            Vec::from_slice(rt.alloc(), &TRACE)?,
+        ];
+        assert!(rt; names.len() == 2);
+        let mut shelf = MemShelf::make(rt.alloc(), &names, &contents, row.shelf)?;
+        let mut out = MemSink::make(rt.alloc(), 256, 1, row.out)?;
+        let mut err = MemSink::make(rt.alloc(), 256, 1024, row.err)?;
+        let words = strings(rt.alloc(), row.words)?;
+        let status = tool(&rt, rt.alloc(), &words, &mut shelf, &mut out, &mut err);
+        assert_eq!(rt; status.number(), 4, "{words:?}");
+        assert_eq!(rt; out.taken(), row.put.as_bytes(), "{words:?}");
+        assert_eq!(rt; err.taken(), row.told.as_bytes(), "{words:?}");
+    }
+    Ok(())
+}
+
+// The trace is written behind the output: a run whose output failed leaves the file as it was.
+#[test]
+fn a_failed_output_leaves_the_trace_unwritten(rt: HostRuntime) -> Result<(), Fail> {
+    let rows: [(&[u32], &[u8]); 2] = [(&[1], b"old"), (&[], &TRACE)];
+    for (failing, wanted) in rows {
+        let names = strings(rt.alloc(), &["a", "t"])?;
+        let contents = [
+            Vec::from_slice(rt.alloc(), &HELLO)?,
+            Vec::from_slice(rt.alloc(), b"old")?,
+        ];
+        assert!(rt; names.len() == 2);
+        let mut shelf = MemShelf::make(rt.alloc(), &names, &contents, &[])?;
+        let mut out = MemSink::make(rt.alloc(), 256, 256, failing)?;
+        let mut err = MemSink::make(rt.alloc(), 256, 256, &[1])?;
+        let words = strings(rt.alloc(), RUN_WITH_TRACE)?;
+        let status = tool(&rt, rt.alloc(), &words, &mut shelf, &mut out, &mut err);
+        assert_eq!(rt; status.number(), 4);
+        assert_eq!(rt; shelf.contents("t"), wanted);
+        assert_eq!(rt; err.taken(), b"".as_slice());
+    }
+    Ok(())
+}
+
+// A sink that takes a byte a put takes the whole report all the same.
+#[test]
+fn short_puts_are_put_on(rt: HostRuntime) -> Result<(), Fail> {
+    let names = strings(rt.alloc(), &["a"])?;
+    let contents = [Vec::from_slice(rt.alloc(), &HELLO)?];
+    assert!(rt; names.len() == 1);
+    let mut shelf = MemShelf::make(rt.alloc(), &names, &contents, &[])?;
+    let mut out = MemSink::make(rt.alloc(), 256, 1, &[])?;
+    let mut err = MemSink::make(rt.alloc(), 256, 1, &[])?;
+    let words = strings(rt.alloc(), RUN)?;
+    let status = tool(&rt, rt.alloc(), &words, &mut shelf, &mut out, &mut err);
+    assert_eq!(rt; status.number(), 0);
+    assert_eq!(rt; out.taken(), b"A\n".as_slice());
+    assert_eq!(rt; err.taken(), REPORT.as_bytes());
+    Ok(())
+}

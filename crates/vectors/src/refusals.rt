@@ -1,0 +1,168 @@
+//! What is refused, each with its one line.
+use crate::support::{Ending, HELLO, TRACE, USAGE, answer, changed, resized};
+use std::alloc::{AllocError, Global};
+use std::test::Fail;
+
+/// The program refused with this line, and put nothing else.
+fn is_refused(ending: &Ending, line: &str) -> bool {
+    ending.status.number() == 2 && ending.out.is_empty() && ending.err.as_slice() == line.as_bytes()
+}
+
+#[test]
+fn words_outside_the_grammar_are_the_usage_line(rt: HostRuntime) -> Result<(), Fail> {
+    let rows: [&[&str]; 15] = [
+        &[],
+        &["walk", "x"],
+        &["run"],
+        &["run", "a", "a"],
+        &["run", "-a"],
+        &["run", "a", "--harts", "x"],
+        &["run", "a", "--steps"],
+        &["run", "a", "--steps", "4294967296"],
+        &["run", "a", "--harts", "1", "--harts", "1"],
+        &["run", "a", "--sets", "3"],
+        &["run", "a", "--threads", "5"],
+        &["run", "a", "--trace", "-t"],
+        &["replay", "a"],
+        &["replay", "a", "t", "--steps", "1"],
+        &["gen", "counter", "1", "t"],
+    ];
+    for words in rows {
+        let ending = answer(&rt, words, &HELLO, &TRACE)?;
+        assert!(rt; is_refused(&ending, USAGE), "{words:?}");
+    }
+    Ok(())
+}
+
+#[test]
+fn configurations_are_judged_before_files(rt: HostRuntime) -> Result<(), Fail> {
+    let rows: [(&[&str], &str); 6] = [
+        (&["run", "a", "--harts", "9"], "config fault 1 Harts\n"),
+        (&["run", "a", "--harts", "0"], "config fault 1 Harts\n"),
+        (
+            &["run", "a", "--harts", "4294967295"],
+            "config fault 1 Harts\n",
+        ),
+        (&["run", "a", "--steps", "0"], "config fault 6 Steps\n"),
+        (
+            &["run", "a", "--steps", "16777217"],
+            "config fault 6 Steps\n",
+        ),
+        (
+            &["run", "a", "--steps", "0", "--harts", "0"],
+            "config fault 1 Harts\n",
+        ),
+    ];
+    for (words, line) in rows {
+        let ending = answer(&rt, words, &[], &[])?;
+        assert!(rt; is_refused(&ending, line), "{words:?}");
+    }
+    Ok(())
+}
+
+#[test]
+fn cut_images_fault_where_they_end_or_point_outside(rt: HostRuntime) -> Result<(), Fail> {
+    for length in 0..122usize {
+        let image = resized(rt.alloc(), &HELLO, length, 0)?;
+        let line = match length {
+            0..=51 => format!(in rt.alloc(); "image fault 1 Short at byte {length}\n")?,
+            52..=83 => String::from_str(rt.alloc(), "image fault 9 Table at byte 28\n")?,
+            _ => String::from_str(rt.alloc(), "image fault 11 Segment at byte 56\n")?,
+        };
+        let ending = answer(&rt, &["run", "a"], &image, &[])?;
+        assert!(rt; is_refused(&ending, line.as_str()), "cut to {length}");
+    }
+    Ok(())
+}
+
+/// The worked image with these bytes from a place on.
+fn patched(alloc: Global, place: usize, bytes: &[u8]) -> Result<Vec<u8>, AllocError> {
+    let mut image = HELLO.to_vec(alloc)?;
+    for (index, value) in bytes.iter().enumerate() {
+        if let Some(byte) = image.get_mut(place.saturating_add(index)) {
+            *byte = *value;
+        }
+    }
+    Ok(image)
+}
+
+#[test]
+fn changed_images_have_their_first_fault(rt: HostRuntime) -> Result<(), Fail> {
+    let rows: [(usize, &[u8], &str); 10] = [
+        (36, &[0x01], "image fault 8 Flags at byte 36\n"),
+        (44, &[0xff, 0xff], "image fault 9 Table at byte 44\n"),
+        (
+            28,
+            &[0xff, 0xff, 0xff, 0xff],
+            "image fault 9 Table at byte 28\n",
+        ),
+        (52, &[0x03], "image fault 10 Dynamic at byte 52\n"),
+        (52, &[0x00], "image fault 16 Empty at byte 44\n"),
+        (72, &[0x79], "image fault 11 Segment at byte 68\n"),
+        (76, &[0x04], "image fault 15 Entry at byte 24\n"),
+        (24, &[0x56], "image fault 15 Entry at byte 24\n"),
+        (24, &[0x78], "image fault 15 Entry at byte 24\n"),
+        (0, &[0x7e], "image fault 2 Magic at byte 0\n"),
+    ];
+    for (place, bytes, line) in rows {
+        let image = patched(rt.alloc(), place, bytes)?;
+        let ending = answer(&rt, &["run", "a"], &image, &[])?;
+        assert!(rt; is_refused(&ending, line), "{place}: {bytes:?}");
+    }
+    Ok(())
+}
+
+#[test]
+fn files_over_their_limits_are_refused(rt: HostRuntime) -> Result<(), Fail> {
+    let big = vec![in rt.alloc(); 0; 33_554_433]?;
+    let ending = answer(&rt, &["run", "a"], &big, &[])?;
+    assert!(rt;
+        is_refused(&ending, "file too big: limit 33554432\n"),
+        "an image"
+    );
+    let ending = answer(&rt, &["replay", "a", "t"], &HELLO, &big[..16_777_239])?;
+    assert!(rt;
+        is_refused(&ending, "file too big: limit 16777238\n"),
+        "a trace"
+    );
+    Ok(())
+}
+
+#[test]
+fn changed_traces_have_their_first_fault(rt: HostRuntime) -> Result<(), Fail> {
+    for length in 0..55usize {
+        let trace = resized(rt.alloc(), &TRACE, length, 0)?;
+        let line = format!(in rt.alloc(); "trace fault 1 Short at byte {length}\n")?;
+        let ending = answer(&rt, &["replay", "a", "t"], &HELLO, &trace)?;
+        assert!(rt; is_refused(&ending, line.as_str()), "cut to {length}");
+    }
+    let rows: [(usize, u8, &str); 6] = [
+        (1, 0, "trace fault 2 Magic at byte 1\n"),
+        (4, 2, "trace fault 3 Version at byte 4\n"),
+        (5, 0, "trace fault 4 Config at byte 5\n"),
+        (6, 2, "trace fault 4 Config at byte 6\n"),
+        (22, 8, "trace fault 5 Event at byte 22\n"),
+        (22, 0x40, "trace fault 5 Event at byte 22\n"),
+    ];
+    for (place, value, line) in rows {
+        let trace = changed(rt.alloc(), &TRACE, place, value)?;
+        let ending = answer(&rt, &["replay", "a", "t"], &HELLO, &trace)?;
+        assert!(rt; is_refused(&ending, line), "byte {place} set to {value}");
+    }
+    let longer = resized(rt.alloc(), &TRACE, 55, 1)?;
+    let ending = answer(&rt, &["replay", "a", "t"], &HELLO, &longer)?;
+    assert!(rt;
+        is_refused(&ending, "trace fault 6 Tail at byte 55\n"),
+        "one byte more"
+    );
+    Ok(())
+}
+
+#[test]
+fn a_trace_is_judged_before_its_image(rt: HostRuntime) -> Result<(), Fail> {
+    let ending = answer(&rt, &["replay", "a", "t"], &[], &[])?;
+    assert!(rt; is_refused(&ending, "trace fault 1 Short at byte 0\n"));
+    let ending = answer(&rt, &["replay", "a", "t"], &[], &TRACE)?;
+    assert!(rt; is_refused(&ending, "image fault 1 Short at byte 0\n"));
+    Ok(())
+}

@@ -1,0 +1,135 @@
+//! Runs that end by themselves, or at their last step.
+use crate::support::{HELLO, REPORT, answer, changed, image_of};
+use std::test::Fail;
+
+// Each hart exits with its number: addi a7, x0, 93; ecall.
+const EXITS_WITH_ITS_NUMBER: [u32; 2] = [0x05d0_0893, 0x0000_0073];
+
+// Writes 200 bytes from 0x10036 on, which is 10 bytes before the end of a line, and exits with what
+// the call answered: lui a1, 0x10; addi a1, a1, 54; addi a0, x0, 1; addi a2, x0, 200; addi a7, x0, 64;
+// ecall; addi a7, x0, 93; ecall.
+const WRITES_OVER_A_LINE: [u32; 8] = [
+    0x0001_05b7,
+    0x0365_8593,
+    0x0010_0513,
+    0x0c80_0613,
+    0x0400_0893,
+    0x0000_0073,
+    0x05d0_0893,
+    0x0000_0073,
+];
+
+// lw a0, 2(x0): misaligned and outside memory.
+const LOADS_MISALIGNED: [u32; 1] = [0x0020_2503];
+
+// jal x0, 0: for ever.
+const LOOPS: [u32; 1] = [0x0000_006f];
+
+#[test]
+fn the_worked_image_prints_and_exits(rt: HostRuntime) -> Result<(), Fail> {
+    let rows: [(&[&str], u8, &str, &str); 7] = [
+        (&["run", "a"], 0, "A\n", REPORT),
+        (&["run", "a", "--steps", "33"], 0, "A\n", REPORT),
+        (
+            &["run", "a", "--steps", "32"],
+            3,
+            "A\n",
+            "elide plain harts 1 events 32\nserial 8 out 2\n",
+        ),
+        (
+            &["run", "a", "--steps", "1"],
+            3,
+            "",
+            "elide plain harts 1 events 1\nserial 1 out 0\n",
+        ),
+        (&["run", "a", "--harts", "01"], 0, "A\n", REPORT),
+        (
+            &["run", "a", "--harts", "2"],
+            0,
+            "A\nA\n",
+            "elide plain harts 2 events 69\nserial 18 out 4\n",
+        ),
+        (
+            &["run", "a", "--steps", "16777216", "--harts", "1"],
+            0,
+            "A\n",
+            REPORT,
+        ),
+    ];
+    for (words, number, out, err) in rows {
+        let ending = answer(&rt, words, &HELLO, &[])?;
+        assert_eq!(rt; ending.status.number(), number, "{words:?}");
+        assert_eq!(rt; ending.out.as_slice(), out.as_bytes(), "{words:?}");
+        assert_eq!(rt; ending.err.as_slice(), err.as_bytes(), "{words:?}");
+    }
+    Ok(())
+}
+
+#[test]
+fn total_store_order_is_no_fault(rt: HostRuntime) -> Result<(), Fail> {
+    let image = changed(rt.alloc(), &HELLO, 36, 0x10)?;
+    let ending = answer(&rt, &["run", "a"], &image, &[])?;
+    assert_eq!(rt; ending.status.number(), 0);
+    assert_eq!(rt; ending.out.as_slice(), b"A\n".as_slice());
+    Ok(())
+}
+
+#[test]
+fn programs_end_as_their_harts_do(rt: HostRuntime) -> Result<(), Fail> {
+    let rows: [(&[u32], &str, u8, &[u8], &str); 6] = [
+        (
+            &EXITS_WITH_ITS_NUMBER,
+            "1",
+            0,
+            &[],
+            "elide plain harts 1 events 5\nserial 2 out 0\n",
+        ),
+        (
+            &EXITS_WITH_ITS_NUMBER,
+            "8",
+            1,
+            &[],
+            "elide plain harts 8 events 61\nserial 16 out 0\n",
+        ),
+        (
+            &WRITES_OVER_A_LINE,
+            "1",
+            1,
+            &[0, 0, 0, 0, 0, 0, 0, 0, 1, 0],
+            "elide plain harts 1 events 29\nserial 8 out 10\n",
+        ),
+        (
+            &LOADS_MISALIGNED,
+            "1",
+            1,
+            &[],
+            "elide plain harts 1 events 1\nserial 1 out 0\n",
+        ),
+        (
+            &LOOPS,
+            "1",
+            3,
+            &[],
+            "elide plain harts 1 events 4000000\nserial 1000000 out 0\n",
+        ),
+        (
+            &LOOPS,
+            "3",
+            3,
+            &[],
+            "elide plain harts 3 events 4000000\nserial 1000000 out 0\n",
+        ),
+    ];
+    for (code, harts, number, out, err) in rows {
+        let image = image_of(rt.alloc(), code)?;
+        let ending = answer(&rt, &["run", "a", "--harts", harts], &image, &[])?;
+        assert_eq!(rt; ending.status.number(), number, "{code:?} on {harts}");
+        assert_eq!(rt; ending.out.as_slice(), out, "{code:?} on {harts}");
+        assert_eq!(rt;
+            ending.err.as_slice(),
+            err.as_bytes(),
+            "{code:?} on {harts}"
+        );
+    }
+    Ok(())
+}

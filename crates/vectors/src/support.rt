@@ -1,0 +1,127 @@
+//! The worked files, and a run of the program over files in memory.
+use el_io::{SureShelf, SureSink};
+use std::alloc::{AllocError, Global};
+use std::test::Fail;
+use tool::{Status, tool};
+
+/// An image that prints 'A' and a newline and exits with 0: 9 instructions in one segment at 0x10000,
+/// which is the whole file.
+pub const HELLO: [u8; 122] = [
+    0x7f, 0x45, 0x4c, 0x46, 0x01, 0x01, 0x01, 0x00, 0x00, 0x00, 0x00, 0x00, 0x00, 0x00, 0x00, 0x00,
+    0x02, 0x00, 0xf3, 0x00, 0x01, 0x00, 0x00, 0x00, 0x54, 0x00, 0x01, 0x00, 0x34, 0x00, 0x00, 0x00,
+    0x00, 0x00, 0x00, 0x00, 0x00, 0x00, 0x00, 0x00, 0x34, 0x00, 0x20, 0x00, 0x01, 0x00, 0x00, 0x00,
+    0x00, 0x00, 0x00, 0x00, 0x01, 0x00, 0x00, 0x00, 0x00, 0x00, 0x00, 0x00, 0x00, 0x00, 0x01, 0x00,
+    0x00, 0x00, 0x01, 0x00, 0x7a, 0x00, 0x00, 0x00, 0x7a, 0x00, 0x00, 0x00, 0x05, 0x00, 0x00, 0x00,
+    0x00, 0x10, 0x00, 0x00, 0x13, 0x05, 0x10, 0x00, 0x97, 0x05, 0x00, 0x00, 0x93, 0x85, 0x05, 0x02,
+    0x13, 0x06, 0x20, 0x00, 0x93, 0x08, 0x00, 0x04, 0x73, 0x00, 0x00, 0x00, 0x13, 0x05, 0x00, 0x00,
+    0x93, 0x08, 0xd0, 0x05, 0x73, 0x00, 0x00, 0x00, 0x41, 0x0a,
+];
+
+/// The trace of a run of it: 33 events, Step, Order, Serve and Deliver of hart 0 in turn.
+pub const TRACE: [u8; 55] = [
+    0x45, 0x4c, 0x54, 0x52, 0x01, 0x01, 0x00, 0x10, 0x04, 0x10, 0xd0, 0x07, 0x00, 0x00, 0x00, 0x09,
+    0x3d, 0x00, 0x21, 0x00, 0x00, 0x00, 0x00, 0x10, 0x20, 0x30, 0x00, 0x10, 0x20, 0x30, 0x00, 0x10,
+    0x20, 0x30, 0x00, 0x10, 0x20, 0x30, 0x00, 0x10, 0x20, 0x30, 0x00, 0x10, 0x20, 0x30, 0x00, 0x10,
+    0x20, 0x30, 0x00, 0x10, 0x20, 0x30, 0x00,
+];
+
+/// What `err` takes of a run of it to its end.
+pub const REPORT: &str = "elide plain harts 1 events 33\nserial 9 out 2\n";
+
+pub const USAGE: &str =
+    "usage: elide run IMAGE [options], elide replay IMAGE TRACE, elide gen KIND NUMBER FILE\n";
+
+/// Where the code of `HELLO` begins.
+const CODE: usize = 84;
+
+/// Where the two lengths of its segment stand.
+const LENGTHS: [usize; 2] = [68, 72];
+
+/// Bytes with one of them written over.
+pub fn changed(
+    alloc: Global,
+    bytes: &[u8],
+    place: usize,
+    value: u8,
+) -> Result<Vec<u8>, AllocError> {
+    let mut file = bytes.to_vec(alloc)?;
+    if let Some(byte) = file.get_mut(place) {
+        *byte = value;
+    }
+    Ok(file)
+}
+
+/// The first bytes of a file, and so many zeros behind them.
+pub fn resized(
+    alloc: Global,
+    bytes: &[u8],
+    first: usize,
+    zeros: usize,
+) -> Result<Vec<u8>, AllocError> {
+    let mut file = bytes.get(..first).unwrap_or(bytes).to_vec(alloc)?;
+    for _ in 0..zeros {
+        file.push(0)?;
+    }
+    Ok(file)
+}
+
+/// An image of these instructions, in one segment that is the whole file.
+pub fn image_of(alloc: Global, code: &[u32]) -> Result<Vec<u8>, AllocError> {
+    let mut file = HELLO[..CODE].to_vec(alloc)?;
+    for word in code {
+        file.extend_from_slice(&word.to_le_bytes())?;
+    }
+    let length = file.len().to_le_bytes();
+    for place in LENGTHS {
+        for (index, byte) in length[..4].iter().enumerate() {
+            if let Some(field) = file.get_mut(place + index) {
+                *field = *byte;
+            }
+        }
+    }
+    Ok(file)
+}
+
+pub fn strings(alloc: Global, words: &[&str]) -> Result<Vec<String>, AllocError> {
+    words
+        .iter()
+        .map(|word| String::from_str(alloc, word))
+        .try_collect(alloc)
+}
+
+/// How the program ended, what it put to out and to err, and the file `t` after it.
+#[derive(Debug, Drop)]
+pub struct Ending {
+    pub status: Status,
+    pub out: Vec<u8>,
+    pub err: Vec<u8>,
+    pub trace: Vec<u8>,
+}
+
+/// The program's answer to these words, where the file `a` is an image and `t` a trace.
+pub fn answer(
+    rt: &HostRuntime,
+    words: &[&str],
+    image: &[u8],
+    trace: &[u8],
+) -> Result<Ending, Fail> {
+    let names = [
+        String::from_str(rt.alloc(), "a")?,
+        String::from_str(rt.alloc(), "t")?,
+    ];
+    let contents = [
+        Vec::from_slice(rt.alloc(), image)?,
+        Vec::from_slice(rt.alloc(), trace)?,
+    ];
+    let mut shelf = SureShelf::make(rt.alloc(), &names, &contents)?;
+    let mut out = SureSink::make(rt.alloc(), 1024)?;
+    let mut err = SureSink::make(rt.alloc(), 1024)?;
+    let words = strings(rt.alloc(), words)?;
+    let status = tool(rt, rt.alloc(), &words, &mut shelf, &mut out, &mut err);
+    Ok(Ending {
+        status,
+        out: Vec::from_slice(rt.alloc(), out.taken())?,
+        err: Vec::from_slice(rt.alloc(), err.taken())?,
+        trace: Vec::from_slice(rt.alloc(), shelf.contents("t"))?,
+    })
+}

@@ -1,0 +1,35 @@
+//! Traces that are written, and played again.
+use crate::support::{HELLO, REPORT, TRACE, answer, changed};
+use std::test::Fail;
+
+#[test]
+fn a_run_writes_its_trace_and_its_replay_is_the_same(rt: HostRuntime) -> Result<(), Fail> {
+    let ran = answer(&rt, &["run", "a", "--trace", "t"], &HELLO, &[])?;
+    assert_eq!(rt; ran.trace.as_slice(), TRACE.as_slice());
+    let played = answer(&rt, &["replay", "a", "t"], &HELLO, &ran.trace)?;
+    assert_eq!(rt; played.status, ran.status);
+    assert_eq!(rt; played.out.as_slice(), ran.out.as_slice());
+    assert_eq!(rt; played.err.as_slice(), ran.err.as_slice());
+    assert_eq!(rt; played.out.as_slice(), b"A\n".as_slice());
+    assert_eq!(rt; played.err.as_slice(), REPORT.as_bytes());
+    assert_eq!(rt; played.trace.as_slice(), TRACE.as_slice());
+    Ok(())
+}
+
+// The trace says how many events there are, and not how many steps the run was given.
+#[test]
+fn a_replay_ends_where_its_trace_does(rt: HostRuntime) -> Result<(), Fail> {
+    let mut short = changed(rt.alloc(), &TRACE, 18, 32)?;
+    short.truncate(54);
+    let rows: [(&[u8], u8, &str); 2] = [
+        (&TRACE, 0, REPORT),
+        (&short, 3, "elide plain harts 1 events 32\nserial 8 out 2\n"),
+    ];
+    for (trace, number, report) in rows {
+        let played = answer(&rt, &["replay", "a", "t"], &HELLO, trace)?;
+        assert_eq!(rt; played.status.number(), number, "{report}");
+        assert_eq!(rt; played.out.as_slice(), b"A\n".as_slice(), "{report}");
+        assert_eq!(rt; played.err.as_slice(), report.as_bytes());
+    }
+    Ok(())
+}

@@ -112,15 +112,21 @@ fn changed_images_have_their_first_fault(rt: HostRuntime) -> Result<(), Fail> {
     Ok(())
 }
 
+/// A file of so many zeros.
+fn zeros(alloc: Global, count: usize) -> Result<Vec<u8>, AllocError> {
+    vec![in alloc; 0; count]
+}
+
 #[test]
 fn files_over_their_limits_are_refused(rt: HostRuntime) -> Result<(), Fail> {
-    let big = vec![in rt.alloc(); 0; 33_554_433]?;
-    let ending = answer(&rt, &["run", "a"], &big, &[])?;
+    let image = zeros(rt.alloc(), 33_554_433)?;
+    let ending = answer(&rt, &["run", "a"], &image, &[])?;
     assert!(rt;
         is_refused(&ending, "file too big: limit 33554432\n"),
         "an image"
     );
-    let ending = answer(&rt, &["replay", "a", "t"], &HELLO, &big[..16_777_239])?;
+    let trace = zeros(rt.alloc(), 16_777_239)?;
+    let ending = answer(&rt, &["replay", "a", "t"], &HELLO, &trace)?;
     assert!(rt;
         is_refused(&ending, "file too big: limit 16777238\n"),
         "a trace"

@@ -24,7 +24,7 @@ use Rattle.tool.specs.declared.messages.Refusal.TheVariants as refusals
 use Rattle.tool.specs.declared.stop.Stop.{Stop}
 use Rattle.tool.specs.declared.stop.Stop.TheVariants as stops
 use Rattle.tool.specs.Answer.{Answer, ConfigAnswer, FollowAnswer, ImageAnswer, IsReplayAnswer, IsAnswer, IsRunAnswer, JobAnswer, OverImage, ReplayAnswer, RoundRobinAnswer, RunAnswer, TraceAnswer, TraceFollowed, Within, ended, image_limit, refused, trace_limit}
-use Rattle.tool.specs.Comes.{CallFailed, IsTraceOf, Stops, StopsImage, StopsRead, StopsTrace}
+use Rattle.tool.specs.Stopping.{CallFailed, IsTraceOf, Stops, StopsImage, StopsRead, StopsTrace}
 use Rattle.tool.specs.Contents.{MayHave, MayHold, MayPass}
 use Rattle.tool.proofs.FileContents.{some_contents, some_file, within-over, within-small}
 

@@ -3,3 +3,4 @@ pub mod Ending
 pub mod Judging
 pub mod Putting
 pub mod Repeating
+pub mod Worked

@@ -15,7 +15,8 @@ use Rattle.el_io.proofs.Causes.{cause-recorded}
 use Rattle.tool.specs.declared.status.Status.{Status}
 use Rattle.tool.specs.declared.status.Status.TheVariants.{Done, HartFailed, Refused, StepLimit, DeviceFault, NoMemory}
 use Rattle.tool.specs.Answer.{Answer, written_by}
-use Rattle.tool.specs.Comes.{CallFailed, Comes, StopsWrite, Told, TookSome, TriedToWrite, Wrote}
+use Rattle.tool.specs.Comes.{Comes, Told, TookSome, TriedToWrite, Wrote}
+use Rattle.tool.specs.Stopping.{CallFailed, StopsWrite}
 
 -- all bytes are some of them
 pub took-all : (before now : Option (List ℕ)) (bytes : List ℕ) → Took before now bytes → TookSome before now bytes

@@ -1,25 +1,10 @@
--- What was put and written when the program ended with a status, and what a fault of a device shows.
-use Rattle.std.specs.Prelude.{◌≡◌, ℕ, ◌⊎◌, List, [], ◌∷◌, map, take, Contains, Option, None, Some}
-use Rattle.std.specs.Option.{option_to_list}
-use Rattle.command_line.specs.Words.{Job, Run, Replay}
-use Rattle.el_base.specs.declared.events.Event.{Event}
-use Rattle.el_base.specs.declared.settings.Config.{Config}
-use Rattle.el_base.specs.declared.settings.Mode.TheVariants.{Plain}
-use Rattle.el_io.specs.Shelf.{Contents, Holds, KeepsOthers, NamedCall, ShelfCause}
+-- What was put and written when the program ended with a status.
+use Rattle.std.specs.Prelude.{◌≡◌, ℕ, ◌⊎◌, List, [], take, Option, None, Some}
+use Rattle.el_io.specs.Shelf.{Contents, Holds, KeepsOthers}
 use Rattle.el_io.specs.Sink.{Took}
-use Rattle.el_io.specs.declared.shelf.Call.TheVariants.{Read, Write}
-use Rattle.el_io.specs.declared.shelf.ShelfFault.{ShelfFault}
-use Rattle.el_io.specs.declared.shelf.ShelfFault.TheVariants as faults
-use Rattle.elf_image.specs.declared.fault.Fault.{Fault}
-use Rattle.trace_file.specs.declared.fault.Fault as trace_faults
-use Rattle.trace_file.specs.Faults.{trace_fault}
-use Rattle.trace_file.specs.Spelling.{IsTrace, spelling}
-use Rattle.tool.specs.declared.messages.Refusal.TheVariants.{Image, TooBig, Trace}
 use Rattle.tool.specs.declared.status.Status.{Status}
 use Rattle.tool.specs.declared.status.Status.TheVariants.{DeviceFault, NoMemory}
-use Rattle.tool.specs.declared.stop.Stop.{Stop}
-use Rattle.tool.specs.declared.stop.Stop.TheVariants as stops
-use Rattle.tool.specs.Answer.{Answer, refused}
+use Rattle.tool.specs.Answer.{Answer}
 
 -- what out, err and the shelf tell
 pub record Told : Type 0 where
@@ -82,54 +67,3 @@ abbrev pub Comes : (Answer → Type 0) → Status → Told → Told → Type 0
 Comes Answers NoMemory before now = PutNothing before now ⊎ ((answer : Answer) × Answers answer × PutOut before now answer)
 Comes Answers DeviceFault before now = PutNothing before now ⊎ ((answer : Answer) × Answers answer × PutPart before now answer)
 Comes Answers status before now = (answer : Answer) × Answers answer × (status ≡ answer.status) × PutAll before now answer
-
--- the calls that a job makes of the shelf: it reads these files, and writes the trace
-abbrev pub calls_of : Option Job → List NamedCall
-calls_of None = []
-calls_of (Some (Run job)) = (Read, job.image) ∷ map (λ name. (Write, name)) (option_to_list job.trace)
-calls_of (Some (Replay image trace)) = (Read, image) ∷ (Read, trace) ∷ []
-
--- the list of a shelf's failed calls got one of these calls
-pub record CallFailed (calls before now : List NamedCall) : Type 0 where
-  pub call : NamedCall
-  pub made : Contains calls call
-  pub cause : ShelfCause before now call
-
--- what stopped a command before its run had ended: a refusal that is an answer, a fault of the shelf, or
--- want of memory
-abbrev pub Stops : (Answer → Type 0) → Type 0 → Stop → Type 0
-Stops Answers Fault (stops.Refused refusal) = Answers (refused refusal)
-Stops Answers Fault stops.DeviceFault = Fault
-Stops Answers Fault stops.NoMemory = Unit {0}
-
--- what stopped a read of a file: the limit, which the file may pass, a fault of the shelf, or want of
--- memory
-abbrev pub StopsRead : ℕ → Type 0 → Type 0 → Stop → Type 0
-StopsRead limit Over Fault (stops.Refused refusal) = (refusal ≡ TooBig limit) × Over
-StopsRead limit Over Fault stops.DeviceFault = Fault
-StopsRead limit Over Fault stops.NoMemory = Unit {0}
-
--- what stopped a machine from being made of a file: the fault of the image, or want of memory
-abbrev pub StopsImage : Option Fault → Stop → Type 0
-StopsImage found (stops.Refused refusal) = (fault : Fault) × (found ≡ Some fault) × (refusal ≡ Image fault.number fault.place)
-StopsImage found stops.DeviceFault = ⊥
-StopsImage found stops.NoMemory = Unit {0}
-
--- what stopped the reading of a trace: its fault, or want of memory
-abbrev pub StopsTrace : Option trace_faults.Fault → Stop → Type 0
-StopsTrace found (stops.Refused refusal) = (fault : trace_faults.Fault) × (found ≡ Some fault) × (refusal ≡ Trace fault.number fault.place)
-StopsTrace found stops.DeviceFault = ⊥
-StopsTrace found stops.NoMemory = Unit {0}
-
--- a trace that a machine can be made for, and what spells it
-pub record IsTraceOf (file : List ℕ) (config : Config) (made : List Event) : Type 0 where
-  pub accepted : trace_fault file ≡ None
-  pub is_trace : IsTrace config made
-  pub plain : config.mode ≡ Plain
-  pub spelled : file ≡ spelling config made
-
--- what stopped the write of a file: a fault of the shelf, or want of memory
-abbrev pub StopsWrite : Type 0 → Type 0 → Type 0 → ShelfFault → Type 0
-StopsWrite Tried Fault Same faults.Failed = Tried × Fault
-StopsWrite Tried Fault Same faults.TooBig = ⊥
-StopsWrite Tried Fault Same faults.NoMemory = Same

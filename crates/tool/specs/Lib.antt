@@ -4,4 +4,5 @@ pub mod Contents
 pub mod Report
 pub mod Answer
 pub mod Comes
+pub mod Stopping
 pub mod Laws

@@ -9,8 +9,8 @@ ghost use Rattle.elf_image.specs.Loaded.{program_of};
 ghost use Rattle.command_line.specs.Words.{run_meaning};
 ghost use Rattle.trace_file.specs.Faults.{trace_fault};
 ghost use Rattle.tool.specs.Answer.{IsReplayAnswer, IsRunAnswer, TraceAnswer, ended};
-ghost use Rattle.tool.specs.Comes.{CallFailed, Stops, StopsImage, StopsRead, StopsTrace, IsTraceOf};
 ghost use Rattle.tool.specs.Contents.{MayHave, MayPass};
+ghost use Rattle.tool.specs.Stopping.{CallFailed, Stops, StopsImage, StopsRead, StopsTrace, IsTraceOf};
 
 use crate::messages::Refusal;
 use crate::stop::Stop;

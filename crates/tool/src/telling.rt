@@ -6,9 +6,10 @@ ghost use Rattle.el_io.specs.Shelf.{Contents};
 ghost use Rattle.el_io.specs.declared.shelf.Call.TheVariants.{Write};
 ghost use Rattle.machine.specs.Story.{committed};
 ghost use Rattle.tool.specs.Answer.{ended, refused, written_by};
-ghost use Rattle.tool.specs.Comes.{CallFailed, Comes, StopsWrite, TriedToWrite, Wrote};
+ghost use Rattle.tool.specs.Comes.{Comes, TriedToWrite, Wrote};
 ghost use Rattle.tool.specs.Report as words;
 ghost use Rattle.tool.specs.Report.{ending, report_of};
+ghost use Rattle.tool.specs.Stopping.{CallFailed, StopsWrite};
 ghost use Rattle.tool.specs.declared.status.Status.TheVariants as statuses;
 
 use crate::messages::Refusal;

@@ -5,7 +5,8 @@ ghost use Rattle.command_line.specs.Words.{job_of, run_meaning, texts};
 ghost use Rattle.el_io.specs.Counts.{Rose};
 ghost use Rattle.el_io.specs.declared.shelf.Call.TheVariants.{Read, Write};
 ghost use Rattle.tool.specs.Answer.{IsAnswer, IsReplayAnswer, IsRunAnswer};
-ghost use Rattle.tool.specs.Comes.{CallFailed, Comes, calls_of};
+ghost use Rattle.tool.specs.Comes.{Comes};
+ghost use Rattle.tool.specs.Stopping.{CallFailed, calls_of};
 ghost use Rattle.tool.specs.declared.status.Status.TheVariants as statuses;
 
 use crate::doing::{replay, run};

@@ -1,0 +1,83 @@
+-- The definitions, computed on command lines.
+use Rattle.std.proofs.Common.{◌≡◌, ℕ, List, [], ◌∷◌, Option, None, Some, refl}
+use Rattle.std.specs.Prelude.{codes}
+use Rattle.el_base.specs.Config.{config_fault, usual}
+use Rattle.el_base.specs.declared.settings.ConfigFault.TheVariants.{Harts, Steps}
+use Rattle.el_base.specs.declared.settings.Mode.TheVariants.{Plain}
+use Rattle.command_line.specs.Numbers.{number_of}
+use Rattle.command_line.specs.Settings.{config_of}
+use Rattle.command_line.specs.Words.{Job, Run, Replay, RunJob, job_of}
+
+-- to run the image `a` with no option
+abbrev bare : RunJob
+bare = record { image = codes "a"; harts = None; steps = None; trace = None }
+
+abbrev run_a : List (List ℕ) → Option Job
+run_a words = job_of (codes "run" ∷ codes "a" ∷ words)
+
+runs : run_a [] ≡ Some (Run bare)
+runs = refl
+
+options_in_any_order :
+    run_a (codes "--trace" ∷ codes "t" ∷ codes "--steps" ∷ codes "33" ∷ codes "--harts" ∷ codes "2" ∷ [])
+    ≡ Some (Run (record bare { harts = Some 2; steps = Some 33; trace = Some (codes "t") }))
+options_in_any_order = refl
+
+replays : job_of (codes "replay" ∷ codes "a" ∷ codes "t" ∷ []) ≡ Some (Replay (codes "a") (codes "t"))
+replays = refl
+
+no_words : job_of [] ≡ None
+no_words = refl
+
+no_such_command : job_of (codes "walk" ∷ codes "x" ∷ []) ≡ None
+no_such_command = refl
+
+no_image : job_of (codes "run" ∷ []) ≡ None
+no_image = refl
+
+no_trace : job_of (codes "replay" ∷ codes "a" ∷ []) ≡ None
+no_trace = refl
+
+no_number : run_a (codes "--harts" ∷ codes "x" ∷ []) ≡ None
+no_number = refl
+
+no_value : run_a (codes "--steps" ∷ []) ≡ None
+no_value = refl
+
+no_such_option : run_a (codes "--threads" ∷ codes "5" ∷ []) ≡ None
+no_such_option = refl
+
+given_twice : run_a (codes "--harts" ∷ codes "1" ∷ codes "--harts" ∷ codes "1" ∷ []) ≡ None
+given_twice = refl
+
+option_as_a_value : run_a (codes "--trace" ∷ codes "-t" ∷ []) ≡ None
+option_as_a_value = refl
+
+option_as_an_image : job_of (codes "run" ∷ codes "-a" ∷ []) ≡ None
+option_as_an_image = refl
+
+-- number words
+greatest : number_of (codes "4294967295") ≡ Some 4294967295
+greatest = refl
+
+too_great : number_of (codes "4294967296") ≡ None
+too_great = refl
+
+leading_zeros : number_of (codes "0000000033") ≡ Some 33
+leading_zeros = refl
+
+eleven_digits : number_of (codes "00000000033") ≡ None
+eleven_digits = refl
+
+no_digits : number_of [] ≡ None
+no_digits = refl
+
+-- what is not given is as usual, and the mode is plain
+bare_config : config_of bare ≡ record usual { mode = Plain }
+bare_config = refl
+
+nine_harts : config_fault (config_of (record bare { harts = Some 9 })) ≡ Some Harts
+nine_harts = refl
+
+no_steps : config_fault (config_of (record bare { steps = Some 0 })) ≡ Some Steps
+no_steps = refl

@@ -1,5 +1,5 @@
 -- what an instruction that neither traps nor exits does, given the bytes that it loads as a number
-use Rattle.std.specs.Prelude.{ℕ, if◌then◌else◌, List, None, Some}
+use Rattle.std.specs.Prelude.{ℕ, ℤ, Bool, if◌then◌else◌, List, None, Some}
 use Rattle.std.specs.Int.{cast_unsigned, w32}
 use Rattle.rv_word.specs.declared.insn.Insn.{Insn}
 use Rattle.rv_word.specs.declared.insn.Insn.TheVariants as insns
@@ -18,16 +18,23 @@ next view = plus view.pc 4
 abbrev pub puts : HartView → ℕ → ℕ → HartView
 puts view rd value = record view { pc = next view; regs = set view.regs rd value }
 
+-- the hart jumps, with the address of the next instruction in memory in a register
+abbrev pub links : HartView → ℕ → ℕ → HartView
+links view rd target = record view { pc = target; regs = set view.regs rd (next view) }
+
+-- the hart comes to a branch, and takes it or goes on
+abbrev pub branches : HartView → Bool → ℤ → HartView
+branches view takes offset = record view { pc = if takes then moved view.pc offset else next view }
+
 -- the hart's view after an instruction; sources are read before rd is written
 unfoldable pub effect_of : Insn → HartView → Span → ℕ → ℕ → HartView
 effect_of (insns.Lui rd imm) view span room loaded = puts view rd.number imm
 effect_of (insns.Auipc rd imm) view span room loaded = puts view rd.number (plus view.pc imm)
-effect_of (insns.Jal rd offset) view span room loaded =
-    record view { pc = moved view.pc offset; regs = set view.regs rd.number (next view) }
+effect_of (insns.Jal rd offset) view span room loaded = links view rd.number (moved view.pc offset)
 effect_of (insns.Jalr rd rs1 offset) view span room loaded =
-    record view { pc = indirect (moved (get view.regs rs1.number) offset); regs = set view.regs rd.number (next view) }
+    links view rd.number (indirect (moved (get view.regs rs1.number) offset))
 effect_of (insns.Branch test rs1 rs2 offset) view span room loaded =
-    record view { pc = if taken_of test (get view.regs rs1.number) (get view.regs rs2.number) then moved view.pc offset else next view }
+    branches view (taken_of test (get view.regs rs1.number) (get view.regs rs2.number)) offset
 effect_of (insns.Load width rd rs1 offset) view span room loaded = puts view rd.number (extend_of width loaded)
 effect_of (insns.Store width rs1 rs2 offset) view span room loaded = record view { pc = next view; reserved = None }
 effect_of (insns.OpImm op rd rs1 imm) view span room loaded =

@@ -1,5 +1,5 @@
 ghost use Rattle.std.specs.Prelude.{◌≡◌};
-ghost use Rattle.rv_alu.specs.Execute.{effect_of, puts, stored_of};
+ghost use Rattle.rv_alu.specs.Execute.{branches, effect_of, links, puts, stored_of};
 
 use crate::checks::{has_reserved, indirect_target};
 use crate::operation::{alu, amo, extend, offset_by, taken};
@@ -17,6 +17,26 @@ fn put(view: &mut HartView, rd: Reg, value: u32)
     view.pc = view.pc.wrapping_add(4);
 }
 
+/// The hart jumps, with the address of the next instruction in memory in a register.
+fn link(view: &mut HartView, rd: Reg, target: u32)
+    ensures { view.new ≡ links view.old rd.number target }
+{
+    let next = view.pc.wrapping_add(4);
+    view.regs.set(rd, next);
+    view.pc = target;
+}
+
+/// The hart comes to a branch, and takes it or goes on to the next instruction in memory.
+fn branch(view: &mut HartView, takes: bool, offset: i32)
+    ensures { view.new ≡ branches view.old takes offset }
+{
+    view.pc = if takes {
+        offset_by(view.pc, offset)
+    } else {
+        view.pc.wrapping_add(4)
+    };
+}
+
 /// What an instruction does to its hart, given the bytes that its access touches as one
 /// little-endian number (`loaded`, which only loads, LR and atomic operations read). It is meant
 /// for an instruction that neither traps nor exits, as [`crate::access`] tells; the memory that it
@@ -28,18 +48,13 @@ fn put(view: &mut HartView, rd: Reg, value: u32)
 pub fn effect(insn: &Insn, view: &mut HartView, span: Span, room: u32, loaded: u32)
     ensures { view.new ≡ effect_of insn.now view.old span room loaded }
 {
-    let next = view.pc.wrapping_add(4);
     match *insn {
         Insn::Lui { rd, imm } => put(view, rd, imm),
         Insn::Auipc { rd, imm } => put(view, rd, view.pc.wrapping_add(imm)),
-        Insn::Jal { rd, offset } => {
-            view.regs.set(rd, next);
-            view.pc = offset_by(view.pc, offset);
-        }
+        Insn::Jal { rd, offset } => link(view, rd, offset_by(view.pc, offset)),
         Insn::Jalr { rd, rs1, offset } => {
             let target = indirect_target(offset_by(view.regs.get(rs1), offset));
-            view.regs.set(rd, next);
-            view.pc = target;
+            link(view, rd, target);
         }
         Insn::Branch {
             test,
@@ -47,17 +62,13 @@ pub fn effect(insn: &Insn, view: &mut HartView, span: Span, room: u32, loaded: u
             rs2,
             offset,
         } => {
-            let goes = taken(test, view.regs.get(rs1), view.regs.get(rs2));
-            view.pc = if goes {
-                offset_by(view.pc, offset)
-            } else {
-                next
-            };
+            let takes = taken(test, view.regs.get(rs1), view.regs.get(rs2));
+            branch(view, takes, offset);
         }
         Insn::Load { width, rd, .. } => put(view, rd, extend(width, loaded)),
         Insn::Store { .. } => {
             view.reserved = None;
-            view.pc = next;
+            view.pc = view.pc.wrapping_add(4);
         }
         Insn::OpImm { op, rd, rs1, imm } => {
             let value = alu(op, view.regs.get(rs1), imm.cast_unsigned());
@@ -67,7 +78,7 @@ pub fn effect(insn: &Insn, view: &mut HartView, span: Span, room: u32, loaded: u
             let value = alu(op, view.regs.get(rs1), view.regs.get(rs2));
             put(view, rd, value);
         }
-        Insn::Fence => view.pc = next,
+        Insn::Fence => view.pc = view.pc.wrapping_add(4),
         Insn::Ecall => {
             let answer = call_result(&view.regs, span, room);
             put(view, A0, answer);

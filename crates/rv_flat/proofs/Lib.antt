@@ -5,3 +5,4 @@ pub mod Reading
 pub mod Outputs
 mod OneLine
 mod OwnView
+mod Worked

@@ -8,17 +8,16 @@
 #   apt-get install gcc-riscv64-unknown-elf        or        apt-get install clang lld
 set -eu
 here=$(cd "$(dirname "$0")" && pwd)
-to=${1:-$here}
+to=${1-$here}
 
 machine=(-march=rv32ia -mabi=ilp32 -mstrict-align)
-code=(-std=c11 -O2 -Wall -Wextra -ffreestanding -fno-builtin -fno-pic -fno-tree-loop-distribute-patterns)
+code=(-std=c11 -O2 -Wall -Wextra -ffreestanding -fno-builtin -fno-pic)
 link=(-nostdlib -static -Wl,-T,"$here/runtime/elide.ld" -Wl,-z,max-page-size=64 -Wl,--build-id=none -s)
 
 if command -v riscv64-unknown-elf-gcc > /dev/null; then
-    compile=(riscv64-unknown-elf-gcc "${machine[@]}")
+    compile=(riscv64-unknown-elf-gcc "${machine[@]}" -fno-tree-loop-distribute-patterns)
 elif command -v clang > /dev/null && command -v ld.lld > /dev/null; then
     compile=(clang --target=riscv32-unknown-elf "${machine[@]}" -Qunused-arguments -fuse-ld=lld)
-    code=("${code[@]/-fno-tree-loop-distribute-patterns/}")
 else
     echo "examples: no compiler for RISC-V is here; on Debian: apt-get install gcc-riscv64-unknown-elf" >&2
     exit 3

@@ -1,6 +1,7 @@
 #!/usr/bin/env bash
 # Runs the example images on 1, 2 and 8 harts and compares what they print. Where a compiler for RISC-V
-# is there, it builds them anew and runs those too. The last line counts the runs.
+# is there, it builds them anew and runs those too. Then it gives the program words that are no UTF-8,
+# which no test can. The last line counts the runs.
 set -u
 cd "$(dirname "$0")/.." || exit 2
 passed=0
@@ -25,16 +26,34 @@ all_of() {
     done
 }
 
+# refuses LINE WORD..: these words are refused with this line, and nothing is put to standard output
+refuses() {
+    local line=$1 all
+    shift
+    all=$(./elide "$@" 2>&1 > /dev/null)
+    if [ $? -eq 2 ] && [ "$all" = "$line" ] && [ -z "$(./elide "$@" 2> /dev/null)" ]; then
+        passed=$((passed + 1))
+    else
+        echo "examples: refused otherwise: $*"
+        failed=$((failed + 1))
+    fi
+}
+
 # Builds the program where it is not built.
 ./elide run crates/elide/data/hello.elf > /dev/null || exit 1
 
 all_of examples
-anew=$(mktemp -d)
+anew=$(mktemp -d) || exit 1
 trap 'rm -rf "$anew"' EXIT
-if examples/build.sh "$anew" 2> /dev/null; then
-    all_of "$anew"
-else
-    echo "examples: not built anew, since no compiler for RISC-V is here"
-fi
+examples/build.sh "$anew"
+case $? in
+    0) all_of "$anew" ;;
+    3) echo "examples: not built anew" ;;
+    *)
+        echo "examples: the sources do not build"
+        failed=$((failed + 1))
+        ;;
+esac
+refuses "usage: elide run IMAGE [options], elide replay IMAGE TRACE, elide gen KIND NUMBER FILE" run $'\xff'
 echo "$passed passed, $failed failed"
 [ "$failed" -eq 0 ]

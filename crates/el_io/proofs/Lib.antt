@@ -1,4 +1,3 @@
-pub mod Causes
 pub mod Keeping
 pub mod Storing
 pub mod Taking

@@ -1,9 +1,9 @@
 -- Taking nothing, and taking some bytes after others.
-use Rattle.std.proofs.Common.{◌≡◌, ℕ, ◌+◌, ◌-◌, List, [], ◌++◌, length, take, drop, Option, None, Some, refl, ap, sym, ◌∙◌, append_assoc, append-nil, inl, inr, arith, length-append}
-use Rattle.std.proofs.Math.Seq.{take-add, take-append-add}
+use Rattle.std.proofs.Common.{◌≡◌, ℕ, ◌+◌, ◌-◌, ◌≤◌, List, [], ◌∷◌, ◌++◌, length, take, drop, Option, None, Some, refl, ap, subst, sym, ◌∙◌, append_assoc, append-nil, inl, inr, arith, length-take}
+use Rattle.std.proofs.Math.Seq.{take-add}
 use Rattle.std.proofs.lemmas.List.{take_rest}
 use Rattle.std.specs.Option.{option_map}
-use Rattle.el_io.specs.Sink.{Took, TookPart}
+use Rattle.el_io.specs.Sink.{Took, TookAll}
 
 -- a sink that is as it was took no bytes
 pub took-nothing : (told : Option (List ℕ)) → Took told told []
@@ -26,15 +26,20 @@ took-more {before} {between} {now} {first} {more} a b =
       ]
     ]
 
--- the first bytes taken, and then some of the rest
-pub took-next : {before between now : Option (List ℕ)} (bytes : List ℕ) (first count : ℕ) → Took before between (take first bytes) → Took between now (take count (take (length bytes - first) (drop first bytes))) → Took before now (take (first + count) bytes)
-took-next bytes first count a b =
-    rw (take-add first count bytes) (took-more a (rw take_rest at b))
+-- all of some bytes were taken
+took-of_all : (before now : Option (List ℕ)) (bytes : List ℕ) → TookAll before now bytes → Took before now bytes
+took-of_all before now [] all =
+    let P : Option (List ℕ) → Type 0 = λ told. Took before told [] in
+    subst P (sym all) (took-nothing before)
+took-of_all before now (byte ∷ bytes) all = all
 
--- a part taken after other bytes is a part of them all
-pub took-part : {before between now : Option (List ℕ)} {first more : List ℕ} → Took before between first → TookPart between now more → TookPart before now (first ++ more)
-took-part {before} {between} {now} {first} {more} a b = record {
-  count = length first + b.count;
-  short = simp length-append (omega (arith, b.short));
-  part = rw (take-append-add first more b.count) (took-more a b.part);
-}
+all-of_took : (before now : Option (List ℕ)) (bytes : List ℕ) → 1 ≤ length bytes → Took before now bytes → TookAll before now bytes
+all-of_took before now [] some took = absurd (omega (arith, some))
+all-of_took before now (byte ∷ bytes) some took = took
+
+-- the first bytes taken, and then some more of the rest
+pub took-next : (before between now : Option (List ℕ)) (bytes : List ℕ) (first count : ℕ) → 1 ≤ length bytes → 1 ≤ count → TookAll before between (take first bytes) → Took between now (take count (take (length bytes - first) (drop first bytes))) → TookAll before now (take (first + count) bytes)
+took-next before between now bytes first count some more a b =
+    let some_taken : 1 ≤ length (take (first + count) bytes) = simp length-take (omega (arith, some, more)) in
+    all-of_took before now (take (first + count) bytes) some_taken
+    (rw (take-add first count bytes) (took-more (took-of_all before between (take first bytes) a) (rw take_rest at b)))

@@ -1,5 +1,5 @@
 -- Counts of faults, which are kept in 64 bits.
-use Rattle.std.specs.Prelude.{◌≡◌, ℕ, ◌+◌, ◌-◌, ◌^◌, ◌<◌, ◌⊎◌, min}
+use Rattle.std.specs.Prelude.{ℕ, ◌+◌, ◌-◌, ◌^◌, min}
 
 -- the last value of a count
 abbrev pub last_count : ℕ
@@ -8,7 +8,3 @@ last_count = 2 ^ 64 - 1
 -- a count after one more, which leaves the last value as it is
 abbrev pub one_more : ℕ → ℕ
 one_more count = min (count + 1) last_count
-
--- a count rose, or stands at its last value
-abbrev pub Rose : ℕ → ℕ → Type 0
-Rose before now = (before < now) ⊎ (now ≡ last_count)

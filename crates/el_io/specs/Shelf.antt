@@ -1,5 +1,5 @@
 -- What a shelf holds, and the list of its failed calls.
-use Rattle.std.specs.Prelude.{◌≡◌, ◌≢◌, ℕ, List, [], ◌∷◌, ◌++◌, length, drop, Contains, Option, None, Some, Result, Ok, Err}
+use Rattle.std.specs.Prelude.{◌≡◌, ◌≢◌, ℕ, List, [], ◌∷◌, ◌++◌, Option, None, Some, Result, Ok, Err}
 use Rattle.el_io.specs.declared.shelf.Call.{Call}
 use Rattle.el_io.specs.declared.shelf.ShelfFault.{ShelfFault}
 use Rattle.el_io.specs.declared.shelf.ShelfFault.TheVariants.{Failed, TooBig, NoMemory}
@@ -29,8 +29,3 @@ Records (Ok _) before now call = now ≡ before
 Records (Err Failed) before now call = now ≡ before ++ call ∷ []
 Records (Err TooBig) before now call = now ≡ before
 Records (Err NoMemory) before now call = now ≡ before
-
--- the list of failed calls grew at its end, and what it got has this call
-pub record ShelfCause (before now : List NamedCall) (call : NamedCall) : Type 0 where
-  pub grown : now ≡ before ++ drop (length before) now
-  pub listed : Contains (drop (length before) now) call

@@ -1,6 +1,6 @@
 ghost use Rattle.std.specs.Prelude.{◌≡◌, ℕ, ◌<◌, ◌≤◌, List, length, Option, take, if◌then◌else◌, is_ok, IfOk, OnOk, OnErr};
 ghost use Rattle.el_io.specs.Counts.{one_more};
-ghost use Rattle.el_io.specs.Sink.{Took, TookPart};
+ghost use Rattle.el_io.specs.Sink.{Took, TookAll, TookPart};
 
 /// A sink took nothing, and counted a fault.
 #[derive(Clone, Copy, Debug, PartialEq, Eq)]
@@ -30,12 +30,12 @@ pub trait Sink {
         ensures count_never_falls { faults self.old ≤ faults self.new };
 }
 
-/// Puts the bytes until all are taken.
+/// Puts the bytes until all are taken. Where there are none, nothing is put.
 ///
 /// `Failed` comes only where the sink counted a fault in this call. The sink then took some of the
 /// bytes, from the first on, and not all.
 pub fn put_all<S: Sink>(sink: &mut S, bytes: &[u8]) -> Result<(), Failed>
-    ensures all_taken { OnOk result (Took (S.taken sink.old) (S.taken sink.new) bytes.now) }
+    ensures all_taken { OnOk result (TookAll (S.taken sink.old) (S.taken sink.new) bytes.now) }
     ensures part_after_failed { OnErr result
         (TookPart (S.taken sink.old) (S.taken sink.new) bytes.now) }
     ensures faults_counted { S.faults sink.new ≡

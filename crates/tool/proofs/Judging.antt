@@ -8,7 +8,7 @@ use Rattle.el_base.specs.Config.{IsInRange, config_fault}
 use Rattle.el_base.specs.declared.events.Event.{Event}
 use Rattle.el_base.specs.declared.settings.Config.{Config}
 use Rattle.el_base.specs.declared.settings.ConfigFault.{ConfigFault}
-use Rattle.el_io.specs.Shelf.{Contents, NamedCall, ShelfCause}
+use Rattle.el_io.specs.Shelf.{Contents, NamedCall}
 use Rattle.el_io.specs.declared.shelf.Call.TheVariants.{Read}
 use Rattle.el_model.specs.ModelState.{begin}
 use Rattle.el_model.specs.RoundRobin.{IsRoundRobin}
@@ -24,8 +24,10 @@ use Rattle.tool.specs.declared.messages.Refusal.TheVariants as refusals
 use Rattle.tool.specs.declared.stop.Stop.{Stop}
 use Rattle.tool.specs.declared.stop.Stop.TheVariants as stops
 use Rattle.tool.specs.Answer.{Answer, ConfigAnswer, FollowAnswer, ImageAnswer, IsReplayAnswer, IsAnswer, IsRunAnswer, JobAnswer, OverImage, ReplayAnswer, RoundRobinAnswer, RunAnswer, TraceAnswer, TraceFollowed, Within, ended, image_limit, refused, trace_limit}
-use Rattle.tool.specs.Stopping.{CallFailed, IsTraceOf, Stops, StopsImage, StopsRead, StopsTrace}
+use Rattle.tool.specs.Causes.{CallFailed, reads_of}
+use Rattle.tool.specs.Stopping.{IsTraceOf, Stops, StopsImage, StopsRead, StopsTrace}
 use Rattle.tool.specs.Contents.{MayHave, MayHold, MayPass}
+use Rattle.tool.proofs.Failing.{failed-wider, first-of_more, more-calls}
 use Rattle.tool.proofs.FileContents.{some_contents, some_file, within-over, within-small}
 
 -- a machine before its first event
@@ -62,8 +64,8 @@ run-config job told found e =
     let P : Option ConfigFault → Type 0 = λ judged. ConfigAnswer (Within image_limit some.0 (OverImage (RoundRobinAnswer (config_of job) job.trace) (config_of job).harts some.0)) judged (refused (refusals.Config found)) in
     record { image = some.0; image_file = some.1; exact = subst P (sym e) refl }
 
-pub run-read : (F : Type 0) (job : RunJob) (told : Option Contents) (stop : Stop) → IsInRange (config_of job) → StopsRead image_limit (MayPass told job.image image_limit) F stop → Stops (IsRunAnswer job told) F stop
-run-read F job told (stops.Refused refusal) in_range h =
+pub run-read : (job : RunJob) (told : Option Contents) (before now : List NamedCall) (stop : Stop) → IsInRange (config_of job) → StopsRead image_limit (MayPass told job.image image_limit) (CallFailed ((Read, job.image) ∷ []) before now) stop → Stops (IsRunAnswer job told) (CallFailed (reads_of (config_fault (config_of job)) job.image) before now) stop
+run-read job told before now (stops.Refused refusal) in_range h =
     let P : Refusal → Type 0 = λ line. IsRunAnswer job told (refused line) in
     subst P (sym h.0) (record {
       image = h.1.bytes;
@@ -71,8 +73,10 @@ run-read F job told (stops.Refused refusal) in_range h =
       exact = run-judged job h.1.bytes (refused (refusals.TooBig image_limit)) in_range
           (within-over (OverImage (RoundRobinAnswer (config_of job) job.trace) (config_of job).harts h.1.bytes) image_limit h.1.bytes h.1.over);
     })
-run-read F job told stops.DeviceFault in_range h = h
-run-read F job told stops.NoMemory in_range h = tt
+run-read job told before now stops.DeviceFault in_range h =
+    let P : Option ConfigFault → Type 0 = λ judged. CallFailed (reads_of judged job.image) before now in
+    subst P (sym in_range) h
+run-read job told before now stops.NoMemory in_range h = tt
 
 run-within : (job : RunJob) (told : Option Contents) (bytes : List ℕ) (answer : Answer) → IsInRange (config_of job) → MayHave told job.image bytes → length bytes ≤ image_limit → OverImage (RoundRobinAnswer (config_of job) job.trace) (config_of job).harts bytes answer → IsRunAnswer job told answer
 run-within job told bytes answer in_range file small h =
@@ -162,7 +166,7 @@ replay-within image_name trace_name told image trace answer image_file image_sma
           (within-small (TraceAnswer image trace (trace_fault trace)) trace_limit trace answer trace_small h);
     }
 
-pub replay-read : (image_name trace_name : List ℕ) (told : Option Contents) (before now : List NamedCall) (stop : Stop) → StopsRead image_limit (MayPass told image_name image_limit) (ShelfCause before now (Read, image_name)) stop → Stops (IsReplayAnswer image_name trace_name told) (CallFailed ((Read, image_name) ∷ (Read, trace_name) ∷ []) before now) stop
+pub replay-read : (image_name trace_name : List ℕ) (told : Option Contents) (before now : List NamedCall) (stop : Stop) → StopsRead image_limit (MayPass told image_name image_limit) (CallFailed ((Read, image_name) ∷ []) before now) stop → Stops (IsReplayAnswer image_name trace_name told) (CallFailed ((Read, image_name) ∷ (Read, trace_name) ∷ []) before now) stop
 replay-read image_name trace_name told before now (stops.Refused refusal) h =
     let P : Refusal → Type 0 = λ line. IsReplayAnswer image_name trace_name told (refused line) in
     let some : (bytes : List ℕ) × MayHave told trace_name bytes = some_file told trace_name in
@@ -173,10 +177,12 @@ replay-read image_name trace_name told before now (stops.Refused refusal) h =
       trace_file = some.1;
       exact = within-over (Within trace_limit some.0 (TraceAnswer h.1.bytes some.0 (trace_fault some.0))) image_limit h.1.bytes h.1.over;
     })
-replay-read image_name trace_name told before now stops.DeviceFault h = record { call = (Read, image_name); made = (0, omega arith, refl); cause = h }
+replay-read image_name trace_name told before now stops.DeviceFault h =
+    failed-wider ((Read, image_name) ∷ []) ((Read, image_name) ∷ (Read, trace_name) ∷ []) before now
+    (first-of_more (Read, image_name) ((Read, trace_name) ∷ [])) h
 replay-read image_name trace_name told before now stops.NoMemory h = tt
 
-pub replay-next : (image_name trace_name : List ℕ) (told : Option Contents) (image : List ℕ) (before now : List NamedCall) (stop : Stop) → MayHave told image_name image → length image ≤ image_limit → StopsRead trace_limit (MayPass told trace_name trace_limit) (ShelfCause before now (Read, trace_name)) stop → Stops (IsReplayAnswer image_name trace_name told) (CallFailed ((Read, image_name) ∷ (Read, trace_name) ∷ []) before now) stop
+pub replay-next : (image_name trace_name : List ℕ) (told : Option Contents) (image : List ℕ) (before now : List NamedCall) (stop : Stop) → MayHave told image_name image → length image ≤ image_limit → StopsRead trace_limit (MayPass told trace_name trace_limit) (CallFailed ((Read, trace_name) ∷ []) before now) stop → Stops (IsReplayAnswer image_name trace_name told) (CallFailed ((Read, image_name) ∷ (Read, trace_name) ∷ []) before now) stop
 replay-next image_name trace_name told image before now (stops.Refused refusal) file small h =
     let P : Refusal → Type 0 = λ line. IsReplayAnswer image_name trace_name told (refused line) in
     subst P (sym h.0) (record {
@@ -187,7 +193,9 @@ replay-next image_name trace_name told image before now (stops.Refused refusal) 
       exact = within-small (Within trace_limit h.1.bytes (TraceAnswer image h.1.bytes (trace_fault h.1.bytes))) image_limit image (refused (refusals.TooBig trace_limit)) small
           (within-over (TraceAnswer image h.1.bytes (trace_fault h.1.bytes)) trace_limit h.1.bytes h.1.over);
     })
-replay-next image_name trace_name told image before now stops.DeviceFault file small h = record { call = (Read, trace_name); made = (1, omega arith, refl); cause = h }
+replay-next image_name trace_name told image before now stops.DeviceFault file small h =
+    failed-wider ((Read, trace_name) ∷ []) ((Read, image_name) ∷ (Read, trace_name) ∷ []) before now
+    (more-calls (Read, image_name) ((Read, trace_name) ∷ [])) h
 replay-next image_name trace_name told image before now stops.NoMemory file small h = tt
 
 pub replay-result : (image_name trace_name : List ℕ) (told : Option Contents) (image trace : List ℕ) (F : Type 0) (result : Result Story Stop) → MayHave told image_name image → length image ≤ image_limit → MayHave told trace_name trace → length trace ≤ trace_limit

@@ -1,3 +1,4 @@
+pub mod Failing
 pub mod FileContents
 pub mod Ending
 pub mod Judging

@@ -29,7 +29,7 @@ use Rattle.trace_file.specs.Faults.{trace_fault}
 use Rattle.trace_file.specs.Spelling.{IsTrace, event_byte, spelling}
 use Rattle.trace_file.proofs.Spelled.{no_fault, one_spelling}
 use Rattle.tool.specs.declared.messages.Refusal.{Refusal}
-use Rattle.tool.specs.Answer.{Answer, ConfigAnswer, FollowAnswer, ImageAnswer, LimitedAnswer, OverImage, ReplayAnswer, RoundRobinAnswer, RunAnswer, TraceAnswer, TraceFollowed, Within, ended, image_limit, refused, story_of, trace_limit, written_by}
+use Rattle.tool.specs.Answer.{Answer, ConfigAnswer, FollowAnswer, ImageAnswer, LimitedAnswer, OverImage, ReplayAnswer, RoundRobinAnswer, RunAnswer, TraceAnswer, TraceFollowed, Within, WrittenFile, ended, image_limit, refused, story_of, trace_limit, written_by}
 use Rattle.tool.specs.Laws.{SaysTheSame}
 
 -- The ranges of a configuration
@@ -82,27 +82,27 @@ length-spelling config made = omega (arith, length-map made event_byte)
 -- What a run that wrote a file had
 
 -- a refusal writes no file
-wrote-no-file : (refusal : Refusal) (ran : Answer) (file : List ℕ × List ℕ) → ran ≡ refused refusal → ran.written ≡ Some file → ⊥
+wrote-no-file : (refusal : Refusal) (ran : Answer) (file : WrittenFile) → ran ≡ refused refusal → ran.written ≡ Some file → ⊥
 wrote-no-file refusal ran file e w =
     let none : None ≡ Some file = sym (ap (λ (answer : Answer). answer.written) e) ∙ w in
     cc
 
-ran-config : (Judged : Answer → Type 0) (found : Option ConfigFault) (ran : Answer) (file : List ℕ × List ℕ) → ran.written ≡ Some file → ConfigAnswer Judged found ran → (found ≡ None) × Judged ran
+ran-config : (Judged : Answer → Type 0) (found : Option ConfigFault) (ran : Answer) (file : WrittenFile) → ran.written ≡ Some file → ConfigAnswer Judged found ran → (found ≡ None) × Judged ran
 ran-config Judged (Some fault) ran file w h = absurd (wrote-no-file _ ran file h w)
 ran-config Judged None ran file w h = (refl, h)
 
-ran-within : (over : Bool) (limit : ℕ) (Judged : Answer → Type 0) (ran : Answer) (file : List ℕ × List ℕ) → ran.written ≡ Some file → LimitedAnswer over limit Judged ran → (over ≡ false) × Judged ran
+ran-within : (over : Bool) (limit : ℕ) (Judged : Answer → Type 0) (ran : Answer) (file : WrittenFile) → ran.written ≡ Some file → LimitedAnswer over limit Judged ran → (over ≡ false) × Judged ran
 ran-within true limit Judged ran file w h = absurd (wrote-no-file _ ran file h w)
 ran-within false limit Judged ran file w h = (refl, h)
 
-ran-image : (Runs : Program → Answer → Type 0) (harts : ℕ) (image : List ℕ) (found : Option Fault) (ran : Answer) (file : List ℕ × List ℕ) → ran.written ≡ Some file → ImageAnswer Runs harts image found ran → (found ≡ None) × Runs (program_of image harts) ran
+ran-image : (Runs : Program → Answer → Type 0) (harts : ℕ) (image : List ℕ) (found : Option Fault) (ran : Answer) (file : WrittenFile) → ran.written ≡ Some file → ImageAnswer Runs harts image found ran → (found ≡ None) × Runs (program_of image harts) ran
 ran-image Runs harts image (Some fault) ran file w h = absurd (wrote-no-file _ ran file h w)
 ran-image Runs harts image None ran file w h = (refl, h)
 
 -- the file that was written spells the story
-wrote-story : (given : Option (List ℕ)) (story : Story) (file : List ℕ × List ℕ) → option_map (written_by story) given ≡ Some file → file.1 ≡ spelling story.config (events story.entries)
+wrote-story : (given : Option (List ℕ)) (story : Story) (file : WrittenFile) → option_map (written_by story) given ≡ Some file → file.bytes ≡ spelling story.config (events story.entries)
 wrote-story None story file e = absurd cc
-wrote-story (Some name) story file e = ap (λ (written : Option (List ℕ × List ℕ)). option_map_or (λ (pair : List ℕ × List ℕ). pair.1) written []) (sym e)
+wrote-story (Some name) story file e = ap (λ (written : Option WrittenFile). option_map_or (λ (one : WrittenFile). one.bytes) written []) (sym e)
 
 -- What a replay of it has
 
@@ -141,7 +141,7 @@ follows image trace config made replayed spelled is_trace accepted followed =
     (subst M (sym same.1) (subst C (sym same.0) followed.followed))
 
 -- so a replay of the file that a run wrote says what the run said
-pub repeats : (job : RunJob) (image : List ℕ) (file : List ℕ × List ℕ) (ran replayed : Answer) → RunAnswer job image ran → ran.written ≡ Some file → ReplayAnswer image file.1 replayed → SaysTheSame ran replayed
+pub repeats : (job : RunJob) (image : List ℕ) (file : WrittenFile) (ran replayed : Answer) → RunAnswer job image ran → ran.written ≡ Some file → ReplayAnswer image file.bytes replayed → SaysTheSame ran replayed
 repeats job image file ran replayed r w p =
     let config : Config = config_of job in
     let configured : (config_fault config ≡ None) × Within image_limit image (OverImage (RoundRobinAnswer config job.trace) config.harts image) ran =
@@ -152,7 +152,7 @@ repeats job image file ran replayed r w p =
     ran-image (RoundRobinAnswer config job.trace) config.harts image (fault image config.harts) ran file w small.1 in
     let story : Story = story_of (program_of image config.harts) config accepted.1.made in
     let b : Bounds config = bounds config configured.0 in
-    let spelled : file.1 ≡ spelling config accepted.1.made =
+    let spelled : file.bytes ≡ spelling config accepted.1.made =
     wrote-story job.trace story file (sym (ap (λ (answer : Answer). answer.written) accepted.1.exact) ∙ w)
     ∙ ap (spelling config) (events-entries (begin (program_of image config.harts) config) accepted.1.made) in
     let is_trace : IsTrace config accepted.1.made = record {
@@ -160,15 +160,15 @@ repeats job image file ran replayed r w p =
       few = accepted.1.round_robin.steps;
       harts = harts-made _ config.harts config.steps accepted.1.made b.some accepted.1.round_robin;
     } in
-    let fits : nat_lt trace_limit (length file.1) ≡ false = fits-trace config accepted.1.made file.1 spelled accepted.1.round_robin.steps b.few in
-    let judged : Within trace_limit file.1 (TraceAnswer image file.1 (trace_fault file.1)) replayed =
-    replay-limited (nat_lt image_limit (length image)) image_limit (Within trace_limit file.1 (TraceAnswer image file.1 (trace_fault file.1))) replayed small.0 p in
-    let traced : TraceAnswer image file.1 (trace_fault file.1) replayed =
-    replay-limited (nat_lt trace_limit (length file.1)) trace_limit (TraceAnswer image file.1 (trace_fault file.1)) replayed fits judged in
-    let followed : TraceFollowed image file.1 replayed =
-    replay-followed image file.1 (trace_fault file.1) replayed (no_fault config accepted.1.made file.1 is_trace (omega arith) spelled) traced in
+    let fits : nat_lt trace_limit (length file.bytes) ≡ false = fits-trace config accepted.1.made file.bytes spelled accepted.1.round_robin.steps b.few in
+    let judged : Within trace_limit file.bytes (TraceAnswer image file.bytes (trace_fault file.bytes)) replayed =
+    replay-limited (nat_lt image_limit (length image)) image_limit (Within trace_limit file.bytes (TraceAnswer image file.bytes (trace_fault file.bytes))) replayed small.0 p in
+    let traced : TraceAnswer image file.bytes (trace_fault file.bytes) replayed =
+    replay-limited (nat_lt trace_limit (length file.bytes)) trace_limit (TraceAnswer image file.bytes (trace_fault file.bytes)) replayed fits judged in
+    let followed : TraceFollowed image file.bytes replayed =
+    replay-followed image file.bytes (trace_fault file.bytes) replayed (no_fault config accepted.1.made file.bytes is_trace (omega arith) spelled) traced in
     same-story job.trace story ran replayed accepted.1.exact
-    (follows image file.1 config accepted.1.made replayed spelled is_trace accepted.0 followed)
+    (follows image file.bytes config accepted.1.made replayed spelled is_trace accepted.0 followed)
   where
     fits-trace : (config : Config) (made : List Event) (trace : List ℕ) → trace ≡ spelling config made → length made ≤ config.steps → config.steps ≤ 16777216 → nat_lt trace_limit (length trace) ≡ false
     fits-trace config made trace e few steps =

@@ -27,12 +27,17 @@ use Rattle.tool.specs.Contents.{MayHave, MayHold}
 use Rattle.tool.specs.Messages.{line_of}
 use Rattle.tool.specs.Report.{ending, report_of}
 
+-- a file that the program writes
+pub record WrittenFile : Type 0 where
+  pub name : List ℕ
+  pub bytes : List ℕ
+
 -- how the program ends, what it puts to out and to err, and the file that it writes, if it writes one
 pub record Answer : Type 0 where
   pub status : Status
   pub out : List ℕ
   pub err : List ℕ
-  pub written : Option (List ℕ × List ℕ)
+  pub written : Option WrittenFile
 
 -- the most bytes that an image file may have
 abbrev pub image_limit : ℕ
@@ -47,8 +52,8 @@ abbrev pub refused : Refusal → Answer
 refused refusal = record { status = Refused; out = []; err = line_of refusal; written = None }
 
 -- the trace that a run writes, under the name that was given
-abbrev pub written_by : Story → List ℕ → List ℕ × List ℕ
-written_by story name = (name, spelling story.config (events story.entries))
+abbrev pub written_by : Story → List ℕ → WrittenFile
+written_by story name = record { name = name; bytes = spelling story.config (events story.entries) }
 
 -- a run that has ended puts the program's output to out and its report to err, and writes its trace, where a
 -- name was given

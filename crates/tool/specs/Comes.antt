@@ -1,10 +1,10 @@
 -- What was put and written when the program ended with a status.
-use Rattle.std.specs.Prelude.{◌≡◌, ℕ, ◌⊎◌, List, [], take, Option, None, Some}
+use Rattle.std.specs.Prelude.{◌≡◌, ℕ, ◌⊎◌, List, take, Option, None, Some}
 use Rattle.el_io.specs.Shelf.{Contents, Holds, KeepsOthers}
-use Rattle.el_io.specs.Sink.{Took}
+use Rattle.el_io.specs.Sink.{TookAll}
 use Rattle.tool.specs.declared.status.Status.{Status}
 use Rattle.tool.specs.declared.status.Status.TheVariants.{DeviceFault, NoMemory}
-use Rattle.tool.specs.Answer.{Answer}
+use Rattle.tool.specs.Answer.{Answer, WrittenFile}
 
 -- what out, err and the shelf tell
 pub record Told : Type 0 where
@@ -15,39 +15,39 @@ pub record Told : Type 0 where
 -- a sink took some of these bytes, from the first on
 pub record TookSome (before now : Option (List ℕ)) (bytes : List ℕ) : Type 0 where
   pub count : ℕ
-  pub part : Took before now (take count bytes)
+  pub part : TookAll before now (take count bytes)
 
 -- a file has these bytes, where one was written, and every other is as it was
-abbrev pub Wrote : Option Contents → Option Contents → Option (List ℕ × List ℕ) → Type 0
+abbrev pub Wrote : Option Contents → Option Contents → Option WrittenFile → Type 0
 Wrote before now None = now ≡ before
-Wrote before now (Some file) = KeepsOthers before now file.0 × Holds now file.0 file.1
+Wrote before now (Some file) = KeepsOthers before now file.name × Holds now file.name file.bytes
 
 -- a file was to be written, and every other is as it was
-abbrev pub TriedToWrite : Option Contents → Option Contents → Option (List ℕ × List ℕ) → Type 0
+abbrev pub TriedToWrite : Option Contents → Option Contents → Option WrittenFile → Type 0
 TriedToWrite before now None = ⊥
-TriedToWrite before now (Some file) = KeepsOthers before now file.0
+TriedToWrite before now (Some file) = KeepsOthers before now file.name
 
 -- all of an answer was put and written
 pub record PutAll (before now : Told) (answer : Answer) : Type 0 where
-  pub out : Took before.out now.out answer.out
+  pub out : TookAll before.out now.out answer.out
   pub written : Wrote before.files now.files answer.written
-  pub err : Took before.err now.err answer.err
+  pub err : TookAll before.err now.err answer.err
 
 -- some was put to out, and nothing after that
 pub record PutOut (before now : Told) (answer : Answer) : Type 0 where
   pub out : TookSome before.out now.out answer.out
   pub written : now.files ≡ before.files
-  pub err : Took before.err now.err []
+  pub err : now.err ≡ before.err
 
 -- all was put to out, the write of the file failed, and nothing after that
 pub record PutFile (before now : Told) (answer : Answer) : Type 0 where
-  pub out : Took before.out now.out answer.out
+  pub out : TookAll before.out now.out answer.out
   pub written : TriedToWrite before.files now.files answer.written
-  pub err : Took before.err now.err []
+  pub err : now.err ≡ before.err
 
 -- all was put to out, the file was written, and some was put to err
 pub record PutErr (before now : Told) (answer : Answer) : Type 0 where
-  pub out : Took before.out now.out answer.out
+  pub out : TookAll before.out now.out answer.out
   pub written : Wrote before.files now.files answer.written
   pub err : TookSome before.err now.err answer.err
 

@@ -15,7 +15,7 @@ abbrev pub ReplayRepeatsRun : Type 0
 ReplayRepeatsRun =
     (job : RunJob) (name : List ℕ) (before after : Contents) (ran replayed : Answer) →
     JobAnswer (Some (Run job)) before before ran →
-    ran.written ≡ Some (name, after name) →
+    ran.written ≡ Some (record { name = name; bytes = after name }) →
     after job.image ≡ before job.image →
     JobAnswer (Some (Replay job.image name)) after after replayed →
     SaysTheSame ran replayed

@@ -4,5 +4,6 @@ pub mod Contents
 pub mod Report
 pub mod Answer
 pub mod Comes
+pub mod Causes
 pub mod Stopping
 pub mod Laws

@@ -1,12 +1,8 @@
--- What stopped a command before its run had ended, and what a fault of a device shows.
-use Rattle.std.specs.Prelude.{◌≡◌, ℕ, List, [], ◌∷◌, map, Contains, Option, None, Some}
-use Rattle.std.specs.Option.{option_to_list}
-use Rattle.command_line.specs.Words.{Job, Run, Replay}
+-- What stopped a command before its run had ended.
+use Rattle.std.specs.Prelude.{◌≡◌, ℕ, List, Option, None, Some}
 use Rattle.el_base.specs.declared.events.Event.{Event}
 use Rattle.el_base.specs.declared.settings.Config.{Config}
 use Rattle.el_base.specs.declared.settings.Mode.TheVariants.{Plain}
-use Rattle.el_io.specs.Shelf.{NamedCall, ShelfCause}
-use Rattle.el_io.specs.declared.shelf.Call.TheVariants.{Read, Write}
 use Rattle.el_io.specs.declared.shelf.ShelfFault.{ShelfFault}
 use Rattle.el_io.specs.declared.shelf.ShelfFault.TheVariants as faults
 use Rattle.elf_image.specs.declared.fault.Fault.{Fault}
@@ -17,18 +13,6 @@ use Rattle.tool.specs.declared.messages.Refusal.TheVariants.{Image, TooBig, Trac
 use Rattle.tool.specs.declared.stop.Stop.{Stop}
 use Rattle.tool.specs.declared.stop.Stop.TheVariants as stops
 use Rattle.tool.specs.Answer.{Answer, refused}
-
--- the calls that a job makes of the shelf: it reads these files, and writes the trace
-abbrev pub calls_of : Option Job → List NamedCall
-calls_of None = []
-calls_of (Some (Run job)) = (Read, job.image) ∷ map (λ name. (Write, name)) (option_to_list job.trace)
-calls_of (Some (Replay image trace)) = (Read, image) ∷ (Read, trace) ∷ []
-
--- the list of a shelf's failed calls got one of these calls
-pub record CallFailed (calls before now : List NamedCall) : Type 0 where
-  pub call : NamedCall
-  pub made : Contains calls call
-  pub cause : ShelfCause before now call
 
 -- what stopped a command before its run had ended: a refusal that is an answer, a fault of the shelf, or
 -- want of memory
@@ -64,7 +48,7 @@ pub record IsTraceOf (file : List ℕ) (config : Config) (made : List Event) : T
   pub spelled : file ≡ spelling config made
 
 -- what stopped the write of a file: a fault of the shelf, or want of memory
-abbrev pub StopsWrite : Type 0 → Type 0 → Type 0 → ShelfFault → Type 0
-StopsWrite Tried Fault Same faults.Failed = Tried × Fault
-StopsWrite Tried Fault Same faults.TooBig = ⊥
-StopsWrite Tried Fault Same faults.NoMemory = Same
+abbrev pub StopsWrite : Type 0 → Type 0 → ShelfFault → Type 0
+StopsWrite Tried Same faults.Failed = Tried
+StopsWrite Tried Same faults.TooBig = ⊥
+StopsWrite Tried Same faults.NoMemory = Same

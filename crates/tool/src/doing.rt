@@ -1,16 +1,17 @@
 //! What a command does before anything is put: it reads its files, and makes a machine that it runs.
 ghost use Rattle.std.specs.Prelude.{◌≡◌, ◌≤◌, None, IfOk, OnOk, MatchResult, length, [], ◌∷◌};
-ghost use Rattle.el_base.specs.Config.{IsInRange};
+ghost use Rattle.el_base.specs.Config.{IsInRange, config_fault};
 ghost use Rattle.el_base.specs.declared.settings.Mode.TheVariants.{Plain};
-ghost use Rattle.el_io.specs.Shelf.{ShelfCause};
 ghost use Rattle.el_io.specs.declared.shelf.Call.TheVariants.{Read};
 ghost use Rattle.elf_image.specs.Faults.{fault};
 ghost use Rattle.elf_image.specs.Loaded.{program_of};
+ghost use Rattle.command_line.specs.Settings.{config_of};
 ghost use Rattle.command_line.specs.Words.{run_meaning};
 ghost use Rattle.trace_file.specs.Faults.{trace_fault};
 ghost use Rattle.tool.specs.Answer.{IsReplayAnswer, IsRunAnswer, TraceAnswer, ended};
+ghost use Rattle.tool.specs.Causes.{CallFailed, UnlessFault, reads_of};
 ghost use Rattle.tool.specs.Contents.{MayHave, MayPass};
-ghost use Rattle.tool.specs.Stopping.{CallFailed, Stops, StopsImage, StopsRead, StopsTrace, IsTraceOf};
+ghost use Rattle.tool.specs.Stopping.{Stops, StopsImage, StopsRead, StopsTrace, IsTraceOf};
 
 use crate::messages::Refusal;
 use crate::stop::Stop;
@@ -36,11 +37,13 @@ pub(crate) fn run<S: Shelf>(
     command: RunCommand<'_>,
 ) -> Result<Machine, Stop>
     ensures files_stay { S.told shelf.new ≡ S.told shelf.old }
-    ensures nothing_failed { OnOk result (S.failures shelf.new ≡ S.failures shelf.old) }
+    ensures nothing_failed { UnlessFault result (S.failures shelf.new ≡ S.failures shelf.old) }
+    ensures in_range { OnOk result (IsInRange (config_of (run_meaning command.entry))) }
     ensures answers { MatchResult result
         (λ machine. IsRunAnswer (run_meaning command.entry) (S.told shelf.old) (ended (run_meaning command.entry).trace machine))
         (Stops (IsRunAnswer (run_meaning command.entry) (S.told shelf.old))
-        (ShelfCause (S.failures shelf.old) (S.failures shelf.new) (Read, command.entry.image.now))) }
+        (CallFailed (reads_of (config_fault (config_of (run_meaning command.entry))) command.entry.image.now)
+        (S.failures shelf.old) (S.failures shelf.new))) }
 {
     let config = command.config()?;
     let file = read_file(alloc, shelf, command.image, IMAGE_LIMIT)?;
@@ -57,7 +60,7 @@ pub(crate) fn replay<S: Shelf>(
     trace: &str,
 ) -> Result<Machine, Stop>
     ensures files_stay { S.told shelf.new ≡ S.told shelf.old }
-    ensures nothing_failed { OnOk result (S.failures shelf.new ≡ S.failures shelf.old) }
+    ensures nothing_failed { UnlessFault result (S.failures shelf.new ≡ S.failures shelf.old) }
     ensures answers { MatchResult result
         (λ machine. IsReplayAnswer image.now trace.now (S.told shelf.old) (ended None machine))
         (Stops (IsReplayAnswer image.now trace.now (S.told shelf.old))
@@ -104,13 +107,13 @@ fn read_file<S: Shelf>(
     limit: u32,
 ) -> Result<Vec<u8>, Stop>
     ensures files_stay { S.told shelf.new ≡ S.told shelf.old }
-    ensures nothing_failed { OnOk result (S.failures shelf.new ≡ S.failures shelf.old) }
+    ensures nothing_failed { UnlessFault result (S.failures shelf.new ≡ S.failures shelf.old) }
     ensures given { IfOk result (λ bytes. MayHave (S.told shelf.old) name.now bytes.items) }
     ensures within_limit { IfOk result (λ bytes. length bytes.items ≤ limit) }
     ensures stopped { MatchResult result
         (λ _. Unit {0})
         (StopsRead limit (MayPass (S.told shelf.old) name.now limit)
-        (ShelfCause (S.failures shelf.old) (S.failures shelf.new) (Read, name.now))) }
+        (CallFailed ((Read, name.now) ∷ []) (S.failures shelf.old) (S.failures shelf.new))) }
 {
     match shelf.read(alloc, name, limit) {
         Ok(bytes) => Ok(bytes),

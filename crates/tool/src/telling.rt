@@ -1,16 +1,14 @@
 //! What a command puts and writes at its end.
-ghost use Rattle.std.specs.Prelude.{◌≡◌, ◌⊎◌, ℕ, List, Option, IfOk, MatchResult, string_bytes, map};
-ghost use Rattle.std.specs.Option.{option_map, option_to_list};
-ghost use Rattle.el_io.specs.Counts.{Rose};
-ghost use Rattle.el_io.specs.Shelf.{Contents};
-ghost use Rattle.el_io.specs.declared.shelf.Call.TheVariants.{Write};
+ghost use Rattle.std.specs.Prelude.{◌≡◌, ℕ, List, [], Option, IfOk, MatchResult, string_bytes};
+ghost use Rattle.std.specs.Option.{option_map};
+ghost use Rattle.el_io.specs.Shelf.{Contents, NamedCall};
 ghost use Rattle.machine.specs.Story.{committed};
 ghost use Rattle.tool.specs.Answer.{ended, refused, written_by};
+ghost use Rattle.tool.specs.Causes.{Caused, Lists, writes_of};
 ghost use Rattle.tool.specs.Comes.{Comes, TriedToWrite, Wrote};
 ghost use Rattle.tool.specs.Report as words;
 ghost use Rattle.tool.specs.Report.{ending, report_of};
-ghost use Rattle.tool.specs.Stopping.{CallFailed, StopsWrite};
-ghost use Rattle.tool.specs.declared.status.Status.TheVariants as statuses;
+ghost use Rattle.tool.specs.Stopping.{StopsWrite};
 
 use crate::messages::Refusal;
 use crate::status::Status;
@@ -34,9 +32,9 @@ pub(crate) fn tell_run<S: Shelf, O: Sink, E: Sink>(
     ensures exact { Comes (λ answer. answer ≡ ended (option_map (λ name. name.now) trace.entry) machine.now) result
         (record { out = O.taken out.old; err = E.taken err.old; files = S.told shelf.old })
         (record { out = O.taken out.new; err = E.taken err.new; files = S.told shelf.new }) }
-    ensures cause { result ≡ statuses.DeviceFault →
-        CallFailed (map (λ name. (Write, name)) (option_to_list (option_map (λ name. name.now) trace.entry))) (S.failures shelf.old) (S.failures shelf.new)
-        ⊎ (Rose (O.faults out.old) (O.faults out.new) ⊎ Rose (E.faults err.old) (E.faults err.new)) }
+    ensures cause { Caused (writes_of (option_map (λ name. name.now) trace.entry)) result
+        (record { shelf = S.failures shelf.old; out = O.faults out.old; err = E.faults err.old })
+        (record { shelf = S.failures shelf.new; out = O.faults out.new; err = E.faults err.new }) }
 {
     let Ok(report) = report(alloc, machine) else {
         return Status::NoMemory;
@@ -61,7 +59,9 @@ pub(crate) fn tell_refusal<E: Sink>(alloc: Global, refusal: Refusal, err: &mut E
     ensures exact { (out : Option (List ℕ)) (files : Option Contents) → Comes (λ answer. answer ≡ refused refusal) result
         (record { out = out; err = E.taken err.old; files = files })
         (record { out = out; err = E.taken err.new; files = files }) }
-    ensures cause { result ≡ statuses.DeviceFault → Rose (E.faults err.old) (E.faults err.new) }
+    ensures cause { (failed : List NamedCall) (out : ℕ) → Caused [] result
+        (record { shelf = failed; out = out; err = E.faults err.old })
+        (record { shelf = failed; out = out; err = E.faults err.new }) }
 {
     let Ok(line) = refusal.line(alloc) else {
         return Status::NoMemory;
@@ -79,15 +79,15 @@ fn write_file<S: Shelf>(
     trace: Option<&str>,
     shelf: &mut S,
 ) -> Result<(), ShelfFault>
-    ensures { MatchResult result
+    ensures written { MatchResult result
         (λ _. Wrote (S.told shelf.old) (S.told shelf.new)
         (option_map (written_by machine.now) (option_map (λ name. name.now) trace.entry)))
         (StopsWrite
         (TriedToWrite (S.told shelf.old) (S.told shelf.new)
         (option_map (written_by machine.now) (option_map (λ name. name.now) trace.entry)))
-        (CallFailed (map (λ name. (Write, name)) (option_to_list (option_map (λ name. name.now) trace.entry)))
-        (S.failures shelf.old) (S.failures shelf.new))
         (S.told shelf.new ≡ S.told shelf.old)) }
+    ensures listed { Lists (writes_of (option_map (λ name. name.now) trace.entry)) result
+        (S.failures shelf.old) (S.failures shelf.new) }
 {
     match trace {
         Some(name) => write_trace(alloc, shelf, name, &machine.config(), machine.history()),

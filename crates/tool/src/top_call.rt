@@ -1,13 +1,12 @@
 //! The top call.
-ghost use Rattle.std.specs.Prelude.{◌≡◌, ◌⊎◌, [], ◌∷◌, map};
-ghost use Rattle.std.specs.Option.{option_to_list};
+ghost use Rattle.std.specs.Prelude.{[], ◌∷◌};
+ghost use Rattle.command_line.specs.Settings.{config_of};
 ghost use Rattle.command_line.specs.Words.{job_of, run_meaning, texts};
-ghost use Rattle.el_io.specs.Counts.{Rose};
-ghost use Rattle.el_io.specs.declared.shelf.Call.TheVariants.{Read, Write};
+ghost use Rattle.el_base.specs.Config.{config_fault};
+ghost use Rattle.el_io.specs.declared.shelf.Call.TheVariants.{Read};
 ghost use Rattle.tool.specs.Answer.{IsAnswer, IsReplayAnswer, IsRunAnswer};
+ghost use Rattle.tool.specs.Causes.{Caused, calls_of, run_calls};
 ghost use Rattle.tool.specs.Comes.{Comes};
-ghost use Rattle.tool.specs.Stopping.{CallFailed, calls_of};
-ghost use Rattle.tool.specs.declared.status.Status.TheVariants as statuses;
 
 use crate::doing::{replay, run};
 use crate::messages::Refusal;
@@ -22,10 +21,10 @@ use std::alloc::Global;
 /// `err`. The words are those after the program's name.
 ///
 /// With a status other than the two faults, exactly one answer was put and written: the one to the
-/// words over the contents that the shelf tells. A fault of a device comes only where, in this call,
-/// the shelf's list got one of the calls of the words, or the count of a sink rose. Nothing says when
-/// want of memory comes. After either, what was put and written is nothing or the beginning of an
-/// answer.
+/// words over the contents that the shelf tells. A fault of a device comes exactly where, in this
+/// call, one call of a device failed: one of the shelf that the words ask for, or one of a sink.
+/// Nothing says when want of memory comes. After either, what was put and written is nothing or the
+/// beginning of an answer.
 pub fn tool<R, S: Shelf, O: Sink, E: Sink>(
     _runtime: &R,
     alloc: Global,
@@ -37,9 +36,9 @@ pub fn tool<R, S: Shelf, O: Sink, E: Sink>(
     ensures exact { Comes (IsAnswer (texts words.now) (S.told shelf.old)) result
         (record { out = O.taken out.old; err = E.taken err.old; files = S.told shelf.old })
         (record { out = O.taken out.new; err = E.taken err.new; files = S.told shelf.new }) }
-    ensures cause { result ≡ statuses.DeviceFault →
-        CallFailed (calls_of (job_of (texts words.now))) (S.failures shelf.old) (S.failures shelf.new)
-        ⊎ (Rose (O.faults out.old) (O.faults out.new) ⊎ Rose (E.faults err.old) (E.faults err.new)) }
+    ensures cause { Caused (calls_of (job_of (texts words.now))) result
+        (record { shelf = S.failures shelf.old; out = O.faults out.old; err = E.faults err.old })
+        (record { shelf = S.failures shelf.new; out = O.faults out.new; err = E.faults err.new }) }
 {
     match read_words(words) {
         None => tell_refusal(alloc, Refusal::Usage, err),
@@ -58,10 +57,9 @@ fn do_run<S: Shelf, O: Sink, E: Sink>(
     ensures exact { Comes (IsRunAnswer (run_meaning command.entry) (S.told shelf.old)) result
         (record { out = O.taken out.old; err = E.taken err.old; files = S.told shelf.old })
         (record { out = O.taken out.new; err = E.taken err.new; files = S.told shelf.new }) }
-    ensures cause { result ≡ statuses.DeviceFault →
-        CallFailed ((Read, (run_meaning command.entry).image) ∷ map (λ name. (Write, name)) (option_to_list (run_meaning command.entry).trace))
-        (S.failures shelf.old) (S.failures shelf.new)
-        ⊎ (Rose (O.faults out.old) (O.faults out.new) ⊎ Rose (E.faults err.old) (E.faults err.new)) }
+    ensures cause { Caused (run_calls (config_fault (config_of (run_meaning command.entry))) (run_meaning command.entry)) result
+        (record { shelf = S.failures shelf.old; out = O.faults out.old; err = E.faults err.old })
+        (record { shelf = S.failures shelf.new; out = O.faults out.new; err = E.faults err.new }) }
 {
     match run(alloc, shelf, command) {
         Ok(machine) => tell_run(alloc, &machine, command.trace, shelf, out, err),
@@ -82,9 +80,9 @@ fn do_replay<S: Shelf, O: Sink, E: Sink>(
     ensures exact { Comes (IsReplayAnswer image.now trace.now (S.told shelf.old)) result
         (record { out = O.taken out.old; err = E.taken err.old; files = S.told shelf.old })
         (record { out = O.taken out.new; err = E.taken err.new; files = S.told shelf.new }) }
-    ensures cause { result ≡ statuses.DeviceFault →
-        CallFailed ((Read, image.now) ∷ (Read, trace.now) ∷ []) (S.failures shelf.old) (S.failures shelf.new)
-        ⊎ (Rose (O.faults out.old) (O.faults out.new) ⊎ Rose (E.faults err.old) (E.faults err.new)) }
+    ensures cause { Caused ((Read, image.now) ∷ (Read, trace.now) ∷ []) result
+        (record { shelf = S.failures shelf.old; out = O.faults out.old; err = E.faults err.old })
+        (record { shelf = S.failures shelf.new; out = O.faults out.new; err = E.faults err.new }) }
 {
     match replay(alloc, shelf, image, trace) {
         Ok(machine) => tell_run(alloc, &machine, None, shelf, out, err),

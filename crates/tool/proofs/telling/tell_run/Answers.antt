@@ -1,6 +1,5 @@
 use Rattle.std.proofs.Common.{◌≡◌, refl, inr, false}
 use Rattle.std.specs.Prelude.{is_err}
-use Rattle.el_io.proofs.Taking.{took-nothing}
 use Rattle.tool.proofs.Putting.{ok-part, took-all}
 use Rattle.tool.proofs.telling.tell_run.Goals as goal
 
@@ -13,7 +12,7 @@ returns-in-Err-NoMemory-clause-exact g c =
       refl,
       record {
         out = took-all _ _ _ took;
-        written = rw c.in-Err-NoMemory.field-0-is at c.in-Err-NoMemory.ensures;
-        err = took-nothing (g.E.Sink.taken c.args.err.now);
+        written = rw c.in-Err-NoMemory.field-0-is at c.in-Err-NoMemory.ensures.written;
+        err = refl;
       },
     )

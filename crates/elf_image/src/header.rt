@@ -79,15 +79,15 @@ impl FileHeader {
         ensures { result ≡ file_header file.now }
     {
         FileHeader {
-            e_type: half_at(file, 16),
-            e_machine: half_at(file, 18),
-            e_version: word_at(file, 20),
-            e_entry: word_at(file, 24),
-            e_phoff: word_at(file, 28),
-            e_flags: word_at(file, 36),
-            e_ehsize: half_at(file, 40),
-            e_phentsize: half_at(file, 42),
-            e_phnum: half_at(file, 44),
+            e_type: half_at(file, E_TYPE as usize),
+            e_machine: half_at(file, E_MACHINE as usize),
+            e_version: word_at(file, E_VERSION as usize),
+            e_entry: word_at(file, E_ENTRY as usize),
+            e_phoff: word_at(file, E_PHOFF as usize),
+            e_flags: word_at(file, E_FLAGS as usize),
+            e_ehsize: half_at(file, E_EHSIZE as usize),
+            e_phentsize: half_at(file, E_PHENTSIZE as usize),
+            e_phnum: half_at(file, E_PHNUM as usize),
         }
     }
 }

@@ -25,9 +25,17 @@ const PT_INTERP: u32 = 3;
 const PF_X: u32 = 1;
 
 // The places of the fields in a program header.
+const P_TYPE: u32 = 0;
+
 const P_OFFSET: u32 = 4;
 
+const P_VADDR: u32 = 8;
+
 const P_FILESZ: u32 = 16;
+
+const P_MEMSZ: u32 = 20;
+
+const P_FLAGS: u32 = 24;
 
 /// The fields of a program header that are read, and the place of the header in the file.
 #[derive(Clone, Copy, Debug, Default)]
@@ -51,12 +59,12 @@ impl ProgramHeader {
         let at = place as usize;
         ProgramHeader {
             place,
-            p_type: word_at(file, at),
-            p_offset: word_at(file, at + 4),
-            p_vaddr: word_at(file, at + 8),
-            p_filesz: word_at(file, at + 16),
-            p_memsz: word_at(file, at + 20),
-            p_flags: word_at(file, at + 24),
+            p_type: word_at(file, at + P_TYPE as usize),
+            p_offset: word_at(file, at + P_OFFSET as usize),
+            p_vaddr: word_at(file, at + P_VADDR as usize),
+            p_filesz: word_at(file, at + P_FILESZ as usize),
+            p_memsz: word_at(file, at + P_MEMSZ as usize),
+            p_flags: word_at(file, at + P_FLAGS as usize),
         }
     }
 
@@ -120,6 +128,7 @@ impl ProgramHeader {
     {
         self.p_vaddr <= address && address as u64 + 4 <= self.end()
     }
+
     /// Whether the segment is executable and has the four bytes at an address.
     pub fn has_instruction(&self, address: u32) -> bool
         ensures { result ≡ layout.has_instruction address self.now }

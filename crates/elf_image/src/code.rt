@@ -1,7 +1,7 @@
 ghost use Rattle.std.specs.Prelude.{◌≡◌, ◌++◌, [], ◌∷◌, OnOk, OnErr, IfOk};
 ghost use Rattle.elf_image.specs.Program.{code_word};
 
-use crate::segment::Segment;
+use crate::code_segment::CodeSegment;
 use el_base::NoMemory;
 use std::alloc::Global;
 use std::marker::Model;
@@ -9,7 +9,7 @@ use std::marker::Model;
 /// What instructions are fetched from: the executable segments as loaded, which no store changes.
 #[derive(Debug, Drop)]
 pub struct Code {
-    segments: Vec<Segment>,
+    segments: Vec<CodeSegment>,
 }
 
 impl Model for Code {
@@ -32,7 +32,7 @@ impl Code {
     }
 
     /// Puts a segment behind the others. After an error the code is as it was.
-    pub(crate) fn push(&mut self, segment: Segment) -> Result<(), NoMemory>
+    pub(crate) fn push(&mut self, segment: CodeSegment) -> Result<(), NoMemory>
         ensures ok { OnOk result (self.new ≡ self.old ++ segment ∷ []) }
         ensures err { OnErr result (self.new ≡ self.old) }
     {
@@ -41,7 +41,7 @@ impl Code {
     }
 
     /// The segments, in the order of the file's table.
-    pub fn segments(&self) -> &[Segment]
+    pub fn segments(&self) -> &[CodeSegment]
         ensures { result.now ≡ self.now }
     {
         self.segments.as_slice()

@@ -148,11 +148,12 @@ pub fn check_header(file: &[u8]) -> Result<(), Fault>
     if header.e_flags & EF_REFUSED != 0 {
         return Err(Fault::new(FaultKind::Flags, E_FLAGS));
     }
-    check_table(&header, file.len())
+    check_table_form(&header, file.len())
 }
 
-/// Judges the sizes: those of class ELFCLASS32, and of a table that lies in a file of `file_len` bytes.
-fn check_table(header: &FileHeader, file_len: usize) -> Result<(), Fault>
+/// Judges the form of the table: the sizes are those of class ELFCLASS32, and the table lies in a file
+/// of `file_len` bytes.
+fn check_table_form(header: &FileHeader, file_len: usize) -> Result<(), Fault>
     ensures exact { result_err result ≡ faults.table_form_fault header.now file_len }
     ensures few { OnOk result (header.now.e_phnum ≤ 64) }
     ensures inside { OnOk result (header.now.e_phoff + 32 * header.now.e_phnum ≤ file_len) }

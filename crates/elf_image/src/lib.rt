@@ -14,6 +14,7 @@
 
 mod bytes;
 mod code;
+mod code_segment;
 mod fault;
 mod header;
 mod image;
@@ -21,14 +22,13 @@ mod layout;
 mod loaded;
 mod loader;
 mod program_header;
-mod segment;
 mod table;
 
 pub use code::Code;
+pub use code_segment::CodeSegment;
 pub use fault::{Fault, FaultKind};
 pub use image::Image;
 pub use loader::{ImageFault, load};
-pub use segment::Segment;
 
 #[cfg(test)]
 mod tests;

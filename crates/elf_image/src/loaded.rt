@@ -7,8 +7,8 @@ ghost use Rattle.elf_image.specs.Layout.{first_overlap, is_executable};
 ghost use Rattle.elf_image.specs.Loaded.{Fits, IsInside, code_segment, file_byte, is_filled, loaded_byte};
 
 use crate::code::Code;
+use crate::code_segment::CodeSegment;
 use crate::program_header::ProgramHeader;
-use crate::segment::Segment;
 use el_base::NoMemory;
 use std::alloc::Global;
 
@@ -79,7 +79,7 @@ pub fn load_code(
             let from = (segment.p_vaddr - base) as usize;
             let bytes = &bytes[from..from + segment.p_memsz as usize];
             let copy = Vec::from_slice(alloc, bytes)?;
-            code.push(Segment::new(segment.p_vaddr, copy))?;
+            code.push(CodeSegment::new(segment.p_vaddr, copy))?;
         }
     }
     Ok(code)

@@ -14,7 +14,7 @@ use crate::image::Image;
 use crate::layout::{check_memory, memory_base, memory_end};
 use crate::loaded::{load_bytes, load_code};
 use crate::program_header::ProgramHeader;
-use crate::table::{ProgramHeaders, check_table, read_table, segments_of};
+use crate::table::{ProgramHeaders, check_program_headers, read_table, segments_of};
 use std::alloc::Global;
 use thiserror::Error;
 
@@ -58,7 +58,7 @@ fn judge(file: &[u8], harts: u8) -> Result<ProgramHeaders, Fault>
     check_ident(file)?;
     check_header(file)?;
     let headers = read_table(file);
-    check_table(&headers, file.len())?;
+    check_program_headers(&headers, file.len())?;
     let segments = segments_of(&headers);
     check_memory(&segments, FileHeader::read(file).e_entry, harts)?;
     Ok(segments)

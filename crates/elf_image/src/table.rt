@@ -47,7 +47,7 @@ fn read_headers(file: &[u8], place: u32, count: u16) -> ProgramHeaders
 /// Judges the headers: none asks for a dynamic linker, and what is loaded lies in a file of `file_len`
 /// bytes.
 #[tactic(auto, unfolding(crate::specs::Faults::headers_fault))]
-pub fn check_table(headers: &[ProgramHeader], file_len: usize) -> Result<(), Fault>
+pub fn check_program_headers(headers: &[ProgramHeader], file_len: usize) -> Result<(), Fault>
     requires { All (λ header. header.place ≤ 33554432) headers.now }
     ensures { result_err result ≡ faults.headers_fault headers.now file_len }
 {

@@ -8,12 +8,12 @@ use std::marker::Model;
 
 /// An executable segment as loaded: its first address and its bytes.
 #[derive(Debug, Drop)]
-pub struct Segment {
+pub struct CodeSegment {
     start: u32,
     bytes: Vec<u8>,
 }
 
-impl Model for Segment {
+impl Model for CodeSegment {
     ghost use Rattle.elf_image.specs.Program.{CodeSegment};
 
     ghost Value = { CodeSegment };
@@ -21,12 +21,12 @@ impl Model for Segment {
     ghost view = { λ a. record { start = a.start; bytes = a.bytes.items } };
 }
 
-impl Segment {
+impl CodeSegment {
     /// A segment of these bytes, the first of them at the address `start`.
-    pub(crate) fn new(start: u32, bytes: Vec<u8>) -> Segment
+    pub(crate) fn new(start: u32, bytes: Vec<u8>) -> CodeSegment
         ensures { result ≡ record { start = start; bytes = bytes.items } }
     {
-        Segment { start, bytes }
+        CodeSegment { start, bytes }
     }
 
     /// The address of the first byte.
@@ -59,11 +59,11 @@ impl Segment {
     }
 
     /// A copy of its own.
-    pub fn try_clone(&self, alloc: Global) -> Result<Segment, NoMemory>
+    pub fn try_clone(&self, alloc: Global) -> Result<CodeSegment, NoMemory>
         ensures { IfOk result (λ copy. copy ≡ self.now) }
     {
         let bytes = Vec::from_slice(alloc, &self.bytes)?;
-        Ok(Segment {
+        Ok(CodeSegment {
             start: self.start,
             bytes,
         })

@@ -10,6 +10,7 @@ use Rattle.elf_image.specs.declared.fault.FaultKind.{FaultKind}
 use Rattle.elf_image.specs.declared.fault.FaultKind.TheVariants.{Short, Table, Overlap, TooWide, TooHigh, Entry, Empty}
 use Rattle.elf_image.specs.declared.program_header.ProgramHeader.{ProgramHeader}
 use Rattle.elf_image.specs.Header.{file_header, program_headers}
+use Rattle.elf_image.specs.Limits.{stack_size}
 use Rattle.elf_image.specs.Layout.{is_segment, segment_end, segments_of, first_overlap, memory_base, memory_end}
 use Rattle.elf_image.specs.Faults.{fault, fault_of, fault_if, first_of, ident_fault, header_fault, headers_fault, memory_fault, differs, short_fault, file_kind_fault, machine_fault, flags_fault, table_fault, dynamic_fault, load_fault, segment_fault, overlap_fault, too_wide_fault, too_high_fault, entry_fault, empty_fault, has_segment, is_entry}
 use Rattle.elf_image.specs.Loaded.{Fits, IsLoadable}
@@ -125,7 +126,7 @@ below_highest (x ∷ segments) start =
 -- memory spans the segments and the stacks behind them
 pub record Spans (harts base end : ℕ) (segment : ProgramHeader) : Type 0 where
   pub above : base ≤ segment.p_vaddr
-  pub below : segment_end segment + 65536 * harts ≤ end
+  pub below : segment_end segment + stack_size * harts ≤ end
 
 pub spans : (segments : List ProgramHeader) (harts : ℕ) → All (Spans harts (memory_base segments) (memory_end segments harts)) segments
 unfolding memory_base memory_end

@@ -14,6 +14,7 @@ use Rattle.elf_image.specs.Header.{file_header, program_header, headers_at, prog
 use Rattle.elf_image.specs.Layout as layout
 use Rattle.elf_image.specs.Layout.{is_segment, is_executable, has_instruction, segments_of, lowest, highest, memory_base, memory_end}
 use Rattle.elf_image.specs.Faults.{fault}
+use Rattle.elf_image.specs.Limits.{stack_size}
 use Rattle.elf_image.specs.Loaded.{IsInside, code_segment, loaded_byte, loaded_bytes, program_of}
 use Rattle.elf_image.specs.Program.{IsProgram, code_word, has_word, segment_word}
 use Rattle.elf_image.proofs.Accepted.{any_header, faultless, few_headers, in_memory, fits, spans, loadable}
@@ -49,9 +50,9 @@ found base bytes pc (x ∷ segments) inside has =
 
 -- Numbers
 
-lines_between : (low high harts : ℕ) → (high * 64 + 65536 * harts - low * 64) % 64 ≡ 0
+lines_between : (low high harts : ℕ) → (high * 64 + stack_size * harts - low * 64) % 64 ≡ 0
 lines_between low high harts =
-    let whole : high * 64 + 65536 * harts - low * 64 ≡ (high + 1024 * harts - low) * 64 = omega arith in
+    let whole : high * 64 + stack_size * harts - low * 64 ≡ (high + 1024 * harts - low) * 64 = omega arith in
     rw whole (mul-mod_left (high + 1024 * harts - low) 64)
 
 base_on_line : (segments : List ProgramHeader) → memory_base segments % 64 ≡ 0

@@ -4,6 +4,7 @@ use Rattle.std.specs.Prelude.{ℕ, ◌+◌, ◌*◌, ◌/◌, ◌%◌, ◌^◌, 
 use Rattle.std.specs.List.{list_any}
 use Rattle.elf_image.specs.declared.program_header.ProgramHeader.{ProgramHeader}
 use Rattle.elf_image.specs.Header.{program_headers}
+use Rattle.elf_image.specs.Limits.{stack_size}
 
 -- a header of type PT_LOAD
 abbrev pub is_load : ProgramHeader → Bool
@@ -61,6 +62,6 @@ highest segments = fold (λ high segment. max high (segment_end segment)) 0 segm
 unfoldable pub memory_base : List ProgramHeader → ℕ
 memory_base segments = lowest segments / 64 * 64
 
--- up to here: behind the last segment, on a line too, each hart has a stack of 65,536 bytes
+-- up to here: behind the last segment, on a line too, each hart has its stack
 unfoldable pub memory_end : List ProgramHeader → ℕ → ℕ
-memory_end segments harts = (highest segments + 63) / 64 * 64 + 65536 * harts
+memory_end segments harts = (highest segments + 63) / 64 * 64 + stack_size * harts

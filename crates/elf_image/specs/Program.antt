@@ -1,6 +1,7 @@
 -- A program in memory before its first step.
 use Rattle.std.specs.Prelude.{◌≡◌, ◌≤◌, ℕ, ◌+◌, ◌-◌, ◌*◌, ◌%◌, Bool, ◌&&◌, nat_le, List, length, Option, IsSome, find, sum_by}
 use Rattle.std.specs.Option.{option_map}
+use Rattle.elf_image.specs.Limits.{stack_size}
 use Rattle.elf_image.specs.Numbers.{word_at}
 
 -- an executable segment as loaded: its first address and its bytes
@@ -44,7 +45,7 @@ pub record IsProgram (program : Program) : Type 0 where
   pub few_harts : program.harts ≤ 8
   pub base_on_line : program.base % 64 ≡ 0
   pub length_on_line : length program.bytes % 64 ≡ 0
-  pub stacks_fit : 65536 * program.harts ≤ length program.bytes
+  pub stacks_fit : stack_size * program.harts ≤ length program.bytes
   pub not_wide : length program.bytes ≤ 16777216
   pub not_high : program.base + length program.bytes ≤ 0xffff0000
   pub entry_aligned : program.entry % 4 ≡ 0

@@ -5,6 +5,7 @@ ghost use Rattle.std.specs.Prelude.{◌≡◌, ◌≤◌, ◌<◌, ◌+◌, ◌*
 ghost use Rattle.std.specs.Result.{result_err};
 ghost use Rattle.elf_image.specs.Header.{file_header, HasTable};
 ghost use Rattle.elf_image.specs.Faults as faults;
+ghost use Rattle.elf_image.specs.Limits.{file_limit};
 
 use crate::bytes::{half_at, word_at};
 use crate::fault::{Fault, FaultKind};
@@ -106,7 +107,7 @@ fn magic_difference(file: &[u8]) -> Option<usize>
 /// version.
 #[tactic(auto, unfolding(crate::specs::Faults::ident_fault))]
 pub fn check_ident(file: &[u8]) -> Result<(), Fault>
-    requires { length file.now ≤ 33554432 }
+    requires { length file.now ≤ file_limit }
     ensures exact { result_err result ≡ faults.ident_fault file.now }
     ensures whole { OnOk result (52 ≤ length file.now) }
 {

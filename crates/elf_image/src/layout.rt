@@ -8,13 +8,11 @@ ghost use Rattle.elf_image.specs.Faults as faults;
 
 use crate::fault::{Fault, FaultKind};
 use crate::header::{E_ENTRY, E_PHNUM, E_PHOFF};
+use crate::limits::STACK_BYTES;
 use crate::program_header::ProgramHeader;
 
 /// The bytes of a line of memory. Memory begins and ends on a line.
 const LINE: u64 = 64;
-
-/// The bytes of each hart's stack.
-const STACK: u64 = 65_536;
 
 /// The most bytes of memory, stacks among them.
 const MOST_MEMORY: u64 = 16_777_216;
@@ -61,7 +59,7 @@ pub fn memory_end(segments: &[ProgramHeader], harts: u8) -> u64
     ensures exact { result ≡ layout.memory_end segments.now harts }
     ensures bound { result ≤ 2 ^ 34 }
 {
-    (highest(segments) + (LINE - 1)) / LINE * LINE + STACK * harts as u64
+    (highest(segments) + (LINE - 1)) / LINE * LINE + STACK_BYTES as u64 * harts as u64
 }
 
 /// Judges the segments in memory: they are apart, memory with the stacks is not too large and does not

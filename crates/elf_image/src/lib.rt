@@ -19,6 +19,7 @@ mod fault;
 mod header;
 mod image;
 mod layout;
+mod limits;
 mod loaded;
 mod loader;
 mod program_header;
@@ -28,6 +29,7 @@ pub use code::Code;
 pub use code_segment::CodeSegment;
 pub use fault::{Fault, FaultKind};
 pub use image::Image;
+pub use limits::{IMAGE_FILE_LIMIT, STACK_BYTES};
 pub use loader::{ImageFault, load};
 
 #[cfg(test)]

@@ -5,6 +5,7 @@ ghost use Rattle.std.specs.Result.{result_err};
 ghost use Rattle.elf_image.specs.Faults.{fault};
 ghost use Rattle.elf_image.specs.declared.loader.ImageFault.TheVariants.{Bad, NoMemory};
 ghost use Rattle.elf_image.specs.Layout as layout;
+ghost use Rattle.elf_image.specs.Limits.{file_limit};
 ghost use Rattle.elf_image.specs.Loaded.{IsLoadable, program_of};
 ghost use Rattle.elf_image.specs.Program.{IsProgram};
 
@@ -51,7 +52,7 @@ impl From<el_base::NoMemory> for ImageFault {
 /// Judges a file, and gives the headers of its segments where it has no fault.
 #[tactic(auto, unfolding(crate::specs::Faults::fault, crate::specs::Layout::segments_of))]
 fn judge(file: &[u8], harts: u8) -> Result<ProgramHeaders, Fault>
-    requires { length file.now ≤ 33554432 }
+    requires { length file.now ≤ file_limit }
     ensures exact { result_err result ≡ fault file.now harts }
     ensures segments { IfOk result (λ segments. segments.items ≡ layout.segments_of file.now) }
 {
@@ -92,7 +93,7 @@ fn build(
 /// that an allocation failed where it has none.
 pub fn load(alloc: Global, file: &[u8], harts: u8) -> Result<Image, ImageFault>
     requires harts_in_range { (1 ≤ harts) × (harts ≤ 8) }
-    requires within_limit { length file.now ≤ 33554432 }
+    requires within_limit { length file.now ≤ file_limit }
     ensures accepted { IfOk result (λ image.
         (fault file.now harts ≡ None) × (image ≡ program_of file.now harts)) }
     ensures refused { (number place : ℕ) → result ≡ Err (Bad number place) →

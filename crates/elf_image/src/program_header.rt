@@ -4,6 +4,7 @@
 ghost use Rattle.std.specs.Prelude.{◌≡◌, ◌≤◌, ◌+◌, ◌<◌, ◌^◌, length};
 ghost use Rattle.elf_image.specs.Header.{program_header};
 ghost use Rattle.elf_image.specs.Layout as layout;
+ghost use Rattle.elf_image.specs.Limits.{file_limit};
 ghost use Rattle.elf_image.specs.Faults.{load_fault};
 ghost use Rattle.std.specs.Result.{result_err};
 
@@ -71,7 +72,7 @@ impl ProgramHeader {
     /// Judges a header of type PT_LOAD: it has no more bytes in the file than in memory, and these lie
     /// in a file of `file_len` bytes.
     pub fn check(&self, file_len: usize) -> Result<(), Fault>
-        requires { self.now.place ≤ 33554432 }
+        requires { self.now.place ≤ file_limit }
         ensures { result_err result ≡ load_fault file_len self.now }
     {
         if self.p_type != PT_LOAD {

@@ -5,6 +5,7 @@ ghost use Rattle.std.specs.Result.{result_err};
 ghost use Rattle.elf_image.specs.Header.{HasTable, headers_at, program_headers};
 ghost use Rattle.elf_image.specs.Layout.{is_segment};
 ghost use Rattle.elf_image.specs.Faults as faults;
+ghost use Rattle.elf_image.specs.Limits.{file_limit};
 
 use crate::fault::{Fault, FaultKind};
 use crate::header::FileHeader;
@@ -18,10 +19,10 @@ pub type ProgramHeaders = ArrayVec<ProgramHeader, MOST_PROGRAM_HEADERS>;
 #[tactic(auto, unfolding(crate::specs::Header::program_headers))]
 pub fn read_table(file: &[u8]) -> ProgramHeaders
     requires whole { 52 ≤ length file.now }
-    requires within_limit { length file.now ≤ 33554432 }
+    requires within_limit { length file.now ≤ file_limit }
     requires table { HasTable file.now }
     ensures exact { result.items ≡ program_headers file.now }
-    ensures places { All (λ header. header.place ≤ 33554432) result.items }
+    ensures places { All (λ header. header.place ≤ file_limit) result.items }
 {
     let header = FileHeader::read(file);
     read_headers(file, header.e_phoff, header.e_phnum)
@@ -30,11 +31,11 @@ pub fn read_table(file: &[u8]) -> ProgramHeaders
 /// So many program headers, the first of them at a place of the file.
 #[tactic(auto, unfolding(crate::specs::Header::headers_at))]
 fn read_headers(file: &[u8], place: u32, count: u16) -> ProgramHeaders
-    requires within_limit { length file.now ≤ 33554432 }
+    requires within_limit { length file.now ≤ file_limit }
     requires few { count ≤ 64 }
     requires inside { place + 32 * count ≤ length file.now }
     ensures exact { result.items ≡ headers_at file.now place count }
-    ensures places { All (λ header. header.place ≤ 33554432) result.items }
+    ensures places { All (λ header. header.place ≤ file_limit) result.items }
 {
     let mut headers = ProgramHeaders::new();
     for index in 0..count {
@@ -48,7 +49,7 @@ fn read_headers(file: &[u8], place: u32, count: u16) -> ProgramHeaders
 /// bytes.
 #[tactic(auto, unfolding(crate::specs::Faults::headers_fault))]
 pub fn check_program_headers(headers: &[ProgramHeader], file_len: usize) -> Result<(), Fault>
-    requires { All (λ header. header.place ≤ 33554432) headers.now }
+    requires { All (λ header. header.place ≤ file_limit) headers.now }
     ensures { result_err result ≡ faults.headers_fault headers.now file_len }
 {
     if let Some(place) = first_dynamic(headers) {
@@ -69,7 +70,7 @@ fn first_dynamic(headers: &[ProgramHeader]) -> Option<u32>
 
 /// Judges each header of type PT_LOAD.
 fn check_each(headers: &[ProgramHeader], file_len: usize) -> Result<(), Fault>
-    requires { All (λ header. header.place ≤ 33554432) headers.now }
+    requires { All (λ header. header.place ≤ file_limit) headers.now }
     ensures { result_err result ≡ faults.segment_fault headers.now file_len }
 {
     for header in headers {

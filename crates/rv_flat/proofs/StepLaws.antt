@@ -5,6 +5,7 @@ use Rattle.std.proofs.lemmas.List.{append-nil, get_or-set_other, get_or-set_same
 use Rattle.std.proofs.lemmas.Bool.{cases_eq}
 use Rattle.std.proofs.lemmas.List.FromFn.{get_or-map-range_with_len, length-map-range_with_len}
 use Rattle.std.proofs.Math.ListN.{get_or-map}
+use Rattle.elf_image.specs.Limits.{stack_size}
 use Rattle.elf_image.specs.Program.{Program}
 use Rattle.rv_alu.specs.declared.footprint.Access.{Access}
 use Rattle.rv_alu.specs.declared.footprint.Access.TheVariants.{Nothing, Read, Write, Trap, Exit}
@@ -13,7 +14,7 @@ use Rattle.rv_alu.specs.declared.view.HartStatus.TheVariants.{Running, Exited, T
 use Rattle.rv_alu.specs.declared.view.HartView.{HartView}
 use Rattle.rv_alu.specs.Footprint.{IsPiece}
 use Rattle.rv_alu.specs.Regs.{set}
-use Rattle.rv_flat.specs.FlatState.{FlatState, first_regs, stack_size, first_view, no_hart, span_of, start, status_of, view_of}
+use Rattle.rv_flat.specs.FlatState.{FlatState, first_regs, first_view, no_hart, span_of, start, status_of, view_of}
 use Rattle.rv_flat.specs.Laws.{AreRegs, HasRegs, KeepsShape, Writes, footprint_of, seen_after}
 use Rattle.rv_flat.specs.Memory.{piece_of, put_bytes}
 use Rattle.rv_flat.specs.Run.{alone, run}

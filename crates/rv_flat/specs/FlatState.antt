@@ -1,6 +1,7 @@
 -- harts over plain shared memory, and how they start
 use Rattle.std.specs.Prelude.{ℕ, ◌+◌, ◌-◌, ◌*◌, List, [], length, map, None, replicate, slice_index_or}
 use Rattle.std.specs.List.{range_with_len}
+use Rattle.elf_image.specs.Limits.{stack_size}
 use Rattle.elf_image.specs.Program.{CodeSegment, Program}
 use Rattle.rv_alu.specs.declared.span.Span.{Span}
 use Rattle.rv_alu.specs.declared.view.HartStatus.{HartStatus}
@@ -19,10 +20,6 @@ pub record FlatState : Type 0 where
 -- the most bytes that a program may write
 abbrev pub output_limit : ℕ
 output_limit = 16777216
-
--- the bytes of the stack of each hart
-abbrev pub stack_size : ℕ
-stack_size = 65536
 
 -- the addresses of memory
 abbrev pub span_of : FlatState → Span

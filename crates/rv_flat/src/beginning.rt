@@ -3,13 +3,10 @@ ghost use Rattle.std.specs.List.{range_with_len};
 ghost use Rattle.rv_flat.specs.FlatState.{first_view};
 
 use el_base::NoMemory;
-use elf_image::Image;
+use elf_image::{Image, STACK_BYTES};
 use rv_alu::{HartStatus, HartView, Regs};
 use rv_word::Reg;
 use std::alloc::Global;
-
-/// The bytes of the stack of each hart, at the end of memory.
-const STACK_SIZE: u32 = 65_536;
 
 const SP: Reg = Reg { number: 2 };
 
@@ -28,7 +25,7 @@ fn first_hart(image: &Image, hart: u8) -> HartView
     regs.set(A0, u32::from(hart));
     regs.set(A1, u32::from(image.harts()));
     let end = image.base() + image.bytes().len() as u32;
-    regs.set(SP, end - STACK_SIZE * u32::from(hart));
+    regs.set(SP, end - STACK_BYTES * u32::from(hart));
     HartView {
         pc: image.entry(),
         regs,

@@ -14,6 +14,7 @@ use Rattle.el_model.specs.ModelState.{begin}
 use Rattle.el_model.specs.RoundRobin.{IsRoundRobin}
 use Rattle.elf_image.specs.declared.fault.Fault.{Fault}
 use Rattle.elf_image.specs.Faults.{fault}
+use Rattle.elf_image.specs.Limits.{file_limit}
 use Rattle.elf_image.specs.Loaded.{program_of}
 use Rattle.elf_image.specs.Program.{Program}
 use Rattle.machine.specs.Story.{Story, continued}
@@ -23,7 +24,7 @@ use Rattle.tool.specs.declared.messages.Refusal.{Refusal}
 use Rattle.tool.specs.declared.messages.Refusal.TheVariants as refusals
 use Rattle.tool.specs.declared.stop.Stop.{Stop}
 use Rattle.tool.specs.declared.stop.Stop.TheVariants as stops
-use Rattle.tool.specs.Answer.{Answer, ConfigAnswer, FollowAnswer, ImageAnswer, IsReplayAnswer, IsAnswer, IsRunAnswer, JobAnswer, OverImage, ReplayAnswer, RoundRobinAnswer, RunAnswer, TraceAnswer, TraceFollowed, Within, ended, image_limit, refused, trace_limit}
+use Rattle.tool.specs.Answer.{Answer, ConfigAnswer, FollowAnswer, ImageAnswer, IsReplayAnswer, IsAnswer, IsRunAnswer, JobAnswer, OverImage, ReplayAnswer, RoundRobinAnswer, RunAnswer, TraceAnswer, TraceFollowed, Within, ended, refused, trace_limit}
 use Rattle.tool.specs.Causes.{CallFailed, reads_of}
 use Rattle.tool.specs.Stopping.{IsTraceOf, Stops, StopsImage, StopsRead, StopsTrace}
 use Rattle.tool.specs.Contents.{MayHave, MayHold, MayPass}
@@ -53,48 +54,48 @@ image-stops Runs harts file refusal h =
 
 -- Runs
 
-run-judged : (job : RunJob) (image : List ℕ) (answer : Answer) → IsInRange (config_of job) → Within image_limit image (OverImage (RoundRobinAnswer (config_of job) job.trace) (config_of job).harts image) answer → RunAnswer job image answer
+run-judged : (job : RunJob) (image : List ℕ) (answer : Answer) → IsInRange (config_of job) → Within file_limit image (OverImage (RoundRobinAnswer (config_of job) job.trace) (config_of job).harts image) answer → RunAnswer job image answer
 run-judged job image answer in_range h =
-    let P : Option ConfigFault → Type 0 = λ judged. ConfigAnswer (Within image_limit image (OverImage (RoundRobinAnswer (config_of job) job.trace) (config_of job).harts image)) judged answer in
+    let P : Option ConfigFault → Type 0 = λ judged. ConfigAnswer (Within file_limit image (OverImage (RoundRobinAnswer (config_of job) job.trace) (config_of job).harts image)) judged answer in
     subst P (sym in_range) h
 
 pub run-config : (job : RunJob) (told : Option Contents) (found : ConfigFault) → config_fault (config_of job) ≡ Some found → IsRunAnswer job told (refused (refusals.Config found))
 run-config job told found e =
     let some : (bytes : List ℕ) × MayHave told job.image bytes = some_file told job.image in
-    let P : Option ConfigFault → Type 0 = λ judged. ConfigAnswer (Within image_limit some.0 (OverImage (RoundRobinAnswer (config_of job) job.trace) (config_of job).harts some.0)) judged (refused (refusals.Config found)) in
+    let P : Option ConfigFault → Type 0 = λ judged. ConfigAnswer (Within file_limit some.0 (OverImage (RoundRobinAnswer (config_of job) job.trace) (config_of job).harts some.0)) judged (refused (refusals.Config found)) in
     record { image = some.0; image_file = some.1; exact = subst P (sym e) refl }
 
-pub run-read : (job : RunJob) (told : Option Contents) (before now : List NamedCall) (stop : Stop) → IsInRange (config_of job) → StopsRead image_limit (MayPass told job.image image_limit) (CallFailed ((Read, job.image) ∷ []) before now) stop → Stops (IsRunAnswer job told) (CallFailed (reads_of (config_fault (config_of job)) job.image) before now) stop
+pub run-read : (job : RunJob) (told : Option Contents) (before now : List NamedCall) (stop : Stop) → IsInRange (config_of job) → StopsRead file_limit (MayPass told job.image file_limit) (CallFailed ((Read, job.image) ∷ []) before now) stop → Stops (IsRunAnswer job told) (CallFailed (reads_of (config_fault (config_of job)) job.image) before now) stop
 run-read job told before now (stops.Refused refusal) in_range h =
     let P : Refusal → Type 0 = λ line. IsRunAnswer job told (refused line) in
     subst P (sym h.0) (record {
       image = h.1.bytes;
       image_file = h.1.file;
-      exact = run-judged job h.1.bytes (refused (refusals.TooBig image_limit)) in_range
-          (within-over (OverImage (RoundRobinAnswer (config_of job) job.trace) (config_of job).harts h.1.bytes) image_limit h.1.bytes h.1.over);
+      exact = run-judged job h.1.bytes (refused (refusals.TooBig file_limit)) in_range
+          (within-over (OverImage (RoundRobinAnswer (config_of job) job.trace) (config_of job).harts h.1.bytes) file_limit h.1.bytes h.1.over);
     })
 run-read job told before now stops.DeviceFault in_range h =
     let P : Option ConfigFault → Type 0 = λ judged. CallFailed (reads_of judged job.image) before now in
     subst P (sym in_range) h
 run-read job told before now stops.NoMemory in_range h = tt
 
-run-within : (job : RunJob) (told : Option Contents) (bytes : List ℕ) (answer : Answer) → IsInRange (config_of job) → MayHave told job.image bytes → length bytes ≤ image_limit → OverImage (RoundRobinAnswer (config_of job) job.trace) (config_of job).harts bytes answer → IsRunAnswer job told answer
+run-within : (job : RunJob) (told : Option Contents) (bytes : List ℕ) (answer : Answer) → IsInRange (config_of job) → MayHave told job.image bytes → length bytes ≤ file_limit → OverImage (RoundRobinAnswer (config_of job) job.trace) (config_of job).harts bytes answer → IsRunAnswer job told answer
 run-within job told bytes answer in_range file small h =
     record {
       image = bytes;
       image_file = file;
       exact = run-judged job bytes answer in_range
-          (within-small (OverImage (RoundRobinAnswer (config_of job) job.trace) (config_of job).harts bytes) image_limit bytes answer small h);
+          (within-small (OverImage (RoundRobinAnswer (config_of job) job.trace) (config_of job).harts bytes) file_limit bytes answer small h);
     }
 
-run-image-at : (F : Type 0) (job : RunJob) (told : Option Contents) (bytes : List ℕ) (stop : Stop) → IsInRange (config_of job) → MayHave told job.image bytes → length bytes ≤ image_limit → StopsImage (fault bytes (config_of job).harts) stop → Stops (IsRunAnswer job told) F stop
+run-image-at : (F : Type 0) (job : RunJob) (told : Option Contents) (bytes : List ℕ) (stop : Stop) → IsInRange (config_of job) → MayHave told job.image bytes → length bytes ≤ file_limit → StopsImage (fault bytes (config_of job).harts) stop → Stops (IsRunAnswer job told) F stop
 run-image-at F job told bytes (stops.Refused refusal) in_range file small h =
     run-within job told bytes (refused refusal) in_range file small
     (image-stops (RoundRobinAnswer (config_of job) job.trace) (config_of job).harts bytes refusal h)
 run-image-at F job told bytes stops.DeviceFault in_range file small h = absurd h
 run-image-at F job told bytes stops.NoMemory in_range file small h = tt
 
-pub run-image : (F : Type 0) (job : RunJob) (told : Option Contents) (config : Config) (bytes : List ℕ) (stop : Stop) → config ≡ config_of job → IsInRange config → MayHave told job.image bytes → length bytes ≤ image_limit → StopsImage (fault bytes config.harts) stop → Stops (IsRunAnswer job told) F stop
+pub run-image : (F : Type 0) (job : RunJob) (told : Option Contents) (config : Config) (bytes : List ℕ) (stop : Stop) → config ≡ config_of job → IsInRange config → MayHave told job.image bytes → length bytes ≤ file_limit → StopsImage (fault bytes config.harts) stop → Stops (IsRunAnswer job told) F stop
 run-image F job told config bytes stop e in_range file small h =
     let P : Config → Type 0 = λ settings. StopsImage (fault bytes settings.harts) stop in
     run-image-at F job told bytes stop (subst IsInRange e in_range) file small (subst P e h)
@@ -105,13 +106,13 @@ run-made job program later m =
     let all : (config_of job).steps - 0 ≡ (config_of job).steps = omega arith in
     record { made = m.made; round_robin = subst P all m.round_robin; exact = ap (ended job.trace) m.story }
 
-run-ended-at : (job : RunJob) (told : Option Contents) (bytes : List ℕ) (later : Story) → IsInRange (config_of job) → MayHave told job.image bytes → length bytes ≤ image_limit → fault bytes (config_of job).harts ≡ None → MakesRoundRobin (fresh (program_of bytes (config_of job).harts) (config_of job)) later → IsRunAnswer job told (ended job.trace later)
+run-ended-at : (job : RunJob) (told : Option Contents) (bytes : List ℕ) (later : Story) → IsInRange (config_of job) → MayHave told job.image bytes → length bytes ≤ file_limit → fault bytes (config_of job).harts ≡ None → MakesRoundRobin (fresh (program_of bytes (config_of job).harts) (config_of job)) later → IsRunAnswer job told (ended job.trace later)
 run-ended-at job told bytes later in_range file small accepted m =
     run-within job told bytes (ended job.trace later) in_range file small
     (image-run (RoundRobinAnswer (config_of job) job.trace) (config_of job).harts bytes (ended job.trace later) accepted
     (run-made job (program_of bytes (config_of job).harts) later m))
 
-pub run-ended : (job : RunJob) (told : Option Contents) (config : Config) (bytes : List ℕ) (first later : Story) → config ≡ config_of job → IsInRange config → MayHave told job.image bytes → length bytes ≤ image_limit → fault bytes config.harts ≡ None → first ≡ fresh (program_of bytes config.harts) config → MakesRoundRobin first later → IsRunAnswer job told (ended job.trace later)
+pub run-ended : (job : RunJob) (told : Option Contents) (config : Config) (bytes : List ℕ) (first later : Story) → config ≡ config_of job → IsInRange config → MayHave told job.image bytes → length bytes ≤ file_limit → fault bytes config.harts ≡ None → first ≡ fresh (program_of bytes config.harts) config → MakesRoundRobin first later → IsRunAnswer job told (ended job.trace later)
 run-ended job told config bytes first later e in_range file small accepted begins m =
     let A : Config → Type 0 = λ settings. fault bytes settings.harts ≡ None in
     let M : Story → Type 0 = λ story. MakesRoundRobin story later in
@@ -155,18 +156,18 @@ replay-ended image trace config made first later t accepted begins goes_on =
     (image-run (FollowAnswer config made) config.harts image (ended None later) accepted
     (ap (ended None) (goes_on ∙ ap (λ (story : Story). continued story made) begins)))
 
-replay-within : (image_name trace_name : List ℕ) (told : Option Contents) (image trace : List ℕ) (answer : Answer) → MayHave told image_name image → length image ≤ image_limit → MayHave told trace_name trace → length trace ≤ trace_limit → TraceAnswer image trace (trace_fault trace) answer → IsReplayAnswer image_name trace_name told answer
+replay-within : (image_name trace_name : List ℕ) (told : Option Contents) (image trace : List ℕ) (answer : Answer) → MayHave told image_name image → length image ≤ file_limit → MayHave told trace_name trace → length trace ≤ trace_limit → TraceAnswer image trace (trace_fault trace) answer → IsReplayAnswer image_name trace_name told answer
 replay-within image_name trace_name told image trace answer image_file image_small trace_file trace_small h =
     record {
       image = image;
       trace = trace;
       image_file = image_file;
       trace_file = trace_file;
-      exact = within-small (Within trace_limit trace (TraceAnswer image trace (trace_fault trace))) image_limit image answer image_small
+      exact = within-small (Within trace_limit trace (TraceAnswer image trace (trace_fault trace))) file_limit image answer image_small
           (within-small (TraceAnswer image trace (trace_fault trace)) trace_limit trace answer trace_small h);
     }
 
-pub replay-read : (image_name trace_name : List ℕ) (told : Option Contents) (before now : List NamedCall) (stop : Stop) → StopsRead image_limit (MayPass told image_name image_limit) (CallFailed ((Read, image_name) ∷ []) before now) stop → Stops (IsReplayAnswer image_name trace_name told) (CallFailed ((Read, image_name) ∷ (Read, trace_name) ∷ []) before now) stop
+pub replay-read : (image_name trace_name : List ℕ) (told : Option Contents) (before now : List NamedCall) (stop : Stop) → StopsRead file_limit (MayPass told image_name file_limit) (CallFailed ((Read, image_name) ∷ []) before now) stop → Stops (IsReplayAnswer image_name trace_name told) (CallFailed ((Read, image_name) ∷ (Read, trace_name) ∷ []) before now) stop
 replay-read image_name trace_name told before now (stops.Refused refusal) h =
     let P : Refusal → Type 0 = λ line. IsReplayAnswer image_name trace_name told (refused line) in
     let some : (bytes : List ℕ) × MayHave told trace_name bytes = some_file told trace_name in
@@ -175,14 +176,14 @@ replay-read image_name trace_name told before now (stops.Refused refusal) h =
       trace = some.0;
       image_file = h.1.file;
       trace_file = some.1;
-      exact = within-over (Within trace_limit some.0 (TraceAnswer h.1.bytes some.0 (trace_fault some.0))) image_limit h.1.bytes h.1.over;
+      exact = within-over (Within trace_limit some.0 (TraceAnswer h.1.bytes some.0 (trace_fault some.0))) file_limit h.1.bytes h.1.over;
     })
 replay-read image_name trace_name told before now stops.DeviceFault h =
     failed-wider ((Read, image_name) ∷ []) ((Read, image_name) ∷ (Read, trace_name) ∷ []) before now
     (first-of_more (Read, image_name) ((Read, trace_name) ∷ [])) h
 replay-read image_name trace_name told before now stops.NoMemory h = tt
 
-pub replay-next : (image_name trace_name : List ℕ) (told : Option Contents) (image : List ℕ) (before now : List NamedCall) (stop : Stop) → MayHave told image_name image → length image ≤ image_limit → StopsRead trace_limit (MayPass told trace_name trace_limit) (CallFailed ((Read, trace_name) ∷ []) before now) stop → Stops (IsReplayAnswer image_name trace_name told) (CallFailed ((Read, image_name) ∷ (Read, trace_name) ∷ []) before now) stop
+pub replay-next : (image_name trace_name : List ℕ) (told : Option Contents) (image : List ℕ) (before now : List NamedCall) (stop : Stop) → MayHave told image_name image → length image ≤ file_limit → StopsRead trace_limit (MayPass told trace_name trace_limit) (CallFailed ((Read, trace_name) ∷ []) before now) stop → Stops (IsReplayAnswer image_name trace_name told) (CallFailed ((Read, image_name) ∷ (Read, trace_name) ∷ []) before now) stop
 replay-next image_name trace_name told image before now (stops.Refused refusal) file small h =
     let P : Refusal → Type 0 = λ line. IsReplayAnswer image_name trace_name told (refused line) in
     subst P (sym h.0) (record {
@@ -190,7 +191,7 @@ replay-next image_name trace_name told image before now (stops.Refused refusal) 
       trace = h.1.bytes;
       image_file = file;
       trace_file = h.1.file;
-      exact = within-small (Within trace_limit h.1.bytes (TraceAnswer image h.1.bytes (trace_fault h.1.bytes))) image_limit image (refused (refusals.TooBig trace_limit)) small
+      exact = within-small (Within trace_limit h.1.bytes (TraceAnswer image h.1.bytes (trace_fault h.1.bytes))) file_limit image (refused (refusals.TooBig trace_limit)) small
           (within-over (TraceAnswer image h.1.bytes (trace_fault h.1.bytes)) trace_limit h.1.bytes h.1.over);
     })
 replay-next image_name trace_name told image before now stops.DeviceFault file small h =
@@ -198,7 +199,7 @@ replay-next image_name trace_name told image before now stops.DeviceFault file s
     (more-calls (Read, image_name) ((Read, trace_name) ∷ [])) h
 replay-next image_name trace_name told image before now stops.NoMemory file small h = tt
 
-pub replay-result : (image_name trace_name : List ℕ) (told : Option Contents) (image trace : List ℕ) (F : Type 0) (result : Result Story Stop) → MayHave told image_name image → length image ≤ image_limit → MayHave told trace_name trace → length trace ≤ trace_limit
+pub replay-result : (image_name trace_name : List ℕ) (told : Option Contents) (image trace : List ℕ) (F : Type 0) (result : Result Story Stop) → MayHave told image_name image → length image ≤ file_limit → MayHave told trace_name trace → length trace ≤ trace_limit
     → MatchResult result (λ story. TraceAnswer image trace (trace_fault trace) (ended None story)) (Stops (TraceAnswer image trace (trace_fault trace)) ⊥)
     → MatchResult result (λ story. IsReplayAnswer image_name trace_name told (ended None story)) (Stops (IsReplayAnswer image_name trace_name told) F)
 replay-result image_name trace_name told image trace F (Ok story) a b c d h =

@@ -21,6 +21,7 @@ use Rattle.el_model.specs.Runs.{entries_from}
 use Rattle.el_model.specs.Step.{next}
 use Rattle.elf_image.specs.declared.fault.Fault.{Fault}
 use Rattle.elf_image.specs.Faults.{fault}
+use Rattle.elf_image.specs.Limits.{file_limit}
 use Rattle.elf_image.specs.Loaded.{program_of}
 use Rattle.elf_image.specs.Program.{Program}
 use Rattle.machine.specs.Story.{Story}
@@ -29,7 +30,7 @@ use Rattle.trace_file.specs.Faults.{trace_fault}
 use Rattle.trace_file.specs.Spelling.{IsTrace, event_byte, spelling}
 use Rattle.trace_file.proofs.Spelled.{no_fault, one_spelling}
 use Rattle.tool.specs.declared.messages.Refusal.{Refusal}
-use Rattle.tool.specs.Answer.{Answer, ConfigAnswer, FollowAnswer, ImageAnswer, LimitedAnswer, OverImage, ReplayAnswer, RoundRobinAnswer, RunAnswer, TraceAnswer, TraceFollowed, Within, WrittenFile, ended, image_limit, refused, story_of, trace_limit, written_by}
+use Rattle.tool.specs.Answer.{Answer, ConfigAnswer, FollowAnswer, ImageAnswer, LimitedAnswer, OverImage, ReplayAnswer, RoundRobinAnswer, RunAnswer, TraceAnswer, TraceFollowed, Within, WrittenFile, ended, refused, story_of, trace_limit, written_by}
 use Rattle.tool.specs.Laws.{SaysTheSame}
 
 -- The ranges of a configuration
@@ -144,10 +145,10 @@ follows image trace config made replayed spelled is_trace accepted followed =
 pub repeats : (job : RunJob) (image : List ℕ) (file : WrittenFile) (ran replayed : Answer) → RunAnswer job image ran → ran.written ≡ Some file → ReplayAnswer image file.bytes replayed → SaysTheSame ran replayed
 repeats job image file ran replayed r w p =
     let config : Config = config_of job in
-    let configured : (config_fault config ≡ None) × Within image_limit image (OverImage (RoundRobinAnswer config job.trace) config.harts image) ran =
-    ran-config (Within image_limit image (OverImage (RoundRobinAnswer config job.trace) config.harts image)) (config_fault config) ran file w r in
-    let small : (nat_lt image_limit (length image) ≡ false) × OverImage (RoundRobinAnswer config job.trace) config.harts image ran =
-    ran-within (nat_lt image_limit (length image)) image_limit (OverImage (RoundRobinAnswer config job.trace) config.harts image) ran file w configured.1 in
+    let configured : (config_fault config ≡ None) × Within file_limit image (OverImage (RoundRobinAnswer config job.trace) config.harts image) ran =
+    ran-config (Within file_limit image (OverImage (RoundRobinAnswer config job.trace) config.harts image)) (config_fault config) ran file w r in
+    let small : (nat_lt file_limit (length image) ≡ false) × OverImage (RoundRobinAnswer config job.trace) config.harts image ran =
+    ran-within (nat_lt file_limit (length image)) file_limit (OverImage (RoundRobinAnswer config job.trace) config.harts image) ran file w configured.1 in
     let accepted : (fault image config.harts ≡ None) × RoundRobinAnswer config job.trace (program_of image config.harts) ran =
     ran-image (RoundRobinAnswer config job.trace) config.harts image (fault image config.harts) ran file w small.1 in
     let story : Story = story_of (program_of image config.harts) config accepted.1.made in
@@ -162,7 +163,7 @@ repeats job image file ran replayed r w p =
     } in
     let fits : nat_lt trace_limit (length file.bytes) ≡ false = fits-trace config accepted.1.made file.bytes spelled accepted.1.round_robin.steps b.few in
     let judged : Within trace_limit file.bytes (TraceAnswer image file.bytes (trace_fault file.bytes)) replayed =
-    replay-limited (nat_lt image_limit (length image)) image_limit (Within trace_limit file.bytes (TraceAnswer image file.bytes (trace_fault file.bytes))) replayed small.0 p in
+    replay-limited (nat_lt file_limit (length image)) file_limit (Within trace_limit file.bytes (TraceAnswer image file.bytes (trace_fault file.bytes))) replayed small.0 p in
     let traced : TraceAnswer image file.bytes (trace_fault file.bytes) replayed =
     replay-limited (nat_lt trace_limit (length file.bytes)) trace_limit (TraceAnswer image file.bytes (trace_fault file.bytes)) replayed fits judged in
     let followed : TraceFollowed image file.bytes replayed =

@@ -13,6 +13,7 @@ use Rattle.el_model.specs.ModelState.{begin}
 use Rattle.el_model.specs.RoundRobin.{IsRoundRobin}
 use Rattle.elf_image.specs.declared.fault.Fault as image_faults
 use Rattle.elf_image.specs.Faults.{fault}
+use Rattle.elf_image.specs.Limits.{file_limit}
 use Rattle.elf_image.specs.Loaded.{program_of}
 use Rattle.elf_image.specs.Program.{Program}
 use Rattle.machine.specs.Story.{Story, committed, continued}
@@ -38,10 +39,6 @@ pub record Answer : Type 0 where
   pub out : List ℕ
   pub err : List ℕ
   pub written : Option WrittenFile
-
--- the most bytes that an image file may have
-abbrev pub image_limit : ℕ
-image_limit = 33554432
 
 -- the most bytes that a trace may have
 abbrev pub trace_limit : ℕ
@@ -118,14 +115,14 @@ ConfigAnswer Judged None answer = Judged answer
 abbrev pub RunAnswer : RunJob → List ℕ → Answer → Type 0
 RunAnswer job image answer =
     ConfigAnswer
-    (Within image_limit image (OverImage (RoundRobinAnswer (config_of job) job.trace) (config_of job).harts image))
+    (Within file_limit image (OverImage (RoundRobinAnswer (config_of job) job.trace) (config_of job).harts image))
     (config_fault (config_of job))
     answer
 
 -- to replay a trace on an image file: the lengths of both are judged first, then the trace, then the image
 abbrev pub ReplayAnswer : List ℕ → List ℕ → Answer → Type 0
 ReplayAnswer image trace answer =
-    Within image_limit image (Within trace_limit trace (TraceAnswer image trace (trace_fault trace))) answer
+    Within file_limit image (Within trace_limit trace (TraceAnswer image trace (trace_fault trace))) answer
 
 -- a job over the contents that files have when the first of them is read, and when the next one is
 abbrev pub JobAnswer : Option Job → Contents → Contents → Answer → Type 0

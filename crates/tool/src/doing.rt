@@ -4,6 +4,7 @@ ghost use Rattle.el_base.specs.Config.{IsInRange, config_fault};
 ghost use Rattle.el_base.specs.declared.settings.Mode.TheVariants.{Plain};
 ghost use Rattle.el_io.specs.declared.shelf.Call.TheVariants.{Read};
 ghost use Rattle.elf_image.specs.Faults.{fault};
+ghost use Rattle.elf_image.specs.Limits.{file_limit};
 ghost use Rattle.elf_image.specs.Loaded.{program_of};
 ghost use Rattle.command_line.specs.Settings.{config_of};
 ghost use Rattle.command_line.specs.Words.{run_meaning};
@@ -19,13 +20,10 @@ use command_line::RunCommand;
 use drive::{follow, round_robin};
 use el_base::Config;
 use el_io::{Shelf, ShelfFault};
-use elf_image::{ImageFault, load};
+use elf_image::{IMAGE_FILE_LIMIT, ImageFault, load};
 use machine::{Machine, MakeFault};
 use std::alloc::Global;
 use trace_file::{Trace, TraceFault, read_trace};
-
-/// The most bytes that an image file may have.
-const IMAGE_LIMIT: u32 = 33_554_432;
 
 /// The most bytes that a trace may have: its head, and a byte for each of the most steps.
 const TRACE_LIMIT: u32 = 16_777_238;
@@ -46,7 +44,7 @@ pub(crate) fn run<S: Shelf>(
         (S.failures shelf.old) (S.failures shelf.new))) }
 {
     let config = command.config()?;
-    let file = read_file(alloc, shelf, command.image, IMAGE_LIMIT)?;
+    let file = read_file(alloc, shelf, command.image, IMAGE_FILE_LIMIT)?;
     let mut machine = make_machine(alloc, file.as_slice(), config)?;
     round_robin(&mut machine);
     Ok(machine)
@@ -66,14 +64,14 @@ pub(crate) fn replay<S: Shelf>(
         (Stops (IsReplayAnswer image.now trace.now (S.told shelf.old))
         (CallFailed ((Read, image.now) ∷ (Read, trace.now) ∷ []) (S.failures shelf.old) (S.failures shelf.new))) }
 {
-    let file = read_file(alloc, shelf, image, IMAGE_LIMIT)?;
+    let file = read_file(alloc, shelf, image, IMAGE_FILE_LIMIT)?;
     let spelled = read_file(alloc, shelf, trace, TRACE_LIMIT)?;
     replay_files(alloc, file.as_slice(), spelled.as_slice())
 }
 
 /// Makes the events that a trace spells, on an image.
 fn replay_files(alloc: Global, image: &[u8], trace: &[u8]) -> Result<Machine, Stop>
-    requires { length image.now ≤ 33554432 }
+    requires { length image.now ≤ file_limit }
     ensures { MatchResult result
         (λ machine. TraceAnswer image.now trace.now (trace_fault trace.now) (ended None machine))
         (Stops (TraceAnswer image.now trace.now (trace_fault trace.now)) ⊥) }
@@ -125,7 +123,7 @@ fn read_file<S: Shelf>(
 
 /// A machine of the image in a file, before its first event.
 fn make_machine(alloc: Global, file: &[u8], config: Config) -> Result<Machine, Stop>
-    requires within_limit { length file.now ≤ 33554432 }
+    requires within_limit { length file.now ≤ file_limit }
     requires in_range { IsInRange config }
     requires plain { config.mode ≡ Plain }
     ensures { MatchResult result

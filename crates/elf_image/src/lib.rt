@@ -27,7 +27,6 @@ mod table;
 
 pub use code::Code;
 pub use code_segment::CodeSegment;
-pub use fault::{Fault, FaultKind};
 pub use image::Image;
 pub use limits::{IMAGE_FILE_LIMIT, STACK_BYTES};
 pub use loader::{ImageFault, load};

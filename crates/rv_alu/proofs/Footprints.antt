@@ -1,6 +1,6 @@
 -- what an access touches is in memory and in one line
 use Rattle.std.proofs.Common.{◌≡◌, ℕ, ◌+◌, ◌-◌, ◌%◌, ◌≤◌, Bool, true, false, inl, inr, List, Option, arith, refl}
-use Rattle.std.specs.Prelude.{◌==◌, if◌then◌else◌, ◌||◌, min}
+use Rattle.std.specs.Prelude.{◌==◌, if◌then◌else◌, ◌||◌, not, min}
 use Rattle.std.proofs.lemmas.Bool.Decides.{nat_tests}
 use Rattle.rv_word.specs.declared.insn.Insn.{Insn}
 use Rattle.rv_word.specs.declared.insn.Insn.TheVariants as insns
@@ -103,7 +103,7 @@ rest_of_line span address count room some left held =
     }
 
 -- what a write call appends, by how its four tests go
-appended : (span : Span) (address count room : ℕ) (file none lined full : Bool) (a b c d : ℕ) → (none ≡ false → lined ≡ true → full ≡ false → IsPiece span address count × (count ≤ room)) → IsFootprint insns.Ecall span room (appends address (if file then (if none then Answer a else (if lined then (if full then Answer b else Append count) else Answer c)) else Answer d))
+appended : (span : Span) (address count room : ℕ) (file none lined full : Bool) (a b c d : ℕ) → (none ≡ false → lined ≡ true → full ≡ false → IsPiece span address count × (count ≤ room)) → IsFootprint insns.Ecall span room (appends address (if not file then Answer a else if none then Answer b else if not lined then Answer c else if full then Answer d else Append count))
 appended span address count room true false true false a b c d h = h refl refl refl
 appended span address count room true false true true a b c d h = tt
 appended span address count room true false false full a b c d h = tt
@@ -113,7 +113,7 @@ appended span address count room false none lined full a b c d h = tt
 footprint-write_call : (regs : List ℕ) (span : Span) (room : ℕ) → IsFootprint insns.Ecall span room (appends (get regs 11) (write_call_of regs span room))
 footprint-write_call regs span room =
     appended span (get regs 11) (min (get regs 12) (min (64 - get regs 11 % 64) room)) room
-    ((get regs 10 == 1) || (get regs 10 == 2)) (get regs 12 == 0) (holds span (get regs 11 - get regs 11 % 64) 64) (room == 0) 0 (negative 28) (negative 14) (negative 9)
+    ((get regs 10 == 1) || (get regs 10 == 2)) (get regs 12 == 0) (holds span (get regs 11 - get regs 11 % 64) 64) (room == 0) (negative 9) 0 (negative 14) (negative 28)
     (λ none lined full. (rest_of_line span (get regs 11) (get regs 12) room (grind (arith, nat_tests)) (grind (arith, nat_tests)) lined, omega arith))
 
 footprint-calls : (regs : List ℕ) (span : Span) (room : ℕ) → IsFootprint insns.Ecall span room (calls regs span room)

@@ -1,5 +1,5 @@
 -- the system calls of the Linux RISC-V numbering that programs may make: write and exit
-use Rattle.std.specs.Prelude.{ℕ, ◌-◌, ◌%◌, ◌^◌, ◌==◌, ◌||◌, if◌then◌else◌, min, List}
+use Rattle.std.specs.Prelude.{ℕ, ◌-◌, ◌%◌, ◌^◌, ◌==◌, ◌||◌, not, if◌then◌else◌, min, List}
 use Rattle.rv_alu.specs.declared.span.Span.{Span}
 use Rattle.rv_alu.specs.declared.syscall.WriteCall.{WriteCall}
 use Rattle.rv_alu.specs.declared.syscall.WriteCall.TheVariants.{Answer, Append}
@@ -15,13 +15,11 @@ negative number = 2 ^ 32 - number
 abbrev pub write_call_of : List ℕ → Span → ℕ → WriteCall
 write_call_of regs span room =
     let address = get regs 11 in
-    if (get regs 10 == 1) || (get regs 10 == 2) then
-    (if get regs 12 == 0 then Answer 0
-    else (if holds span (address - address % 64) 64 then
-    (if room == 0 then Answer (negative 28)
-    else Append (min (get regs 12) (min (64 - address % 64) room)))
-    else Answer (negative 14)))
-    else Answer (negative 9)
+    if not ((get regs 10 == 1) || (get regs 10 == 2)) then Answer (negative 9)
+    else if get regs 12 == 0 then Answer 0
+    else if not (holds span (address - address % 64) 64) then Answer (negative 14)
+    else if room == 0 then Answer (negative 28)
+    else Append (min (get regs 12) (min (64 - address % 64) room))
 
 -- the number that a write call leaves in x10
 abbrev pub answer_of : WriteCall → ℕ

@@ -8,13 +8,15 @@ use Rattle.rv_word.specs.declared.insn.LoadWidth.{LoadWidth}
 use Rattle.rv_word.specs.declared.insn.LoadWidth.TheVariants as loads
 use Rattle.rv_word.specs.declared.insn.StoreWidth.{StoreWidth}
 use Rattle.rv_word.specs.declared.insn.StoreWidth.TheVariants as stores
+use Rattle.rv_alu.specs.declared.cause.TheConstants.{INSTRUCTION_ADDRESS_MISALIGNED, LOAD_ACCESS_FAULT, LOAD_ADDRESS_MISALIGNED, STORE_ACCESS_FAULT, STORE_ADDRESS_MISALIGNED}
 use Rattle.rv_alu.specs.declared.footprint.Access.{Access}
 use Rattle.rv_alu.specs.declared.footprint.Access.TheVariants.{Nothing, Read, Write, Trap, Exit}
 use Rattle.rv_alu.specs.declared.span.Span.{Span}
+use Rattle.rv_alu.specs.declared.syscall.TheConstants.{EBADF, EFAULT, ENOSPC, EXIT_NUMBER, WRITE_NUMBER}
 use Rattle.rv_alu.specs.declared.syscall.WriteCall.TheVariants.{Answer, Append}
 use Rattle.rv_alu.specs.Operation.{moved, taken_of}
 use Rattle.rv_alu.specs.Footprint.{IsFootprint, IsPiece, IsReadOf, IsSize, is_call, access_of, appends, calls, conditional, indirect, is_reserved, jumps, load_size, reads, store_size, writes}
-use Rattle.rv_alu.specs.Regs.{get}
+use Rattle.rv_alu.specs.Regs.{a0, a1, a2, a7, get}
 use Rattle.rv_alu.specs.Span.{holds}
 use Rattle.rv_alu.specs.Syscall.{negative, write_call_of}
 
@@ -64,10 +66,10 @@ tested insn span room true false access m n h = tt
 tested insn span room false c access m n h = tt
 
 footprint-reads : (insn : Insn) (span : Span) (room : ℕ) (address size : ℕ) → is_call insn ≡ false → IsSize size → IsFootprint insn span room (reads span address size)
-footprint-reads insn span room address size data_only h = tested insn span room (address % size == 0) (holds span address size) (Read address size) 5 4 (λ aligned held. (piece span address size h aligned held, word_read insn room size data_only h))
+footprint-reads insn span room address size data_only h = tested insn span room (address % size == 0) (holds span address size) (Read address size) LOAD_ACCESS_FAULT LOAD_ADDRESS_MISALIGNED (λ aligned held. (piece span address size h aligned held, word_read insn room size data_only h))
 
 footprint-writes : (insn : Insn) (span : Span) (room : ℕ) (address size : ℕ) → IsSize size → IsFootprint insn span room (writes span address size)
-footprint-writes insn span room address size h = tested insn span room (address % size == 0) (holds span address size) (Write address size) 7 6 (λ aligned held. (piece span address size h aligned held, h))
+footprint-writes insn span room address size h = tested insn span room (address % size == 0) (holds span address size) (Write address size) STORE_ACCESS_FAULT STORE_ADDRESS_MISALIGNED (λ aligned held. (piece span address size h aligned held, h))
 
 load_sized : (width : LoadWidth) → IsSize (load_size width)
 load_sized loads.Byte = inl refl
@@ -82,7 +84,7 @@ store_sized stores.Half = inr (inl refl)
 store_sized stores.Word = inr (inr refl)
 
 footprint-jumps : (insn : Insn) (span : Span) (room : ℕ) (target : ℕ) → IsFootprint insn span room (jumps target)
-footprint-jumps insn span room target = plain insn span room (target % 4 == 0) Nothing (Trap 0) tt tt
+footprint-jumps insn span room target = plain insn span room (target % 4 == 0) Nothing (Trap INSTRUCTION_ADDRESS_MISALIGNED) tt tt
 
 -- a store conditional that may go ahead is where its store is
 footprint-conditional : (insn : Insn) (span : Span) (room : ℕ) (reserved : Option ℕ) (store : Access) → IsFootprint insn span room store → IsFootprint insn span room (conditional reserved store)
@@ -110,16 +112,16 @@ appended span address count room true false false full a b c d h = tt
 appended span address count room true true lined full a b c d h = tt
 appended span address count room false none lined full a b c d h = tt
 
-footprint-write_call : (regs : List ℕ) (span : Span) (room : ℕ) → IsFootprint insns.Ecall span room (appends (get regs 11) (write_call_of regs span room))
+footprint-write_call : (regs : List ℕ) (span : Span) (room : ℕ) → IsFootprint insns.Ecall span room (appends (get regs a1) (write_call_of regs span room))
 footprint-write_call regs span room =
-    appended span (get regs 11) (min (get regs 12) (min (64 - get regs 11 % 64) room)) room
-    ((get regs 10 == 1) || (get regs 10 == 2)) (get regs 12 == 0) (holds span (get regs 11 - get regs 11 % 64) 64) (room == 0) (negative 9) 0 (negative 14) (negative 28)
-    (λ none lined full. (rest_of_line span (get regs 11) (get regs 12) room (grind (arith, nat_tests)) (grind (arith, nat_tests)) lined, omega arith))
+    appended span (get regs a1) (min (get regs a2) (min (64 - get regs a1 % 64) room)) room
+    ((get regs a0 == 1) || (get regs a0 == 2)) (get regs a2 == 0) (holds span (get regs a1 - get regs a1 % 64) 64) (room == 0) (negative EBADF) 0 (negative EFAULT) (negative ENOSPC)
+    (λ none lined full. (rest_of_line span (get regs a1) (get regs a2) room (grind (arith, nat_tests)) (grind (arith, nat_tests)) lined, omega arith))
 
 footprint-calls : (regs : List ℕ) (span : Span) (room : ℕ) → IsFootprint insns.Ecall span room (calls regs span room)
 footprint-calls regs span room =
-    plain insns.Ecall span room (get regs 17 == 93) (Exit (get regs 10)) (if get regs 17 == 64 then appends (get regs 11) (write_call_of regs span room) else Nothing) tt
-    (plain insns.Ecall span room (get regs 17 == 64) (appends (get regs 11) (write_call_of regs span room)) Nothing (footprint-write_call regs span room) tt)
+    plain insns.Ecall span room (get regs a7 == EXIT_NUMBER) (Exit (get regs a0)) (if get regs a7 == WRITE_NUMBER then appends (get regs a1) (write_call_of regs span room) else Nothing) tt
+    (plain insns.Ecall span room (get regs a7 == WRITE_NUMBER) (appends (get regs a1) (write_call_of regs span room)) Nothing (footprint-write_call regs span room) tt)
 
 -- the access of each instruction is in memory and in one line
 pub footprint : (insn : Insn) (pc : ℕ) (regs : List ℕ) (reserved : Option ℕ) (span : Span) (room : ℕ) → IsFootprint insn span room (access_of insn pc regs reserved span room)

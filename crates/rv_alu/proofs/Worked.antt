@@ -129,6 +129,10 @@ jump_to_an_odd_address : access_of (insns.Jalr target source (pos 1)) 0x10000 (t
 unfolding access_of
 jump_to_an_odd_address = refl
 
+breakpoint : access_of insns.Ebreak 0x10000 (through 0) None line 0 ≡ Trap 3
+unfolding access_of
+breakpoint = refl
+
 -- a call of this number with these arguments in x10 to x12
 abbrev calling : ℕ → ℕ → ℕ → ℕ → List ℕ
 calling number x10 x11 x12 = set (set (set (set (replicate 32 0) 17 number) 10 x10) 11 x11) 12 x12

@@ -7,7 +7,7 @@ use Rattle.rv_alu.specs.declared.span.Span.{Span}
 use Rattle.rv_alu.specs.declared.view.HartView.{HartView}
 use Rattle.rv_alu.specs.Footprint.{indirect, is_reserved}
 use Rattle.rv_alu.specs.Operation.{alu_of, amo_of, extend_of, moved, plus, taken_of}
-use Rattle.rv_alu.specs.Regs.{get, set}
+use Rattle.rv_alu.specs.Regs.{a0, get, set}
 use Rattle.rv_alu.specs.Syscall.{call_answer}
 
 -- the pc of the next instruction in memory
@@ -42,7 +42,7 @@ effect_of (insns.OpImm op rd rs1 imm) view span room loaded =
 effect_of (insns.Op op rd rs1 rs2) view span room loaded =
     puts view rd.number (alu_of op (get view.regs rs1.number) (get view.regs rs2.number))
 effect_of insns.Fence view span room loaded = record view { pc = next view }
-effect_of insns.Ecall view span room loaded = puts view 10 (call_answer view.regs span room)
+effect_of insns.Ecall view span room loaded = puts view a0 (call_answer view.regs span room)
 effect_of insns.Ebreak view span room loaded = view
 effect_of (insns.Lr rd rs1 aq rl) view span room loaded =
     record view { pc = next view; regs = set view.regs rd.number loaded; reserved = Some (get view.regs rs1.number) }

@@ -7,13 +7,15 @@ use Rattle.rv_word.specs.declared.insn.LoadWidth.{LoadWidth}
 use Rattle.rv_word.specs.declared.insn.LoadWidth.TheVariants as loads
 use Rattle.rv_word.specs.declared.insn.StoreWidth.{StoreWidth}
 use Rattle.rv_word.specs.declared.insn.StoreWidth.TheVariants as stores
+use Rattle.rv_alu.specs.declared.cause.TheConstants.{BREAKPOINT, INSTRUCTION_ADDRESS_MISALIGNED, LOAD_ACCESS_FAULT, LOAD_ADDRESS_MISALIGNED, STORE_ACCESS_FAULT, STORE_ADDRESS_MISALIGNED}
 use Rattle.rv_alu.specs.declared.footprint.Access.{Access}
 use Rattle.rv_alu.specs.declared.footprint.Access.TheVariants.{Nothing, Read, Write, Trap, Exit}
 use Rattle.rv_alu.specs.declared.span.Span.{Span}
+use Rattle.rv_alu.specs.declared.syscall.TheConstants.{EXIT_NUMBER, WRITE_NUMBER}
 use Rattle.rv_alu.specs.declared.syscall.WriteCall.{WriteCall}
 use Rattle.rv_alu.specs.declared.syscall.WriteCall.TheVariants.{Answer, Append}
 use Rattle.rv_alu.specs.Operation.{moved, taken_of}
-use Rattle.rv_alu.specs.Regs.{get}
+use Rattle.rv_alu.specs.Regs.{a0, a1, a7, get}
 use Rattle.rv_alu.specs.Span.{holds}
 use Rattle.rv_alu.specs.Syscall.{write_call_of}
 
@@ -34,16 +36,20 @@ store_size stores.Word = 4
 -- a load of so many bytes: misalignment is tested before the bounds
 abbrev pub reads : Span → ℕ → ℕ → Access
 reads span address size =
-    if address % size == 0 then (if holds span address size then Read address size else Trap 5) else Trap 4
+    if address % size == 0
+    then (if holds span address size then Read address size else Trap LOAD_ACCESS_FAULT)
+    else Trap LOAD_ADDRESS_MISALIGNED
 
 -- the same of a store, a store conditional or an atomic memory operation
 abbrev pub writes : Span → ℕ → ℕ → Access
 writes span address size =
-    if address % size == 0 then (if holds span address size then Write address size else Trap 7) else Trap 6
+    if address % size == 0
+    then (if holds span address size then Write address size else Trap STORE_ACCESS_FAULT)
+    else Trap STORE_ADDRESS_MISALIGNED
 
 -- a jump traps where its target is no multiple of 4
 abbrev pub jumps : ℕ → Access
-jumps target = if target % 4 == 0 then Nothing else Trap 0
+jumps target = if target % 4 == 0 then Nothing else Trap INSTRUCTION_ADDRESS_MISALIGNED
 
 -- the target of JALR: its lowest bit is cleared
 abbrev pub indirect : ℕ → ℕ
@@ -67,11 +73,12 @@ abbrev pub appends : ℕ → WriteCall → Access
 appends address (Answer value) = Nothing
 appends address (Append count) = Read address count
 
--- what a system call touches, by its number in x17: 93 is exit, 64 is write, and no other is there
+-- what a system call touches, by its number in a7: there are exit and write, and no other
 abbrev pub calls : List ℕ → Span → ℕ → Access
 calls regs span room =
-    if get regs 17 == 93 then Exit (get regs 10)
-    else (if get regs 17 == 64 then appends (get regs 11) (write_call_of regs span room) else Nothing)
+    if get regs a7 == EXIT_NUMBER then Exit (get regs a0)
+    else if get regs a7 == WRITE_NUMBER then appends (get regs a1) (write_call_of regs span room)
+    else Nothing
 
 -- the access of an instruction at a pc
 unfoldable pub access_of : Insn → ℕ → List ℕ → Option ℕ → Span → ℕ → Access
@@ -87,7 +94,7 @@ access_of (insns.OpImm op rd rs1 imm) pc regs reserved span room = Nothing
 access_of (insns.Op op rd rs1 rs2) pc regs reserved span room = Nothing
 access_of insns.Fence pc regs reserved span room = Nothing
 access_of insns.Ecall pc regs reserved span room = calls regs span room
-access_of insns.Ebreak pc regs reserved span room = Trap 3
+access_of insns.Ebreak pc regs reserved span room = Trap BREAKPOINT
 access_of (insns.Lr rd rs1 aq rl) pc regs reserved span room = reads span (get regs rs1.number) 4
 access_of (insns.Sc rd rs1 rs2 aq rl) pc regs reserved span room = conditional reserved (writes span (get regs rs1.number) 4)
 access_of (insns.Amo op rd rs1 rs2 aq rl) pc regs reserved span room = writes span (get regs rs1.number) 4

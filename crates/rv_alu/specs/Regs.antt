@@ -8,3 +8,19 @@ get regs reg = slice_index regs reg
 -- the registers after a write, which register 0 ignores
 abbrev pub set : List ℕ → ℕ → ℕ → List ℕ
 set regs reg value = if nat_eq reg 0 then regs else slice_set regs reg value
+
+-- the registers that a call and the start of a hart use, under their names in the calling convention
+abbrev pub sp : ℕ
+sp = 2
+
+abbrev pub a0 : ℕ
+a0 = 10
+
+abbrev pub a1 : ℕ
+a1 = 11
+
+abbrev pub a2 : ℕ
+a2 = 12
+
+abbrev pub a7 : ℕ
+a7 = 17

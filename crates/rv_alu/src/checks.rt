@@ -1,11 +1,15 @@
 ghost use Rattle.std.specs.Prelude.{◌≡◌, ◌≤◌};
 ghost use Rattle.rv_alu.specs.Footprint.{IsFootprint, access_of, appends, calls, conditional, indirect, is_call, is_reserved, jumps, load_size, reads, store_size, writes};
 
+use crate::cause::{
+    BREAKPOINT, INSTRUCTION_ADDRESS_MISALIGNED, LOAD_ACCESS_FAULT, LOAD_ADDRESS_MISALIGNED,
+    STORE_ACCESS_FAULT, STORE_ADDRESS_MISALIGNED,
+};
 use crate::footprint::Access;
 use crate::operation::{offset_by, taken};
 use crate::regs::Regs;
 use crate::span::Span;
-use crate::syscall::{A0, A1, A7, EXIT, WRITE, WriteCall, write_call};
+use crate::syscall::{A0, A1, A7, EXIT_NUMBER, WRITE_NUMBER, WriteCall, write_call};
 use rv_word::{Insn, LoadWidth, StoreWidth};
 
 /// What an instruction at `pc` would touch, or how it would stop its hart, before anything happens.
@@ -63,7 +67,7 @@ pub fn access(
             ..
         } => { write(span, offset_by(regs.get(rs1), offset), bytes_stored(width)) }
         Insn::Ecall => call(regs, span, room),
-        Insn::Ebreak => Access::Trap { cause: 3 },
+        Insn::Ebreak => Access::Trap { cause: BREAKPOINT },
         Insn::Lr { rs1, .. } => read(span, regs.get(rs1), 4),
         Insn::Sc { rs1, .. } => store_conditional(reserved, write(span, regs.get(rs1), 4)),
         Insn::Amo { rs1, .. } => write(span, regs.get(rs1), 4),
@@ -106,11 +110,15 @@ fn read(span: Span, address: u32, size: u32) -> Access
     ensures { result ≡ reads span address size }
 {
     if address % size != 0 {
-        Access::Trap { cause: 4 }
+        Access::Trap {
+            cause: LOAD_ADDRESS_MISALIGNED,
+        }
     } else if span.holds(address, size) {
         Access::Read { address, len: size }
     } else {
-        Access::Trap { cause: 5 }
+        Access::Trap {
+            cause: LOAD_ACCESS_FAULT,
+        }
     }
 }
 
@@ -120,11 +128,15 @@ fn write(span: Span, address: u32, size: u32) -> Access
     ensures { result ≡ writes span address size }
 {
     if address % size != 0 {
-        Access::Trap { cause: 6 }
+        Access::Trap {
+            cause: STORE_ADDRESS_MISALIGNED,
+        }
     } else if span.holds(address, size) {
         Access::Write { address, len: size }
     } else {
-        Access::Trap { cause: 7 }
+        Access::Trap {
+            cause: STORE_ACCESS_FAULT,
+        }
     }
 }
 
@@ -135,7 +147,9 @@ fn jump(target: u32) -> Access
     if target % 4 == 0 {
         Access::Nothing
     } else {
-        Access::Trap { cause: 0 }
+        Access::Trap {
+            cause: INSTRUCTION_ADDRESS_MISALIGNED,
+        }
     }
 }
 
@@ -168,8 +182,8 @@ fn call(regs: &Regs, span: Span, room: u32) -> Access
     ensures { result ≡ calls regs.now span room }
 {
     match regs.get(A7) {
-        EXIT => Access::Exit { code: regs.get(A0) },
-        WRITE => match write_call(regs, span, room) {
+        EXIT_NUMBER => Access::Exit { code: regs.get(A0) },
+        WRITE_NUMBER => match write_call(regs, span, room) {
             WriteCall::Answer { .. } => Access::Nothing,
             WriteCall::Append { count } => Access::Read {
                 address: regs.get(A1),

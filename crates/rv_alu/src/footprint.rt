@@ -7,7 +7,7 @@ pub enum Access {
     Read { address: u32, len: u32 },
     /// It writes `len` bytes from `address` on, in one line; an atomic operation reads them too.
     Write { address: u32, len: u32 },
-    /// It traps with this cause.
+    /// It traps with this cause, one of [`crate::cause`].
     Trap { cause: u8 },
     /// It makes the exit call with this code.
     Exit { code: u32 },

@@ -9,6 +9,7 @@
 //! misaligned accesses trap, a trap stops its hart, and there are two system calls, write and exit.
 #![tactic(auto)]
 
+pub mod cause;
 mod checks;
 mod execute;
 mod footprint;

@@ -6,18 +6,22 @@ use crate::span::Span;
 use rv_word::Reg;
 
 /// The number of the Linux RISC-V system call `exit`.
-pub const EXIT: u32 = 93;
+pub const EXIT_NUMBER: u32 = 93;
 
 /// The number of the Linux RISC-V system call `write`.
-pub const WRITE: u32 = 64;
+pub const WRITE_NUMBER: u32 = 64;
 
-const BAD_FILE: u32 = 9;
+/// Linux's error number of a bad file.
+const EBADF: u32 = 9;
 
-const BAD_ADDRESS: u32 = 14;
+/// Linux's error number of a bad address.
+const EFAULT: u32 = 14;
 
-const NO_SPACE: u32 = 28;
+/// Linux's error number of no space.
+const ENOSPC: u32 = 28;
 
-const NO_SUCH_CALL: u32 = 38;
+/// Linux's error number of a call that is not there.
+const ENOSYS: u32 = 38;
 
 /// The bytes of a line of memory.
 const LINE: u32 = 64;
@@ -55,7 +59,7 @@ pub fn write_call(regs: &Regs, span: Span, room: u32) -> WriteCall
     let count = regs.get(A2);
     if file != 1 && file != 2 {
         return WriteCall::Answer {
-            value: error(BAD_FILE),
+            value: error(EBADF),
         };
     }
     if count == 0 {
@@ -64,12 +68,12 @@ pub fn write_call(regs: &Regs, span: Span, room: u32) -> WriteCall
     let in_line = address % LINE;
     if !span.holds(address - in_line, LINE) {
         return WriteCall::Answer {
-            value: error(BAD_ADDRESS),
+            value: error(EFAULT),
         };
     }
     if room == 0 {
         return WriteCall::Answer {
-            value: error(NO_SPACE),
+            value: error(ENOSPC),
         };
     }
     WriteCall::Append {
@@ -81,8 +85,8 @@ pub fn write_call(regs: &Regs, span: Span, room: u32) -> WriteCall
 pub fn call_result(regs: &Regs, span: Span, room: u32) -> u32
     ensures { result ≡ call_answer regs.now span room }
 {
-    if regs.get(A7) != WRITE {
-        return error(NO_SUCH_CALL);
+    if regs.get(A7) != WRITE_NUMBER {
+        return error(ENOSYS);
     }
     match write_call(regs, span, room) {
         WriteCall::Answer { value } => value,

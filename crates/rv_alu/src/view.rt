@@ -7,9 +7,9 @@ pub enum HartStatus {
     /// It made the exit call with this code.
     Exited { code: u32 },
     /// The instruction at `pc` trapped. The causes are those of the RISC-V privileged manual's
-    /// `mcause`: 0 misaligned jump, 1 no code at the pc, 2 no instruction, 3 breakpoint, 4
-    /// misaligned load, 5 load outside memory, 6 misaligned store or atomic operation, 7 one
-    /// outside memory.
+    /// `mcause`, which [`crate::cause`] names: 0 misaligned jump, 1 no code at the pc, 2 no
+    /// instruction, 3 breakpoint, 4 misaligned load, 5 load outside memory, 6 misaligned store or
+    /// atomic operation, 7 one outside memory.
     Trapped { cause: u8, pc: u32 },
 }
 

@@ -5,6 +5,7 @@ use Rattle.std.proofs.lemmas.Bool.Decides.{nat_tests}
 use Rattle.std.proofs.lemmas.Grind.{common_steps}
 use Rattle.elf_image.specs.Program.{code_word}
 use Rattle.rv_alu.proofs.Footprints.{footprint}
+use Rattle.rv_alu.specs.declared.cause.TheConstants.{ILLEGAL_INSTRUCTION, INSTRUCTION_ACCESS_FAULT}
 use Rattle.rv_alu.specs.declared.footprint.Access.{Access}
 use Rattle.rv_alu.specs.declared.footprint.Access.TheVariants.{Nothing, Read, Write, Trap, Exit}
 use Rattle.rv_alu.specs.declared.span.Span.{Span}
@@ -14,7 +15,7 @@ use Rattle.rv_alu.specs.declared.view.HartView.{HartView}
 use Rattle.rv_alu.specs.Execute.{effect_of}
 use Rattle.rv_alu.specs.Footprint.{IsFootprint, IsPiece, is_call}
 use Rattle.rv_alu.specs.Loaded.{loaded}
-use Rattle.rv_alu.specs.Regs.{set}
+use Rattle.rv_alu.specs.Regs.{a0, set}
 use Rattle.rv_word.specs.Decoding.{decoded}
 use Rattle.rv_word.specs.declared.insn.Insn.{Insn}
 use Rattle.rv_word.specs.declared.insn.Insn.TheVariants as insns
@@ -40,7 +41,7 @@ effect-regs (insns.Store width rs1 rs2 offset) view span room loaded h = h
 effect-regs (insns.OpImm op rd rs1 imm) view span room loaded h = set-regs view.regs rd.number _ h
 effect-regs (insns.Op op rd rs1 rs2) view span room loaded h = set-regs view.regs rd.number _ h
 effect-regs insns.Fence view span room loaded h = h
-effect-regs insns.Ecall view span room loaded h = set-regs view.regs 10 _ h
+effect-regs insns.Ecall view span room loaded h = set-regs view.regs a0 _ h
 effect-regs insns.Ebreak view span room loaded h = h
 effect-regs (insns.Lr rd rs1 aq rl) view span room loaded h = set-regs view.regs rd.number _ h
 effect-regs (insns.Sc rd rs1 rs2 aq rl) view span room loaded h = set-regs view.regs rd.number _ h
@@ -93,12 +94,12 @@ by_access P state hart view insn (Read from len) h ways =
 by_access P state hart view insn (Write from len) h ways = ways.store from len _ _ h.0 (effect-follows insn view _ _ _)
 
 by_insn : (P : Access → FlatState → Type 0) (state : FlatState) (hart : ℕ) (view : HartView) (insn : Option Insn) → Ways P state hart view → P (touched_by state view insn) (insn_step state hart view insn)
-by_insn P state hart view None ways = ways.plain Nothing _ tt (status-follows view (Trapped 2 view.pc))
+by_insn P state hart view None ways = ways.plain Nothing _ tt (status-follows view (Trapped ILLEGAL_INSTRUCTION view.pc))
 by_insn P state hart view (Some insn) ways =
     by_access P state hart view insn (next_access state view insn) (footprint insn view.pc view.regs view.reserved (span_of state) (room_of state)) ways
 
 by_word : (P : Access → FlatState → Type 0) (state : FlatState) (hart : ℕ) (view : HartView) (word : Option ℕ) → Ways P state hart view → P (touched_by state view (insn_at word)) (word_step state hart view word)
-by_word P state hart view None ways = ways.plain Nothing _ tt (status-follows view (Trapped 1 view.pc))
+by_word P state hart view None ways = ways.plain Nothing _ tt (status-follows view (Trapped INSTRUCTION_ACCESS_FAULT view.pc))
 by_word P state hart view (Some word) ways = by_insn P state hart view (decoded word) ways
 
 by_status : (P : Access → FlatState → Type 0) (state : FlatState) (hart : ℕ) (status : HartStatus) → Ways P state hart (view_of state hart) → P (touched_in state hart status) (status_step state hart (view_of state hart) status)

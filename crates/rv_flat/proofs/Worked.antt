@@ -62,6 +62,14 @@ leaves_its_code : status_of (run later (0 ∷ [])) 0 ≡ Trapped 1 0x1000c
 unfolding start first_view flat code_word decoded reg_field access_of effect_of stored_of
 leaves_its_code = refl
 
+-- the same harts at a word that means nothing
+abbrev without_instruction : Program
+without_instruction = record program { code = record { start = 0x10000; bytes = replicate 4 0 } ∷ [] }
+
+meets_no_instruction : status_of (flat (start without_instruction) 1) 1 ≡ Trapped 2 0x10000
+unfolding start first_view flat code_word decoded reg_field
+meets_no_instruction = refl
+
 -- hart 1 has its number in x10, the number of harts in x11, and its stack below that of hart 0
 second_begins : (get (view_of (start program) 1).regs 10 ∷ get (view_of (start program) 1).regs 11 ∷ []) ≡ 1 ∷ 2 ∷ []
 unfolding start first_view

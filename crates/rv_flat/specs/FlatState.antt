@@ -7,7 +7,7 @@ use Rattle.rv_alu.specs.declared.span.Span.{Span}
 use Rattle.rv_alu.specs.declared.view.HartStatus.{HartStatus}
 use Rattle.rv_alu.specs.declared.view.HartStatus.TheVariants.{Exited, Running}
 use Rattle.rv_alu.specs.declared.view.HartView.{HartView}
-use Rattle.rv_alu.specs.Regs.{set}
+use Rattle.rv_alu.specs.Regs.{a0, a1, set, sp}
 
 -- the harts, the bytes of memory from a base on, what instructions are fetched from, and the output
 pub record FlatState : Type 0 where
@@ -44,7 +44,7 @@ status_of state hart = (view_of state hart).status
 -- the registers of a hart before its first step: its number, the number of harts, and its stack pointer
 abbrev pub first_regs : Program → ℕ → List ℕ
 first_regs program hart =
-    set (set (set (replicate 32 0) 10 hart) 11 program.harts) 2 (program.base + length program.bytes - stack_size * hart)
+    set (set (set (replicate 32 0) a0 hart) a1 program.harts) sp (program.base + length program.bytes - stack_size * hart)
 
 -- a hart before its first step
 unfoldable pub first_view : Program → ℕ → HartView

@@ -1,6 +1,7 @@
 -- one step of a hart on plain shared memory
 use Rattle.std.specs.Prelude.{ℕ, ◌-◌, ◌/◌, ◌==◌, ◌++◌, map, Option, None, Some, if◌then◌else◌, slice_set}
 use Rattle.elf_image.specs.Program.{code_word}
+use Rattle.rv_alu.specs.declared.cause.TheConstants.{ILLEGAL_INSTRUCTION, INSTRUCTION_ACCESS_FAULT}
 use Rattle.rv_alu.specs.declared.footprint.Access.{Access}
 use Rattle.rv_alu.specs.declared.footprint.Access.TheVariants.{Nothing, Read, Write, Trap, Exit}
 use Rattle.rv_alu.specs.declared.view.HartStatus.{HartStatus}
@@ -65,12 +66,12 @@ next_access state view insn = access_of insn view.pc view.regs view.reserved (sp
 
 -- an instruction, where the word at the pc is one
 abbrev pub insn_step : FlatState → ℕ → HartView → Option Insn → FlatState
-insn_step state hart view None = stopped state hart view (Trapped 2 view.pc)
+insn_step state hart view None = stopped state hart view (Trapped ILLEGAL_INSTRUCTION view.pc)
 insn_step state hart view (Some insn) = access_step state hart view insn (next_access state view insn)
 
 -- the word at the pc, where there is one
 abbrev pub word_step : FlatState → ℕ → HartView → Option ℕ → FlatState
-word_step state hart view None = stopped state hart view (Trapped 1 view.pc)
+word_step state hart view None = stopped state hart view (Trapped INSTRUCTION_ACCESS_FAULT view.pc)
 word_step state hart view (Some word) = insn_step state hart view (decoded word)
 
 -- a hart's next instruction, where it runs

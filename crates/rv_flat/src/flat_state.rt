@@ -12,6 +12,7 @@ use crate::memory::{load, store};
 use crate::reservations::unreserve;
 use el_base::{HartId, NoMemory};
 use elf_image::{Code, Image};
+use rv_alu::cause::{ILLEGAL_INSTRUCTION, INSTRUCTION_ACCESS_FAULT};
 use rv_alu::{Access, HartStatus, HartView, Span, access, effect, makes_call, stored};
 use rv_word::{Insn, decode};
 use std::alloc::Global;
@@ -115,11 +116,10 @@ impl Flat {
         if self.harts[place].status != HartStatus::Running {
             return;
         }
-        let pc = self.harts[place].pc;
-        match self.code.code_word(pc) {
-            None => self.stop(place, HartStatus::Trapped { cause: 1, pc }),
+        match self.code.code_word(self.harts[place].pc) {
+            None => self.trap(place, INSTRUCTION_ACCESS_FAULT),
             Some(word) => match decode(word) {
-                None => self.stop(place, HartStatus::Trapped { cause: 2, pc }),
+                None => self.trap(place, ILLEGAL_INSTRUCTION),
                 Some(insn) => self.execute(place, &insn),
             },
         }
@@ -151,6 +151,16 @@ impl Flat {
         view.status = status;
     }
 
+    /// A hart traps at its pc.
+    fn trap(&mut self, place: usize, cause: u8)
+        requires { place < length self.old.harts }
+        ensures { self.new ≡ stopped self.old place (view_of self.old place)
+            (HartStatus.Trapped cause (view_of self.old place).pc) }
+    {
+        let pc = self.harts[place].pc;
+        self.stop(place, HartStatus::Trapped { cause, pc });
+    }
+
     /// A running hart's next instruction.
     fn execute(&mut self, place: usize, insn: &Insn)
         requires { place < length self.old.harts }
@@ -171,10 +181,7 @@ impl Flat {
     {
         match touched {
             Access::Nothing => self.advance(place, insn, 0),
-            Access::Trap { cause } => {
-                let pc = self.harts[place].pc;
-                self.stop(place, HartStatus::Trapped { cause, pc });
-            }
+            Access::Trap { cause } => self.trap(place, cause),
             Access::Exit { code } => self.stop(place, HartStatus::Exited { code }),
             Access::Read { address, len } => self.read(place, insn, address, len),
             Access::Write { address, len } => self.write(place, insn, address, len),

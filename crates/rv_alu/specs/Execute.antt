@@ -18,6 +18,10 @@ next view = plus view.pc 4
 abbrev pub puts : HartView → ℕ → ℕ → HartView
 puts view rd value = record view { pc = next view; regs = set view.regs rd value }
 
+-- the hart goes on with a value in a register, and its own reservation ends
+abbrev pub puts_unreserved : HartView → ℕ → ℕ → HartView
+puts_unreserved view rd value = record (puts view rd value) { reserved = None }
+
 -- the hart jumps, with the address of the next instruction in memory in a register
 abbrev pub links : HartView → ℕ → ℕ → HartView
 links view rd target = record view { pc = target; regs = set view.regs rd (next view) }
@@ -45,15 +49,10 @@ effect_of insns.Fence view span room loaded = record view { pc = next view }
 effect_of insns.Ecall view span room loaded = puts view a0 (call_answer view.regs span room)
 effect_of insns.Ebreak view span room loaded = view
 effect_of (insns.Lr rd rs1 aq rl) view span room loaded =
-    record view { pc = next view; regs = set view.regs rd.number loaded; reserved = Some (get view.regs rs1.number) }
+    record (puts view rd.number loaded) { reserved = Some (get view.regs rs1.number) }
 effect_of (insns.Sc rd rs1 rs2 aq rl) view span room loaded =
-    record view {
-      pc = next view;
-      regs = set view.regs rd.number (if is_reserved view.reserved (get view.regs rs1.number) then 0 else 1);
-      reserved = None;
-    }
-effect_of (insns.Amo op rd rs1 rs2 aq rl) view span room loaded =
-    record view { pc = next view; regs = set view.regs rd.number loaded; reserved = None }
+    puts_unreserved view rd.number (if is_reserved view.reserved (get view.regs rs1.number) then 0 else 1)
+effect_of (insns.Amo op rd rs1 rs2 aq rl) view span room loaded = puts_unreserved view rd.number loaded
 
 -- the number whose low bytes an instruction stores, where it writes
 unfoldable pub stored_of : Insn → List ℕ → ℕ → ℕ

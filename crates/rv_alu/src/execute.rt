@@ -1,5 +1,7 @@
 ghost use Rattle.std.specs.Prelude.{◌≡◌};
-ghost use Rattle.rv_alu.specs.Execute.{branches, effect_of, links, puts, stored_of};
+ghost use Rattle.rv_alu.specs.Execute.{branches, effect_of, links, next, puts, puts_unreserved, stored_of};
+ghost use Rattle.rv_alu.specs.Operation.{alu_of, taken_of};
+ghost use Rattle.rv_alu.specs.Regs.{get};
 
 use crate::checks::{has_reserved, indirect_target};
 use crate::operation::{alu, amo, extend, offset_by, taken};
@@ -7,33 +9,57 @@ use crate::regs::Regs;
 use crate::span::Span;
 use crate::syscall::{A0, call_result};
 use crate::view::HartView;
-use rv_word::{Insn, Reg};
+use rv_word::{Alu, Insn, Reg, Test};
+
+/// The address of the next instruction in memory.
+fn following(view: &HartView) -> u32
+    ensures { result ≡ next view.now }
+{
+    view.pc.wrapping_add(4)
+}
 
 /// The hart goes on to the next instruction in memory, with a value in a register.
 fn put(view: &mut HartView, rd: Reg, value: u32)
     ensures { view.new ≡ puts view.old rd.number value }
 {
     view.regs.set(rd, value);
-    view.pc = view.pc.wrapping_add(4);
+    view.pc = following(view);
+}
+
+/// The hart goes on with a value in a register, and its own reservation ends.
+fn put_unreserved(view: &mut HartView, rd: Reg, value: u32)
+    ensures { view.new ≡ puts_unreserved view.old rd.number value }
+{
+    view.reserved = None;
+    put(view, rd, value);
+}
+
+/// The hart goes on with the result of an operation on the word of a register and another word.
+fn operate(view: &mut HartView, op: Alu, rd: Reg, rs1: Reg, right: u32)
+    ensures { view.new ≡ puts view.old rd.number (alu_of op (get view.old.regs rs1.number) right) }
+{
+    let value = alu(op, view.regs.get(rs1), right);
+    put(view, rd, value);
 }
 
 /// The hart jumps, with the address of the next instruction in memory in a register.
 fn link(view: &mut HartView, rd: Reg, target: u32)
     ensures { view.new ≡ links view.old rd.number target }
 {
-    let next = view.pc.wrapping_add(4);
+    let next = following(view);
     view.regs.set(rd, next);
     view.pc = target;
 }
 
 /// The hart comes to a branch, and takes it or goes on to the next instruction in memory.
-fn branch(view: &mut HartView, takes: bool, offset: i32)
-    ensures { view.new ≡ branches view.old takes offset }
+fn branch(view: &mut HartView, test: Test, rs1: Reg, rs2: Reg, offset: i32)
+    ensures { view.new ≡ branches view.old
+        (taken_of test (get view.old.regs rs1.number) (get view.old.regs rs2.number)) offset }
 {
-    view.pc = if takes {
+    view.pc = if taken(test, view.regs.get(rs1), view.regs.get(rs2)) {
         offset_by(view.pc, offset)
     } else {
-        view.pc.wrapping_add(4)
+        following(view)
     };
 }
 
@@ -61,24 +87,18 @@ pub fn effect(insn: &Insn, view: &mut HartView, span: Span, room: u32, loaded: u
             rs1,
             rs2,
             offset,
-        } => {
-            let takes = taken(test, view.regs.get(rs1), view.regs.get(rs2));
-            branch(view, takes, offset);
-        }
+        } => branch(view, test, rs1, rs2, offset),
         Insn::Load { width, rd, .. } => put(view, rd, extend(width, loaded)),
         Insn::Store { .. } => {
             view.reserved = None;
-            view.pc = view.pc.wrapping_add(4);
+            view.pc = following(view);
         }
-        Insn::OpImm { op, rd, rs1, imm } => {
-            let value = alu(op, view.regs.get(rs1), imm.cast_unsigned());
-            put(view, rd, value);
-        }
+        Insn::OpImm { op, rd, rs1, imm } => operate(view, op, rd, rs1, imm.cast_unsigned()),
         Insn::Op { op, rd, rs1, rs2 } => {
-            let value = alu(op, view.regs.get(rs1), view.regs.get(rs2));
-            put(view, rd, value);
+            let right = view.regs.get(rs2);
+            operate(view, op, rd, rs1, right);
         }
-        Insn::Fence => view.pc = view.pc.wrapping_add(4),
+        Insn::Fence => view.pc = following(view),
         Insn::Ecall => {
             let answer = call_result(&view.regs, span, room);
             put(view, A0, answer);
@@ -90,13 +110,9 @@ pub fn effect(insn: &Insn, view: &mut HartView, span: Span, room: u32, loaded: u
         }
         Insn::Sc { rd, rs1, .. } => {
             let fails = !has_reserved(view.reserved, view.regs.get(rs1));
-            view.reserved = None;
-            put(view, rd, u32::from(fails));
+            put_unreserved(view, rd, u32::from(fails));
         }
-        Insn::Amo { rd, .. } => {
-            view.reserved = None;
-            put(view, rd, loaded);
-        }
+        Insn::Amo { rd, .. } => put_unreserved(view, rd, loaded),
     }
 }
 

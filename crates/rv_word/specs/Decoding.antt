@@ -1,7 +1,7 @@
 use Rattle.std.specs.Prelude.{ℕ, Option, Some, None, option_map, ◌==◌, ◌&&◌, if◌then◌else◌}
 use Rattle.rv_word.specs.declared.insn.Insn.{Insn}
 use Rattle.rv_word.specs.declared.insn.Insn.TheVariants.{Lui, Auipc, Jal, Jalr, Branch, Load, Store, OpImm, Op, Fence, Ecall, Ebreak, Lr, Sc, Amo}
-use Rattle.rv_word.specs.Field.{field, opcode_of, rd_of, funct3_of, rs1_of, rs2_of, funct5_of, aq_of, rl_of}
+use Rattle.rv_word.specs.Field.{opcode_of, rd_of, funct3_of, rs1_of, rs2_of, funct5_of, aq_of, rl_of}
 use Rattle.rv_word.specs.Immediate.{imm_i, imm_s, imm_b, imm_u, imm_j}
 use Rattle.rv_word.specs.Arithmetic.{op_at, op_imm_at, op_immediate}
 use Rattle.rv_word.specs.Comparison.{test_at}
@@ -26,7 +26,7 @@ abbrev pub op_insn_at : ℕ → Option Insn
 op_insn_at word = option_map (λ op. Op op (rd_of word) (rs1_of word) (rs2_of word)) (op_at word)
 
 abbrev pub lr_at : ℕ → Option Insn
-lr_at word = if field 20 5 word == 0 then Some (Lr (rd_of word) (rs1_of word) (aq_of word) (rl_of word)) else None
+lr_at word = if (rs2_of word).number == 0 then Some (Lr (rd_of word) (rs1_of word) (aq_of word) (rl_of word)) else None
 
 abbrev pub amo_insn_at : ℕ → Option Insn
 amo_insn_at word =

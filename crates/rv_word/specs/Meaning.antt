@@ -1,7 +1,7 @@
 use Rattle.std.specs.Prelude.{◌≡◌, ℕ, IsTrue}
 use Rattle.rv_word.specs.declared.insn.Insn.{Insn}
 use Rattle.rv_word.specs.declared.insn.Insn.TheVariants.{Lui, Auipc, Jal, Jalr, Branch, Load, Store, OpImm, Op, Fence, Ecall, Ebreak, Lr, Sc, Amo}
-use Rattle.rv_word.specs.Field.{field, opcode_of, rd_of, funct3_of, rs1_of, rs2_of, funct5_of, aq_of, rl_of}
+use Rattle.rv_word.specs.Field.{opcode_of, rd_of, funct3_of, rs1_of, rs2_of, funct5_of, aq_of, rl_of}
 use Rattle.rv_word.specs.Immediate.{imm_i, imm_s, imm_b, imm_u, imm_j}
 use Rattle.rv_word.specs.Arithmetic.{is_op_row, is_op_imm_row, op_immediate}
 use Rattle.rv_word.specs.Comparison.{test_code}
@@ -42,7 +42,7 @@ Means word Fence =
 Means word Ecall = word ≡ 0x00000073
 Means word Ebreak = word ≡ 0x00100073
 Means word (Lr rd rs1 aq rl) =
-    (opcode_of word ≡ 0b0101111) × (funct3_of word ≡ 0b010) × (funct5_of word ≡ 0b00010) × (field 20 5 word ≡ 0)
+    (opcode_of word ≡ 0b0101111) × (funct3_of word ≡ 0b010) × (funct5_of word ≡ 0b00010) × ((rs2_of word).number ≡ 0)
     × (rd ≡ rd_of word) × (rs1 ≡ rs1_of word) × (aq ≡ aq_of word) × (rl ≡ rl_of word)
 Means word (Sc rd rs1 rs2 aq rl) =
     (opcode_of word ≡ 0b0101111) × (funct3_of word ≡ 0b010) × (funct5_of word ≡ 0b00011)

@@ -5,7 +5,7 @@ ghost use Rattle.rv_word.specs.Decoding.{decoded};
 ghost use Rattle.rv_word.specs.Validity.{Valid};
 ghost use Rattle.rv_word.specs.declared.insn.Insn.{Insn};
 
-use crate::field::{aq, field_at, funct3, funct5, opcode, rd, rl, rs1, rs2};
+use crate::field::{aq, funct3, funct5, opcode, rd, rl, rs1, rs2};
 use crate::immediate::{
     b_immediate, i_immediate, j_immediate, op_immediate_of, s_immediate, u_immediate,
 };
@@ -146,7 +146,7 @@ fn atomic(word: u32) -> Option<Insn>
     ensures valid { IfSome result (λ insn. Valid insn) }
 {
     let insn = match funct5(word) {
-        0b00010 if field_at(word, 20, 5) == 0 => Insn::Lr {
+        0b00010 if rs2(word).number == 0 => Insn::Lr {
             rd: rd(word),
             rs1: rs1(word),
             aq: aq(word),

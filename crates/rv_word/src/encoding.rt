@@ -9,7 +9,6 @@ use crate::reg::Reg;
 
 /// The word that means the instruction. Of the many words that mean `Fence` it is `0x0ff0000f`,
 /// which orders everything before it and everything after it.
-#[tactic(auto, using(crate::proofs::Registers::rs2_number))]
 pub fn encode(insn: Insn) -> u32
     requires { Valid insn }
     ensures means_it { Means result insn }

@@ -1,7 +1,7 @@
 //! The formats of instruction words, put together from their fields. In each, `only` says that no
 //! other word has these fields.
 ghost use Rattle.std.specs.Prelude.{◌≡◌, ℕ, ◌<◌, ◌%◌, ◌^◌, pos, ◌≤ℤ◌, ◌<ℤ◌};
-ghost use Rattle.rv_word.specs.Field.{field, opcode_of, rd_of, funct3_of, rs1_of, rs2_of, funct7_of, funct5_of, aq_of, rl_of};
+ghost use Rattle.rv_word.specs.Field.{opcode_of, rd_of, funct3_of, rs1_of, rs2_of, funct7_of, funct5_of, aq_of, rl_of};
 ghost use Rattle.rv_word.specs.Immediate.{shamt_of, imm_i, imm_s, imm_b, imm_u, imm_j};
 ghost use Rattle.rv_word.specs.Validity.{FitsSignedBits, IsEven};
 
@@ -60,12 +60,11 @@ pub(crate) fn atomic_form(rd: Reg, rs1: Reg, rs2: Reg, funct5: u32, aq: bool, rl
     ensures has_funct3 { funct3_of result ≡ 0b010 }
     ensures has_rs1 { rs1_of result ≡ rs1 }
     ensures has_rs2 { rs2_of result ≡ rs2 }
-    ensures has_rs2_number { field 20 5 result ≡ rs2.number }
     ensures has_funct5 { funct5_of result ≡ funct5 }
     ensures has_aq { aq_of result ≡ aq }
     ensures has_rl { rl_of result ≡ rl }
     ensures only { (w : ℕ) → w < 2 ^ 32 → opcode_of w ≡ 0b0101111 → rd_of w ≡ rd → funct3_of w ≡ 0b010
-        → rs1_of w ≡ rs1 → field 20 5 w ≡ rs2.number → funct5_of w ≡ funct5 → aq_of w ≡ aq → rl_of w ≡ rl
+        → rs1_of w ≡ rs1 → (rs2_of w).number ≡ rs2.number → funct5_of w ≡ funct5 → aq_of w ≡ aq → rl_of w ≡ rl
         → w ≡ result }
 {
     let low = AMO + ((rd.number as u32) << 7) + (0b010 << 12);

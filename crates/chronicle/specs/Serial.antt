@@ -11,6 +11,10 @@ effects Ran = 1
 effects (Committed count) = count
 effects _ = 0
 
+-- the most instructions that can take effect with one outcome
+abbrev pub most_effects : ℕ
+most_effects = 4294967295
+
 -- the harts whose instructions took effect, one by one: a section stands whole at its commit
 abbrev pub serial : List Entry → List ℕ
 serial entries = flat_map (λ entry. replicate (effects entry.outcome) entry.event.hart.number) entries

@@ -1,10 +1,12 @@
 -- What a history says of one hart: counts and sums over its entries.
-use Rattle.std.specs.Prelude.{ℕ, ◌+◌, ◌*◌, ◌<◌, ◌≤◌, ◌^◌, Bool, true, false, List, ◌==◌, count_by, sum_by, filter, map, is_some}
+use Rattle.std.specs.Prelude.{ℕ, ◌+◌, ◌*◌, ◌^◌, Bool, true, false, List, [], ◌∷◌, ◌==◌, IsTrue, nat_lt, nat_le, count_by, sum_by, filter, map, is_some}
+use Rattle.std.specs.List.{list_all}
 use Rattle.el_base.specs.Losers.{beaten_by}
 use Rattle.el_base.specs.declared.entries.Entry.{Entry}
 use Rattle.el_base.specs.declared.outcomes.Cause.TheVariants.{Room, Lines, Long, Call, Mixed}
 use Rattle.el_base.specs.declared.outcomes.Outcome.{Outcome}
 use Rattle.el_base.specs.declared.outcomes.Outcome.TheVariants.{Stalled, Missed, Ran, Began, Committed, RolledBack, Ordered, Served, Blocked, Delivered}
+use Rattle.chronicle.specs.Serial.{most_effects}
 use Rattle.chronicle.specs.declared.counts.Tally.{Tally}
 
 -- the outcomes of this hart's own events
@@ -109,34 +111,16 @@ plus a b = record {
   blocked = a.blocked + b.blocked;
 }
 
+-- the numbers of a tally, one a field
+abbrev pub numbers : Tally → List ℕ
+numbers tally =
+    tally.ran ∷ tally.began ∷ tally.committed ∷ tally.instr ∷ tally.conflict ∷ tally.room ∷ tally.lines ∷ tally.long ∷
+    tally.call ∷ tally.mixed ∷ tally.missed ∷ tally.stalled ∷ tally.blocked ∷ []
+
 -- the numbers of two tallies can be added
-pub record SumFits (a b : Tally) : Type 0 where
-  pub ran : a.ran + b.ran < 2 ^ 64
-  pub began : a.began + b.began < 2 ^ 64
-  pub committed : a.committed + b.committed < 2 ^ 64
-  pub instr : a.instr + b.instr < 2 ^ 64
-  pub conflict : a.conflict + b.conflict < 2 ^ 64
-  pub room : a.room + b.room < 2 ^ 64
-  pub lines : a.lines + b.lines < 2 ^ 64
-  pub long : a.long + b.long < 2 ^ 64
-  pub call : a.call + b.call < 2 ^ 64
-  pub mixed : a.mixed + b.mixed < 2 ^ 64
-  pub missed : a.missed + b.missed < 2 ^ 64
-  pub stalled : a.stalled + b.stalled < 2 ^ 64
-  pub blocked : a.blocked + b.blocked < 2 ^ 64
+abbrev pub SumFits : Tally → Tally → Type 0
+SumFits a b = IsTrue (list_all (λ number. nat_lt number (2 ^ 64)) (numbers (plus a b)))
 
 -- the tally is one of so many events: none of its numbers is above what their commits can count
-pub record IsTallyOf (events : ℕ) (tally : Tally) : Type 0 where
-  pub ran : tally.ran ≤ events * 4294967295
-  pub began : tally.began ≤ events * 4294967295
-  pub committed : tally.committed ≤ events * 4294967295
-  pub instr : tally.instr ≤ events * 4294967295
-  pub conflict : tally.conflict ≤ events * 4294967295
-  pub room : tally.room ≤ events * 4294967295
-  pub lines : tally.lines ≤ events * 4294967295
-  pub long : tally.long ≤ events * 4294967295
-  pub call : tally.call ≤ events * 4294967295
-  pub mixed : tally.mixed ≤ events * 4294967295
-  pub missed : tally.missed ≤ events * 4294967295
-  pub stalled : tally.stalled ≤ events * 4294967295
-  pub blocked : tally.blocked ≤ events * 4294967295
+abbrev pub IsTallyOf : ℕ → Tally → Type 0
+IsTallyOf events tally = IsTrue (list_all (λ number. nat_le number (events * most_effects)) (numbers tally))

@@ -1,6 +1,6 @@
 ghost use Rattle.std.specs.Prelude.{◌≡◌, ◌∷◌, ◌++◌, [], ◌≤◌, length, IfOk};
 ghost use Rattle.chronicle.specs.Chronicle.{Chronicle, spare_of};
-ghost use Rattle.chronicle.specs.Serial.{effects, serial};
+ghost use Rattle.chronicle.specs.Serial.{effects, most_effects, serial};
 ghost use Rattle.chronicle.specs.Tally.{tally_of};
 
 use crate::counts::Tally;
@@ -93,7 +93,7 @@ impl Chronicled for History {
 /// How many instructions took effect with this outcome.
 fn effects_of(outcome: Outcome) -> u64
     ensures exact { result ≡ effects outcome }
-    ensures small { result ≤ 4294967295 }
+    ensures small { result ≤ most_effects }
 {
     match outcome {
         Outcome::Ran => 1,

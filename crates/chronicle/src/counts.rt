@@ -3,8 +3,9 @@ ghost use Rattle.chronicle.specs.Tally.{tally_of, tally_with, has_lost, plus, Su
 
 use el_base::{Cause, Entry, HartId, Outcome};
 
-/// What a history says of one hart, in numbers of entries unless said otherwise.
-#[derive(Clone, Copy, Debug, PartialEq, Eq)]
+/// What a history says of one hart, in numbers of entries unless said otherwise. The default is what a
+/// history of no events says.
+#[derive(Clone, Copy, Debug, Default, PartialEq, Eq)]
 pub struct Tally {
     /// Instructions that ran outside of a section.
     pub ran: u64,
@@ -35,29 +36,6 @@ pub struct Tally {
 }
 
 impl Tally {
-    /// The tally of a history of no events.
-    const NOTHING: Tally = Tally {
-        ran: 0,
-        began: 0,
-        committed: 0,
-        instr: 0,
-        conflict: 0,
-        room: 0,
-        lines: 0,
-        long: 0,
-        call: 0,
-        mixed: 0,
-        missed: 0,
-        stalled: 0,
-        blocked: 0,
-    };
-
-    pub(crate) fn nothing() -> Tally
-        ensures { result ≡ tally_with [] 0 }
-    {
-        Tally::NOTHING
-    }
-
     /// What an entry says of a hart.
     pub(crate) fn of_entry(hart: HartId, entry: Entry) -> Tally
         ensures exact { result ≡ tally_of hart.number (entry ∷ []) }
@@ -66,7 +44,7 @@ impl Tally {
         let own = if entry.event.hart == hart {
             Tally::of_outcome(entry.outcome)
         } else {
-            Tally::nothing()
+            Tally::default()
         };
         Tally {
             conflict: u64::from(lost_in(hart, entry.outcome)),
@@ -79,7 +57,7 @@ impl Tally {
         ensures exact { result ≡ tally_with (outcome ∷ []) 0 }
         ensures small { IsTallyOf 1 result }
     {
-        let nothing = Tally::nothing();
+        let nothing = Tally::default();
         match outcome {
             Outcome::Ran => Tally { ran: 1, ..nothing },
             Outcome::Began => Tally {
@@ -117,7 +95,7 @@ impl Tally {
         ensures exact { result ≡ tally_with (Outcome.RolledBack cause ∷ []) 0 }
         ensures small { IsTallyOf 1 result }
     {
-        let nothing = Tally::nothing();
+        let nothing = Tally::default();
         match cause {
             Cause::Room => Tally { room: 1, ..nothing },
             Cause::Lines => Tally {

@@ -70,7 +70,7 @@ impl History {
     pub fn tally(&self, hart: HartId) -> Tally
         ensures { result ≡ tally_of hart.number self.now.entries }
     {
-        let mut tally = Tally::nothing();
+        let mut tally = Tally::default();
         for entry in &self.entries {
             tally = tally.plus(Tally::of_entry(hart, *entry));
         }

@@ -6,22 +6,6 @@ use std::test::Fail;
 
 const KINDS: [Kind; 4] = [Kind::Step, Kind::Order, Kind::Serve, Kind::Deliver];
 
-const NOTHING: Tally = Tally {
-    ran: 0,
-    began: 0,
-    committed: 0,
-    instr: 0,
-    conflict: 0,
-    room: 0,
-    lines: 0,
-    long: 0,
-    call: 0,
-    mixed: 0,
-    missed: 0,
-    stalled: 0,
-    blocked: 0,
-};
-
 fn hart(number: u8) -> Result<HartId, Fail> {
     Ok(HartId::new(number).ok_or("no such hart")?)
 }
@@ -61,10 +45,10 @@ fn a_plain_run_is_told(rt: HostRuntime) -> Result<(), Fail> {
         Tally {
             ran: 9,
             missed: 1,
-            ..NOTHING
+            ..Tally::default()
         }
     );
-    assert_eq!(rt; history.tally(hart(1)?), NOTHING);
+    assert_eq!(rt; history.tally(hart(1)?), Tally::default());
     let last = Entry {
         event: Event {
             kind: Kind::Step,
@@ -172,7 +156,7 @@ fn each_outcome_has_its_count(rt: HostRuntime) -> Result<(), Fail> {
         instr: 6,
         conflict: 2,
         stalled: 1,
-        ..NOTHING
+        ..Tally::default()
     };
     let of_second = Tally {
         conflict: 1,
@@ -183,7 +167,7 @@ fn each_outcome_has_its_count(rt: HostRuntime) -> Result<(), Fail> {
         mixed: 1,
         missed: 1,
         blocked: 1,
-        ..NOTHING
+        ..Tally::default()
     };
     assert_eq!(rt; history.tally(first), of_first);
     assert_eq!(rt; history.tally(second), of_second);

@@ -128,111 +128,55 @@ const LOADS_AND_STORES: [(&[u32], &[(u8, u32)]); 9] = [
     ),
 ];
 
-/// Instructions behind `addi x5,x2,-64; addi x6,x5,4; addi x8,x0,7`, so that x5 and x6 are two
-/// words of the last line of memory, and registers that they leave behind.
+/// Takes two words of the last line of memory as x5 and x6, and 7 as x8.
+///
+/// `addi x5,x2,-64; addi x6,x5,4; addi x8,x0,7`
+const PROLOGUE: [u32; 3] = [0xfc010293, 0x00428313, 0x00700413];
+
+/// Instructions behind the prologue, and registers that they leave behind.
 const RESERVATIONS: [(&[u32], &[(u8, u32)]); 15] = [
     // lr.w x7,(x5); sc.w x9,x8,(x5); lw x12,0(x5)
     (
-        &[
-            0xfc010293, 0x00428313, 0x00700413, 0x1002a3af, 0x1882a4af, 0x0002a603,
-        ],
+        &[0x1002a3af, 0x1882a4af, 0x0002a603],
         &[(7, 0), (9, 0), (12, 7)],
     ),
     // lr.w.aq x7,(x5); sc.w.rl x9,x8,(x6); lw x12,0(x6)
-    (
-        &[
-            0xfc010293, 0x00428313, 0x00700413, 0x1402a3af, 0x1a8324af, 0x00032603,
-        ],
-        &[(9, 1), (12, 0)],
-    ),
+    (&[0x1402a3af, 0x1a8324af, 0x00032603], &[(9, 1), (12, 0)]),
     // lr.w x7,(x5); sc.w x9,x8,(x5); sc.w x12,x0,(x5); lw x13,0(x5)
     (
-        &[
-            0xfc010293, 0x00428313, 0x00700413, 0x1002a3af, 0x1882a4af, 0x1802a62f, 0x0002a683,
-        ],
+        &[0x1002a3af, 0x1882a4af, 0x1802a62f, 0x0002a683],
         &[(9, 0), (12, 1), (13, 7)],
     ),
     // sc.w x9,x8,(x5); lw x12,0(x5)
-    (
-        &[0xfc010293, 0x00428313, 0x00700413, 0x1882a4af, 0x0002a603],
-        &[(9, 1), (12, 0)],
-    ),
+    (&[0x1882a4af, 0x0002a603], &[(9, 1), (12, 0)]),
     // lr.w x7,(x5); sc.w x9,x8,(x6); sc.w x12,x8,(x5)
-    (
-        &[
-            0xfc010293, 0x00428313, 0x00700413, 0x1002a3af, 0x188324af, 0x1882a62f,
-        ],
-        &[(9, 1), (12, 1)],
-    ),
+    (&[0x1002a3af, 0x188324af, 0x1882a62f], &[(9, 1), (12, 1)]),
     // lr.w x7,(x5); lr.w x7,(x6); sc.w x9,x8,(x5)
-    (
-        &[
-            0xfc010293, 0x00428313, 0x00700413, 0x1002a3af, 0x100323af, 0x1882a4af,
-        ],
-        &[(9, 1)],
-    ),
+    (&[0x1002a3af, 0x100323af, 0x1882a4af], &[(9, 1)]),
     // lr.w x7,(x5); lr.w x7,(x6); sc.w x9,x8,(x6)
-    (
-        &[
-            0xfc010293, 0x00428313, 0x00700413, 0x1002a3af, 0x100323af, 0x188324af,
-        ],
-        &[(9, 0)],
-    ),
+    (&[0x1002a3af, 0x100323af, 0x188324af], &[(9, 0)]),
     // lr.w x7,(x5); sw x8,4(x5); sc.w x9,x8,(x5)
-    (
-        &[
-            0xfc010293, 0x00428313, 0x00700413, 0x1002a3af, 0x0082a223, 0x1882a4af,
-        ],
-        &[(9, 1)],
-    ),
+    (&[0x1002a3af, 0x0082a223, 0x1882a4af], &[(9, 1)]),
     // lr.w x7,(x5); sw x8,-64(x5); sc.w x9,x8,(x5)
-    (
-        &[
-            0xfc010293, 0x00428313, 0x00700413, 0x1002a3af, 0xfc82a023, 0x1882a4af,
-        ],
-        &[(9, 1)],
-    ),
+    (&[0x1002a3af, 0xfc82a023, 0x1882a4af], &[(9, 1)]),
     // lr.w x7,(x5); amoor.w x7,x0,(x6); sc.w x9,x8,(x5)
-    (
-        &[
-            0xfc010293, 0x00428313, 0x00700413, 0x1002a3af, 0x400323af, 0x1882a4af,
-        ],
-        &[(9, 1)],
-    ),
+    (&[0x1002a3af, 0x400323af, 0x1882a4af], &[(9, 1)]),
     // lr.w x7,(x5); lw x7,0(x5); fence; ecall; sc.w x9,x8,(x5)
     (
-        &[
-            0xfc010293, 0x00428313, 0x00700413, 0x1002a3af, 0x0002a383, 0x0ff0000f, 0x00000073,
-            0x1882a4af,
-        ],
+        &[0x1002a3af, 0x0002a383, 0x0ff0000f, 0x00000073, 0x1882a4af],
         &[(9, 0), (10, 0xffff_ffda)],
     ),
     // lr.w x5,(x5); sc.w x9,x8,(x6)
-    (
-        &[0xfc010293, 0x00428313, 0x00700413, 0x1002a2af, 0x188324af],
-        &[(5, 0), (9, 1)],
-    ),
+    (&[0x1002a2af, 0x188324af], &[(5, 0), (9, 1)]),
     // lr.w x7,(x5); sc.w x5,x5,(x5); lw x12,-64(x2)
     (
-        &[
-            0xfc010293, 0x00428313, 0x00700413, 0x1002a3af, 0x1852a2af, 0xfc012603,
-        ],
+        &[0x1002a3af, 0x1852a2af, 0xfc012603],
         &[(5, 0), (12, END - 64)],
     ),
     // lr.w x7,(x5); sc.w x8,x8,(x5); lw x12,0(x5)
-    (
-        &[
-            0xfc010293, 0x00428313, 0x00700413, 0x1002a3af, 0x1882a42f, 0x0002a603,
-        ],
-        &[(8, 0), (12, 7)],
-    ),
+    (&[0x1002a3af, 0x1882a42f, 0x0002a603], &[(8, 0), (12, 7)]),
     // lr.w x7,(x5); sc.w x0,x8,(x5); lw x12,0(x5)
-    (
-        &[
-            0xfc010293, 0x00428313, 0x00700413, 0x1002a3af, 0x1882a02f, 0x0002a603,
-        ],
-        &[(0, 0), (12, 7)],
-    ),
+    (&[0x1002a3af, 0x1882a02f, 0x0002a603], &[(0, 0), (12, 7)]),
 ];
 
 /// The only hart, after all of these instructions.
@@ -277,15 +221,17 @@ fn loads_and_stores_see_memory(rt: HostRuntime) -> Result<(), Fail> {
 
 #[test]
 fn a_store_conditional_succeeds_at_its_reserved_word(rt: HostRuntime) -> Result<(), Fail> {
-    for (code, registers) in RESERVATIONS {
-        let view = after(&rt, rt.alloc(), code)?;
+    for (words, registers) in RESERVATIONS {
+        let mut code = PROLOGUE.to_vec(rt.alloc())?;
+        code.extend_from_slice(words)?;
+        let view = after(&rt, rt.alloc(), &code)?;
         assert_eq!(rt; view.status, HartStatus::Running);
         assert_eq!(rt; view.reserved, None);
         for (number, word) in registers {
             assert_eq!(rt;
                 word_in(&rt, &view, *number),
                 *word,
-                "x{number} after {code:?}"
+                "x{number} after {words:?}"
             );
         }
     }

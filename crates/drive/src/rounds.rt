@@ -1,6 +1,7 @@
 ghost use Rattle.std.specs.Prelude.{◌≡◌, ◌<◌, ◌≤◌, ◌%◌, ◌/◌};
 ghost use Rattle.drive.specs.Drivers.{MakesRoundRobin};
-ghost use Rattle.el_model.specs.RoundRobin.{IsTurnAt, kind_place};
+ghost use Rattle.el_base.specs.Kinds.{kind_number};
+ghost use Rattle.el_model.specs.RoundRobin.{IsTurnAt};
 
 use el_base::{Event, HartId, Kind};
 use machine::Machine;
@@ -35,12 +36,7 @@ fn turn_at(harts: u8, place: u32) -> Event
 
 /// The kind at a place: each hart's turn has one event of each kind.
 fn kind_at(place: u32) -> Kind
-    ensures { kind_place result ≡ place % 4 }
+    ensures { kind_number result ≡ place % 4 }
 {
-    match place % 4 {
-        0 => Kind::Step,
-        1 => Kind::Order,
-        2 => Kind::Serve,
-        _ => Kind::Deliver,
-    }
+    Kind::with_number((place % 4) as u8).unwrap()
 }

@@ -170,3 +170,22 @@ fn an_entry_takes_16_bytes(rt: HostRuntime) {
     assert_eq!(rt; size_of::<Losers>(), 8);
     assert_eq!(rt; size_of::<Entry>(), 16);
 }
+
+#[test]
+fn kinds_are_numbered_0_to_3(rt: HostRuntime) {
+    for (number, kind) in [
+        (0, Some(Kind::Step)),
+        (1, Some(Kind::Order)),
+        (2, Some(Kind::Serve)),
+        (3, Some(Kind::Deliver)),
+        (4, None),
+        (255, None),
+    ] {
+        assert_eq!(rt; Kind::with_number(number), kind, "at {number}");
+        assert_eq!(rt;
+            kind.map_or(number, |kind| kind.number()),
+            number,
+            "at {number}"
+        );
+    }
+}

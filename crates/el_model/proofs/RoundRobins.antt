@@ -8,11 +8,12 @@ use Rattle.el_base.specs.declared.events.Event.{Event}
 use Rattle.el_base.specs.declared.events.Kind.{Kind}
 use Rattle.el_base.specs.declared.events.Kind.TheVariants.{Step, Order, Serve, Deliver}
 use Rattle.el_base.specs.declared.hart_id.HartId.{HartId}
+use Rattle.el_base.specs.Kinds.{kind_number}
 use Rattle.el_model.specs.ModelState.{ModelState, is_over}
-use Rattle.el_model.specs.RoundRobin.{kind_place, IsTurnAt, IsRoundRobin}
+use Rattle.el_model.specs.RoundRobin.{IsTurnAt, IsRoundRobin}
 use Rattle.el_model.specs.Runs.{state_after}
 
-one_kind : (a b : Kind) → kind_place a ≡ kind_place b → a ≡ b
+one_kind : (a b : Kind) → kind_number a ≡ kind_number b → a ≡ b
 one_kind Step Step h = refl
 one_kind Order Order h = refl
 one_kind Serve Serve h = refl

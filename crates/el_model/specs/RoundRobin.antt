@@ -1,21 +1,13 @@
 -- the round robin: harts in ascending order, each with an event of each kind, over and over
 use Rattle.std.specs.Prelude.{ℕ, ◌≡◌, ◌<◌, ◌≤◌, ◌/◌, ◌%◌, ◌⊎◌, IsTrue, false, List, length, take, Some, slice_get}
 use Rattle.el_base.specs.declared.events.Event.{Event}
-use Rattle.el_base.specs.declared.events.Kind.{Kind}
-use Rattle.el_base.specs.declared.events.Kind.TheVariants.{Step, Order, Serve, Deliver}
+use Rattle.el_base.specs.Kinds.{kind_number}
 use Rattle.el_model.specs.ModelState.{ModelState, is_over}
 use Rattle.el_model.specs.Runs.{state_after}
 
--- the place of a kind among the events of a hart's turn
-abbrev pub kind_place : Kind → ℕ
-kind_place Step = 0
-kind_place Order = 1
-kind_place Serve = 2
-kind_place Deliver = 3
-
 -- the event that comes at a place of the round robin of so many harts
 pub record IsTurnAt (harts place : ℕ) (event : Event) : Type 0 where
-  pub kind : kind_place event.kind ≡ place % 4
+  pub kind : kind_number event.kind ≡ place % 4
   pub hart : event.hart.number ≡ (place / 4) % harts
 
 -- the events of a round robin of so many harts, from a state on, with so many steps left: each is the one

@@ -8,13 +8,14 @@ use Rattle.std.proofs.lemmas.Bool.Decides.{nat_tests}
 use Rattle.std.proofs.lemmas.List.Elements.{All-cons}
 use Rattle.std.proofs.lemmas.List.{length-drop}
 use Rattle.el_base.specs.Config.{within, set_counts, IsInRange}
+use Rattle.el_base.specs.Kinds.{kind_number}
 use Rattle.el_base.specs.declared.hart_id.HartId.{HartId}
 use Rattle.el_base.specs.declared.events.Event.{Event}
 use Rattle.el_base.specs.declared.settings.Config.{Config}
 use Rattle.el_base.specs.declared.settings.ConfigFault.{ConfigFault}
 use Rattle.el_base.specs.declared.settings.ConfigFault.TheVariants.{Harts, Sets, Ways, Lines, Long, Steps}
 use Rattle.trace_file.specs.declared.fault.FaultKind.TheVariants.{Config as config_kind, Event as event_kind, Tail}
-use Rattle.trace_file.specs.Spelling.{spelling, kind_number, event_byte, last_mode, IsTrace, IsBuilt}
+use Rattle.trace_file.specs.Spelling.{spelling, event_byte, last_mode, IsTrace, IsBuilt}
 use Rattle.trace_file.specs.Faults.{fault_of, fault_if, first_of, byte_fault, magic_fault, version_fault, sets_fault, settings_fault, number_fault, head_fault, number_at, config_at, is_event, event_fault, end_fault, trace_fault}
 use Rattle.trace_file.proofs.EventBytes.{none_fails, all_taken}
 use Rattle.trace_file.proofs.Heads.{IsBytes, or_none, if_none, field_none, mode_none, head_spelled}

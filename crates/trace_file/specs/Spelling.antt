@@ -2,9 +2,8 @@
 use Rattle.std.specs.Prelude.{ℕ, ◌+◌, ◌*◌, ◌<◌, ◌≤◌, List, [], ◌∷◌, ◌++◌, length, map, All}
 use Rattle.byteorder.specs.Endian.{little_bytes}
 use Rattle.el_base.specs.Config.{IsInRange}
+use Rattle.el_base.specs.Kinds.{kind_number}
 use Rattle.el_base.specs.declared.events.Event.{Event}
-use Rattle.el_base.specs.declared.events.Kind.{Kind}
-use Rattle.el_base.specs.declared.events.Kind.TheVariants.{Step, Order, Serve, Deliver}
 use Rattle.el_base.specs.declared.settings.Config.{Config}
 use Rattle.el_base.specs.declared.settings.Mode.{Mode}
 use Rattle.el_base.specs.declared.settings.Mode.TheVariants.{Plain, Sle, Tlr}
@@ -20,12 +19,6 @@ abbrev pub mode_number : Mode → ℕ
 mode_number Plain = 0
 mode_number Sle = 1
 mode_number Tlr = 2
-
-abbrev pub kind_number : Kind → ℕ
-kind_number Step = 0
-kind_number Order = 1
-kind_number Serve = 2
-kind_number Deliver = 3
 
 -- one byte an event
 abbrev pub event_byte : Event → ℕ

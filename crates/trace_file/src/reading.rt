@@ -4,7 +4,7 @@ ghost use Rattle.std.specs.Prelude.{◌≡◌, ℕ, List, ◌+◌, ◌++◌, ◌
 ghost use Rattle.el_base.specs.Config.{IsInRange};
 ghost use Rattle.el_base.specs.declared.settings.Config.{Config};
 ghost use Rattle.trace_file.specs.Faults.{Judges, is_event, event_fault, end_fault, trace_fault, config_at, number_at};
-ghost use Rattle.trace_file.specs.Spelling.{event_byte, kind_number, head, spelling, IsTrace, IsBuilt};
+ghost use Rattle.trace_file.specs.Spelling.{event_byte, head, spelling, IsTrace, IsBuilt};
 
 use crate::content::{Events, Trace};
 use crate::fault::{Fault, FaultKind, TraceFault};
@@ -65,18 +65,6 @@ fn check_end(file: &[u8], count: u32) -> Result<(), Fault>
     expect(ends, FaultKind::Tail, HEAD_BYTES + count)
 }
 
-fn kind_of(number: u8) -> Kind
-    requires { number ≤ 3 }
-    ensures { kind_number result ≡ number }
-{
-    match number {
-        0 => Kind::Step,
-        1 => Kind::Order,
-        2 => Kind::Serve,
-        _ => Kind::Deliver,
-    }
-}
-
 fn event_of(byte: u8, harts: u8) -> Event
     requires known { IsTrue (is_event harts byte) }
     requires few { harts ≤ 8 }
@@ -84,7 +72,7 @@ fn event_of(byte: u8, harts: u8) -> Event
     ensures within { result.hart.number < harts }
 {
     Event {
-        kind: kind_of(byte / 16),
+        kind: Kind::with_number(byte / 16).unwrap(),
         hart: HartId { number: byte % 16 },
     }
 }

@@ -4,10 +4,10 @@ ghost use Rattle.std.specs.Prelude.{◌≡◌, ◌≢◌, ◌+◌, ◌++◌, ◌
 ghost use Rattle.chronicle.specs.Chronicle.{events};
 ghost use Rattle.el_base.specs.Config.{IsInRange};
 ghost use Rattle.el_io.specs.Shelf.{Holds, KeepsOthers, Records};
-ghost use Rattle.trace_file.specs.Spelling.{mode_number, kind_number, event_byte, head, spelling};
+ghost use Rattle.trace_file.specs.Spelling.{mode_number, event_byte, head, spelling};
 
 use chronicle::History;
-use el_base::{Chronicled, Config, Event, Kind, Mode, NoMemory};
+use el_base::{Chronicled, Config, Event, Mode, NoMemory};
 use el_io::{Call, Shelf, ShelfFault};
 use std::alloc::Global;
 
@@ -21,22 +21,10 @@ fn mode_number(mode: Mode) -> u8
     }
 }
 
-fn kind_number(kind: Kind) -> u8
-    ensures exact { result ≡ kind_number kind }
-    ensures small { result ≤ 3 }
-{
-    match kind {
-        Kind::Step => 0,
-        Kind::Order => 1,
-        Kind::Serve => 2,
-        Kind::Deliver => 3,
-    }
-}
-
 fn event_byte(event: Event) -> u8
     ensures { result ≡ event_byte event }
 {
-    16 * kind_number(event.kind) + event.hart.number
+    16 * event.kind.number() + event.hart.number
 }
 
 /// What stands before the events.

@@ -26,7 +26,7 @@ pub use hart_set::Harts;
 pub use line::{LineAddr, line_of};
 pub use no_memory::NoMemory;
 pub use outcomes::{Cause, Need, Outcome, Why};
-pub use settings::{Config, ConfigFault, Mode};
+pub use settings::{Config, ConfigFault, Mode, is_set_count};
 pub use stamps::Stamped;
 
 #[cfg(test)]

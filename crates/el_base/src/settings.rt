@@ -1,5 +1,6 @@
-ghost use Rattle.std.specs.Prelude.{◌≡◌, None, Some, MatchResult};
-ghost use Rattle.el_base.specs.Config.{usual, within, config_fault};
+ghost use Rattle.std.specs.Prelude.{◌≡◌, ◌==◌, None, Some, MatchResult};
+ghost use Rattle.std.specs.List.{list_any};
+ghost use Rattle.el_base.specs.Config.{usual, within, set_counts, config_fault};
 
 /// How a machine treats an acquire.
 #[derive(Clone, Copy, Debug, PartialEq, Eq)]
@@ -66,7 +67,7 @@ impl Config {
     {
         if !lies_within(self.harts.into(), 1, 8) {
             Err(ConfigFault::Harts)
-        } else if !matches!(self.sets, 1 | 2 | 4 | 8 | 16 | 32 | 64) {
+        } else if !is_set_count(self.sets) {
             Err(ConfigFault::Sets)
         } else if !lies_within(self.ways.into(), 1, 8) {
             Err(ConfigFault::Ways)
@@ -80,6 +81,13 @@ impl Config {
             Ok(())
         }
     }
+}
+
+/// Whether a cache may have this many sets: 1, 2, 4, 8, 16, 32 or 64.
+pub fn is_set_count(sets: u8) -> bool
+    ensures { result ≡ list_any (λ n. n == sets) set_counts }
+{
+    matches!(sets, 1 | 2 | 4 | 8 | 16 | 32 | 64)
 }
 
 fn lies_within(number: u32, low: u32, high: u32) -> bool

@@ -8,7 +8,7 @@ ghost use Rattle.trace_file.specs.Spelling.{head, last_mode, IsBuilt};
 
 use crate::fault::{Fault, FaultKind};
 use crate::fields::{byte_within, expect, number_within, reaches};
-use el_base::{Config, Mode};
+use el_base::{Config, Mode, is_set_count};
 
 /// How many bytes stand before the events.
 pub const HEAD_BYTES: u32 = 22;
@@ -102,7 +102,6 @@ fn sets_of(file: &[u8]) -> Result<u8, Fault>
 {
     reaches(file, 8)?;
     let sets = file[7];
-    let known = matches!(sets, 1 | 2 | 4 | 8 | 16 | 32 | 64);
-    expect(known, FaultKind::Config, 7)?;
+    expect(is_set_count(sets), FaultKind::Config, 7)?;
     Ok(sets)
 }

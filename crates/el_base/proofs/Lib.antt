@@ -1,2 +1,3 @@
 pub mod BitSets
+pub mod Ranges
 pub mod SameLosers

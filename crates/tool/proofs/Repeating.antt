@@ -1,7 +1,6 @@
 -- A replay of the trace that a run wrote says what the run said.
-use Rattle.std.proofs.Common.{◌≡◌, ℕ, ◌+◌, ◌/◌, ◌<◌, ◌≤◌, Bool, true, false, not, cond, nat_lt, ◌==◌, List, [], ◌∷◌, length, get_or, Option, None, Some, refl, ap, sym, subst, ◌∙◌, arith}
+use Rattle.std.proofs.Common.{◌≡◌, ℕ, ◌+◌, ◌/◌, ◌<◌, ◌≤◌, Bool, true, false, nat_lt, List, [], ◌∷◌, length, get_or, Option, None, Some, refl, ap, sym, subst, ◌∙◌, arith}
 use Rattle.std.specs.Prelude.{All}
-use Rattle.std.specs.List.{list_any}
 use Rattle.std.specs.Option.{option_map, option_map_or}
 use Rattle.std.proofs.lemmas.List.{length-map}
 use Rattle.std.proofs.lemmas.Option.{slice_get-get_or}
@@ -10,11 +9,11 @@ use Rattle.std.proofs.lemmas.Bool.Decides.{nat_tests}
 use Rattle.chronicle.specs.Chronicle.{events}
 use Rattle.command_line.specs.Settings.{config_of}
 use Rattle.command_line.specs.Words.{RunJob}
-use Rattle.el_base.specs.Config.{IsInRange, config_fault, set_counts, within}
+use Rattle.el_base.specs.Config.{config_fault}
+use Rattle.el_base.proofs.Ranges.{ranges, at_least, at_most}
 use Rattle.el_base.specs.declared.events.Event.{Event}
 use Rattle.el_base.specs.declared.settings.Config.{Config}
 use Rattle.el_base.specs.declared.settings.ConfigFault.{ConfigFault}
-use Rattle.el_base.specs.declared.settings.ConfigFault.TheVariants.{Harts, Sets, Ways, Lines, Long, Steps}
 use Rattle.el_model.specs.ModelState.{ModelState, begin}
 use Rattle.el_model.specs.RoundRobin.{IsRoundRobin, IsTurnAt}
 use Rattle.el_model.specs.Runs.{entries_from}
@@ -32,37 +31,6 @@ use Rattle.trace_file.proofs.Spelled.{no_fault, one_spelling}
 use Rattle.tool.specs.declared.messages.Refusal.{Refusal}
 use Rattle.tool.specs.Answer.{Answer, ConfigAnswer, FollowAnswer, ImageAnswer, LimitedAnswer, OverImage, ReplayAnswer, RoundRobinAnswer, RunAnswer, TraceAnswer, TraceFollowed, Within, WrittenFile, ended, refused, story_of, trace_limit, written_by}
 use Rattle.tool.specs.Laws.{SaysTheSame}
-
--- The ranges of a configuration
-
-passed : (holds : Bool) (fault : ConfigFault) (later : Option ConfigFault) → cond (not holds) (Some fault) later ≡ None → (holds ≡ true) × (later ≡ None)
-passed true fault later none = (refl, none)
-passed false fault later none = absurd cc
-
-record Bounds (config : Config) : Type 0 where
-  some : 1 ≤ config.harts
-  few : config.steps ≤ 16777216
-
-bounds : (config : Config) → IsInRange config → Bounds config
-bounds config none =
-    let after_long = cond (not (within 1 16777216 config.steps)) (Some Steps) None in
-    let after_lines = cond (not (within 2 65536 config.long)) (Some Long) after_long in
-    let after_ways = cond (not (within 1 32 config.lines)) (Some Lines) after_lines in
-    let after_sets = cond (not (within 1 8 config.ways)) (Some Ways) after_ways in
-    let after_harts = cond (not (list_any (λ n. n == config.sets) set_counts)) (Some Sets) after_sets in
-    let harts = passed (within 1 8 config.harts) Harts after_harts none in
-    let sets = passed (list_any (λ n. n == config.sets) set_counts) Sets after_sets harts.1 in
-    let ways = passed (within 1 8 config.ways) Ways after_ways sets.1 in
-    let lines = passed (within 1 32 config.lines) Lines after_lines ways.1 in
-    let long = passed (within 2 65536 config.long) Long after_long lines.1 in
-    let steps = passed (within 1 16777216 config.steps) Steps None long.1 in
-    record { some = low 1 8 config.harts harts.0; few = high 1 16777216 config.steps steps.0 }
-  where
-    low : (from to n : ℕ) → within from to n ≡ true → from ≤ n
-    low from to n e = grind (arith, nat_tests)
-
-    high : (from to n : ℕ) → within from to n ≡ true → n ≤ to
-    high from to n e = grind (arith, nat_tests)
 
 -- The events of a run
 
@@ -152,16 +120,16 @@ repeats job image file ran replayed r w p =
     let accepted : (fault image config.harts ≡ None) × RoundRobinAnswer config job.trace (program_of image config.harts) ran =
     ran-image (RoundRobinAnswer config job.trace) config.harts image (fault image config.harts) ran file w small.1 in
     let story : Story = story_of (program_of image config.harts) config accepted.1.made in
-    let b : Bounds config = bounds config configured.0 in
+    let inside = ranges config configured.0 in
     let spelled : file.bytes ≡ spelling config accepted.1.made =
     wrote-story job.trace story file (sym (ap (λ (answer : Answer). answer.written) accepted.1.exact) ∙ w)
     ∙ ap (spelling config) (events-entries (begin (program_of image config.harts) config) accepted.1.made) in
     let is_trace : IsTrace config accepted.1.made = record {
       in_range = configured.0;
       few = accepted.1.round_robin.steps;
-      harts = harts-made _ config.harts config.steps accepted.1.made b.some accepted.1.round_robin;
+      harts = harts-made _ config.harts config.steps accepted.1.made (at_least 1 8 config.harts inside.harts) accepted.1.round_robin;
     } in
-    let fits : nat_lt trace_limit (length file.bytes) ≡ false = fits-trace config accepted.1.made file.bytes spelled accepted.1.round_robin.steps b.few in
+    let fits : nat_lt trace_limit (length file.bytes) ≡ false = fits-trace config accepted.1.made file.bytes spelled accepted.1.round_robin.steps (at_most 1 16777216 config.steps inside.steps) in
     let judged : Within trace_limit file.bytes (TraceAnswer image file.bytes (trace_fault file.bytes)) replayed =
     replay-limited (nat_lt file_limit (length image)) file_limit (Within trace_limit file.bytes (TraceAnswer image file.bytes (trace_fault file.bytes))) replayed small.0 p in
     let traced : TraceAnswer image file.bytes (trace_fault file.bytes) replayed =

@@ -1,5 +1,5 @@
 -- A file without a fault is the spelling of a trace.
-use Rattle.std.proofs.Common.{◌≡◌, ℕ, zero, suc, ◌+◌, ◌/◌, ◌%◌, ◌≤◌, ◌<◌, Bool, true, false, not, ◌==◌, cond, ltb, List, [], ◌∷◌, length, map, get_or, take, drop, Option, Some, None, IsTrue, refl, ap, ◌∙◌, arith}
+use Rattle.std.proofs.Common.{◌≡◌, ℕ, zero, suc, ◌+◌, ◌/◌, ◌%◌, ◌≤◌, ◌<◌, Bool, true, false, not, ◌==◌, ltb, List, [], ◌∷◌, length, map, get_or, take, drop, Option, Some, None, IsTrue, refl, ap, ◌∙◌, arith}
 use Rattle.std.specs.Prelude.{All}
 use Rattle.std.specs.List.{list_any}
 use Rattle.std.specs.Option.{option_map}
@@ -7,19 +7,18 @@ use Rattle.std.proofs.lemmas.Bool.{ltb-false}
 use Rattle.std.proofs.lemmas.Bool.Decides.{nat_tests}
 use Rattle.std.proofs.lemmas.List.Elements.{All-cons}
 use Rattle.std.proofs.lemmas.List.{length-drop}
-use Rattle.el_base.specs.Config.{within, set_counts, IsInRange}
+use Rattle.el_base.specs.Config.{within, set_counts}
+use Rattle.el_base.proofs.Ranges.{Ranges, in_range, at_most}
 use Rattle.el_base.specs.Kinds.{kind_number}
 use Rattle.el_base.specs.declared.hart_id.HartId.{HartId}
 use Rattle.el_base.specs.declared.events.Event.{Event}
 use Rattle.el_base.specs.declared.settings.Config.{Config}
-use Rattle.el_base.specs.declared.settings.ConfigFault.{ConfigFault}
-use Rattle.el_base.specs.declared.settings.ConfigFault.TheVariants.{Harts, Sets, Ways, Lines, Long, Steps}
 use Rattle.trace_file.specs.declared.fault.FaultKind.TheVariants.{Config as config_kind, Event as event_kind, Tail}
 use Rattle.trace_file.specs.Spelling.{spelling, event_byte, last_mode, IsTrace, IsBuilt}
 use Rattle.trace_file.specs.Faults.{fault_of, fault_if, first_of, byte_fault, magic_fault, version_fault, sets_fault, settings_fault, number_fault, head_fault, number_at, config_at, is_event, event_fault, end_fault, trace_fault}
 use Rattle.trace_file.proofs.EventBytes.{none_fails, all_taken}
 use Rattle.trace_file.proofs.Heads.{IsBytes, or_none, if_none, field_none, mode_none, head_spelled}
-use Rattle.trace_file.proofs.Spelled.{kind_at, Ranges, at_most, read_is}
+use Rattle.trace_file.proofs.Spelled.{kind_at, read_is}
 
 -- ---- the configuration
 
@@ -74,20 +73,6 @@ settings_within file none =
       long = (number_within file 10 2 65536 e5.0).1;
       steps = (number_within file 14 1 16777216 e6.0).1;
     }
-
-passing : (holds : Bool) (fault : ConfigFault) (later : Option ConfigFault) → holds ≡ true → later ≡ None →
-    cond (not holds) (Some fault) later ≡ None
-passing true fault later passes none = none
-passing false fault later passes none = absurd cc
-
-in_range : (c : Config) → Ranges c → IsInRange c
-in_range c r =
-    passing (within 1 8 c.harts) Harts _ r.harts
-    (passing (list_any (λ n. n == c.sets) set_counts) Sets _ r.sets
-    (passing (within 1 8 c.ways) Ways _ r.ways
-    (passing (within 1 32 c.lines) Lines _ r.lines
-    (passing (within 2 65536 c.long) Long _ r.long
-    (passing (within 1 16777216 c.steps) Steps None r.steps refl)))))
 
 -- ---- the events
 

@@ -11,6 +11,7 @@ use Rattle.std.specs.Option.{option_or}
 use Rattle.byteorder.specs.Endian.{little_bytes}
 use Rattle.byteorder.specs.Numbers.{little_number-reads_back}
 use Rattle.el_base.specs.Config.{within, set_counts, IsInRange}
+use Rattle.el_base.proofs.Ranges.{Ranges, ranges, at_most}
 use Rattle.el_base.specs.Kinds.{kind_number}
 use Rattle.el_base.specs.HartIds.{same_hart}
 use Rattle.el_base.specs.declared.hart_id.HartId.{HartId}
@@ -18,8 +19,6 @@ use Rattle.el_base.specs.declared.events.Event.{Event}
 use Rattle.el_base.specs.declared.events.Kind.{Kind}
 use Rattle.el_base.specs.declared.events.Kind.TheVariants.{Step, Order, Serve, Deliver}
 use Rattle.el_base.specs.declared.settings.Config.{Config}
-use Rattle.el_base.specs.declared.settings.ConfigFault.{ConfigFault}
-use Rattle.el_base.specs.declared.settings.ConfigFault.TheVariants.{Harts, Sets, Ways, Lines, Long, Steps}
 use Rattle.el_base.specs.declared.settings.Mode.{Mode}
 use Rattle.el_base.specs.declared.settings.Mode.TheVariants.{Plain, Sle, Tlr}
 use Rattle.trace_file.specs.declared.fault.Fault.{Fault}
@@ -27,47 +26,6 @@ use Rattle.trace_file.specs.declared.fault.FaultKind.{FaultKind}
 use Rattle.trace_file.specs.declared.fault.FaultKind.TheVariants.{Config as config_kind}
 use Rattle.trace_file.specs.Spelling.{head, spelling, mode_number, event_byte, last_mode, IsTrace, IsBuilt}
 use Rattle.trace_file.specs.Faults.{fault_if, field, byte_fault, magic_fault, version_fault, sets_fault, settings_fault, number_fault, head_fault, number_at, mode_at, is_event, event_fault, end_fault, trace_fault}
-
--- ---- a configuration in range
-
--- each field of the configuration is in its range
-pub record Ranges (c : Config) : Type 0 where
-  pub harts : within 1 8 c.harts ≡ true
-  pub sets : list_any (λ n. n == c.sets) set_counts ≡ true
-  pub ways : within 1 8 c.ways ≡ true
-  pub lines : within 1 32 c.lines ≡ true
-  pub long : within 2 65536 c.long ≡ true
-  pub steps : within 1 16777216 c.steps ≡ true
-
-passed : (holds : Bool) (fault : ConfigFault) (later : Option ConfigFault) →
-    cond (not holds) (Some fault) later ≡ None → (holds ≡ true) × (later ≡ None)
-passed true fault later none = (refl, none)
-passed false fault later none = absurd cc
-
-ranges : (c : Config) → IsInRange c → Ranges c
-ranges c none =
-    let after_long = cond (not (within 1 16777216 c.steps)) (Some Steps) None in
-    let after_lines = cond (not (within 2 65536 c.long)) (Some Long) after_long in
-    let after_ways = cond (not (within 1 32 c.lines)) (Some Lines) after_lines in
-    let after_sets = cond (not (within 1 8 c.ways)) (Some Ways) after_ways in
-    let after_harts = cond (not (list_any (λ n. n == c.sets) set_counts)) (Some Sets) after_sets in
-    let harts = passed (within 1 8 c.harts) Harts after_harts none in
-    let sets = passed (list_any (λ n. n == c.sets) set_counts) Sets after_sets harts.1 in
-    let ways = passed (within 1 8 c.ways) Ways after_ways sets.1 in
-    let lines = passed (within 1 32 c.lines) Lines after_lines ways.1 in
-    let long = passed (within 2 65536 c.long) Long after_long lines.1 in
-    let steps = passed (within 1 16777216 c.steps) Steps None long.1 in
-    record {
-      harts = harts.0;
-      sets = sets.0;
-      ways = ways.0;
-      lines = lines.0;
-      long = long.0;
-      steps = steps.0;
-    }
-
-pub at_most : (low high n : ℕ) → within low high n ≡ true → n ≤ high
-at_most low high n e = grind (arith, nat_tests)
 
 -- ---- fields without a fault
 

@@ -5,6 +5,7 @@ use Rattle.std.specs.Option.{option_or}
 use Rattle.std.proofs.lemmas.Bool.{not-false}
 use Rattle.std.proofs.lemmas.Bool.Decides.{nat_tests}
 use Rattle.std.proofs.lemmas.List.Elements.{All-nil, All-cons, All-filter, filter_passes}
+use Rattle.el_base.specs.Firsts.{first_of, some_if}
 use Rattle.elf_image.specs.declared.fault.Fault.{Fault}
 use Rattle.elf_image.specs.declared.fault.FaultKind.{FaultKind}
 use Rattle.elf_image.specs.declared.fault.FaultKind.TheVariants.{Short, Table, Overlap, TooWide, TooHigh, Entry, Empty}
@@ -12,7 +13,7 @@ use Rattle.elf_image.specs.declared.program_header.ProgramHeader.{ProgramHeader}
 use Rattle.elf_image.specs.Header.{file_header, program_headers}
 use Rattle.elf_image.specs.Limits.{stack_size}
 use Rattle.elf_image.specs.Layout.{is_segment, segment_end, segments_of, first_overlap, memory_base, memory_end}
-use Rattle.elf_image.specs.Faults.{fault, fault_of, fault_if, first_of, ident_fault, header_fault, headers_fault, memory_fault, differs, short_fault, file_kind_fault, machine_fault, flags_fault, table_fault, dynamic_fault, load_fault, segment_fault, overlap_fault, too_wide_fault, too_high_fault, entry_fault, empty_fault, has_segment, is_entry}
+use Rattle.elf_image.specs.Faults.{fault, fault_of, ident_fault, header_fault, headers_fault, memory_fault, differs, short_fault, file_kind_fault, machine_fault, flags_fault, table_fault, dynamic_fault, load_fault, segment_fault, overlap_fault, too_wide_fault, too_high_fault, entry_fault, empty_fault, has_segment, is_entry}
 use Rattle.elf_image.specs.Loaded.{Fits, IsLoadable}
 
 -- Parts of what is none
@@ -25,7 +26,7 @@ pub none_second : (a b : Option Fault) → option_or a b ≡ None → b ≡ None
 none_second None b e = e
 none_second (Some x) b e = cc
 
-pub not_fault : (condition : Bool) (kind : FaultKind) (place : ℕ) → fault_if condition kind place ≡ None → condition ≡ false
+pub not_fault : (condition : Bool) (kind : FaultKind) (place : ℕ) → some_if condition (fault_of kind place) ≡ None → condition ≡ false
 not_fault true kind place e = cc
 not_fault false kind place e = refl
 
@@ -75,8 +76,8 @@ few_headers file e =
     let machine = none_second (file_kind_fault file) _ e in
     let flags = none_second (machine_fault file) _ machine in
     let table = none_first (table_fault file) None (none_second (flags_fault file) _ flags) in
-    let rest = none_second (fault_if (differs header.e_ehsize 52) Table 40) _ table in
-    ltb-false 64 header.e_phnum (not_fault (nat_lt 64 header.e_phnum) Table 44 (none_first (fault_if (nat_lt 64 header.e_phnum) Table 44) _ rest))
+    let rest = none_second (some_if (differs header.e_ehsize 52) (fault_of Table 40)) _ table in
+    ltb-false 64 header.e_phnum (not_fault (nat_lt 64 header.e_phnum) Table 44 (none_first (some_if (nat_lt 64 header.e_phnum) (fault_of Table 44)) _ rest))
 
 -- The segments in the file
 

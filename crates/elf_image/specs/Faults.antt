@@ -1,7 +1,7 @@
 -- The grammar of images: the first of sixteen faults, or none.
-use Rattle.std.specs.Prelude.{ℕ, ◌+◌, ◌-◌, ◌*◌, ◌%◌, Bool, not, ◌&&◌, ◌==◌, nat_lt, nat_le, if◌then◌else◌, List, [], ◌∷◌, map, length, slice_index, Option, Some, None, find, position, zip, option_map}
-use Rattle.std.specs.Option.{option_or}
+use Rattle.std.specs.Prelude.{ℕ, ◌+◌, ◌-◌, ◌*◌, ◌%◌, Bool, not, ◌&&◌, ◌==◌, nat_lt, nat_le, if◌then◌else◌, List, [], ◌∷◌, map, length, slice_index, Option, None, find, position, zip, option_map}
 use Rattle.std.specs.List.{list_any}
+use Rattle.el_base.specs.Firsts.{first_of, some_if}
 use Rattle.elf_image.specs.declared.fault.Fault.{Fault}
 use Rattle.elf_image.specs.declared.fault.FaultKind.{FaultKind}
 use Rattle.elf_image.specs.declared.fault.FaultKind.TheVariants.{Short, Magic, Class, ByteOrder, Version, FileKind, Machine, Flags, Table, Dynamic, Segment, Overlap, TooWide, TooHigh, Entry, Empty}
@@ -32,21 +32,13 @@ number_of Empty = 16
 abbrev pub fault_of : FaultKind → ℕ → Fault
 fault_of kind place = record { number = number_of kind; place = place }
 
-abbrev pub fault_if : Bool → FaultKind → ℕ → Option Fault
-fault_if condition kind place = if condition then Some (fault_of kind place) else None
-
 abbrev pub differs : ℕ → ℕ → Bool
 differs value wanted = not (value == wanted)
-
--- the first that is some
-abbrev pub first_of : List (Option Fault) → Option Fault
-first_of [] = None
-first_of (fault ∷ faults) = option_or fault (first_of faults)
 
 -- e_ident
 
 abbrev pub short_fault : List ℕ → Option Fault
-short_fault file = fault_if (nat_lt (length file) 52) Short (length file)
+short_fault file = some_if (nat_lt (length file) 52) (fault_of Short (length file))
 
 -- the bytes 0x7f, 'E', 'L', 'F'
 abbrev pub elf_magic : List ℕ
@@ -61,42 +53,42 @@ magic_fault file = option_map (fault_of Magic) (magic_difference file)
 
 -- EI_CLASS is ELFCLASS32
 abbrev pub class_fault : List ℕ → Option Fault
-class_fault file = fault_if (differs (slice_index file 4) 1) Class 4
+class_fault file = some_if (differs (slice_index file 4) 1) (fault_of Class 4)
 
 -- EI_DATA is ELFDATA2LSB
 abbrev pub byte_order_fault : List ℕ → Option Fault
-byte_order_fault file = fault_if (differs (slice_index file 5) 1) ByteOrder 5
+byte_order_fault file = some_if (differs (slice_index file 5) 1) (fault_of ByteOrder 5)
 
 -- EI_VERSION and e_version are EV_CURRENT
 abbrev pub version_fault : List ℕ → Option Fault
 version_fault file =
     first_of
-    (fault_if (differs (slice_index file 6) 1) Version 6
-    ∷ fault_if (differs (file_header file).e_version 1) Version 20
+    (some_if (differs (slice_index file 6) 1) (fault_of Version 6)
+    ∷ some_if (differs (file_header file).e_version 1) (fault_of Version 20)
     ∷ [])
 
 -- The other fields of the ELF header
 
 -- e_type is ET_EXEC
 abbrev pub file_kind_fault : List ℕ → Option Fault
-file_kind_fault file = fault_if (differs (file_header file).e_type 2) FileKind 16
+file_kind_fault file = some_if (differs (file_header file).e_type 2) (fault_of FileKind 16)
 
 -- e_machine is EM_RISCV
 abbrev pub machine_fault : List ℕ → Option Fault
-machine_fault file = fault_if (differs (file_header file).e_machine 243) Machine 18
+machine_fault file = some_if (differs (file_header file).e_machine 243) (fault_of Machine 18)
 
 -- EF_RISCV_RVC, EF_RISCV_FLOAT_ABI and EF_RISCV_RVE are the low four bits
 abbrev pub flags_fault : List ℕ → Option Fault
-flags_fault file = fault_if (differs ((file_header file).e_flags % 16) 0) Flags 36
+flags_fault file = some_if (differs ((file_header file).e_flags % 16) 0) (fault_of Flags 36)
 
 -- the sizes are those of ELF32, there are few headers, and all lie in the file
 abbrev pub table_form_fault : FileHeader → ℕ → Option Fault
 table_form_fault header file_len =
     first_of
-    (fault_if (differs header.e_ehsize 52) Table 40
-    ∷ fault_if (nat_lt 64 header.e_phnum) Table 44
-    ∷ fault_if (nat_le 1 header.e_phnum && differs header.e_phentsize 32) Table 42
-    ∷ fault_if (nat_lt file_len (header.e_phoff + 32 * header.e_phnum)) Table 28
+    (some_if (differs header.e_ehsize 52) (fault_of Table 40)
+    ∷ some_if (nat_lt 64 header.e_phnum) (fault_of Table 44)
+    ∷ some_if (nat_le 1 header.e_phnum && differs header.e_phentsize 32) (fault_of Table 42)
+    ∷ some_if (nat_lt file_len (header.e_phoff + 32 * header.e_phnum)) (fault_of Table 28)
     ∷ [])
 
 abbrev pub table_fault : List ℕ → Option Fault
@@ -117,8 +109,8 @@ abbrev pub load_fault : ℕ → ProgramHeader → Option Fault
 load_fault file_len header =
     if is_load header
     then first_of
-    (fault_if (nat_lt header.p_memsz header.p_filesz) Segment (header.place + 16)
-    ∷ fault_if (nat_le 1 header.p_filesz && nat_lt file_len (header.p_offset + header.p_filesz)) Segment (header.place + 4)
+    (some_if (nat_lt header.p_memsz header.p_filesz) (fault_of Segment (header.place + 16))
+    ∷ some_if (nat_le 1 header.p_filesz && nat_lt file_len (header.p_offset + header.p_filesz)) (fault_of Segment (header.place + 4))
     ∷ [])
     else None
 
@@ -135,21 +127,21 @@ has_segment segments = nat_lt 0 (length segments)
 
 abbrev pub too_wide_fault : List ProgramHeader → ℕ → Option Fault
 too_wide_fault segments harts =
-    fault_if (has_segment segments && nat_lt 16777216 (memory_end segments harts - memory_base segments)) TooWide 28
+    some_if (has_segment segments && nat_lt 16777216 (memory_end segments harts - memory_base segments)) (fault_of TooWide 28)
 
 abbrev pub too_high_fault : List ProgramHeader → ℕ → Option Fault
 too_high_fault segments harts =
-    fault_if (has_segment segments && nat_lt 0xffff0000 (memory_end segments harts)) TooHigh 28
+    some_if (has_segment segments && nat_lt 0xffff0000 (memory_end segments harts)) (fault_of TooHigh 28)
 
 -- an instruction is aligned, and all of it lies in one executable segment
 abbrev pub is_entry : List ProgramHeader → ℕ → Bool
 is_entry segments entry = entry % 4 == 0 && list_any (has_instruction entry) segments
 
 abbrev pub entry_fault : List ProgramHeader → ℕ → Option Fault
-entry_fault segments entry = fault_if (has_segment segments && not (is_entry segments entry)) Entry 24
+entry_fault segments entry = some_if (has_segment segments && not (is_entry segments entry)) (fault_of Entry 24)
 
 abbrev pub empty_fault : List ProgramHeader → Option Fault
-empty_fault segments = fault_if (not (has_segment segments)) Empty 44
+empty_fault segments = some_if (not (has_segment segments)) (fault_of Empty 44)
 
 -- All of them in order
 

@@ -6,13 +6,14 @@ use Rattle.std.proofs.lemmas.List.{get_or-drop, length-drop, drop-drop}
 use Rattle.std.specs.Option.{option_or}
 use Rattle.std.proofs.lemmas.Bool.Decides.{nat_tests}
 use Rattle.el_base.specs.Config.{within}
+use Rattle.el_base.specs.Firsts.{first_of, some_if}
 use Rattle.byteorder.specs.Endian.{little_bytes, little_number}
 use Rattle.el_base.specs.declared.settings.Config.{Config}
 use Rattle.trace_file.specs.declared.fault.Fault.{Fault}
 use Rattle.trace_file.specs.declared.fault.FaultKind.{FaultKind}
 use Rattle.trace_file.specs.declared.fault.FaultKind.TheVariants.{Short, Magic, Version, Config as config_kind}
 use Rattle.trace_file.specs.Spelling.{head, mode_number, last_mode}
-use Rattle.trace_file.specs.Faults.{fault_of, fault_if, first_of, field, wrong, byte_fault, magic_fault, version_fault, sets_fault, settings_fault, number_fault, number_at, mode_at, config_at}
+use Rattle.trace_file.specs.Faults.{fault_of, field, wrong, byte_fault, magic_fault, version_fault, sets_fault, settings_fault, number_fault, number_at, mode_at, config_at}
 
 abbrev pub IsBytes : List ℕ → Type 0
 IsBytes bytes = (i : ℕ) → get_or bytes i 0 < 256
@@ -66,7 +67,7 @@ pub or_none : (a b : Option Fault) → option_or a b ≡ None → (a ≡ None) �
 or_none None b none = (refl, none)
 or_none (Some fault) b none = absurd cc
 
-pub if_none : (wrong : Bool) (kind : FaultKind) (place : ℕ) → fault_if wrong kind place ≡ None → wrong ≡ false
+pub if_none : (wrong : Bool) (kind : FaultKind) (place : ℕ) → some_if wrong (fault_of kind place) ≡ None → wrong ≡ false
 if_none true kind place none = absurd cc
 if_none false kind place none = refl
 
@@ -126,7 +127,7 @@ byte_none : (file : List ℕ) (place low high : ℕ) → byte_fault file place l
 unfolding byte_fault
 byte_none file place low high none =
     let beyond = not (within low high (get_or file place 0)) in
-    let e = field_none file (place + 1) (fault_if beyond config_kind place) none in
+    let e = field_none file (place + 1) (some_if beyond (fault_of config_kind place)) none in
     within_of low high (get_or file place 0) (if_none beyond config_kind place e.1)
 
 pub mode_none : (file : List ℕ) → settings_fault file ≡ None →

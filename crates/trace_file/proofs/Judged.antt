@@ -8,6 +8,7 @@ use Rattle.std.proofs.lemmas.Bool.Decides.{nat_tests}
 use Rattle.std.proofs.lemmas.List.Elements.{All-cons}
 use Rattle.std.proofs.lemmas.List.{length-drop}
 use Rattle.el_base.specs.Config.{within, set_counts}
+use Rattle.el_base.specs.Firsts.{first_of, some_if}
 use Rattle.el_base.proofs.Ranges.{Ranges, in_range, at_most}
 use Rattle.el_base.specs.Kinds.{kind_number}
 use Rattle.el_base.specs.declared.hart_id.HartId.{HartId}
@@ -15,7 +16,7 @@ use Rattle.el_base.specs.declared.events.Event.{Event}
 use Rattle.el_base.specs.declared.settings.Config.{Config}
 use Rattle.trace_file.specs.declared.fault.FaultKind.TheVariants.{Config as config_kind, Event as event_kind, Tail}
 use Rattle.trace_file.specs.Spelling.{spelling, event_byte, last_mode, IsTrace, IsBuilt}
-use Rattle.trace_file.specs.Faults.{fault_of, fault_if, first_of, byte_fault, magic_fault, version_fault, sets_fault, settings_fault, number_fault, head_fault, number_at, config_at, is_event, event_fault, end_fault, trace_fault}
+use Rattle.trace_file.specs.Faults.{fault_of, byte_fault, magic_fault, version_fault, sets_fault, settings_fault, number_fault, head_fault, number_at, config_at, is_event, event_fault, end_fault, trace_fault}
 use Rattle.trace_file.proofs.EventBytes.{none_fails, all_taken}
 use Rattle.trace_file.proofs.Heads.{IsBytes, or_none, if_none, field_none, mode_none, head_spelled}
 use Rattle.trace_file.proofs.Spelled.{kind_at, read_is}
@@ -31,7 +32,7 @@ byte_within : (file : List ℕ) (place low high : ℕ) → byte_fault file place
 unfolding byte_fault
 byte_within file place low high none =
     let inside = within low high (get_or file place 0) in
-    let e = field_none file (place + 1) (fault_if (not inside) config_kind place) none in
+    let e = field_none file (place + 1) (some_if (not inside) (fault_of config_kind place)) none in
     not_true inside (if_none (not inside) config_kind place e.1)
 
 number_within : (file : List ℕ) (place low high : ℕ) → number_fault file place low high ≡ None →
@@ -39,14 +40,14 @@ number_within : (file : List ℕ) (place low high : ℕ) → number_fault file p
 unfolding number_fault
 number_within file place low high none =
     let inside = within low high (number_at file place) in
-    let e = field_none file (place + 4) (fault_if (not inside) config_kind place) none in
+    let e = field_none file (place + 4) (some_if (not inside) (fault_of config_kind place)) none in
     (e.0, not_true inside (if_none (not inside) config_kind place e.1))
 
 sets_known : (file : List ℕ) → sets_fault file ≡ None → list_any (λ n. n == get_or file 7 0) set_counts ≡ true
 unfolding sets_fault
 sets_known file none =
     let known = list_any (λ n. n == get_or file 7 0) set_counts in
-    let e = field_none file 8 (fault_if (not known) config_kind 7) none in
+    let e = field_none file 8 (some_if (not known) (fault_of config_kind 7)) none in
     not_true known (if_none (not known) config_kind 7 e.1)
 
 settings_within : (file : List ℕ) → settings_fault file ≡ None → Ranges (config_at file)
@@ -133,7 +134,7 @@ faultless file fits none =
     let r = settings_within file h2.0 in
     let spelled = head_spelled file c count fits number.0 h0.0 h1.0 h2.0 refl refl in
     let over = ltb (22 + count) (length file) in
-    let end = field_none file (22 + count) (fault_if over Tail (22 + count)) e2.0 in
+    let end = field_none file (22 + count) (some_if over (fault_of Tail (22 + count))) e2.0 in
     let most : length file ≤ 22 + count = ltb-false (22 + count) (length file) (if_none over Tail (22 + count) end.1) in
     let whole : length file ≡ 22 + count = omega (arith, end.0, most) in
     let bytes = drop 22 file in

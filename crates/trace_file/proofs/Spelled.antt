@@ -11,6 +11,7 @@ use Rattle.std.specs.Option.{option_or}
 use Rattle.byteorder.specs.Endian.{little_bytes}
 use Rattle.byteorder.specs.Numbers.{little_number-reads_back}
 use Rattle.el_base.specs.Config.{within, set_counts, IsInRange}
+use Rattle.el_base.specs.Firsts.{some_if}
 use Rattle.el_base.proofs.Ranges.{Ranges, ranges, at_most}
 use Rattle.el_base.specs.Kinds.{kind_number}
 use Rattle.el_base.specs.HartIds.{same_hart}
@@ -25,7 +26,7 @@ use Rattle.trace_file.specs.declared.fault.Fault.{Fault}
 use Rattle.trace_file.specs.declared.fault.FaultKind.{FaultKind}
 use Rattle.trace_file.specs.declared.fault.FaultKind.TheVariants.{Config as config_kind}
 use Rattle.trace_file.specs.Spelling.{head, spelling, mode_number, event_byte, last_mode, IsTrace, IsBuilt}
-use Rattle.trace_file.specs.Faults.{fault_if, field, byte_fault, magic_fault, version_fault, sets_fault, settings_fault, number_fault, head_fault, number_at, mode_at, is_event, event_fault, end_fault, trace_fault}
+use Rattle.trace_file.specs.Faults.{fault_of, field, byte_fault, magic_fault, version_fault, sets_fault, settings_fault, number_fault, head_fault, number_at, mode_at, is_event, event_fault, end_fault, trace_fault}
 
 -- ---- fields without a fault
 
@@ -34,7 +35,7 @@ field_passes : (file : List ℕ) (end : ℕ) (fault : Option Fault) → end ≤ 
 unfolding field
 field_passes file end fault whole none = rw (le-ltb (length file) end whole) none
 
-holds_passes : (holds : Bool) (kind : FaultKind) (place : ℕ) → holds ≡ true → fault_if (not holds) kind place ≡ None
+holds_passes : (holds : Bool) (kind : FaultKind) (place : ℕ) → holds ≡ true → some_if (not holds) (fault_of kind place) ≡ None
 holds_passes true kind place e = refl
 holds_passes false kind place e = absurd cc
 

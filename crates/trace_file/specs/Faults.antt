@@ -1,10 +1,11 @@
 -- The faults of a trace: the file is read from left to right, each field is judged as soon as it is
 -- whole, and the first fault is the answer.
 use Rattle.std.specs.Prelude.{◌≡◌, ℕ, ◌+◌, ◌/◌, ◌%◌, Bool, not, ◌&&◌, ◌==◌, nat_lt, nat_le, if◌then◌else◌, List, [], ◌∷◌, length, take, drop, slice_index, Option, Some, None, Result, Ok, Err, position}
-use Rattle.std.specs.Option.{option_or, option_map}
+use Rattle.std.specs.Option.{option_map}
 use Rattle.std.specs.List.{list_any}
 use Rattle.byteorder.specs.Endian.{little_number}
 use Rattle.el_base.specs.Config.{within, set_counts}
+use Rattle.el_base.specs.Firsts.{first_of, some_if}
 use Rattle.el_base.specs.declared.settings.Config as settings
 use Rattle.el_base.specs.declared.settings.Mode.{Mode}
 use Rattle.el_base.specs.declared.settings.Mode.TheVariants.{Plain, Sle, Tlr}
@@ -25,21 +26,13 @@ number_of Tail = 6
 abbrev pub fault_of : FaultKind → ℕ → Fault
 fault_of kind place = record { number = number_of kind; place = place }
 
-abbrev pub fault_if : Bool → FaultKind → ℕ → Option Fault
-fault_if condition kind place = if condition then Some (fault_of kind place) else None
-
--- the first that is some
-abbrev pub first_of : List (Option Fault) → Option Fault
-first_of [] = None
-first_of (fault ∷ faults) = option_or fault (first_of faults)
-
 -- a field that ends at this place: the file ends in it, or it has this fault, if it has one
 unfoldable pub field : List ℕ → ℕ → Option Fault → Option Fault
 field file end fault = if nat_lt (length file) end then Some (fault_of Short (length file)) else fault
 
 -- the byte at a place is not the one that is wanted there
 abbrev pub wrong : List ℕ → ℕ → ℕ → FaultKind → Option Fault
-wrong file place wanted kind = fault_if (not (slice_index file place == wanted)) kind place
+wrong file place wanted kind = some_if (not (slice_index file place == wanted)) (fault_of kind place)
 
 -- the number of four bytes at a place, the lowest first
 abbrev pub number_at : List ℕ → ℕ → ℕ
@@ -48,11 +41,11 @@ number_at file place = little_number 4 (drop place file)
 -- a byte of the configuration, and a number of four bytes
 unfoldable pub byte_fault : List ℕ → ℕ → ℕ → ℕ → Option Fault
 byte_fault file place low high =
-    field file (place + 1) (fault_if (not (within low high (slice_index file place))) Config place)
+    field file (place + 1) (some_if (not (within low high (slice_index file place))) (fault_of Config place))
 
 unfoldable pub number_fault : List ℕ → ℕ → ℕ → ℕ → Option Fault
 number_fault file place low high =
-    field file (place + 4) (fault_if (not (within low high (number_at file place))) Config place)
+    field file (place + 4) (some_if (not (within low high (number_at file place))) (fault_of Config place))
 
 unfoldable pub magic_fault : List ℕ → Option Fault
 magic_fault file =
@@ -69,7 +62,7 @@ version_fault file = field file 5 (wrong file 4 1 Version)
 
 unfoldable pub sets_fault : List ℕ → Option Fault
 sets_fault file =
-    field file 8 (fault_if (not (list_any (λ n. n == slice_index file 7) set_counts)) Config 7)
+    field file 8 (some_if (not (list_any (λ n. n == slice_index file 7) set_counts)) (fault_of Config 7))
 
 -- the fields of the configuration, in their order
 unfoldable pub settings_fault : List ℕ → Option Fault
@@ -107,7 +100,7 @@ event_fault harts count file =
 
 -- the file ends before the last of this many events, or goes on behind it
 unfoldable pub end_fault : ℕ → List ℕ → Option Fault
-end_fault count file = field file (22 + count) (fault_if (nat_lt (22 + count) (length file)) Tail (22 + count))
+end_fault count file = field file (22 + count) (some_if (nat_lt (22 + count) (length file)) (fault_of Tail (22 + count)))
 
 -- the first fault of a file, if it has one
 unfoldable pub trace_fault : List ℕ → Option Fault

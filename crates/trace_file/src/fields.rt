@@ -1,7 +1,8 @@
 //! Single fields of a trace, each judged as soon as it is whole.
 
 ghost use Rattle.std.specs.Prelude.{◌≡◌, ◌+◌, ◌<◌, ◌≤◌, ◌^◌, None, Some, not, length, slice_index, IfOk, MatchResult};
-ghost use Rattle.trace_file.specs.Faults.{Answers, field, wrong, fault_if, fault_of, byte_fault, number_at, number_fault};
+ghost use Rattle.el_base.specs.Firsts.{some_if};
+ghost use Rattle.trace_file.specs.Faults.{Answers, field, wrong, fault_of, byte_fault, number_at, number_fault};
 
 use crate::fault::{Fault, FaultKind};
 use byteorder::{ByteOrder, LittleEndian};
@@ -21,7 +22,7 @@ pub fn reaches(file: &[u8], end: u32) -> Result<(), Fault>
 
 /// That a condition holds. Where it does not, the place shows the fault.
 pub fn expect(holds: bool, kind: FaultKind, place: u32) -> Result<(), Fault>
-    ensures { Answers result tt (fault_if (not holds) kind place) }
+    ensures { Answers result tt (some_if (not holds) (fault_of kind place)) }
 {
     if holds {
         Ok(())

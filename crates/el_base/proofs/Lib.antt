@@ -1,3 +1,4 @@
 pub mod BitSets
+pub mod HartIds
 pub mod Ranges
 pub mod SameLosers

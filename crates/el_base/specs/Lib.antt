@@ -1,6 +1,5 @@
 pub mod Config
 pub mod Firsts
-pub mod HartIds
 pub mod Harts
 pub mod Kinds
 pub mod Losers

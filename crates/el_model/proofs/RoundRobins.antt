@@ -1,14 +1,13 @@
 -- the list of a round robin is the only one
-use Rattle.std.proofs.Common.{◌≡◌, ℕ, suc, ◌+◌, ◌<◌, ◌≤◌, List, [], ◌∷◌, length, take, Some, true, false, refl, sym, ◌∙◌, ap, subst, arith, inl, inr}
-use Rattle.std.specs.Coded.{le_prop}
+use Rattle.std.proofs.Common.{◌≡◌, ℕ, suc, ◌+◌, ◌<◌, ◌≤◌, List, [], ◌∷◌, length, take, Some, true, false, refl, sym, ◌∙◌, ap, arith, inl, inr}
 use Rattle.std.specs.Prelude.{slice_get}
 use Rattle.std.proofs.Math.Seq.{take-length}
 use Rattle.std.proofs.lemmas.Bool.{cases_order}
 use Rattle.el_base.specs.declared.events.Event.{Event}
 use Rattle.el_base.specs.declared.events.Kind.{Kind}
 use Rattle.el_base.specs.declared.events.Kind.TheVariants.{Step, Order, Serve, Deliver}
-use Rattle.el_base.specs.declared.hart_id.HartId.{HartId}
 use Rattle.el_base.specs.Kinds.{kind_number}
+use Rattle.el_base.proofs.HartIds.{same_hart}
 use Rattle.el_model.specs.ModelState.{ModelState, is_over}
 use Rattle.el_model.specs.RoundRobin.{IsTurnAt, IsRoundRobin}
 use Rattle.el_model.specs.Runs.{state_after}
@@ -31,16 +30,11 @@ one_kind Deliver Step h = absurd (omega arith)
 one_kind Deliver Order h = absurd (omega arith)
 one_kind Deliver Serve h = absurd (omega arith)
 
-one_hart : (a b : HartId) → a.number ≡ b.number → a ≡ b
-one_hart a b same =
-    let P : ℕ → Type 0 = λ n. (p : n < 8) → a ≡ record { number = n; small = p } in
-    subst P same (λ p. let prop : IsProp (a.number < 8) = hlevel le_prop in ap (λ q. record { number = a.number; small = q }) (prop a.small p)) b.small
-
 -- one event stands at a place
 one_turn : (harts place : ℕ) (a b : Event) → IsTurnAt harts place a → IsTurnAt harts place b → a ≡ b
 one_turn harts place a b first second =
     let kinds : a.kind ≡ b.kind = one_kind a.kind b.kind (first.kind ∙ sym second.kind) in
-    let ids : a.hart ≡ b.hart = one_hart a.hart b.hart (first.hart ∙ sym second.hart) in
+    let ids : a.hart ≡ b.hart = same_hart a.hart b.hart (first.hart ∙ sym second.hart) in
     let same_kind : a ≡ record { kind = b.kind; hart = a.hart } = ap (λ k. record { kind = k; hart = a.hart }) kinds in
     same_kind ∙ ap (λ h. record { kind = b.kind; hart = h }) ids
 

@@ -14,7 +14,7 @@ use Rattle.el_base.specs.Config.{within, set_counts, IsInRange}
 use Rattle.el_base.specs.Firsts.{some_if}
 use Rattle.el_base.proofs.Ranges.{Ranges, ranges, at_most}
 use Rattle.el_base.specs.Kinds.{kind_number}
-use Rattle.el_base.specs.HartIds.{same_hart}
+use Rattle.el_base.proofs.HartIds.{same_hart}
 use Rattle.el_base.specs.declared.hart_id.HartId.{HartId}
 use Rattle.el_base.specs.declared.events.Event.{Event}
 use Rattle.el_base.specs.declared.events.Kind.{Kind}

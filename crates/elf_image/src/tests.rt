@@ -18,30 +18,35 @@ const FILE: [u8; 122] = [
 /// The most bytes of a file.
 const LIMIT: usize = 33_554_432;
 
-/// The image, or the number and the place of the fault.
+/// The image, or the fault.
 fn loaded(
     rt: &impl Abort,
     alloc: Global,
     file: &[u8],
     harts: u8,
-) -> Result<Result<Image, (u8, u32)>, AllocError> {
+) -> Result<Result<Image, Fault>, AllocError> {
     assert!(rt; file.len() <= LIMIT);
     assert!(rt; (1..=8).contains(&harts));
     match load(alloc, file, harts) {
         Ok(image) => Ok(Ok(image)),
-        Err(ImageFault::Bad { number, place }) => Ok(Err((number, place))),
+        Err(ImageFault::Bad { number, place }) => Ok(Err(Fault { number, place })),
         Err(ImageFault::NoMemory) => Err(AllocError),
     }
 }
 
-/// The number and the place of the fault, or none.
+/// The fault, or none.
 fn judged(
     rt: &impl Abort,
     alloc: Global,
     file: &[u8],
     harts: u8,
-) -> Result<Option<(u8, u32)>, AllocError> {
+) -> Result<Option<Fault>, AllocError> {
     Ok(loaded(rt, alloc, file, harts)?.err())
+}
+
+/// The fault of a kind at a place, or none.
+fn bad(fault: Option<(FaultKind, u32)>) -> Option<Fault> {
+    fault.map(|(kind, place)| Fault::new(kind, place))
 }
 
 /// The file with bytes written over it, each with its place.
@@ -79,13 +84,38 @@ fn file_of(
     Ok(file)
 }
 
+/// The numbers that a user reads.
+#[test]
+fn each_kind_has_its_number(rt: HostRuntime) {
+    for (kind, number) in [
+        (FaultKind::Short, 1),
+        (FaultKind::Magic, 2),
+        (FaultKind::Class, 3),
+        (FaultKind::ByteOrder, 4),
+        (FaultKind::Version, 5),
+        (FaultKind::FileKind, 6),
+        (FaultKind::Machine, 7),
+        (FaultKind::Flags, 8),
+        (FaultKind::Table, 9),
+        (FaultKind::Dynamic, 10),
+        (FaultKind::Segment, 11),
+        (FaultKind::Overlap, 12),
+        (FaultKind::TooWide, 13),
+        (FaultKind::TooHigh, 14),
+        (FaultKind::Entry, 15),
+        (FaultKind::Empty, 16),
+    ] {
+        assert_eq!(rt; Fault::new(kind, 0).number, number, "{kind:?}");
+    }
+}
+
 #[test]
 fn cut_files_are_refused(rt: HostRuntime) -> Result<(), Fail> {
     for len in 0..FILE.len() {
         let want = match len {
-            0..52 => (1, len as u32),
-            52..84 => (9, 28),
-            _ => (11, 56),
+            0..52 => Fault::new(FaultKind::Short, len as u32),
+            52..84 => Fault::new(FaultKind::Table, 28),
+            _ => Fault::new(FaultKind::Segment, 56),
         };
         let found = judged(&rt, rt.alloc(), &FILE[..len], 1)?;
         assert_eq!(rt; found, Some(want), "cut to {len}");
@@ -95,32 +125,32 @@ fn cut_files_are_refused(rt: HostRuntime) -> Result<(), Fail> {
 
 #[test]
 fn changed_files_have_their_first_fault(rt: HostRuntime) -> Result<(), Fail> {
-    let changes: [(&[(usize, u8)], Option<(u8, u32)>); 29] = [
+    let changes: [(&[(usize, u8)], Option<(FaultKind, u32)>); 29] = [
         (&[], None),
-        (&[(0, 0)], Some((2, 0))),
-        (&[(3, 0x47), (1, 0)], Some((2, 1))),
-        (&[(4, 2)], Some((3, 4))),
-        (&[(5, 2)], Some((4, 5))),
-        (&[(6, 2), (20, 2)], Some((5, 6))),
-        (&[(20, 2)], Some((5, 20))),
-        (&[(16, 3), (36, 1)], Some((6, 16))),
-        (&[(18, 0x28)], Some((7, 18))),
-        (&[(36, 1), (40, 64)], Some((8, 36))),
-        (&[(36, 8)], Some((8, 36))),
+        (&[(0, 0)], Some((FaultKind::Magic, 0))),
+        (&[(3, 0x47), (1, 0)], Some((FaultKind::Magic, 1))),
+        (&[(4, 2)], Some((FaultKind::Class, 4))),
+        (&[(5, 2)], Some((FaultKind::ByteOrder, 5))),
+        (&[(6, 2), (20, 2)], Some((FaultKind::Version, 6))),
+        (&[(20, 2)], Some((FaultKind::Version, 20))),
+        (&[(16, 3), (36, 1)], Some((FaultKind::FileKind, 16))),
+        (&[(18, 0x28)], Some((FaultKind::Machine, 18))),
+        (&[(36, 1), (40, 64)], Some((FaultKind::Flags, 36))),
+        (&[(36, 8)], Some((FaultKind::Flags, 36))),
         (&[(36, 0x10)], None),
-        (&[(40, 64)], Some((9, 40))),
-        (&[(42, 56)], Some((9, 42))),
-        (&[(44, 0xff), (45, 0xff)], Some((9, 44))),
-        (&[(44, 65)], Some((9, 44))),
-        (&[(44, 64)], Some((9, 28))),
-        (&[(44, 0), (42, 0)], Some((16, 44))),
+        (&[(40, 64)], Some((FaultKind::Table, 40))),
+        (&[(42, 56)], Some((FaultKind::Table, 42))),
+        (&[(44, 0xff), (45, 0xff)], Some((FaultKind::Table, 44))),
+        (&[(44, 65)], Some((FaultKind::Table, 44))),
+        (&[(44, 64)], Some((FaultKind::Table, 28))),
+        (&[(44, 0), (42, 0)], Some((FaultKind::Empty, 44))),
         (
             &[(28, 0xff), (29, 0xff), (30, 0xff), (31, 0xff)],
-            Some((9, 28)),
+            Some((FaultKind::Table, 28)),
         ),
-        (&[(52, 2)], Some((10, 52))),
-        (&[(52, 3)], Some((10, 52))),
-        (&[(52, 0)], Some((16, 44))),
+        (&[(52, 2)], Some((FaultKind::Dynamic, 52))),
+        (&[(52, 3)], Some((FaultKind::Dynamic, 52))),
+        (&[(52, 0)], Some((FaultKind::Empty, 44))),
         (
             &[
                 (60, 0),
@@ -130,21 +160,21 @@ fn changed_files_have_their_first_fault(rt: HostRuntime) -> Result<(), Fail> {
                 (72, 0),
                 (73, 2),
             ],
-            Some((14, 28)),
+            Some((FaultKind::TooHigh, 28)),
         ),
-        (&[(72, 0x79)], Some((11, 68))),
+        (&[(72, 0x79)], Some((FaultKind::Segment, 68))),
         (
             &[(59, 0xff), (58, 0xff), (57, 0xff), (56, 0xff)],
-            Some((11, 56)),
+            Some((FaultKind::Segment, 56)),
         ),
-        (&[(76, 4)], Some((15, 24))),
-        (&[(24, 0x56)], Some((15, 24))),
-        (&[(24, 0x78)], Some((15, 24))),
+        (&[(76, 4)], Some((FaultKind::Entry, 24))),
+        (&[(24, 0x56)], Some((FaultKind::Entry, 24))),
+        (&[(24, 0x78)], Some((FaultKind::Entry, 24))),
         (&[(76, 7)], None),
     ];
     for (edits, want) in changes {
         let found = judged(&rt, rt.alloc(), &changed(edits), 1)?;
-        assert_eq!(rt; found, want, "{edits:?}");
+        assert_eq!(rt; found, bad(want), "{edits:?}");
     }
     Ok(())
 }
@@ -212,7 +242,7 @@ fn a_linkers_usual_image_is_taken(rt: HostRuntime) -> Result<(), Fail> {
 #[test]
 fn segments_share_no_byte(rt: HostRuntime) -> Result<(), Fail> {
     let code = [1, 0x94, 0x10000, 8, 8, 5];
-    let rows: [([u32; 6], [u32; 6], Option<(u8, u32)>); 6] = [
+    let rows: [([u32; 6], [u32; 6], Option<(FaultKind, u32)>); 6] = [
         // adjacent, in either order
         (
             [1, 0x94, 0x10008, 4, 8, 6],
@@ -223,18 +253,18 @@ fn segments_share_no_byte(rt: HostRuntime) -> Result<(), Fail> {
         (
             [1, 0x94, 0x10007, 4, 8, 6],
             [0, 0, 0, 0, 0, 0],
-            Some((12, 84)),
+            Some((FaultKind::Overlap, 84)),
         ),
         (
             [1, 0x94, 0x10010, 4, 8, 6],
             [1, 0x94, 0xfff8, 4, 9, 6],
-            Some((12, 116)),
+            Some((FaultKind::Overlap, 116)),
         ),
         // the same bytes twice
         (
             [1, 0x94, 0x10008, 4, 8, 6],
             [1, 0x94, 0x10008, 4, 8, 6],
-            Some((12, 116)),
+            Some((FaultKind::Overlap, 116)),
         ),
         // a header without memory is no segment, and one without bytes in the file may name any place
         (
@@ -246,13 +276,13 @@ fn segments_share_no_byte(rt: HostRuntime) -> Result<(), Fail> {
         (
             [1, 0xffff_fffc, 0x10008, 8, 8, 6],
             [0, 0, 0, 0, 0, 0],
-            Some((11, 88)),
+            Some((FaultKind::Segment, 88)),
         ),
     ];
     for (second, third, want) in rows {
         let file = file_of(rt.alloc(), 0x10000, &[code, second, third], 0x9c)?;
         let found = judged(&rt, rt.alloc(), &file, 1)?;
-        assert_eq!(rt; found, want, "{second:?} {third:?}");
+        assert_eq!(rt; found, bad(want), "{second:?} {third:?}");
     }
     Ok(())
 }
@@ -281,10 +311,10 @@ fn a_word_lies_in_one_segment(rt: HostRuntime) -> Result<(), Fail> {
 fn memory_has_at_most_16_mib(rt: HostRuntime) -> Result<(), Fail> {
     for (memory, harts, want) in [
         (16_711_680, 1, None),
-        (16_711_681, 1, Some((13, 28))),
+        (16_711_681, 1, Some((FaultKind::TooWide, 28))),
         (16_252_928, 8, None),
-        (16_252_929, 8, Some((13, 28))),
-        (u32::MAX, 1, Some((13, 28))),
+        (16_252_929, 8, Some((FaultKind::TooWide, 28))),
+        (u32::MAX, 1, Some((FaultKind::TooWide, 28))),
     ] {
         let headers = [[1, 0x54, 0x8000_0000, 4, memory, 5]];
         let file = file_of(rt.alloc(), 0x8000_0000, &headers, 0x58)?;
@@ -292,7 +322,7 @@ fn memory_has_at_most_16_mib(rt: HostRuntime) -> Result<(), Fail> {
         if let Ok(image) = &image {
             assert_eq!(rt; image.bytes().len(), 16_777_216);
         }
-        assert_eq!(rt; image.err(), want, "{memory} bytes, {harts} harts");
+        assert_eq!(rt; image.err(), bad(want), "{memory} bytes, {harts} harts");
     }
     Ok(())
 }

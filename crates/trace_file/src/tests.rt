@@ -2,6 +2,7 @@ ghost use Rattle.std.specs.Prelude.{◌≡◌, ◌^◌, ◌<◌, length, IfOk};
 ghost use Rattle.chronicle.specs.Chronicle.{events};
 
 use super::*;
+use crate::fault::{Fault, FaultKind};
 use chronicle::History;
 use el_base::{Config, Entry, Event, HartId, Kind, Mode, Outcome};
 use el_io::{MemShelf, ShelfFault, SureShelf};
@@ -56,11 +57,16 @@ fn change(file: &mut [u8], changes: &[(usize, u8)]) {
     }
 }
 
-fn fault_of(alloc: Global, file: &[u8]) -> Option<(u8, u32)> {
+fn fault_of(alloc: Global, file: &[u8]) -> Option<Fault> {
     match read_trace(alloc, file) {
-        Err(TraceFault::Bad { number, place }) => Some((number, place)),
+        Err(TraceFault::Bad { number, place }) => Some(Fault { number, place }),
         _ => None,
     }
+}
+
+/// The fault of a kind at a place, or none.
+fn bad(fault: Option<(FaultKind, u32)>) -> Option<Fault> {
+    fault.map(|(kind, place)| Fault::new(kind, place))
 }
 
 #[test]
@@ -108,63 +114,95 @@ fn each_kind_and_hart_has_its_byte(rt: HostRuntime) -> Result<(), Fail> {
     Ok(())
 }
 
+/// The numbers that a user reads.
+#[test]
+fn each_kind_has_its_number(rt: HostRuntime) {
+    for (kind, number) in [
+        (FaultKind::Short, 1),
+        (FaultKind::Magic, 2),
+        (FaultKind::Version, 3),
+        (FaultKind::Config, 4),
+        (FaultKind::Event, 5),
+        (FaultKind::Tail, 6),
+    ] {
+        assert_eq!(rt; Fault::new(kind, 0).number, number, "{kind:?}");
+    }
+}
+
 #[test]
 fn each_cut_is_short(rt: HostRuntime) -> Result<(), Fail> {
     let mut file = worked(rt.alloc())?;
     for len in 0..55_u32 {
         assert!(rt; len as usize <= file.len());
         let cut = fault_of(rt.alloc(), &file[..len as usize]);
-        assert_eq!(rt; cut, Some((1, len)), "cut to {len}");
+        assert_eq!(rt;
+            cut,
+            Some(Fault::new(FaultKind::Short, len)),
+            "cut to {len}"
+        );
     }
     file.push(0x00)?;
-    assert_eq!(rt; fault_of(rt.alloc(), &file), Some((6, 55)));
+    assert_eq!(rt;
+        fault_of(rt.alloc(), &file),
+        Some(Fault::new(FaultKind::Tail, 55))
+    );
     Ok(())
 }
 
 #[test]
 fn the_first_fault_is_answered(rt: HostRuntime) -> Result<(), Fail> {
-    let cases: [(&[(usize, u8)], Option<(u8, u32)>); 36] = [
+    let cases: [(&[(usize, u8)], Option<(FaultKind, u32)>); 36] = [
         (&[], None),
-        (&[(0, 0x46)], Some((2, 0))),
-        (&[(1, 0x00)], Some((2, 1))),
-        (&[(2, 0x74)], Some((2, 2))),
-        (&[(3, 0x53)], Some((2, 3))),
-        (&[(3, 0x53), (1, 0x00)], Some((2, 1))),
-        (&[(4, 0)], Some((3, 4))),
-        (&[(4, 2)], Some((3, 4))),
-        (&[(5, 0)], Some((4, 5))),
+        (&[(0, 0x46)], Some((FaultKind::Magic, 0))),
+        (&[(1, 0x00)], Some((FaultKind::Magic, 1))),
+        (&[(2, 0x74)], Some((FaultKind::Magic, 2))),
+        (&[(3, 0x53)], Some((FaultKind::Magic, 3))),
+        (&[(3, 0x53), (1, 0x00)], Some((FaultKind::Magic, 1))),
+        (&[(4, 0)], Some((FaultKind::Version, 4))),
+        (&[(4, 2)], Some((FaultKind::Version, 4))),
+        (&[(5, 0)], Some((FaultKind::Config, 5))),
         (&[(5, 8)], None),
-        (&[(5, 9)], Some((4, 5))),
-        (&[(6, 1)], Some((4, 6))),
-        (&[(6, 2)], Some((4, 6))),
-        (&[(6, 3)], Some((4, 6))),
-        (&[(7, 0)], Some((4, 7))),
-        (&[(7, 3)], Some((4, 7))),
-        (&[(7, 128)], Some((4, 7))),
-        (&[(8, 0)], Some((4, 8))),
-        (&[(8, 9)], Some((4, 8))),
-        (&[(9, 0)], Some((4, 9))),
-        (&[(9, 33)], Some((4, 9))),
-        (&[(10, 1), (11, 0)], Some((4, 10))),
+        (&[(5, 9)], Some((FaultKind::Config, 5))),
+        (&[(6, 1)], Some((FaultKind::Config, 6))),
+        (&[(6, 2)], Some((FaultKind::Config, 6))),
+        (&[(6, 3)], Some((FaultKind::Config, 6))),
+        (&[(7, 0)], Some((FaultKind::Config, 7))),
+        (&[(7, 3)], Some((FaultKind::Config, 7))),
+        (&[(7, 128)], Some((FaultKind::Config, 7))),
+        (&[(8, 0)], Some((FaultKind::Config, 8))),
+        (&[(8, 9)], Some((FaultKind::Config, 8))),
+        (&[(9, 0)], Some((FaultKind::Config, 9))),
+        (&[(9, 33)], Some((FaultKind::Config, 9))),
+        (&[(10, 1), (11, 0)], Some((FaultKind::Config, 10))),
         (&[(10, 0), (11, 0), (12, 1)], None),
-        (&[(10, 1), (11, 0), (12, 1)], Some((4, 10))),
-        (&[(15, 0), (16, 0)], Some((4, 14))),
-        (&[(14, 1), (15, 0), (16, 0), (17, 1)], Some((4, 14))),
+        (&[(10, 1), (11, 0), (12, 1)], Some((FaultKind::Config, 10))),
+        (&[(15, 0), (16, 0)], Some((FaultKind::Config, 14))),
+        (
+            &[(14, 1), (15, 0), (16, 0), (17, 1)],
+            Some((FaultKind::Config, 14)),
+        ),
         (&[(14, 0x21), (15, 0), (16, 0)], None),
-        (&[(14, 0x20), (15, 0), (16, 0)], Some((4, 18))),
-        (&[(18, 0), (21, 0x21)], Some((4, 18))),
-        (&[(18, 0x22)], Some((1, 55))),
-        (&[(18, 0x20)], Some((6, 54))),
-        (&[(22, 0x08)], Some((5, 22))),
-        (&[(22, 0x01)], Some((5, 22))),
-        (&[(22, 0x40)], Some((5, 22))),
-        (&[(54, 0xff), (18, 0x22)], Some((5, 54))),
-        (&[(5, 0), (7, 0), (22, 0xff)], Some((4, 5))),
+        (
+            &[(14, 0x20), (15, 0), (16, 0)],
+            Some((FaultKind::Config, 18)),
+        ),
+        (&[(18, 0), (21, 0x21)], Some((FaultKind::Config, 18))),
+        (&[(18, 0x22)], Some((FaultKind::Short, 55))),
+        (&[(18, 0x20)], Some((FaultKind::Tail, 54))),
+        (&[(22, 0x08)], Some((FaultKind::Event, 22))),
+        (&[(22, 0x01)], Some((FaultKind::Event, 22))),
+        (&[(22, 0x40)], Some((FaultKind::Event, 22))),
+        (&[(54, 0xff), (18, 0x22)], Some((FaultKind::Event, 54))),
+        (&[(5, 0), (7, 0), (22, 0xff)], Some((FaultKind::Config, 5))),
     ];
     for (changes, fault) in cases {
         let mut file = worked(rt.alloc())?;
         change(&mut file, changes);
-        assert_eq!(rt; fault_of(rt.alloc(), &file), fault, "after {changes:?}");
+        assert_eq!(rt;
+            fault_of(rt.alloc(), &file),
+            bad(fault),
+            "after {changes:?}"
+        );
         assert_eq!(rt;
             read_trace(rt.alloc(), &file).is_ok(),
             fault.is_none(),

@@ -215,7 +215,7 @@ fn each_field_is_judged(rt: HostRuntime) -> Result<(), Fail> {
     Ok(())
 }
 
-/// Want of memory is answered as such, and says so.
+/// Each fault says what it is.
 #[test]
 fn faults_have_a_text(rt: HostRuntime) -> Result<(), Fail> {
     let faults = [

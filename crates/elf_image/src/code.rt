@@ -33,8 +33,8 @@ impl Code {
 
     /// Puts a segment behind the others. After an error the code is as it was.
     pub(crate) fn push(&mut self, segment: CodeSegment) -> Result<(), NoMemory>
-        ensures ok { OnOk result (self.new ≡ self.old ++ segment ∷ []) }
-        ensures err { OnErr result (self.new ≡ self.old) }
+        ensures pushed { OnOk result (self.new ≡ self.old ++ segment ∷ []) }
+        ensures unchanged_after_error { OnErr result (self.new ≡ self.old) }
     {
         self.segments.push(segment)?;
         Ok(())

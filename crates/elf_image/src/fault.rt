@@ -7,7 +7,7 @@ ghost use Rattle.elf_image.specs.Faults.{number_of, fault_of};
 /// are this project's.
 #[derive(Clone, Copy, Debug, PartialEq, Eq)]
 pub enum FaultKind {
-    /// The file is shorter than an ELF header.
+    /// The file is shorter than an ELF header, which has 52 bytes.
     Short = 1,
     /// The file does not begin with ELF's four magic bytes.
     Magic,
@@ -23,7 +23,7 @@ pub enum FaultKind {
     Machine,
     /// e_flags names compressed instructions, a floating-point ABI in registers or the embedded base.
     Flags,
-    /// The table of program headers has another form, is too long or leaves the file.
+    /// The table of program headers has another form or more than 64 headers, or leaves the file.
     Table,
     /// A program header asks for a dynamic linker.
     Dynamic,
@@ -31,9 +31,9 @@ pub enum FaultKind {
     Segment,
     /// Two segments share a byte of memory.
     Overlap,
-    /// Memory with the stacks is larger than the machine has.
+    /// Memory with the stacks has more than 16,777,216 bytes.
     TooWide,
-    /// Memory with the stacks ends too high.
+    /// Memory with the stacks ends above `0xffff0000`.
     TooHigh,
     /// The entry is no instruction's address in an executable segment.
     Entry,

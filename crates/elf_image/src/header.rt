@@ -1,5 +1,5 @@
 //! The ELF header, of the ELF specification's chapter 'ELF Header', with the values that the RISC-V
-//! psABI gives it.
+//! ELF psABI gives it (ELF Object Files, File Header).
 
 ghost use Rattle.std.specs.Prelude.{◌≡◌, ◌≤◌, ◌<◌, ◌+◌, ◌*◌, IfSome, OnOk, length};
 ghost use Rattle.std.specs.Result.{result_err};

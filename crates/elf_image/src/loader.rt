@@ -22,11 +22,14 @@ use thiserror::Error;
 /// Why a file gives no image.
 #[derive(Clone, Copy, Debug, PartialEq, Eq, Error)]
 pub enum ImageFault {
-    /// The first fault of the file: its number and its place in the file.
-    #[error("fault {number} at byte {place}")]
+    /// The file is no image. `number` is that of its first fault, in the order in which they are
+    /// judged: 1 short, 2 magic, 3 class, 4 byte order, 5 version, 6 file kind, 7 machine, 8 flags,
+    /// 9 table, 10 dynamic, 11 segment, 12 overlap, 13 too wide, 14 too high, 15 entry, 16 empty.
+    /// `place` is the place in the file that shows it.
+    #[error("image fault {number} at byte {place}")]
     Bad { number: u8, place: u32 },
     /// An allocation failed, and the file has no fault.
-    #[error("out of memory")]
+    #[error("no memory for the image")]
     NoMemory,
 }
 
@@ -87,7 +90,8 @@ fn build(
     Ok(Image::new(base, bytes, entry, harts, code))
 }
 
-/// The image of a program for 1 to 8 harts, from an ELF32 executable for RISC-V.
+/// The image of a program for 1 to 8 harts, of a file of at most 33,554,432 bytes: an ELF32
+/// executable for RISC-V.
 ///
 /// The file is judged before any memory is taken. An error is the first of its sixteen faults, or
 /// that an allocation failed where it has none.

@@ -10,6 +10,7 @@ use Rattle.elf_image.specs.declared.program_header.ProgramHeader.{ProgramHeader}
 use Rattle.elf_image.specs.Header.{file_header, program_headers}
 use Rattle.elf_image.specs.Layout.{is_load, is_dynamic, has_instruction, segments_of, first_overlap, memory_base, memory_end}
 
+-- the number of a kind of fault
 abbrev pub number_of : FaultKind → ℕ
 number_of Short = 1
 number_of Magic = 2
@@ -32,11 +33,13 @@ number_of Empty = 16
 abbrev pub fault_of : FaultKind → ℕ → Fault
 fault_of kind place = record { number = number_of kind; place = place }
 
+-- a value is not the one that is wanted
 abbrev pub differs : ℕ → ℕ → Bool
 differs value wanted = not (value == wanted)
 
 -- e_ident
 
+-- the file has the 52 bytes of an ELF header; the place of this fault is the file's length
 abbrev pub short_fault : List ℕ → Option Fault
 short_fault file = some_if (nat_lt (length file) 52) (fault_of Short (length file))
 
@@ -48,6 +51,7 @@ elf_magic = 0x7f ∷ 0x45 ∷ 0x4c ∷ 0x46 ∷ []
 abbrev pub magic_difference : List ℕ → Option ℕ
 magic_difference file = position (λ (byte, wanted). differs byte wanted) (zip file elf_magic)
 
+-- the file begins with ELF's four magic bytes
 abbrev pub magic_fault : List ℕ → Option Fault
 magic_fault file = option_map (fault_of Magic) (magic_difference file)
 
@@ -91,6 +95,7 @@ table_form_fault header file_len =
     ∷ some_if (nat_lt file_len (header.e_phoff + 32 * header.e_phnum)) (fault_of Table 28)
     ∷ [])
 
+-- the form of the table of a file
 abbrev pub table_fault : List ℕ → Option Fault
 table_fault file = table_form_fault (file_header file) (length file)
 
@@ -100,6 +105,7 @@ table_fault file = table_form_fault (file_header file) (length file)
 abbrev pub first_dynamic : List ProgramHeader → Option ℕ
 first_dynamic headers = option_map (λ header. header.place) (find is_dynamic headers)
 
+-- no header asks for a dynamic linker
 abbrev pub dynamic_fault : List ProgramHeader → Option Fault
 dynamic_fault headers = option_map (fault_of Dynamic) (first_dynamic headers)
 
@@ -114,21 +120,26 @@ load_fault file_len header =
     ∷ [])
     else None
 
+-- of all headers: the first fault in the order of the table
 abbrev pub segment_fault : List ProgramHeader → ℕ → Option Fault
 segment_fault headers file_len = first_of (map (load_fault file_len) headers)
 
 -- The segments in memory
 
+-- no two segments share a byte of memory; the place of this fault is that of the later one's header
 abbrev pub overlap_fault : List ProgramHeader → Option Fault
 overlap_fault segments = option_map (λ segment. fault_of Overlap segment.place) (first_overlap segments)
 
+-- there is a segment
 abbrev pub has_segment : List ProgramHeader → Bool
 has_segment segments = nat_lt 0 (length segments)
 
+-- memory with the stacks of so many harts has at most 16,777,216 bytes
 abbrev pub too_wide_fault : List ProgramHeader → ℕ → Option Fault
 too_wide_fault segments harts =
     some_if (has_segment segments && nat_lt 16777216 (memory_end segments harts - memory_base segments)) (fault_of TooWide 28)
 
+-- memory with the stacks of so many harts ends at 0xffff0000 at most
 abbrev pub too_high_fault : List ProgramHeader → ℕ → Option Fault
 too_high_fault segments harts =
     some_if (has_segment segments && nat_lt 0xffff0000 (memory_end segments harts)) (fault_of TooHigh 28)
@@ -137,14 +148,17 @@ too_high_fault segments harts =
 abbrev pub is_entry : List ProgramHeader → ℕ → Bool
 is_entry segments entry = entry % 4 == 0 && list_any (has_instruction entry) segments
 
+-- the entry is an instruction's address
 abbrev pub entry_fault : List ProgramHeader → ℕ → Option Fault
 entry_fault segments entry = some_if (has_segment segments && not (is_entry segments entry)) (fault_of Entry 24)
 
+-- a segment is loaded
 abbrev pub empty_fault : List ProgramHeader → Option Fault
 empty_fault segments = some_if (not (has_segment segments)) (fault_of Empty 44)
 
 -- All of them in order
 
+-- the first fault of e_ident and e_version
 unfoldable pub ident_fault : List ℕ → Option Fault
 ident_fault file =
     first_of
@@ -155,13 +169,16 @@ ident_fault file =
     ∷ version_fault file
     ∷ [])
 
+-- the first fault of the other fields of the ELF header
 unfoldable pub header_fault : List ℕ → Option Fault
 header_fault file =
     first_of (file_kind_fault file ∷ machine_fault file ∷ flags_fault file ∷ table_fault file ∷ [])
 
+-- the first fault of the program headers, in a file of so many bytes
 unfoldable pub headers_fault : List ProgramHeader → ℕ → Option Fault
 headers_fault headers file_len = first_of (dynamic_fault headers ∷ segment_fault headers file_len ∷ [])
 
+-- the first fault of the segments in memory, with an entry and the stacks of so many harts
 unfoldable pub memory_fault : List ProgramHeader → ℕ → ℕ → Option Fault
 memory_fault segments entry harts =
     first_of

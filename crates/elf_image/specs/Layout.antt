@@ -26,6 +26,7 @@ is_executable segment = segment.p_flags % 2 == 1
 abbrev pub segment_end : ProgramHeader → ℕ
 segment_end segment = segment.p_vaddr + segment.p_memsz
 
+-- two segments have a byte of memory in common
 abbrev pub shares_byte : ProgramHeader → ProgramHeader → Bool
 shares_byte a b = nat_lt a.p_vaddr (segment_end b) && nat_lt b.p_vaddr (segment_end a)
 
@@ -33,6 +34,7 @@ shares_byte a b = nat_lt a.p_vaddr (segment_end b) && nat_lt b.p_vaddr (segment_
 abbrev pub has_word : ℕ → ProgramHeader → Bool
 has_word address segment = nat_le segment.p_vaddr address && nat_le (address + 4) (segment_end segment)
 
+-- the segment is executable and has the four bytes at an address
 abbrev pub has_instruction : ℕ → ProgramHeader → Bool
 has_instruction address segment = is_executable segment && has_word address segment
 

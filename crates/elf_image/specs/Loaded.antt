@@ -32,6 +32,7 @@ code_segment base bytes segment =
     let from = segment.p_vaddr - base in
     record { start = segment.p_vaddr; bytes = slice_range bytes from (from + segment.p_memsz) }
 
+-- the program that a file without a fault loads for so many harts
 unfoldable pub program_of : List ℕ → ℕ → Program
 program_of file harts =
     let base = memory_base (segments_of file) in

@@ -5,6 +5,8 @@
 //! places are taken when it is made, and no other call takes memory. What is read from it is defined
 //! over the whole list: the serial order is a concatenation over the entries, and a tally consists
 //! of counts and sums over them. It says nothing of whether an outcome is right.
+//!
+//! Where a doc comment names no other source, its rule is this project's profile.
 #![tactic(auto)]
 
 mod counts;

@@ -34,6 +34,7 @@ given_once None (Some value) = Some (Some value)
 given_once None None = None
 given_once (Some before) value = None
 
+-- a job with a number of harts, of steps, or a trace to write, that was given no other before
 abbrev pub with_harts : RunJob → Option ℕ → Option RunJob
 with_harts job number = option_map (λ harts. record job { harts = harts }) (given_once job.harts number)
 
@@ -83,6 +84,7 @@ abbrev pub run_meaning : RunCommand → RunJob
 run_meaning command =
     record { image = command.image.now; harts = command.harts; steps = command.steps; trace = option_map (λ name. name.now) command.trace }
 
+-- what the words of a command line that were read ask for
 abbrev pub meaning : Command → Job
 meaning (commands.Run command) = Run (run_meaning command)
 meaning (commands.Replay image trace) = Replay image.now trace.now

@@ -3,6 +3,8 @@
 //! The crate stands on `el_base`. It knows which words there are, `run` and `replay` with their
 //! positional words and options, and what they mean: a command with the names of its files, and the
 //! configuration of its machine. It opens no file and says nothing of what a command does.
+//!
+//! Where a doc comment names no other source, its rule is this project's profile.
 #![tactic(auto)]
 
 mod command;

@@ -3,6 +3,8 @@
 //! They stand on `machine`, and on the definition of the round robin in `el_model`. `round_robin` runs a
 //! machine to its end, or to its last step; `follow` makes the events that it is given. Each makes
 //! exactly the events that its contract names, and takes no memory.
+//!
+//! Where a doc comment names no other source, its rule is this project's profile.
 #![tactic(auto)]
 
 mod following;

@@ -5,6 +5,8 @@
 //! their `number`, a set of harts by the test `has_hart` on hart numbers, the losers of an event by
 //! the map `beaten_by`, and anything that keeps a history by its list of entries. It says what the
 //! words are, and nothing of what a machine does.
+//!
+//! Where a doc comment names no other source, its rule is this project's profile.
 #![tactic(auto)]
 
 mod conflicts;

@@ -2,7 +2,7 @@ ghost use Rattle.std.specs.Prelude.{◌≡◌, ◌==◌, None, Some, MatchResult
 ghost use Rattle.std.specs.List.{list_any};
 ghost use Rattle.el_base.specs.Config.{usual, within, set_counts, config_fault};
 
-/// How a machine treats an acquire.
+/// How a machine treats an acquire. Machines are built for the plain mode so far.
 #[derive(Clone, Copy, Debug, PartialEq, Eq)]
 pub enum Mode {
     /// Each acquire takes its lock.
@@ -43,7 +43,7 @@ pub enum ConfigFault {
 }
 
 impl Config {
-    /// The configuration of a machine of which nothing was asked.
+    /// The configuration of a machine of which nothing was asked: one hart, in the mode that removes locks.
     pub fn usual() -> Config
         ensures { result ≡ usual }
     {

@@ -8,6 +8,8 @@
 //! `SureShelf` and `SureSink` are in memory and never fail; `MemShelf` and `MemSink` are in memory
 //! and fail where they are told to; `FolderShelf` and `StreamSink` are the edge to real files and
 //! streams, whose own behaviour is trusted.
+//!
+//! Where a doc comment names no other source, its rule is this project's profile.
 #![tactic(auto)]
 
 mod failure_list;

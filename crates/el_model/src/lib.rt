@@ -6,6 +6,8 @@
 //! `outcomes` fold it over a list of events, and `IsRoundRobin` says which events a round robin makes.
 //! No machine runs by them: its code is proved to answer as they do. The functions of this crate do
 //! nothing; each says, as its contract, what the definitions come to.
+//!
+//! Where a doc comment names no other source, its rule is this project's profile.
 #![tactic(auto)]
 
 mod laws;

@@ -1,4 +1,5 @@
--- The grammar of images: the first of sixteen faults, or none.
+-- The grammar of images: the first of sixteen faults, or none. Above each fault stands what a file that does not
+-- have it keeps to.
 use Rattle.std.specs.Prelude.{ℕ, ◌+◌, ◌-◌, ◌*◌, ◌%◌, Bool, not, ◌&&◌, ◌==◌, nat_lt, nat_le, if◌then◌else◌, List, [], ◌∷◌, map, length, slice_index, Option, None, find, position, zip, option_map}
 use Rattle.std.specs.List.{list_any}
 use Rattle.el_base.specs.Firsts.{first_of, some_if}

@@ -6,6 +6,8 @@
 //! output are those of one run of the program on plain shared memory, in the serial order that the
 //! history shows. `make` takes all memory of a run: main memory and the image that it was copied from,
 //! 16 bytes for each step, and room for the output. No other call takes memory, and no event is refused.
+//!
+//! Where a doc comment names no other source, its rule is this project's profile.
 #![tactic(auto)]
 
 mod engine;

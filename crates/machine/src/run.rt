@@ -61,8 +61,9 @@ impl Model for Machine {
 }
 
 impl Machine {
-    /// A machine before its first event. It takes all memory of the run. An error is the fault of the
-    /// configuration, if it has one, and else want of memory.
+    /// A machine before its first event, of an image that was made for the configuration's harts. It
+    /// takes all memory of the run. An error is the fault of the configuration, if it has one, and
+    /// else want of memory. Machines are built for the plain mode so far.
     pub fn make(alloc: Global, image: Image, config: Config) -> Result<Machine, MakeFault>
         requires one_hart_each { image.harts ≡ config.harts }
         requires plain { config.mode ≡ Plain }

@@ -100,33 +100,36 @@ fn a_program_runs_to_its_end(rt: HostRuntime) -> Result<(), Fail> {
     Ok(())
 }
 
-/// Events that have nothing to do are told like the others.
+/// Events that have nothing to do are told like the others: each makes the history longer by one.
 #[test]
 fn idle_events_are_told(rt: HostRuntime) -> Result<(), Fail> {
     let only = hart(0)?;
     let mut machine = machine(&rt, rt.alloc(), &FILE, plain(1, 20))?;
-    for kind in [Kind::Order, Kind::Serve, Kind::Deliver] {
-        assert_eq!(rt; act(&rt, &mut machine, kind, only), Outcome::Idle);
-    }
-    for _ in 0..9 {
-        assert_eq!(rt; act(&rt, &mut machine, Kind::Step, only), Outcome::Ran);
-    }
-    for _ in 0..2 {
-        assert_eq!(rt; act(&rt, &mut machine, Kind::Step, only), Outcome::Idle);
-    }
-    assert_eq!(rt; machine.history().length(), 14);
-    assert_eq!(rt; machine.history().serial_len(), 9);
-    assert!(rt; machine.history().length() > 12);
-    assert_eq!(rt;
-        machine.history().entry(12),
-        Entry {
-            event: Event {
-                kind: Kind::Step,
-                hart: only,
-            },
-            outcome: Outcome::Idle,
+    let rounds = [
+        (Kind::Order, 1, Outcome::Idle),
+        (Kind::Serve, 1, Outcome::Idle),
+        (Kind::Deliver, 1, Outcome::Idle),
+        (Kind::Step, 9, Outcome::Ran),
+        (Kind::Step, 2, Outcome::Idle),
+    ];
+    let mut made = 0;
+    for (kind, count, outcome) in rounds {
+        for _ in 0..count {
+            assert_eq!(rt; act(&rt, &mut machine, kind, only), outcome);
+            let length = machine.history().length();
+            assert!(rt; made < length);
+            assert_eq!(rt; length, made + 1);
+            assert_eq!(rt;
+                machine.history().entry(made),
+                Entry {
+                    event: Event { kind, hart: only },
+                    outcome,
+                }
+            );
+            made = length;
         }
-    );
+    }
+    assert_eq!(rt; machine.history().serial_len(), 9);
     Ok(())
 }
 

@@ -14,18 +14,21 @@ use Rattle.rv_flat.specs.FlatState.{FlatState, status_of, view_of}
 use Rattle.rv_flat.specs.Memory.{byte_in}
 use Rattle.rv_flat.specs.Step.{next_access, unreserved}
 
--- the instruction that a hart comes to next, if there is one
+-- the instruction of a word, where there is a word and it is one
 abbrev pub insn_at : Option ℕ → Option Insn
 insn_at None = None
 insn_at (Some word) = decoded word
 
+-- the instruction that a hart comes to next
 abbrev pub next_insn : FlatState → ℕ → Option Insn
 next_insn state hart = insn_at (code_word state.code (view_of state hart).pc)
 
+-- what a view's instruction touches, where it has come to one
 abbrev pub touched_by : FlatState → HartView → Option Insn → Access
 touched_by state view None = Nothing
 touched_by state view (Some insn) = next_access state view insn
 
+-- what the next step of a hart of this status touches
 abbrev pub touched_in : FlatState → ℕ → HartStatus → Access
 touched_in state hart Running = touched_by state (view_of state hart) (next_insn state hart)
 touched_in state hart (Exited code) = Nothing

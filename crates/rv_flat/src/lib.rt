@@ -20,6 +20,7 @@ pub use laws::{
     step_keeps_shape, step_reads_only_its_footprint, step_touches_one_line,
     step_writes_only_its_footprint, stopped_hart_changes_nothing,
 };
+pub use rv_alu::{HartStatus, HartView};
 
 #[cfg(test)]
 mod tests;

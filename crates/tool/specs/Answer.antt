@@ -103,6 +103,7 @@ abbrev pub LimitedAnswer : Bool → ℕ → (Answer → Type 0) → Answer → T
 LimitedAnswer true limit Judged answer = answer ≡ refused (refusals.TooBig limit)
 LimitedAnswer false limit Judged answer = Judged answer
 
+-- the answer over a file that may have no more than so many bytes
 abbrev pub Within : ℕ → List ℕ → (Answer → Type 0) → Answer → Type 0
 Within limit file Judged answer = LimitedAnswer (nat_lt limit (length file)) limit Judged answer
 

@@ -18,6 +18,7 @@ has_succeeded Running = false
 has_succeeded (Exited code) = code == 0
 has_succeeded (Trapped cause pc) = false
 
+-- each of them has
 abbrev pub all_succeeded : List HartView → Bool
 all_succeeded views = list_all (λ view. has_succeeded view.status) views
 
@@ -32,13 +33,15 @@ ending story =
 abbrev pub numbers_line : List ℕ → ℕ → List ℕ → ℕ → List ℕ
 numbers_line first number next other = first ++ decimal number ++ next ++ decimal other ++ newline
 
+-- the mode, and the numbers of harts and events
 abbrev pub first_line : ℕ → ℕ → List ℕ
 first_line harts events = numbers_line (codes "elide plain harts ") harts (codes " events ") events
 
+-- the lengths of the serial order and of the output
 abbrev pub last_line : ℕ → ℕ → List ℕ
 last_line steps output = numbers_line (codes "serial ") steps (codes " out ") output
 
--- the numbers of harts and events, and the lengths of the serial order and of the output
+-- what the run of a story puts to err
 unfoldable pub report_of : Story → List ℕ
 report_of story =
     first_line story.config.harts (length story.entries)

@@ -5,6 +5,8 @@
 //! program answers to its words over its files, and [`tool`] promises that exactly this is put and
 //! written. `doing` makes a machine and runs it, `telling` puts what there is to say, and
 //! `messages` has every line of a refusal.
+//!
+//! Where a doc comment names no other source, its rule is this project's profile.
 #![tactic(auto)]
 
 mod doing;

@@ -10,7 +10,7 @@ pub enum Status {
     HartFailed = 1,
     /// The words, or a file that they name, were refused.
     Refused = 2,
-    /// The steps are used up, and a hart still runs.
+    /// The steps, or the events of a replayed trace, are used up, and a hart still runs.
     StepLimit = 3,
     /// The shelf or a sink failed.
     DeviceFault = 4,

@@ -12,9 +12,11 @@ use Rattle.el_base.specs.declared.settings.Mode.TheVariants.{Plain, Sle, Tlr}
 abbrev pub magic : List ℕ
 magic = 0x45 ∷ 0x4c ∷ 0x54 ∷ 0x52 ∷ []
 
+-- the version of the format
 abbrev pub version : ℕ
 version = 1
 
+-- the byte of a mode
 abbrev pub mode_number : Mode → ℕ
 mode_number Plain = 0
 mode_number Sle = 1
@@ -33,6 +35,7 @@ head config count =
     ++ little_bytes 4 config.steps
     ++ little_bytes 4 count
 
+-- the one file of a configuration and events
 abbrev pub spelling : Config → List Event → List ℕ
 spelling config events = head config (length events) ++ map event_byte events
 
@@ -47,5 +50,6 @@ pub record IsTrace (config : Config) (events : List Event) : Type 0 where
 abbrev pub last_mode : ℕ
 last_mode = 0
 
+-- machines are built for this mode
 abbrev pub IsBuilt : Mode → Type 0
 IsBuilt mode = mode_number mode ≤ last_mode

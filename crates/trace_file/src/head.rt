@@ -10,6 +10,27 @@ use crate::fault::{Fault, FaultKind};
 use crate::fields::{byte_within, expect, number_within, reaches};
 use el_base::{Config, Mode, is_set_count};
 
+/// The first four bytes of a trace.
+pub const MAGIC: [u8; 4] = [b'E', b'L', b'T', b'R'];
+
+/// The version of the format.
+pub const VERSION: u8 = 1;
+
+// The places of the fields in the file.
+const HARTS: u32 = 5;
+
+const MODE: u32 = 6;
+
+const WAYS: u32 = 8;
+
+const LINES: u32 = 9;
+
+const LONG: u32 = 10;
+
+const STEPS: u32 = 14;
+
+const COUNT: u32 = 18;
+
 /// How many bytes stand before the events.
 pub const HEAD_BYTES: u32 = 22;
 
@@ -33,7 +54,7 @@ pub fn head_of(file: &[u8]) -> Result<Head, Fault>
     check_magic(file)?;
     check_version(file)?;
     let config = config_of(file)?;
-    let count = number_within(file, 18, 0, config.steps)?;
+    let count = number_within(file, COUNT, 0, config.steps)?;
     Ok(Head { config, count })
 }
 
@@ -42,10 +63,10 @@ fn check_magic(file: &[u8]) -> Result<(), Fault>
     ensures { Judges result (magic_fault file.now) }
 {
     reaches(file, 4)?;
-    expect(file[0] == b'E', FaultKind::Magic, 0)?;
-    expect(file[1] == b'L', FaultKind::Magic, 1)?;
-    expect(file[2] == b'T', FaultKind::Magic, 2)?;
-    expect(file[3] == b'R', FaultKind::Magic, 3)
+    expect(file[0] == MAGIC[0], FaultKind::Magic, 0)?;
+    expect(file[1] == MAGIC[1], FaultKind::Magic, 1)?;
+    expect(file[2] == MAGIC[2], FaultKind::Magic, 2)?;
+    expect(file[3] == MAGIC[3], FaultKind::Magic, 3)
 }
 
 #[tactic(auto, unfolding(crate::specs::Faults::field, crate::specs::Faults::version_fault))]
@@ -53,7 +74,7 @@ fn check_version(file: &[u8]) -> Result<(), Fault>
     ensures { Judges result (version_fault file.now) }
 {
     reaches(file, 5)?;
-    expect(file[4] == 1, FaultKind::Version, 4)
+    expect(file[4] == VERSION, FaultKind::Version, 4)
 }
 
 #[tactic(auto, unfolding(crate::specs::Faults::settings_fault, crate::specs::Faults::config_at))]
@@ -62,13 +83,13 @@ fn config_of(file: &[u8]) -> Result<Config, Fault>
     ensures in_range { IfOk result (λ config. IsInRange config) }
     ensures is_built { IfOk result (λ config. IsBuilt config.mode) }
 {
-    let harts = byte_within(file, 5, 1, 8)?;
+    let harts = byte_within(file, HARTS, 1, 8)?;
     let mode = mode_of(file)?;
     let sets = sets_of(file)?;
-    let ways = byte_within(file, 8, 1, 8)?;
-    let lines = byte_within(file, 9, 1, 32)?;
-    let long = number_within(file, 10, 2, 65_536)?;
-    let steps = number_within(file, 14, 1, 16_777_216)?;
+    let ways = byte_within(file, WAYS, 1, 8)?;
+    let lines = byte_within(file, LINES, 1, 32)?;
+    let long = number_within(file, LONG, 2, 65_536)?;
+    let steps = number_within(file, STEPS, 1, 16_777_216)?;
     Ok(Config {
         harts,
         mode,
@@ -88,7 +109,7 @@ fn mode_of(file: &[u8]) -> Result<Mode, Fault>
     ensures exact { Answers result (mode_at (slice_index file.now 6)) (byte_fault file.now 6 0 last_mode) }
     ensures is_built { IfOk result (λ mode. IsBuilt mode) }
 {
-    match byte_within(file, 6, 0, LAST_MODE)? {
+    match byte_within(file, MODE, 0, LAST_MODE)? {
         0 => Ok(Mode::Plain),
         1 => Ok(Mode::Sle),
         _ => Ok(Mode::Tlr),

@@ -4,6 +4,8 @@
 //! project's own, version 1: 22 bytes of head, and one byte an event. A trace has one spelling, and
 //! each file that is no spelling has one first fault, read from left to right. `read_trace` answers
 //! one or the other for every string of bytes, and `write_trace` writes the spelling.
+//!
+//! Where a doc comment names no other source, its rule is this project's profile.
 #![tactic(auto)]
 
 mod content;

@@ -6,6 +6,7 @@ ghost use Rattle.el_base.specs.Config.{IsInRange};
 ghost use Rattle.el_io.specs.Shelf.{Holds, KeepsOthers, Records};
 ghost use Rattle.trace_file.specs.Spelling.{mode_number, event_byte, head, spelling};
 
+use crate::head::{MAGIC, VERSION};
 use chronicle::History;
 use el_base::{Chronicled, Config, Event, Mode, NoMemory};
 use el_io::{Call, Shelf, ShelfFault};
@@ -35,11 +36,11 @@ fn head_bytes(config: &Config, count: u32) -> [u8; 22]
     let [steps_0, steps_1, steps_2, steps_3] = config.steps.to_le_bytes();
     let [count_0, count_1, count_2, count_3] = count.to_le_bytes();
     [
-        b'E',
-        b'L',
-        b'T',
-        b'R',
-        1,
+        MAGIC[0],
+        MAGIC[1],
+        MAGIC[2],
+        MAGIC[3],
+        VERSION,
         config.harts,
         mode_number(config.mode),
         config.sets,

@@ -1,7 +1,9 @@
 //! What is refused, each with its one line.
-use crate::support::{Ending, HELLO, TRACE, USAGE, answer, changed, resized};
+use crate::support::{Ending, HELLO, TRACE, USAGE, answer, changed, resized, strings};
+use el_io::{MemShelf, MemSink};
 use std::alloc::{AllocError, Global};
 use std::test::Fail;
+use tool::tool;
 
 /// The program refused with this line, and put nothing else.
 fn is_refused(ending: &Ending, line: &str) -> bool {
@@ -57,6 +59,19 @@ fn configurations_are_judged_before_files(rt: HostRuntime) -> Result<(), Fail> {
         let ending = answer(&rt, words, &[], &[])?;
         assert!(rt; is_refused(&ending, line), "{words:?}");
     }
+    Ok(())
+}
+
+// A configuration that is refused asks for no file: the shelf, on which each read fails, is not read.
+#[test]
+fn a_refused_configuration_reads_no_file(rt: HostRuntime) -> Result<(), Fail> {
+    let mut shelf = MemShelf::make(rt.alloc(), &[], &[], &[1])?;
+    let mut out = MemSink::make(rt.alloc(), 256, 256, &[])?;
+    let mut err = MemSink::make(rt.alloc(), 256, 256, &[])?;
+    let words = strings(rt.alloc(), &["run", "a", "--harts", "9"])?;
+    let status = tool(&rt, rt.alloc(), &words, &mut shelf, &mut out, &mut err);
+    assert_eq!(rt; status.number(), 2);
+    assert_eq!(rt; err.taken(), b"config fault 1 Harts\n".as_slice());
     Ok(())
 }
 

@@ -71,6 +71,7 @@ fn total_store_order_is_no_fault(rt: HostRuntime) -> Result<(), Fail> {
     let ending = answer(&rt, &["run", "a"], &image, &[])?;
     assert_eq!(rt; ending.status.number(), 0);
     assert_eq!(rt; ending.out.as_slice(), b"A\n".as_slice());
+    assert_eq!(rt; ending.err.as_slice(), REPORT.as_bytes());
     Ok(())
 }
 

@@ -1,6 +1,15 @@
 use Rattle.std.specs.Prelude.{ℕ, Option, [], ◌∷◌, find, ◌==◌}
 use Rattle.rv_word.specs.declared.insn.AmoOp.{AmoOp}
 use Rattle.rv_word.specs.declared.insn.AmoOp.TheVariants.{Swap, Add, Xor, And, Or, Min, Max, Minu, Maxu}
+use Rattle.rv_word.specs.declared.insn.Insn.{Insn}
+use Rattle.rv_word.specs.declared.insn.Insn.TheVariants.{Lr, Sc, Amo}
+
+-- the instruction is one of the A extension
+abbrev pub IsAtomic : Insn → Type 0
+IsAtomic (Lr rd rs1 aq rl) = Unit {0}
+IsAtomic (Sc rd rs1 rs2 aq rl) = Unit {0}
+IsAtomic (Amo op rd rs1 rs2 aq rl) = Unit {0}
+IsAtomic _ = ⊥
 
 -- funct5 of an atomic memory operation
 abbrev pub amo_code : AmoOp → ℕ

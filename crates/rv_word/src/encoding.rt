@@ -1,4 +1,5 @@
 ghost use Rattle.std.specs.Prelude.{◌≡◌, ◌≢◌, ℕ, ◌<◌, ◌^◌};
+ghost use Rattle.rv_word.specs.Atomic.{IsAtomic};
 ghost use Rattle.rv_word.specs.Meaning.{Means};
 ghost use Rattle.rv_word.specs.Validity.{Valid, IsOpImmediate};
 
@@ -43,6 +44,17 @@ pub fn encode(insn: Insn) -> u32
         Insn::Fence => 0x0ff0_000f,
         Insn::Ecall => 0x0000_0073,
         Insn::Ebreak => 0x0010_0073,
+        Insn::Lr { .. } | Insn::Sc { .. } | Insn::Amo { .. } => atomic_word(insn),
+    }
+}
+
+/// The word of an instruction of the A extension.
+fn atomic_word(insn: Insn) -> u32
+    requires { IsAtomic insn }
+    ensures means_it { Means result insn }
+    ensures only { (w : ℕ) → w < 2 ^ 32 → Means w insn → w ≡ result }
+{
+    match insn {
         Insn::Lr { rd, rs1, aq, rl } => atomic_form(rd, rs1, Reg { number: 0 }, 0b00010, aq, rl),
         Insn::Sc {
             rd,
@@ -59,6 +71,7 @@ pub fn encode(insn: Insn) -> u32
             aq,
             rl,
         } => atomic_form(rd, rs1, rs2, op.code(), aq, rl),
+        _ => unreachable!(),
     }
 }
 

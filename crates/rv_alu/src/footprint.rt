@@ -1,4 +1,6 @@
-/// What the next instruction would touch, or how it would stop its hart.
+/// What the next instruction would touch, or how it would stop its hart (RISC-V unprivileged
+/// manual, chapter 2 and 'A Standard Extension for Atomic Instructions'; that misaligned accesses
+/// trap, that a trap stops its hart, and the exit call are this project's profile).
 #[derive(Clone, Copy, Debug, PartialEq, Eq)]
 pub enum Access {
     /// No memory.

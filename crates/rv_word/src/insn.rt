@@ -16,7 +16,8 @@ pub enum Alu {
     And,
 }
 
-/// What a conditional branch compares (chapter 2, 'Conditional Branches').
+/// What a conditional branch compares (chapter 2, 'Conditional Branches'). `Lt` and `Ge` compare
+/// signed, `Ltu` and `Geu` unsigned.
 #[derive(Clone, Copy, Debug, PartialEq, Eq)]
 pub enum Test {
     Eq,
@@ -61,9 +62,10 @@ pub enum AmoOp {
     Maxu,
 }
 
-/// An instruction of RV32I or of its A extension, with the fields of its word. A branch's or
-/// jump's `offset` is in bytes from the instruction's own address; that of `Jalr`, of a load and
-/// of a store is in bytes from rs1.
+/// An instruction of RV32I or of its A extension, with the fields of its word (RISC-V unprivileged
+/// manual, chapter 2 and 'A Standard Extension for Atomic Instructions'; that all fences are one is
+/// this project's profile). A branch's or jump's `offset` is in bytes from the instruction's own
+/// address; that of `Jalr`, of a load and of a store is in bytes from rs1.
 #[derive(Clone, Copy, Debug, PartialEq, Eq)]
 pub enum Insn {
     /// `imm` is the word that goes to rd, a multiple of 4096.

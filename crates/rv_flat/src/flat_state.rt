@@ -222,13 +222,9 @@ impl Flat {
         requires room { len ≤ room_of self.old }
         ensures { self.new ≡ record self.old { output = self.old.output ++ piece_of self.old.bytes at len } }
     {
-        match self
-            .output
+        self.output
             .extend_from_slice(&self.bytes[at..at + len as usize])
-        {
-            Ok(()) => (),
-            Err(_) => unreachable!(),
-        }
+            .unwrap();
     }
 
     /// A store, a store conditional that succeeds, or an atomic operation.

@@ -43,7 +43,8 @@ pub enum ConfigFault {
 }
 
 impl Config {
-    /// The configuration of a machine of which nothing was asked: one hart, in the mode that removes locks.
+    /// The configuration of a machine of which nothing was asked: one hart, in the mode that
+    /// removes locks.
     pub fn usual() -> Config
         ensures { result ≡ usual }
     {

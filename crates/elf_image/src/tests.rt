@@ -1,4 +1,5 @@
 use super::*;
+use crate::fault::{Fault, FaultKind};
 use std::alloc::{AllocError, Global};
 use std::process::Abort;
 use std::test::Fail;
@@ -16,7 +17,7 @@ const FILE: [u8; 122] = [
 ];
 
 /// The most bytes of a file.
-const LIMIT: usize = 33_554_432;
+const LIMIT: usize = IMAGE_FILE_LIMIT as usize;
 
 /// The image, or the fault.
 fn loaded(

@@ -4,7 +4,7 @@ use Rattle.std.proofs.Common.{◌≡◌, [], ◌∷◌, refl, lit<}
 use Rattle.el_base.specs.declared.hart_id.HartId.{HartId}
 use Rattle.el_base.specs.declared.events.Kind.TheVariants.{Step, Serve}
 use Rattle.el_base.specs.declared.entries.Entry.{Entry}
-use Rattle.el_base.specs.declared.conflicts.Losers.{Losers}
+use Rattle.el_base.specs.declared.losers.Losers.{Losers}
 use Rattle.el_base.specs.declared.outcomes.Outcome.{Outcome}
 use Rattle.el_base.specs.declared.outcomes.Outcome.TheVariants.{Idle, Ran, Committed, Served}
 use Rattle.chronicle.specs.Serial.{serial}

@@ -7,7 +7,7 @@ use Rattle.el_base.specs.declared.outcomes.Cause.TheVariants.{Room, Lines, Long,
 use Rattle.el_base.specs.declared.outcomes.Outcome.{Outcome}
 use Rattle.el_base.specs.declared.outcomes.Outcome.TheVariants.{Stalled, Missed, Ran, Began, Committed, RolledBack, Ordered, Served, Blocked, Delivered}
 use Rattle.chronicle.specs.Serial.{most_effects}
-use Rattle.chronicle.specs.declared.counts.Tally.{Tally}
+use Rattle.chronicle.specs.declared.tally.Tally.{Tally}
 
 -- the outcomes of this hart's own events
 abbrev pub own_outcomes : ℕ → List Entry → List Outcome

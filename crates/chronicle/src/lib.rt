@@ -9,11 +9,11 @@
 //! Where a doc comment names no other source, its rule is this project's profile.
 #![tactic(auto)]
 
-mod counts;
-mod records;
+mod history;
+mod tally;
 
-pub use counts::Tally;
-pub use records::History;
+pub use history::History;
+pub use tally::Tally;
 
 #[cfg(test)]
 mod tests;

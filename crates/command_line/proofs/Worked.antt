@@ -2,8 +2,8 @@
 use Rattle.std.proofs.Common.{◌≡◌, ℕ, List, [], ◌∷◌, Option, None, Some, refl}
 use Rattle.std.specs.Prelude.{codes}
 use Rattle.el_base.specs.Config.{config_fault, usual}
-use Rattle.el_base.specs.declared.settings.ConfigFault.TheVariants.{Harts, Steps}
-use Rattle.el_base.specs.declared.settings.Mode.TheVariants.{Plain}
+use Rattle.el_base.specs.declared.config.ConfigFault.TheVariants.{Harts, Steps}
+use Rattle.el_base.specs.declared.config.Mode.TheVariants.{Plain}
 use Rattle.command_line.specs.Numbers.{number_of}
 use Rattle.command_line.specs.Settings.{config_of}
 use Rattle.command_line.specs.Words.{Job, Run, Replay, RunJob, job_of}

@@ -7,10 +7,10 @@ use Rattle.std.specs.Prelude.{slice_get, IsTrue}
 use Rattle.drive.specs.Drivers.{MakesRoundRobin}
 use Rattle.el_base.specs.declared.events.Event.{Event}
 use Rattle.el_base.specs.declared.outcomes.Outcome.{Outcome}
-use Rattle.el_model.specs.ModelState.{is_over}
-use Rattle.el_model.specs.RoundRobin.{IsTurnAt}
-use Rattle.el_model.specs.Runs.{state_after}
-use Rattle.el_model.specs.Step.{next}
+use Rattle.plain_model.specs.ModelState.{is_over}
+use Rattle.plain_model.specs.RoundRobin.{IsEventAt}
+use Rattle.plain_model.specs.Runs.{state_after}
+use Rattle.plain_model.specs.Step.{next}
 use Rattle.machine.proofs.Continued.{continued_more, left_of_continued, nothing_more, state_of_continued}
 use Rattle.machine.specs.Story.{Story, continued, left_of, state_of}
 
@@ -19,7 +19,7 @@ pub record GoesRound (before now : Story) (place : ℕ) : Type 0 where
   pub made : List Event
   pub story : now ≡ continued before made
   pub count : length made ≡ place
-  pub turns : (i : ℕ) (event : Event) → slice_get made i ≡ Some event → IsTurnAt before.config.harts i event
+  pub turns : (i : ℕ) (event : Event) → slice_get made i ≡ Some event → IsEventAt before.config.harts i event
   pub going : (i : ℕ) → i < length made → is_over (state_after (state_of before) (take i made)) ≡ false
 
 pub none_made : (story : Story) → GoesRound story story 0
@@ -45,7 +45,7 @@ reached : (before now : Story) (place : ℕ) (round : GoesRound before now place
 reached before now place round = ap state_of round.story ∙ state_of_continued before round.made
 
 pub one_made : (before now later : Story) (place : ℕ) (event : Event) (outcome : Outcome) → GoesRound before now place →
-    is_over (state_of now) ≡ false → IsTurnAt before.config.harts place event →
+    is_over (state_of now) ≡ false → IsEventAt before.config.harts place event →
     later ≡ record now { entries = now.entries ++ record { event = event; outcome = outcome } ∷ [] } →
     outcome ≡ (next (state_of now) event).outcome → GoesRound before later (place + 1)
 one_made before now later place event outcome round runs turn more told = record {
@@ -56,8 +56,8 @@ one_made before now later place event outcome round runs turn more told = record
       elim (slice_get_push round.made event i other found) [
         | inl before_it ↦ round.turns i other before_it
         | inr last ↦
-            let At : ℕ → Type 0 = λ n. IsTurnAt before.config.harts n other in
-            subst At (sym (last.0 ∙ round.count)) (subst (λ (e : Event). IsTurnAt before.config.harts place e) last.1 turn)
+            let At : ℕ → Type 0 = λ n. IsEventAt before.config.harts n other in
+            subst At (sym (last.0 ∙ round.count)) (subst (λ (e : Event). IsEventAt before.config.harts place e) last.1 turn)
       ];
   going = λ i within.
       let up_to : i ≤ length round.made = omega (arith, length-append round.made (event ∷ [])) in

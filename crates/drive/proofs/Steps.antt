@@ -4,7 +4,7 @@ use Rattle.std.proofs.Math.Nat.{le_of_lt}
 use Rattle.std.proofs.lemmas.List.{length-take-le, take_more}
 use Rattle.el_base.specs.declared.events.Event.{Event}
 use Rattle.el_base.specs.declared.outcomes.Outcome.{Outcome}
-use Rattle.el_model.specs.Step.{next}
+use Rattle.plain_model.specs.Step.{next}
 use Rattle.machine.proofs.Continued.{continued_more, left_of_continued}
 use Rattle.machine.specs.Story.{Story, continued, left_of, state_of}
 

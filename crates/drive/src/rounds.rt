@@ -1,7 +1,7 @@
 ghost use Rattle.std.specs.Prelude.{◌≡◌, ◌<◌, ◌≤◌, ◌%◌, ◌/◌};
 ghost use Rattle.drive.specs.Drivers.{MakesRoundRobin};
 ghost use Rattle.el_base.specs.Kinds.{kind_number};
-ghost use Rattle.el_model.specs.RoundRobin.{IsTurnAt};
+ghost use Rattle.plain_model.specs.RoundRobin.{IsEventAt};
 
 use el_base::{Event, HartId, Kind};
 use machine::Machine;
@@ -24,7 +24,7 @@ pub fn round_robin(machine: &mut Machine)
 fn turn_at(harts: u8, place: u32) -> Event
     requires some { 1 ≤ harts }
     requires few { harts ≤ 8 }
-    ensures { IsTurnAt harts place result }
+    ensures { IsEventAt harts place result }
 {
     Event {
         kind: kind_at(place),

@@ -3,9 +3,9 @@ use Rattle.std.proofs.Common.{◌≡◌, ℕ, ◌≤◌, Bool, true, false, not,
 use Rattle.std.specs.List.{list_any}
 use Rattle.std.proofs.lemmas.Bool.Decides.{nat_tests}
 use Rattle.el_base.specs.Config.{within, set_counts, IsInRange}
-use Rattle.el_base.specs.declared.settings.Config.{Config}
-use Rattle.el_base.specs.declared.settings.ConfigFault.{ConfigFault}
-use Rattle.el_base.specs.declared.settings.ConfigFault.TheVariants.{Harts, Sets, Ways, Lines, Long, Steps}
+use Rattle.el_base.specs.declared.config.Config.{Config}
+use Rattle.el_base.specs.declared.config.ConfigFault.{ConfigFault}
+use Rattle.el_base.specs.declared.config.ConfigFault.TheVariants.{Harts, Sets, Ways, Lines, Long, Steps}
 
 -- each field of the configuration is in its range
 pub record Ranges (c : Config) : Type 0 where

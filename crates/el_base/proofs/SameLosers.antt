@@ -5,7 +5,7 @@ use Rattle.std.proofs.lemmas.Bool.Decides.{nat_tests}
 use Rattle.std.proofs.lemmas.List.{ext_get_or}
 use Rattle.std.proofs.Props.{props}
 use Rattle.el_base.specs.Losers.{beaten_by}
-use Rattle.el_base.specs.declared.conflicts.Losers.{Losers}
+use Rattle.el_base.specs.declared.losers.Losers.{Losers}
 
 abbrev told : ℕ → Option ℕ
 told winner = cond (ltb winner 8) (Some winner) None

@@ -1,10 +1,10 @@
 -- The ranges of a machine's configuration.
 use Rattle.std.specs.Prelude.{ℕ, Bool, List, [], ◌∷◌, ◌≡◌, Option, None, Some, ◌==◌, ◌&&◌, if◌then◌else◌, nat_le, not}
 use Rattle.std.specs.List.{list_any}
-use Rattle.el_base.specs.declared.settings.Config.{Config}
-use Rattle.el_base.specs.declared.settings.Mode.TheVariants.{Tlr}
-use Rattle.el_base.specs.declared.settings.ConfigFault.{ConfigFault}
-use Rattle.el_base.specs.declared.settings.ConfigFault.TheVariants.{Harts, Sets, Ways, Lines, Long, Steps}
+use Rattle.el_base.specs.declared.config.Config.{Config}
+use Rattle.el_base.specs.declared.config.Mode.TheVariants.{Tlr}
+use Rattle.el_base.specs.declared.config.ConfigFault.{ConfigFault}
+use Rattle.el_base.specs.declared.config.ConfigFault.TheVariants.{Harts, Sets, Ways, Lines, Long, Steps}
 
 -- the configuration of a machine of which nothing was asked
 abbrev pub usual : Config

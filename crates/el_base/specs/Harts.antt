@@ -1,7 +1,7 @@
 -- Sets of harts.
 use Rattle.std.specs.Prelude.{ℕ, Bool, ◌==◌, ◌&&◌, nat_lt}
 use Rattle.std.specs.Int.{bit_at}
-use Rattle.el_base.specs.declared.hart_set.Harts.{Harts}
+use Rattle.el_base.specs.declared.harts.Harts.{Harts}
 
 -- whether the set has the hart of this number; no set has a hart above 7
 abbrev pub has_hart : Harts → ℕ → Bool

@@ -1,6 +1,6 @@
 -- The losers of an event.
 use Rattle.std.specs.Prelude.{ℕ, Option, None, Some, ◌&&◌, if◌then◌else◌, nat_lt, slice_index}
-use Rattle.el_base.specs.declared.conflicts.Losers.{Losers}
+use Rattle.el_base.specs.declared.losers.Losers.{Losers}
 
 -- the number of the hart that this hart lost to, if it lost
 abbrev pub beaten_by : Losers → ℕ → Option ℕ

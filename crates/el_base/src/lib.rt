@@ -9,27 +9,29 @@
 //! Where a doc comment names no other source, its rule is this project's profile.
 #![tactic(auto)]
 
-mod conflicts;
+mod config;
 mod entries;
 mod events;
+mod file_fault;
 mod hart_id;
-mod hart_set;
+mod harts;
 mod line;
+mod losers;
 mod no_memory;
 mod outcomes;
-mod settings;
-mod stamps;
+mod stamped;
 
-pub use conflicts::Losers;
+pub use config::{Config, ConfigFault, Mode, is_set_count};
 pub use entries::{Chronicled, Entry};
 pub use events::{Event, Kind};
+pub use file_fault::FileFault;
 pub use hart_id::HartId;
-pub use hart_set::Harts;
-pub use line::{LineAddr, line_of};
+pub use harts::Harts;
+pub use line::{LINE_BYTES, LineAddr, line_of};
+pub use losers::Losers;
 pub use no_memory::NoMemory;
 pub use outcomes::{Cause, Need, Outcome, Why};
-pub use settings::{Config, ConfigFault, Mode, is_set_count};
-pub use stamps::Stamped;
+pub use stamped::Stamped;
 
 #[cfg(test)]
 mod tests;

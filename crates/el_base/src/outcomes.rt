@@ -1,6 +1,6 @@
-use crate::conflicts::Losers;
 use crate::hart_id::HartId;
 use crate::line::LineAddr;
+use crate::losers::Losers;
 
 /// What a hart wants of a line.
 #[derive(Clone, Copy, Debug, PartialEq, Eq)]

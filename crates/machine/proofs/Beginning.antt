@@ -2,8 +2,8 @@
 use Rattle.std.proofs.Common.{◌≡◌, ℕ, [], length, refl, ◌∙◌, ap, arith}
 use Rattle.std.proofs.lemmas.List.FromFn.{length-map-range_with_len}
 use Rattle.el_base.specs.Config.{IsInRange}
-use Rattle.el_base.specs.declared.settings.Config.{Config}
-use Rattle.el_model.specs.ModelState.{begin}
+use Rattle.el_base.specs.declared.config.Config.{Config}
+use Rattle.plain_model.specs.ModelState.{begin}
 use Rattle.elf_image.specs.Program.{Program, IsProgram}
 use Rattle.machine.specs.Stands.{Stands}
 use Rattle.rv_flat.proofs.StepLaws.{keeps_shape}

@@ -4,10 +4,10 @@ use Rattle.std.proofs.lemmas.List.{map-append}
 use Rattle.chronicle.specs.Chronicle.{events}
 use Rattle.el_base.specs.declared.events.Event.{Event}
 use Rattle.el_base.specs.declared.outcomes.Outcome.{Outcome}
-use Rattle.el_model.proofs.Runs.{entries_from-append, length-entries_from, events-entries_from, state_after-append}
-use Rattle.el_model.specs.ModelState.{begin}
-use Rattle.el_model.specs.Runs.{after, entries_from, state_after}
-use Rattle.el_model.specs.Step.{next}
+use Rattle.plain_model.proofs.Runs.{entries_from-append, length-entries_from, events-entries_from, state_after-append}
+use Rattle.plain_model.specs.ModelState.{begin}
+use Rattle.plain_model.specs.Runs.{after, entries_from, state_after}
+use Rattle.plain_model.specs.Step.{next}
 use Rattle.machine.specs.Story.{Story, continued, left_of, state_of}
 
 -- the state after further events

@@ -9,11 +9,11 @@ use Rattle.chronicle.specs.Serial.{effects, serial}
 use Rattle.el_base.specs.declared.entries.Entry.{Entry}
 use Rattle.el_base.specs.declared.events.Event.{Event}
 use Rattle.el_base.specs.declared.outcomes.Outcome.{Outcome}
-use Rattle.el_model.proofs.Events.{next_effect, next_keeps}
-use Rattle.el_model.proofs.Runs.{outcomes_from-append, state_after-append}
-use Rattle.el_model.specs.ModelState.{ModelState, begin}
-use Rattle.el_model.specs.Runs.{after, outcomes}
-use Rattle.el_model.specs.Step.{next}
+use Rattle.plain_model.proofs.Events.{next_effect, next_keeps}
+use Rattle.plain_model.proofs.Runs.{outcomes_from-append, state_after-append}
+use Rattle.plain_model.specs.ModelState.{ModelState, begin}
+use Rattle.plain_model.specs.Runs.{after, outcomes}
+use Rattle.plain_model.specs.Step.{next}
 use Rattle.machine.specs.Stands.{Stands}
 use Rattle.machine.specs.Story.{Story, IsOneRun, committed, left_of, memory_of, state_of}
 use Rattle.rv_flat.proofs.StepLaws.{run_append}

@@ -1,7 +1,7 @@
 -- whether every hart has stopped, one hart after another
 use Rattle.std.proofs.Common.{◌≡◌, ◌≢◌, ℕ, ◌+◌, ◌<◌, true, false, ◌&&◌, length, take, refl, ◌∙◌, ap}
 use Rattle.std.proofs.lemmas.List.Folds.{list_all_at, list_all_more}
-use Rattle.el_model.specs.ModelState.{all_stopped, has_stopped}
+use Rattle.plain_model.specs.ModelState.{all_stopped, has_stopped}
 use Rattle.rv_alu.specs.declared.view.HartStatus.{HartStatus}
 use Rattle.rv_alu.specs.declared.view.HartStatus.TheVariants.{Running, Exited, Trapped}
 use Rattle.rv_flat.specs.FlatState.{FlatState, no_hart, status_of}

@@ -2,7 +2,7 @@
 use Rattle.std.specs.Prelude.{ℕ, ◌≡◌, ◌<◌, ◌≤◌, All, length}
 use Rattle.chronicle.specs.Chronicle.{events}
 use Rattle.el_base.specs.Config.{IsInRange}
-use Rattle.el_model.specs.ModelState.{ModelState}
+use Rattle.plain_model.specs.ModelState.{ModelState}
 use Rattle.elf_image.specs.Program.{IsProgram}
 use Rattle.machine.specs.Story.{Story, IsOneRun, committed, state_of}
 

@@ -4,9 +4,9 @@ use Rattle.chronicle.specs.Chronicle.{Chronicle, events}
 use Rattle.chronicle.specs.Serial.{serial}
 use Rattle.el_base.specs.declared.entries.Entry.{Entry}
 use Rattle.el_base.specs.declared.events.Event.{Event}
-use Rattle.el_base.specs.declared.settings.Config.{Config}
-use Rattle.el_model.specs.ModelState.{ModelState}
-use Rattle.el_model.specs.Runs.{after, entries_from, outcomes}
+use Rattle.el_base.specs.declared.config.Config.{Config}
+use Rattle.plain_model.specs.ModelState.{ModelState}
+use Rattle.plain_model.specs.Runs.{after, entries_from, outcomes}
 use Rattle.elf_image.specs.Program.{Program}
 use Rattle.rv_alu.specs.declared.span.Span.{Span}
 use Rattle.rv_flat.specs.FlatState.{FlatState, start}

@@ -1,7 +1,7 @@
 ghost use Rattle.std.specs.Prelude.{◌≡◌, ◌<◌, ◌≤◌, ◌↔◌, IfOk, IfSome, IsNone, length, false};
-ghost use Rattle.el_base.specs.declared.settings.Config.{Config};
-ghost use Rattle.el_model.specs.ModelState.{begin, is_over, shown_of};
-ghost use Rattle.el_model.specs.Step.{next, step_turn};
+ghost use Rattle.el_base.specs.declared.config.Config.{Config};
+ghost use Rattle.plain_model.specs.ModelState.{begin, is_over, shown_of};
+ghost use Rattle.plain_model.specs.Step.{next, step_turn};
 ghost use Rattle.rv_alu.specs.Span.{holds};
 ghost use Rattle.rv_flat.specs.FlatState.{output_limit, span_of, view_of};
 ghost use Rattle.rv_flat.specs.Memory.{byte_in};
@@ -21,7 +21,7 @@ pub struct Engine {
 
 impl Model for Engine {
     ghost use Rattle.std.specs.Prelude.{◌≤◌, length};
-    ghost use Rattle.el_model.specs.ModelState.{ModelState};
+    ghost use Rattle.plain_model.specs.ModelState.{ModelState};
 
     ghost Value = { ModelState };
 
@@ -32,7 +32,7 @@ impl Model for Engine {
 
 impl Engine {
     /// A program before its first event, under any configuration.
-    #[tactic(auto, using(crate::proofs::Beginning::start_harts), unfolding(el_model::specs::ModelState::begin))]
+    #[tactic(auto, using(crate::proofs::Beginning::start_harts), unfolding(plain_model::specs::ModelState::begin))]
     pub fn make(alloc: Global, image: &Image) -> Result<Engine, NoMemory>
         ensures { IfOk result (λ engine. (config : Config) → engine ≡ begin image.now config) }
     {
@@ -43,7 +43,7 @@ impl Engine {
     }
 
     /// One event.
-    #[tactic(auto, unfolding(el_model::specs::Step::next))]
+    #[tactic(auto, unfolding(plain_model::specs::Step::next))]
     pub fn step(&mut self, event: Event) -> Outcome
         requires { event.hart.number < length self.old.committed.harts }
         ensures state { self.new ≡ (next self.old event).state }
@@ -72,7 +72,7 @@ impl Engine {
     }
 
     /// Whether every hart has stopped.
-    #[tactic(auto, using(crate::proofs::Stopping::one_runs, crate::proofs::Stopping::one_more_stopped), unfolding(el_model::specs::ModelState::is_over))]
+    #[tactic(auto, using(crate::proofs::Stopping::one_runs, crate::proofs::Stopping::one_more_stopped), unfolding(plain_model::specs::ModelState::is_over))]
     pub fn over(&self) -> bool
         ensures { result ≡ is_over self.now }
     {

@@ -1,6 +1,6 @@
 //! The machine: a program on several harts, one event at a time, with a history of what came of each.
 //!
-//! It stands on `rv_flat`, on the history of `chronicle` and on the definitions of `el_model`. A machine
+//! It stands on `rv_flat`, on the history of `chronicle` and on the definitions of `plain_model`. A machine
 //! is seen as its story: the program, the configuration, and the events made so far with their outcomes.
 //! Whatever the events, each outcome is the one that the definition gives, and registers, memory and
 //! output are those of one run of the program on plain shared memory, in the serial order that the
@@ -13,11 +13,11 @@
 mod engine;
 mod fault;
 mod laws;
-mod run;
+mod machine;
 
 pub use fault::MakeFault;
 pub use laws::{continued_story_reaches_the_state_after, stories_go_on_event_by_event};
-pub use run::Machine;
+pub use machine::Machine;
 
 #[cfg(test)]
 mod tests;

@@ -3,7 +3,7 @@ use Rattle.std.proofs.Common.{List, [], ◌∷◌, suc, Option, None, Some, Resu
 use Rattle.command_line.specs.Settings.{config_of}
 use Rattle.command_line.specs.Words.{RunJob}
 use Rattle.el_base.specs.Config.{IsInRange, config_fault}
-use Rattle.el_base.specs.declared.settings.ConfigFault.{ConfigFault}
+use Rattle.el_base.specs.declared.config.ConfigFault.{ConfigFault}
 use Rattle.el_io.specs.Shelf.{NamedCall, Records}
 use Rattle.el_io.specs.declared.shelf.Call.TheVariants.{Read}
 use Rattle.el_io.specs.declared.shelf.ShelfFault.{ShelfFault}

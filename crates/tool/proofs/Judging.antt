@@ -6,12 +6,12 @@ use Rattle.command_line.specs.Words.{Job, Run, Replay, RunJob, job_of}
 use Rattle.drive.specs.Drivers.{MakesRoundRobin}
 use Rattle.el_base.specs.Config.{IsInRange, config_fault}
 use Rattle.el_base.specs.declared.events.Event.{Event}
-use Rattle.el_base.specs.declared.settings.Config.{Config}
-use Rattle.el_base.specs.declared.settings.ConfigFault.{ConfigFault}
+use Rattle.el_base.specs.declared.config.Config.{Config}
+use Rattle.el_base.specs.declared.config.ConfigFault.{ConfigFault}
 use Rattle.el_io.specs.Shelf.{Contents, NamedCall}
 use Rattle.el_io.specs.declared.shelf.Call.TheVariants.{Read}
-use Rattle.el_model.specs.ModelState.{begin}
-use Rattle.el_model.specs.RoundRobin.{IsRoundRobin}
+use Rattle.plain_model.specs.ModelState.{begin}
+use Rattle.plain_model.specs.RoundRobin.{IsRoundRobin}
 use Rattle.elf_image.specs.declared.fault.Fault.{Fault}
 use Rattle.elf_image.specs.Faults.{fault}
 use Rattle.elf_image.specs.Limits.{file_limit}

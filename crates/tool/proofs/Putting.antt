@@ -3,7 +3,7 @@ use Rattle.std.proofs.Common.{◌≡◌, ℕ, List, length, take, take_all, fals
 use Rattle.std.specs.Prelude.{MatchResult, OnOk, is_err}
 use Rattle.std.specs.Option.{option_map}
 use Rattle.chronicle.specs.Chronicle.{Chronicle, events}
-use Rattle.el_base.specs.declared.settings.Config.{Config}
+use Rattle.el_base.specs.declared.config.Config.{Config}
 use Rattle.machine.specs.Story.{Story, history_of}
 use Rattle.trace_file.specs.Spelling.{spelling}
 use Rattle.el_io.specs.Shelf.{Contents, Holds, KeepsOthers}

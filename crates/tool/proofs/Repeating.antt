@@ -12,12 +12,12 @@ use Rattle.command_line.specs.Words.{RunJob}
 use Rattle.el_base.specs.Config.{config_fault}
 use Rattle.el_base.proofs.Ranges.{ranges, at_least, at_most}
 use Rattle.el_base.specs.declared.events.Event.{Event}
-use Rattle.el_base.specs.declared.settings.Config.{Config}
-use Rattle.el_base.specs.declared.settings.ConfigFault.{ConfigFault}
-use Rattle.el_model.specs.ModelState.{ModelState, begin}
-use Rattle.el_model.specs.RoundRobin.{IsRoundRobin, IsTurnAt}
-use Rattle.el_model.specs.Runs.{entries_from}
-use Rattle.el_model.specs.Step.{next}
+use Rattle.el_base.specs.declared.config.Config.{Config}
+use Rattle.el_base.specs.declared.config.ConfigFault.{ConfigFault}
+use Rattle.plain_model.specs.ModelState.{ModelState, begin}
+use Rattle.plain_model.specs.RoundRobin.{IsRoundRobin, IsEventAt}
+use Rattle.plain_model.specs.Runs.{entries_from}
+use Rattle.plain_model.specs.Step.{next}
 use Rattle.elf_image.specs.declared.fault.Fault.{Fault}
 use Rattle.elf_image.specs.Faults.{fault}
 use Rattle.elf_image.specs.Limits.{file_limit}
@@ -42,7 +42,7 @@ events-entries state (event ∷ made) = ap (λ (rest : List Event). event ∷ re
 -- each event of a round robin is of a hart that there is
 harts-made : (state : ModelState) (harts left : ℕ) (made : List Event) → 1 ≤ harts → IsRoundRobin state harts left made → All (λ event. event.hart.number < harts) made
 harts-made state harts left made some round = λ k d within.
-    let turn : IsTurnAt harts k (get_or made k d) = round.turns k (get_or made k d) (slice_get-get_or made k d within) in
+    let turn : IsEventAt harts k (get_or made k d) = round.turns k (get_or made k d) (slice_get-get_or made k d within) in
     rw turn.hart (mod-lt (k / 4) some)
 
 length-spelling : (config : Config) (made : List Event) → length (spelling config made) ≡ 22 + length made

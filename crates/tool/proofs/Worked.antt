@@ -2,7 +2,7 @@
 use Rattle.std.proofs.Common.{◌≡◌, ◌++◌, [], ◌∷◌, true, false, None, refl}
 use Rattle.std.specs.Prelude.{codes, replicate}
 use Rattle.std.specs.Fmt.{digits}
-use Rattle.el_base.specs.declared.settings.ConfigFault.TheVariants.{Harts, Steps}
+use Rattle.el_base.specs.declared.config.ConfigFault.TheVariants.{Harts, Steps}
 use Rattle.rv_alu.specs.declared.view.HartStatus.{HartStatus}
 use Rattle.rv_alu.specs.declared.view.HartStatus.TheVariants.{Running, Exited, Trapped}
 use Rattle.rv_alu.specs.declared.view.HartView.{HartView}

@@ -4,7 +4,7 @@ use Rattle.std.specs.Option.{option_to_list}
 use Rattle.command_line.specs.Settings.{config_of}
 use Rattle.command_line.specs.Words.{Job, Run, Replay, RunJob}
 use Rattle.el_base.specs.Config.{config_fault}
-use Rattle.el_base.specs.declared.settings.ConfigFault.{ConfigFault}
+use Rattle.el_base.specs.declared.config.ConfigFault.{ConfigFault}
 use Rattle.el_io.specs.Counts.{one_more}
 use Rattle.el_io.specs.Shelf.{NamedCall}
 use Rattle.el_io.specs.declared.shelf.Call.TheVariants.{Read, Write}

@@ -1,8 +1,8 @@
 -- The one line that a refusal puts to err.
 use Rattle.std.specs.Prelude.{ℕ, List, [], ◌∷◌, ◌++◌, ◌==◌, codes, if◌then◌else◌}
 use Rattle.std.specs.Fmt.{decimal}
-use Rattle.el_base.specs.declared.settings.ConfigFault.{ConfigFault}
-use Rattle.el_base.specs.declared.settings.ConfigFault.TheVariants.{Harts, Sets, Ways, Lines, Long, Steps}
+use Rattle.el_base.specs.declared.config.ConfigFault.{ConfigFault}
+use Rattle.el_base.specs.declared.config.ConfigFault.TheVariants.{Harts, Sets, Ways, Lines, Long, Steps}
 use Rattle.tool.specs.declared.messages.Refusal.{Refusal}
 use Rattle.tool.specs.declared.messages.Refusal.TheVariants as refusals
 

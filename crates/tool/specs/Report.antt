@@ -3,7 +3,7 @@ use Rattle.std.specs.Prelude.{ℕ, Bool, false, not, ◌==◌, List, ◌++◌, l
 use Rattle.std.specs.Fmt.{decimal}
 use Rattle.std.specs.List.{list_all}
 use Rattle.chronicle.specs.Serial.{serial}
-use Rattle.el_model.specs.ModelState.{is_over}
+use Rattle.plain_model.specs.ModelState.{is_over}
 use Rattle.machine.specs.Story.{Story, committed, state_of}
 use Rattle.rv_alu.specs.declared.view.HartStatus.{HartStatus}
 use Rattle.rv_alu.specs.declared.view.HartStatus.TheVariants.{Running, Exited, Trapped}

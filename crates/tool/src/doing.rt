@@ -1,7 +1,7 @@
 //! What a command does before anything is put: it reads its files, and makes a machine that it runs.
 ghost use Rattle.std.specs.Prelude.{◌≡◌, ◌≤◌, None, IfOk, OnOk, MatchResult, length, [], ◌∷◌};
 ghost use Rattle.el_base.specs.Config.{IsInRange, config_fault};
-ghost use Rattle.el_base.specs.declared.settings.Mode.TheVariants.{Plain};
+ghost use Rattle.el_base.specs.declared.config.Mode.TheVariants.{Plain};
 ghost use Rattle.el_io.specs.declared.shelf.Call.TheVariants.{Read};
 ghost use Rattle.elf_image.specs.Faults.{fault};
 ghost use Rattle.elf_image.specs.Limits.{file_limit};

@@ -8,7 +8,7 @@ use Rattle.std.proofs.lemmas.Bool.Decides.{nat_tests}
 use Rattle.el_base.specs.Config.{within}
 use Rattle.el_base.specs.Firsts.{first_of, some_if}
 use Rattle.byteorder.specs.Endian.{little_bytes, little_number}
-use Rattle.el_base.specs.declared.settings.Config.{Config}
+use Rattle.el_base.specs.declared.config.Config.{Config}
 use Rattle.trace_file.specs.declared.fault.Fault.{Fault}
 use Rattle.trace_file.specs.declared.fault.FaultKind.{FaultKind}
 use Rattle.trace_file.specs.declared.fault.FaultKind.TheVariants.{Short, Magic, Version, Config as config_kind}

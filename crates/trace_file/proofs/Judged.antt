@@ -13,7 +13,7 @@ use Rattle.el_base.proofs.Ranges.{Ranges, in_range, at_most}
 use Rattle.el_base.specs.Kinds.{kind_number}
 use Rattle.el_base.specs.declared.hart_id.HartId.{HartId}
 use Rattle.el_base.specs.declared.events.Event.{Event}
-use Rattle.el_base.specs.declared.settings.Config.{Config}
+use Rattle.el_base.specs.declared.config.Config.{Config}
 use Rattle.trace_file.specs.declared.fault.FaultKind.TheVariants.{Config as config_kind, Event as event_kind, Tail}
 use Rattle.trace_file.specs.Spelling.{spelling, event_byte, last_mode, IsTrace, IsBuilt}
 use Rattle.trace_file.specs.Faults.{fault_of, byte_fault, magic_fault, version_fault, sets_fault, settings_fault, number_fault, head_fault, number_at, config_at, is_event, event_fault, end_fault, trace_fault}

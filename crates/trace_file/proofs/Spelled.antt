@@ -19,9 +19,9 @@ use Rattle.el_base.specs.declared.hart_id.HartId.{HartId}
 use Rattle.el_base.specs.declared.events.Event.{Event}
 use Rattle.el_base.specs.declared.events.Kind.{Kind}
 use Rattle.el_base.specs.declared.events.Kind.TheVariants.{Step, Order, Serve, Deliver}
-use Rattle.el_base.specs.declared.settings.Config.{Config}
-use Rattle.el_base.specs.declared.settings.Mode.{Mode}
-use Rattle.el_base.specs.declared.settings.Mode.TheVariants.{Plain, Sle, Tlr}
+use Rattle.el_base.specs.declared.config.Config.{Config}
+use Rattle.el_base.specs.declared.config.Mode.{Mode}
+use Rattle.el_base.specs.declared.config.Mode.TheVariants.{Plain, Sle, Tlr}
 use Rattle.trace_file.specs.declared.fault.Fault.{Fault}
 use Rattle.trace_file.specs.declared.fault.FaultKind.{FaultKind}
 use Rattle.trace_file.specs.declared.fault.FaultKind.TheVariants.{Config as config_kind}

@@ -6,9 +6,9 @@ use Rattle.std.specs.List.{list_any}
 use Rattle.byteorder.specs.Endian.{little_number}
 use Rattle.el_base.specs.Config.{within, set_counts}
 use Rattle.el_base.specs.Firsts.{first_of, some_if}
-use Rattle.el_base.specs.declared.settings.Config as settings
-use Rattle.el_base.specs.declared.settings.Mode.{Mode}
-use Rattle.el_base.specs.declared.settings.Mode.TheVariants.{Plain, Sle, Tlr}
+use Rattle.el_base.specs.declared.config.Config as settings
+use Rattle.el_base.specs.declared.config.Mode.{Mode}
+use Rattle.el_base.specs.declared.config.Mode.TheVariants.{Plain, Sle, Tlr}
 use Rattle.trace_file.specs.declared.fault.FaultKind.{FaultKind}
 use Rattle.trace_file.specs.declared.fault.FaultKind.TheVariants.{Short, Magic, Version, Config, Event, Tail}
 use Rattle.trace_file.specs.Spelling.{last_mode}

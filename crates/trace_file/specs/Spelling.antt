@@ -4,9 +4,9 @@ use Rattle.byteorder.specs.Endian.{little_bytes}
 use Rattle.el_base.specs.Config.{IsInRange}
 use Rattle.el_base.specs.Kinds.{kind_number}
 use Rattle.el_base.specs.declared.events.Event.{Event}
-use Rattle.el_base.specs.declared.settings.Config.{Config}
-use Rattle.el_base.specs.declared.settings.Mode.{Mode}
-use Rattle.el_base.specs.declared.settings.Mode.TheVariants.{Plain, Sle, Tlr}
+use Rattle.el_base.specs.declared.config.Config.{Config}
+use Rattle.el_base.specs.declared.config.Mode.{Mode}
+use Rattle.el_base.specs.declared.config.Mode.TheVariants.{Plain, Sle, Tlr}
 
 -- "ELTR"
 abbrev pub magic : List ℕ

@@ -2,7 +2,7 @@
 
 ghost use Rattle.std.specs.Prelude.{◌≡◌, ℕ, ◌<◌, List, None, slice_index};
 ghost use Rattle.el_base.specs.declared.events.Event.{Event};
-ghost use Rattle.el_base.specs.declared.settings.Config.{Config};
+ghost use Rattle.el_base.specs.declared.config.Config.{Config};
 ghost use Rattle.trace_file.specs.Faults.{trace_fault};
 ghost use Rattle.trace_file.specs.Spelling.{spelling, IsTrace, IsBuilt};
 

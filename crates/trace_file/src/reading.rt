@@ -2,7 +2,7 @@
 
 ghost use Rattle.std.specs.Prelude.{◌≡◌, ℕ, List, ◌+◌, ◌++◌, ◌<◌, ◌≤◌, None, Some, Err, IsTrue, not, position, length, map, slice_index, take, drop, All, IfNone, IfOk};
 ghost use Rattle.el_base.specs.Config.{IsInRange};
-ghost use Rattle.el_base.specs.declared.settings.Config.{Config};
+ghost use Rattle.el_base.specs.declared.config.Config.{Config};
 ghost use Rattle.trace_file.specs.Faults.{Judges, is_event, event_fault, end_fault, trace_fault, config_at, number_at};
 ghost use Rattle.trace_file.specs.Spelling.{event_byte, head, spelling, IsTrace, IsBuilt};
 

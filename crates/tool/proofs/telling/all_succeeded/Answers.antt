@@ -1,5 +1,5 @@
 use Rattle.std.proofs.Common.{◌≡◌, ◌∙◌, ap, arith}
-use Rattle.el_base.specs.declared.settings.Config.{Config}
+use Rattle.el_base.specs.declared.config.Config.{Config}
 use Rattle.tool.proofs.Ending.{all_looked_at}
 use Rattle.tool.proofs.telling.all_succeeded.Goals as goal
 

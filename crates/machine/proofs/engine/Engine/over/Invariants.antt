@@ -1,5 +1,5 @@
 use Rattle.std.proofs.Common.{◌≡◌, true, take}
-use Rattle.el_model.specs.ModelState.{all_stopped}
+use Rattle.plain_model.specs.ModelState.{all_stopped}
 use Rattle.machine.proofs.engine.Engine.over.Given as goal
 
 abbrev pub invariant-loop-number : goal.invariant-loop-number

@@ -1,0 +1,103 @@
+ghost use Rattle.std.specs.Prelude.{◌≡◌, ◌∷◌, ◌++◌, [], ◌≤◌, length, IfOk};
+ghost use Rattle.chronicle.specs.Chronicle.{Chronicle, spare_of};
+ghost use Rattle.chronicle.specs.Serial.{effects, most_effects, serial};
+ghost use Rattle.chronicle.specs.Tally.{tally_of};
+
+use crate::tally::Tally;
+use el_base::{Chronicled, Entry, HartId, NoMemory, Outcome};
+use std::alloc::Global;
+use std::marker::Model;
+
+/// The events that a machine has made, with their outcomes, and room for those that it may still
+/// make.
+#[derive(Drop)]
+pub struct History {
+    entries: Vec<Entry>,
+    places: u32,
+}
+
+impl Model for History {
+    ghost use Rattle.std.specs.Prelude.{◌<◌, ◌≤◌, ◌^◌, vec_len, vec_capacity};
+    ghost use Rattle.chronicle.specs.Chronicle.{Chronicle};
+
+    ghost Value = { Chronicle };
+
+    ghost view = { λ h. record { entries = h.entries.items; places = h.places } };
+
+    ghost invariant = { λ h. (vec_len h.entries ≤ h.places) × (h.places ≤ vec_capacity h.entries) × (h.places < 2 ^ 32) };
+}
+
+impl History {
+    /// A history of no events, with places for `steps` of them.
+    pub fn make(alloc: Global, steps: u32) -> Result<History, NoMemory>
+        ensures { IfOk result (λ history. history ≡ record { entries = []; places = steps }) }
+    {
+        Ok(History {
+            entries: Vec::with_capacity(alloc, steps as usize)?,
+            places: steps,
+        })
+    }
+
+    /// How many more entries there is a place for.
+    pub fn spare(&self) -> u32
+        ensures exact { result ≡ spare_of self.now }
+        ensures within { length self.now.entries ≤ self.now.places }
+    {
+        self.places - self.entries.len() as u32
+    }
+
+    /// Puts an entry behind all others.
+    pub fn push(&mut self, entry: Entry)
+        requires { 1 ≤ spare_of self.old }
+        ensures { self.new ≡ record self.old { entries = self.old.entries ++ entry ∷ [] } }
+    {
+        self.entries.push_reserved(entry);
+    }
+
+    /// The length of the serial order: one for each instruction that ran outside of a section, and
+    /// the count of each commit.
+    pub fn serial_len(&self) -> u64
+        ensures { result ≡ length (serial self.now.entries) }
+    {
+        let mut total = 0;
+        for entry in &self.entries {
+            total += effects_of(entry.outcome);
+        }
+        total
+    }
+
+    /// What the history says of a hart.
+    pub fn tally(&self, hart: HartId) -> Tally
+        ensures { result ≡ tally_of hart.number self.now.entries }
+    {
+        let mut tally = Tally::default();
+        for entry in &self.entries {
+            tally = tally.plus(Tally::of_entry(hart, *entry));
+        }
+        tally
+    }
+}
+
+impl Chronicled for History {
+    ghost entries = { λ history. history.entries };
+
+    fn length(&self) -> u32 {
+        self.entries.len() as u32
+    }
+
+    fn entry(&self, place: u32) -> Entry {
+        self.entries[place as usize]
+    }
+}
+
+/// How many instructions took effect with this outcome.
+fn effects_of(outcome: Outcome) -> u64
+    ensures exact { result ≡ effects outcome }
+    ensures small { result ≤ most_effects }
+{
+    match outcome {
+        Outcome::Ran => 1,
+        Outcome::Committed { count } => count.into(),
+        _ => 0,
+    }
+}

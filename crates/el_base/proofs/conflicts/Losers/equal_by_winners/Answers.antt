@@ -1,5 +1,0 @@
-use Rattle.el_base.proofs.SameLosers.{same_losers}
-use Rattle.el_base.proofs.conflicts.Losers.equal_by_winners.Goals as goal
-
-pub returns : goal.returns
-returns c = same_losers

@@ -1,0 +1,5 @@
+use Rattle.el_base.proofs.SameLosers.{same_losers}
+use Rattle.el_base.proofs.losers.Losers.equal_by_winners.Goals as goal
+
+pub returns : goal.returns
+returns c = same_losers

@@ -1,0 +1,8 @@
+/// A fault of a file: which one of its format's faults it is, and where it shows.
+#[derive(Clone, Copy, Debug, PartialEq, Eq)]
+pub struct FileFault {
+    /// The fault's number in the list of its format, from 1 on.
+    pub number: u8,
+    /// The place in the file, in bytes from its start, that the format names for the fault.
+    pub place: u32,
+}

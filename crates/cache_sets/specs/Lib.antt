@@ -1,0 +1,2 @@
+pub mod Residency
+pub mod Cache

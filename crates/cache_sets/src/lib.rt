@@ -1,0 +1,8 @@
+//! One hart's cache: sets of lines, each most recent first.
+//!
+//! It stands on `el_base` and `moesi`.
+//!
+//! Where a doc comment names no other source, its rule is this project's profile.
+#![tactic(auto)]
+
+pub use moesi::Letter;

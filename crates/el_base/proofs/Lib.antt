@@ -1,4 +1,8 @@
+pub mod Belows
 pub mod BitSets
 pub mod HartIds
+pub mod Lines
+pub mod MadeLosers
 pub mod Ranges
 pub mod SameLosers
+mod Worked

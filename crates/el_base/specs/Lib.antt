@@ -1,5 +1,9 @@
+pub mod Below
 pub mod Config
 pub mod Firsts
+pub mod HartId
 pub mod Harts
 pub mod Kinds
+pub mod Line
+pub mod LineAddr
 pub mod Losers

@@ -1,9 +1,10 @@
-ghost use Rattle.std.specs.Prelude.{◌≡◌, ◌<◌, ◌/◌, ◌^◌};
+ghost use Rattle.std.specs.Prelude.{◌≡◌, ◌<◌, ◌^◌};
+ghost use Rattle.el_base.specs.Line.{line_number};
 
 /// How many bytes a line has.
 pub const LINE_BYTES: u32 = 64;
 
-/// A line of 64 bytes of memory, by the address of any of its bytes divided by 64.
+/// A line of memory, by the address of any of its bytes divided by `LINE_BYTES`.
 #[derive(Clone, Copy, Debug, PartialEq, Eq)]
 pub struct LineAddr {
     pub number: u32,
@@ -12,7 +13,7 @@ pub struct LineAddr {
 
 /// The line that holds the byte at `address`.
 pub fn line_of(address: u32) -> LineAddr
-    ensures { result.number ≡ address / 64 }
+    ensures { result.number ≡ line_number address }
 {
     LineAddr {
         number: address / LINE_BYTES,

@@ -1,0 +1,126 @@
+-- where each outcome comes
+use Rattle.std.specs.Prelude.{◌≡◌, ◌≢◌, ◌⊎◌, ◌+◌, ℕ, Bool, true, false, List, [], ◌∷◌, Option, None, Some}
+use Rattle.bus_order.specs.Order.{Request}
+use Rattle.el_base.specs.HartId.{hart_id}
+use Rattle.el_base.specs.LineAddr.{line_addr}
+use Rattle.el_base.specs.declared.events.Event.{Event}
+use Rattle.el_base.specs.declared.events.Kind.TheVariants as kinds
+use Rattle.el_base.specs.declared.line.LineAddr.{LineAddr}
+use Rattle.el_base.specs.declared.hart_id.HartId.{HartId}
+use Rattle.el_base.specs.declared.losers.Losers.{Losers}
+use Rattle.el_base.specs.declared.outcomes.Cause.{Cause}
+use Rattle.el_base.specs.declared.outcomes.Need.{Need}
+use Rattle.el_base.specs.declared.outcomes.Outcome.{Outcome}
+use Rattle.el_base.specs.declared.outcomes.Outcome.TheVariants.{Idle, Stalled, Missed, Ran, Began, Buffered, Committed, RolledBack, Ordered, Served, Blocked, Delivered}
+use Rattle.el_base.specs.declared.outcomes.Why.{Why}
+use Rattle.mail.specs.Mailbox.{Message}
+use Rattle.el_model.specs.Deliver.{message_losers}
+use Rattle.el_model.specs.InSection as inside
+use Rattle.el_model.specs.InSection.{SectionRule, section_rule}
+use Rattle.el_model.specs.Order.{order_losers}
+use Rattle.el_model.specs.Plain as outside
+use Rattle.el_model.specs.Plain.{PlainRule, plain_rule}
+use Rattle.el_model.specs.Serve.{Blocks, Free, Obstacle, obstacle_to, serve_losers}
+use Rattle.el_model.specs.State.{ModelState, Section, has_request, hart_of, ordered_of, raised_of, section_of}
+use Rattle.el_model.specs.Upcoming.{Swap, Touch}
+use Rattle.rv_alu.specs.declared.view.HartStatus.TheVariants.{Running}
+use Rattle.rv_flat.specs.FlatState.{status_of}
+
+-- a step of a hart that runs and waits for no request
+pub record Goes (state : ModelState) (event : Event) : Type 0 where
+  pub step : event.kind ≡ kinds.Step
+  pub running : status_of state.committed event.hart.number ≡ Running
+  pub free : has_request state event.hart.number ≡ false
+
+-- the same outside of a section, by a rule
+pub record GoesOutside (state : ModelState) (event : Event) (rule : PlainRule) : Type 0 where
+  pub goes : Goes state event
+  pub outside : section_of state event.hart.number ≡ None
+  pub rule_is : plain_rule state event.hart.number ≡ rule
+
+-- the same inside of a section
+pub record GoesInside (state : ModelState) (event : Event) (section : Section) (rule : SectionRule) : Type 0 where
+  pub goes : Goes state event
+  pub inside : section_of state event.hart.number ≡ Some section
+  pub rule_is : section_rule state event.hart.number section ≡ rule
+
+-- a step of a hart that runs and waits for a request
+pub record Waits (state : ModelState) (event : Event) : Type 0 where
+  pub step : event.kind ≡ kinds.Step
+  pub running : status_of state.committed event.hart.number ≡ Running
+  pub waits : has_request state event.hart.number ≡ true
+
+-- a step of a hart that has stopped
+pub record HasStopped (state : ModelState) (event : Event) : Type 0 where
+  pub step : event.kind ≡ kinds.Step
+  pub stopped : status_of state.committed event.hart.number ≢ Running
+
+-- there is nothing to order, to serve, or to deliver
+pub record NothingRaised (state : ModelState) (event : Event) : Type 0 where
+  pub order : event.kind ≡ kinds.Order
+  pub nothing : raised_of state event.hart.number ≡ None
+
+pub record NothingOrdered (state : ModelState) (event : Event) : Type 0 where
+  pub serve : event.kind ≡ kinds.Serve
+  pub nothing : ordered_of state event.hart.number ≡ None
+
+pub record NoMail (state : ModelState) (event : Event) : Type 0 where
+  pub deliver : event.kind ≡ kinds.Deliver
+  pub nothing : (hart_of state event.hart.number).mail ≡ []
+
+abbrev pub NothingToDo : ModelState → Event → Type 0
+NothingToDo state event =
+    HasStopped state event ⊎ (NothingRaised state event ⊎ (NothingOrdered state event ⊎ NoMail state event))
+
+-- an instruction misses a line, outside or inside of a section
+pub record MissesLine (state : ModelState) (event : Event) (line : ℕ) (need : Need) : Type 0 where
+  pub by_rule : GoesOutside state event (outside.Misses line need) ⊎ ((section : Section) × GoesInside state event section (inside.Misses line need))
+
+-- a request takes its place
+pub record TakesPlace (state : ModelState) (event : Event) (losers : Losers) : Type 0 where
+  pub request : Request
+  pub order : event.kind ≡ kinds.Order
+  pub raised : raised_of state event.hart.number ≡ Some request
+  pub losers_are : losers ≡ order_losers state request
+
+-- a request is served, as nothing is in its way
+pub record IsServed (state : ModelState) (event : Event) (losers : Losers) : Type 0 where
+  pub request : Request
+  pub serve : event.kind ≡ kinds.Serve
+  pub ordered : ordered_of state event.hart.number ≡ Some request
+  pub free : obstacle_to state request ≡ Free
+  pub losers_are : losers ≡ serve_losers state request
+
+-- something is in its way
+pub record IsBlocked (state : ModelState) (event : Event) (why : Why) (by : HartId) : Type 0 where
+  pub request : Request
+  pub hart : ℕ
+  pub serve : event.kind ≡ kinds.Serve
+  pub ordered : ordered_of state event.hart.number ≡ Some request
+  pub obstacle : obstacle_to state request ≡ Blocks why hart
+  pub by_is : by ≡ hart_id hart
+
+-- the oldest message takes effect
+pub record TakesMessage (state : ModelState) (event : Event) (losers : Losers) : Type 0 where
+  pub message : Message
+  pub others : List Message
+  pub deliver : event.kind ≡ kinds.Deliver
+  pub mail : (hart_of state event.hart.number).mail ≡ message ∷ others
+  pub losers_are : losers ≡ message_losers state event.hart.number message others
+
+-- where an outcome comes
+abbrev pub ComesWhere : ModelState → Event → Outcome → Type 0
+ComesWhere state event Idle = NothingToDo state event
+ComesWhere state event Stalled = Waits state event
+ComesWhere state event (Missed line need) = (number : ℕ) × (line ≡ line_addr number) × MissesLine state event number need
+ComesWhere state event Ran = (touch : Option Touch) × GoesOutside state event (outside.Runs touch)
+ComesWhere state event Began = (swap : Swap) × GoesOutside state event (outside.Begins swap)
+ComesWhere state event Buffered =
+    (section : Section) × (touch : Option Touch) × GoesInside state event section (inside.Buffers touch)
+ComesWhere state event (Committed count) =
+    (section : Section) × (count ≡ section.count + 1) × GoesInside state event section inside.Commits
+ComesWhere state event (RolledBack cause) = (section : Section) × GoesInside state event section (inside.RollsBack cause)
+ComesWhere state event (Ordered losers) = TakesPlace state event losers
+ComesWhere state event (Served losers) = IsServed state event losers
+ComesWhere state event (Blocked why by) = IsBlocked state event why by
+ComesWhere state event (Delivered losers) = TakesMessage state event losers

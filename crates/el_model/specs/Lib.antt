@@ -1,0 +1,15 @@
+pub mod Execution
+pub mod State
+pub mod Upcoming
+pub mod Conflicts
+pub mod Attempts
+pub mod RollBack
+pub mod Face
+pub mod Order
+pub mod Serve
+pub mod Deliver
+pub mod Plain
+pub mod InSection
+pub mod Next
+pub mod Causes
+pub mod Laws

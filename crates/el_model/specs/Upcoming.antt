@@ -1,0 +1,129 @@
+-- what the next instruction of a hart is to the rules, in a state of plain shared memory
+use Rattle.std.specs.Prelude.{ℕ, ◌+◌, Bool, true, false, ◌&&◌, ◌||◌, Option, None, Some, not, ◌==◌, nat_lt, if◌then◌else◌}
+use Rattle.std.specs.Option.{option_and_then}
+use Rattle.elf_image.specs.Program.{code_word}
+use Rattle.el_base.specs.Line.{line_number}
+use Rattle.el_base.specs.declared.outcomes.Need.{Need}
+use Rattle.el_base.specs.declared.outcomes.Need.TheVariants as needs
+use Rattle.el_model.specs.Execution.{Append, Execution, Goes, Stops, Store, executed, touched}
+use Rattle.rv_alu.specs.Footprint.{is_call}
+use Rattle.rv_alu.specs.Loaded.{loaded}
+use Rattle.rv_alu.specs.declared.footprint.Access.{Access}
+use Rattle.rv_alu.specs.declared.footprint.Access.TheVariants.{Nothing, Read, Write, Trap, Exit}
+use Rattle.rv_alu.specs.declared.view.HartView.{HartView}
+use Rattle.rv_flat.specs.FlatState.{FlatState, room_of, span_of, view_of}
+use Rattle.rv_flat.specs.Laws.{next_insn}
+use Rattle.rv_flat.specs.Memory.{byte_in}
+use Rattle.rv_word.specs.declared.insn.AmoOp.TheVariants as amos
+use Rattle.rv_word.specs.declared.insn.AmoOp.{AmoOp}
+use Rattle.rv_word.specs.declared.insn.Insn.{Insn}
+use Rattle.rv_word.specs.declared.insn.Insn.TheVariants as insns
+use Rattle.rv_word.specs.declared.insn.StoreWidth.TheVariants as widths
+use Rattle.rv_word.specs.declared.insn.StoreWidth.{StoreWidth}
+
+-- the line that an instruction touches, and what it needs of it
+pub record Touch : Type 0 where
+  pub line : ℕ
+  pub need : Need
+
+-- a swap that does not trap: the address of its word, the word that it finds there, and the one that it stores
+pub record Swap : Type 0 where
+  pub word : ℕ
+  pub old : ℕ
+  pub new : ℕ
+
+-- what an access touches
+abbrev pub touch_of : Access → Option Touch
+touch_of (Read address len) = Some (record { line = line_number address; need = needs.Read })
+touch_of (Write address len) = Some (record { line = line_number address; need = needs.Write })
+touch_of Nothing = None
+touch_of (Trap cause) = None
+touch_of (Exit code) = None
+
+-- the next instruction of a hart: what it accesses, and what it does
+abbrev pub next_access : FlatState → ℕ → Access
+next_access flat h =
+    touched (code_word flat.code (view_of flat h).pc) (view_of flat h) (span_of flat) (room_of flat)
+
+abbrev pub next_execution : FlatState → ℕ → Execution
+next_execution flat h =
+    executed (code_word flat.code (view_of flat h).pc) (view_of flat h) (span_of flat) (room_of flat)
+    (byte_in flat.base flat.bytes)
+
+-- the line that it touches, if it touches one
+abbrev pub next_touch : FlatState → ℕ → Option Touch
+next_touch flat h = touch_of (next_access flat h)
+
+-- what an instruction stores
+abbrev pub store_in : Execution → Option Store
+store_in (Stops status) = None
+store_in (Goes view store append) = store
+
+abbrev pub next_store : FlatState → ℕ → Option Store
+next_store flat h = store_in (next_execution flat h)
+
+-- whether it stops its hart
+abbrev pub stops : Execution → Bool
+stops (Stops status) = true
+stops (Goes view store append) = false
+
+-- the operation of a swap, and the instruction that stores a word
+abbrev pub is_swap_op : AmoOp → Bool
+is_swap_op amos.Swap = true
+is_swap_op _ = false
+
+abbrev pub is_swap : Option Insn → Bool
+is_swap (Some (insns.Amo op rd rs1 rs2 aq rl)) = is_swap_op op
+is_swap _ = false
+
+abbrev pub is_word : StoreWidth → Bool
+is_word widths.Word = true
+is_word _ = false
+
+abbrev pub is_word_store : Option Insn → Bool
+is_word_store (Some (insns.Store width rs1 rs2 offset)) = is_word width
+is_word_store _ = false
+
+-- whether it makes a system call
+abbrev pub calls : Option Insn → Bool
+calls None = false
+calls (Some insn) = is_call insn
+
+-- a swap with its word, of what it stores
+abbrev pub swap_of : FlatState → Option Store → Option Swap
+swap_of flat None = None
+swap_of flat (Some store) = Some (record {
+  word = store.address;
+  old = loaded (byte_in flat.base flat.bytes) store.address 4;
+  new = store.value;
+})
+
+-- the hart's next instruction where it is a swap that does not trap
+abbrev pub next_swap : FlatState → ℕ → Option Swap
+next_swap flat h = if is_swap (next_insn flat h) then swap_of flat (next_store flat h) else None
+
+-- whether a swap changes its word, which makes it a candidate for an acquire
+abbrev pub changes_word : Swap → Bool
+changes_word swap = not (swap.old == swap.new)
+
+-- whether a store is of the whole of a word with a value
+abbrev pub gives_back : ℕ → ℕ → Option Store → Bool
+gives_back word old None = false
+gives_back word old (Some store) = (store.address == word) && (store.value == old)
+
+-- whether the next instruction is the release of a word: SW or a swap that stores its old value
+abbrev pub is_release : FlatState → ℕ → ℕ → ℕ → Bool
+is_release flat h word old =
+    (is_word_store (next_insn flat h) || is_swap (next_insn flat h)) && gives_back word old (next_store flat h)
+
+-- whether a store is to a byte of a word
+abbrev pub overlaps : ℕ → Option Store → Bool
+overlaps word None = false
+overlaps word (Some store) = nat_lt store.address (word + 4) && nat_lt word (store.address + store.len)
+
+abbrev pub stores_to_word : FlatState → ℕ → ℕ → Bool
+stores_to_word flat h word = overlaps word (next_store flat h)
+
+-- whether the next instruction is a call, or would stop its hart
+abbrev pub calls_or_stops : FlatState → ℕ → Bool
+calls_or_stops flat h = calls (next_insn flat h) || stops (next_execution flat h)

@@ -1,0 +1,20 @@
+ghost use Rattle.el_model.specs.Laws.{CommitsInSerialOrder, IdleChangesNothing, OutcomesComeByTheirRules};
+
+/// Whatever the events, in every mode, the committed state is that of one run of the program on plain
+/// shared memory, in the serial order of the history of these events.
+#[tactic(auto, using(crate::proofs::Folds::serial_run), unfolding(crate::specs::State::begin))]
+pub fn commits_in_serial_order()
+    ensures { CommitsInSerialOrder }
+{}
+
+/// Each outcome, with all that it tells, comes exactly where its rule says.
+#[tactic(auto, using(crate::proofs::Coming::by_their_rules))]
+pub fn outcomes_come_by_their_rules()
+    ensures { OutcomesComeByTheirRules }
+{}
+
+/// An event that had nothing to do has changed nothing.
+#[tactic(auto, using(crate::proofs::Coming::idle_is_still))]
+pub fn idle_changes_nothing()
+    ensures { IdleChangesNothing }
+{}

@@ -1,0 +1,182 @@
+#!/usr/bin/env python3
+"""Makes a proof file of el_model from a run of the machine that another program has computed.
+
+    tools/worked_run.py RUN.json 'What the run shows.' >crates/el_model/proofs/Runs/NAME.antt
+
+The file states that the definition gives the run's outcomes and its last state, and proves it by computation.
+A line `pub mod NAME` in crates/el_model/proofs/Runs.antt makes the check read it. RUN.json has
+
+    config  harts, mode (Plain, Sle, Tlr), sets, ways, lines, long
+    memory  base and length, in bytes; all bytes are 0 at first
+    code    start and words; it lies outside of memory, and each hart begins at its start
+    events  a list of [kind, hart, outcome]; an outcome is its name and then its numbers
+    end     bytes_unlike_0, order, harts: the state after the last event
+"""
+import json
+import sys
+
+CAUSES = {"Room", "Lines", "Long", "Call", "Mixed"}
+
+
+def items(texts):
+    """A list of these elements."""
+    return "".join(f"{text} ∷ " for text in texts) + "[]"
+
+
+def wrapped(texts, indent="    ", width=120):
+    """A list of these elements, over lines of no more than some width."""
+    lines, line = [], indent
+    for text in [*[f"{text} ∷ " for text in texts], "[]"]:
+        if len(line) + len(text) > width:
+            lines.append(line.rstrip())
+            line = indent
+        line += text
+    return "\n".join([*lines, line])
+
+
+def option(value, text):
+    return "None" if value is None else f"(Some {text(value)})"
+
+
+def boolean(value):
+    return "true" if value else "false"
+
+
+def outcome(parts):
+    name, *rest = parts
+    if name == "Missed":
+        return f"Missed (line_addr {rest[0]}) {rest[1]}"
+    if name == "Committed":
+        return f"Committed {rest[0]}"
+    if name == "RolledBack":
+        return f"RolledBack {rest[0]}"
+    if name == "Blocked":
+        return f"Blocked {rest[0]} (hart_id {rest[1]})"
+    if name in ("Ordered", "Served", "Delivered"):
+        return f"{name} ({losers(rest[0])})"
+    return name
+
+
+def losers(pairs):
+    return "lost (" + items(f"({loser}, {winner})" for loser, winner in pairs) + ")"
+
+
+def stamp(value):
+    return option(value, lambda s: f"(stamp {s[0]} {s[1]})")
+
+
+def request(value):
+    return f"(request {value['hart']} {value['line']} {value['need']} {stamp(value['stamp'])})"
+
+
+def way(value):
+    line, letter, read, write = value
+    return f"way {line} {letter} {boolean(read)} {boolean(write)}"
+
+
+def section(value):
+    return f"(section {value['count']} {value['word']} {value['old']} {value['new']})"
+
+
+def watch(value):
+    return f"(watch {value['pc']} {value['word']} {value['old']} {value['count']})"
+
+
+def message(value):
+    return f"{value[0]} {value[1]}"
+
+
+def counters(values):
+    return "(patched (replicate 64 2) (" + items(f"({i}, {v})" for i, v in values) + "))"
+
+
+def hart(value):
+    return f"""record {{
+      section = {option(value['section'], section)};
+      cache = {items('(' + items(map(way, ways)) + ')' for ways in value['cache'])};
+      raised = {option(value['raised'], request)};
+      held = {option(value['held'], str)};
+      mail = {items(map(message, value['mail']))};
+      told = {items(map(str, sorted(value['told'])))};
+      upstream = {items(map(str, sorted(value['upstream'])))};
+      fallback = {boolean(value['fallback'])};
+      tries = {value['tries']};
+      clock = {value['clock']};
+      seen = {value['seen']};
+      attempt = {stamp(value['attempt'])};
+      predictor = record {{ counters = {counters(value['counters_unlike_2'])}; watch = {option(value['watch'], watch)} }};
+    }}"""
+
+
+def main():
+    with open(sys.argv[1]) as file:
+        run = json.load(file)
+    title = sys.argv[2] if len(sys.argv) > 2 else "A run of the machine."
+    config, memory, code, end = run["config"], run["memory"], run["code"], run["end"]
+    print(f"-- {title}")
+    print(f"""use Rattle.std.proofs.Common.{{◌≡◌, ℕ, true, false, List, [], ◌∷◌, Some, None, replicate, refl}}
+use Rattle.el_base.specs.HartId.{{hart_id}}
+use Rattle.el_base.specs.LineAddr.{{line_addr}}
+use Rattle.el_base.specs.declared.config.Config.{{Config}}
+use Rattle.el_base.specs.declared.config.Mode.TheVariants.{{Plain, Sle, Tlr}}
+use Rattle.el_base.specs.declared.events.Event.{{Event}}
+use Rattle.el_base.specs.declared.events.Kind.TheVariants.{{Step, Order, Serve, Deliver}}
+use Rattle.el_base.specs.declared.outcomes.Cause.TheVariants.{{Room, Lines, Long, Call, Mixed}}
+use Rattle.el_base.specs.declared.outcomes.Need.TheVariants.{{Read, Write}}
+use Rattle.el_base.specs.declared.outcomes.Outcome.{{Outcome}}
+use Rattle.el_base.specs.declared.outcomes.Outcome.TheVariants.{{Idle, Stalled, Missed, Ran, Began, Buffered, Committed, RolledBack, Ordered, Served, Blocked, Delivered}}
+use Rattle.el_base.specs.declared.outcomes.Why.TheVariants.{{Behind, Retained, Locked}}
+use Rattle.el_model.proofs.Computing.{{computing}}
+use Rattle.el_model.proofs.Given.{{Ending, ending_of, event, first_state, lost, patched, request, section, stamp, watch, way}}
+use Rattle.el_model.specs.Next.{{outcomes_from, state_after}}
+use Rattle.el_model.specs.State.{{Hart, ModelState}}
+use Rattle.mail.specs.Mailbox.{{Marker, Probe}}
+use Rattle.moesi.specs.declared.letter.Letter.TheVariants.{{M, O, E, S}}
+""")
+    print(f"""abbrev config : Config
+config = record {{
+  harts = {config['harts']};
+  mode = {config['mode']};
+  sets = {config['sets']};
+  ways = {config['ways']};
+  lines = {config['lines']};
+  long = {config['long']};
+  steps = {len(run['events'])};
+}}
+
+abbrev words : List ℕ
+words =
+{wrapped(map(str, code['words']))}
+
+abbrev first : ModelState
+first = first_state config {memory['base']} {memory['length']} {code['start']} words
+
+abbrev events : List Event
+events =
+{wrapped(f"event {kind} {h}" for kind, h, _ in run['events'])}
+
+abbrev expected : List Outcome
+expected =
+{wrapped(outcome(parts) for _, _, parts in run['events'])}
+
+outcomes : outcomes_from first events ≡ expected
+unfolding computing
+outcomes = refl
+
+abbrev last : Ending
+last = record {{
+  harts =
+    {items(hart(value) for value in end['harts'])};
+  order = {items(map(request, end['order']))};
+  pcs = {items(str(value['pc']) for value in end['harts'])};
+  registers =
+    {items("(" + items(map(str, value['registers'])) + ")" for value in end['harts'])};
+  bytes = patched (replicate {memory['length']} 0) ({items(f"({i}, {b})" for i, b in end['bytes_unlike_0'])});
+}}
+
+ending : ending_of (state_after first events) ≡ last
+unfolding computing
+ending = refl""")
+
+
+main()

@@ -1,2 +1,2 @@
 pub mod Footprints
-pub mod Worked
+mod Worked

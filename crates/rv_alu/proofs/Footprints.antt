@@ -150,7 +150,7 @@ fits (insns.Branch test rs1 rs2 offset) pc regs reserved span room =
     fits-if insn span room (taken_of test (get regs rs1.number) (get regs rs2.number)) (jump_of target (Go target)) (Go (next_pc_of pc))
     (fits-jump insn span room target (Go target) (fits-go insn span room target)) (fits-go insn span room (next_pc_of pc))
 fits (insns.Load width rd rs1 offset) pc regs reserved span room =
-    fits-checked (insns.Load width rd rs1 offset) span room _ (load_size_of width) _ _ _ (load_sized width) (λ there. record { in_place = there; footprint = (there, load_sized width) })
+    fits-checked (insns.Load width rd rs1 offset) span room _ (load_size_of width) _ _ _ (load_sized width) (λ there. record { in_place = (there, load_sized width); footprint = (there, load_sized width) })
 fits (insns.Store width rs1 rs2 offset) pc regs reserved span room =
     fits-checked (insns.Store width rs1 rs2 offset) span room _ (store_size_of width) _ _ _ (store_sized width) (λ there. record { in_place = (there, store_sized width); footprint = (there, store_sized width) })
 fits (insns.OpImm op rd rs1 imm) pc regs reserved span room = record { in_place = tt; footprint = tt }

@@ -76,14 +76,18 @@ perform (actions.Amo op rd address source) view byte =
 unfoldable pub executed : Option ℕ → HartView → Span → ℕ → (ℕ → ℕ) → Execution
 executed word view span room byte = perform (action_at word view span room) view byte
 
+-- the instruction that a word means, where there is a word and it means one
+abbrev pub insn_at : Option ℕ → Option Insn
+insn_at None = None
+insn_at (Some word) = decoded word
+
 -- what it touches: nothing where there is no word or the word means no instruction
 abbrev pub insn_touched : Option Insn → HartView → Span → ℕ → Access
 insn_touched None view span room = Nothing
 insn_touched (Some insn) view span room = access_of insn view.pc view.regs view.reserved span room
 
 abbrev pub touched : Option ℕ → HartView → Span → ℕ → Access
-touched None view span room = Nothing
-touched (Some word) view span room = insn_touched (decoded word) view span room
+touched word view span room = insn_touched (insn_at word) view span room
 
 -- the parts of an execution: the hart's view after it, its store, and its piece of output
 abbrev pub view_after : Execution → HartView → HartView

@@ -83,10 +83,10 @@ pub enum Action {
 }
 
 impl Action {
-    ghost use Rattle.std.specs.Prelude.{◌≡◌, ℕ, is_some};
+    ghost use Rattle.std.specs.Prelude.{◌≡◌, ℕ, IfSome, is_some};
     ghost use Rattle.rv_alu.specs.Action.{action_at, action_of};
     ghost use Rattle.rv_alu.specs.Execution.{append_in, loads, number_of, perform, store_in, view_after};
-    ghost use Rattle.rv_alu.specs.Footprint.{IsFootprint, IsInPlace, footprint};
+    ghost use Rattle.rv_alu.specs.Footprint.{IsAppendIn, IsFootprint, IsInPlace, IsLoadIn, IsStoreIn, footprint};
 
     /// What a hart does next, by the word at its pc (`None` where there is no code). `room` is how
     /// many bytes the output still takes.
@@ -258,7 +258,8 @@ impl Action {
 
     /// The bytes of memory that it loads, where it loads any.
     pub fn loads(self) -> Option<Load>
-        ensures { result ≡ loads self }
+        ensures value { result ≡ loads self }
+        ensures in_place { (span : Span) (room : ℕ) → IsInPlace span room self → IfSome result (IsLoadIn span) }
     {
         match self {
             Action::Load { width, address, .. } => Some(Load {
@@ -284,6 +285,11 @@ impl Action {
             result.store ≡ store_in (perform self view.old byte) }
         ensures append { (byte : ℕ → ℕ) → number ≡ number_of self byte →
             result.append ≡ append_in (perform self view.old byte) }
+
+        ensures store_in_place { (span : Span) (room : ℕ) → IsInPlace span room self →
+            IfSome result.store (IsStoreIn span) }
+        ensures append_in_place { (span : Span) (room : ℕ) → IsInPlace span room self →
+            IfSome result.append (IsAppendIn span room) }
     {
         self.change(view, number);
         Transfers {
@@ -333,8 +339,9 @@ impl Action {
     /// What it stores.
     fn stores(self, number: Option<u32>) -> Option<Store>
         requires { is_some number ≡ is_some (loads self) }
-        ensures { (view : HartView) (byte : ℕ → ℕ) → number ≡ number_of self byte →
+        ensures value { (view : HartView) (byte : ℕ → ℕ) → number ≡ number_of self byte →
             result ≡ store_in (perform self view byte) }
+        ensures in_place { (span : Span) (room : ℕ) → IsInPlace span room self → IfSome result (IsStoreIn span) }
     {
         match self {
             Action::Store {
@@ -367,7 +374,8 @@ impl Action {
 
     /// What it appends to the output.
     fn appends(self) -> Option<Append>
-        ensures { (view : HartView) (byte : ℕ → ℕ) → result ≡ append_in (perform self view byte) }
+        ensures value { (view : HartView) (byte : ℕ → ℕ) → result ≡ append_in (perform self view byte) }
+        ensures in_place { (span : Span) (room : ℕ) → IsInPlace span room self → IfSome result (IsAppendIn span room) }
     {
         match self {
             Action::Append { address, len } => Some(Append { address, len }),

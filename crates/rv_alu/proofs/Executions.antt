@@ -9,6 +9,7 @@ use Rattle.rv_word.specs.declared.insn.Insn.{Insn}
 use Rattle.rv_word.specs.declared.insn.Insn.TheVariants as insns
 use Rattle.rv_word.specs.declared.insn.StoreWidth.{StoreWidth}
 use Rattle.rv_word.specs.declared.reg.Reg.{Reg}
+use Rattle.rv_alu.proofs.Footprints.{fits}
 use Rattle.rv_alu.specs.declared.action.Action.{Action}
 use Rattle.rv_alu.specs.declared.action.Action.TheVariants as actions
 use Rattle.rv_alu.specs.declared.footprint.Access.{Access}
@@ -18,7 +19,7 @@ use Rattle.rv_alu.specs.declared.view.HartView.{HartView}
 use Rattle.rv_alu.specs.Action.{action_at, action_of, checked_of, insn_action_of, load_size_of, store_size_of}
 use Rattle.rv_alu.specs.Cause.{store_access_fault, store_address_misaligned}
 use Rattle.rv_alu.specs.Execution.{Execution, Goes, append_in, executed, insn_at, insn_touched, perform, put_of, release_of, store_in, touched, view_after}
-use Rattle.rv_alu.specs.Footprint.{AgreeOn, IsNoCall, IsNoStoreConditional, IsNoWrite, footprint, is_call, is_store_conditional}
+use Rattle.rv_alu.specs.Footprint.{AgreeOn, IsInPlace, IsNoCall, IsNoStoreConditional, IsNoWrite, footprint, is_call, is_store_conditional}
 use Rattle.rv_alu.specs.Loaded.{loaded}
 use Rattle.rv_alu.specs.Operation.{amo_of, extend_of, moved_of}
 use Rattle.rv_alu.specs.Regs.{AreRegs, a0, get, set}
@@ -80,6 +81,27 @@ pub executed-room : (word : Option ℕ) (view : HartView) (span : Span) (room ot
 unfolding executed
 executed-room None view span room other byte h = refl
 executed-room (Some word) view span room other byte h = ap (λ action. perform action view byte) (insn-room (decoded word) view span room other h)
+
+-- an output without room takes nothing
+no_room-append : (span : Span) (action : Action) (view : HartView) (byte : ℕ → ℕ) → IsInPlace span 0 action → append_in (perform action view byte) ≡ None
+no_room-append span (actions.Append address len) view byte h =
+    let some : 1 ≤ len = h.0.some in
+    let none : len ≤ 0 = h.1 in
+    absurd (omega arith)
+no_room-append span _ view byte h = refl
+
+insn-append : (insn : Option Insn) (view : HartView) (span : Span) (room : ℕ) (byte : ℕ → ℕ) → IsNoCall insn → append_in (perform (insn_action_of insn view span room) view byte) ≡ None
+insn-append None view span room byte h = refl
+insn-append (Some insn) view span room byte h =
+    rw (action-room insn view.pc view.regs view.reserved span room 0 h)
+    (no_room-append span (action_of insn view.pc view.regs view.reserved span 0) view byte (fits insn view.pc view.regs view.reserved span 0).in_place)
+
+-- only a call appends to the output
+pub executed-append : (word : Option ℕ) (view : HartView) (span : Span) (room : ℕ) (byte : ℕ → ℕ) → IsNoCall (insn_at word) →
+    append_in (executed word view span room byte) ≡ None
+unfolding executed
+executed-append None view span room byte h = refl
+executed-append (Some word) view span room byte h = insn-append (decoded word) view span room byte h
 
 touched-room : (insn : Option Insn) (view : HartView) (span : Span) (room other : ℕ) → IsNoCall insn → insn_touched insn view span room ≡ insn_touched insn view span other
 touched-room None view span room other h = refl

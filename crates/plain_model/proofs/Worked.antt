@@ -11,8 +11,8 @@ use Rattle.plain_model.specs.ModelState.{begin, is_over}
 use Rattle.plain_model.specs.Runs.{after, outcomes}
 use Rattle.plain_model.specs.Step.{next}
 use Rattle.rv_alu.specs.declared.view.HartStatus.TheVariants.{Trapped}
-use Rattle.rv_alu.specs.Execute.{effect_of}
-use Rattle.rv_alu.specs.Footprint.{access_of}
+use Rattle.rv_alu.specs.Action.{action_of}
+use Rattle.rv_alu.specs.Execution.{executed}
 use Rattle.rv_word.specs.Arithmetic.{op_imm_at}
 use Rattle.rv_word.specs.Decoding.{decoded}
 use Rattle.rv_flat.specs.FlatState.{start, first_view, status_of}
@@ -43,17 +43,17 @@ made =
     ∷ of Step first ∷ of Step first ∷ of Step second ∷ of Step second ∷ []
 
 told : outcomes program usual made ≡ Ran ∷ Idle ∷ Idle ∷ Idle ∷ Ran ∷ Ran ∷ Idle ∷ Ran ∷ Idle ∷ []
-unfolding begin next start first_view flat code_word decoded op_imm_at access_of effect_of
+unfolding begin next start first_view flat code_word decoded op_imm_at executed action_of
 told = refl
 
 first_left_its_code : status_of (after program usual made).committed 0 ≡ Trapped 1 0x10004
-unfolding begin next start first_view flat code_word decoded op_imm_at access_of effect_of
+unfolding begin next start first_view flat code_word decoded op_imm_at executed action_of
 first_left_its_code = refl
 
 both_have_stopped : is_over (after program usual made) ≡ true
-unfolding begin next start first_view flat code_word decoded op_imm_at access_of effect_of is_over
+unfolding begin next start first_view flat code_word decoded op_imm_at executed action_of is_over
 both_have_stopped = refl
 
 one_runs_before : is_over (after program usual (take 7 made)) ≡ false
-unfolding begin next start first_view flat code_word decoded op_imm_at access_of effect_of is_over
+unfolding begin next start first_view flat code_word decoded op_imm_at executed action_of is_over
 one_runs_before = refl

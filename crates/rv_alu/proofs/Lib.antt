@@ -1,2 +1,3 @@
 pub mod Footprints
-pub mod Worked
+pub mod Executions
+mod Worked

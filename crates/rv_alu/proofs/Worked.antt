@@ -11,11 +11,12 @@ use Rattle.rv_word.specs.declared.reg.Reg.{Reg}
 use Rattle.rv_alu.specs.declared.footprint.Access.{Access}
 use Rattle.rv_alu.specs.declared.footprint.Access.TheVariants.{Nothing, Read, Write, Trap, Exit}
 use Rattle.rv_alu.specs.declared.span.Span.{Span}
-use Rattle.rv_alu.specs.declared.syscall.WriteCall.TheVariants.{Answer, Append}
+use Rattle.rv_alu.specs.declared.action.Action.TheVariants.{Answer, Append}
+use Rattle.rv_alu.specs.Action.{action_of}
 use Rattle.rv_alu.specs.Footprint.{access_of}
 use Rattle.rv_alu.specs.Operation.{alu_of, amo_of, extend_of, taken_of}
 use Rattle.rv_alu.specs.Regs.{set}
-use Rattle.rv_alu.specs.Syscall.{call_answer, write_call_of}
+use Rattle.rv_alu.specs.Syscall.{call_of, write_call_of}
 
 -- register operations
 below_zero : alu_of alus.Sub 0 1 ≡ 0xffffffff
@@ -87,50 +88,50 @@ abbrev storing : ℕ → Access
 storing address = access_of (insns.Store stores.Word source target (pos 0)) 0x10000 (through address) None line 0
 
 first_word : loading 0x10000 ≡ Read 0x10000 4
-unfolding access_of
+unfolding action_of
 first_word = refl
 
 -- misalignment is tested before the bounds of memory
 misaligned_load : loading 2 ≡ Trap 4
-unfolding access_of
+unfolding action_of
 misaligned_load = refl
 
 load_behind_the_end : loading 0x10040 ≡ Trap 5
-unfolding access_of
+unfolding action_of
 load_behind_the_end = refl
 
 misaligned_store : storing 2 ≡ Trap 6
-unfolding access_of
+unfolding action_of
 misaligned_store = refl
 
 store_behind_the_end : storing 0x10040 ≡ Trap 7
-unfolding access_of
+unfolding action_of
 store_behind_the_end = refl
 
 offset_wraps : access_of (insns.Load loads.Byte target source (negsuc 0)) 0x10000 (through 0x10040) None line 0 ≡ Read 0x1003f 1
-unfolding access_of
+unfolding action_of
 offset_wraps = refl
 
 -- a store conditional touches its word where that is reserved
 reserved : access_of (insns.Sc target source target false false) 0x10000 (through 0x10004) (Some 0x10004) line 0 ≡ Write 0x10004 4
-unfolding access_of
+unfolding action_of
 reserved = refl
 
 other_word_reserved : access_of (insns.Sc target source target false false) 0x10000 (through 0x10004) (Some 0x10000) line 0 ≡ Nothing
-unfolding access_of
+unfolding action_of
 other_word_reserved = refl
 
 -- jumps to a multiple of 2, and to an odd address, whose lowest bit is cleared
 jump_to_a_multiple_of_2 : access_of (insns.Jal target (pos 6)) 0x10000 (through 0) None line 0 ≡ Trap 0
-unfolding access_of
+unfolding action_of
 jump_to_a_multiple_of_2 = refl
 
 jump_to_an_odd_address : access_of (insns.Jalr target source (pos 1)) 0x10000 (through 0x10008) None line 0 ≡ Nothing
-unfolding access_of
+unfolding action_of
 jump_to_an_odd_address = refl
 
 breakpoint : access_of insns.Ebreak 0x10000 (through 0) None line 0 ≡ Trap 3
-unfolding access_of
+unfolding action_of
 breakpoint = refl
 
 -- a call of this number with these arguments in x10 to x12
@@ -138,15 +139,15 @@ abbrev calling : ℕ → ℕ → ℕ → ℕ → List ℕ
 calling number x10 x11 x12 = set (set (set (set (replicate 32 0) 17 number) 10 x10) 11 x11) 12 x12
 
 exits : access_of insns.Ecall 0x10000 (calling 93 7 0 0) None line 0 ≡ Exit 7
-unfolding access_of
+unfolding action_of
 exits = refl
 
 -- writes stop at the end of their line, and at the room
 to_the_end_of_the_line : access_of insns.Ecall 0x10000 (calling 64 1 0x10036 200) None line 1000 ≡ Read 0x10036 10
-unfolding access_of
+unfolding action_of
 to_the_end_of_the_line = refl
 
-to_the_room : write_call_of (calling 64 2 0x10036 200) line 3 ≡ Append 3
+to_the_room : write_call_of (calling 64 2 0x10036 200) line 3 ≡ Append 0x10036 3
 to_the_room = refl
 
 no_room : write_call_of (calling 64 1 0x10036 200) line 0 ≡ Answer 0xffffffe4
@@ -161,5 +162,5 @@ outside_memory = refl
 nothing_to_write : write_call_of (calling 64 1 0 0) line 1000 ≡ Answer 0
 nothing_to_write = refl
 
-no_such_call : call_answer (calling 94 0 0 0) line 1000 ≡ 0xffffffda
+no_such_call : call_of (calling 94 0 0 0) line 1000 ≡ Answer 0xffffffda
 no_such_call = refl

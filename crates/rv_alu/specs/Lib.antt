@@ -1,7 +1,9 @@
 pub mod Regs
 pub mod Operation
 pub mod Span
+pub mod Cause
 pub mod Syscall
+pub mod Action
 pub mod Footprint
-pub mod Execute
 pub mod Loaded
+pub mod Execution

@@ -27,8 +27,8 @@ abbrev pub plus : ℕ → ℕ → ℕ
 plus left right = (left + right) % 2 ^ 32
 
 -- a word moved by a signed offset, modulo 2 ^ 32
-abbrev pub moved : ℕ → ℤ → ℕ
-moved word offset = plus word (cast_unsigned w32 offset)
+abbrev pub moved_of : ℕ → ℤ → ℕ
+moved_of word offset = plus word (cast_unsigned w32 offset)
 
 -- the result of a register operation; shifts take the low five bits of the right word, and `Sra` fills
 -- with the sign
@@ -66,13 +66,13 @@ amo_of amos.Minu old source = min old source
 amo_of amos.Maxu old source = max old source
 
 -- the low bits of a number, the last of them its sign, as a word: `half` is the weight of that bit
-abbrev pub sign_extended : ℕ → ℕ → ℕ
-sign_extended low half = if nat_lt low half then low else low + (2 ^ 32 - 2 * half)
+abbrev pub sign_extended_of : ℕ → ℕ → ℕ
+sign_extended_of low half = if nat_lt low half then low else low + (2 ^ 32 - 2 * half)
 
 -- what a load puts into its register, of the loaded bytes as a number
 abbrev pub extend_of : LoadWidth → ℕ → ℕ
-extend_of widths.Byte raw = sign_extended (raw % 2 ^ 8) (2 ^ 7)
-extend_of widths.Half raw = sign_extended (raw % 2 ^ 16) (2 ^ 15)
+extend_of widths.Byte raw = sign_extended_of (raw % 2 ^ 8) (2 ^ 7)
+extend_of widths.Half raw = sign_extended_of (raw % 2 ^ 16) (2 ^ 15)
 extend_of widths.Word raw = raw
 extend_of widths.ByteU raw = raw % 2 ^ 8
 extend_of widths.HalfU raw = raw % 2 ^ 16

@@ -1,28 +1,22 @@
 ghost use Rattle.std.specs.Prelude.{◌≡◌, ◌≤◌};
-ghost use Rattle.rv_alu.specs.Footprint.{IsFootprint, access_of, appends, calls, conditional, indirect, is_call, is_reserved, jumps, load_size, reads, store_size, writes};
+ghost use Rattle.rv_alu.specs.Action.{checked_of, conditional_of, has_reserved_of, indirect_of, jump_of, load_of, load_size_of, next_pc_of, store_of, store_size_of};
+ghost use Rattle.rv_alu.specs.Execution.{touched};
+ghost use Rattle.rv_alu.specs.Footprint.{IsFootprint, access_of};
 
+use crate::action::Action;
 use crate::cause::{
-    BREAKPOINT, INSTRUCTION_ADDRESS_MISALIGNED, LOAD_ACCESS_FAULT, LOAD_ADDRESS_MISALIGNED,
-    STORE_ACCESS_FAULT, STORE_ADDRESS_MISALIGNED,
+    INSTRUCTION_ADDRESS_MISALIGNED, LOAD_ACCESS_FAULT, LOAD_ADDRESS_MISALIGNED, STORE_ACCESS_FAULT,
+    STORE_ADDRESS_MISALIGNED,
 };
 use crate::footprint::Access;
-use crate::operation::{offset_by, taken};
 use crate::regs::Regs;
 use crate::span::Span;
-use crate::syscall::{A0, A1, A7, EXIT_NUMBER, WRITE_NUMBER, WriteCall, write_call};
-use rv_word::{Insn, LoadWidth, StoreWidth};
+use crate::view::HartView;
+use rv_word::{Insn, LoadWidth, Reg, StoreWidth, decode};
 
-/// What an instruction at `pc` would touch, or how it would stop its hart, before anything happens.
-/// `room` is how many bytes the output still takes.
-///
-/// A jump or a branch that is taken traps with cause 0 where its target is no multiple of 4, and
-/// EBREAK traps with 3. A load or LR traps with 4 where its address is no multiple of its size, and
-/// with 5 where it is one and not all of its bytes are in memory; a store, SC or atomic operation
-/// likewise with 6 and 7. An SC that does not trap touches its word only where that word is
-/// reserved, and a write call reads the bytes that it appends to the output. (RISC-V unprivileged
-/// manual, chapter 2 and 'A Standard Extension for Atomic Instructions'; causes as in the
-/// privileged manual's `mcause`; the order of the tests and the calls are this project's profile.)
-#[tactic(auto, using(crate::proofs::Footprints::footprint), unfolding(crate::specs::Footprint::access_of))]
+/// What an instruction at `pc` would touch, or how it would stop its hart, before anything happens:
+/// the footprint of [`Action::of`] with the same arguments. An SC that does not trap touches its word
+/// only where that word is reserved, and a write call reads the bytes that it appends to the output.
 pub fn access(
     insn: &Insn,
     pc: u32,
@@ -34,57 +28,26 @@ pub fn access(
     ensures value { result ≡ access_of insn.now pc regs.now reserved span room }
     ensures inside { IsFootprint insn.now span room result }
 {
-    match *insn {
-        Insn::Lui { .. }
-        | Insn::Auipc { .. }
-        | Insn::OpImm { .. }
-        | Insn::Op { .. }
-        | Insn::Fence => { Access::Nothing }
-        Insn::Jal { offset, .. } => jump(offset_by(pc, offset)),
-        Insn::Jalr { rs1, offset, .. } => jump(indirect_target(offset_by(regs.get(rs1), offset))),
-        Insn::Branch {
-            test,
-            rs1,
-            rs2,
-            offset,
-        } => {
-            if taken(test, regs.get(rs1), regs.get(rs2)) {
-                jump(offset_by(pc, offset))
-            } else {
-                Access::Nothing
-            }
-        }
-        Insn::Load {
-            width,
-            rs1,
-            offset,
-            ..
-        } => { read(span, offset_by(regs.get(rs1), offset), bytes_loaded(width)) }
-        Insn::Store {
-            width,
-            rs1,
-            offset,
-            ..
-        } => { write(span, offset_by(regs.get(rs1), offset), bytes_stored(width)) }
-        Insn::Ecall => call(regs, span, room),
-        Insn::Ebreak => Access::Trap { cause: BREAKPOINT },
-        Insn::Lr { rs1, .. } => read(span, regs.get(rs1), 4),
-        Insn::Sc { rs1, .. } => store_conditional(reserved, write(span, regs.get(rs1), 4)),
-        Insn::Amo { rs1, .. } => write(span, regs.get(rs1), 4),
+    Action::of(insn, pc, regs, reserved, span, room).footprint()
+}
+
+/// What a hart's next instruction would touch, by the word at its pc: nothing where there is no code
+/// or the word is no instruction.
+pub fn touched(word: Option<u32>, view: &HartView, span: Span, room: u32) -> Access
+    ensures { result ≡ touched word view.now span room }
+{
+    match word {
+        None => Access::Nothing,
+        Some(word) => match decode(word) {
+            None => Access::Nothing,
+            Some(insn) => access(&insn, view.pc, &view.regs, view.reserved, span, room),
+        },
     }
 }
 
-/// Whether an instruction makes a system call. Where such an instruction reads memory, the bytes go
-/// to the output and not to a register.
-pub fn makes_call(insn: &Insn) -> bool
-    ensures { result ≡ is_call insn.now }
-{
-    matches!(insn, Insn::Ecall)
-}
-
 /// How many bytes a load reads.
-fn bytes_loaded(width: LoadWidth) -> u32
-    ensures { result ≡ load_size width }
+pub fn load_size(width: LoadWidth) -> u32
+    ensures { result ≡ load_size_of width }
 {
     match width {
         LoadWidth::Byte | LoadWidth::ByteU => 1,
@@ -94,8 +57,8 @@ fn bytes_loaded(width: LoadWidth) -> u32
 }
 
 /// How many bytes a store writes.
-fn bytes_stored(width: StoreWidth) -> u32
-    ensures { result ≡ store_size width }
+pub fn store_size(width: StoreWidth) -> u32
+    ensures { result ≡ store_size_of width }
 {
     match width {
         StoreWidth::Byte => 1,
@@ -104,92 +67,99 @@ fn bytes_stored(width: StoreWidth) -> u32
     }
 }
 
-/// A load of so many bytes.
-fn read(span: Span, address: u32, size: u32) -> Access
-    requires { 1 ≤ size }
-    ensures { result ≡ reads span address size }
+/// The address of the next instruction in memory.
+pub fn next_pc(pc: u32) -> u32
+    ensures { result ≡ next_pc_of pc }
 {
-    if address % size != 0 {
-        Access::Trap {
-            cause: LOAD_ADDRESS_MISALIGNED,
-        }
-    } else if span.holds(address, size) {
-        Access::Read { address, len: size }
-    } else {
-        Access::Trap {
-            cause: LOAD_ACCESS_FAULT,
-        }
-    }
+    pc.wrapping_add(4)
 }
 
-/// A store of so many bytes.
-fn write(span: Span, address: u32, size: u32) -> Access
-    requires { 1 ≤ size }
-    ensures { result ≡ writes span address size }
+/// The target of JALR, whose lowest bit is cleared.
+pub fn indirect(sum: u32) -> u32
+    ensures { result ≡ indirect_of sum }
 {
-    if address % size != 0 {
-        Access::Trap {
-            cause: STORE_ADDRESS_MISALIGNED,
-        }
-    } else if span.holds(address, size) {
-        Access::Write { address, len: size }
-    } else {
-        Access::Trap {
-            cause: STORE_ACCESS_FAULT,
-        }
-    }
+    sum - sum % 2
 }
 
-/// A jump that is taken.
-fn jump(target: u32) -> Access
-    ensures { result ≡ jumps target }
+/// A jump to a target, or its trap.
+pub fn jump(target: u32, action: Action) -> Action
+    ensures { result ≡ jump_of target action }
 {
     if target % 4 == 0 {
-        Access::Nothing
+        action
     } else {
-        Access::Trap {
+        Action::Trap {
             cause: INSTRUCTION_ADDRESS_MISALIGNED,
         }
     }
 }
 
-/// The target of JALR, whose lowest bit is cleared.
-pub fn indirect_target(sum: u32) -> u32
-    ensures { result ≡ indirect sum }
+/// A load of so many bytes, or its trap.
+pub fn load(span: Span, address: u32, size: u32, action: Action) -> Action
+    requires { 1 ≤ size }
+    ensures { result ≡ load_of span address size action }
 {
-    sum - sum % 2
+    checked(
+        span,
+        address,
+        size,
+        LOAD_ADDRESS_MISALIGNED,
+        LOAD_ACCESS_FAULT,
+        action,
+    )
+}
+
+/// A store of so many bytes, or its trap.
+pub fn store(span: Span, address: u32, size: u32, action: Action) -> Action
+    requires { 1 ≤ size }
+    ensures { result ≡ store_of span address size action }
+{
+    checked(
+        span,
+        address,
+        size,
+        STORE_ADDRESS_MISALIGNED,
+        STORE_ACCESS_FAULT,
+        action,
+    )
+}
+
+/// An access to so many bytes, or its trap: with the one cause where the address is no multiple of
+/// them, else with the other where they are not all in memory.
+fn checked(
+    span: Span,
+    address: u32,
+    size: u32,
+    misaligned: u8,
+    outside: u8,
+    action: Action,
+) -> Action
+    requires { 1 ≤ size }
+    ensures { result ≡ checked_of span address size misaligned outside action }
+{
+    if address % size != 0 {
+        Action::Trap { cause: misaligned }
+    } else if span.holds(address, size) {
+        action
+    } else {
+        Action::Trap { cause: outside }
+    }
 }
 
 /// Whether an address is the one that the hart reserved.
-pub fn has_reserved(reserved: Option<u32>, address: u32) -> bool
-    ensures { result ≡ is_reserved reserved address }
+fn has_reserved(reserved: Option<u32>, address: u32) -> bool
+    ensures { result ≡ has_reserved_of reserved address }
 {
     reserved == Some(address)
 }
 
-/// What is left of a store on the condition that its word is reserved.
-fn store_conditional(reserved: Option<u32>, store: Access) -> Access
-    ensures { result ≡ conditional reserved store }
+/// A store conditional whose address is no reason to trap.
+pub fn conditional(reserved: Option<u32>, rd: Reg, address: u32, value: u32) -> Action
+    ensures { result ≡ conditional_of reserved rd address value }
 {
-    match store {
-        Access::Write { address, .. } if !has_reserved(reserved, address) => Access::Nothing,
-        other => other,
-    }
-}
-
-/// A system call, by its number in x17.
-fn call(regs: &Regs, span: Span, room: u32) -> Access
-    ensures { result ≡ calls regs.now span room }
-{
-    match regs.get(A7) {
-        EXIT_NUMBER => Access::Exit { code: regs.get(A0) },
-        WRITE_NUMBER => match write_call(regs, span, room) {
-            WriteCall::Answer { .. } => Access::Nothing,
-            WriteCall::Append { count } => Access::Read {
-                address: regs.get(A1),
-                len: count,
-            },
-        },
-        _ => Access::Nothing,
+    if has_reserved(reserved, address) {
+        Action::StoreReserved { rd, address, value }
+    } else {
+        Action::Fail { rd }
     }
 }

@@ -1,30 +1,37 @@
-//! What an RV32IA instruction does to one hart, without any memory.
+//! What an RV32IA instruction does to one hart, over any memory.
 //!
-//! The crate stands on the instructions of `rv_word`. It has the registers and the view of a hart,
-//! the results of the operations (`alu`, `taken`, `amo`, `extend`), what an instruction would touch
-//! before it happens (`access`), and what it does given the bytes that it loads (`effect`,
-//! `stored`). Every call is total, takes no memory and equals its definition in `specs/`, which is
+//! The crate stands on the instructions of `rv_word` and the lines of `el_base`. An instruction is
+//! one value: [`Action::at`] reads its registers and makes its checks (none of this needs memory),
+//! `footprint` tells what it touches, `loads` which number it wants of memory, and `perform` does it
+//! to the hart's view and tells what is left to store and to append to the output. Beside that stand
+//! the registers and the view of a hart and the results of the operations (`alu`, `taken`, `amo`,
+//! `extend`). Every call is total, takes no memory and equals its definition in `specs/`, which is
 //! in the terms of the RISC-V unprivileged manual, chapter 2 and the chapter 'A Standard Extension
 //! for Atomic Instructions'. What the manual leaves to the system is this project's profile:
 //! misaligned accesses trap, a trap stops its hart, and there are two system calls, write and exit.
+//!
+//! The definition of a free function `foo` is `foo_of`; that of a method has the method's name.
 #![tactic(auto)]
 
+mod action;
 pub mod cause;
 mod checks;
-mod execute;
+mod effects;
 mod footprint;
 mod operation;
 mod regs;
 mod span;
 mod syscall;
+mod transfers;
 mod view;
 
-pub use checks::{access, makes_call};
-pub use execute::{effect, stored};
+pub use action::Action;
+pub use checks::{access, touched};
 pub use footprint::Access;
 pub use operation::{alu, amo, extend, taken};
 pub use regs::Regs;
 pub use span::Span;
+pub use transfers::{Append, Load, Store, Transfers};
 pub use view::{HartStatus, HartView};
 
 #[cfg(test)]

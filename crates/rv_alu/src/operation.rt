@@ -1,5 +1,5 @@
 ghost use Rattle.std.specs.Prelude.{◌≡◌, ◌*◌, ◌^◌, ◌<◌, ◌≤◌};
-ghost use Rattle.rv_alu.specs.Operation.{alu_of, amo_of, extend_of, moved, sign_extended, taken_of};
+ghost use Rattle.rv_alu.specs.Operation.{alu_of, amo_of, extend_of, moved_of, sign_extended_of, taken_of};
 
 use rv_word::{Alu, AmoOp, LoadWidth, Test};
 
@@ -74,8 +74,8 @@ pub fn extend(width: LoadWidth, raw: u32) -> u32
     ensures { result ≡ extend_of width raw }
 {
     match width {
-        LoadWidth::Byte => extended(raw % 0x100, 0x80),
-        LoadWidth::Half => extended(raw % 0x1_0000, 0x8000),
+        LoadWidth::Byte => sign_extended(raw % 0x100, 0x80),
+        LoadWidth::Half => sign_extended(raw % 0x1_0000, 0x8000),
         LoadWidth::Word => raw,
         LoadWidth::ByteU => raw % 0x100,
         LoadWidth::HalfU => raw % 0x1_0000,
@@ -83,10 +83,10 @@ pub fn extend(width: LoadWidth, raw: u32) -> u32
 }
 
 /// A number below twice `half`, whose top bit is its sign, as a word.
-fn extended(low: u32, half: u32) -> u32
+fn sign_extended(low: u32, half: u32) -> u32
     requires low_bits { low < 2 * half }
     requires narrow { half < 2 ^ 31 }
-    ensures { result ≡ sign_extended low half }
+    ensures { result ≡ sign_extended_of low half }
 {
     if low < half {
         low
@@ -96,8 +96,8 @@ fn extended(low: u32, half: u32) -> u32
 }
 
 /// An address or a pc moved by a signed offset, modulo 2^32.
-pub fn offset_by(word: u32, offset: i32) -> u32
-    ensures { result ≡ moved word offset }
+pub fn moved(word: u32, offset: i32) -> u32
+    ensures { result ≡ moved_of word offset }
 {
     word.wrapping_add(offset.cast_unsigned())
 }

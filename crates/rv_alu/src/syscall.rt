@@ -1,15 +1,17 @@
 ghost use Rattle.std.specs.Prelude.{◌≡◌, ◌≤◌, ◌+◌, ◌-◌, ◌^◌};
-ghost use Rattle.rv_alu.specs.Syscall.{call_answer, negative, write_call_of};
+ghost use Rattle.rv_alu.specs.Syscall.{call_of, error_of, write_call_of};
 
+use crate::action::Action;
 use crate::regs::Regs;
 use crate::span::Span;
+use el_base::LINE_BYTES;
 use rv_word::Reg;
 
 /// The number of the Linux RISC-V system call `exit`.
-pub const EXIT_NUMBER: u32 = 93;
+const EXIT_NUMBER: u32 = 93;
 
 /// The number of the Linux RISC-V system call `write`.
-pub const WRITE_NUMBER: u32 = 64;
+const WRITE_NUMBER: u32 = 64;
 
 /// Linux's error number of a bad file.
 const EBADF: u32 = 9;
@@ -23,27 +25,15 @@ const ENOSPC: u32 = 28;
 /// Linux's error number of a call that is not there.
 const ENOSYS: u32 = 38;
 
-/// The bytes of a line of memory.
-const LINE: u32 = 64;
-
 /// The registers of a call: its number in x17, its arguments in x10, x11 and x12, its answer in x10
 /// (Linux RISC-V system calls).
 pub const A0: Reg = Reg { number: 10 };
 
-pub const A1: Reg = Reg { number: 11 };
+const A1: Reg = Reg { number: 11 };
 
 const A2: Reg = Reg { number: 12 };
 
-pub const A7: Reg = Reg { number: 17 };
-
-/// How a write call goes.
-#[derive(Clone, Copy, Debug, PartialEq, Eq)]
-pub enum WriteCall {
-    /// It writes nothing, and x10 becomes `value`.
-    Answer { value: u32 },
-    /// It writes `count` bytes from x11 on, and x10 becomes `count`.
-    Append { count: u32 },
-}
+const A7: Reg = Reg { number: 17 };
 
 /// How the write call that these registers ask for goes, where the output has room for `room`
 /// bytes. The tests, in this order: the file is 1 or 2, both of which are the one output (else -9,
@@ -51,53 +41,55 @@ pub enum WriteCall {
 /// 'bad address'); the output has room (else -28, 'no space'). It then writes no further than the
 /// end of the line and no more than the room. (Arguments and errors as in Linux; short writes are
 /// this project's profile.)
-pub fn write_call(regs: &Regs, span: Span, room: u32) -> WriteCall
+pub fn write_call(regs: &Regs, span: Span, room: u32) -> Action
     ensures { result ≡ write_call_of regs.now span room }
 {
     let file = regs.get(A0);
     let address = regs.get(A1);
     let count = regs.get(A2);
     if file != 1 && file != 2 {
-        return WriteCall::Answer {
+        return Action::Answer {
             value: error(EBADF),
         };
     }
     if count == 0 {
-        return WriteCall::Answer { value: 0 };
+        return Action::Answer { value: 0 };
     }
-    let in_line = address % LINE;
-    if !span.holds(address - in_line, LINE) {
-        return WriteCall::Answer {
+    let in_line = address % LINE_BYTES;
+    if !span.holds(address - in_line, LINE_BYTES) {
+        return Action::Answer {
             value: error(EFAULT),
         };
     }
     if room == 0 {
-        return WriteCall::Answer {
+        return Action::Answer {
             value: error(ENOSPC),
         };
     }
-    WriteCall::Append {
-        count: count.min((LINE - in_line).min(room)),
+    Action::Append {
+        address,
+        len: count.min((LINE_BYTES - in_line).min(room)),
     }
 }
 
-/// The number that a call other than exit leaves in x10: -38, 'no such call', for all but write.
-pub fn call_result(regs: &Regs, span: Span, room: u32) -> u32
-    ensures { result ≡ call_answer regs.now span room }
+/// A system call, by its number in x17: one that is neither exit nor write is answered with -38, 'no
+/// such call'.
+pub fn call(regs: &Regs, span: Span, room: u32) -> Action
+    ensures { result ≡ call_of regs.now span room }
 {
-    if regs.get(A7) != WRITE_NUMBER {
-        return error(ENOSYS);
-    }
-    match write_call(regs, span, room) {
-        WriteCall::Answer { value } => value,
-        WriteCall::Append { count } => count,
+    match regs.get(A7) {
+        EXIT_NUMBER => Action::Exit { code: regs.get(A0) },
+        WRITE_NUMBER => write_call(regs, span, room),
+        _ => Action::Answer {
+            value: error(ENOSYS),
+        },
     }
 }
 
 /// A Linux error number as a system call answers it.
 fn error(number: u32) -> u32
     requires { 1 ≤ number }
-    ensures { result ≡ negative number }
+    ensures { result ≡ error_of number }
 {
     u32::MAX - (number - 1)
 }

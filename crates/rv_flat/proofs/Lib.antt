@@ -1,8 +1,4 @@
 pub mod PutBytes
-pub mod StepCases
 pub mod StepLaws
-pub mod Reading
-pub mod Outputs
-mod OneLine
-mod OwnView
+mod Applied
 mod Worked

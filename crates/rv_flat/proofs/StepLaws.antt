@@ -1,26 +1,69 @@
--- the laws of a step, each from the ways that it can go
-use Rattle.std.proofs.Common.{◌≡◌, ◌≢◌, ◌≤◌, ◌<◌, ℕ, ◌+◌, ◌-◌, ◌*◌, ◌/◌, List, [], ◌∷◌, ◌++◌, length, refl, arith, zero-add, ap, sym, ◌∙◌, inl, inr, ◌⊎◌}
-use Rattle.std.specs.Prelude.{slice_index, slice_set, replicate}
+-- the laws of a step
+use Rattle.std.proofs.Common.{◌≡◌, ◌≢◌, ◌≤◌, ◌<◌, ℕ, ◌+◌, ◌-◌, List, [], ◌∷◌, ◌++◌, length, Option, None, Some, refl, arith, ◌*◌, zero-add, ap, sym, ◌∙◌, inl, inr, ◌⊎◌}
+use Rattle.std.specs.Prelude.{MatchOption, map, replicate, slice_index, slice_index_or, slice_set}
 use Rattle.std.proofs.lemmas.List.{append-nil, get_or-set_other, get_or-set_same, length-map, length-set, replicate-append-replicate}
 use Rattle.std.proofs.lemmas.Bool.{cases_eq}
-use Rattle.std.proofs.lemmas.List.FromFn.{get_or-map-range_with_len, length-map-range_with_len}
 use Rattle.std.proofs.Math.ListN.{get_or-map}
+use Rattle.std.proofs.lemmas.List.FromFn.{get_or-map-range_with_len, length-map-range_with_len}
 use Rattle.elf_image.specs.Limits.{stack_size}
-use Rattle.elf_image.specs.Program.{Program}
+use Rattle.elf_image.specs.Program.{Program, code_word}
+use Rattle.el_base.specs.Line.{line_number}
+use Rattle.rv_alu.proofs.Executions.{IsWithin, executed-regs, executed-within, set-regs}
+use Rattle.rv_alu.proofs.Footprints.{fits}
 use Rattle.rv_alu.specs.declared.footprint.Access.{Access}
 use Rattle.rv_alu.specs.declared.footprint.Access.TheVariants.{Nothing, Read, Write, Trap, Exit}
 use Rattle.rv_alu.specs.declared.view.HartStatus.{HartStatus}
 use Rattle.rv_alu.specs.declared.view.HartStatus.TheVariants.{Running, Exited, Trapped}
 use Rattle.rv_alu.specs.declared.view.HartView.{HartView}
-use Rattle.rv_alu.specs.Footprint.{IsPiece}
-use Rattle.rv_alu.specs.Regs.{set}
-use Rattle.rv_flat.specs.FlatState.{FlatState, first_regs, first_view, no_hart, span_of, start, status_of, view_of}
-use Rattle.rv_flat.specs.Laws.{AreRegs, HasRegs, KeepsShape, Writes, footprint_of, seen_after}
-use Rattle.rv_flat.specs.Memory.{piece_of, put_bytes}
+use Rattle.rv_alu.specs.Execution.{Append, Execution, Store, append_in, insn_at, insn_touched, store_in, view_after}
+use Rattle.rv_alu.specs.Footprint.{IsFootprint, IsNoWrite, IsPiece, access_of}
+use Rattle.rv_alu.specs.Regs.{AreRegs, set}
+use Rattle.rv_alu.specs.declared.span.Span.{Span}
+use Rattle.rv_word.specs.declared.insn.Insn.{Insn}
+use Rattle.rv_flat.specs.FlatState.{FlatState, first_regs, first_view, no_hart, room_of, span_of, start, status_of, view_of}
+use Rattle.rv_flat.specs.Laws.{HasRegs, IsInOneLine, KeepsShape, Writes, footprint_of, seen_after, touched_by, touched_in}
+use Rattle.rv_flat.specs.Memory.{byte_in, piece_of, put_bytes}
 use Rattle.rv_flat.specs.Run.{alone, run}
-use Rattle.rv_flat.specs.Step.{flat, status_step, unreserved, with_view}
+use Rattle.rv_flat.specs.Step.{appended_by, applied, execution_of, flat, status_step, stored_by, unreserved, unreserved_by}
 use Rattle.rv_flat.proofs.PutBytes.{length-put_bytes, put_bytes-other}
-use Rattle.rv_flat.proofs.StepCases.{Follows, IsPlain, after_call, after_store, by_step, set-regs}
+
+-- what a hart touches is in memory and in one line
+footprint-one_line : (insn : Insn) (span : Span) (room : ℕ) (access : Access) → IsFootprint insn span room access → IsInOneLine span access
+footprint-one_line insn span room (Read from len) h = h.0
+footprint-one_line insn span room (Write from len) h = h.0
+footprint-one_line insn span room Nothing h = tt
+footprint-one_line insn span room (Trap cause) h = tt
+footprint-one_line insn span room (Exit code) h = tt
+
+insn-one_line : (insn : Option Insn) (view : HartView) (span : Span) (room : ℕ) → IsInOneLine span (insn_touched insn view span room)
+insn-one_line None view span room = tt
+insn-one_line (Some insn) view span room =
+    footprint-one_line insn span room (access_of insn view.pc view.regs view.reserved span room) (fits insn view.pc view.regs view.reserved span room).footprint
+
+one_line-touched : (state : FlatState) (view : HartView) → IsInOneLine (span_of state) (touched_by state view)
+one_line-touched state view = insn-one_line (insn_at (code_word state.code view.pc)) view (span_of state) (room_of state)
+
+-- what is stored and appended is what is touched
+within : (state : FlatState) (view : HartView) → IsWithin (touched_by state view) (execution_of state view)
+within state view = executed-within (code_word state.code view.pc) view (span_of state) (room_of state) (byte_in state.base state.bytes)
+
+by_status : (P : Access → FlatState → Type 0) (state : FlatState) (hart : ℕ) (view : HartView) (status : HartStatus) →
+    P Nothing state → P (touched_by state view) (applied state hart view (execution_of state view)) →
+    P (touched_in state view status) (status_step state hart view status)
+by_status P state hart view Running still goes = goes
+by_status P state hart view (Exited code) still goes = still
+by_status P state hart view (Trapped cause pc) still goes = still
+
+-- what holds where nothing is done, and of what the hart's next instruction does, holds of the step
+pub by_step : (P : Access → FlatState → Type 0) (state : FlatState) (hart : ℕ) →
+    P Nothing state → P (touched_by state (view_of state hart)) (applied state hart (view_of state hart) (execution_of state (view_of state hart))) →
+    P (footprint_of state hart) (flat state hart)
+unfolding flat
+by_step P state hart still goes = by_status P state hart (view_of state hart) (status_of state hart) still goes
+
+-- what a step touches is in memory and in one line
+pub one_line : (state : FlatState) (hart : ℕ) → IsInOneLine (span_of state) (footprint_of state hart)
+one_line state hart = by_step (λ access new. IsInOneLine (span_of state) access) state hart tt (one_line-touched state (view_of state hart))
 
 still_status : (state : FlatState) (hart : ℕ) (view : HartView) (status : HartStatus) → status ≢ Running → status_step state hart view status ≡ state
 still_status state hart view Running h = absurd (h refl)
@@ -32,119 +75,100 @@ pub still : (state : FlatState) (hart : ℕ) → status_of state hart ≢ Runnin
 unfolding flat
 still state hart h = still_status state hart (view_of state hart) (status_of state hart) h
 
-shape-same : (state : FlatState) → KeepsShape state state
-shape-same state = record { base = refl; length_of_bytes = refl; code = refl; harts = refl; more = []; output = sym (append-nil state.output) }
+-- a running hart's step is what its next instruction does
+pub running : (state : FlatState) (hart : ℕ) → status_of state hart ≡ Running → flat state hart ≡ applied state hart (view_of state hart) (execution_of state (view_of state hart))
+unfolding flat
+running state hart h = ap (status_step state hart (view_of state hart)) h
 
-shape-view : (state : FlatState) (hart : ℕ) (view : HartView) → KeepsShape state (with_view state hart view)
-shape-view state hart view =
-    record { base = refl; length_of_bytes = refl; code = refl; harts = length-set state.harts hart view; more = []; output = sym (append-nil state.output) }
+length-unreserved_by : (store : Option Store) (harts : List HartView) → length (unreserved_by store harts) ≡ length harts
+length-unreserved_by None harts = refl
+length-unreserved_by (Some store) harts = length-map harts (unreserved (line_number store.address))
 
-shape-call : (state : FlatState) (hart : ℕ) (view : HartView) (from len : ℕ) → KeepsShape state (after_call state hart view from len)
-shape-call state hart view from len =
-    record { base = refl; length_of_bytes = refl; code = refl; harts = length-set state.harts hart view; more = piece_of state.bytes (from - state.base) len; output = refl }
+length-stored_by : (store : Option Store) (base : ℕ) (bytes : List ℕ) → length (stored_by store base bytes) ≡ length bytes
+length-stored_by None base bytes = refl
+length-stored_by (Some store) base bytes = length-put_bytes bytes (store.address - base) store.len store.value
 
-shape-store : (state : FlatState) (hart : ℕ) (view : HartView) (from len value : ℕ) → KeepsShape state (after_store state hart view from len value)
-shape-store state hart view from len value =
-    record {
-      base = refl;
-      length_of_bytes = length-put_bytes state.bytes (from - state.base) len value;
-      code = refl;
-      harts = length-map (slice_set state.harts hart view) (unreserved (from / 64)) ∙ length-set state.harts hart view;
-      more = [];
-      output = sym (append-nil state.output);
-    }
+-- the bytes that are appended
+abbrev pub appended : Option Append → ℕ → List ℕ → List ℕ
+appended None base bytes = []
+appended (Some append) base bytes = piece_of bytes (append.address - base) append.len
+
+pub appended_by-more : (append : Option Append) (base : ℕ) (bytes output : List ℕ) → appended_by append base bytes output ≡ output ++ appended append base bytes
+appended_by-more None base bytes output = sym (append-nil output)
+appended_by-more (Some append) base bytes output = refl
 
 -- a step keeps the shape of the state
 pub keeps_shape : (state : FlatState) (hart : ℕ) → KeepsShape state (flat state hart)
 keeps_shape state hart =
+    let view : HartView = view_of state hart in
+    let execution : Execution = execution_of state view in
     by_step (λ access new. KeepsShape state new) state hart
+    (record { base = refl; length_of_bytes = refl; code = refl; harts = refl; more = []; output = sym (append-nil state.output) })
     (record {
-      still = shape-same state;
-      plain = λ access view p f. shape-view state hart view;
-      call = λ from len view f. shape-call state hart view from len;
-      store = λ from len value view p f. shape-store state hart view from len value;
+      base = refl;
+      length_of_bytes = length-stored_by (store_in execution) state.base state.bytes;
+      code = refl;
+      harts = length-set (unreserved_by (store_in execution) state.harts) hart (view_after execution view) ∙ length-unreserved_by (store_in execution) state.harts;
+      more = appended (append_in execution) state.base state.bytes;
+      output = appended_by-more (append_in execution) state.base state.bytes state.output;
     })
+
+-- the own view after a step
+pub own_view : (state : FlatState) (hart : ℕ) → hart < length state.harts → status_of state hart ≡ Running →
+    view_of (flat state hart) hart ≡ view_after (execution_of state (view_of state hart)) (view_of state hart)
+own_view state hart within runs =
+    let execution : Execution = execution_of state (view_of state hart) in
+    let there : hart < length (unreserved_by (store_in execution) state.harts) = omega (arith, length-unreserved_by (store_in execution) state.harts) in
+    ap (λ new. view_of new hart) (running state hart runs)
+    ∙ get_or-set_same (unreserved_by (store_in execution) state.harts) hart (view_after execution (view_of state hart)) no_hart there
 
 -- the bytes of a state are those of another, but where the access writes
 abbrev pub KeepsBytes : FlatState → Access → FlatState → Type 0
 KeepsBytes state access new =
     (place : ℕ) → (Writes access (state.base + place) → ⊥) → slice_index new.bytes place ≡ slice_index state.bytes place
 
-stored_apart : (state : FlatState) (from len value place : ℕ) → IsPiece (span_of state) from len → (Writes (Write from len) (state.base + place) → ⊥) → slice_index (put_bytes state.bytes (from - state.base) len value) place ≡ slice_index state.bytes place
-stored_apart state from len value place piece out =
-    put_bytes-other state.bytes (from - state.base) len value place
-    (λ low high. let above : state.base ≤ from = piece.from_base in out (omega arith, omega arith))
+stored_by-other : (state : FlatState) (access : Access) (store : Option Store) → IsInOneLine (span_of state) access →
+    MatchOption store (IsNoWrite access) (λ store. access ≡ Write store.address store.len) → (place : ℕ) → (Writes access (state.base + place) → ⊥) →
+    slice_index (stored_by store state.base state.bytes) place ≡ slice_index state.bytes place
+stored_by-other state access None piece is place out = refl
+stored_by-other state access (Some store) piece is place out =
+    let there : IsPiece (span_of state) store.address store.len = rw is at piece in
+    let outside = rw is at out in
+    put_bytes-other state.bytes (store.address - state.base) store.len store.value place
+    (λ low high. let above : state.base ≤ store.address = there.from_base in outside (omega arith, omega arith))
 
 -- a step changes memory only where its footprint writes
 pub writes_in_footprint : (state : FlatState) (hart : ℕ) → KeepsBytes state (footprint_of state hart) (flat state hart)
 writes_in_footprint state hart =
-    by_step (KeepsBytes state) state hart
-    (record {
-      still = λ place out. refl;
-      plain = λ access view p f place out. refl;
-      call = λ from len view f place out. refl;
-      store = λ from len value view piece f place out. stored_apart state from len value place piece out;
-    })
+    by_step (KeepsBytes state) state hart (λ place out. refl)
+    (stored_by-other state (touched_by state (view_of state hart)) (store_in (execution_of state (view_of state hart)))
+    (one_line-touched state (view_of state hart)) (within state (view_of state hart)).store)
 
-seen_after-plain : (access : Access) → IsPlain access → (view : HartView) → seen_after access view ≡ view
-seen_after-plain (Write from len) p view = absurd p
-seen_after-plain (Read from len) p view = refl
-seen_after-plain Nothing p view = refl
-seen_after-plain (Trap cause) p view = refl
-seen_after-plain (Exit code) p view = refl
-
--- each other hart's view is as before, but for a reservation on the line that the access writes
+-- a hart's view after another's step is as before, but for a reservation on the line that the access writes
 abbrev pub KeepsOthers : FlatState → ℕ → Access → FlatState → Type 0
 KeepsOthers state hart access new = (other : ℕ) → other ≢ hart → view_of new other ≡ seen_after access (view_of state other)
 
-other-set : (state : FlatState) (hart : ℕ) (view : HartView) (other : ℕ) → other ≢ hart → view_of (with_view state hart view) other ≡ view_of state other
-other-set state hart view other h = get_or-set_other state.harts hart other view no_hart h
+seen_after-none : (access : Access) → IsNoWrite access → (view : HartView) → seen_after access view ≡ view
+seen_after-none (Write from len) none view = absurd none
+seen_after-none (Read from len) none view = refl
+seen_after-none Nothing none view = refl
+seen_after-none (Trap cause) none view = refl
+seen_after-none (Exit code) none view = refl
+
+unreserved_by-view : (access : Access) (store : Option Store) (harts : List HartView) (other : ℕ) → MatchOption store (IsNoWrite access) (λ store. access ≡ Write store.address store.len) →
+    slice_index_or (unreserved_by store harts) other no_hart ≡ seen_after access (slice_index_or harts other no_hart)
+unreserved_by-view access None harts other none = sym (seen_after-none access none (slice_index_or harts other no_hart))
+unreserved_by-view access (Some store) harts other is = rw is (get_or-map (unreserved (line_number store.address)) harts other no_hart)
 
 -- a step changes no other hart's view, but takes reservations on the line that it writes
 pub keeps_others : (state : FlatState) (hart : ℕ) → KeepsOthers state hart (footprint_of state hart) (flat state hart)
 keeps_others state hart =
-    by_step (KeepsOthers state hart) state hart
-    (record {
-      still = λ other h. refl;
-      plain = λ access view p f other h. other-set state hart view other h ∙ sym (seen_after-plain access p (view_of state other));
-      call = λ from len view f other h. other-set state hart view other h;
-      store = λ from len value view piece f other h.
-          get_or-map (unreserved (from / 64)) (slice_set state.harts hart view) other no_hart
-          ∙ ap (unreserved (from / 64)) (other-set state hart view other h);
-    })
-
-regs_along : (old new : HartView) → new ≡ old → AreRegs old.regs → AreRegs new.regs
-regs_along old new same h = (ap (λ view. length view.regs) same ∙ h.0, ap (λ view. slice_index view.regs 0) same ∙ h.1)
-
--- of a hart that is the one whose view is new, or another
-regs_by : (state : FlatState) (hart : ℕ) (view : HartView) (other : ℕ) → HasRegs state → Follows (view_of state hart) view → other < length state.harts → (other ≡ hart) ⊎ (other ≡ hart → ⊥) → AreRegs (view_of (with_view state hart view) other).regs
-regs_by state hart view other h follows within (inl same) =
-    regs_along view (view_of (with_view state hart view) other)
-    (rw same (get_or-set_same state.harts hart view no_hart (rw (← same) within)))
-    (follows.regs (h hart (rw (← same) within)))
-regs_by state hart view other h follows within (inr apart) =
-    regs_along (view_of state other) (view_of (with_view state hart view) other) (other-set state hart view other apart) (h other within)
-
-own-set : (state : FlatState) (hart : ℕ) (view : HartView) → HasRegs state → Follows (view_of state hart) view → HasRegs (with_view state hart view)
-own-set state hart view h follows other within =
-    regs_by state hart view other h follows (rw length-set at within) (cases_eq other hart)
-
-store-set : (state : FlatState) (hart from len value : ℕ) (view : HartView) → HasRegs state → Follows (view_of state hart) view → HasRegs (after_store state hart view from len value)
-store-set state hart from len value view h follows other within =
-    regs_along (unreserved (from / 64) (view_of (with_view state hart view) other)) (view_of (after_store state hart view from len value) other)
-    (get_or-map (unreserved (from / 64)) (slice_set state.harts hart view) other no_hart)
-    (own-set state hart view h follows other (rw length-map at within))
-
--- a step leaves each hart 32 registers of which the first is 0
-pub keeps_regs : (state : FlatState) (hart : ℕ) → HasRegs state → HasRegs (flat state hart)
-keeps_regs state hart h =
-    by_step (λ access new. HasRegs new) state hart
-    (record {
-      still = h;
-      plain = λ access view p f. own-set state hart view h f;
-      call = λ from len view f. own-set state hart view h f;
-      store = λ from len value view piece f. store-set state hart from len value view h f;
-    })
+    let view : HartView = view_of state hart in
+    let execution : Execution = execution_of state view in
+    by_step (KeepsOthers state hart) state hart (λ other apart. refl)
+    (λ other apart.
+    get_or-set_other (unreserved_by (store_in execution) state.harts) hart other (view_after execution view) no_hart apart
+    ∙ unreserved_by-view (touched_by state view) (store_in execution) state.harts other (within state view).store)
 
 -- a run of a list and then of another
 pub run_append : (state : FlatState) (first second : List ℕ) → run state (first ++ second) ≡ run (run state first) second
@@ -155,6 +179,42 @@ run_append state (hart ∷ first) second = run_append (flat state hart) first se
 pub alone_sum : (state : FlatState) (hart m n : ℕ) → alone state hart (m + n) ≡ alone (alone state hart m) hart n
 alone_sum state hart m n = ap (run state) (sym (replicate-append-replicate m n hart)) ∙ run_append state (replicate m hart) (replicate n hart)
 
+regs_along : (old new : HartView) → new ≡ old → AreRegs old.regs → AreRegs new.regs
+regs_along old new same h = (ap (λ view. length view.regs) same ∙ h.0, ap (λ view. slice_index view.regs 0) same ∙ h.1)
+
+unreserved_by-regs : (store : Option Store) (harts : List HartView) (other : ℕ) → AreRegs (slice_index_or harts other no_hart).regs →
+    AreRegs (slice_index_or (unreserved_by store harts) other no_hart).regs
+unreserved_by-regs None harts other h = h
+unreserved_by-regs (Some store) harts other h =
+    let line : ℕ = line_number store.address in
+    regs_along (unreserved line (slice_index_or harts other no_hart)) (slice_index_or (map (unreserved line) harts) other no_hart)
+    (get_or-map (unreserved line) harts other no_hart) h
+
+-- of the hart whose view is new, or of another
+regs_by : (harts : List HartView) (hart : ℕ) (new : HartView) (other : ℕ) → (hart < length harts → AreRegs new.regs) → AreRegs (slice_index_or harts other no_hart).regs →
+    other < length harts → (other ≡ hart) ⊎ (other ≡ hart → ⊥) → AreRegs (slice_index_or (slice_set harts hart new) other no_hart).regs
+regs_by harts hart new other own others within (inl same) =
+    let there = rw same at within in
+    regs_along new (slice_index_or (slice_set harts hart new) other no_hart) (rw same (get_or-set_same harts hart new no_hart there)) (own there)
+regs_by harts hart new other own others within (inr apart) =
+    regs_along (slice_index_or harts other no_hart) (slice_index_or (slice_set harts hart new) other no_hart) (get_or-set_other harts hart other new no_hart apart) others
+
+-- a step leaves each hart 32 registers of which the first is 0
+pub keeps_regs : (state : FlatState) (hart : ℕ) → HasRegs state → HasRegs (flat state hart)
+keeps_regs state hart h =
+    let view : HartView = view_of state hart in
+    let execution : Execution = execution_of state view in
+    let harts : List HartView = unreserved_by (store_in execution) state.harts in
+    let as_many : length harts ≡ length state.harts = length-unreserved_by (store_in execution) state.harts in
+    by_step (λ access new. HasRegs new) state hart h
+    (λ other exists.
+    let there : other < length harts = omega (arith, exists, length-set harts hart (view_after execution view)) in
+    regs_by harts hart (view_after execution view) other
+    (λ own. executed-regs (code_word state.code view.pc) view (span_of state) (room_of state) (byte_in state.base state.bytes) (h hart (rw as_many at own)))
+    (unreserved_by-regs (store_in execution) state.harts other (h other (rw as_many at there)))
+    there (cases_eq other hart))
+
+-- the registers of a program's harts before their first step
 first_are_regs : (program : Program) (hart : ℕ) → AreRegs (first_regs program hart)
 first_are_regs program hart =
     let numbered = set (replicate 32 0) 10 hart in
@@ -166,7 +226,6 @@ first_has_regs : (program : Program) (hart : ℕ) → AreRegs (first_view progra
 unfolding first_view
 first_has_regs program hart = first_are_regs program hart
 
--- the registers of a program's harts before their first step
 pub start_regs : (program : Program) → HasRegs (start program)
 unfolding start
 start_regs program hart within =

@@ -1,20 +1,17 @@
-ghost use Rattle.std.specs.Prelude.{◌≡◌, ◌<◌, ◌≤◌, ◌+◌, ◌++◌, ◌↔◌, IfOk, IfSome, IsNone, Some, false, length};
-ghost use Rattle.rv_flat.specs.FlatState.{output_limit, room_of, span_of, start, status_of, view_of};
-ghost use Rattle.rv_alu.specs.Execute.{effect_of};
-ghost use Rattle.rv_alu.specs.Footprint.{IsFootprint, IsPiece, IsReadOf, IsSize};
+ghost use Rattle.std.specs.Prelude.{◌≡◌, ◌<◌, ◌≤◌, ◌↔◌, IfOk, IfSome, IsNone, false, length, option_map};
+ghost use Rattle.rv_alu.specs.Footprint.{IsAppendIn, IsInPlace, IsLoadIn, IsStoreIn};
 ghost use Rattle.rv_alu.specs.Loaded.{loaded};
 ghost use Rattle.rv_alu.specs.Span.{holds};
-ghost use Rattle.rv_flat.specs.Memory.{byte_in, piece_of};
-ghost use Rattle.rv_flat.specs.Step.{access_step, flat, insn_step, read_step, stopped, with_view, write_step};
+ghost use Rattle.rv_flat.specs.FlatState.{output_limit, room_of, span_of, start, status_of, view_of};
+ghost use Rattle.rv_flat.specs.Memory.{byte_in};
+ghost use Rattle.rv_flat.specs.Step.{action_of, appended_by, applied, execution_of, flat, stored_by, unreserved_by};
 
 use crate::beginning::first_views;
-use crate::memory::{load, store};
+use crate::memory;
 use crate::reservations::unreserve;
-use el_base::{HartId, NoMemory};
+use el_base::{HartId, NoMemory, line_of};
 use elf_image::{Code, Image};
-use rv_alu::cause::{ILLEGAL_INSTRUCTION, INSTRUCTION_ACCESS_FAULT};
-use rv_alu::{Access, HartStatus, HartView, Span, access, effect, makes_call, stored};
-use rv_word::{Insn, decode};
+use rv_alu::{Action, Append, HartStatus, HartView, Load, Span, Store};
 use std::alloc::Global;
 use std::marker::Model;
 
@@ -113,15 +110,8 @@ impl Flat {
         ensures { self.new ≡ flat self.old hart.number }
     {
         let place = usize::from(hart.number);
-        if self.harts[place].status != HartStatus::Running {
-            return;
-        }
-        match self.code.code_word(self.harts[place].pc) {
-            None => self.trap(place, INSTRUCTION_ACCESS_FAULT),
-            Some(word) => match decode(word) {
-                None => self.trap(place, ILLEGAL_INSTRUCTION),
-                Some(insn) => self.execute(place, &insn),
-            },
+        if self.harts[place].status == HartStatus::Running {
+            self.execute(place);
         }
     }
 
@@ -142,104 +132,65 @@ impl Flat {
         (OUTPUT_LIMIT - self.output.len()) as u32
     }
 
-    /// A hart stops.
-    fn stop(&mut self, place: usize, status: HartStatus)
-        requires { place < length self.old.harts }
-        ensures { self.new ≡ stopped self.old place (view_of self.old place) status }
+    /// What a hart does next.
+    fn next_action(&self, place: usize) -> Action
+        requires { place < length self.now.harts }
+        ensures value { result ≡ action_of self.now (view_of self.now place) }
+        ensures in_place { IsInPlace (span_of self.now) (room_of self.now) result }
     {
-        let view = &mut self.harts[place];
-        view.status = status;
+        let word = self.code.code_word(self.harts[place].pc);
+        Action::at(word, &self.harts[place], self.span(), self.room())
     }
 
-    /// A hart traps at its pc.
-    fn trap(&mut self, place: usize, cause: u8)
+    /// The next instruction of a hart.
+    fn execute(&mut self, place: usize)
         requires { place < length self.old.harts }
-        ensures { self.new ≡ stopped self.old place (view_of self.old place)
-            (HartStatus.Trapped cause (view_of self.old place).pc) }
+        ensures { let view = view_of self.old place in self.new ≡ applied self.old place view (execution_of self.old view) }
     {
-        let pc = self.harts[place].pc;
-        self.stop(place, HartStatus::Trapped { cause, pc });
+        let action = self.next_action(place);
+        let number = self.load(action.loads());
+        let transfers = action.perform(&mut self.harts[place], number);
+        self.append(transfers.append);
+        self.store(transfers.store);
     }
 
-    /// A running hart's next instruction.
-    fn execute(&mut self, place: usize, insn: &Insn)
-        requires { place < length self.old.harts }
-        ensures { self.new ≡ insn_step self.old place (view_of self.old place) (Some insn.now) }
+    /// The number that is loaded, if one is.
+    fn load(&self, load: Option<Load>) -> Option<u32>
+        requires { IfSome load (IsLoadIn (span_of self.now)) }
+        ensures { result ≡ option_map (λ load. loaded (byte_in self.now.base self.now.bytes) load.address load.len) load }
     {
-        let span = self.span();
-        let room = self.room();
-        let view = &self.harts[place];
-        let touched = access(insn, view.pc, &view.regs, view.reserved, span, room);
-        self.perform(place, insn, touched);
-    }
-
-    /// An instruction, by what it touches.
-    fn perform(&mut self, place: usize, insn: &Insn, touched: Access)
-        requires there { place < length self.old.harts }
-        requires footprint { IsFootprint insn.now (span_of self.old) (room_of self.old) touched }
-        ensures { self.new ≡ access_step self.old place (view_of self.old place) insn.now touched }
-    {
-        match touched {
-            Access::Nothing => self.advance(place, insn, 0),
-            Access::Trap { cause } => self.trap(place, cause),
-            Access::Exit { code } => self.stop(place, HartStatus::Exited { code }),
-            Access::Read { address, len } => self.read(place, insn, address, len),
-            Access::Write { address, len } => self.write(place, insn, address, len),
+        match load {
+            None => None,
+            Some(load) => {
+                let place = (load.address - self.base) as usize;
+                Some(memory::load(&self.bytes, place, load.len))
+            }
         }
     }
 
-    /// The effect of an instruction on its hart's view.
-    fn advance(&mut self, place: usize, insn: &Insn, loaded: u32)
-        requires { place < length self.old.harts }
-        ensures { self.new ≡ with_view self.old place
-            (effect_of insn.now (view_of self.old place) (span_of self.old) (room_of self.old) loaded) }
+    /// Appends a piece of memory to the output, if there is one.
+    fn append(&mut self, append: Option<Append>)
+        requires { IfSome append (IsAppendIn (span_of self.old) (room_of self.old)) }
+        ensures { self.new ≡ record self.old { output = appended_by append self.old.base self.old.bytes self.old.output } }
     {
-        let span = self.span();
-        let room = self.room();
-        effect(insn, &mut self.harts[place], span, room, loaded);
-    }
-
-    /// A load, or the write call, which appends bytes to the output.
-    fn read(&mut self, place: usize, insn: &Insn, address: u32, len: u32)
-        requires there { place < length self.old.harts }
-        requires piece { IsPiece (span_of self.old) address len }
-        requires size { IsReadOf insn.now (room_of self.old) len }
-        ensures { self.new ≡ read_step self.old place (view_of self.old place) insn.now address len }
-    {
-        let at = (address - self.base) as usize;
-        if makes_call(insn) {
-            self.advance(place, insn, 0);
-            self.append(at, len);
-        } else {
-            let loaded = load(&self.bytes, at, len);
-            self.advance(place, insn, loaded);
+        if let Some(append) = append {
+            let place = (append.address - self.base) as usize;
+            let piece = &self.bytes[place..place + append.len as usize];
+            self.output.extend_from_slice(piece).unwrap();
         }
     }
 
-    /// Appends bytes of memory to the output, which has room for them.
-    fn append(&mut self, at: usize, len: u32)
-        requires inside { at + len ≤ length self.old.bytes }
-        requires room { len ≤ room_of self.old }
-        ensures { self.new ≡ record self.old { output = self.old.output ++ piece_of self.old.bytes at len } }
+    /// Stores in memory, if there is something to store, and takes the reservations on its line.
+    fn store(&mut self, store: Option<Store>)
+        requires { IfSome store (IsStoreIn (span_of self.old)) }
+        ensures { self.new ≡ record self.old {
+            harts = unreserved_by store self.old.harts;
+            bytes = stored_by store self.old.base self.old.bytes } }
     {
-        self.output
-            .extend_from_slice(&self.bytes[at..at + len as usize])
-            .unwrap();
-    }
-
-    /// A store, a store conditional that succeeds, or an atomic operation.
-    fn write(&mut self, place: usize, insn: &Insn, address: u32, len: u32)
-        requires there { place < length self.old.harts }
-        requires piece { IsPiece (span_of self.old) address len }
-        requires size { IsSize len }
-        ensures { self.new ≡ write_step self.old place (view_of self.old place) insn.now address len
-            (loaded (byte_in self.old.base self.old.bytes) address len) }
-    {
-        let at = (address - self.base) as usize;
-        let old = load(&self.bytes, at, len);
-        let value = stored(insn, &self.harts[place].regs, old);
-        self.advance(place, insn, old);
-        store(&mut self.bytes, at, len, value);
-        unreserve(&mut self.harts, address / 64);
+        if let Some(store) = store {
+            let place = (store.address - self.base) as usize;
+            memory::store(&mut self.bytes, place, store.len, store.value);
+            unreserve(&mut self.harts, line_of(store.address));
+        }
     }
 }

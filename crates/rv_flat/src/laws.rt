@@ -1,12 +1,11 @@
 //! Laws of the flat step, over every state and every hart. Each is the contract of a function that
 //! does nothing.
 
-ghost use Rattle.std.specs.Prelude.{◌≡◌, ◌≢◌, ◌<◌, ◌+◌, ℕ, List, ◌++◌, length, slice_index};
+ghost use Rattle.std.specs.Prelude.{◌≡◌, ◌≢◌, ◌+◌, ℕ, List, ◌++◌, slice_index};
 ghost use Rattle.elf_image.specs.Program.{Program};
 ghost use Rattle.rv_alu.specs.declared.view.HartStatus.TheVariants.{Running};
-ghost use Rattle.rv_alu.specs.declared.view.HartView.{HartView};
 ghost use Rattle.rv_flat.specs.FlatState.{FlatState, span_of, start, status_of, view_of};
-ghost use Rattle.rv_flat.specs.Laws.{AgreeOn, HasRegs, IsInOneLine, IsNoCall, KeepsShape, SameBut, SameOwn, Writes, footprint_of, next_insn, seen_after, with_bytes, with_harts, with_output};
+ghost use Rattle.rv_flat.specs.Laws.{HasRegs, IsInOneLine, KeepsShape, Writes, footprint_of, seen_after};
 ghost use Rattle.rv_flat.specs.Run.{alone, run};
 ghost use Rattle.rv_flat.specs.Step.{flat};
 
@@ -23,18 +22,9 @@ pub fn step_keeps_shape()
 {}
 
 /// What a step touches lies in memory, and in one line of it.
-#[tactic(auto, using(crate::proofs::OneLine::one_line))]
+#[tactic(auto, using(crate::proofs::StepLaws::one_line))]
 pub fn step_touches_one_line()
     ensures { (state : FlatState) (hart : ℕ) → IsInOneLine (span_of state) (footprint_of state hart) }
-{}
-
-/// A step reads memory only where its footprint touches: over other bytes that are the same there,
-/// it leaves the same harts and output, and each byte that was the same is the same.
-#[tactic(auto, using(crate::proofs::Reading::reads_footprint))]
-pub fn step_reads_only_its_footprint()
-    ensures { (state : FlatState) (bytes : List ℕ) (hart : ℕ) → length bytes ≡ length state.bytes →
-        AgreeOn (footprint_of state hart) state.base bytes state.bytes →
-        SameBut (flat (with_bytes state bytes) hart) (flat state hart) bytes state.bytes }
 {}
 
 /// A step changes memory only where its footprint writes.
@@ -50,21 +40,6 @@ pub fn step_writes_only_its_footprint()
 pub fn step_keeps_other_views()
     ensures { (state : FlatState) (hart other : ℕ) → other ≢ hart →
         view_of (flat state hart) other ≡ seen_after (footprint_of state hart) (view_of state other) }
-{}
-
-/// A step depends on no view but its own hart's: among other views, where its own hart's is the
-/// same, it comes to the same memory and output and to the same view of its own hart.
-pub fn step_depends_on_no_other_view()
-    ensures { (state : FlatState) (harts : List HartView) (hart : ℕ) → hart < length harts → hart < length state.harts →
-        view_of (with_harts state harts) hart ≡ view_of state hart →
-        SameOwn (flat (with_harts state harts) hart) (flat state hart) hart }
-{}
-
-/// A step that makes no call does not depend on the output.
-#[tactic(auto, using(crate::proofs::Outputs::any_output))]
-pub fn step_ignores_output_outside_calls()
-    ensures { (state : FlatState) (output : List ℕ) (hart : ℕ) → IsNoCall (next_insn state hart) →
-        flat (with_output state output) hart ≡ with_output (flat state hart) output }
 {}
 
 /// Each hart of a program has 32 registers of which the first is 0, before its first step.

@@ -1,25 +1,26 @@
 ghost use Rattle.std.specs.Prelude.{◌≡◌, map};
-ghost use Rattle.rv_flat.specs.Step.{kept, unreserved};
+ghost use Rattle.rv_flat.specs.Step.{kept_of, unreserved};
 
+use el_base::{LineAddr, line_of};
 use rv_alu::HartView;
 
 /// The reservation that is left after a store to a line.
-fn left(reserved: Option<u32>, line: u32) -> Option<u32>
-    ensures { result ≡ kept line reserved }
+fn kept(reserved: Option<u32>, line: LineAddr) -> Option<u32>
+    ensures { result ≡ kept_of line.number reserved }
 {
-    reserved.filter(|word| word / 64 != line)
+    reserved.filter(|word| line_of(*word) != line)
 }
 
 /// A hart after a store to a line.
-fn unreserve_one(hart: &mut HartView, line: u32)
-    ensures { hart.new ≡ unreserved line hart.old }
+fn unreserve_one(hart: &mut HartView, line: LineAddr)
+    ensures { hart.new ≡ unreserved line.number hart.old }
 {
-    hart.reserved = left(hart.reserved, line);
+    hart.reserved = kept(hart.reserved, line);
 }
 
 /// Takes the reservations of words on a line from all harts.
-pub fn unreserve(harts: &mut [HartView], line: u32)
-    ensures { harts.new ≡ map (unreserved line) harts.old }
+pub fn unreserve(harts: &mut [HartView], line: LineAddr)
+    ensures { harts.new ≡ map (unreserved line.number) harts.old }
 {
     for hart in harts.iter_mut() {
         unreserve_one(hart, line);

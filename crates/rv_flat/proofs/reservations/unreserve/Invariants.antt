@@ -5,4 +5,4 @@ use Rattle.rv_flat.proofs.reservations.unreserve.Given as goal
 
 abbrev pub invariant-loop-hart : goal.invariant-loop-hart
 invariant-loop-hart l =
-    l.harts ≡ map (unreserved l.line) (take l.hart-index l.initial.harts) ++ drop l.hart-index l.initial.harts
+    l.harts ≡ map (unreserved l.line.number) (take l.hart-index l.initial.harts) ++ drop l.hart-index l.initial.harts

@@ -11,12 +11,12 @@ use Rattle.cache_sets.specs.Cache.{cleared, committed, committed_way, evicted_by
 use Rattle.cache_sets.proofs.ResidencyLemmas.{way_in-changed_in_other, way_in-changed_in_same, way_in-dropped_other, way_in-dropped_same, way_in-filled_in_evicted, way_in-filled_in_other, way_in-filled_in_same, way_in-map, way_in-touched_in}
 
 -- the set of a line whose set another one took the place of, and the other sets
-set_of-with_set_same : (cache : List (List Way)) (line l : ℕ) (set : List Way) → 0 < length cache → set_number cache l ≡ set_number cache line →
+pub set_of-with_set_same : (cache : List (List Way)) (line l : ℕ) (set : List Way) → 0 < length cache → set_number cache l ≡ set_number cache line →
     set_of (with_set cache line set) l ≡ set
 set_of-with_set_same cache line l set some same =
     rw (length-set cache (set_number cache line) set, same) (get_or-set_same cache (set_number cache line) set [] (omega arith))
 
-set_of-with_set_other : (cache : List (List Way)) (line l : ℕ) (set : List Way) → set_number cache l ≢ set_number cache line →
+pub set_of-with_set_other : (cache : List (List Way)) (line l : ℕ) (set : List Way) → set_number cache l ≢ set_number cache line →
     set_of (with_set cache line set) l ≡ set_of cache l
 set_of-with_set_other cache line l set other =
     rw (length-set cache (set_number cache line) set) (get_or-set_other cache (set_number cache line) (set_number cache l) set [] other)

@@ -1,6 +1,8 @@
 -- Lists whose elements have a key: what is found under a key, and what stays after elements are taken out or changed.
-use Rattle.std.proofs.Common.{◌≡◌, ◌≢◌, ℕ, zero, suc, ◌≤◌, ◌<◌, not, cond, eqb, List, [], ◌∷◌, length, map, get_or, Option, None, Some, option_map, refl, arith}
-use Rattle.std.specs.List.{find, filter, remove, count_by}
+use Rattle.std.proofs.Common.{◌≡◌, ◌≢◌, ℕ, zero, suc, ◌+◌, ◌≤◌, ◌<◌, Bool, true, false, not, cond, eqb, List, [], ◌∷◌, length, map, get_or, Option, None, Some, option_map, refl, ap, sym, ◌∙◌, inl, inr, arith}
+use Rattle.std.specs.Option.{option_map_or}
+use Rattle.std.proofs.lemmas.Bool.{cases_eq}
+use Rattle.std.specs.List.{find, filter, remove, count_by, sum_by}
 use Rattle.std.proofs.lemmas.Bool.Decides.{nat_tests}
 use Rattle.std.proofs.lemmas.List.Sums.{sum_by-cons, get_or-le-sum_by}
 use Rattle.std.proofs.Math.ListN.{set}
@@ -111,6 +113,34 @@ module _ {X : Type 0} (key : X → ℕ) where
       let rest : set xs i (change (get_or xs i d)) ≡ changed change xs k =
       set-changed change xs k i d (grind (arith, nat_tests, sum_by-cons (λ y. cond (eqb (key y) k) 1 0) x xs)) inside is in
       grind (arith, nat_tests, sum_by-cons (λ y. cond (eqb (key y) k) 1 0) x xs)
+
+  -- a sum over the list without an element, and with it changed, where its key is there once
+  pub sum_by-without : (f : X → ℕ) (xs : List X) (k : ℕ) → count_of xs k ≤ 1 →
+      sum_by f (without xs k) + option_map_or f (found xs k) 0 ≡ sum_by f xs
+  sum_by-without f [] k once = refl
+  sum_by-without f (x ∷ xs) k once =
+      let counts = sum_by-cons (λ y. cond (eqb (key y) k) 1 0) x xs in
+      let sums = sum_by-cons f x xs in
+      elim (cases_eq (key x) k)
+      [ inl same ↦
+      let absent : found xs k ≡ None = found-none_counted xs k (grind (arith, nat_tests, counts)) in
+      grind (arith, nat_tests, sums, without-absent xs k absent)
+      | inr other ↦
+      grind (arith, nat_tests, counts, sums, sum_by-cons f x (without xs k), sum_by-without f xs k) ]
+
+  pub sum_by-changed : (f : X → ℕ) (change : X → X) (xs : List X) (k : ℕ) → count_of xs k ≤ 1 →
+      sum_by f (changed change xs k) + option_map_or f (found xs k) 0 ≡ sum_by f xs + option_map_or (λ x. f (change x)) (found xs k) 0
+  sum_by-changed f change [] k once = refl
+  sum_by-changed f change (x ∷ xs) k once =
+      let counts = sum_by-cons (λ y. cond (eqb (key y) k) 1 0) x xs in
+      let sums = sum_by-cons f x xs in
+      let changed_sums = sum_by-cons f (changed_at change k x) (changed change xs k) in
+      elim (cases_eq (key x) k)
+      [ inl same ↦
+      let absent : found xs k ≡ None = found-none_counted xs k (grind (arith, nat_tests, counts)) in
+      grind (arith, nat_tests, sums, changed_sums, changed-absent change xs k absent)
+      | inr other ↦
+      grind (arith, nat_tests, counts, sums, changed_sums, sum_by-changed f change xs k) ]
 
 -- the same after each element was shown as another that has its key
 module _ {X Y : Type 0} (key : X → ℕ) (shown_key : Y → ℕ) (show : X → Y) (same : (x : X) → shown_key (show x) ≡ key x) where

@@ -1,10 +1,12 @@
 -- One set: the way of a line after each word of a set, and which way leaves it.
-use Rattle.std.proofs.Common.{◌≡◌, ◌≢◌, ℕ, ◌≤◌, ◌<◌, Bool, true, false, not, cond, eqb, ltb, List, [], ◌∷◌, length, map, Option, None, Some, option_map, is_some, refl, ap, sym, subst, inl, inr, ◌⊎◌, ◌∙◌, arith}
-use Rattle.std.specs.Option.{option_or}
+use Rattle.std.proofs.Common.{◌≡◌, ◌≢◌, ℕ, zero, suc, ◌+◌, ◌≤◌, ◌<◌, Bool, true, false, not, ◌||◌, cond, eqb, ltb, List, [], ◌∷◌, length, map, Option, None, Some, option_map, is_some, refl, ap, sym, subst, inl, inr, ◌⊎◌, ◌∙◌, arith, add-zero}
+use Rattle.std.specs.Option.{option_or, option_map_or}
 use Rattle.std.proofs.lemmas.Bool.Decides.{nat_tests}
 use Rattle.std.proofs.lemmas.List.Sums.{sum_by-cons}
+use Rattle.std.proofs.lemmas.List.Folds.{fold-map}
+use Rattle.std.specs.List.{sum_by, count_by}
 use Rattle.cache_sets.specs.Residency.{Way, changed_in, dropped, evicted_in, filled_in, has_unmarked, is_marked, left_in, room_in, to_front, touched_in, victim_in, way_in}
-use Rattle.cache_sets.proofs.Keyed.{count_of, changed, found, found-changed_other, found-changed_same, found-key, found-without_other, found-without_same, without}
+use Rattle.cache_sets.proofs.Keyed.{count_of, count_of-found, changed, found, found-changed_other, found-changed_same, found-key, found-without_other, found-without_same, sum_by-changed, sum_by-without, without}
 
 -- the line of a way
 abbrev pub line_of : Way → ℕ
@@ -73,7 +75,7 @@ victim_in-unmarked (first ∷ set) way is =
     [ inl later ↦ victim_in-unmarked set way later
     | inr own ↦ subst (λ (w : Way). is_marked w ≡ false) own.1 own.0 ]
 
-once_less : (first : Way) (set : List Way) → ((line : ℕ) → count_of line_of (first ∷ set) line ≤ 1) → (line : ℕ) → count_of line_of set line ≤ 1
+pub once_less : (first : Way) (set : List Way) → ((line : ℕ) → count_of line_of (first ∷ set) line ≤ 1) → (line : ℕ) → count_of line_of set line ≤ 1
 once_less first set once line = grind (arith, once line, sum_by-cons (λ way. cond (eqb (line_of way) line) 1 0) first set)
 
 -- a way that is found counts
@@ -81,6 +83,10 @@ pub counted : (set : List Way) (line : ℕ) (way : Way) → way_in set line ≡ 
 counted [] line way is = absurd cc
 counted (first ∷ set) line way is =
     grind (arith, nat_tests, sum_by-cons (λ w. cond (eqb (line_of w) line) 1 0) first set, counted set line way)
+
+-- a line that is not there counts for nothing
+pub uncounted : (set : List Way) (line : ℕ) → way_in set line ≡ None → count_of line_of set line ≡ 0
+uncounted set line none = count_of-found line_of set line (sym (way_in-found set line) ∙ none)
 
 -- it is there, where the set has no line twice
 pub victim_in-resident : (set : List Way) (way : Way) → ((line : ℕ) → count_of line_of set line ≤ 1) → victim_in set ≡ Some way →
@@ -136,3 +142,57 @@ pub way_in-filled_in_evicted : (ways : ℕ) (set : List Way) (way gone : Way) �
 way_in-filled_in_evicted ways set way gone other is =
     let left : left_in set (evicted_in ways set) ≡ dropped set gone.line = ap (left_in set) is in
     rw left (grind (arith, nat_tests, way_in-dropped_same set gone.line))
+
+-- a sum over the set of which a line was taken out, or changed
+pub sum_by-dropped : (f : Way → ℕ) (set : List Way) (line : ℕ) → count_of line_of set line ≤ 1 →
+    sum_by f (dropped set line) + option_map_or f (way_in set line) 0 ≡ sum_by f set
+sum_by-dropped f set line once = rw (dropped-without, way_in-found) (sum_by-without line_of f set line once)
+
+pub sum_by-changed_in : (f : Way → ℕ) (change : Way → Way) (set : List Way) (line : ℕ) → count_of line_of set line ≤ 1 →
+    sum_by f (changed_in change set line) + option_map_or f (way_in set line) 0
+    ≡ sum_by f set + option_map_or (λ way. f (change way)) (way_in set line) 0
+sum_by-changed_in f change set line once = rw (changed_in-changed, way_in-found) (sum_by-changed line_of f change set line once)
+
+sum_by-to_front : (f : Way → ℕ) (set : List Way) (line : ℕ) (way : Option Way) → count_of line_of set line ≤ 1 → way_in set line ≡ way →
+    sum_by f (to_front set line way) ≡ sum_by f set
+sum_by-to_front f set line None once is = refl
+sum_by-to_front f set line (Some way) once is =
+    let without = sum_by-dropped f set line once in
+    let there : option_map_or f (way_in set line) 0 ≡ f way = ap (λ w. option_map_or f w 0) is in
+    grind (arith, sum_by-cons f way (dropped set line))
+
+pub sum_by-touched_in : (f : Way → ℕ) (set : List Way) (line : ℕ) → count_of line_of set line ≤ 1 →
+    sum_by f (touched_in set line) ≡ sum_by f set
+sum_by-touched_in f set line once = sum_by-to_front f set line (way_in set line) once refl
+
+-- a sum after a line came, and another left
+sum_by-left_in : (f : Way → ℕ) (set : List Way) (evicted : Option Way) → ((l : ℕ) → count_of line_of set l ≤ 1) →
+    ((way : Way) → evicted ≡ Some way → way_in set way.line ≡ Some way) →
+    sum_by f (left_in set evicted) + option_map_or f evicted 0 ≡ sum_by f set
+sum_by-left_in f set None once there = add-zero (sum_by f set)
+sum_by-left_in f set (Some way) once there =
+    let without = sum_by-dropped f set way.line (once way.line) in
+    let found : option_map_or f (way_in set way.line) 0 ≡ f way = ap (λ w. option_map_or f w 0) (there way refl) in
+    omega (arith, without, found)
+
+pub sum_by-filled_in : (f : Way → ℕ) (ways : ℕ) (set : List Way) (way : Way) → ((l : ℕ) → count_of line_of set l ≤ 1) →
+    sum_by f (filled_in ways set way) + option_map_or f (evicted_in ways set) 0 ≡ sum_by f set + f way
+sum_by-filled_in f ways set way once =
+    let left = sum_by-left_in f set (evicted_in ways set) once
+    (λ gone is. victim_in-resident set gone once (evicted_in-victim ways set gone is)) in
+    omega (arith, left, sum_by-cons f way (left_in set (evicted_in ways set)))
+
+-- the length is the sum of ones
+pub length-sum_by : (set : List Way) → length set ≡ sum_by (λ way. 1) set
+length-sum_by [] = refl
+length-sum_by (way ∷ set) = grind (arith, sum_by-cons (λ w. 1) way set, length-sum_by set)
+
+-- a sum after a change of every way
+pub sum_by-map : (f : Way → ℕ) (change : Way → Way) (set : List Way) → sum_by f (map change set) ≡ sum_by (λ way. f (change way)) set
+sum_by-map f change set = fold-map (λ total way. total + f way) change 0 set
+
+-- a function of what a change keeps
+pub same_or : (f : Way → ℕ) (change : Way → Way) (way : Option Way) → ((w : Way) → f (change w) ≡ f w) →
+    option_map_or (λ w. f (change w)) way 0 ≡ option_map_or f way 0
+same_or f change None stays = refl
+same_or f change (Some way) stays = stays way

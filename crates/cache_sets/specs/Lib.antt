@@ -1,2 +1,3 @@
 pub mod Residency
 pub mod Cache
+pub mod WellFormed

@@ -6,7 +6,8 @@ use Rattle.std.proofs.lemmas.List.Sums.{sum_by-cons}
 use Rattle.std.proofs.lemmas.List.Folds.{fold-map}
 use Rattle.std.specs.List.{sum_by, count_by}
 use Rattle.cache_sets.specs.Residency.{Way, changed_in, dropped, evicted_in, filled_in, has_unmarked, is_marked, left_in, room_in, to_front, touched_in, victim_in, way_in}
-use Rattle.cache_sets.proofs.Keyed.{count_of, count_of-found, changed, found, found-changed_other, found-changed_same, found-key, found-without_other, found-without_same, sum_by-changed, sum_by-without, without}
+use Rattle.cache_sets.specs.Keyed.{count_of, changed, found, without}
+use Rattle.cache_sets.proofs.KeyedLemmas.{count_of-found, found-changed_other, found-changed_same, found-key, found-without_other, found-without_same, sum_by-changed, sum_by-without}
 
 -- the line of a way
 abbrev pub line_of : Way → ℕ

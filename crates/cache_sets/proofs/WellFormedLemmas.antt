@@ -15,7 +15,7 @@ use Rattle.cache_sets.specs.WellFormed.{IsWellFormed}
 use Rattle.cache_sets.proofs.ResidencyLemmas.{counted, evicted_in-some, evicted_in-victim, uncounted, length-sum_by, line_of, same_or, sum_by-changed_in, sum_by-dropped, sum_by-map, sum_by-filled_in, sum_by-touched_in, way_in-changed_in_other, way_in-changed_in_same, way_in-dropped_other, way_in-dropped_same, way_in-filled_in_other, way_in-filled_in_same, way_in-line, way_in-map, way_in-touched_in}
 use Rattle.el_base.specs.declared.outcomes.Need.TheVariants.{Read, Write}
 use Rattle.cache_sets.proofs.CacheLemmas.{line-with_bit, length-with_set, set_of-with_set_other, set_of-with_set_same}
-use Rattle.cache_sets.proofs.Keyed.{count_of}
+use Rattle.cache_sets.specs.Keyed.{count_of}
 
 -- a set that may take the place of a line's
 record Fits (ways : ℕ) (cache : List (List Way)) (line : ℕ) (set : List Way) : Type 0 where

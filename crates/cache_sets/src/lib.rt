@@ -5,4 +5,9 @@
 //! Where a doc comment names no other source, its rule is this project's profile.
 #![tactic(auto)]
 
+mod bits;
+mod set;
+mod way;
+
+pub use bits::Bits;
 pub use moesi::Letter;

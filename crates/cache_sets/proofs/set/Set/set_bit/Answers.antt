@@ -1,0 +1,17 @@
+use Rattle.std.proofs.Common.{ap, sym, ◌∙◌}
+use Rattle.std.specs.Prelude.{slice_set}
+use Rattle.cache_sets.specs.Kept.{marked_way, number_of}
+use Rattle.cache_sets.proofs.KeyedLemmas.{changed-absent, changed_read, position-found}
+use Rattle.cache_sets.proofs.set.Set.set_bit.Goals as goal
+
+pub returns-in-Some-get_mut-clause-ways : goal.returns-in-Some-get_mut-clause-ways
+returns-in-Some-get_mut-clause-ways c =
+    let way = c.in-Some-get_mut.way.now in
+    ap (λ bits. slice_set c.args.self.now.ways.items c.in-Some.place (record way { bits = bits })) c.with-way.ensures
+    ∙ changed_read number_of (marked_way c.args.need) c.args.self.now.ways.items c.args.line.number c.in-Some.place way c.requires
+    (sym c.place_of.ensures ∙ c.in-Some.is) c.in-Some-get_mut.ensures.value
+
+pub returns-in_default-clause-ways : goal.returns-in_default-clause-ways
+returns-in_default-clause-ways c =
+    sym (changed-absent number_of (marked_way c.args.need) c.args.self.now.ways.items c.args.line.number
+    (position-found number_of c.args.self.now.ways.items c.args.line.number (sym c.place_of.ensures ∙ c.in_default.is)))

@@ -1,0 +1,94 @@
+-- how a cache's fields show its sets, and what each set keeps
+use Rattle.std.specs.Prelude.{◌≡◌, ◌≤◌, ◌<◌, ◌+◌, ◌*◌, ◌%◌, ◌==◌, ℕ, Bool, List, [], ◌∷◌, map, length, count_by, nat_lt, if◌then◌else◌, slice_index_or, Option, None, Some, option_map}
+use Rattle.el_base.specs.declared.line.LineAddr.{LineAddr}
+use Rattle.el_base.specs.declared.outcomes.Need.{Need}
+use Rattle.el_base.specs.declared.outcomes.Need.TheVariants.{Read, Write}
+use Rattle.moesi.specs.declared.letter.Letter.{Letter}
+use Rattle.moesi.specs.declared.letter.Letter.TheVariants.{M}
+use Rattle.cache_sets.specs.declared.set.Set.{Set}
+use Rattle.cache_sets.specs.declared.way.Way as code
+use Rattle.cache_sets.specs.Bits.{bits_of_number, has_need, with_need}
+use Rattle.cache_sets.specs.Keyed.{found, without}
+use Rattle.cache_sets.specs.Residency.{Way, evicted_in, victim_in}
+
+-- the number of the line of a way
+abbrev pub number_of : code.Way → ℕ
+number_of way = way.line.number
+
+-- a way as the definition has it
+abbrev pub shown_way : code.Way → Way
+shown_way way =
+    record { line = way.line.number; letter = way.letter; read = has_need Read way.bits; write = has_need Write way.bits }
+
+-- a set as the definition has it, and all sets
+abbrev pub shown_set : Set → List Way
+shown_set set = map shown_way set.ways.items
+
+abbrev pub residency_of : List Set → List (List Way)
+residency_of sets = map shown_set sets
+
+-- a way with another letter, with the bit of a need, without bits, and after its hart's section committed
+abbrev pub lettered_way : Letter → code.Way → code.Way
+lettered_way letter way = record way { letter = letter }
+
+abbrev pub marked_way : Need → code.Way → code.Way
+marked_way need way = record way { bits = with_need need way.bits }
+
+abbrev pub cleared_way : code.Way → code.Way
+cleared_way way = record way { bits = bits_of_number 0 }
+
+abbrev pub committed_way : code.Way → code.Way
+committed_way way = record way { letter = if has_need Write way.bits then M else way.letter; bits = bits_of_number 0 }
+
+-- the way of a line that comes
+abbrev pub new_way : LineAddr → Letter → ℕ → code.Way
+new_way line letter slot = record { line = line; letter = letter; bits = bits_of_number 0; slot = slot }
+
+-- the place of the line that leaves a full set for another
+abbrev pub IsVictimPlace : List code.Way → Option ℕ → Type 0
+IsVictimPlace ways None = victim_in (map shown_way ways) ≡ None
+IsVictimPlace ways (Some place) =
+    (place < length ways) × ((d : code.Way) → victim_in (map shown_way ways) ≡ Some (shown_way (slice_index_or ways place d)))
+
+-- how often a row of a set has a line or is spare
+abbrev pub uses_of : Set → ℕ → ℕ
+uses_of set slot = count_by (λ way. way.slot == slot) set.ways.items + count_by (λ spare. spare == slot) set.spare.items
+
+-- what a set keeps, beside what its definition does
+pub record IsSet (ways : ℕ) (set : Set) : Type 0 where
+  -- each row of the set has a line or is spare
+  pub rows : length set.ways.items + length set.spare.items ≡ ways
+  -- and not both, nor two lines
+  pub apart : (slot : ℕ) → uses_of set slot ≤ (if nat_lt slot ways then 1 else 0)
+  -- no way has bits that have no name
+  pub named : count_by (λ way. nat_lt 3 way.bits.0) set.ways.items ≡ 0
+
+-- the ways that stay as one leaves, if one does
+abbrev pub left_by : List code.Way → Option code.Way → List code.Way
+left_by ways None = ways
+left_by ways (Some gone) = without number_of ways gone.line.number
+
+-- a set made room for a line: which row is free for it, and which way left
+pub record MakesRoom (ways : ℕ) (old new : Set) (slot : ℕ) (gone : Option code.Way) : Type 0 where
+  pub evicted : option_map shown_way gone ≡ evicted_in ways (shown_set old)
+  pub left : new.ways.items ≡ left_by old.ways.items gone
+  pub free : (row : ℕ) → uses_of new row + (if slot == row then 1 else 0) ≡ uses_of old row
+  pub rows : length new.ways.items + length new.spare.items + 1 ≡ length old.ways.items + length old.spare.items
+  pub room : length new.ways.items < ways
+  pub row : (way : code.Way) → gone ≡ Some way → way.slot ≡ slot
+  pub there : (way : code.Way) → gone ≡ Some way → found number_of old.ways.items way.line.number ≡ Some way
+
+-- a set after a line came to its front
+pub record IsFilled (ways : ℕ) (old new : Set) (way : code.Way) (gone : Option code.Way) : Type 0 where
+  pub evicted : option_map shown_way gone ≡ evicted_in ways (shown_set old)
+  pub left : new.ways.items ≡ way ∷ left_by old.ways.items gone
+  pub uses : (row : ℕ) → uses_of new row ≡ uses_of old row
+  pub rows : length new.ways.items + length new.spare.items ≡ length old.ways.items + length old.spare.items
+  pub row : (other : code.Way) → gone ≡ Some other → other.slot ≡ way.slot
+  pub there : (other : code.Way) → gone ≡ Some other → found number_of old.ways.items other.line.number ≡ Some other
+
+-- a set after a line left it
+pub record IsDropped (old new : Set) (line : ℕ) : Type 0 where
+  pub left : new.ways.items ≡ without number_of old.ways.items line
+  pub uses : (row : ℕ) → uses_of new row ≡ uses_of old row
+  pub rows : length new.ways.items + length new.spare.items ≡ length old.ways.items + length old.spare.items

@@ -8,9 +8,8 @@ use Rattle.el_model.specs.Order.{order_turn, placed}
 use Rattle.el_model.specs.Plain.{by_plain_rule, plain_turn}
 use Rattle.el_model.specs.Serve.{serve_turn, served}
 use Rattle.el_model.specs.State.{begin}
-use Rattle.rv_alu.specs.Execute.{effect_of, stored_of}
-use Rattle.el_model.specs.Execution.{executed, touched}
-use Rattle.rv_alu.specs.Footprint.{access_of}
+use Rattle.rv_alu.specs.Action.{action_of}
+use Rattle.rv_alu.specs.Execution.{executed}
 use Rattle.rv_flat.specs.FlatState.{first_view, start}
 use Rattle.rv_flat.specs.Step.{flat}
 use Rattle.rv_word.specs.Arithmetic.{op_at, op_imm_at}
@@ -22,5 +21,5 @@ use Rattle.rv_word.specs.Load.{load_width_at}
 use Rattle.rv_word.specs.Store.{store_width_at}
 
 unfoldable pub computing : Type 0
-unfolding access_of amo_at begin by_plain_rule by_section_rule code_word decoded deliver_turn delivered effect_of executed face_losers faced first_view flat is_over load_width_at next op_at op_imm_at order_turn placed plain_turn reg_field section_turn serve_turn served start step_turn store_width_at stored_of test_at touched
+unfolding action_of amo_at begin by_plain_rule by_section_rule code_word decoded deliver_turn delivered executed face_losers faced first_view flat is_over load_width_at next op_at op_imm_at order_turn placed plain_turn reg_field section_turn serve_turn served start step_turn store_width_at test_at
 computing = Unit {0}

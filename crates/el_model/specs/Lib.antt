@@ -1,4 +1,3 @@
-pub mod Execution
 pub mod State
 pub mod Upcoming
 pub mod Conflicts

@@ -5,7 +5,7 @@ use Rattle.elf_image.specs.Program.{code_word}
 use Rattle.el_base.specs.Line.{line_number}
 use Rattle.el_base.specs.declared.outcomes.Need.{Need}
 use Rattle.el_base.specs.declared.outcomes.Need.TheVariants as needs
-use Rattle.el_model.specs.Execution.{Append, Execution, Goes, Stops, Store, executed, touched}
+use Rattle.rv_alu.specs.Execution.{Append, Execution, Goes, Stops, Store, store_in, touched}
 use Rattle.rv_alu.specs.Footprint.{is_call}
 use Rattle.rv_alu.specs.Loaded.{loaded}
 use Rattle.rv_alu.specs.declared.footprint.Access.{Access}
@@ -14,6 +14,7 @@ use Rattle.rv_alu.specs.declared.view.HartView.{HartView}
 use Rattle.rv_flat.specs.FlatState.{FlatState, room_of, span_of, view_of}
 use Rattle.rv_flat.specs.Laws.{next_insn}
 use Rattle.rv_flat.specs.Memory.{byte_in}
+use Rattle.rv_flat.specs.Step.{execution_of}
 use Rattle.rv_word.specs.declared.insn.AmoOp.TheVariants as amos
 use Rattle.rv_word.specs.declared.insn.AmoOp.{AmoOp}
 use Rattle.rv_word.specs.declared.insn.Insn.{Insn}
@@ -46,19 +47,13 @@ next_access flat h =
     touched (code_word flat.code (view_of flat h).pc) (view_of flat h) (span_of flat) (room_of flat)
 
 abbrev pub next_execution : FlatState → ℕ → Execution
-next_execution flat h =
-    executed (code_word flat.code (view_of flat h).pc) (view_of flat h) (span_of flat) (room_of flat)
-    (byte_in flat.base flat.bytes)
+next_execution flat h = execution_of flat (view_of flat h)
 
 -- the line that it touches, if it touches one
 abbrev pub next_touch : FlatState → ℕ → Option Touch
 next_touch flat h = touch_of (next_access flat h)
 
--- what an instruction stores
-abbrev pub store_in : Execution → Option Store
-store_in (Stops status) = None
-store_in (Goes view store append) = store
-
+-- what it stores
 abbrev pub next_store : FlatState → ℕ → Option Store
 next_store flat h = store_in (next_execution flat h)
 

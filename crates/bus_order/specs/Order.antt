@@ -1,10 +1,9 @@
 -- the order of requests: a list, first to last
-use Rattle.std.specs.Prelude.{ℕ, Bool, List, [], ◌∷◌, ◌++◌, ◌==◌, Option, None, Some, is_some, if◌then◌else◌}
+use Rattle.std.specs.Prelude.{ℕ, Bool, List, [], ◌∷◌, ◌++◌, ◌==◌, Option, None, Some, if◌then◌else◌}
 use Rattle.std.specs.Option.{option_map, option_or}
 use Rattle.bus_order.specs.declared.request.Request as requests
 use Rattle.el_base.specs.declared.outcomes.Need.{Need}
-use Rattle.el_base.specs.declared.stamped.Stamped.{Stamped}
-use Rattle.stamp.specs.Stamps.{Stamp}
+use Rattle.stamp.specs.Stamps.{Stamp, numbered_stamp}
 
 -- what a hart asks of a line; the stamp is that of the hart's open attempt, if one was open as it was raised
 pub record Request : Type 0 where
@@ -13,10 +12,7 @@ pub record Request : Type 0 where
   pub need : Need
   pub stamp : Option Stamp
 
--- a stamp, and a request, as numbers
-abbrev pub numbered_stamp : Stamped → Stamp
-numbered_stamp stamp = record { clock = stamp.clock; hart = stamp.hart.number }
-
+-- a request as numbers
 abbrev pub numbered : requests.Request → Request
 numbered request = record {
   hart = request.hart.number;

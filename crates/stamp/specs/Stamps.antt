@@ -1,10 +1,15 @@
 -- stamps of attempts, and their order
-use Rattle.std.specs.Prelude.{ℕ, ◌+◌, Bool, true, false, ◌&&◌, ◌||◌, ◌==◌, nat_lt, max, Option, None, Some}
+use Rattle.std.specs.Prelude.{ℕ, ◌+◌, Bool, false, ◌&&◌, ◌||◌, ◌==◌, nat_lt, max, Option, None, Some}
+use Rattle.el_base.specs.declared.stamped.Stamped.{Stamped}
 
 -- a hart's clock as the attempt opened, and the hart
 pub record Stamp : Type 0 where
   pub clock : ℕ
   pub hart : ℕ
+
+-- a stamp as numbers
+abbrev pub numbered_stamp : Stamped → Stamp
+numbered_stamp stamp = record { clock = stamp.clock; hart = stamp.hart.number }
 
 -- the less clock comes first, and of equal clocks the less hart
 abbrev pub less_of : Stamp → Stamp → Bool

@@ -1,8 +1,9 @@
 -- The headers of a file, with the field names of the ELF specification.
-use Rattle.std.specs.Prelude.{ℕ, ◌+◌, ◌*◌, ◌≤◌, List, map, length}
+use Rattle.std.specs.Prelude.{ℕ, ◌+◌, ◌*◌, ◌≤◌, List, map}
 use Rattle.std.specs.List.{range_with_len}
 use Rattle.elf_image.specs.declared.header.FileHeader.{FileHeader}
 use Rattle.elf_image.specs.declared.program_header.ProgramHeader.{ProgramHeader}
+use Rattle.elf_image.specs.Limits.{header_limit}
 use Rattle.elf_image.specs.Numbers.{half_at, word_at}
 
 -- the ELF header
@@ -39,7 +40,7 @@ headers_at file place count = map (λ index. program_header file (place + 32 * i
 unfoldable pub program_headers : List ℕ → List ProgramHeader
 program_headers file = headers_at file (file_header file).e_phoff (file_header file).e_phnum
 
--- the table of program headers is short and lies in the file
-pub record HasTable (file : List ℕ) : Type 0 where
-  pub few : (file_header file).e_phnum ≤ 64
-  pub inside : (file_header file).e_phoff + 32 * (file_header file).e_phnum ≤ length file
+-- the table of program headers is short and lies in a file of so many bytes
+pub record HasTable (header : FileHeader) (file_len : ℕ) : Type 0 where
+  pub few : header.e_phnum ≤ header_limit
+  pub inside : header.e_phoff + 32 * header.e_phnum ≤ file_len

@@ -27,8 +27,11 @@ mod table;
 
 pub use code::Code;
 pub use code_segment::CodeSegment;
+pub use fault::{FaultKind, fault_name};
 pub use image::Image;
-pub use limits::{IMAGE_FILE_LIMIT, STACK_BYTES};
+pub use limits::{
+    IMAGE_FILE_LIMIT, MEMORY_END_LIMIT, MEMORY_LIMIT, PROGRAM_HEADER_LIMIT, STACK_BYTES,
+};
 pub use loader::{ImageFault, load};
 
 #[cfg(test)]

@@ -1,21 +1,18 @@
 //! The program headers, of the ELF specification's chapter 'Program Header'. Those of type PT_LOAD tell
 //! of the segments.
 
-ghost use Rattle.std.specs.Prelude.{◌≡◌, ◌≤◌, ◌+◌, ◌<◌, ◌^◌, length};
+ghost use Rattle.std.specs.Prelude.{◌≡◌, ◌≤◌, ◌+◌, ◌<◌, ◌^◌, None, Some, IfErr, OnOk, length};
 ghost use Rattle.elf_image.specs.Header.{program_header};
 ghost use Rattle.elf_image.specs.Layout as layout;
 ghost use Rattle.elf_image.specs.Limits.{file_limit};
 ghost use Rattle.elf_image.specs.Faults.{load_fault};
-ghost use Rattle.std.specs.Result.{result_err};
 
 use crate::bytes::word_at;
-use crate::fault::{Fault, FaultKind};
+use crate::fault::FaultKind;
+use el_base::FileFault;
 
 /// The bytes of a program header.
 pub const PROGRAM_HEADER_LEN: usize = 32;
-
-/// The most program headers that an image may have.
-pub const MOST_PROGRAM_HEADERS: usize = 64;
 
 const PT_LOAD: u32 = 1;
 
@@ -71,18 +68,19 @@ impl ProgramHeader {
 
     /// Judges a header of type PT_LOAD: it has no more bytes in the file than in memory, and these lie
     /// in a file of `file_len` bytes.
-    pub fn check(&self, file_len: usize) -> Result<(), Fault>
+    pub fn check(&self, file_len: usize) -> Result<(), FileFault>
         requires { self.now.place ≤ file_limit }
-        ensures { result_err result ≡ load_fault file_len self.now }
+        ensures accepted { OnOk result (load_fault file_len self.now ≡ None) }
+        ensures refused { IfErr result (λ fault. load_fault file_len self.now ≡ Some fault) }
     {
         if self.p_type != PT_LOAD {
             return Ok(());
         }
         if self.p_filesz > self.p_memsz {
-            return Err(Fault::new(FaultKind::Segment, self.place + P_FILESZ));
+            return Err(FaultKind::Segment.at(self.place + P_FILESZ));
         }
         if self.p_filesz >= 1 && self.p_offset as usize + self.p_filesz as usize > file_len {
-            return Err(Fault::new(FaultKind::Segment, self.place + P_OFFSET));
+            return Err(FaultKind::Segment.at(self.place + P_OFFSET));
         }
         Ok(())
     }

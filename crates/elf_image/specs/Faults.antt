@@ -1,6 +1,6 @@
 -- The grammar of images: the first of sixteen faults, or none. Above each fault stands what a file that does not
 -- have it keeps to.
-use Rattle.std.specs.Prelude.{ℕ, ◌+◌, ◌*◌, ◌%◌, Bool, not, ◌&&◌, ◌==◌, nat_lt, nat_le, if◌then◌else◌, List, [], ◌∷◌, map, length, slice_index, Option, None, find, position, zip, option_map}
+use Rattle.std.specs.Prelude.{◌≡◌, ◌≤◌, ℕ, ◌+◌, ◌*◌, ◌%◌, Bool, not, ◌&&◌, ◌==◌, nat_lt, nat_le, if◌then◌else◌, List, [], ◌∷◌, map, length, slice_index, Option, None, find, position, zip, option_map}
 use Rattle.std.specs.List.{list_any}
 use Rattle.el_base.specs.Firsts.{first_of, some_if}
 use Rattle.el_base.specs.declared.file_fault.FileFault.{FileFault}
@@ -182,3 +182,7 @@ fault file harts =
     ∷ headers_fault (program_headers file) (length file)
     ∷ memory_fault segments (layout_of segments harts) header.e_entry
     ∷ [])
+
+-- a file without a fault for every number of harts
+abbrev pub IsFaultless : List ℕ → Type 0
+IsFaultless file = (harts : ℕ) → 1 ≤ harts → harts ≤ 8 → fault file harts ≡ None

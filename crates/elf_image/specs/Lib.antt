@@ -6,3 +6,4 @@ pub mod Layout
 pub mod FaultKinds
 pub mod Faults
 pub mod Loaded
+pub mod Built

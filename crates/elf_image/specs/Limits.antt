@@ -1,7 +1,7 @@
 -- The limits of an image, by the constants of the code. They are this project's profile.
 use Rattle.std.specs.Prelude.{ℕ}
 use Rattle.el_base.specs.declared.line.TheConstants.{LINE_BYTES}
-use Rattle.elf_image.specs.declared.limits.TheConstants.{IMAGE_FILE_LIMIT, PROGRAM_HEADER_LIMIT, STACK_BYTES, MEMORY_LIMIT, MEMORY_END_LIMIT}
+use Rattle.elf_image.specs.declared.limits.TheConstants.{IMAGE_FILE_LIMIT, PROGRAM_HEADER_LIMIT, STACK_BYTES, MEMORY_LIMIT, MEMORY_END_LIMIT, PAGE_BYTES, BUILT_LIMIT, BUILT_END_LIMIT}
 
 -- the most bytes of an image file
 abbrev pub file_limit : ℕ
@@ -26,3 +26,15 @@ memory_limit = MEMORY_LIMIT
 -- the greatest address at which memory may end
 abbrev pub end_limit : ℕ
 end_limit = MEMORY_END_LIMIT
+
+-- the bytes of a page, on which the segments of a written image begin
+abbrev pub page_size : ℕ
+page_size = PAGE_BYTES
+
+-- the most bytes of the segments of a written image together
+abbrev pub built_limit : ℕ
+built_limit = BUILT_LIMIT
+
+-- the last segment of a written image ends below this address
+abbrev pub built_end_limit : ℕ
+built_end_limit = BUILT_END_LIMIT

@@ -1,19 +1,39 @@
 //! The ELF header, of the ELF specification's chapter 'ELF Header', with the values that the RISC-V
 //! ELF psABI gives it (ELF Object Files, File Header).
 
-ghost use Rattle.std.specs.Prelude.{◌≡◌, ◌≤◌, ◌<◌, None, Some, IfSome, IfErr, OnOk, length};
-ghost use Rattle.elf_image.specs.Header.{file_header, HasTable};
+ghost use Rattle.std.specs.Prelude.{◌≡◌, ◌≤◌, ◌<◌, ◌++◌, None, Some, IfSome, IfErr, OnOk, length};
+ghost use Rattle.elf_image.specs.Header.{file_header, file_header_bytes, HasTable};
 ghost use Rattle.elf_image.specs.Faults as faults;
 ghost use Rattle.elf_image.specs.Limits.{file_limit};
 
-use crate::bytes::{half_at, word_at};
+use crate::bytes::{half_at, push_halves, push_words, word_at};
 use crate::fault::FaultKind;
 use crate::limits::PROGRAM_HEADER_LIMIT;
 use crate::program_header::PROGRAM_HEADER_LEN;
-use el_base::FileFault;
+use el_base::{FileFault, NoMemory};
 
 /// The bytes of an ELF header of class ELFCLASS32.
 pub const FILE_HEADER_LEN: usize = 52;
+
+/// The bytes e_ident of a file that is written.
+const IDENT: [u8; 16] = [
+    0x7f,
+    b'E',
+    b'L',
+    b'F',
+    ELFCLASS32,
+    ELFDATA2LSB,
+    EV_CURRENT,
+    0,
+    0,
+    0,
+    0,
+    0,
+    0,
+    0,
+    0,
+    0,
+];
 
 /// The first four bytes of an ELF file, EI_MAG0 to EI_MAG3.
 const ELF_MAGIC: [u8; 4] = [0x7f, b'E', b'L', b'F'];
@@ -48,11 +68,11 @@ const ELFCLASS32: u8 = 1;
 
 const ELFDATA2LSB: u8 = 1;
 
-const EV_CURRENT: u8 = 1;
+pub const EV_CURRENT: u8 = 1;
 
-const ET_EXEC: u16 = 2;
+pub const ET_EXEC: u16 = 2;
 
-const EM_RISCV: u16 = 243;
+pub const EM_RISCV: u16 = 243;
 
 /// The flags of compressed instructions (EF_RISCV_RVC), of a floating-point ABI
 /// (EF_RISCV_FLOAT_ABI) and of the embedded base (EF_RISCV_RVE). That of total store order, 0x10, is
@@ -91,6 +111,23 @@ impl FileHeader {
             e_phentsize: half_at(file, E_PHENTSIZE as usize),
             e_phnum: half_at(file, E_PHNUM as usize),
         }
+    }
+
+    /// Appends the header to a file, which has no sections.
+    #[tactic(auto, unfolding(crate::specs::Header::file_header_bytes))]
+    pub fn write(&self, file: &mut Vec<u8>) -> Result<(), NoMemory>
+        ensures { OnOk result (file.new.items ≡ file.old.items ++ file_header_bytes self.now) }
+    {
+        file.extend_from_slice(&IDENT)?;
+        push_halves(file, &[self.e_type, self.e_machine])?;
+        push_words(
+            file,
+            &[self.e_version, self.e_entry, self.e_phoff, 0, self.e_flags],
+        )?;
+        push_halves(
+            file,
+            &[self.e_ehsize, self.e_phentsize, self.e_phnum, 0, 0, 0],
+        )
     }
 
     /// Judges the header of a file of `file_len` bytes: an executable for RISC-V whose program headers

@@ -14,3 +14,12 @@ pub const MEMORY_LIMIT: u32 = 16_777_216;
 
 /// The greatest address at which memory may end.
 pub const MEMORY_END_LIMIT: u32 = 0xffff_0000;
+
+/// The bytes of a page, on which the segments of a written image begin.
+pub const PAGE_BYTES: u32 = 4_096;
+
+/// The most bytes of the segments of a written image together.
+pub const BUILT_LIMIT: u32 = 8_388_608;
+
+/// The last segment of a written image ends below this address.
+pub const BUILT_END_LIMIT: u32 = 0xf000_0000;

@@ -1,28 +1,31 @@
 -- What a file without a fault is known to have.
-use Rattle.std.proofs.Common.{◌≡◌, ◌≤◌, ◌<◌, ℕ, ◌+◌, ◌-◌, ◌*◌, ◌^◌, min, max, Bool, true, false, ◌&&◌, not, nat_lt, List, [], ◌∷◌, length, map, refl, arith, ltb-true, ltb-false}
+use Rattle.std.proofs.Common.{◌≡◌, ◌≤◌, ◌<◌, ℕ, ◌+◌, ◌*◌, ◌^◌, min, max, Bool, true, false, ◌&&◌, not, nat_lt, List, [], ◌∷◌, length, map, refl, arith, ltb-true, ltb-false}
 use Rattle.std.specs.Prelude.{Option, Some, None, All, fold, option_map}
 use Rattle.std.specs.Option.{option_or}
 use Rattle.std.proofs.lemmas.Bool.{not-false}
 use Rattle.std.proofs.lemmas.Bool.Decides.{nat_tests}
 use Rattle.std.proofs.lemmas.List.Elements.{All-nil, All-cons, All-filter, filter_passes}
 use Rattle.el_base.specs.Firsts.{first_of, some_if}
-use Rattle.elf_image.specs.declared.fault.Fault.{Fault}
+use Rattle.el_base.specs.declared.file_fault.FileFault.{FileFault}
 use Rattle.elf_image.specs.declared.fault.FaultKind.{FaultKind}
-use Rattle.elf_image.specs.declared.fault.FaultKind.TheVariants.{Short, Table, Overlap, TooWide, TooHigh, Entry, Empty}
+use Rattle.elf_image.specs.declared.fault.FaultKind.TheVariants.{Table, Overlap, TooWide, TooHigh, Entry, Empty}
+use Rattle.elf_image.specs.declared.header.FileHeader.{FileHeader}
+use Rattle.elf_image.specs.declared.layout.Layout.{Layout}
 use Rattle.elf_image.specs.declared.program_header.ProgramHeader.{ProgramHeader}
 use Rattle.elf_image.specs.Header.{file_header, program_headers}
-use Rattle.elf_image.specs.Limits.{stack_size}
-use Rattle.elf_image.specs.Layout.{is_segment, segment_end, segments_of, first_overlap, memory_base, memory_end}
-use Rattle.elf_image.specs.Faults.{fault, fault_of, ident_fault, header_fault, headers_fault, memory_fault, differs, short_fault, file_kind_fault, machine_fault, flags_fault, table_fault, dynamic_fault, load_fault, segment_fault, overlap_fault, too_wide_fault, too_high_fault, entry_fault, empty_fault, has_segment, is_entry}
+use Rattle.elf_image.specs.Limits.{end_limit, header_limit, memory_limit, stack_size}
+use Rattle.elf_image.specs.Layout.{is_segment, segment_end, segments_of, first_overlap, memory_base, memory_end, layout_of, size_of}
+use Rattle.elf_image.specs.FaultKinds.{fault_of}
+use Rattle.elf_image.specs.Faults.{fault, ident_fault, header_fault, headers_fault, memory_fault, differs, header_version_fault, file_kind_fault, machine_fault, flags_fault, table_fault, dynamic_fault, load_fault, segment_fault, overlap_fault, too_wide_fault, too_high_fault, entry_fault, empty_fault, has_segment, is_entry}
 use Rattle.elf_image.specs.Loaded.{Fits, IsLoadable}
 
 -- Parts of what is none
 
-pub none_first : (a b : Option Fault) → option_or a b ≡ None → a ≡ None
+pub none_first : (a b : Option FileFault) → option_or a b ≡ None → a ≡ None
 none_first None b e = refl
 none_first (Some x) b e = cc
 
-pub none_second : (a b : Option Fault) → option_or a b ≡ None → b ≡ None
+pub none_second : (a b : Option FileFault) → option_or a b ≡ None → b ≡ None
 none_second None b e = e
 none_second (Some x) b e = cc
 
@@ -30,11 +33,11 @@ pub not_fault : (condition : Bool) (kind : FaultKind) (place : ℕ) → some_if 
 not_fault true kind place e = cc
 not_fault false kind place e = refl
 
-none_before : {X : Type 0} (f : X → Fault) (o : Option X) → option_map f o ≡ None → o ≡ None
+none_before : {X : Type 0} (f : X → FileFault) (o : Option X) → option_map f o ≡ None → o ≡ None
 none_before f None e = refl
 none_before f (Some x) e = cc
 
-all_none : {X : Type 0} (f : X → Option Fault) (xs : List X) → first_of (map f xs) ≡ None → All (λ x. f x ≡ None) xs
+all_none : {X : Type 0} (f : X → Option FileFault) (xs : List X) → first_of (map f xs) ≡ None → All (λ x. f x ≡ None) xs
 all_none f [] e = All-nil (λ x. f x ≡ None)
 all_none f (x ∷ xs) e = All-cons (λ x. f x ≡ None) x xs (none_first (f x) _ e) (all_none f xs (none_second (f x) _ e))
 
@@ -45,39 +48,37 @@ any_header = record { place = 0; p_type = 0; p_offset = 0; p_vaddr = 0; p_filesz
 -- The four parts of the fault
 pub record Faultless (file : List ℕ) (harts : ℕ) : Type 0 where
   pub ident : ident_fault file ≡ None
-  pub header : header_fault file ≡ None
+  pub header : header_fault (file_header file) (length file) ≡ None
   pub headers : headers_fault (program_headers file) (length file) ≡ None
-  pub memory : memory_fault (segments_of file) (file_header file).e_entry harts ≡ None
+  pub memory : memory_fault (segments_of file) (layout_of (segments_of file) harts) (file_header file).e_entry ≡ None
 
 pub faultless : (file : List ℕ) (harts : ℕ) → fault file harts ≡ None → Faultless file harts
 unfolding fault
 faultless file harts e =
+    let header = file_header file in
+    let segments = segments_of file in
     let e1 = none_second (ident_fault file) _ e in
-    let e2 = none_second (header_fault file) _ e1 in
+    let e2 = none_second (header_fault header (length file)) _ e1 in
     let e3 = none_second (headers_fault (program_headers file) (length file)) _ e2 in
     record {
       ident = none_first (ident_fault file) _ e;
-      header = none_first (header_fault file) _ e1;
+      header = none_first (header_fault header (length file)) _ e1;
       headers = none_first (headers_fault (program_headers file) (length file)) _ e2;
-      memory = none_first (memory_fault (segments_of file) (file_header file).e_entry harts) _ e3;
+      memory = none_first (memory_fault segments (layout_of segments harts) header.e_entry) _ e3;
     }
 
 -- The header
 
-pub whole_header : (file : List ℕ) → ident_fault file ≡ None → 52 ≤ length file
-unfolding ident_fault
-whole_header file e =
-    ltb-false (length file) 52 (not_fault (nat_lt (length file) 52) Short (length file) (none_first (short_fault file) _ e))
-
-pub few_headers : (file : List ℕ) → header_fault file ≡ None → (file_header file).e_phnum ≤ 64
+pub few_headers : (header : FileHeader) (file_len : ℕ) → header_fault header file_len ≡ None → header.e_phnum ≤ header_limit
 unfolding header_fault
-few_headers file e =
-    let header = file_header file in
-    let machine = none_second (file_kind_fault file) _ e in
-    let flags = none_second (machine_fault file) _ machine in
-    let table = none_first (table_fault file) None (none_second (flags_fault file) _ flags) in
+few_headers header file_len e =
+    let kind = none_second (header_version_fault header) _ e in
+    let machine = none_second (file_kind_fault header) _ kind in
+    let flags = none_second (machine_fault header) _ machine in
+    let table = none_first (table_fault header file_len) None (none_second (flags_fault header) _ flags) in
     let rest = none_second (some_if (differs header.e_ehsize 52) (fault_of Table 40)) _ table in
-    ltb-false 64 header.e_phnum (not_fault (nat_lt 64 header.e_phnum) Table 44 (none_first (some_if (nat_lt 64 header.e_phnum) (fault_of Table 44)) _ rest))
+    let many = nat_lt header_limit header.e_phnum in
+    ltb-false header_limit header.e_phnum (not_fault many Table 44 (none_first (some_if many (fault_of Table 44)) _ rest))
 
 -- The segments in the file
 
@@ -104,7 +105,8 @@ lowest_below : (segments : List ProgramHeader) (start : ℕ) → fold (λ low se
 lowest_below [] start = omega arith
 lowest_below (x ∷ segments) start = let rest = lowest_below segments (min start x.p_vaddr) in omega arith
 
-above_lowest : (segments : List ProgramHeader) (start : ℕ) → All (λ segment. fold (λ low other. min low other.p_vaddr) start segments ≤ segment.p_vaddr) segments
+above_lowest : (segments : List ProgramHeader) (start : ℕ)
+    → All (λ segment. fold (λ low other. min low other.p_vaddr) start segments ≤ segment.p_vaddr) segments
 above_lowest [] start = All-nil (λ segment. start ≤ segment.p_vaddr)
 above_lowest (x ∷ segments) start =
     let low = lowest_below segments (min start x.p_vaddr) in
@@ -116,7 +118,8 @@ highest_above : (segments : List ProgramHeader) (start : ℕ) → start ≤ fold
 highest_above [] start = omega arith
 highest_above (x ∷ segments) start = let rest = highest_above segments (max start (segment_end x)) in omega arith
 
-below_highest : (segments : List ProgramHeader) (start : ℕ) → All (λ segment. segment_end segment ≤ fold (λ high other. max high (segment_end other)) start segments) segments
+below_highest : (segments : List ProgramHeader) (start : ℕ)
+    → All (λ segment. segment_end segment ≤ fold (λ high other. max high (segment_end other)) start segments) segments
 below_highest [] start = All-nil (λ segment. segment_end segment ≤ start)
 below_highest (x ∷ segments) start =
     let high = highest_above segments (max start (segment_end x)) in
@@ -137,39 +140,48 @@ spans segments harts k d within =
     record { above = omega arith; below = omega arith }
 
 -- The checks on memory
-pub record InMemory (segments : List ProgramHeader) (entry harts : ℕ) : Type 0 where
+pub record InMemory (segments : List ProgramHeader) (layout : Layout) (entry : ℕ) : Type 0 where
   pub some : 0 < length segments
   pub apart : first_overlap segments ≡ None
-  pub narrow : memory_end segments harts - memory_base segments ≤ 16777216
-  pub low : memory_end segments harts ≤ 0xffff0000
+  pub narrow : size_of layout ≤ memory_limit
+  pub low : layout.end ≤ end_limit
   pub starts : is_entry segments entry ≡ true
 
 unless_both : (a b : Bool) → a ≡ true → (a && b) ≡ false → b ≡ false
 unless_both a b here none = grind (arith, nat_tests)
 
-pub in_memory : (segments : List ProgramHeader) (entry harts : ℕ) → memory_fault segments entry harts ≡ None → InMemory segments entry harts
+pub in_memory : (segments : List ProgramHeader) (layout : Layout) (entry : ℕ)
+    → memory_fault segments layout entry ≡ None → InMemory segments layout entry
 unfolding memory_fault
-in_memory segments entry harts e =
+in_memory segments layout entry e =
+    let some = has_segment segments in
+    let wide = nat_lt memory_limit (size_of layout) in
+    let high = nat_lt end_limit layout.end in
+    let out = not (is_entry segments entry) in
     let e1 = none_second (overlap_fault segments) _ e in
-    let e2 = none_second (too_wide_fault segments harts) _ e1 in
-    let e3 = none_second (too_high_fault segments harts) _ e2 in
+    let e2 = none_second (too_wide_fault segments layout) _ e1 in
+    let e3 = none_second (too_high_fault segments layout) _ e2 in
     let e4 = none_second (entry_fault segments entry) _ e3 in
-    let size = memory_end segments harts - memory_base segments in
-    let here : has_segment segments ≡ true = not-false _ (not_fault (not (has_segment segments)) Empty 44 (none_first (empty_fault segments) None e4)) in
-    let wide = not_fault (has_segment segments && nat_lt 16777216 size) TooWide 28 (none_first (too_wide_fault segments harts) _ e1) in
-    let high = not_fault (has_segment segments && nat_lt 0xffff0000 (memory_end segments harts)) TooHigh 28 (none_first (too_high_fault segments harts) _ e2) in
-    let out = not_fault (has_segment segments && not (is_entry segments entry)) Entry 24 (none_first (entry_fault segments entry) _ e3) in
+    let here : some ≡ true = not-false _ (not_fault (not some) Empty 44 (none_first (empty_fault segments) None e4)) in
+    let not_wide = not_fault (some && wide) TooWide 28 (none_first (too_wide_fault segments layout) _ e1) in
+    let not_high = not_fault (some && high) TooHigh 28 (none_first (too_high_fault segments layout) _ e2) in
+    let not_out = not_fault (some && out) Entry 24 (none_first (entry_fault segments entry) _ e3) in
     record {
       some = ltb-true 0 (length segments) here;
       apart = none_before (λ segment. fault_of Overlap segment.place) (first_overlap segments) (none_first (overlap_fault segments) _ e);
-      narrow = ltb-false 16777216 size (unless_both (has_segment segments) _ here wide);
-      low = ltb-false 0xffff0000 (memory_end segments harts) (unless_both (has_segment segments) _ here high);
-      starts = not-false _ (unless_both (has_segment segments) _ here out);
+      narrow = ltb-false memory_limit (size_of layout) (unless_both some wide here not_wide);
+      low = ltb-false end_limit layout.end (unless_both some high here not_high);
+      starts = not-false _ (unless_both some out here not_out);
     }
 
 -- Loading
 
-pub fits : (file : List ℕ) (harts : ℕ) → headers_fault (program_headers file) (length file) ≡ None → All (Fits (length file) (memory_base (segments_of file)) (memory_end (segments_of file) harts - memory_base (segments_of file))) (segments_of file)
+-- what is in the file lies in memory
+abbrev pub AllFit : List ℕ → Layout → Type 0
+AllFit file layout = All (Fits (length file) layout.base (size_of layout)) (segments_of file)
+
+pub fits : (file : List ℕ) (harts : ℕ) → headers_fault (program_headers file) (length file) ≡ None
+    → AllFit file (layout_of (segments_of file) harts)
 fits file harts e k d within =
     let part = all_in_file file e k d within in
     let place = spans (segments_of file) harts k d within in
@@ -177,15 +189,17 @@ fits file harts e k d within =
     let below = place.below in
     record { inside = record { above = above; below = omega arith }; filled = part.filled; in_file = part.in_file }
 
-pub loadable : (file : List ℕ) (harts : ℕ) → fault file harts ≡ None → IsLoadable file (segments_of file) harts
+pub loadable : (file : List ℕ) (harts : ℕ) → fault file harts ≡ None
+    → IsLoadable (length file) (segments_of file) (layout_of (segments_of file) harts)
 loadable file harts e =
+    let segments = segments_of file in
+    let layout = layout_of segments harts in
     let parts = faultless file harts e in
-    let memory = in_memory (segments_of file) (file_header file).e_entry harts parts.memory in
-    let place = spans (segments_of file) harts 0 any_header memory.some in
+    let memory = in_memory segments layout (file_header file).e_entry parts.memory in
+    let place = spans segments harts 0 any_header memory.some in
     let above = place.above in
     let below = place.below in
     record {
-      whole = whole_header file parts.ident;
       fits = fits file harts parts.headers;
       apart = memory.apart;
       ordered = omega arith;

@@ -28,7 +28,9 @@ count_in_range low high b (suc n) =
     sum_by-cons (λ a. cond (nat_le low a && nat_lt a high) 1 0) b (range_with_len (b + 1) n) ∙ grind (arith, nat_tests)
 
 -- a count of what passes one of two tests that nothing passes both of
-count_either : (p q r : ℕ → Bool) (xs : List ℕ) → ((a : ℕ) → cond (r a) 1 0 ≡ cond (p a) 1 0 + cond (q a) 1 0) → count_by r xs ≡ count_by p xs + count_by q xs
+count_either : (p q r : ℕ → Bool) (xs : List ℕ)
+    → ((a : ℕ) → cond (r a) 1 0 ≡ cond (p a) 1 0 + cond (q a) 1 0)
+    → count_by r xs ≡ count_by p xs + count_by q xs
 count_either p q r [] each = refl
 count_either p q r (x ∷ xs) each =
     let rest = count_either p q r xs each in
@@ -39,7 +41,10 @@ count_either p q r (x ∷ xs) each =
     omega arith
 
 -- a segment that shares no byte with others has no address of theirs
-no_address : (a : ℕ) (x : ProgramHeader) (others : List ProgramHeader) → list_any (shares_byte x) others ≡ false → has_address a x ≡ true → list_any (has_address a) others ≡ false
+no_address : (a : ℕ) (x : ProgramHeader) (others : List ProgramHeader)
+    → list_any (shares_byte x) others ≡ false
+    → has_address a x ≡ true
+    → list_any (has_address a) others ≡ false
 no_address a x [] apart here = refl
 no_address a x (y ∷ others) apart here =
     let parts = or_parts (shares_byte x y) (list_any (shares_byte x) others) apart in
@@ -47,7 +52,10 @@ no_address a x (y ∷ others) apart here =
     let head = parts.0 in
     elim (cases_Bool (has_address a y)) [ inl there ↦ grind (arith, nat_tests) | inr there ↦ grind (arith, nat_tests) ]
 
-one_more : (a : ℕ) (earlier : List ProgramHeader) (x : ProgramHeader) → list_any (shares_byte x) earlier ≡ false → cond (list_any (has_address a) (earlier ++ x ∷ [])) 1 0 ≡ cond (list_any (has_address a) earlier) 1 0 + cond (has_address a x) 1 0
+one_more : (a : ℕ) (earlier : List ProgramHeader) (x : ProgramHeader)
+    → list_any (shares_byte x) earlier ≡ false
+    → cond (list_any (has_address a) (earlier ++ x ∷ [])) 1 0
+    ≡ cond (list_any (has_address a) earlier) 1 0 + cond (has_address a x) 1 0
 one_more a earlier x apart =
     let split = list_any-append (has_address a) earlier (x ∷ []) in
     elim (cases_Bool (has_address a x)) [
@@ -56,13 +64,19 @@ one_more a earlier x apart =
     ]
 
 -- the addresses of the segments, counted
-counted : (base size : ℕ) (earlier later : List ProgramHeader) → overlap_after earlier later ≡ None → All (IsInside base size) later → count_by (λ a. list_any (has_address a) earlier) (range_with_len base size) + sum_by (λ segment. segment.p_memsz) later ≡ count_by (λ a. list_any (has_address a) (earlier ++ later)) (range_with_len base size)
+counted : (base size : ℕ) (earlier later : List ProgramHeader)
+    → overlap_after earlier later ≡ None
+    → All (IsInside base size) later
+    → count_by (λ a. list_any (has_address a) earlier) (range_with_len base size) + sum_by (λ segment. segment.p_memsz) later
+    ≡ count_by (λ a. list_any (has_address a) (earlier ++ later)) (range_with_len base size)
 counted base size earlier [] apart inside = simp append-nil (omega arith)
 counted base size earlier (x ∷ later) apart inside =
     let parts = none_parts (list_any (shares_byte x) earlier) x _ apart in
     let rest = counted base size (earlier ++ x ∷ []) later parts.1 (All-tail (IsInside base size) x later inside) in
     let here = All-head (IsInside base size) x later inside in
-    let more = count_either (λ a. list_any (has_address a) earlier) (λ a. has_address a x) (λ a. list_any (has_address a) (earlier ++ x ∷ [])) (range_with_len base size) (λ a. one_more a earlier x parts.0) in
+    let before : ℕ → Bool = λ a. list_any (has_address a) earlier in
+    let after : ℕ → Bool = λ a. list_any (has_address a) (earlier ++ x ∷ []) in
+    let more = count_either before (λ a. has_address a x) after (range_with_len base size) (λ a. one_more a earlier x parts.0) in
     let own = count_in_range x.p_vaddr (segment_end x) base size in
     let total = sum_by-cons (λ segment. segment.p_memsz) x later in
     let joined = simp append_assoc at rest in
@@ -70,7 +84,10 @@ counted base size earlier (x ∷ later) apart inside =
     let below = here.below in
     omega arith
 
-pub memory_length : (base size : ℕ) (segments : List ProgramHeader) → first_overlap segments ≡ None → All (IsInside base size) segments → sum_by (λ segment. segment.p_memsz) segments ≤ size
+pub memory_length : (base size : ℕ) (segments : List ProgramHeader)
+    → first_overlap segments ≡ None
+    → All (IsInside base size) segments
+    → sum_by (λ segment. segment.p_memsz) segments ≤ size
 memory_length base size segments apart inside =
     let all = counted base size [] segments apart inside in
     let few = count_by-le-length (λ a. list_any (has_address a) segments) (range_with_len base size) in
@@ -86,7 +103,8 @@ sum_by-filter f p (x ∷ xs) =
     elim (cases_Bool (p x)) [ inl e ↦ rw e (omega arith) | inr e ↦ rw e (omega arith) ]
 
 -- the code is no longer than the segments that it is of
-pub code_within : (base : ℕ) (bytes : List ℕ) (segments : List ProgramHeader) → code_length (map (code_segment base bytes) (filter is_executable segments)) ≤ sum_by (λ segment. segment.p_memsz) segments
+pub code_within : (base : ℕ) (bytes : List ℕ) (segments : List ProgramHeader)
+    → code_length (map (code_segment base bytes) (filter is_executable segments)) ≤ sum_by (λ segment. segment.p_memsz) segments
 code_within base bytes segments =
     let code = filter is_executable segments in
     let Len : ProgramHeader → ℕ = λ segment. length (code_segment base bytes segment).bytes in

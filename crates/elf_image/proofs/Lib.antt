@@ -1,4 +1,7 @@
 pub mod Headers
+pub mod WrittenBytes
+pub mod WrittenFaults
+pub mod WrittenProgram
 pub mod Filling
 pub mod Accepted
 pub mod CodeLength

@@ -12,9 +12,9 @@ use Rattle.std.proofs.lemmas.List.Sums.{length-filter, count_by-le-length}
 use Rattle.elf_image.specs.declared.program_header.ProgramHeader.{ProgramHeader}
 use Rattle.elf_image.specs.Header.{file_header, program_header, headers_at, program_headers}
 use Rattle.elf_image.specs.Layout as layout
-use Rattle.elf_image.specs.Layout.{is_segment, is_executable, has_instruction, segments_of, lowest, highest, memory_base, memory_end}
+use Rattle.elf_image.specs.Layout.{is_segment, is_executable, has_instruction, segments_of, lowest, highest, memory_base, memory_end, layout_of, size_of}
 use Rattle.elf_image.specs.Faults.{fault}
-use Rattle.elf_image.specs.Limits.{stack_size}
+use Rattle.elf_image.specs.Limits.{header_limit, stack_size}
 use Rattle.elf_image.specs.Loaded.{IsInside, code_segment, loaded_byte, loaded_bytes, program_of}
 use Rattle.elf_image.specs.Program.{IsProgram, code_word, has_word, segment_word}
 use Rattle.elf_image.proofs.Accepted.{any_header, faultless, few_headers, in_memory, fits, spans, loadable}
@@ -22,20 +22,24 @@ use Rattle.elf_image.proofs.CodeLength.{memory_length, code_within}
 
 -- The code
 
-code_segment_length : (base : ℕ) (bytes : List ℕ) (segment : ProgramHeader) → IsInside base (length bytes) segment → length (code_segment base bytes segment).bytes ≡ segment.p_memsz
+code_segment_length : (base : ℕ) (bytes : List ℕ) (segment : ProgramHeader) → IsInside base (length bytes) segment
+    → length (code_segment base bytes segment).bytes ≡ segment.p_memsz
 code_segment_length base bytes segment inside =
     let above = inside.above in
     let below = inside.below in
     length-between bytes (segment.p_vaddr - base) (segment.p_vaddr - base + segment.p_memsz) (omega arith) ∙ omega arith
 
-same_word : (base : ℕ) (bytes : List ℕ) (pc : ℕ) (segment : ProgramHeader) → IsInside base (length bytes) segment → has_word pc (code_segment base bytes segment) ≡ layout.has_word pc segment
+same_word : (base : ℕ) (bytes : List ℕ) (pc : ℕ) (segment : ProgramHeader) → IsInside base (length bytes) segment
+    → has_word pc (code_segment base bytes segment) ≡ layout.has_word pc segment
 same_word base bytes pc segment inside = rw (code_segment_length base bytes segment inside) refl
 
 some_map : {A B : Type 0} (f : A → B) (o : Option A) → IsSome o → IsSome (option_map f o)
 some_map f None h = h
 some_map f (Some x) h = h
 
-found : (base : ℕ) (bytes : List ℕ) (pc : ℕ) (segments : List ProgramHeader) → All (IsInside base (length bytes)) segments → list_any (has_instruction pc) segments ≡ true → IsSome (find (has_word pc) (map (code_segment base bytes) (filter is_executable segments)))
+found : (base : ℕ) (bytes : List ℕ) (pc : ℕ) (segments : List ProgramHeader) → All (IsInside base (length bytes)) segments
+    → list_any (has_instruction pc) segments ≡ true
+    → IsSome (find (has_word pc) (map (code_segment base bytes) (filter is_executable segments)))
 found base bytes pc [] inside has = has
 found base bytes pc (x ∷ segments) inside has =
     let word = same_word base bytes pc x (All-head (IsInside base (length bytes)) x segments inside) in
@@ -63,7 +67,7 @@ size_on_line : (segments : List ProgramHeader) (harts : ℕ) → (memory_end seg
 unfolding memory_base memory_end
 size_on_line segments harts = lines_between (lowest segments / 64) ((highest segments + 63) / 64) harts
 
-few_segments : (file : List ℕ) → (file_header file).e_phnum ≤ 64 → length (segments_of file) ≤ 64
+few_segments : (file : List ℕ) → (file_header file).e_phnum ≤ header_limit → length (segments_of file) ≤ header_limit
 unfolding segments_of program_headers headers_at
 few_segments file few =
     let headers = program_headers file in
@@ -86,7 +90,7 @@ is_program file harts e some few =
     let bytes = loaded_bytes file harts in
     let entry = (file_header file).e_entry in
     let parts = faultless file harts e in
-    let memory = in_memory segments entry harts parts.memory in
+    let memory = in_memory segments (layout_of segments harts) entry parts.memory in
     let size = size_of_loaded file harts in
     let ordered = (loadable file harts e).ordered in
     let low = memory.low in
@@ -95,12 +99,14 @@ is_program file harts e some few =
     let above = place.above in
     let below = place.below in
     let starts = and_parts (entry % 4 == 0) (list_any (has_instruction entry) segments) memory.starts in
-    let inside : All (IsInside base (length bytes)) segments = λ k d within. rw size ((fits file harts parts.headers k d within).inside) in
+    let inside : All (IsInside base (length bytes)) segments =
+    λ k d within. rw size ((fits file harts parts.headers k d within).inside)
+    in
     let code = filter is_executable segments in
     let code_len = length-map code (code_segment base bytes) in
     let kept = length-filter is_executable segments in
     let bound = count_by-le-length is_executable segments in
-    let headers = few_segments file (few_headers file parts.header) in
+    let headers = few_segments file (few_headers (file_header file) (length file) parts.header) in
     let all = memory_length base (length bytes) segments memory.apart inside in
     let within = code_within base bytes segments in
     record {
@@ -112,7 +118,9 @@ is_program file harts e some few =
       not_wide = omega arith;
       not_high = omega arith;
       entry_aligned = eqb-true (entry % 4) 0 starts.0;
-      entry_in_code = some_map (segment_word entry) (find (has_word entry) (map (code_segment base bytes) code)) (found base bytes entry segments inside starts.1);
+      entry_in_code =
+          some_map (segment_word entry) (find (has_word entry) (map (code_segment base bytes) code))
+          (found base bytes entry segments inside starts.1);
       few_segments = omega arith;
       code_not_large = omega arith;
     }

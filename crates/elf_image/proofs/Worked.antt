@@ -1,13 +1,15 @@
 -- The definitions, computed on a file of 122 bytes and on changes of it. The file has one segment, which
 -- is the whole file and begins at 0x10000; it prints 'A' and a newline.
-use Rattle.std.proofs.Common.{◌≡◌, ℕ, ◌+◌, List, [], ◌∷◌, ◌++◌, take, drop, length, Some, None, refl}
+use Rattle.std.proofs.Common.{◌≡◌, ℕ, ◌+◌, List, [], ◌∷◌, ◌++◌, take, drop, length, map, Option, Some, None, refl}
 use Rattle.std.specs.Prelude.{flat_map}
 use Rattle.byteorder.specs.Endian.{big_bytes}
+use Rattle.el_base.specs.declared.file_fault.FileFault.{FileFault}
 use Rattle.elf_image.specs.declared.program_header.ProgramHeader.{ProgramHeader}
 use Rattle.elf_image.specs.declared.fault.FaultKind.TheVariants.{Short, Magic, Class, ByteOrder, Version, FileKind, Machine, Flags, Table, Dynamic, Segment, TooHigh, Entry, Empty}
 use Rattle.elf_image.specs.Header.{file_header, program_header, headers_at, program_headers}
 use Rattle.elf_image.specs.Layout.{segments_of, first_overlap, memory_base, memory_end}
-use Rattle.elf_image.specs.Faults.{fault, fault_of, ident_fault, header_fault, headers_fault, memory_fault}
+use Rattle.elf_image.specs.FaultKinds.{fault_of}
+use Rattle.elf_image.specs.Faults.{fault, ident_fault, header_fault, headers_fault, memory_fault}
 use Rattle.elf_image.specs.Loaded.{loaded_byte}
 
 -- the file, in groups of four bytes as they stand
@@ -28,118 +30,45 @@ file = flat_map (λ word. big_bytes 4 word) words ++ 0x41 ∷ 0x0a ∷ []
 abbrev changed : ℕ → List ℕ → List ℕ → List ℕ
 changed place new bytes = take place bytes ++ new ++ drop (place + length new) bytes
 
-accepted : fault file 1 ≡ None
+-- files, each with its first fault for one hart
+abbrev judged : List (List ℕ × Option FileFault)
+judged =
+    (file, None)
+    ∷ (changed 2 (0x4d ∷ []) file, Some (fault_of Magic 2))
+    ∷ (changed 4 (2 ∷ []) file, Some (fault_of Class 4))
+    ∷ (changed 5 (2 ∷ []) file, Some (fault_of ByteOrder 5))
+    ∷ (changed 6 (0 ∷ []) file, Some (fault_of Version 6))
+    ∷ (changed 20 (2 ∷ []) file, Some (fault_of Version 20))
+    ∷ (changed 16 (3 ∷ []) file, Some (fault_of FileKind 16))
+    ∷ (changed 18 (0x3e ∷ []) file, Some (fault_of Machine 18))
+    ∷ (changed 36 (1 ∷ []) file, Some (fault_of Flags 36))
+    ∷ (changed 36 (0x10 ∷ []) file, None)
+    ∷ ([], Some (fault_of Short 0))
+    ∷ (take 51 file, Some (fault_of Short 51))
+    ∷ (take 52 file, Some (fault_of Table 28))
+    ∷ (take 83 file, Some (fault_of Table 28))
+    ∷ (take 84 file, Some (fault_of Segment 56))
+    ∷ (take 121 file, Some (fault_of Segment 56))
+    ∷ (changed 40 (0x33 ∷ []) file, Some (fault_of Table 40))
+    ∷ (changed 44 (0xff ∷ 0xff ∷ []) file, Some (fault_of Table 44))
+    ∷ (changed 42 (0x28 ∷ []) file, Some (fault_of Table 42))
+    ∷ (changed 28 (0xff ∷ 0xff ∷ 0xff ∷ 0xff ∷ []) file, Some (fault_of Table 28))
+    ∷ (changed 52 (3 ∷ []) file, Some (fault_of Dynamic 52))
+    ∷ (changed 52 (0 ∷ []) file, Some (fault_of Empty 44))
+    ∷ (changed 60 (0x00 ∷ 0xff ∷ 0xff ∷ 0xff ∷ []) (changed 72 (0x00 ∷ 0x02 ∷ 0x00 ∷ 0x00 ∷ []) file), Some (fault_of TooHigh 28))
+    ∷ (changed 72 (0x79 ∷ []) file, Some (fault_of Segment 68))
+    ∷ (changed 76 (4 ∷ []) file, Some (fault_of Entry 24))
+    ∷ (changed 24 (0x56 ∷ []) file, Some (fault_of Entry 24))
+    ∷ (changed 24 (0x78 ∷ []) file, Some (fault_of Entry 24))
+    ∷ []
+
+each_judged : map (λ (bytes, found). fault bytes 1) judged ≡ map (λ (bytes, found). found) judged
 unfolding fault ident_fault header_fault headers_fault memory_fault file_header program_header headers_at program_headers segments_of memory_base memory_end
-accepted = refl
+each_judged = refl
 
 accepted_for_eight : fault file 8 ≡ None
 unfolding fault ident_fault header_fault headers_fault memory_fault file_header program_header headers_at program_headers segments_of memory_base memory_end
 accepted_for_eight = refl
-
-magic : fault (changed 2 (0x4d ∷ []) file) 1 ≡ Some (fault_of Magic 2)
-unfolding fault ident_fault header_fault headers_fault memory_fault file_header program_header headers_at program_headers segments_of memory_base memory_end
-magic = refl
-
-class : fault (changed 4 (2 ∷ []) file) 1 ≡ Some (fault_of Class 4)
-unfolding fault ident_fault header_fault headers_fault memory_fault file_header program_header headers_at program_headers segments_of memory_base memory_end
-class = refl
-
-byte_order : fault (changed 5 (2 ∷ []) file) 1 ≡ Some (fault_of ByteOrder 5)
-unfolding fault ident_fault header_fault headers_fault memory_fault file_header program_header headers_at program_headers segments_of memory_base memory_end
-byte_order = refl
-
-ident_version : fault (changed 6 (0 ∷ []) file) 1 ≡ Some (fault_of Version 6)
-unfolding fault ident_fault header_fault headers_fault memory_fault file_header program_header headers_at program_headers segments_of memory_base memory_end
-ident_version = refl
-
-header_version : fault (changed 20 (2 ∷ []) file) 1 ≡ Some (fault_of Version 20)
-unfolding fault ident_fault header_fault headers_fault memory_fault file_header program_header headers_at program_headers segments_of memory_base memory_end
-header_version = refl
-
--- ET_DYN
-file_kind : fault (changed 16 (3 ∷ []) file) 1 ≡ Some (fault_of FileKind 16)
-unfolding fault ident_fault header_fault headers_fault memory_fault file_header program_header headers_at program_headers segments_of memory_base memory_end
-file_kind = refl
-
-machine : fault (changed 18 (0x3e ∷ []) file) 1 ≡ Some (fault_of Machine 18)
-unfolding fault ident_fault header_fault headers_fault memory_fault file_header program_header headers_at program_headers segments_of memory_base memory_end
-machine = refl
-
-compressed : fault (changed 36 (1 ∷ []) file) 1 ≡ Some (fault_of Flags 36)
-unfolding fault ident_fault header_fault headers_fault memory_fault file_header program_header headers_at program_headers segments_of memory_base memory_end
-compressed = refl
-
-total_store_order : fault (changed 36 (0x10 ∷ []) file) 1 ≡ None
-unfolding fault ident_fault header_fault headers_fault memory_fault file_header program_header headers_at program_headers segments_of memory_base memory_end
-total_store_order = refl
-
-cut_to_nothing : fault [] 1 ≡ Some (fault_of Short 0)
-unfolding fault ident_fault header_fault headers_fault memory_fault file_header program_header headers_at program_headers segments_of memory_base memory_end
-cut_to_nothing = refl
-
-cut_in_header : fault (take 51 file) 1 ≡ Some (fault_of Short 51)
-unfolding fault ident_fault header_fault headers_fault memory_fault file_header program_header headers_at program_headers segments_of memory_base memory_end
-cut_in_header = refl
-
-cut_behind_header : fault (take 52 file) 1 ≡ Some (fault_of Table 28)
-unfolding fault ident_fault header_fault headers_fault memory_fault file_header program_header headers_at program_headers segments_of memory_base memory_end
-cut_behind_header = refl
-
-cut_in_table : fault (take 83 file) 1 ≡ Some (fault_of Table 28)
-unfolding fault ident_fault header_fault headers_fault memory_fault file_header program_header headers_at program_headers segments_of memory_base memory_end
-cut_in_table = refl
-
-cut_behind_table : fault (take 84 file) 1 ≡ Some (fault_of Segment 56)
-unfolding fault ident_fault header_fault headers_fault memory_fault file_header program_header headers_at program_headers segments_of memory_base memory_end
-cut_behind_table = refl
-
-cut_last_byte : fault (take 121 file) 1 ≡ Some (fault_of Segment 56)
-unfolding fault ident_fault header_fault headers_fault memory_fault file_header program_header headers_at program_headers segments_of memory_base memory_end
-cut_last_byte = refl
-
-header_size : fault (changed 40 (0x33 ∷ []) file) 1 ≡ Some (fault_of Table 40)
-unfolding fault ident_fault header_fault headers_fault memory_fault file_header program_header headers_at program_headers segments_of memory_base memory_end
-header_size = refl
-
-many_headers : fault (changed 44 (0xff ∷ 0xff ∷ []) file) 1 ≡ Some (fault_of Table 44)
-unfolding fault ident_fault header_fault headers_fault memory_fault file_header program_header headers_at program_headers segments_of memory_base memory_end
-many_headers = refl
-
-header_entry_size : fault (changed 42 (0x28 ∷ []) file) 1 ≡ Some (fault_of Table 42)
-unfolding fault ident_fault header_fault headers_fault memory_fault file_header program_header headers_at program_headers segments_of memory_base memory_end
-header_entry_size = refl
-
-table_far_away : fault (changed 28 (0xff ∷ 0xff ∷ 0xff ∷ 0xff ∷ []) file) 1 ≡ Some (fault_of Table 28)
-unfolding fault ident_fault header_fault headers_fault memory_fault file_header program_header headers_at program_headers segments_of memory_base memory_end
-table_far_away = refl
-
-interpreter : fault (changed 52 (3 ∷ []) file) 1 ≡ Some (fault_of Dynamic 52)
-unfolding fault ident_fault header_fault headers_fault memory_fault file_header program_header headers_at program_headers segments_of memory_base memory_end
-interpreter = refl
-
-nothing_loaded : fault (changed 52 (0 ∷ []) file) 1 ≡ Some (fault_of Empty 44)
-unfolding fault ident_fault header_fault headers_fault memory_fault file_header program_header headers_at program_headers segments_of memory_base memory_end
-nothing_loaded = refl
-
-too_high : fault (changed 60 (0x00 ∷ 0xff ∷ 0xff ∷ 0xff ∷ []) (changed 72 (0x00 ∷ 0x02 ∷ 0x00 ∷ 0x00 ∷ []) file)) 1 ≡ Some (fault_of TooHigh 28)
-unfolding fault ident_fault header_fault headers_fault memory_fault file_header program_header headers_at program_headers segments_of memory_base memory_end
-too_high = refl
-
-file_over_memory : fault (changed 72 (0x79 ∷ []) file) 1 ≡ Some (fault_of Segment 68)
-unfolding fault ident_fault header_fault headers_fault memory_fault file_header program_header headers_at program_headers segments_of memory_base memory_end
-file_over_memory = refl
-
-entry_without_code : fault (changed 76 (4 ∷ []) file) 1 ≡ Some (fault_of Entry 24)
-unfolding fault ident_fault header_fault headers_fault memory_fault file_header program_header headers_at program_headers segments_of memory_base memory_end
-entry_without_code = refl
-
-entry_not_aligned : fault (changed 24 (0x56 ∷ []) file) 1 ≡ Some (fault_of Entry 24)
-unfolding fault ident_fault header_fault headers_fault memory_fault file_header program_header headers_at program_headers segments_of memory_base memory_end
-entry_not_aligned = refl
-
-entry_cut_off : fault (changed 24 (0x78 ∷ []) file) 1 ≡ Some (fault_of Entry 24)
-unfolding fault ident_fault header_fault headers_fault memory_fault file_header program_header headers_at program_headers segments_of memory_base memory_end
-entry_cut_off = refl
 
 -- a segment as far as its place in memory goes
 abbrev segment : ℕ → ℕ → ProgramHeader

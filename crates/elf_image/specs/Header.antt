@@ -1,9 +1,10 @@
 -- The headers of a file, with the field names of the ELF specification.
-use Rattle.std.specs.Prelude.{ℕ, ◌+◌, ◌*◌, ◌≤◌, List, map, length}
+use Rattle.std.specs.Prelude.{ℕ, ◌+◌, ◌*◌, ◌≤◌, List, [], ◌∷◌, ◌++◌, map, replicate}
 use Rattle.std.specs.List.{range_with_len}
 use Rattle.elf_image.specs.declared.header.FileHeader.{FileHeader}
 use Rattle.elf_image.specs.declared.program_header.ProgramHeader.{ProgramHeader}
-use Rattle.elf_image.specs.Numbers.{half_at, word_at}
+use Rattle.elf_image.specs.Limits.{header_limit}
+use Rattle.elf_image.specs.Numbers.{half_at, half_bytes, word_at, word_bytes}
 
 -- the ELF header
 unfoldable pub file_header : List ℕ → FileHeader
@@ -39,7 +40,30 @@ headers_at file place count = map (λ index. program_header file (place + 32 * i
 unfoldable pub program_headers : List ℕ → List ProgramHeader
 program_headers file = headers_at file (file_header file).e_phoff (file_header file).e_phnum
 
--- the table of program headers is short and lies in the file
-pub record HasTable (file : List ℕ) : Type 0 where
-  pub few : (file_header file).e_phnum ≤ 64
-  pub inside : (file_header file).e_phoff + 32 * (file_header file).e_phnum ≤ length file
+-- the bytes of an ELF header of class ELFCLASS32 in a file without sections
+unfoldable pub file_header_bytes : FileHeader → List ℕ
+file_header_bytes header =
+    (0x7f ∷ 0x45 ∷ 0x4c ∷ 0x46 ∷ 1 ∷ 1 ∷ 1 ∷ [])
+    ++ replicate 9 0
+    ++ half_bytes (header.e_type ∷ header.e_machine ∷ [])
+    ++ word_bytes (header.e_version ∷ header.e_entry ∷ header.e_phoff ∷ 0 ∷ header.e_flags ∷ [])
+    ++ half_bytes (header.e_ehsize ∷ header.e_phentsize ∷ header.e_phnum ∷ 0 ∷ 0 ∷ 0 ∷ [])
+
+-- the bytes of a program header whose segment is aligned to 4 bytes, with p_vaddr for p_paddr
+unfoldable pub program_header_bytes : ProgramHeader → List ℕ
+program_header_bytes header =
+    word_bytes
+    (header.p_type
+    ∷ header.p_offset
+    ∷ header.p_vaddr
+    ∷ header.p_vaddr
+    ∷ header.p_filesz
+    ∷ header.p_memsz
+    ∷ header.p_flags
+    ∷ 4
+    ∷ [])
+
+-- the table of program headers is short and lies in a file of so many bytes
+pub record HasTable (header : FileHeader) (file_len : ℕ) : Type 0 where
+  pub few : header.e_phnum ≤ header_limit
+  pub inside : header.e_phoff + 32 * header.e_phnum ≤ file_len

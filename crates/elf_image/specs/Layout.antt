@@ -1,10 +1,11 @@
 -- Where the segments of a file lie in memory. Sums are those of numbers without an upper bound, so no
 -- address wraps.
-use Rattle.std.specs.Prelude.{ℕ, ◌+◌, ◌*◌, ◌/◌, ◌%◌, ◌^◌, min, max, Bool, ◌&&◌, ◌||◌, ◌==◌, nat_lt, nat_le, if◌then◌else◌, List, [], ◌∷◌, ◌++◌, Option, Some, None, filter, fold}
+use Rattle.std.specs.Prelude.{ℕ, ◌+◌, ◌-◌, ◌*◌, ◌/◌, ◌%◌, ◌^◌, min, max, Bool, ◌&&◌, ◌||◌, ◌==◌, nat_lt, nat_le, if◌then◌else◌, List, [], ◌∷◌, ◌++◌, Option, Some, None, filter, fold}
 use Rattle.std.specs.List.{list_any}
+use Rattle.elf_image.specs.declared.layout.Layout.{Layout}
 use Rattle.elf_image.specs.declared.program_header.ProgramHeader.{ProgramHeader}
 use Rattle.elf_image.specs.Header.{program_headers}
-use Rattle.elf_image.specs.Limits.{stack_size}
+use Rattle.elf_image.specs.Limits.{line_size, stack_size}
 
 -- a header of type PT_LOAD
 abbrev pub is_load : ProgramHeader → Bool
@@ -60,10 +61,26 @@ lowest segments = fold (λ low segment. min low segment.p_vaddr) (2 ^ 32) segmen
 abbrev pub highest : List ProgramHeader → ℕ
 highest segments = fold (λ high segment. max high (segment_end segment)) 0 segments
 
--- memory goes from here, on a line of 64 bytes
+-- the least multiple of a unit that is not below an address
+abbrev pub round_up : ℕ → ℕ → ℕ
+round_up unit address = (address + (unit - 1)) / unit * unit
+
+-- the greatest multiple of a unit that is not above an address
+abbrev pub round_down : ℕ → ℕ → ℕ
+round_down unit address = address / unit * unit
+
+-- memory goes from here, on a line
 unfoldable pub memory_base : List ProgramHeader → ℕ
-memory_base segments = lowest segments / 64 * 64
+memory_base segments = round_down line_size (lowest segments)
 
 -- up to here: behind the last segment, on a line too, each hart has its stack
 unfoldable pub memory_end : List ProgramHeader → ℕ → ℕ
-memory_end segments harts = (highest segments + 63) / 64 * 64 + stack_size * harts
+memory_end segments harts = round_up line_size (highest segments) + stack_size * harts
+
+-- where memory lies
+abbrev pub layout_of : List ProgramHeader → ℕ → Layout
+layout_of segments harts = record { base = memory_base segments; end = memory_end segments harts }
+
+-- how many bytes memory has
+abbrev pub size_of : Layout → ℕ
+size_of layout = layout.end - layout.base

@@ -1,10 +1,12 @@
 -- The program that an accepted file loads.
-use Rattle.std.specs.Prelude.{◌≡◌, ◌≤◌, ℕ, ◌+◌, ◌-◌, Bool, ◌&&◌, nat_lt, nat_le, List, map, slice_index, slice_range, None, All, find, filter, length}
+use Rattle.std.specs.Prelude.{◌≡◌, ◌≤◌, ℕ, ◌+◌, ◌-◌, Bool, ◌&&◌, nat_lt, nat_le, List, map, slice_index, slice_range, None, All, find, filter}
 use Rattle.std.specs.List.{range_with_len}
 use Rattle.std.specs.Option.{option_map_or}
+use Rattle.elf_image.specs.declared.layout.Layout.{Layout}
 use Rattle.elf_image.specs.declared.program_header.ProgramHeader.{ProgramHeader}
 use Rattle.elf_image.specs.Header.{file_header}
-use Rattle.elf_image.specs.Layout.{is_executable, segment_end, first_overlap, segments_of, memory_base, memory_end}
+use Rattle.elf_image.specs.Layout.{is_executable, segment_end, first_overlap, segments_of, layout_of, size_of}
+use Rattle.elf_image.specs.Limits.{end_limit}
 use Rattle.elf_image.specs.Program.{Program, CodeSegment}
 
 -- the address is that of one of the segment's first p_filesz bytes, which stand in the file
@@ -23,8 +25,8 @@ loaded_byte file segments address = option_map_or (file_byte file address) (find
 unfoldable pub loaded_bytes : List ℕ → ℕ → List ℕ
 loaded_bytes file harts =
     let segments = segments_of file in
-    let base = memory_base segments in
-    map (loaded_byte file segments) (range_with_len base (memory_end segments harts - base))
+    let layout = layout_of segments harts in
+    map (loaded_byte file segments) (range_with_len layout.base (size_of layout))
 
 -- an executable segment as it lies in memory, of which the base and the bytes are given
 abbrev pub code_segment : ℕ → List ℕ → ProgramHeader → CodeSegment
@@ -35,14 +37,15 @@ code_segment base bytes segment =
 -- the program that a file without a fault loads for so many harts
 unfoldable pub program_of : List ℕ → ℕ → Program
 program_of file harts =
-    let base = memory_base (segments_of file) in
+    let segments = segments_of file in
+    let base = (layout_of segments harts).base in
     let bytes = loaded_bytes file harts in
     record {
       base = base;
       bytes = bytes;
       entry = (file_header file).e_entry;
       harts = harts;
-      code = map (code_segment base bytes) (filter is_executable (segments_of file));
+      code = map (code_segment base bytes) (filter is_executable segments);
     }
 
 -- a segment lies in so many bytes from a base on
@@ -56,10 +59,9 @@ pub record Fits (file_len base size : ℕ) (segment : ProgramHeader) : Type 0 wh
   pub filled : segment.p_filesz ≤ segment.p_memsz
   pub in_file : 1 ≤ segment.p_filesz → segment.p_offset + segment.p_filesz ≤ file_len
 
--- what loading needs of a file and its segments
-pub record IsLoadable (file : List ℕ) (segments : List ProgramHeader) (harts : ℕ) : Type 0 where
-  pub whole : 52 ≤ length file
-  pub fits : All (Fits (length file) (memory_base segments) (memory_end segments harts - memory_base segments)) segments
+-- what loading needs of segments that lie so in memory, in a file of so many bytes
+pub record IsLoadable (file_len : ℕ) (segments : List ProgramHeader) (layout : Layout) : Type 0 where
+  pub fits : All (Fits file_len layout.base (size_of layout)) segments
   pub apart : first_overlap segments ≡ None
-  pub ordered : memory_base segments ≤ memory_end segments harts
-  pub low : memory_end segments harts ≤ 0xffff0000
+  pub ordered : layout.base ≤ layout.end
+  pub low : layout.end ≤ end_limit

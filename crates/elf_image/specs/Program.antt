@@ -1,7 +1,7 @@
 -- A program in memory before its first step.
 use Rattle.std.specs.Prelude.{◌≡◌, ◌≤◌, ℕ, ◌+◌, ◌-◌, ◌*◌, ◌%◌, Bool, ◌&&◌, nat_le, List, length, Option, IsSome, find, sum_by}
 use Rattle.std.specs.Option.{option_map}
-use Rattle.elf_image.specs.Limits.{stack_size}
+use Rattle.elf_image.specs.Limits.{end_limit, header_limit, line_size, memory_limit, stack_size}
 use Rattle.elf_image.specs.Numbers.{word_at}
 
 -- an executable segment as loaded: its first address and its bytes
@@ -43,12 +43,12 @@ code_length code = sum_by (λ segment. length segment.bytes) code
 pub record IsProgram (program : Program) : Type 0 where
   pub some_hart : 1 ≤ program.harts
   pub few_harts : program.harts ≤ 8
-  pub base_on_line : program.base % 64 ≡ 0
-  pub length_on_line : length program.bytes % 64 ≡ 0
+  pub base_on_line : program.base % line_size ≡ 0
+  pub length_on_line : length program.bytes % line_size ≡ 0
   pub stacks_fit : stack_size * program.harts ≤ length program.bytes
-  pub not_wide : length program.bytes ≤ 16777216
-  pub not_high : program.base + length program.bytes ≤ 0xffff0000
+  pub not_wide : length program.bytes ≤ memory_limit
+  pub not_high : program.base + length program.bytes ≤ end_limit
   pub entry_aligned : program.entry % 4 ≡ 0
   pub entry_in_code : IsSome (code_word program.code program.entry)
-  pub few_segments : length program.code ≤ 64
-  pub code_not_large : code_length program.code ≤ 16777216
+  pub few_segments : length program.code ≤ header_limit
+  pub code_not_large : code_length program.code ≤ memory_limit

@@ -1,9 +1,12 @@
 //! What is wrong with a file that is no image.
 
 ghost use Rattle.std.specs.Prelude.{◌≡◌};
-ghost use Rattle.elf_image.specs.Faults.{number_of, fault_of};
+ghost use Rattle.std.specs.Option.{option_copied};
+ghost use Rattle.elf_image.specs.FaultKinds as kinds;
 
-/// The sixteen faults of an image in the order in which they are judged. Their numbers and their order
+use el_base::FileFault;
+
+/// The sixteen faults of an image in the order in which they are judged. Their numbers, names and order
 /// are this project's.
 #[derive(Clone, Copy, Debug, PartialEq, Eq)]
 pub enum FaultKind {
@@ -41,21 +44,76 @@ pub enum FaultKind {
     Empty,
 }
 
-/// A fault of a file: its number and the place in the file that shows it.
-#[derive(Clone, Copy, Debug, PartialEq, Eq)]
-pub struct Fault {
-    pub number: u8,
-    pub place: u32,
-}
+impl FaultKind {
+    /// All kinds, in the order of their numbers.
+    pub const ALL: [FaultKind; 16] = [
+        FaultKind::Short,
+        FaultKind::Magic,
+        FaultKind::Class,
+        FaultKind::ByteOrder,
+        FaultKind::Version,
+        FaultKind::FileKind,
+        FaultKind::Machine,
+        FaultKind::Flags,
+        FaultKind::Table,
+        FaultKind::Dynamic,
+        FaultKind::Segment,
+        FaultKind::Overlap,
+        FaultKind::TooWide,
+        FaultKind::TooHigh,
+        FaultKind::Entry,
+        FaultKind::Empty,
+    ];
 
-impl Fault {
-    /// The fault of a kind at a place of the file.
-    pub fn new(kind: FaultKind, place: u32) -> Fault
-        ensures { result ≡ fault_of kind place }
+    /// The number of the kind, from 1 to 16.
+    pub fn number(self) -> u8
+        ensures { result ≡ kinds.number_of self }
     {
-        Fault {
-            number: kind as u8,
+        self as u8
+    }
+
+    /// The name of the kind, as a refusal has it.
+    pub fn name(self) -> &'static str
+        ensures { result.now ≡ kinds.name_of self }
+    {
+        match self {
+            FaultKind::Short => "Short",
+            FaultKind::Magic => "Magic",
+            FaultKind::Class => "Class",
+            FaultKind::ByteOrder => "ByteOrder",
+            FaultKind::Version => "Version",
+            FaultKind::FileKind => "FileKind",
+            FaultKind::Machine => "Machine",
+            FaultKind::Flags => "Flags",
+            FaultKind::Table => "Table",
+            FaultKind::Dynamic => "Dynamic",
+            FaultKind::Segment => "Segment",
+            FaultKind::Overlap => "Overlap",
+            FaultKind::TooWide => "TooWide",
+            FaultKind::TooHigh => "TooHigh",
+            FaultKind::Entry => "Entry",
+            FaultKind::Empty => "Empty",
+        }
+    }
+
+    /// The fault of this kind that a place of the file shows.
+    pub(crate) fn at(self, place: u32) -> FileFault
+        ensures { result ≡ kinds.fault_of self place }
+    {
+        FileFault {
+            number: self.number(),
             place,
         }
     }
+}
+
+/// The name of the fault that has a number, or none where no fault has it: a number that is not from 1
+/// to 16.
+pub fn fault_name(number: u8) -> Option<&'static str>
+    ensures { option_copied result ≡ kinds.fault_name number }
+{
+    FaultKind::ALL
+        .iter()
+        .find(|kind| kind.number() == number)
+        .map(|kind| kind.name())
 }

@@ -1,18 +1,39 @@
 //! The ELF header, of the ELF specification's chapter 'ELF Header', with the values that the RISC-V
 //! ELF psABI gives it (ELF Object Files, File Header).
 
-ghost use Rattle.std.specs.Prelude.{◌≡◌, ◌≤◌, ◌<◌, ◌+◌, ◌*◌, IfSome, OnOk, length};
-ghost use Rattle.std.specs.Result.{result_err};
-ghost use Rattle.elf_image.specs.Header.{file_header, HasTable};
+ghost use Rattle.std.specs.Prelude.{◌≡◌, ◌≤◌, ◌<◌, ◌++◌, None, Some, IfSome, IfErr, OnOk, length};
+ghost use Rattle.elf_image.specs.Header.{file_header, file_header_bytes, HasTable};
 ghost use Rattle.elf_image.specs.Faults as faults;
 ghost use Rattle.elf_image.specs.Limits.{file_limit};
 
-use crate::bytes::{half_at, word_at};
-use crate::fault::{Fault, FaultKind};
-use crate::program_header::{MOST_PROGRAM_HEADERS, PROGRAM_HEADER_LEN};
+use crate::bytes::{half_at, push_halves, push_words, word_at};
+use crate::fault::FaultKind;
+use crate::limits::PROGRAM_HEADER_LIMIT;
+use crate::program_header::PROGRAM_HEADER_LEN;
+use el_base::{FileFault, NoMemory};
 
 /// The bytes of an ELF header of class ELFCLASS32.
 pub const FILE_HEADER_LEN: usize = 52;
+
+/// The bytes e_ident of a file that is written.
+const IDENT: [u8; 16] = [
+    0x7f,
+    b'E',
+    b'L',
+    b'F',
+    ELFCLASS32,
+    ELFDATA2LSB,
+    EV_CURRENT,
+    0,
+    0,
+    0,
+    0,
+    0,
+    0,
+    0,
+    0,
+    0,
+];
 
 /// The first four bytes of an ELF file, EI_MAG0 to EI_MAG3.
 const ELF_MAGIC: [u8; 4] = [0x7f, b'E', b'L', b'F'];
@@ -47,11 +68,11 @@ const ELFCLASS32: u8 = 1;
 
 const ELFDATA2LSB: u8 = 1;
 
-const EV_CURRENT: u8 = 1;
+pub const EV_CURRENT: u8 = 1;
 
-const ET_EXEC: u16 = 2;
+pub const ET_EXEC: u16 = 2;
 
-const EM_RISCV: u16 = 243;
+pub const EM_RISCV: u16 = 243;
 
 /// The flags of compressed instructions (EF_RISCV_RVC), of a floating-point ABI
 /// (EF_RISCV_FLOAT_ABI) and of the embedded base (EF_RISCV_RVE). That of total store order, 0x10, is
@@ -91,6 +112,94 @@ impl FileHeader {
             e_phnum: half_at(file, E_PHNUM as usize),
         }
     }
+
+    /// Appends the header to a file, which has no sections.
+    #[tactic(auto, unfolding(crate::specs::Header::file_header_bytes))]
+    pub fn write(&self, file: &mut Vec<u8>) -> Result<(), NoMemory>
+        ensures { OnOk result (file.new.items ≡ file.old.items ++ file_header_bytes self.now) }
+    {
+        file.extend_from_slice(&IDENT)?;
+        push_halves(file, &[self.e_type, self.e_machine])?;
+        push_words(
+            file,
+            &[self.e_version, self.e_entry, self.e_phoff, 0, self.e_flags],
+        )?;
+        push_halves(
+            file,
+            &[self.e_ehsize, self.e_phentsize, self.e_phnum, 0, 0, 0],
+        )
+    }
+
+    /// Judges the header of a file of `file_len` bytes: an executable for RISC-V whose program headers
+    /// all lie in the file.
+    #[tactic(auto, unfolding(crate::specs::Faults::header_fault))]
+    pub fn check(&self, file_len: usize) -> Result<(), FileFault>
+        ensures accepted { OnOk result (faults.header_fault self.now file_len ≡ None) }
+        ensures refused { IfErr result (λ fault. faults.header_fault self.now file_len ≡ Some fault) }
+        ensures table { OnOk result (HasTable self.now file_len) }
+    {
+        if self.e_version != EV_CURRENT as u32 {
+            return Err(FaultKind::Version.at(E_VERSION));
+        }
+        if self.e_type != ET_EXEC {
+            return Err(FaultKind::FileKind.at(E_TYPE));
+        }
+        if self.e_machine != EM_RISCV {
+            return Err(FaultKind::Machine.at(E_MACHINE));
+        }
+        if self.e_flags & EF_REFUSED != 0 {
+            return Err(FaultKind::Flags.at(E_FLAGS));
+        }
+        self.check_table(file_len)
+    }
+
+    /// Judges the form of the table: the sizes are those of class ELFCLASS32, and the table lies in a
+    /// file of `file_len` bytes.
+    fn check_table(&self, file_len: usize) -> Result<(), FileFault>
+        ensures accepted { OnOk result (faults.table_fault self.now file_len ≡ None) }
+        ensures refused { IfErr result (λ fault. faults.table_fault self.now file_len ≡ Some fault) }
+        ensures table { OnOk result (HasTable self.now file_len) }
+    {
+        if self.e_ehsize as usize != FILE_HEADER_LEN {
+            return Err(FaultKind::Table.at(E_EHSIZE));
+        }
+        if self.e_phnum as usize > PROGRAM_HEADER_LIMIT {
+            return Err(FaultKind::Table.at(E_PHNUM));
+        }
+        if self.e_phnum >= 1 && self.e_phentsize as usize != PROGRAM_HEADER_LEN {
+            return Err(FaultKind::Table.at(E_PHENTSIZE));
+        }
+        if self.e_phoff as usize + self.e_phnum as usize * PROGRAM_HEADER_LEN > file_len {
+            return Err(FaultKind::Table.at(E_PHOFF));
+        }
+        Ok(())
+    }
+}
+
+/// Judges e_ident: an ELF file of 32 bits, little endian, in the current version.
+#[tactic(auto, unfolding(crate::specs::Faults::ident_fault))]
+pub fn check_ident(file: &[u8]) -> Result<(), FileFault>
+    requires { length file.now ≤ file_limit }
+    ensures accepted { OnOk result (faults.ident_fault file.now ≡ None) }
+    ensures refused { IfErr result (λ fault. faults.ident_fault file.now ≡ Some fault) }
+    ensures whole { OnOk result (52 ≤ length file.now) }
+{
+    if file.len() < FILE_HEADER_LEN {
+        return Err(FaultKind::Short.at(file.len() as u32));
+    }
+    if let Some(place) = magic_difference(file) {
+        return Err(FaultKind::Magic.at(place as u32));
+    }
+    if file[EI_CLASS] != ELFCLASS32 {
+        return Err(FaultKind::Class.at(EI_CLASS as u32));
+    }
+    if file[EI_DATA] != ELFDATA2LSB {
+        return Err(FaultKind::ByteOrder.at(EI_DATA as u32));
+    }
+    if file[EI_VERSION] != EV_CURRENT {
+        return Err(FaultKind::Version.at(EI_VERSION as u32));
+    }
+    Ok(())
 }
 
 /// The place of the first byte that is not ELF's.
@@ -101,75 +210,4 @@ fn magic_difference(file: &[u8]) -> Option<usize>
     file.iter()
         .zip(&ELF_MAGIC)
         .position(|(byte, wanted)| byte != wanted)
-}
-
-/// Judges e_ident, and e_version with it: an ELF file of 32 bits, little endian, in the current
-/// version.
-#[tactic(auto, unfolding(crate::specs::Faults::ident_fault))]
-pub fn check_ident(file: &[u8]) -> Result<(), Fault>
-    requires { length file.now ≤ file_limit }
-    ensures exact { result_err result ≡ faults.ident_fault file.now }
-    ensures whole { OnOk result (52 ≤ length file.now) }
-{
-    if file.len() < FILE_HEADER_LEN {
-        return Err(Fault::new(FaultKind::Short, file.len() as u32));
-    }
-    if let Some(place) = magic_difference(file) {
-        return Err(Fault::new(FaultKind::Magic, place as u32));
-    }
-    if file[EI_CLASS] != ELFCLASS32 {
-        return Err(Fault::new(FaultKind::Class, EI_CLASS as u32));
-    }
-    if file[EI_DATA] != ELFDATA2LSB {
-        return Err(Fault::new(FaultKind::ByteOrder, EI_DATA as u32));
-    }
-    if file[EI_VERSION] != EV_CURRENT {
-        return Err(Fault::new(FaultKind::Version, EI_VERSION as u32));
-    }
-    if FileHeader::read(file).e_version != EV_CURRENT as u32 {
-        return Err(Fault::new(FaultKind::Version, E_VERSION));
-    }
-    Ok(())
-}
-
-/// Judges the rest of the header: an executable for RISC-V whose program headers all lie in the file.
-#[tactic(auto, unfolding(crate::specs::Faults::header_fault))]
-pub fn check_header(file: &[u8]) -> Result<(), Fault>
-    requires { 52 ≤ length file.now }
-    ensures exact { result_err result ≡ faults.header_fault file.now }
-    ensures table { OnOk result (HasTable file.now) }
-{
-    let header = FileHeader::read(file);
-    if header.e_type != ET_EXEC {
-        return Err(Fault::new(FaultKind::FileKind, E_TYPE));
-    }
-    if header.e_machine != EM_RISCV {
-        return Err(Fault::new(FaultKind::Machine, E_MACHINE));
-    }
-    if header.e_flags & EF_REFUSED != 0 {
-        return Err(Fault::new(FaultKind::Flags, E_FLAGS));
-    }
-    check_table_form(&header, file.len())
-}
-
-/// Judges the form of the table: the sizes are those of class ELFCLASS32, and the table lies in a file
-/// of `file_len` bytes.
-fn check_table_form(header: &FileHeader, file_len: usize) -> Result<(), Fault>
-    ensures exact { result_err result ≡ faults.table_form_fault header.now file_len }
-    ensures few { OnOk result (header.now.e_phnum ≤ 64) }
-    ensures inside { OnOk result (header.now.e_phoff + 32 * header.now.e_phnum ≤ file_len) }
-{
-    if header.e_ehsize as usize != FILE_HEADER_LEN {
-        return Err(Fault::new(FaultKind::Table, E_EHSIZE));
-    }
-    if header.e_phnum as usize > MOST_PROGRAM_HEADERS {
-        return Err(Fault::new(FaultKind::Table, E_PHNUM));
-    }
-    if header.e_phnum >= 1 && header.e_phentsize as usize != PROGRAM_HEADER_LEN {
-        return Err(Fault::new(FaultKind::Table, E_PHENTSIZE));
-    }
-    if header.e_phoff as usize + header.e_phnum as usize * PROGRAM_HEADER_LEN > file_len {
-        return Err(Fault::new(FaultKind::Table, E_PHOFF));
-    }
-    Ok(())
 }

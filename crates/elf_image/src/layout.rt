@@ -1,24 +1,46 @@
 //! Where the segments lie in memory. The lines, the stacks and the limits are this project's profile.
 
-ghost use Rattle.std.specs.Prelude.{◌≡◌, ◌≤◌, ◌^◌};
+ghost use Rattle.std.specs.Prelude.{◌≡◌, ◌≤◌, ◌^◌, None, Some, IfErr, OnOk};
 ghost use Rattle.std.specs.List.{list_any};
-ghost use Rattle.std.specs.Result.{result_err};
 ghost use Rattle.elf_image.specs.Layout as layout;
 ghost use Rattle.elf_image.specs.Faults as faults;
 
-use crate::fault::{Fault, FaultKind};
+use crate::fault::FaultKind;
 use crate::header::{E_ENTRY, E_PHNUM, E_PHOFF};
-use crate::limits::STACK_BYTES;
+use crate::limits::{MEMORY_END_LIMIT, MEMORY_LIMIT, STACK_BYTES};
 use crate::program_header::ProgramHeader;
+use el_base::{FileFault, LINE_BYTES};
 
 /// The bytes of a line of memory. Memory begins and ends on a line.
-const LINE: u64 = 64;
+const LINE: u64 = LINE_BYTES as u64;
 
-/// The most bytes of memory, stacks among them.
-const MOST_MEMORY: u64 = 16_777_216;
+/// Where memory lies: the address of its first byte and the address behind its last.
+#[derive(Clone, Copy, Debug, PartialEq, Eq)]
+pub struct Layout {
+    pub base: u64,
+    pub end: u64,
+}
 
-/// The greatest address at which memory may end.
-const HIGHEST_END: u64 = 0xffff_0000;
+impl Layout {
+    /// Memory of these segments, which ends with a stack for each hart.
+    #[tactic(auto, unfolding(crate::specs::Layout::memory_base, crate::specs::Layout::memory_end))]
+    pub fn of(segments: &[ProgramHeader], harts: u8) -> Layout
+        ensures exact { result ≡ layout.layout_of segments.now harts }
+    {
+        let top = (highest(segments) + (LINE - 1)) / LINE * LINE;
+        Layout {
+            base: lowest(segments) / LINE * LINE,
+            end: top + STACK_BYTES as u64 * harts as u64,
+        }
+    }
+
+    /// How many bytes memory has.
+    pub fn size(&self) -> u64
+        ensures { result ≡ layout.size_of self.now }
+    {
+        self.end.saturating_sub(self.base)
+    }
+}
 
 /// The least address of a segment.
 fn lowest(segments: &[ProgramHeader]) -> u64
@@ -44,54 +66,37 @@ fn highest(segments: &[ProgramHeader]) -> u64
     high
 }
 
-/// The address at which memory begins.
-#[tactic(auto, unfolding(crate::specs::Layout::memory_base))]
-pub fn memory_base(segments: &[ProgramHeader]) -> u64
-    ensures exact { result ≡ layout.memory_base segments.now }
-    ensures bound { result ≤ 2 ^ 32 }
-{
-    lowest(segments) / LINE * LINE
-}
-
-/// The address behind memory, which ends with a stack for each hart.
-#[tactic(auto, unfolding(crate::specs::Layout::memory_end))]
-pub fn memory_end(segments: &[ProgramHeader], harts: u8) -> u64
-    ensures exact { result ≡ layout.memory_end segments.now harts }
-    ensures bound { result ≤ 2 ^ 34 }
-{
-    (highest(segments) + (LINE - 1)) / LINE * LINE + STACK_BYTES as u64 * harts as u64
-}
-
 /// Judges the segments in memory: they are apart, memory with the stacks is not too large and does not
 /// end too high, and the entry is an instruction's.
 #[tactic(auto, unfolding(crate::specs::Faults::memory_fault))]
-pub fn check_memory(segments: &[ProgramHeader], entry: u32, harts: u8) -> Result<(), Fault>
-    ensures { result_err result ≡ faults.memory_fault segments.now entry harts }
+pub fn check_memory(segments: &[ProgramHeader], layout: Layout, entry: u32) -> Result<(), FileFault>
+    ensures accepted { OnOk result (faults.memory_fault segments.now layout entry ≡ None) }
+    ensures refused { IfErr result (λ fault. faults.memory_fault segments.now layout entry ≡ Some fault) }
 {
     check_overlap(segments)?;
     if segments.is_empty() {
-        return Err(Fault::new(FaultKind::Empty, E_PHNUM));
+        return Err(FaultKind::Empty.at(E_PHNUM));
     }
-    let end = memory_end(segments, harts);
-    if end > memory_base(segments) + MOST_MEMORY {
-        return Err(Fault::new(FaultKind::TooWide, E_PHOFF));
+    if layout.size() > MEMORY_LIMIT as u64 {
+        return Err(FaultKind::TooWide.at(E_PHOFF));
     }
-    if end > HIGHEST_END {
-        return Err(Fault::new(FaultKind::TooHigh, E_PHOFF));
+    if layout.end > MEMORY_END_LIMIT as u64 {
+        return Err(FaultKind::TooHigh.at(E_PHOFF));
     }
     if !is_entry(segments, entry) {
-        return Err(Fault::new(FaultKind::Entry, E_ENTRY));
+        return Err(FaultKind::Entry.at(E_ENTRY));
     }
     Ok(())
 }
 
 /// Judges whether no two segments share a byte.
-fn check_overlap(segments: &[ProgramHeader]) -> Result<(), Fault>
-    ensures { result_err result ≡ faults.overlap_fault segments.now }
+fn check_overlap(segments: &[ProgramHeader]) -> Result<(), FileFault>
+    ensures accepted { OnOk result (faults.overlap_fault segments.now ≡ None) }
+    ensures refused { IfErr result (λ fault. faults.overlap_fault segments.now ≡ Some fault) }
 {
     for (i, segment) in segments.iter().enumerate() {
         if shares_byte(segment, &segments[..i]) {
-            return Err(Fault::new(FaultKind::Overlap, segment.place));
+            return Err(FaultKind::Overlap.at(segment.place));
         }
     }
     Ok(())

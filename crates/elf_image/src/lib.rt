@@ -12,6 +12,7 @@
 //! 64 bytes. Sections, symbols, physical addresses and alignments are passed over.
 #![tactic(auto)]
 
+mod built;
 mod bytes;
 mod code;
 mod code_segment;
@@ -24,12 +25,19 @@ mod loaded;
 mod loader;
 mod program_header;
 mod table;
+mod writer;
 
+pub use built::Built;
 pub use code::Code;
 pub use code_segment::CodeSegment;
+pub use fault::{FaultKind, fault_name};
 pub use image::Image;
-pub use limits::{IMAGE_FILE_LIMIT, STACK_BYTES};
+pub use limits::{
+    BUILT_END_LIMIT, BUILT_LIMIT, IMAGE_FILE_LIMIT, MEMORY_END_LIMIT, MEMORY_LIMIT, PAGE_BYTES,
+    PROGRAM_HEADER_LIMIT, STACK_BYTES,
+};
 pub use loader::{ImageFault, load};
+pub use writer::write_image;
 
 #[cfg(test)]
 mod tests;

@@ -1,31 +1,28 @@
 //! Loading: from the bytes of a file to an image.
 
-ghost use Rattle.std.specs.Prelude.{◌≡◌, ◌≤◌, ℕ, IfOk, Some, None, Err, length};
-ghost use Rattle.std.specs.Result.{result_err};
+ghost use Rattle.std.specs.Prelude.{◌≡◌, ◌≤◌, ℕ, IfOk, IfErr, OnOk, Some, None, Err, length};
 ghost use Rattle.elf_image.specs.Faults.{fault};
 ghost use Rattle.elf_image.specs.declared.loader.ImageFault.TheVariants.{Bad, NoMemory};
-ghost use Rattle.elf_image.specs.Layout as layout;
+ghost use Rattle.elf_image.specs.Header.{file_header};
+ghost use Rattle.elf_image.specs.Layout.{layout_of, segments_of};
 ghost use Rattle.elf_image.specs.Limits.{file_limit};
 ghost use Rattle.elf_image.specs.Loaded.{IsLoadable, program_of};
 ghost use Rattle.elf_image.specs.Program.{IsProgram};
 
-use crate::fault::Fault;
-use crate::header::{FileHeader, check_header, check_ident};
+use crate::header::{FileHeader, check_ident};
 use crate::image::Image;
-use crate::layout::{check_memory, memory_base, memory_end};
+use crate::layout::{Layout, check_memory};
 use crate::loaded::{load_bytes, load_code};
-use crate::program_header::ProgramHeader;
 use crate::table::{ProgramHeaders, check_program_headers, read_table, segments_of};
+use el_base::FileFault;
 use std::alloc::Global;
 use thiserror::Error;
 
 /// Why a file gives no image.
 #[derive(Clone, Copy, Debug, PartialEq, Eq, Error)]
 pub enum ImageFault {
-    /// The file is no image. `number` is that of its first fault, in the order in which they are
-    /// judged: 1 short, 2 magic, 3 class, 4 byte order, 5 version, 6 file kind, 7 machine, 8 flags,
-    /// 9 table, 10 dynamic, 11 segment, 12 overlap, 13 too wide, 14 too high, 15 entry, 16 empty.
-    /// `place` is the place in the file that shows it.
+    /// The file is no image. `number` is that of its first fault, a [`FaultKind`](crate::FaultKind),
+    /// and `place` the place in the file that shows it.
     #[error("image fault {number} at byte {place}")]
     Bad { number: u8, place: u32 },
     /// An allocation failed, and the file has no fault.
@@ -33,10 +30,10 @@ pub enum ImageFault {
     NoMemory,
 }
 
-impl From<Fault> for ImageFault {
+impl From<FileFault> for ImageFault {
     ghost from_gives = { λ found error. error ≡ Bad found.number found.place };
 
-    fn from(found: Fault) -> ImageFault {
+    fn from(found: FileFault) -> ImageFault {
         ImageFault::Bad {
             number: found.number,
             place: found.place,
@@ -52,20 +49,37 @@ impl From<el_base::NoMemory> for ImageFault {
     }
 }
 
-/// Judges a file, and gives the headers of its segments where it has no fault.
-#[tactic(auto, unfolding(crate::specs::Faults::fault, crate::specs::Layout::segments_of))]
-fn judge(file: &[u8], harts: u8) -> Result<ProgramHeaders, Fault>
+/// What loading needs of a file without a fault.
+#[derive(Drop)]
+struct Accepted {
+    entry: u32,
+    segments: ProgramHeaders,
+    layout: Layout,
+}
+
+/// Judges a file. Its headers are read once.
+#[tactic(auto, unfolding(crate::specs::Faults::fault, crate::specs::Layout::segments_of, crate::specs::Header::program_headers))]
+fn judge(file: &[u8], harts: u8) -> Result<Accepted, FileFault>
     requires { length file.now ≤ file_limit }
-    ensures exact { result_err result ≡ fault file.now harts }
-    ensures segments { IfOk result (λ segments. segments.items ≡ layout.segments_of file.now) }
+    ensures accepted { OnOk result (fault file.now harts ≡ None) }
+    ensures refused { IfErr result (λ found. fault file.now harts ≡ Some found) }
+    ensures entry { IfOk result (λ parts. parts.entry ≡ (file_header file.now).e_entry) }
+    ensures segments { IfOk result (λ parts. parts.segments.items ≡ segments_of file.now) }
+    ensures layout { IfOk result (λ parts. parts.layout ≡ layout_of (segments_of file.now) harts) }
 {
     check_ident(file)?;
-    check_header(file)?;
-    let headers = read_table(file);
+    let header = FileHeader::read(file);
+    header.check(file.len())?;
+    let headers = read_table(file, &header);
     check_program_headers(&headers, file.len())?;
     let segments = segments_of(&headers);
-    check_memory(&segments, FileHeader::read(file).e_entry, harts)?;
-    Ok(segments)
+    let layout = Layout::of(&segments, harts);
+    check_memory(&segments, layout, header.e_entry)?;
+    Ok(Accepted {
+        entry: header.e_entry,
+        segments,
+        layout,
+    })
 }
 
 /// The program that a file without a fault loads.
@@ -73,21 +87,21 @@ fn judge(file: &[u8], harts: u8) -> Result<ProgramHeaders, Fault>
 fn build(
     alloc: Global,
     file: &[u8],
-    segments: &[ProgramHeader],
+    parts: &Accepted,
     harts: u8,
 ) -> Result<Image, el_base::NoMemory>
-    requires segments { segments.now ≡ layout.segments_of file.now }
-    requires loadable { IsLoadable file.now segments.now harts }
+    requires entry { parts.now.entry ≡ (file_header file.now).e_entry }
+    requires segments { parts.now.segments.items ≡ segments_of file.now }
+    requires layout { parts.now.layout ≡ layout_of parts.now.segments.items harts }
+    requires loadable { IsLoadable (length file.now) parts.now.segments.items parts.now.layout }
     requires valid { IsProgram (program_of file.now harts) }
     ensures { IfOk result (λ image. image ≡ program_of file.now harts) }
 {
-    let base = memory_base(segments);
-    let size = (memory_end(segments, harts) - base) as usize;
-    let base = base as u32;
-    let bytes = load_bytes(alloc, file, segments, base, size)?;
-    let code = load_code(alloc, &bytes, segments, base)?;
-    let entry = FileHeader::read(file).e_entry;
-    Ok(Image::new(base, bytes, entry, harts, code))
+    let base = parts.layout.base as u32;
+    let size = parts.layout.size() as usize;
+    let bytes = load_bytes(alloc, file, &parts.segments, base, size)?;
+    let code = load_code(alloc, &bytes, &parts.segments, base)?;
+    Ok(Image::new(base, bytes, parts.entry, harts, code))
 }
 
 /// The image of a program for 1 to 8 harts, of a file of at most 33,554,432 bytes: an ELF32
@@ -104,7 +118,7 @@ pub fn load(alloc: Global, file: &[u8], harts: u8) -> Result<Image, ImageFault>
         fault file.now harts ≡ Some (record { number = number; place = place }) }
     ensures memory_after_faults { result ≡ Err NoMemory → fault file.now harts ≡ None }
 {
-    let segments = judge(file, harts)?;
-    let image = build(alloc, file, &segments, harts)?;
+    let parts = judge(file, harts)?;
+    let image = build(alloc, file, &parts, harts)?;
     Ok(image)
 }

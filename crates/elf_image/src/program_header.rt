@@ -1,29 +1,33 @@
 //! The program headers, of the ELF specification's chapter 'Program Header'. Those of type PT_LOAD tell
 //! of the segments.
 
-ghost use Rattle.std.specs.Prelude.{◌≡◌, ◌≤◌, ◌+◌, ◌<◌, ◌^◌, length};
-ghost use Rattle.elf_image.specs.Header.{program_header};
+ghost use Rattle.std.specs.Prelude.{◌≡◌, ◌≤◌, ◌+◌, ◌++◌, ◌<◌, ◌^◌, None, Some, IfErr, OnOk, length};
+ghost use Rattle.elf_image.specs.Header.{program_header, program_header_bytes};
 ghost use Rattle.elf_image.specs.Layout as layout;
 ghost use Rattle.elf_image.specs.Limits.{file_limit};
 ghost use Rattle.elf_image.specs.Faults.{load_fault};
-ghost use Rattle.std.specs.Result.{result_err};
 
-use crate::bytes::word_at;
-use crate::fault::{Fault, FaultKind};
+use crate::bytes::{push_words, word_at};
+use crate::fault::FaultKind;
+use el_base::{FileFault, NoMemory};
 
 /// The bytes of a program header.
 pub const PROGRAM_HEADER_LEN: usize = 32;
 
-/// The most program headers that an image may have.
-pub const MOST_PROGRAM_HEADERS: usize = 64;
-
-const PT_LOAD: u32 = 1;
+pub const PT_LOAD: u32 = 1;
 
 const PT_DYNAMIC: u32 = 2;
 
 const PT_INTERP: u32 = 3;
 
-const PF_X: u32 = 1;
+pub const PF_X: u32 = 1;
+
+pub const PF_W: u32 = 2;
+
+pub const PF_R: u32 = 4;
+
+/// The alignment of a segment that is written: place and address of each are multiples of it.
+const ALIGNMENT: u32 = 4;
 
 // The places of the fields in a program header.
 const P_TYPE: u32 = 0;
@@ -69,20 +73,41 @@ impl ProgramHeader {
         }
     }
 
+    /// Appends the header to a file. Its segment is aligned to 4 bytes.
+    #[tactic(auto, unfolding(crate::specs::Header::program_header_bytes))]
+    pub fn write(&self, file: &mut Vec<u8>) -> Result<(), NoMemory>
+        ensures { OnOk result (file.new.items ≡ file.old.items ++ program_header_bytes self.now) }
+    {
+        push_words(
+            file,
+            &[
+                self.p_type,
+                self.p_offset,
+                self.p_vaddr,
+                self.p_vaddr,
+                self.p_filesz,
+                self.p_memsz,
+                self.p_flags,
+                ALIGNMENT,
+            ],
+        )
+    }
+
     /// Judges a header of type PT_LOAD: it has no more bytes in the file than in memory, and these lie
     /// in a file of `file_len` bytes.
-    pub fn check(&self, file_len: usize) -> Result<(), Fault>
+    pub fn check(&self, file_len: usize) -> Result<(), FileFault>
         requires { self.now.place ≤ file_limit }
-        ensures { result_err result ≡ load_fault file_len self.now }
+        ensures accepted { OnOk result (load_fault file_len self.now ≡ None) }
+        ensures refused { IfErr result (λ fault. load_fault file_len self.now ≡ Some fault) }
     {
         if self.p_type != PT_LOAD {
             return Ok(());
         }
         if self.p_filesz > self.p_memsz {
-            return Err(Fault::new(FaultKind::Segment, self.place + P_FILESZ));
+            return Err(FaultKind::Segment.at(self.place + P_FILESZ));
         }
         if self.p_filesz >= 1 && self.p_offset as usize + self.p_filesz as usize > file_len {
-            return Err(Fault::new(FaultKind::Segment, self.place + P_OFFSET));
+            return Err(FaultKind::Segment.at(self.place + P_OFFSET));
         }
         Ok(())
     }

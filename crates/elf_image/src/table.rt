@@ -1,30 +1,28 @@
 //! The table of program headers.
 
-ghost use Rattle.std.specs.Prelude.{◌≡◌, ◌≤◌, ◌+◌, ◌*◌, All, filter, length};
-ghost use Rattle.std.specs.Result.{result_err};
-ghost use Rattle.elf_image.specs.Header.{HasTable, headers_at, program_headers};
+ghost use Rattle.std.specs.Prelude.{◌≡◌, ◌≤◌, ◌+◌, ◌*◌, None, Some, All, IfErr, OnOk, filter, length};
+ghost use Rattle.elf_image.specs.Header.{HasTable, headers_at};
 ghost use Rattle.elf_image.specs.Layout.{is_segment};
 ghost use Rattle.elf_image.specs.Faults as faults;
-ghost use Rattle.elf_image.specs.Limits.{file_limit};
+ghost use Rattle.elf_image.specs.Limits.{file_limit, header_limit};
 
-use crate::fault::{Fault, FaultKind};
+use crate::fault::FaultKind;
 use crate::header::FileHeader;
-use crate::program_header::{MOST_PROGRAM_HEADERS, PROGRAM_HEADER_LEN, ProgramHeader};
+use crate::limits::PROGRAM_HEADER_LIMIT;
+use crate::program_header::{PROGRAM_HEADER_LEN, ProgramHeader};
 use arrayvec::ArrayVec;
+use el_base::FileFault;
 
 /// Program headers, in the order of their table.
-pub type ProgramHeaders = ArrayVec<ProgramHeader, MOST_PROGRAM_HEADERS>;
+pub type ProgramHeaders = ArrayVec<ProgramHeader, PROGRAM_HEADER_LIMIT>;
 
-/// The program headers of a file.
-#[tactic(auto, unfolding(crate::specs::Header::program_headers))]
-pub fn read_table(file: &[u8]) -> ProgramHeaders
-    requires whole { 52 ≤ length file.now }
+/// The program headers of a file that has this header.
+pub fn read_table(file: &[u8], header: &FileHeader) -> ProgramHeaders
     requires within_limit { length file.now ≤ file_limit }
-    requires table { HasTable file.now }
-    ensures exact { result.items ≡ program_headers file.now }
+    requires table { HasTable header.now (length file.now) }
+    ensures exact { result.items ≡ headers_at file.now header.now.e_phoff header.now.e_phnum }
     ensures places { All (λ header. header.place ≤ file_limit) result.items }
 {
-    let header = FileHeader::read(file);
     read_headers(file, header.e_phoff, header.e_phnum)
 }
 
@@ -32,7 +30,7 @@ pub fn read_table(file: &[u8]) -> ProgramHeaders
 #[tactic(auto, unfolding(crate::specs::Header::headers_at))]
 fn read_headers(file: &[u8], place: u32, count: u16) -> ProgramHeaders
     requires within_limit { length file.now ≤ file_limit }
-    requires few { count ≤ 64 }
+    requires few { count ≤ header_limit }
     requires inside { place + 32 * count ≤ length file.now }
     ensures exact { result.items ≡ headers_at file.now place count }
     ensures places { All (λ header. header.place ≤ file_limit) result.items }
@@ -48,12 +46,13 @@ fn read_headers(file: &[u8], place: u32, count: u16) -> ProgramHeaders
 /// Judges the headers: none asks for a dynamic linker, and what is loaded lies in a file of `file_len`
 /// bytes.
 #[tactic(auto, unfolding(crate::specs::Faults::headers_fault))]
-pub fn check_program_headers(headers: &[ProgramHeader], file_len: usize) -> Result<(), Fault>
+pub fn check_program_headers(headers: &[ProgramHeader], file_len: usize) -> Result<(), FileFault>
     requires { All (λ header. header.place ≤ file_limit) headers.now }
-    ensures { result_err result ≡ faults.headers_fault headers.now file_len }
+    ensures accepted { OnOk result (faults.headers_fault headers.now file_len ≡ None) }
+    ensures refused { IfErr result (λ fault. faults.headers_fault headers.now file_len ≡ Some fault) }
 {
     if let Some(place) = first_dynamic(headers) {
-        return Err(Fault::new(FaultKind::Dynamic, place));
+        return Err(FaultKind::Dynamic.at(place));
     }
     check_each(headers, file_len)
 }
@@ -69,9 +68,10 @@ fn first_dynamic(headers: &[ProgramHeader]) -> Option<u32>
 }
 
 /// Judges each header of type PT_LOAD.
-fn check_each(headers: &[ProgramHeader], file_len: usize) -> Result<(), Fault>
+fn check_each(headers: &[ProgramHeader], file_len: usize) -> Result<(), FileFault>
     requires { All (λ header. header.place ≤ file_limit) headers.now }
-    ensures { result_err result ≡ faults.segment_fault headers.now file_len }
+    ensures accepted { OnOk result (faults.segment_fault headers.now file_len ≡ None) }
+    ensures refused { IfErr result (λ fault. faults.segment_fault headers.now file_len ≡ Some fault) }
 {
     for header in headers {
         header.check(file_len)?;
@@ -81,7 +81,7 @@ fn check_each(headers: &[ProgramHeader], file_len: usize) -> Result<(), Fault>
 
 /// The headers of the segments: those of type PT_LOAD that have memory.
 pub fn segments_of(headers: &[ProgramHeader]) -> ProgramHeaders
-    requires { length headers.now ≤ 64 }
+    requires { length headers.now ≤ header_limit }
     ensures { result.items ≡ filter is_segment headers.now }
 {
     let mut segments = ProgramHeaders::new();

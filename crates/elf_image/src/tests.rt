@@ -1,5 +1,5 @@
 use super::*;
-use crate::fault::{Fault, FaultKind};
+use el_base::FileFault;
 use std::alloc::{AllocError, Global};
 use std::process::Abort;
 use std::test::Fail;
@@ -25,12 +25,12 @@ fn loaded(
     alloc: Global,
     file: &[u8],
     harts: u8,
-) -> Result<Result<Image, Fault>, AllocError> {
+) -> Result<Result<Image, FileFault>, AllocError> {
     assert!(rt; file.len() <= LIMIT);
     assert!(rt; (1..=8).contains(&harts));
     match load(alloc, file, harts) {
         Ok(image) => Ok(Ok(image)),
-        Err(ImageFault::Bad { number, place }) => Ok(Err(Fault { number, place })),
+        Err(ImageFault::Bad { number, place }) => Ok(Err(FileFault { number, place })),
         Err(ImageFault::NoMemory) => Err(AllocError),
     }
 }
@@ -41,13 +41,13 @@ fn judged(
     alloc: Global,
     file: &[u8],
     harts: u8,
-) -> Result<Option<Fault>, AllocError> {
+) -> Result<Option<FileFault>, AllocError> {
     Ok(loaded(rt, alloc, file, harts)?.err())
 }
 
 /// The fault of a kind at a place, or none.
-fn bad(fault: Option<(FaultKind, u32)>) -> Option<Fault> {
-    fault.map(|(kind, place)| Fault::new(kind, place))
+fn bad(fault: Option<(FaultKind, u32)>) -> Option<FileFault> {
+    fault.map(|(kind, place)| kind.at(place))
 }
 
 /// The file with bytes written over it, each with its place.
@@ -85,28 +85,30 @@ fn file_of(
     Ok(file)
 }
 
-/// The numbers that a user reads.
+/// The numbers and the names that a user reads.
 #[test]
-fn each_kind_has_its_number(rt: HostRuntime) {
-    for (kind, number) in [
-        (FaultKind::Short, 1),
-        (FaultKind::Magic, 2),
-        (FaultKind::Class, 3),
-        (FaultKind::ByteOrder, 4),
-        (FaultKind::Version, 5),
-        (FaultKind::FileKind, 6),
-        (FaultKind::Machine, 7),
-        (FaultKind::Flags, 8),
-        (FaultKind::Table, 9),
-        (FaultKind::Dynamic, 10),
-        (FaultKind::Segment, 11),
-        (FaultKind::Overlap, 12),
-        (FaultKind::TooWide, 13),
-        (FaultKind::TooHigh, 14),
-        (FaultKind::Entry, 15),
-        (FaultKind::Empty, 16),
+fn each_number_has_its_name(rt: HostRuntime) {
+    for (number, name) in [
+        (0, None),
+        (1, Some("Short")),
+        (2, Some("Magic")),
+        (3, Some("Class")),
+        (4, Some("ByteOrder")),
+        (5, Some("Version")),
+        (6, Some("FileKind")),
+        (7, Some("Machine")),
+        (8, Some("Flags")),
+        (9, Some("Table")),
+        (10, Some("Dynamic")),
+        (11, Some("Segment")),
+        (12, Some("Overlap")),
+        (13, Some("TooWide")),
+        (14, Some("TooHigh")),
+        (15, Some("Entry")),
+        (16, Some("Empty")),
+        (17, None),
     ] {
-        assert_eq!(rt; Fault::new(kind, 0).number, number, "{kind:?}");
+        assert_eq!(rt; fault_name(number), name, "{number}");
     }
 }
 
@@ -114,9 +116,9 @@ fn each_kind_has_its_number(rt: HostRuntime) {
 fn cut_files_are_refused(rt: HostRuntime) -> Result<(), Fail> {
     for len in 0..FILE.len() {
         let want = match len {
-            0..52 => Fault::new(FaultKind::Short, len as u32),
-            52..84 => Fault::new(FaultKind::Table, 28),
-            _ => Fault::new(FaultKind::Segment, 56),
+            0..52 => FaultKind::Short.at(len as u32),
+            52..84 => FaultKind::Table.at(28),
+            _ => FaultKind::Segment.at(56),
         };
         let found = judged(&rt, rt.alloc(), &FILE[..len], 1)?;
         assert_eq!(rt; found, Some(want), "cut to {len}");
@@ -325,5 +327,60 @@ fn memory_has_at_most_16_mib(rt: HostRuntime) -> Result<(), Fail> {
         }
         assert_eq!(rt; image.err(), bad(want), "{memory} bytes, {harts} harts");
     }
+    Ok(())
+}
+
+/// A program that prints 'A' and a newline, which stand in a segment of their own.
+const WORDS: [u32; 9] = [
+    0x0010_0513,
+    0x0000_1597,
+    0xffc5_8593,
+    0x0020_0613,
+    0x0400_0893,
+    0x0000_0073,
+    0x0000_0513,
+    0x05d0_0893,
+    0x0000_0073,
+];
+
+/// Its file, as a script made it by the ELF specification. GNU readelf 2.40 reads two segments of type
+/// LOAD in it: at 0x10000 of 0x24 bytes, flags R E, and at 0x11000 of 2 and 8 bytes, flags RW.
+const BUILT_FILE: [u8; 154] = [
+    0x7f, 0x45, 0x4c, 0x46, 0x01, 0x01, 0x01, 0x00, 0x00, 0x00, 0x00, 0x00, 0x00, 0x00, 0x00, 0x00,
+    0x02, 0x00, 0xf3, 0x00, 0x01, 0x00, 0x00, 0x00, 0x00, 0x00, 0x01, 0x00, 0x34, 0x00, 0x00, 0x00,
+    0x00, 0x00, 0x00, 0x00, 0x00, 0x00, 0x00, 0x00, 0x34, 0x00, 0x20, 0x00, 0x02, 0x00, 0x00, 0x00,
+    0x00, 0x00, 0x00, 0x00, 0x01, 0x00, 0x00, 0x00, 0x74, 0x00, 0x00, 0x00, 0x00, 0x00, 0x01, 0x00,
+    0x00, 0x00, 0x01, 0x00, 0x24, 0x00, 0x00, 0x00, 0x24, 0x00, 0x00, 0x00, 0x05, 0x00, 0x00, 0x00,
+    0x04, 0x00, 0x00, 0x00, 0x01, 0x00, 0x00, 0x00, 0x98, 0x00, 0x00, 0x00, 0x00, 0x10, 0x01, 0x00,
+    0x00, 0x10, 0x01, 0x00, 0x02, 0x00, 0x00, 0x00, 0x08, 0x00, 0x00, 0x00, 0x06, 0x00, 0x00, 0x00,
+    0x04, 0x00, 0x00, 0x00, 0x13, 0x05, 0x10, 0x00, 0x97, 0x15, 0x00, 0x00, 0x93, 0x85, 0xc5, 0xff,
+    0x13, 0x06, 0x20, 0x00, 0x93, 0x08, 0x00, 0x04, 0x73, 0x00, 0x00, 0x00, 0x13, 0x05, 0x00, 0x00,
+    0x93, 0x08, 0xd0, 0x05, 0x73, 0x00, 0x00, 0x00, 0x41, 0x0a,
+];
+
+#[test]
+fn a_built_program_is_written_and_loaded(rt: HostRuntime) -> Result<(), Fail> {
+    let built = Built {
+        base: 0x10000,
+        words: WORDS.to_vec(rt.alloc())?,
+        bytes: b"A\n".to_vec(rt.alloc())?,
+        zeros: 6,
+        entry: 0x10000,
+    };
+    let file = write_image(rt.alloc(), &built).ok().ok_or("no memory")?;
+    assert_eq!(rt; file.as_slice(), BUILT_FILE.as_slice());
+    let image = loaded(&rt, rt.alloc(), &file, 8)?.ok().ok_or("refused")?;
+    assert_eq!(rt; image.base(), 0x10000);
+    assert_eq!(rt; image.entry(), 0x10000);
+    assert_eq!(rt; image.bytes().len(), 0x91040 - 0x10000);
+    assert_eq!(rt; image.code_word(0x10020), Some(0x0000_0073));
+    assert_eq!(rt; image.code_word(0x11000), None);
+    assert!(rt;
+        image
+            .bytes()
+            .get(0x1000..)
+            .ok_or("short")?
+            .starts_with(b"A\n\0")
+    );
     Ok(())
 }

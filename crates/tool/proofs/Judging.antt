@@ -12,7 +12,7 @@ use Rattle.el_io.specs.Shelf.{Contents, NamedCall}
 use Rattle.el_io.specs.declared.shelf.Call.TheVariants.{Read}
 use Rattle.plain_model.specs.ModelState.{begin}
 use Rattle.plain_model.specs.RoundRobin.{IsRoundRobin}
-use Rattle.elf_image.specs.declared.fault.Fault.{Fault}
+use Rattle.el_base.specs.declared.file_fault.FileFault.{FileFault}
 use Rattle.elf_image.specs.Faults.{fault}
 use Rattle.elf_image.specs.Limits.{file_limit}
 use Rattle.elf_image.specs.Loaded.{program_of}
@@ -37,17 +37,17 @@ fresh program config = record { program = program; config = config; entries = []
 
 -- an image with a fault is refused, and one without is run
 
-image-refused : (Runs : Program → Answer → Type 0) (harts : ℕ) (file : List ℕ) (found : Fault) → fault file harts ≡ Some found → OverImage Runs harts file (refused (refusals.Image found.number found.place))
+image-refused : (Runs : Program → Answer → Type 0) (harts : ℕ) (file : List ℕ) (found : FileFault) → fault file harts ≡ Some found → OverImage Runs harts file (refused (refusals.Image found.number found.place))
 image-refused Runs harts file found e =
-    let P : Option Fault → Type 0 = λ judged. ImageAnswer Runs harts file judged (refused (refusals.Image found.number found.place)) in
+    let P : Option FileFault → Type 0 = λ judged. ImageAnswer Runs harts file judged (refused (refusals.Image found.number found.place)) in
     subst P (sym e) refl
 
 image-run : (Runs : Program → Answer → Type 0) (harts : ℕ) (file : List ℕ) (answer : Answer) → fault file harts ≡ None → Runs (program_of file harts) answer → OverImage Runs harts file answer
 image-run Runs harts file answer e h =
-    let P : Option Fault → Type 0 = λ judged. ImageAnswer Runs harts file judged answer in
+    let P : Option FileFault → Type 0 = λ judged. ImageAnswer Runs harts file judged answer in
     subst P (sym e) h
 
-image-stops : (Runs : Program → Answer → Type 0) (harts : ℕ) (file : List ℕ) (refusal : Refusal) → ((found : Fault) × (fault file harts ≡ Some found) × (refusal ≡ refusals.Image found.number found.place)) → OverImage Runs harts file (refused refusal)
+image-stops : (Runs : Program → Answer → Type 0) (harts : ℕ) (file : List ℕ) (refusal : Refusal) → ((found : FileFault) × (fault file harts ≡ Some found) × (refusal ≡ refusals.Image found.number found.place)) → OverImage Runs harts file (refused refusal)
 image-stops Runs harts file refusal h =
     let P : Refusal → Type 0 = λ line. OverImage Runs harts file (refused line) in
     subst P (sym h.2) (image-refused Runs harts file h.0 h.1)

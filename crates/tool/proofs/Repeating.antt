@@ -18,7 +18,7 @@ use Rattle.plain_model.specs.ModelState.{ModelState, begin}
 use Rattle.plain_model.specs.RoundRobin.{IsRoundRobin, IsEventAt}
 use Rattle.plain_model.specs.Runs.{entries_from}
 use Rattle.plain_model.specs.Step.{next}
-use Rattle.elf_image.specs.declared.fault.Fault.{Fault}
+use Rattle.el_base.specs.declared.file_fault.FileFault.{FileFault}
 use Rattle.elf_image.specs.Faults.{fault}
 use Rattle.elf_image.specs.Limits.{file_limit}
 use Rattle.elf_image.specs.Loaded.{program_of}
@@ -64,7 +64,7 @@ ran-within : (over : Bool) (limit : ℕ) (Judged : Answer → Type 0) (ran : Ans
 ran-within true limit Judged ran file w h = absurd (wrote-no-file _ ran file h w)
 ran-within false limit Judged ran file w h = (refl, h)
 
-ran-image : (Runs : Program → Answer → Type 0) (harts : ℕ) (image : List ℕ) (found : Option Fault) (ran : Answer) (file : WrittenFile) → ran.written ≡ Some file → ImageAnswer Runs harts image found ran → (found ≡ None) × Runs (program_of image harts) ran
+ran-image : (Runs : Program → Answer → Type 0) (harts : ℕ) (image : List ℕ) (found : Option FileFault) (ran : Answer) (file : WrittenFile) → ran.written ≡ Some file → ImageAnswer Runs harts image found ran → (found ≡ None) × Runs (program_of image harts) ran
 ran-image Runs harts image (Some fault) ran file w h = absurd (wrote-no-file _ ran file h w)
 ran-image Runs harts image None ran file w h = (refl, h)
 
@@ -85,9 +85,9 @@ replay-followed image trace found replayed e h =
     let P : Option trace_faults.Fault → Type 0 = λ judged. TraceAnswer image trace judged replayed in
     subst P e h
 
-replay-run : (Runs : Program → Answer → Type 0) (harts : ℕ) (image : List ℕ) (found : Option Fault) (replayed : Answer) → found ≡ None → ImageAnswer Runs harts image found replayed → Runs (program_of image harts) replayed
+replay-run : (Runs : Program → Answer → Type 0) (harts : ℕ) (image : List ℕ) (found : Option FileFault) (replayed : Answer) → found ≡ None → ImageAnswer Runs harts image found replayed → Runs (program_of image harts) replayed
 replay-run Runs harts image found replayed e h =
-    let P : Option Fault → Type 0 = λ judged. ImageAnswer Runs harts image judged replayed in
+    let P : Option FileFault → Type 0 = λ judged. ImageAnswer Runs harts image judged replayed in
     subst P e h
 
 -- the story of these events on a program, told with a trace or without

@@ -11,7 +11,7 @@ use Rattle.el_base.specs.declared.config.ConfigFault.{ConfigFault}
 use Rattle.el_io.specs.Shelf.{Contents}
 use Rattle.plain_model.specs.ModelState.{begin}
 use Rattle.plain_model.specs.RoundRobin.{IsRoundRobin}
-use Rattle.elf_image.specs.declared.fault.Fault as image_faults
+use Rattle.el_base.specs.declared.file_fault.FileFault.{FileFault}
 use Rattle.elf_image.specs.Faults.{fault}
 use Rattle.elf_image.specs.Limits.{file_limit}
 use Rattle.elf_image.specs.Loaded.{program_of}
@@ -67,7 +67,7 @@ abbrev pub story_of : Program → Config → List Event → Story
 story_of program config made = continued (record { program = program; config = config; entries = [] }) made
 
 -- the answer over an image file, by its first fault; where it has none, over the program
-abbrev pub ImageAnswer : (Program → Answer → Type 0) → ℕ → List ℕ → Option image_faults.Fault → Answer → Type 0
+abbrev pub ImageAnswer : (Program → Answer → Type 0) → ℕ → List ℕ → Option FileFault → Answer → Type 0
 ImageAnswer Runs harts file (Some found) answer = answer ≡ refused (refusals.Image found.number found.place)
 ImageAnswer Runs harts file None answer = Runs (program_of file harts) answer
 

@@ -5,7 +5,7 @@ use Rattle.el_base.specs.declared.config.Config.{Config}
 use Rattle.el_base.specs.declared.config.Mode.TheVariants.{Plain}
 use Rattle.el_io.specs.declared.shelf.ShelfFault.{ShelfFault}
 use Rattle.el_io.specs.declared.shelf.ShelfFault.TheVariants as faults
-use Rattle.elf_image.specs.declared.fault.Fault.{Fault}
+use Rattle.el_base.specs.declared.file_fault.FileFault.{FileFault}
 use Rattle.trace_file.specs.declared.fault.Fault as trace_faults
 use Rattle.trace_file.specs.Faults.{trace_fault}
 use Rattle.trace_file.specs.Spelling.{IsTrace, spelling}
@@ -29,8 +29,8 @@ StopsRead limit Over Fault stops.DeviceFault = Fault
 StopsRead limit Over Fault stops.NoMemory = Unit {0}
 
 -- what stopped a machine from being made of a file: the fault of the image, or want of memory
-abbrev pub StopsImage : Option Fault → Stop → Type 0
-StopsImage found (stops.Refused refusal) = (fault : Fault) × (found ≡ Some fault) × (refusal ≡ Image fault.number fault.place)
+abbrev pub StopsImage : Option FileFault → Stop → Type 0
+StopsImage found (stops.Refused refusal) = (fault : FileFault) × (found ≡ Some fault) × (refusal ≡ Image fault.number fault.place)
 StopsImage found stops.DeviceFault = ⊥
 StopsImage found stops.NoMemory = Unit {0}
 

@@ -4,6 +4,5 @@ use Rattle.elf_image.proofs.loaded.fill_segment.Goals as goal
 
 pub returns : goal.returns
 returns c k below =
-    get_or-filled c.args.bytes.now c.args.file.now c.copy_from_slice.new.self c.args.base c.args.segment.now.p_vaddr
-    c.args.segment.now.p_offset c.args.segment.now.p_filesz k c.requires.inside.above c.copy_from_slice.ensures.after
-    (c.requires.in_file (omega arith)) (omega arith) below
+    get_or-filled c.args.bytes.now c.args.file.now _ c.args.base c.args.segment.now _ _ _ _ k c.copy_from_slice.ensures.after
+    (omega arith) (omega arith) (omega arith) (omega arith) (omega arith) (omega arith) below

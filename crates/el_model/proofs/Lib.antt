@@ -5,4 +5,7 @@ pub mod Keeps
 pub mod Turns
 pub mod Folds
 pub mod Coming
+pub mod Harts
+pub mod Losing
+pub mod Restoring
 pub mod Runs

@@ -33,11 +33,11 @@ pub record Calm (state : ModelState) (turn : Turn) : Type 0 where
 still : (state : ModelState) → Calm state (record { state = state; outcome = Idle })
 still state = record { keeps = keeps_all state; no_effect = refl }
 
-placed_last_keeps : (state : ModelState) (request : Request) → Keeps state (placed_last state request)
+pub placed_last_keeps : (state : ModelState) (request : Request) → Keeps state (placed_last state request)
 placed_last_keeps state request =
     keeps_twice (keeps_with_hart state request.hart _) (keeps_reordered _ (appended state.order request))
 
-placed_in_front_keeps : (state : ModelState) (request : Request) → Keeps state (placed_in_front state request)
+pub placed_in_front_keeps : (state : ModelState) (request : Request) → Keeps state (placed_in_front state request)
 placed_in_front_keeps state request =
     keeps_twice (keeps_with_hart state request.hart _) (keeps_reordered _ (in_front_of state.order request))
 

@@ -11,4 +11,5 @@ pub mod Plain
 pub mod InSection
 pub mod Next
 pub mod Causes
+pub mod Losses
 pub mod Laws

@@ -1,4 +1,4 @@
-ghost use Rattle.el_model.specs.Laws.{CommitsInSerialOrder, IdleChangesNothing, OutcomesComeByTheirRules};
+ghost use Rattle.el_model.specs.Laws.{CommitsInSerialOrder, IdleChangesNothing, LosersAreRestored, OutcomesComeByTheirRules};
 
 /// Whatever the events, in every mode, the committed state is that of one run of the program on plain
 /// shared memory, in the serial order of the history of these events.
@@ -17,4 +17,11 @@ pub fn outcomes_come_by_their_rules()
 #[tactic(auto, using(crate::proofs::Coming::idle_is_still))]
 pub fn idle_changes_nothing()
     ensures { IdleChangesNothing }
+{}
+
+/// Where an event of the bus names no winner for a hart, that hart's section, tries and fallback flag are
+/// as they were; where it names one, they are those after a loss.
+#[tactic(auto, using(crate::proofs::Restoring::losers_restored))]
+pub fn losers_are_restored()
+    ensures { LosersAreRestored }
 {}

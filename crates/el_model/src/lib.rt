@@ -18,4 +18,7 @@
 
 mod laws;
 
-pub use laws::{commits_in_serial_order, idle_changes_nothing, outcomes_come_by_their_rules};
+pub use laws::{
+    commits_in_serial_order, idle_changes_nothing, losers_are_restored,
+    outcomes_come_by_their_rules,
+};

@@ -1,4 +1,6 @@
 pub mod PutBytes
 pub mod StepLaws
+pub mod Frame
+pub mod LostReservations
 mod Applied
 mod Worked

@@ -40,11 +40,11 @@ insn-one_line None view span room = tt
 insn-one_line (Some insn) view span room =
     footprint-one_line insn span room (access_of insn view.pc view.regs view.reserved span room) (fits insn view.pc view.regs view.reserved span room).footprint
 
-one_line-touched : (state : FlatState) (view : HartView) → IsInOneLine (span_of state) (touched_by state view)
+pub one_line-touched : (state : FlatState) (view : HartView) → IsInOneLine (span_of state) (touched_by state view)
 one_line-touched state view = insn-one_line (insn_at (code_word state.code view.pc)) view (span_of state) (room_of state)
 
 -- what is stored and appended is what is touched
-within : (state : FlatState) (view : HartView) → IsWithin (touched_by state view) (execution_of state view)
+pub within : (state : FlatState) (view : HartView) → IsWithin (touched_by state view) (execution_of state view)
 within state view = executed-within (code_word state.code view.pc) view (span_of state) (room_of state) (byte_in state.base state.bytes)
 
 by_status : (P : Access → FlatState → Type 0) (state : FlatState) (hart : ℕ) (view : HartView) (status : HartStatus) →
@@ -80,7 +80,7 @@ pub running : (state : FlatState) (hart : ℕ) → status_of state hart ≡ Runn
 unfolding flat
 running state hart h = ap (status_step state hart (view_of state hart)) h
 
-length-unreserved_by : (store : Option Store) (harts : List HartView) → length (unreserved_by store harts) ≡ length harts
+pub length-unreserved_by : (store : Option Store) (harts : List HartView) → length (unreserved_by store harts) ≡ length harts
 length-unreserved_by None harts = refl
 length-unreserved_by (Some store) harts = length-map harts (unreserved (line_number store.address))
 
@@ -114,13 +114,16 @@ keeps_shape state hart =
     })
 
 -- the own view after a step
+pub view-applied : (state : FlatState) (hart : ℕ) (view : HartView) (execution : Execution) → hart < length state.harts →
+    view_of (applied state hart view execution) hart ≡ view_after execution view
+view-applied state hart view execution there =
+    let within : hart < length (unreserved_by (store_in execution) state.harts) = omega (arith, length-unreserved_by (store_in execution) state.harts) in
+    get_or-set_same (unreserved_by (store_in execution) state.harts) hart (view_after execution view) no_hart within
+
 pub own_view : (state : FlatState) (hart : ℕ) → hart < length state.harts → status_of state hart ≡ Running →
     view_of (flat state hart) hart ≡ view_after (execution_of state (view_of state hart)) (view_of state hart)
-own_view state hart within runs =
-    let execution : Execution = execution_of state (view_of state hart) in
-    let there : hart < length (unreserved_by (store_in execution) state.harts) = omega (arith, length-unreserved_by (store_in execution) state.harts) in
-    ap (λ new. view_of new hart) (running state hart runs)
-    ∙ get_or-set_same (unreserved_by (store_in execution) state.harts) hart (view_after execution (view_of state hart)) no_hart there
+own_view state hart there runs =
+    ap (λ new. view_of new hart) (running state hart runs) ∙ view-applied state hart (view_of state hart) (execution_of state (view_of state hart)) there
 
 -- the bytes of a state are those of another, but where the access writes
 abbrev pub KeepsBytes : FlatState → Access → FlatState → Type 0

@@ -4,19 +4,19 @@ use Rattle.std.specs.Prelude.{IfSome, slice_index, slice_index_or}
 use Rattle.std.proofs.lemmas.Grind.{common_steps, same_number_lists}
 use Rattle.std.proofs.lemmas.List.{append-nil, get_or-drop, get_or-take, length-take}
 use Rattle.elf_image.specs.Program.{code_word}
-use Rattle.rv_alu.proofs.Executions.{executed_agree}
+use Rattle.rv_alu.proofs.Executions.{executed-append, executed-room, executed_agree}
 use Rattle.rv_alu.specs.declared.footprint.Access.{Access}
 use Rattle.rv_alu.specs.declared.footprint.Access.TheVariants.{Read}
 use Rattle.rv_alu.specs.declared.span.Span.{Span}
 use Rattle.rv_alu.specs.declared.view.HartStatus.{HartStatus}
 use Rattle.rv_alu.specs.declared.view.HartStatus.TheVariants.{Running, Exited, Trapped}
 use Rattle.rv_alu.specs.declared.view.HartView.{HartView}
-use Rattle.rv_alu.specs.Execution.{Append, Execution, Store, append_in, executed, store_in}
-use Rattle.rv_alu.specs.Footprint.{AgreeOn, IsPiece}
+use Rattle.rv_alu.specs.Execution.{Append, Execution, Store, append_in, executed, insn_at, store_in}
+use Rattle.rv_alu.specs.Footprint.{AgreeOn, IsNoCall, IsPiece}
 use Rattle.rv_flat.specs.FlatState.{FlatState, room_of, span_of, status_of, view_of}
-use Rattle.rv_flat.specs.Laws.{AreSameTo, DidTheSame, IsInOneLine, touched_by, touched_in}
+use Rattle.rv_flat.specs.Laws.{AreSameTo, DidTheSame, IsInOneLine, next_insn, touched_by, touched_in, with_output}
 use Rattle.rv_flat.specs.Memory.{byte_in, piece_of}
-use Rattle.rv_flat.specs.Step.{applied, execution_of, flat, status_step, stored_by}
+use Rattle.rv_flat.specs.Step.{appended_by, applied, execution_of, flat, status_step, stored_by}
 use Rattle.rv_flat.proofs.PutBytes.{put_bytes-same}
 use Rattle.rv_flat.proofs.StepLaws.{appended, appended_by-more, one_line-touched, view-applied, within}
 
@@ -111,3 +111,23 @@ same_step hart left right in_left in_right same =
     let Did : HartView → Type 0 = λ view. DidTheSame hart left right (status_step left hart view view.status) (flat right hart) in
     subst Did (sym same.view)
     (same_status hart left right (view_of right hart) (status_of right hart) in_left in_right same.view same.code same.span same.room same.bytes)
+
+any_output-applied : (state : FlatState) (output : List ℕ) (hart : ℕ) (view : HartView) → IsNoCall (insn_at (code_word state.code view.pc)) →
+    applied (with_output state output) hart view (execution_of (with_output state output) view) ≡ with_output (applied state hart view (execution_of state view)) output
+any_output-applied state output hart view none =
+    let word : Option ℕ = code_word state.code view.pc in
+    let byte : ℕ → ℕ = byte_in state.base state.bytes in
+    ap (applied (with_output state output) hart view) (executed-room word view (span_of state) (room_of (with_output state output)) (room_of state) byte none)
+    ∙ ap (λ append. with_output (applied state hart view (execution_of state view)) (appended_by append state.base state.bytes output))
+    (executed-append word view (span_of state) (room_of state) byte none)
+
+any_output-status : (state : FlatState) (output : List ℕ) (hart : ℕ) (view : HartView) (status : HartStatus) → IsNoCall (insn_at (code_word state.code view.pc)) →
+    status_step (with_output state output) hart view status ≡ with_output (status_step state hart view status) output
+any_output-status state output hart view Running none = any_output-applied state output hart view none
+any_output-status state output hart view (Exited code) none = refl
+any_output-status state output hart view (Trapped cause pc) none = refl
+
+-- a step that makes no call is the same whatever the output is
+pub any_output : (state : FlatState) (output : List ℕ) (hart : ℕ) → IsNoCall (next_insn state hart) → flat (with_output state output) hart ≡ with_output (flat state hart) output
+unfolding flat
+any_output state output hart none = any_output-status state output hart (view_of state hart) (status_of state hart) none

@@ -1,5 +1,5 @@
 -- the laws of a step
-use Rattle.std.proofs.Common.{◌≡◌, ◌≢◌, ◌≤◌, ◌<◌, ℕ, ◌+◌, ◌-◌, List, [], ◌∷◌, ◌++◌, length, Option, None, Some, refl, arith, ◌*◌, zero-add, ap, sym, ◌∙◌, inl, inr, ◌⊎◌}
+use Rattle.std.proofs.Common.{◌≡◌, ◌≢◌, ◌≤◌, ◌<◌, ℕ, ◌+◌, ◌-◌, ◌%◌, List, [], ◌∷◌, ◌++◌, length, Option, None, Some, refl, arith, ◌*◌, zero-add, ap, sym, ◌∙◌, inl, inr, ◌⊎◌}
 use Rattle.std.specs.Prelude.{MatchOption, map, replicate, slice_index, slice_index_or, slice_set}
 use Rattle.std.proofs.lemmas.List.{append-nil, get_or-set_other, get_or-set_same, length-map, length-set, replicate-append-replicate}
 use Rattle.std.proofs.lemmas.Bool.{cases_eq}
@@ -21,7 +21,7 @@ use Rattle.rv_alu.specs.Regs.{AreRegs, set}
 use Rattle.rv_alu.specs.declared.span.Span.{Span}
 use Rattle.rv_word.specs.declared.insn.Insn.{Insn}
 use Rattle.rv_flat.specs.FlatState.{FlatState, first_regs, first_view, no_hart, room_of, span_of, start, status_of, view_of}
-use Rattle.rv_flat.specs.Laws.{HasRegs, IsInOneLine, KeepsShape, Writes, footprint_of, seen_after, touched_by, touched_in}
+use Rattle.rv_flat.specs.Laws.{HasRegs, IsInOneLine, KeepsShape, Writes, footprint_of, seen_after, touched_by, touched_in, written_line}
 use Rattle.rv_flat.specs.Memory.{byte_in, piece_of, put_bytes}
 use Rattle.rv_flat.specs.Run.{alone, run}
 use Rattle.rv_flat.specs.Step.{appended_by, applied, execution_of, flat, status_step, stored_by, unreserved, unreserved_by}
@@ -146,6 +146,24 @@ writes_in_footprint state hart =
     by_step (KeepsBytes state) state hart (λ place out. refl)
     (stored_by-other state (touched_by state (view_of state hart)) (store_in (execution_of state (view_of state hart)))
     (one_line-touched state (view_of state hart)) (within state (view_of state hart)).store)
+
+-- so it changes memory only on the line that is written
+on_line : (span : Span) (access : Access) (address : ℕ) → IsInOneLine span access → Writes access address → written_line access ≡ Some (line_number address)
+on_line span (Write from len) address piece there =
+    let short : from % 64 + len ≤ 64 = piece.one_line in
+    let low : from ≤ address = there.0 in
+    let high : address < from + len = there.1 in
+    let same : line_number from ≡ line_number address = omega arith in
+    ap Some same
+on_line span (Read from len) address piece there = absurd there
+on_line span Nothing address piece there = absurd there
+on_line span (Trap cause) address piece there = absurd there
+on_line span (Exit code) address piece there = absurd there
+
+pub writes_on_line : (state : FlatState) (hart place : ℕ) → written_line (footprint_of state hart) ≢ Some (line_number (state.base + place)) →
+    slice_index (flat state hart).bytes place ≡ slice_index state.bytes place
+writes_on_line state hart place apart =
+    writes_in_footprint state hart place (λ there. apart (on_line (span_of state) (footprint_of state hart) (state.base + place) (one_line state hart) there))
 
 -- a hart's view after another's step is as before, but for a reservation on the line that the access writes
 abbrev pub KeepsOthers : FlatState → ℕ → Access → FlatState → Type 0

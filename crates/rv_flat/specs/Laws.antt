@@ -99,6 +99,10 @@ pub record DidTheSame (hart : ℕ) (left right left_after right_after : FlatStat
   pub left_output : left_after.output ≡ left.output ++ more
   pub right_output : right_after.output ≡ right.output ++ more
 
+-- the output is another one
+abbrev pub with_output : FlatState → List ℕ → FlatState
+with_output state output = record state { output = output }
+
 -- a hart's reservation is another one
 abbrev pub with_reserved : FlatState → ℕ → Option ℕ → FlatState
 with_reserved state hart reserved = with_view state hart (record (view_of state hart) { reserved = reserved })

@@ -1,9 +1,12 @@
 -- how bytes are put one after another
-use Rattle.std.proofs.Common.{◌≡◌, ℕ, zero, suc, ◌+◌, ◌/◌, ◌%◌, ◌≤◌, ◌<◌, ◌∙◌, List, arith, length, refl, sym}
+use Rattle.std.proofs.Common.{◌≡◌, ℕ, zero, suc, ◌+◌, ◌-◌, ◌*◌, ◌/◌, ◌%◌, ◌^◌, ◌≤◌, ◌<◌, ◌∙◌, List, ap, arith, lit<, length, refl, sym}
 use Rattle.std.specs.Prelude.{slice_index, slice_set}
 use Rattle.std.proofs.lemmas.Grind.{common_steps}
-use Rattle.std.proofs.lemmas.List.{get_or-set_other, length-set}
-use Rattle.rv_flat.specs.Memory.{put_bytes}
+use Rattle.std.proofs.lemmas.List.{get_or-set_other, get_or-set_same, length-set}
+use Rattle.std.proofs.Math.Arith.{mod-mul}
+use Rattle.std.proofs.Math.Nat.{pow-suc}
+use Rattle.rv_alu.specs.Loaded.{loaded}
+use Rattle.rv_flat.specs.Memory.{AreBytes, byte_in, put_bytes}
 
 -- one byte less is to be put after the first one
 pub put_bytes_more : (bytes : List ℕ) (place n m value : ℕ) → n ≡ suc m → put_bytes bytes place n value ≡ put_bytes (slice_set bytes place (value % 256)) (place + 1) m (value / 256)
@@ -30,3 +33,37 @@ put_bytes-same left right place (suc n) value k same h =
     put_bytes-same (slice_set left place (value % 256)) (slice_set right place (value % 256)) (place + 1) n (value / 256) k
     (length-set left place (value % 256) ∙ same ∙ sym (length-set right place (value % 256)))
     (set-same left right place (value % 256) k same h)
+
+-- bytes stay bytes
+set-bytes : (bytes : List ℕ) (place value : ℕ) → AreBytes bytes → AreBytes (slice_set bytes place (value % 256))
+set-bytes bytes place value h k = let here : slice_index bytes k < 256 = h k in grind (arith, common_steps)
+
+pub put_bytes-bytes : (bytes : List ℕ) (place n value : ℕ) → AreBytes bytes → AreBytes (put_bytes bytes place n value)
+put_bytes-bytes bytes place zero value h = h
+put_bytes-bytes bytes place (suc n) value h = put_bytes-bytes (slice_set bytes place (value % 256)) (place + 1) n (value / 256) (set-bytes bytes place value h)
+
+some_bytes : (n : ℕ) → zero < 256 ^ n
+some_bytes zero = omega arith
+some_bytes (suc n) = let more : zero < 256 ^ n = some_bytes n in rw pow-suc (omega arith)
+
+digits : (n value : ℕ) → value % 256 + 256 * (value / 256 % 256 ^ n) ≡ value % 256 ^ suc n
+digits n value =
+    let split : value % (256 ^ n * 256) ≡ value / 256 % 256 ^ n * 256 + value % 256 = mod-mul value (some_bytes n) (lit< tt) in
+    rw pow-suc (omega arith)
+
+-- what is loaded where a number was just put is the number's low bytes
+pub loaded-put_bytes : (base : ℕ) (bytes : List ℕ) (from place n value : ℕ) → from ≡ base + place → place + n ≤ length bytes →
+    loaded (byte_in base (put_bytes bytes place n value)) from n ≡ value % 256 ^ n
+loaded-put_bytes base bytes from place zero value there inside = omega arith
+loaded-put_bytes base bytes from place (suc n) value there inside =
+    let first : List ℕ = slice_set bytes place (value % 256) in
+    let all : List ℕ = put_bytes first (place + 1) n (value / 256) in
+    let at : from - base ≡ place = omega arith in
+    let here : place < length bytes = omega arith in
+    let low : byte_in base all from ≡ value % 256 =
+    ap (slice_index all) at
+    ∙ put_bytes-other first (place + 1) n (value / 256) place (λ under over. omega arith)
+    ∙ get_or-set_same bytes place (value % 256) 0 here in
+    let high : loaded (byte_in base all) (from + 1) n ≡ value / 256 % 256 ^ n =
+    loaded-put_bytes base first (from + 1) (place + 1) n (value / 256) (omega arith) (omega (arith, length-set bytes place (value % 256))) in
+    ap (λ low. low + 256 * loaded (byte_in base all) (from + 1) n) low ∙ ap (λ high. value % 256 + 256 * high) high ∙ digits n value

@@ -1,5 +1,5 @@
 -- the laws of a step
-use Rattle.std.proofs.Common.{◌≡◌, ◌≢◌, ◌≤◌, ◌<◌, ℕ, ◌+◌, ◌-◌, List, [], ◌∷◌, ◌++◌, length, Option, None, Some, refl, arith, ◌*◌, zero-add, ap, sym, ◌∙◌, inl, inr, ◌⊎◌}
+use Rattle.std.proofs.Common.{◌≡◌, ◌≢◌, ◌≤◌, ◌<◌, ℕ, ◌+◌, ◌-◌, ◌%◌, List, [], ◌∷◌, ◌++◌, length, Option, None, Some, refl, arith, ◌*◌, zero-add, ap, sym, ◌∙◌, inl, inr, ◌⊎◌}
 use Rattle.std.specs.Prelude.{MatchOption, map, replicate, slice_index, slice_index_or, slice_set}
 use Rattle.std.proofs.lemmas.List.{append-nil, get_or-set_other, get_or-set_same, length-map, length-set, replicate-append-replicate}
 use Rattle.std.proofs.lemmas.Bool.{cases_eq}
@@ -21,7 +21,7 @@ use Rattle.rv_alu.specs.Regs.{AreRegs, set}
 use Rattle.rv_alu.specs.declared.span.Span.{Span}
 use Rattle.rv_word.specs.declared.insn.Insn.{Insn}
 use Rattle.rv_flat.specs.FlatState.{FlatState, first_regs, first_view, no_hart, room_of, span_of, start, status_of, view_of}
-use Rattle.rv_flat.specs.Laws.{HasRegs, IsInOneLine, KeepsShape, Writes, footprint_of, seen_after, touched_by, touched_in}
+use Rattle.rv_flat.specs.Laws.{HasRegs, IsInOneLine, KeepsShape, Writes, footprint_of, seen_after, touched_by, touched_in, written_line}
 use Rattle.rv_flat.specs.Memory.{byte_in, piece_of, put_bytes}
 use Rattle.rv_flat.specs.Run.{alone, run}
 use Rattle.rv_flat.specs.Step.{appended_by, applied, execution_of, flat, status_step, stored_by, unreserved, unreserved_by}
@@ -40,11 +40,11 @@ insn-one_line None view span room = tt
 insn-one_line (Some insn) view span room =
     footprint-one_line insn span room (access_of insn view.pc view.regs view.reserved span room) (fits insn view.pc view.regs view.reserved span room).footprint
 
-one_line-touched : (state : FlatState) (view : HartView) → IsInOneLine (span_of state) (touched_by state view)
+pub one_line-touched : (state : FlatState) (view : HartView) → IsInOneLine (span_of state) (touched_by state view)
 one_line-touched state view = insn-one_line (insn_at (code_word state.code view.pc)) view (span_of state) (room_of state)
 
 -- what is stored and appended is what is touched
-within : (state : FlatState) (view : HartView) → IsWithin (touched_by state view) (execution_of state view)
+pub within : (state : FlatState) (view : HartView) → IsWithin (touched_by state view) (execution_of state view)
 within state view = executed-within (code_word state.code view.pc) view (span_of state) (room_of state) (byte_in state.base state.bytes)
 
 by_status : (P : Access → FlatState → Type 0) (state : FlatState) (hart : ℕ) (view : HartView) (status : HartStatus) →
@@ -80,7 +80,7 @@ pub running : (state : FlatState) (hart : ℕ) → status_of state hart ≡ Runn
 unfolding flat
 running state hart h = ap (status_step state hart (view_of state hart)) h
 
-length-unreserved_by : (store : Option Store) (harts : List HartView) → length (unreserved_by store harts) ≡ length harts
+pub length-unreserved_by : (store : Option Store) (harts : List HartView) → length (unreserved_by store harts) ≡ length harts
 length-unreserved_by None harts = refl
 length-unreserved_by (Some store) harts = length-map harts (unreserved (line_number store.address))
 
@@ -114,13 +114,16 @@ keeps_shape state hart =
     })
 
 -- the own view after a step
+pub view-applied : (state : FlatState) (hart : ℕ) (view : HartView) (execution : Execution) → hart < length state.harts →
+    view_of (applied state hart view execution) hart ≡ view_after execution view
+view-applied state hart view execution there =
+    let within : hart < length (unreserved_by (store_in execution) state.harts) = omega (arith, length-unreserved_by (store_in execution) state.harts) in
+    get_or-set_same (unreserved_by (store_in execution) state.harts) hart (view_after execution view) no_hart within
+
 pub own_view : (state : FlatState) (hart : ℕ) → hart < length state.harts → status_of state hart ≡ Running →
     view_of (flat state hart) hart ≡ view_after (execution_of state (view_of state hart)) (view_of state hart)
-own_view state hart within runs =
-    let execution : Execution = execution_of state (view_of state hart) in
-    let there : hart < length (unreserved_by (store_in execution) state.harts) = omega (arith, length-unreserved_by (store_in execution) state.harts) in
-    ap (λ new. view_of new hart) (running state hart runs)
-    ∙ get_or-set_same (unreserved_by (store_in execution) state.harts) hart (view_after execution (view_of state hart)) no_hart there
+own_view state hart there runs =
+    ap (λ new. view_of new hart) (running state hart runs) ∙ view-applied state hart (view_of state hart) (execution_of state (view_of state hart)) there
 
 -- the bytes of a state are those of another, but where the access writes
 abbrev pub KeepsBytes : FlatState → Access → FlatState → Type 0
@@ -143,6 +146,24 @@ writes_in_footprint state hart =
     by_step (KeepsBytes state) state hart (λ place out. refl)
     (stored_by-other state (touched_by state (view_of state hart)) (store_in (execution_of state (view_of state hart)))
     (one_line-touched state (view_of state hart)) (within state (view_of state hart)).store)
+
+-- so it changes memory only on the line that is written
+on_line : (span : Span) (access : Access) (address : ℕ) → IsInOneLine span access → Writes access address → written_line access ≡ Some (line_number address)
+on_line span (Write from len) address piece there =
+    let short : from % 64 + len ≤ 64 = piece.one_line in
+    let low : from ≤ address = there.0 in
+    let high : address < from + len = there.1 in
+    let same : line_number from ≡ line_number address = omega arith in
+    ap Some same
+on_line span (Read from len) address piece there = absurd there
+on_line span Nothing address piece there = absurd there
+on_line span (Trap cause) address piece there = absurd there
+on_line span (Exit code) address piece there = absurd there
+
+pub writes_on_line : (state : FlatState) (hart place : ℕ) → written_line (footprint_of state hart) ≢ Some (line_number (state.base + place)) →
+    slice_index (flat state hart).bytes place ≡ slice_index state.bytes place
+writes_on_line state hart place apart =
+    writes_in_footprint state hart place (λ there. apart (on_line (span_of state) (footprint_of state hart) (state.base + place) (one_line state hart) there))
 
 -- a hart's view after another's step is as before, but for a reservation on the line that the access writes
 abbrev pub KeepsOthers : FlatState → ℕ → Access → FlatState → Type 0

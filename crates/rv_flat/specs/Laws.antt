@@ -80,11 +80,35 @@ pub record KeepsShape (old new : FlatState) : Type 0 where
 abbrev pub HasRegs : FlatState → Type 0
 HasRegs state = (hart : ℕ) → hart < length state.harts → AreRegs (view_of state hart).regs
 
--- two states are the same to a hart: its view, the code, the addresses of memory, the bytes at its
--- footprint, and the room of the output
-pub record IsSameTo (hart : ℕ) (left right : FlatState) : Type 0 where
+-- two states are the same to a hart: its view, the code, the addresses of memory, the room of the output, and
+-- the bytes at its footprint
+pub record AreSameTo (hart : ℕ) (left right : FlatState) : Type 0 where
   pub view : view_of left hart ≡ view_of right hart
   pub code : left.code ≡ right.code
   pub span : span_of left ≡ span_of right
   pub room : room_of left ≡ room_of right
   pub bytes : AgreeOn (footprint_of right hart) (byte_in left.base left.bytes) (byte_in right.base right.bytes)
+
+-- a hart's step did the same to two states: it left the hart the same view and each byte that was the same the
+-- same, and appended the same to the output
+pub record DidTheSame (hart : ℕ) (left right left_after right_after : FlatState) : Type 0 where
+  pub view : view_of left_after hart ≡ view_of right_after hart
+  pub bytes : (place : ℕ) → slice_index left.bytes place ≡ slice_index right.bytes place →
+      slice_index left_after.bytes place ≡ slice_index right_after.bytes place
+  pub more : List ℕ
+  pub left_output : left_after.output ≡ left.output ++ more
+  pub right_output : right_after.output ≡ right.output ++ more
+
+-- the output is another one
+abbrev pub with_output : FlatState → List ℕ → FlatState
+with_output state output = record state { output = output }
+
+-- a hart's reservation is another one
+abbrev pub with_reserved : FlatState → ℕ → Option ℕ → FlatState
+with_reserved state hart reserved = with_view state hart (record (view_of state hart) { reserved = reserved })
+
+-- none of a hart's own steps in a run is a store conditional
+abbrev pub MakesNoStoreConditional : FlatState → ℕ → List ℕ → Type 0
+MakesNoStoreConditional state hart [] = Unit {0}
+MakesNoStoreConditional state hart (next ∷ harts) =
+    (next ≡ hart → IsNoStoreConditional (next_insn state hart)) × MakesNoStoreConditional (flat state next) hart harts

@@ -1,5 +1,5 @@
 -- bytes of memory, which is a list of bytes from a base on
-use Rattle.std.specs.Prelude.{ℕ, zero, suc, ◌+◌, ◌-◌, ◌/◌, ◌%◌, List, drop, take, slice_index, slice_set}
+use Rattle.std.specs.Prelude.{ℕ, ◌<◌, zero, suc, ◌+◌, ◌-◌, ◌/◌, ◌%◌, List, drop, take, slice_index, slice_set}
 
 -- the byte at an address
 abbrev pub byte_in : ℕ → List ℕ → ℕ → ℕ
@@ -13,3 +13,7 @@ put_bytes bytes place (suc len) value = put_bytes (slice_set bytes place (value 
 -- so many bytes from a place on
 abbrev pub piece_of : List ℕ → ℕ → ℕ → List ℕ
 piece_of bytes place len = take len (drop place bytes)
+
+-- each is a byte
+abbrev pub AreBytes : List ℕ → Type 0
+AreBytes bytes = (place : ℕ) → slice_index bytes place < 256

@@ -1,11 +1,13 @@
 //! Laws of the flat step, over every state and every hart. Each is the contract of a function that
 //! does nothing.
 
-ghost use Rattle.std.specs.Prelude.{◌≡◌, ◌≢◌, ◌+◌, ℕ, List, ◌++◌, slice_index};
+ghost use Rattle.std.specs.Prelude.{◌≡◌, ◌≢◌, ◌<◌, ◌+◌, ℕ, List, ◌++◌, Option, length, slice_index};
+ghost use Rattle.el_base.specs.Line.{line_number};
 ghost use Rattle.elf_image.specs.Program.{Program};
 ghost use Rattle.rv_alu.specs.declared.view.HartStatus.TheVariants.{Running};
+ghost use Rattle.rv_alu.specs.Footprint.{IsNoCall};
 ghost use Rattle.rv_flat.specs.FlatState.{FlatState, span_of, start, status_of, view_of};
-ghost use Rattle.rv_flat.specs.Laws.{HasRegs, IsInOneLine, KeepsShape, Writes, footprint_of, seen_after};
+ghost use Rattle.rv_flat.specs.Laws.{AreSameTo, DidTheSame, HasRegs, IsInOneLine, KeepsShape, MakesNoStoreConditional, Writes, footprint_of, next_insn, seen_after, with_output, with_reserved, written_line};
 ghost use Rattle.rv_flat.specs.Run.{alone, run};
 ghost use Rattle.rv_flat.specs.Step.{flat};
 
@@ -40,6 +42,39 @@ pub fn step_writes_only_its_footprint()
 pub fn step_keeps_other_views()
     ensures { (state : FlatState) (hart other : ℕ) → other ≢ hart →
         view_of (flat state hart) other ≡ seen_after (footprint_of state hart) (view_of state other) }
+{}
+
+/// A step changes memory only on one line: that of what its footprint writes.
+#[tactic(auto, using(crate::proofs::StepLaws::writes_on_line))]
+pub fn step_writes_only_one_line()
+    ensures { (state : FlatState) (hart place : ℕ) → written_line (footprint_of state hart) ≢ Some (line_number (state.base + place)) →
+        slice_index (flat state hart).bytes place ≡ slice_index state.bytes place }
+{}
+
+/// A step depends on nothing but what its hart sees: in two states that have the same view of the
+/// hart, the same code, the same addresses of memory, the same room of the output and the same bytes
+/// at the footprint it does the same.
+pub fn step_depends_on_what_its_hart_sees()
+    ensures { (hart : ℕ) (left right : FlatState) → hart < length left.harts → hart < length right.harts →
+        AreSameTo hart left right → DidTheSame hart left right (flat left hart) (flat right hart) }
+{}
+
+/// A step that makes no call appends nothing to the output and does not depend on it.
+#[tactic(auto, using(crate::proofs::Frame::any_output))]
+pub fn step_ignores_output_outside_calls()
+    ensures { (state : FlatState) (output : List ℕ) (hart : ℕ) → IsNoCall (next_insn state hart) →
+        flat (with_output state output) hart ≡ with_output (flat state hart) output }
+{}
+
+/// A run in which a hart makes no store conditional depends on the reservation that the hart has
+/// before it only in what is left of that: where nothing is left, or the same, two runs come to the
+/// same state.
+#[tactic(auto, using(crate::proofs::LostReservations::run_forgets))]
+pub fn run_forgets_a_lost_reservation()
+    ensures { (state : FlatState) (hart : ℕ) (reserved : Option ℕ) (harts : List ℕ) → hart < length state.harts →
+        MakesNoStoreConditional state hart harts →
+        (view_of (run (with_reserved state hart reserved) harts) hart).reserved ≡ (view_of (run state harts) hart).reserved →
+        run (with_reserved state hart reserved) harts ≡ run state harts }
 {}
 
 /// Each hart of a program has 32 registers of which the first is 0, before its first step.

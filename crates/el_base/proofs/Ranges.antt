@@ -1,61 +1,66 @@
 -- The ranges of a configuration in range.
-use Rattle.std.proofs.Common.{◌≡◌, ℕ, ◌≤◌, Bool, true, false, not, ◌==◌, cond, Option, Some, None, refl, arith}
-use Rattle.std.specs.List.{list_any}
+use Rattle.std.proofs.Common.{◌≡◌, ℕ, ◌≤◌, Bool, true, false, not, List, [], ◌∷◌, cond, Option, Some, None, refl, arith}
+use Rattle.std.specs.Option.{option_or}
 use Rattle.std.proofs.lemmas.Bool.Decides.{nat_tests}
-use Rattle.el_base.specs.Config.{within, set_counts, IsInRange}
+use Rattle.el_base.specs.Config.{within, allows, field_fault, IsInRange}
+use Rattle.el_base.specs.Firsts.{first_of}
 use Rattle.el_base.specs.declared.config.Config.{Config}
 use Rattle.el_base.specs.declared.config.ConfigFault.{ConfigFault}
 use Rattle.el_base.specs.declared.config.ConfigFault.TheVariants.{Harts, Sets, Ways, Lines, Long, Steps}
 
 -- each field of the configuration is in its range
 pub record Ranges (c : Config) : Type 0 where
-  pub harts : within 1 8 c.harts ≡ true
-  pub sets : list_any (λ n. n == c.sets) set_counts ≡ true
-  pub ways : within 1 8 c.ways ≡ true
-  pub lines : within 1 32 c.lines ≡ true
-  pub long : within 2 65536 c.long ≡ true
-  pub steps : within 1 16777216 c.steps ≡ true
+  pub harts : allows Harts c.harts ≡ true
+  pub sets : allows Sets c.sets ≡ true
+  pub ways : allows Ways c.ways ≡ true
+  pub lines : allows Lines c.lines ≡ true
+  pub long : allows Long c.long ≡ true
+  pub steps : allows Steps c.steps ≡ true
 
-passed : (holds : Bool) (fault : ConfigFault) (later : Option ConfigFault) →
-    cond (not holds) (Some fault) later ≡ None → (holds ≡ true) × (later ≡ None)
-passed true fault later none = (refl, none)
-passed false fault later none = absurd cc
+passed-by : (allowed : Bool) (fault : ConfigFault) (later : Option ConfigFault) →
+    option_or (cond (not allowed) (Some fault) None) later ≡ None → (allowed ≡ true) × (later ≡ None)
+passed-by true fault later none = (refl, none)
+passed-by false fault later none = absurd cc
+
+-- where no field has a fault, the first one has none, nor have those after it
+passed : (field : ConfigFault) (n : ℕ) (later : List (Option ConfigFault)) →
+    first_of (field_fault field n ∷ later) ≡ None → (allows field n ≡ true) × (first_of later ≡ None)
+passed field n later none = passed-by (allows field n) field (first_of later) none
 
 pub ranges : (c : Config) → IsInRange c → Ranges c
 ranges c none =
-    let after_long = cond (not (within 1 16777216 c.steps)) (Some Steps) None in
-    let after_lines = cond (not (within 2 65536 c.long)) (Some Long) after_long in
-    let after_ways = cond (not (within 1 32 c.lines)) (Some Lines) after_lines in
-    let after_sets = cond (not (within 1 8 c.ways)) (Some Ways) after_ways in
-    let after_harts = cond (not (list_any (λ n. n == c.sets) set_counts)) (Some Sets) after_sets in
-    let harts = passed (within 1 8 c.harts) Harts after_harts none in
-    let sets = passed (list_any (λ n. n == c.sets) set_counts) Sets after_sets harts.1 in
-    let ways = passed (within 1 8 c.ways) Ways after_ways sets.1 in
-    let lines = passed (within 1 32 c.lines) Lines after_lines ways.1 in
-    let long = passed (within 2 65536 c.long) Long after_long lines.1 in
-    let steps = passed (within 1 16777216 c.steps) Steps None long.1 in
+    let long = field_fault Long c.long ∷ field_fault Steps c.steps ∷ [] in
+    let lines = field_fault Lines c.lines ∷ long in
+    let ways = field_fault Ways c.ways ∷ lines in
+    let sets = field_fault Sets c.sets ∷ ways in
+    let harts-pass = passed Harts c.harts sets none in
+    let sets-pass = passed Sets c.sets ways harts-pass.1 in
+    let ways-pass = passed Ways c.ways lines sets-pass.1 in
+    let lines-pass = passed Lines c.lines long ways-pass.1 in
+    let long-pass = passed Long c.long (field_fault Steps c.steps ∷ []) lines-pass.1 in
+    let steps-pass = passed Steps c.steps [] long-pass.1 in
     record {
-      harts = harts.0;
-      sets = sets.0;
-      ways = ways.0;
-      lines = lines.0;
-      long = long.0;
-      steps = steps.0;
+      harts = harts-pass.0;
+      sets = sets-pass.0;
+      ways = ways-pass.0;
+      lines = lines-pass.0;
+      long = long-pass.0;
+      steps = steps-pass.0;
     }
 
-passing : (holds : Bool) (fault : ConfigFault) (later : Option ConfigFault) → holds ≡ true → later ≡ None →
-    cond (not holds) (Some fault) later ≡ None
+passing : (allowed : Bool) (fault : ConfigFault) (later : Option ConfigFault) → allowed ≡ true → later ≡ None →
+    option_or (cond (not allowed) (Some fault) None) later ≡ None
 passing true fault later passes none = none
 passing false fault later passes none = absurd cc
 
 pub in_range : (c : Config) → Ranges c → IsInRange c
 in_range c r =
-    passing (within 1 8 c.harts) Harts _ r.harts
-    (passing (list_any (λ n. n == c.sets) set_counts) Sets _ r.sets
-    (passing (within 1 8 c.ways) Ways _ r.ways
-    (passing (within 1 32 c.lines) Lines _ r.lines
-    (passing (within 2 65536 c.long) Long _ r.long
-    (passing (within 1 16777216 c.steps) Steps None r.steps refl)))))
+    passing (allows Harts c.harts) Harts _ r.harts
+    (passing (allows Sets c.sets) Sets _ r.sets
+    (passing (allows Ways c.ways) Ways _ r.ways
+    (passing (allows Lines c.lines) Lines _ r.lines
+    (passing (allows Long c.long) Long _ r.long
+    (passing (allows Steps c.steps) Steps None r.steps refl)))))
 
 -- the two ends of a range
 pub at_least : (low high n : ℕ) → within low high n ≡ true → low ≤ n

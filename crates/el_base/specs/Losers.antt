@@ -2,24 +2,25 @@
 use Rattle.std.specs.Prelude.{ℕ, ◌≤◌, List, [], ◌∷◌, Option, None, Some, ◌&&◌, if◌then◌else◌, nat_lt, slice_index, map, min, refl}
 use Rattle.std.proofs.Common.{lit≤, zero, suc}
 use Rattle.std.proofs.Math.Nat.{min-le_right}
+use Rattle.el_base.specs.declared.hart_id.TheConstants.{MAX_HARTS}
 use Rattle.el_base.specs.declared.losers.Losers.{Losers}
 
 -- the number of the hart that this hart lost to, if it lost
 abbrev pub beaten_by : Losers → ℕ → Option ℕ
 beaten_by losers h =
-    if nat_lt h 8 && nat_lt (slice_index losers.winners h) 8 then Some (slice_index losers.winners h)
+    if nat_lt h MAX_HARTS && nat_lt (slice_index losers.winners h) MAX_HARTS then Some (slice_index losers.winners h)
     else None
 
--- what stands for a winner: its number, or 8 for nobody and for a number that no hart has
+-- what stands for a winner: its number, or the number of harts for nobody and for what no hart has
 abbrev pub winner_code : Option ℕ → ℕ
-winner_code None = 8
-winner_code (Some winner) = min winner 8
+winner_code None = MAX_HARTS
+winner_code (Some winner) = min winner MAX_HARTS
 
-winner_code_small : (winner : Option ℕ) → winner_code winner ≤ 8
+winner_code_small : (winner : Option ℕ) → winner_code winner ≤ MAX_HARTS
 winner_code_small None = lit≤ tt
-winner_code_small (Some winner) = min-le_right winner 8
+winner_code_small (Some winner) = min-le_right winner MAX_HARTS
 
-pub winner_codes_small : (winners : List (Option ℕ)) (h : ℕ) → slice_index (map winner_code winners) h ≤ 8
+pub winner_codes_small : (winners : List (Option ℕ)) (h : ℕ) → slice_index (map winner_code winners) h ≤ MAX_HARTS
 winner_codes_small [] h = lit≤ tt
 winner_codes_small (winner ∷ winners) zero = winner_code_small winner
 winner_codes_small (winner ∷ winners) (suc h) = winner_codes_small winners h

@@ -1,6 +1,8 @@
-ghost use Rattle.std.specs.Prelude.{◌≡◌, ◌==◌, None, Some, MatchResult};
-ghost use Rattle.std.specs.List.{list_any};
-ghost use Rattle.el_base.specs.Config.{usual, within, set_counts, config_fault};
+ghost use Rattle.std.specs.Prelude.{◌≡◌, Err, None, OnOk, Some};
+ghost use Rattle.el_base.specs.Config.{allows, config_fault, field_fault, usual};
+ghost use Rattle.el_base.specs.declared.config.ConfigFault.{ConfigFault};
+
+use crate::hart_id::MAX_HARTS;
 
 /// How a machine treats an acquire. Machines are built for the plain mode so far.
 #[derive(Clone, Copy, Debug, PartialEq, Eq)]
@@ -62,37 +64,42 @@ impl Config {
     /// Whether each field is in its range. An error is the first field that is not, in the order of
     /// the faults' numbers.
     pub fn check(&self) -> Result<(), ConfigFault>
-        ensures { MatchResult result
-            (λ _. config_fault self.now ≡ None)
-            (λ fault. config_fault self.now ≡ Some fault) }
+        ensures accepted { OnOk result (config_fault self.now ≡ None) }
+        ensures refused { (fault : ConfigFault) → result ≡ Err fault → config_fault self.now ≡ Some fault }
     {
-        if !lies_within(self.harts.into(), 1, 8) {
-            Err(ConfigFault::Harts)
-        } else if !is_set_count(self.sets) {
-            Err(ConfigFault::Sets)
-        } else if !lies_within(self.ways.into(), 1, 8) {
-            Err(ConfigFault::Ways)
-        } else if !lies_within(self.lines.into(), 1, 32) {
-            Err(ConfigFault::Lines)
-        } else if !lies_within(self.long, 2, 65_536) {
-            Err(ConfigFault::Long)
-        } else if !lies_within(self.steps, 1, 16_777_216) {
-            Err(ConfigFault::Steps)
-        } else {
-            Ok(())
-        }
+        ConfigFault::Harts.judge(self.harts.into())?;
+        ConfigFault::Sets.judge(self.sets.into())?;
+        ConfigFault::Ways.judge(self.ways.into())?;
+        ConfigFault::Lines.judge(self.lines.into())?;
+        ConfigFault::Long.judge(self.long)?;
+        ConfigFault::Steps.judge(self.steps)
     }
 }
 
-/// Whether a cache may have this many sets: 1, 2, 4, 8, 16, 32 or 64.
-pub fn is_set_count(sets: u8) -> bool
-    ensures { result ≡ list_any (λ n. n == sets) set_counts }
-{
-    matches!(sets, 1 | 2 | 4 | 8 | 16 | 32 | 64)
-}
+impl ConfigFault {
+    /// Whether the field that this fault names may have this number.
+    pub fn allows(self, number: u32) -> bool
+        ensures { result ≡ allows self number }
+    {
+        match self {
+            ConfigFault::Harts => (1..=MAX_HARTS.into()).contains(&number),
+            ConfigFault::Sets => matches!(number, 1 | 2 | 4 | 8 | 16 | 32 | 64),
+            ConfigFault::Ways => (1..=8).contains(&number),
+            ConfigFault::Lines => (1..=32).contains(&number),
+            ConfigFault::Long => (2..=65_536).contains(&number),
+            ConfigFault::Steps => (1..=16_777_216).contains(&number),
+        }
+    }
 
-fn lies_within(number: u32, low: u32, high: u32) -> bool
-    ensures { result ≡ within low high number }
-{
-    (low..=high).contains(&number)
+    /// That the field may have this number. The error is this fault.
+    fn judge(self, number: u32) -> Result<(), ConfigFault>
+        ensures accepted { OnOk result (field_fault self number ≡ None) }
+        ensures refused { (fault : ConfigFault) → result ≡ Err fault → field_fault self number ≡ Some fault }
+    {
+        if self.allows(number) {
+            Ok(())
+        } else {
+            Err(self)
+        }
+    }
 }

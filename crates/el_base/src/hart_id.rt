@@ -1,4 +1,5 @@
 ghost use Rattle.std.specs.Prelude.{◌≡◌, ◌<◌, ◌↔◌, IsNone, IfSome};
+ghost use Rattle.el_base.specs.declared.hart_id.TheConstants.{MAX_HARTS};
 
 /// The most harts that a machine has.
 pub const MAX_HARTS: u8 = 8;
@@ -7,7 +8,7 @@ pub const MAX_HARTS: u8 = 8;
 #[derive(Clone, Copy, Debug, PartialEq, Eq)]
 pub struct HartId {
     pub number: u8,
-    pub ghost small: { number < 8 },
+    pub ghost small: { number < MAX_HARTS },
 }
 
 impl HartId {

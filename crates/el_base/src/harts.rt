@@ -1,4 +1,5 @@
 ghost use Rattle.std.specs.Prelude.{◌≡◌, ℕ, ◌<◌, ◌==◌, ◌||◌, ◌&&◌, not, false};
+ghost use Rattle.std.specs.Int.{bit_at};
 
 use crate::hart_id::HartId;
 
@@ -27,20 +28,29 @@ impl Harts {
     }
 
     /// The set and this hart.
+    #[tactic(auto, using(crate::proofs::BitSets::set_bits))]
     pub fn with(self, hart: HartId) -> Harts
         ensures { (h : ℕ) → has_hart result h ≡ (has_hart self h || h == hart.number) }
     {
         Harts {
-            bits: self.bits | (1 << hart.number),
+            bits: self.bits | bit_of(hart),
         }
     }
 
     /// The set without this hart.
+    #[tactic(auto, using(crate::proofs::BitSets::set_bits))]
     pub fn without(self, hart: HartId) -> Harts
         ensures { (h : ℕ) → has_hart result h ≡ (has_hart self h && not (h == hart.number)) }
     {
         Harts {
-            bits: self.bits & !(1 << hart.number),
+            bits: self.bits & !bit_of(hart),
         }
     }
+}
+
+/// The byte in which the bit of this hart alone is set.
+fn bit_of(hart: HartId) -> u8
+    ensures { (h : ℕ) → (bit_at result h == 1) ≡ (h == hart.number) }
+{
+    1 << hart.number
 }

@@ -3,8 +3,10 @@
 //!
 //! It stands on nothing but std, and no call of it takes memory. Contracts see a hart and a line by
 //! their `number`, a set of harts by the test `has_hart` on hart numbers, the losers of an event by
-//! the map `beaten_by`, and anything that keeps a history by its list of entries. It says what the
-//! words are, and nothing of what a machine does.
+//! the map `beaten_by`, and anything that keeps a history by its list of entries. Definitions make
+//! harts, lines and losers of plain numbers by `hart_id`, `line_addr` and `losers_of`. The number of
+//! harts, the bytes of a line and the ranges of a configuration stand here and nowhere else. It says
+//! what the words are, and nothing of what a machine does.
 //!
 //! Where a doc comment names no other source, its rule is this project's profile.
 #![tactic(auto)]
@@ -21,11 +23,11 @@ mod no_memory;
 mod outcomes;
 mod stamped;
 
-pub use config::{Config, ConfigFault, Mode, is_set_count};
+pub use config::{Config, ConfigFault, Mode};
 pub use entries::{Chronicled, Entry};
 pub use events::{Event, Kind};
 pub use file_fault::FileFault;
-pub use hart_id::HartId;
+pub use hart_id::{HartId, MAX_HARTS};
 pub use harts::Harts;
 pub use line::{LINE_BYTES, LineAddr, line_of};
 pub use losers::Losers;

@@ -1,10 +1,11 @@
 ghost use Rattle.std.specs.Prelude.{◌≡◌, ℕ, ◌==◌, ◌<◌, ◌≤◌, if◌then◌else◌, None, Some, length, slice_index};
 ghost use Rattle.std.specs.Option.{option_map};
+ghost use Rattle.el_base.specs.declared.hart_id.TheConstants.{MAX_HARTS};
 
-use crate::hart_id::HartId;
+use crate::hart_id::{HartId, MAX_HARTS};
 
 /// Stands in the place of a hart that has not lost.
-const NOBODY: u8 = 8;
+const NOBODY: u8 = MAX_HARTS;
 
 /// The harts whose sections lost in one event, each with the hart that it lost to.
 ///
@@ -13,9 +14,9 @@ const NOBODY: u8 = 8;
 #[derive(Clone, Copy, Debug, PartialEq, Eq)]
 pub struct Losers {
     /// At each hart its winner's number, or `NOBODY`.
-    winners: [u8; 8],
-    pub ghost one_place_each: { length winners ≡ 8 },
-    pub ghost winner_or_nobody: { (h : ℕ) → h < 8 → slice_index winners h ≤ 8 },
+    winners: [u8; MAX_HARTS as usize],
+    pub ghost one_place_each: { length winners ≡ MAX_HARTS },
+    pub ghost winner_or_nobody: { (h : ℕ) → h < MAX_HARTS → slice_index winners h ≤ MAX_HARTS },
 }
 
 impl Losers {
@@ -26,7 +27,7 @@ impl Losers {
         ensures { (h : ℕ) → beaten_by result h ≡ None }
     {
         Losers {
-            winners: [NOBODY; 8],
+            winners: [NOBODY; MAX_HARTS as usize],
         }
     }
 

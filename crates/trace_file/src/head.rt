@@ -8,7 +8,7 @@ ghost use Rattle.trace_file.specs.Spelling.{head, last_mode, IsBuilt};
 
 use crate::fault::{Fault, FaultKind};
 use crate::fields::{byte_within, expect, number_within, reaches};
-use el_base::{Config, Mode, is_set_count};
+use el_base::{Config, ConfigFault, Mode};
 
 /// The first four bytes of a trace.
 pub const MAGIC: [u8; 4] = [b'E', b'L', b'T', b'R'];
@@ -123,6 +123,6 @@ fn sets_of(file: &[u8]) -> Result<u8, Fault>
 {
     reaches(file, 8)?;
     let sets = file[7];
-    expect(is_set_count(sets), FaultKind::Config, 7)?;
+    expect(ConfigFault::Sets.allows(sets.into()), FaultKind::Config, 7)?;
     Ok(sets)
 }

@@ -1,0 +1,39 @@
+ghost use Rattle.std.specs.Prelude.{◌≡◌};
+ghost use Rattle.rv_asm.specs.Assembly.{label_of};
+
+use rv_word::{Insn, Reg, Test};
+
+/// A place in a program that branches and jumps can go to.
+#[derive(Clone, Copy, Debug, PartialEq, Eq)]
+pub struct Label {
+    /// How many labels were made before this one.
+    pub number: u32,
+}
+
+/// What a word is made of: an instruction as it is, or a branch or jump to a label by its number.
+#[derive(Clone, Copy, Debug, PartialEq, Eq)]
+pub enum Item {
+    Fixed(Insn),
+    BranchTo {
+        test: Test,
+        rs1: Reg,
+        rs2: Reg,
+        label: u32,
+    },
+    JumpTo {
+        rd: Reg,
+        label: u32,
+    },
+}
+
+impl Item {
+    /// The label of a branch or jump.
+    pub fn label(&self) -> Option<u32>
+        ensures { result ≡ label_of self.now }
+    {
+        match *self {
+            Item::Fixed(_) => None,
+            Item::BranchTo { label, .. } | Item::JumpTo { label, .. } => Some(label),
+        }
+    }
+}

@@ -20,9 +20,9 @@ pub one_more : (asm : Assembly) (words more : List ℕ) (place next word : ℕ) 
 one_more asm words more place next word insn before is_more is_next here means fence =
     let length_is : length words ≡ place = before.same_length in
     let last : HasWord asm (words ++ word ∷ []) place =
-        rw (here, get_or_push words word 0 place length_is) (record { means = means; fence = fence }) in
+    rw (here, get_or_push words word 0 place length_is) (record { means = means; fence = fence }) in
     let below : (k : ℕ) → k < place → HasWord asm (words ++ word ∷ []) k =
-        λ k lower. let within : k < length words = omega arith in rw get_or_append_left (before.each k within) in
+    λ k lower. let within : k < length words = omega arith in rw get_or_append_left (before.each k within) in
     rw (is_more, is_next)
     (record {
       same_length = omega (arith, length_push words word);

@@ -3,6 +3,7 @@ use Rattle.std.specs.Prelude.{◌≤◌, ℕ, List, [], ◌∷◌, ◌++◌, len
 use Rattle.rv_word.specs.Validity.{Valid}
 use Rattle.rv_asm.specs.declared.builder.TheConstants.{MOST_WORDS}
 use Rattle.rv_asm.specs.declared.item.Item.{Item}
+use Rattle.rv_asm.specs.declared.item.Label.{Label}
 use Rattle.rv_asm.specs.declared.item.Item.TheVariants.{Fixed, BranchTo, JumpTo}
 
 -- what was put, one item a word, and for each label the place that it has, if it has one. Labels go by their
@@ -12,8 +13,8 @@ pub record Assembly : Type 0 where
   pub places : List (Option ℕ)
 
 -- the place of a label, if it has one
-abbrev pub place_of : Assembly → ℕ → Option ℕ
-place_of asm label = slice_index_or asm.places label None
+abbrev pub place_of : Assembly → Label → Option ℕ
+place_of asm label = slice_index_or asm.places label.number None
 
 -- with one item more
 abbrev pub with_item : Assembly → Item → Assembly
@@ -24,11 +25,11 @@ abbrev pub with_label : Assembly → Assembly
 with_label asm = record asm { places = asm.places ++ None ∷ [] }
 
 -- with the label at the next word
-abbrev pub with_place : Assembly → ℕ → Assembly
-with_place asm label = record asm { places = slice_set asm.places label (Some (length asm.items)) }
+abbrev pub with_place : Assembly → Label → Assembly
+with_place asm label = record asm { places = slice_set asm.places label.number (Some (length asm.items)) }
 
 -- the label of a branch or jump
-abbrev pub label_of : Item → Option ℕ
+abbrev pub label_of : Item → Option Label
 label_of (Fixed insn) = None
 label_of (BranchTo test rs1 rs2 label) = Some label
 label_of (JumpTo rd label) = Some label

@@ -17,9 +17,10 @@ lesser (Some least) n = Some (min least n)
 abbrev pub least_of : List ℕ → Option ℕ
 least_of numbers = fold lesser None numbers
 
--- the label of a branch or jump, if it has no place
+-- the number of the label of a branch or jump, if that has no place
 abbrev pub unplaced_label : Assembly → Item → Option ℕ
-unplaced_label asm item = option_and_then (λ label. if is_none (place_of asm label) then Some label else None) (label_of item)
+unplaced_label asm item =
+    option_and_then (λ label. if is_none (place_of asm label) then Some label.number else None) (label_of item)
 
 -- the least label that is used and not placed
 unfoldable pub first_unplaced : Assembly → Option ℕ
@@ -32,7 +33,8 @@ offset from to = pos 4 *ℤ (pos to -ℤ pos from)
 -- the instruction of an item at a place, if its label has a place
 abbrev pub item_insn : Assembly → ℕ → Item → Option Insn
 item_insn asm place (Fixed insn) = Some insn
-item_insn asm place (BranchTo test rs1 rs2 label) = option_map (λ to. Branch test rs1 rs2 (offset place to)) (place_of asm label)
+item_insn asm place (BranchTo test rs1 rs2 label) =
+    option_map (λ to. Branch test rs1 rs2 (offset place to)) (place_of asm label)
 item_insn asm place (JumpTo rd label) = option_map (λ to. Jal rd (offset place to)) (place_of asm label)
 
 -- the instruction at a place

@@ -74,8 +74,8 @@ impl Asm {
     /// label stands before.
     pub fn place(&mut self, label: Label) -> Result<(), NoMemory>
         requires made { label.number < length self.old.places }
-        requires not_placed { place_of self.old label.number ≡ None }
-        ensures ok { OnOk result (self.new ≡ with_place self.old label.number) }
+        requires not_placed { place_of self.old label ≡ None }
+        ensures ok { OnOk result (self.new ≡ with_place self.old label) }
         ensures err { OnErr result (self.new ≡ self.old) }
     {
         self.places[label.number as usize] = Some(self.items.len() as u32);
@@ -86,14 +86,14 @@ impl Asm {
     pub fn branch(&mut self, test: Test, rs1: Reg, rs2: Reg, label: Label) -> Result<(), NoMemory>
         requires made { label.number < length self.old.places }
         requires room { length self.old.items < MOST_WORDS }
-        ensures ok { OnOk result (self.new ≡ with_item self.old (Item.BranchTo test rs1 rs2 label.number)) }
+        ensures ok { OnOk result (self.new ≡ with_item self.old (Item.BranchTo test rs1 rs2 label)) }
         ensures err { OnErr result (self.new ≡ self.old) }
     {
         self.items.push(Item::BranchTo {
             test,
             rs1,
             rs2,
-            label: label.number,
+            label,
         })?;
         Ok(())
     }
@@ -102,13 +102,10 @@ impl Asm {
     pub fn jump(&mut self, rd: Reg, label: Label) -> Result<(), NoMemory>
         requires made { label.number < length self.old.places }
         requires room { length self.old.items < MOST_WORDS }
-        ensures ok { OnOk result (self.new ≡ with_item self.old (Item.JumpTo rd label.number)) }
+        ensures ok { OnOk result (self.new ≡ with_item self.old (Item.JumpTo rd label)) }
         ensures err { OnErr result (self.new ≡ self.old) }
     {
-        self.items.push(Item::JumpTo {
-            rd,
-            label: label.number,
-        })?;
+        self.items.push(Item::JumpTo { rd, label })?;
         Ok(())
     }
 
@@ -145,13 +142,13 @@ impl Asm {
             .fold(None, lesser)
     }
 
-    /// The label of a branch or jump, if it has no place.
+    /// The number of the label of a branch or jump, if that has no place.
     fn unplaced_label(&self, item: &Item) -> Option<u32>
         ensures { result ≡ unplaced_label self.now item.now }
     {
         let label = item.label()?;
         match self.place_of(label) {
-            None => Some(label),
+            None => Some(label.number),
             Some(_) => None,
         }
     }
@@ -164,6 +161,7 @@ impl Asm {
         (0..self.items.len() as u32).find(|place| self.is_far_at(*place))
     }
 
+    /// Whether the offset at a place does not fit.
     fn is_far_at(&self, place: u32) -> bool
         requires { place < length self.now.items }
         ensures { result ≡ is_far_at self.now place }
@@ -224,11 +222,11 @@ impl Asm {
     }
 
     /// The place of a label, if it has one.
-    fn place_of(&self, label: u32) -> Option<u32>
+    fn place_of(&self, label: Label) -> Option<u32>
         ensures exact { result ≡ place_of self.now label }
         ensures within { IfSome result (λ place. place ≤ MOST_WORDS) }
     {
-        *self.places.get(label as usize)?
+        *self.places.get(label.number as usize)?
     }
 }
 

@@ -10,7 +10,7 @@ pub struct Label {
     pub number: u32,
 }
 
-/// What a word is made of: an instruction as it is, or a branch or jump to a label by its number.
+/// What a word is made of: an instruction as it is, or a branch or jump to a label.
 #[derive(Clone, Copy, Debug, PartialEq, Eq)]
 pub enum Item {
     Fixed(Insn),
@@ -18,17 +18,17 @@ pub enum Item {
         test: Test,
         rs1: Reg,
         rs2: Reg,
-        label: u32,
+        label: Label,
     },
     JumpTo {
         rd: Reg,
-        label: u32,
+        label: Label,
     },
 }
 
 impl Item {
     /// The label of a branch or jump.
-    pub fn label(&self) -> Option<u32>
+    pub fn label(&self) -> Option<Label>
         ensures { result ≡ label_of self.now }
     {
         match *self {

@@ -2,7 +2,7 @@
 //! the line that it was given.
 ghost use Rattle.std.specs.Prelude.{◌≡◌, ◌+◌, ◌<◌, ◌≤◌, length, IfOk, OnOk};
 
-use self::Put::{Branch, Jump};
+use self::Row::{Branch, Jump};
 use super::*;
 use el_base::NoMemory;
 use rv_word::Test::{Eq, Ge, Geu, Lt, Ltu, Ne};
@@ -12,13 +12,13 @@ use std::test::Fail;
 
 /// A branch or jump with the numbers of its registers and of its label, of which there are four.
 #[derive(Clone, Copy)]
-enum Put {
+enum Row {
     Branch(Test, u8, u8, u32),
     Jump(u8, u32),
 }
 
 /// What the assembler writes of these, of which the first stands at the label L0.
-const AT_L0: [(u32, Put); 12] = [
+const AT_L0: [(u32, Row); 12] = [
     // beq x16, x22, L0
     (0x0168_0063, Branch(Eq, 16, 22, 0)),
     // bne x29, x15, L0
@@ -46,7 +46,7 @@ const AT_L0: [(u32, Put); 12] = [
 ];
 
 /// What the assembler writes of these, of which the first stands at the label L1.
-const AT_L1: [(u32, Put); 12] = [
+const AT_L1: [(u32, Row); 12] = [
     // bne x10, x10, L1
     (0x00a5_1063, Branch(Ne, 10, 10, 1)),
     // blt x20, x12, L2
@@ -74,7 +74,7 @@ const AT_L1: [(u32, Put); 12] = [
 ];
 
 /// What the assembler writes of these, of which the first stands at the label L2.
-const AT_L2: [(u32, Put); 12] = [
+const AT_L2: [(u32, Row); 12] = [
     // blt x11, x30, L2
     (0x01e5_c063, Branch(Lt, 11, 30, 2)),
     // bge x11, x3, L2
@@ -102,7 +102,7 @@ const AT_L2: [(u32, Put); 12] = [
 ];
 
 /// What the assembler writes of these, of which the first stands at the label L3.
-const AT_L3: [(u32, Put); 12] = [
+const AT_L3: [(u32, Row); 12] = [
     // bge x5, x13, L3
     (0x00d2_d063, Branch(Ge, 5, 13, 3)),
     // bltu x23, x9, L3
@@ -145,7 +145,7 @@ fn label(number: u32) -> Label
     Label { number: number % 4 }
 }
 
-fn put(asm: &mut Asm, rows: &[(u32, Put)]) -> Result<(), NoMemory>
+fn put(asm: &mut Asm, rows: &[(u32, Row)]) -> Result<(), NoMemory>
     requires labels { length asm.old.places ≡ 4 }
     requires room { length asm.old.items + length rows.now ≤ MOST_WORDS }
     ensures places { OnOk result (asm.new.places ≡ asm.old.places) }
@@ -204,5 +204,94 @@ fn words_agree_with_the_assembler(rt: HostRuntime) -> Result<(), Fail> {
         }
     }
     assert_eq!(rt; written.next(), None);
+    Ok(())
+}
+
+/// The words of a branch or jump over so many others.
+fn over(alloc: Global, jumps: bool, others: u32) -> Result<Vec<u32>, AsmFault>
+    requires { others < MOST_WORDS }
+{
+    let mut asm = Asm::make(alloc)?;
+    let end = asm.label()?;
+    if jumps {
+        asm.jump(x(1), end)?;
+    } else {
+        asm.branch(Eq, x(5), x(6), end)?;
+    }
+    fill(&mut asm, others)?;
+    asm.place(end)?;
+    asm.finish()
+}
+
+/// The words of a branch or jump back over so many others.
+fn back(alloc: Global, jumps: bool, others: u32) -> Result<Vec<u32>, AsmFault>
+    requires { others < MOST_WORDS }
+{
+    let mut asm = Asm::make(alloc)?;
+    let start = asm.label()?;
+    asm.place(start)?;
+    fill(&mut asm, others)?;
+    if jumps {
+        asm.jump(x(1), start)?;
+    } else {
+        asm.branch(Eq, x(5), x(6), start)?;
+    }
+    asm.finish()
+}
+
+#[test]
+fn forward_offsets_reach_so_far(rt: HostRuntime) -> Result<(), Fail> {
+    // beq x5,x6,.+4092 and jal x1,.+1048572
+    for (jumps, most, word) in [(false, 1_022, 0x7e62_8ee3), (true, 262_142, 0x7fdf_f0ef)] {
+        let words = over(rt.alloc(), jumps, most)?;
+        assert_eq!(rt; words.first().copied(), Some(word));
+        let far = over(rt.alloc(), jumps, most + 1);
+        assert_eq!(rt; far.err(), Some(AsmFault::Far { place: 0 }));
+    }
+    Ok(())
+}
+
+#[test]
+fn backward_offsets_reach_so_far(rt: HostRuntime) -> Result<(), Fail> {
+    // beq x5,x6,.-4096 and jal x1,.-1048576
+    for (jumps, most, word) in [(false, 1_024, 0x8062_8063), (true, 262_144, 0x8000_00ef)] {
+        let words = back(rt.alloc(), jumps, most)?;
+        assert_eq!(rt; words.last().copied(), Some(word));
+        let far = back(rt.alloc(), jumps, most + 1);
+        assert_eq!(rt; far.err(), Some(AsmFault::Far { place: most + 1 }));
+    }
+    Ok(())
+}
+
+#[test]
+fn labels_without_a_place_are_told_first(rt: HostRuntime) -> Result<(), Fail> {
+    let mut asm = Asm::make(rt.alloc())?;
+    let only = asm.label()?;
+    asm.jump(x(0), only)?;
+    assert_eq!(rt; asm.finish().err(), Some(AsmFault::Unplaced { label: 0 }));
+
+    // the second of four labels is never used, and the branch to the first is too far
+    let mut asm = Asm::make(rt.alloc())?;
+    let first = asm.label()?;
+    let _second = asm.label()?;
+    let third = asm.label()?;
+    let fourth = asm.label()?;
+    asm.place(first)?;
+    fill(&mut asm, 2_000)?;
+    asm.branch(Ne, x(1), x(2), first)?;
+    asm.jump(x(0), fourth)?;
+    asm.jump(x(0), third)?;
+    assert_eq!(rt; asm.finish().err(), Some(AsmFault::Unplaced { label: 2 }));
+    Ok(())
+}
+
+#[test]
+fn a_label_that_is_not_used_needs_no_place(rt: HostRuntime) -> Result<(), Fail> {
+    let mut asm = Asm::make(rt.alloc())?;
+    let _unused = asm.label()?;
+    asm.insn(Insn::Ecall)?;
+    asm.insn(Insn::Fence)?;
+    let words = asm.finish()?;
+    assert_eq!(rt; words.as_slice(), [0x0000_0073, 0x0ff0_000f].as_slice());
     Ok(())
 }

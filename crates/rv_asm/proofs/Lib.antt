@@ -1,2 +1,3 @@
 pub mod Placed
 pub mod Words
+pub mod Faultless

@@ -1,5 +1,5 @@
 -- A program that is being put together.
-use Rattle.std.specs.Prelude.{◌≤◌, ℕ, List, [], ◌∷◌, ◌++◌, length, slice_index_or, slice_set, All, Option, Some, None, IfSome}
+use Rattle.std.specs.Prelude.{◌<◌, ◌≤◌, ℕ, List, [], ◌∷◌, ◌++◌, length, slice_index_or, slice_set, All, Option, Some, None, IfSome}
 use Rattle.rv_word.specs.Validity.{Valid}
 use Rattle.rv_asm.specs.declared.builder.TheConstants.{MOST_WORDS}
 use Rattle.rv_asm.specs.declared.item.Item.{Item}
@@ -34,14 +34,14 @@ label_of (Fixed insn) = None
 label_of (BranchTo test rs1 rs2 label) = Some label
 label_of (JumpTo rd label) = Some label
 
--- an instruction that was put as it is has a word
-abbrev pub IsPuttable : Item → Type 0
-IsPuttable (Fixed insn) = Valid insn
-IsPuttable (BranchTo test rs1 rs2 label) = Unit {0}
-IsPuttable (JumpTo rd label) = Unit {0}
+-- an instruction has a word, and a label is one of so many that were made
+abbrev pub IsItem : ℕ → Item → Type 0
+IsItem labels (Fixed insn) = Valid insn
+IsItem labels (BranchTo test rs1 rs2 label) = label.number < labels
+IsItem labels (JumpTo rd label) = label.number < labels
 
 -- what is true of every program that was put together: a label stands at most behind the last word
 pub record IsAssembly (asm : Assembly) : Type 0 where
   pub few_words : length asm.items ≤ MOST_WORDS
-  pub valid : All IsPuttable asm.items
+  pub valid : All (IsItem (length asm.places)) asm.items
   pub behind : All (λ place. IfSome place (λ to. to ≤ length asm.items)) asm.places

@@ -1,4 +1,4 @@
-ghost use Rattle.std.specs.Prelude.{◌≡◌, ◌<◌, ◌≤◌, [], ℕ, false, length, IfOk, IfSome, OnOk, OnErr, None, Some, Err};
+ghost use Rattle.std.specs.Prelude.{◌≡◌, ◌<◌, ◌≤◌, [], ℕ, false, length, IfOk, IfSome, IsOk, OnOk, OnErr, None, Some, Err};
 ghost use Rattle.rv_word.specs.Validity.{Valid};
 ghost use Rattle.rv_asm.specs.Assembly.{IsAssembly, place_of, with_item, with_label, with_place};
 ghost use Rattle.rv_asm.specs.Finished.{first_far, first_unplaced, insn_at, is_far, is_far_at, IsAssembled, lesser, offset, unplaced_label};
@@ -70,13 +70,13 @@ impl Asm {
         Ok(Label { number })
     }
 
-    /// Puts a label of this program, which has no place yet, at the next place: the next word is what the
-    /// label stands before.
+    /// Puts a label of this program, which has no place yet, at the next place. The label has room for its place
+    /// already, so this takes no memory and succeeds.
     pub fn place(&mut self, label: Label) -> Result<(), NoMemory>
         requires made { label.number < length self.old.places }
         requires not_placed { place_of self.old label ≡ None }
-        ensures ok { OnOk result (self.new ≡ with_place self.old label) }
-        ensures err { OnErr result (self.new ≡ self.old) }
+        ensures exact { self.new ≡ with_place self.old label }
+        ensures succeeds { IsOk result }
     {
         self.places[label.number as usize] = Some(self.items.len() as u32);
         Ok(())

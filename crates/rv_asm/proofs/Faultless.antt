@@ -20,7 +20,8 @@ item_placed asm (Fixed insn) placed made = refl
 item_placed asm (BranchTo test rs1 rs2 label) placed made = grind (arith, placed label.number None)
 item_placed asm (JumpTo rd label) placed made = grind (arith, placed label.number None)
 
-items_placed : (asm : Assembly) (items : List Item) → All IsSome asm.places → All (IsItem (length asm.places)) items → filter_map (unplaced_label asm) items ≡ []
+items_placed : (asm : Assembly) (items : List Item) → All IsSome asm.places → All (IsItem (length asm.places)) items
+    → filter_map (unplaced_label asm) items ≡ []
 items_placed asm [] placed made = refl
 items_placed asm (item ∷ items) placed made =
     rw (item_placed asm item placed (All-head (IsItem (length asm.places)) item items made))

@@ -1,3 +1,15 @@
+pub mod Building
+pub mod Bytes
 pub mod Digits
-pub mod Options
+pub mod Ending
+pub mod Looks
+pub mod Agreeing
+pub mod Names
+pub mod Rules
+pub mod Uses
+pub mod Waiting
+pub mod Walking
+pub mod Simple
+pub mod Taken
+pub mod Turns
 pub mod Worked

@@ -2,15 +2,16 @@
 use Rattle.std.proofs.Common.{◌≡◌, ℕ, List, [], ◌∷◌, Option, None, Some, refl}
 use Rattle.std.specs.Prelude.{codes}
 use Rattle.el_base.specs.Config.{config_fault, usual}
-use Rattle.el_base.specs.declared.config.ConfigFault.TheVariants.{Harts, Steps}
+use Rattle.el_base.specs.declared.config.ConfigFault.TheVariants.{Harts, Sets, Steps, Ways}
 use Rattle.el_base.specs.declared.config.Mode.TheVariants.{Plain}
 use Rattle.command_line.specs.Numbers.{number_of}
 use Rattle.command_line.specs.Settings.{config_of}
-use Rattle.command_line.specs.Words.{Job, Run, Replay, RunJob, job_of}
+use Rattle.command_line.specs.Words.{Job, Gen, Replay, Run, RunJob, job_of}
+use Rattle.command_line.specs.declared.work.Work.TheVariants.{Bank, Overflow}
 
 -- to run the image `a` with no option
 abbrev bare : RunJob
-bare = record { image = codes "a"; harts = None; steps = None; trace = None }
+bare = record { image = codes "a"; harts = None; sets = None; ways = None; steps = None; trace = None }
 
 abbrev run_a : List (List ℕ) → Option Job
 run_a words = job_of (codes "run" ∷ codes "a" ∷ words)
@@ -19,13 +20,18 @@ runs : run_a [] ≡ Some (Run bare)
 runs = refl
 
 options_in_any_order :
-    run_a (codes "--trace" ∷ codes "t" ∷ codes "--steps" ∷ codes "33" ∷ codes "--harts" ∷ codes "2" ∷ [])
-    ≡ Some (Run (record bare { harts = Some 2; steps = Some 33; trace = Some (codes "t") }))
+    job_of
+    (codes "run" ∷ codes "--trace" ∷ codes "t" ∷ codes "--steps=33" ∷ codes "a" ∷ codes "--ways" ∷ codes "8" ∷ codes "--harts" ∷ codes "2" ∷ codes "--sets=64" ∷ [])
+    ≡ Some (Run (record bare { harts = Some 2; sets = Some 64; ways = Some 8; steps = Some 33; trace = Some (codes "t") }))
 options_in_any_order = refl
 
 replays : job_of (codes "replay" ∷ codes "a" ∷ codes "t" ∷ []) ≡ Some (Replay (codes "a") (codes "t"))
 replays = refl
 
+generates : job_of (codes "gen" ∷ codes "bank" ∷ codes "7" ∷ codes "b" ∷ []) ≡ Some (Gen Bank 7 (codes "b"))
+generates = refl
+
+-- no command line
 no_words : job_of [] ≡ None
 no_words = refl
 
@@ -47,14 +53,36 @@ no_value = refl
 no_such_option : run_a (codes "--threads" ∷ codes "5" ∷ []) ≡ None
 no_such_option = refl
 
-given_twice : run_a (codes "--harts" ∷ codes "1" ∷ codes "--harts" ∷ codes "1" ∷ []) ≡ None
+given_twice : run_a (codes "--harts" ∷ codes "1" ∷ codes "--harts=1" ∷ []) ≡ None
 given_twice = refl
 
+another_word : run_a (codes "b" ∷ []) ≡ None
+another_word = refl
+
+no_such_kind : job_of (codes "gen" ∷ codes "nothing" ∷ codes "1" ∷ codes "f" ∷ []) ≡ None
+no_such_kind = refl
+
+number_too_great : job_of (codes "gen" ∷ codes "counter" ∷ codes "4294967296" ∷ codes "f" ∷ []) ≡ None
+number_too_great = refl
+
+-- words that begin with '-'
 option_as_a_value : run_a (codes "--trace" ∷ codes "-t" ∷ []) ≡ None
 option_as_a_value = refl
 
-option_as_an_image : job_of (codes "run" ∷ codes "-a" ∷ []) ≡ None
-option_as_an_image = refl
+attached_value : run_a (codes "--trace=-t" ∷ []) ≡ Some (Run (record bare { trace = Some (codes "-t") }))
+attached_value = refl
+
+empty_value : run_a (codes "--trace=" ∷ []) ≡ Some (Run (record bare { trace = Some [] }))
+empty_value = refl
+
+short_option : job_of (codes "run" ∷ codes "-a" ∷ []) ≡ None
+short_option = refl
+
+after_the_options : job_of (codes "run" ∷ codes "--" ∷ codes "--harts" ∷ []) ≡ Some (Run (record bare { image = codes "--harts" }))
+after_the_options = refl
+
+one_dash : job_of (codes "gen" ∷ codes "overflow" ∷ codes "0" ∷ codes "-" ∷ []) ≡ Some (Gen Overflow 0 (codes "-"))
+one_dash = refl
 
 -- number words
 greatest : number_of (codes "4294967295") ≡ Some 4294967295
@@ -78,6 +106,12 @@ bare_config = refl
 
 nine_harts : config_fault (config_of (record bare { harts = Some 9 })) ≡ Some Harts
 nine_harts = refl
+
+three_sets : config_fault (config_of (record bare { sets = Some 3 })) ≡ Some Sets
+three_sets = refl
+
+no_ways : config_fault (config_of (record bare { ways = Some 0 })) ≡ Some Ways
+no_ways = refl
 
 no_steps : config_fault (config_of (record bare { steps = Some 0 })) ≡ Some Steps
 no_steps = refl

@@ -1,90 +1,115 @@
 -- what the words of a command line ask for
-use Rattle.std.specs.Prelude.{ℕ, Bool, false, ◌==◌, List, [], ◌∷◌, String, string_bytes, map, codes, bytes_eq, Option, None, Some, if◌then◌else◌}
-use Rattle.std.specs.Option.{option_and_then, option_map}
+use Rattle.std.specs.Prelude.{ℕ, List, [], ◌∷◌, String, string_bytes, map, codes, bytes_eq, Option, None, Some, if◌then◌else◌}
+use Rattle.std.specs.Option.{option_map}
 use Rattle.std.specs.Global.{Global}
+use Rattle.command_line.specs.Fields.{Field, Form, ◌>>=◌, fields_of, value_in}
 use Rattle.command_line.specs.Numbers.{number_of}
 use Rattle.command_line.specs.declared.command.Command.{Command}
 use Rattle.command_line.specs.declared.command.Command.TheVariants as commands
 use Rattle.command_line.specs.declared.command.RunCommand.{RunCommand}
+use Rattle.command_line.specs.declared.work.Work.{Work}
+use Rattle.command_line.specs.declared.work.Work.TheVariants.{Counter, Bank, Buckets, Locks, Overflow}
 
 -- an image to run, with what was given of the options
 pub record RunJob : Type 0 where
   pub image : List ℕ
   pub harts : Option ℕ
+  pub sets : Option ℕ
+  pub ways : Option ℕ
   pub steps : Option ℕ
   pub trace : Option (List ℕ)
 
--- to run an image, or to make the events of a trace again on its image
+-- to run an image, to make the events of a trace again on its image, or to write an image of a kind and a number
 pub data Job : Type 0 where
   Run : (job : RunJob) → Job
   Replay : (image trace : List ℕ) → Job
+  Gen : (kind : Work) → (number : ℕ) → (file : List ℕ) → Job
 
 -- the bytes of each word
 abbrev pub texts : List (String Global) → List (List ℕ)
 texts words = map string_bytes words
 
--- a word that begins with '-' is an option, and names no file
-abbrev pub is_option : List ℕ → Bool
-is_option [] = false
-is_option (code ∷ codes) = code == 45
+-- the number that is given, if any is: its word is a number word
+abbrev pub optional_number_of : Option (List ℕ) → Option (Option ℕ)
+optional_number_of None = Some None
+optional_number_of (Some word) = option_map (λ number. Some number) (number_of word)
 
--- a value that is given, where none was given before
-abbrev pub given_once : {A : Type 0} → Option A → Option A → Option (Option A)
-given_once None (Some value) = Some (Some value)
-given_once None None = None
-given_once (Some before) value = None
+-- `IMAGE [--harts N] [--sets N] [--ways N] [--steps N] [--trace FILE]`
+abbrev pub run_form : Form
+run_form = record {
+  positionals = codes "image" ∷ [];
+  options = codes "harts" ∷ codes "sets" ∷ codes "ways" ∷ codes "steps" ∷ codes "trace" ∷ [];
+}
 
--- a job with a number of harts, of steps, or a trace to write, that was given no other before
-abbrev pub with_harts : RunJob → Option ℕ → Option RunJob
-with_harts job number = option_map (λ harts. record job { harts = harts }) (given_once job.harts number)
+abbrev pub run_in : List Field → Option Job
+run_in fields = do
+  image ← value_in fields (codes "image")
+  harts ← optional_number_of (value_in fields (codes "harts"))
+  sets ← optional_number_of (value_in fields (codes "sets"))
+  ways ← optional_number_of (value_in fields (codes "ways"))
+  steps ← optional_number_of (value_in fields (codes "steps"))
+  Some (Run (record { image = image; harts = harts; sets = sets; ways = ways; steps = steps; trace = value_in fields (codes "trace") }))
 
-abbrev pub with_steps : RunJob → Option ℕ → Option RunJob
-with_steps job number = option_map (λ steps. record job { steps = steps }) (given_once job.steps number)
-
-abbrev pub with_trace : RunJob → List ℕ → Option RunJob
-with_trace job name = option_map (λ trace. record job { trace = trace }) (given_once job.trace (Some name))
-
--- a job with one option more, of a value that is no option itself
-abbrev pub with_option : RunJob → List ℕ → List ℕ → Option RunJob
-with_option job option value =
-    if is_option value then None
-    else if bytes_eq option (codes "--harts") then with_harts job (number_of value)
-    else if bytes_eq option (codes "--steps") then with_steps job (number_of value)
-    else if bytes_eq option (codes "--trace") then with_trace job value
-    else None
-
--- options with their values, as two words each and in any order, none twice
-abbrev pub with_options : RunJob → List (List ℕ) → Option RunJob
-with_options job [] = Some job
-with_options job (option ∷ []) = None
-with_options job (option ∷ value ∷ words) = option_and_then (λ more. with_options more words) (with_option job option value)
-
--- `IMAGE [--harts N] [--steps N] [--trace FILE]`
 abbrev pub run_of : List (List ℕ) → Option Job
-run_of [] = None
-run_of (image ∷ words) =
-    if is_option image then None
-    else option_map Run (with_options (record { image = image; harts = None; steps = None; trace = None }) words)
+run_of words = fields_of run_form words >>= run_in
 
 -- `IMAGE TRACE`
-abbrev pub replay_of : List (List ℕ) → Option Job
-replay_of (image ∷ trace ∷ []) = if is_option image then None else if is_option trace then None else Some (Replay image trace)
-replay_of _ = None
+abbrev pub replay_form : Form
+replay_form = record { positionals = codes "image" ∷ codes "trace" ∷ []; options = [] }
 
--- a command by its name
+abbrev pub replay_in : List Field → Option Job
+replay_in fields = do
+  image ← value_in fields (codes "image")
+  trace ← value_in fields (codes "trace")
+  Some (Replay image trace)
+
+abbrev pub replay_of : List (List ℕ) → Option Job
+replay_of words = fields_of replay_form words >>= replay_in
+
+-- `KIND NUMBER FILE`
+abbrev pub gen_form : Form
+gen_form = record { positionals = codes "kind" ∷ codes "number" ∷ codes "file" ∷ []; options = [] }
+
+abbrev pub kind_of : List ℕ → Option Work
+kind_of word =
+    if bytes_eq word (codes "counter") then Some Counter
+    else if bytes_eq word (codes "bank") then Some Bank
+    else if bytes_eq word (codes "buckets") then Some Buckets
+    else if bytes_eq word (codes "locks") then Some Locks
+    else if bytes_eq word (codes "overflow") then Some Overflow
+    else None
+
+abbrev pub gen_in : List Field → Option Job
+gen_in fields = do
+  kind ← value_in fields (codes "kind") >>= kind_of
+  number ← value_in fields (codes "number") >>= number_of
+  file ← value_in fields (codes "file")
+  Some (Gen kind number file)
+
+abbrev pub gen_of : List (List ℕ) → Option Job
+gen_of words = fields_of gen_form words >>= gen_in
+
+-- the first word names the command
 abbrev pub job_of : List (List ℕ) → Option Job
 job_of [] = None
 job_of (name ∷ words) =
     if bytes_eq name (codes "run") then run_of words
     else if bytes_eq name (codes "replay") then replay_of words
+    else if bytes_eq name (codes "gen") then gen_of words
     else None
 
--- what a command stands for
+-- what a command asks for
 abbrev pub run_meaning : RunCommand → RunJob
-run_meaning command =
-    record { image = command.image.now; harts = command.harts; steps = command.steps; trace = option_map (λ name. name.now) command.trace }
+run_meaning command = record {
+  image = command.image.now;
+  harts = command.harts;
+  sets = command.sets;
+  ways = command.ways;
+  steps = command.steps;
+  trace = option_map (λ name. name.now) command.trace;
+}
 
--- what the words of a command line that were read ask for
 abbrev pub meaning : Command → Job
 meaning (commands.Run command) = Run (run_meaning command)
 meaning (commands.Replay image trace) = Replay image.now trace.now
+meaning (commands.Gen kind number file) = Gen kind number file.now

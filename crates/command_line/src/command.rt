@@ -1,21 +1,36 @@
+use crate::work::Work;
+
 /// What a command line asks for.
 #[derive(Clone, Copy, Debug, PartialEq, Eq)]
 pub enum Command<'a> {
     /// Run an image.
     Run(RunCommand<'a>),
     /// Make the events of a trace again, on the image that it was made with.
-    Replay { image: &'a str, trace: &'a str },
+    Replay {
+        image: &'a str,
+        trace: &'a str,
+    },
+    /// Write an image of this kind, made from a number, to a file.
+    Gen {
+        kind: Work,
+        number: u32,
+        file: &'a str,
+    },
 }
 
-/// `run IMAGE [--harts N] [--steps N] [--trace FILE]`, with what was given of the options.
+/// `run IMAGE` with its options, as they are given: [`RunCommand::config`] judges the numbers.
 #[derive(Clone, Copy, Debug, PartialEq, Eq)]
 pub struct RunCommand<'a> {
     /// The file of the image.
     pub image: &'a str,
-    /// The number of harts, as given: `config` judges it.
+    /// `--harts`, the number of harts.
     pub harts: Option<u32>,
-    /// The most events of the run, as given: `config` judges it.
+    /// `--sets`, the sets in each cache.
+    pub sets: Option<u32>,
+    /// `--ways`, the lines in each set.
+    pub ways: Option<u32>,
+    /// `--steps`, the most events of the run.
     pub steps: Option<u32>,
-    /// The file that the trace is to be written to, where one is named.
+    /// `--trace`, the file that the trace is to be written to.
     pub trace: Option<&'a str>,
 }

@@ -8,12 +8,18 @@
 #![tactic(auto)]
 
 mod command;
+mod fault;
+mod form;
+mod matching;
 mod numbers;
 mod reading;
 mod settings;
+mod work;
 
 pub use command::{Command, RunCommand};
+pub use fault::WordsFault;
 pub use reading::read_words;
+pub use work::Work;
 
 #[cfg(test)]
 mod tests;

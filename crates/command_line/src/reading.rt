@@ -1,94 +1,94 @@
-ghost use Rattle.std.specs.Prelude.{◌≡◌};
-ghost use Rattle.std.specs.Option.{option_map};
-ghost use Rattle.command_line.specs.Words.{is_option, job_of, meaning, replay_of, run_meaning, run_of, texts, with_option, with_options};
+//! What the words mean.
+
+ghost use Rattle.std.specs.Prelude.{◌≡◌, None, Some, IfOk, MatchResult, option_map};
+ghost use Rattle.command_line.specs.Words.{gen_of, job_of, kind_of, meaning, optional_number_of, replay_of, run_of, texts};
 
 use crate::command::{Command, RunCommand};
+use crate::fault::WordsFault;
+use crate::form::{GEN, REPLAY, RUN};
+use crate::matching::Given;
 use crate::numbers::read_number;
+use crate::work::Work;
+use std::alloc::Global;
 
-/// The command of these words, or none where they are no command line. The words are those after the
-/// program's name.
-pub fn read_words(words: &[String]) -> Option<Command<'_>>
-    ensures { option_map meaning result ≡ job_of (texts words.now) }
+/// The command of these words, which are those after the program's name. The answer is `Usage`
+/// exactly where they are no command line; nothing says when want of memory comes.
+pub fn read_words(alloc: Global, words: &[String]) -> Result<Command<'_>, WordsFault>
+    ensures accepted { IfOk result (λ command. job_of (texts words.now) ≡ Some (meaning command)) }
+    ensures refused { result ≡ Err WordsFault.Usage → job_of (texts words.now) ≡ None }
 {
-    let (name, words) = words.split_first()?;
+    let Some((name, words)) = words.split_first() else {
+        return Err(WordsFault::Usage);
+    };
     match name.as_str() {
-        "run" => read_run(words),
-        "replay" => read_replay(words),
+        "run" => read_run(alloc, words),
+        "replay" => read_replay(alloc, words),
+        "gen" => read_gen(alloc, words),
+        _ => Err(WordsFault::Usage),
+    }
+}
+
+fn read_run(alloc: Global, words: &[String]) -> Result<Command<'_>, WordsFault>
+    ensures accepted { IfOk result (λ command. run_of (texts words.now) ≡ Some (meaning command)) }
+    ensures refused { result ≡ Err WordsFault.Usage → run_of (texts words.now) ≡ None }
+{
+    let given = Given::by_form(alloc, RUN, words)?;
+    Ok(Command::Run(RunCommand {
+        image: given.value("image").ok_or(WordsFault::Usage)?,
+        harts: read_optional_number(given.value("harts"))?,
+        sets: read_optional_number(given.value("sets"))?,
+        ways: read_optional_number(given.value("ways"))?,
+        steps: read_optional_number(given.value("steps"))?,
+        trace: given.value("trace"),
+    }))
+}
+
+fn read_replay(alloc: Global, words: &[String]) -> Result<Command<'_>, WordsFault>
+    ensures accepted { IfOk result (λ command. replay_of (texts words.now) ≡ Some (meaning command)) }
+    ensures refused { result ≡ Err WordsFault.Usage → replay_of (texts words.now) ≡ None }
+{
+    let given = Given::by_form(alloc, REPLAY, words)?;
+    Ok(Command::Replay {
+        image: given.value("image").ok_or(WordsFault::Usage)?,
+        trace: given.value("trace").ok_or(WordsFault::Usage)?,
+    })
+}
+
+fn read_gen(alloc: Global, words: &[String]) -> Result<Command<'_>, WordsFault>
+    ensures accepted { IfOk result (λ command. gen_of (texts words.now) ≡ Some (meaning command)) }
+    ensures refused { result ≡ Err WordsFault.Usage → gen_of (texts words.now) ≡ None }
+{
+    let given = Given::by_form(alloc, GEN, words)?;
+    let kind = given.value("kind").ok_or(WordsFault::Usage)?;
+    let number = given.value("number").ok_or(WordsFault::Usage)?;
+    Ok(Command::Gen {
+        kind: read_kind(kind).ok_or(WordsFault::Usage)?,
+        number: read_number(number).ok_or(WordsFault::Usage)?,
+        file: given.value("file").ok_or(WordsFault::Usage)?,
+    })
+}
+
+/// The number of an option, where it is given.
+fn read_optional_number(word: Option<&str>) -> Result<Option<u32>, WordsFault>
+    ensures { MatchResult result
+        (λ number. optional_number_of (option_map (λ word. word.now) word.entry) ≡ Some number)
+        (λ fault. (fault ≡ WordsFault.Usage) × (optional_number_of (option_map (λ word. word.now) word.entry) ≡ None)) }
+{
+    match word {
+        Some(word) => Ok(Some(read_number(word).ok_or(WordsFault::Usage)?)),
+        None => Ok(None),
+    }
+}
+
+fn read_kind(word: &str) -> Option<Work>
+    ensures { result ≡ kind_of word.now }
+{
+    match word {
+        "counter" => Some(Work::Counter),
+        "bank" => Some(Work::Bank),
+        "buckets" => Some(Work::Buckets),
+        "locks" => Some(Work::Locks),
+        "overflow" => Some(Work::Overflow),
         _ => None,
     }
-}
-
-/// `IMAGE` and options.
-fn read_run(words: &[String]) -> Option<Command<'_>>
-    ensures { option_map meaning result ≡ run_of (texts words.now) }
-{
-    let (image, options) = words.split_first()?;
-    if looks_like_option(image.as_str()) {
-        return None;
-    }
-    let command = RunCommand {
-        image: image.as_str(),
-        harts: None,
-        steps: None,
-        trace: None,
-    };
-    Some(Command::Run(read_options(command, options)?))
-}
-
-/// `IMAGE TRACE`.
-fn read_replay(words: &[String]) -> Option<Command<'_>>
-    ensures { option_map meaning result ≡ replay_of (texts words.now) }
-{
-    let [image, trace] = words else {
-        return None;
-    };
-    let image = image.as_str();
-    let trace = trace.as_str();
-    if looks_like_option(image) || looks_like_option(trace) {
-        return None;
-    }
-    Some(Command::Replay { image, trace })
-}
-
-/// A command with these options more.
-fn read_options<'a>(command: RunCommand<'a>, words: &'a [String]) -> Option<RunCommand<'a>>
-    ensures { option_map run_meaning result ≡ with_options (run_meaning command.entry) (texts words.entry.now) }
-{
-    let Some((option, words)) = words.split_first() else {
-        return Some(command);
-    };
-    let (value, words) = words.split_first()?;
-    let command = read_option(command, option.as_str(), value.as_str())?;
-    read_options(command, words)
-}
-
-/// A command with one option more.
-fn read_option<'a>(command: RunCommand<'a>, option: &str, value: &'a str) -> Option<RunCommand<'a>>
-    ensures { option_map run_meaning result ≡ with_option (run_meaning command.entry) option.now value.entry.now }
-{
-    if looks_like_option(value) {
-        return None;
-    }
-    match option {
-        "--harts" if command.harts.is_none() => Some(RunCommand {
-            harts: Some(read_number(value)?),
-            ..command
-        }),
-        "--steps" if command.steps.is_none() => Some(RunCommand {
-            steps: Some(read_number(value)?),
-            ..command
-        }),
-        "--trace" if command.trace.is_none() => Some(RunCommand {
-            trace: Some(value),
-            ..command
-        }),
-        _ => None,
-    }
-}
-
-/// Whether a word begins with '-', so that it names no file and is no value.
-fn looks_like_option(word: &str) -> bool
-    ensures { result ≡ is_option word.now }
-{
-    word.as_bytes().first() == Some(&b'-')
 }

@@ -1,6 +1,6 @@
-ghost use Rattle.std.specs.Prelude.{◌≡◌, Some, MatchResult};
+ghost use Rattle.std.specs.Prelude.{◌≡◌, Some, MatchResult, unwrap_or};
 ghost use Rattle.el_base.specs.Config.{IsInRange, config_fault};
-ghost use Rattle.command_line.specs.Settings.{config_of};
+ghost use Rattle.command_line.specs.Settings.{byte_or_none, config_of};
 ghost use Rattle.command_line.specs.Words.{run_meaning};
 
 use crate::command::RunCommand;
@@ -14,18 +14,26 @@ impl RunCommand<'_> {
             (λ fault. config_fault (config_of (run_meaning self.now)) ≡ Some fault) }
     {
         let usual = Config::usual();
-        // A number that its field cannot hold is out of the field's range, as 0 is.
-        let harts = match self.harts {
-            Some(harts) => u8::try_from(harts).unwrap_or(0),
-            None => usual.harts,
-        };
         let config = Config {
-            harts,
+            harts: byte_given(self.harts, usual.harts),
             mode: Mode::Plain,
+            sets: byte_given(self.sets, usual.sets),
+            ways: byte_given(self.ways, usual.ways),
             steps: self.steps.unwrap_or(usual.steps),
             ..usual
         };
         config.check()?;
         Ok(config)
+    }
+}
+
+/// A number for a field of one byte. One that the field cannot hold is out of the field's range, as
+/// 0 is, so 0 stands for it.
+fn byte_given(given: Option<u32>, usual: u8) -> u8
+    ensures { result ≡ byte_or_none (unwrap_or given usual) }
+{
+    match given {
+        Some(number) => u8::try_from(number).unwrap_or(0),
+        None => usual,
     }
 }

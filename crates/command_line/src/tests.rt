@@ -3,6 +3,15 @@ use el_base::{Config, ConfigFault, Mode};
 use std::alloc::{AllocError, Global};
 use std::test::Fail;
 
+const BARE: RunCommand = RunCommand {
+    image: "a",
+    harts: None,
+    sets: None,
+    ways: None,
+    steps: None,
+    trace: None,
+};
+
 fn strings(alloc: Global, words: &[&str]) -> Result<Vec<String>, AllocError> {
     words
         .iter()
@@ -12,53 +21,29 @@ fn strings(alloc: Global, words: &[&str]) -> Result<Vec<String>, AllocError> {
 
 #[test]
 fn command_lines_mean_what_they_say(rt: HostRuntime) -> Result<(), Fail> {
-    let plain = RunCommand {
-        image: "a",
-        harts: None,
-        steps: None,
-        trace: None,
-    };
-    let full = RunCommand {
-        image: "a",
-        harts: Some(8),
-        steps: Some(4_294_967_295),
-        trace: Some("t"),
-    };
-    let rows: [(&[&str], Command); 5] = [
-        (&["run", "a"], Command::Run(plain)),
+    let rows: [(&[&str], Command); 6] = [
+        (&["run", "a"], Command::Run(BARE)),
         (
             &[
                 "run",
+                "--ways",
+                "4294967295",
                 "a",
+                "--sets",
+                "3",
+                "--harts=0000000008",
                 "--trace",
                 "t",
-                "--harts",
-                "0000000008",
                 "--steps",
-                "4294967295",
+                "33",
             ],
-            Command::Run(full),
-        ),
-        (
-            &[
-                "run",
-                "a",
-                "--steps",
-                "4294967295",
-                "--harts",
-                "8",
-                "--trace",
-                "t",
-            ],
-            Command::Run(full),
-        ),
-        (
-            &["run", "", "--harts", "8"],
             Command::Run(RunCommand {
-                image: "",
+                image: "a",
                 harts: Some(8),
-                steps: None,
-                trace: None,
+                sets: Some(3),
+                ways: Some(4_294_967_295),
+                steps: Some(33),
+                trace: Some("t"),
             }),
         ),
         (
@@ -68,79 +53,137 @@ fn command_lines_mean_what_they_say(rt: HostRuntime) -> Result<(), Fail> {
                 trace: "t",
             },
         ),
+        (
+            &["gen", "counter", "1", "f"],
+            Command::Gen {
+                kind: Work::Counter,
+                number: 1,
+                file: "f",
+            },
+        ),
+        (
+            &["gen", "buckets", "4294967295", "f"],
+            Command::Gen {
+                kind: Work::Buckets,
+                number: 4_294_967_295,
+                file: "f",
+            },
+        ),
+        (
+            &["gen", "locks", "0", "f"],
+            Command::Gen {
+                kind: Work::Locks,
+                number: 0,
+                file: "f",
+            },
+        ),
     ];
     for (words, want) in rows {
         let words = strings(rt.alloc(), words)?;
-        assert!(rt; read_words(&words) == Some(want), "{words:?}");
+        assert!(rt; read_words(rt.alloc(), &words) == Ok(want), "{words:?}");
+    }
+    Ok(())
+}
+
+#[test]
+fn words_that_begin_with_a_dash(rt: HostRuntime) -> Result<(), Fail> {
+    let image = |image| {
+        Ok(Command::Run(RunCommand { image, ..BARE }))
+    };
+    let trace = |trace| {
+        Ok(Command::Run(RunCommand {
+            trace: Some(trace),
+            ..BARE
+        }))
+    };
+    let refused = Err(WordsFault::Usage);
+    let rows: [(&[&str], Result<Command, WordsFault>); 12] = [
+        (&["run", "--", "-a"], image("-a")),
+        (&["run", "--", "--"], image("--")),
+        (&["run", "a", "--"], image("a")),
+        (&["run", "a", "--", "--harts", "2"], refused),
+        (&["run", "a", "--trace", "--"], refused),
+        (&["run", "-"], image("-")),
+        (&["run", "a", "--trace", "-"], trace("-")),
+        (&["run", "a", "--trace", "-t"], refused),
+        (&["run", "a", "--trace=-t"], trace("-t")),
+        (&["run", "a", "--trace="], trace("")),
+        (&["run", "a", "--harts=1", "--harts", "1"], refused),
+        (&["run", "a", "-h"], refused),
+    ];
+    for (words, want) in rows {
+        let words = strings(rt.alloc(), words)?;
+        assert!(rt; read_words(rt.alloc(), &words) == want, "{words:?}");
     }
     Ok(())
 }
 
 #[test]
 fn other_words_are_no_command_line(rt: HostRuntime) -> Result<(), Fail> {
-    let rows: [&[&str]; 25] = [
+    let rows: [&[&str]; 20] = [
         &[],
-        &[""],
         &["walk", "x"],
+        &["--harts=2"],
+        &["--", "run", "a"],
         &["run"],
         &["run", "a", "b"],
-        &["run", "-a"],
         &["run", "a", "--harts"],
         &["run", "a", "--harts", "x"],
-        &["run", "a", "--harts", ""],
-        &["run", "a", "--harts", "-1"],
+        &["run", "a", "--harts="],
         &["run", "a", "--harts", "+1"],
-        &["run", "a", "--harts", "1 "],
-        &["run", "a", "--harts=1"],
         &["run", "a", "--steps", "4294967296"],
         &["run", "a", "--steps", "00000000001"],
-        &["run", "a", "--harts", "1", "--harts", "1"],
-        &["run", "a", "--trace", "t", "--trace", "u"],
-        &["run", "a", "--trace", "--harts"],
-        &["run", "a", "--mode", "plain"],
         &["run", "a", "--threads", "5"],
-        &["run", "--harts", "1", "a"],
+        &["run", "a", "--mode", "plain"],
+        &["run", "a", "--help"],
         &["replay", "a"],
-        &["replay", "a", "-t"],
-        &["replay", "-a", "t"],
-        &["replay", "a", "t", "u"],
+        &["replay", "a", "t", "--harts=1"],
+        &["gen", "counter", "x", "f"],
+        &["gen", "nothing", "1", "f"],
+        &["gen", "counter", "4294967296", "f"],
     ];
     for row in rows {
         let words = strings(rt.alloc(), row)?;
-        assert!(rt; read_words(&words).is_none(), "{words:?}");
+        assert!(rt; read_words(rt.alloc(), &words) == Err(WordsFault::Usage), "{words:?}");
     }
     Ok(())
 }
 
 #[test]
 fn options_make_a_configuration(rt: HostRuntime) {
+    let usual = Config {
+        harts: 1,
+        mode: Mode::Plain,
+        sets: 16,
+        ways: 4,
+        lines: 16,
+        long: 2_000,
+        steps: 4_000_000,
+    };
+    let most = Config {
+        harts: 8,
+        sets: 64,
+        ways: 8,
+        steps: 16_777_216,
+        ..usual
+    };
     let rows = [
-        (None, None, Ok((1, 4_000_000))),
-        (Some(8), Some(16_777_216), Ok((8, 16_777_216))),
-        (Some(1), Some(1), Ok((1, 1))),
-        (Some(0), None, Err(ConfigFault::Harts)),
-        (Some(9), Some(0), Err(ConfigFault::Harts)),
-        (Some(257), None, Err(ConfigFault::Harts)),
-        (Some(4_294_967_295), None, Err(ConfigFault::Harts)),
-        (None, Some(0), Err(ConfigFault::Steps)),
-        (Some(8), Some(16_777_217), Err(ConfigFault::Steps)),
+        ([None, None, None, None], Ok(usual)),
+        ([Some(8), Some(64), Some(8), Some(16_777_216)], Ok(most)),
+        ([Some(9), Some(3), Some(9), Some(0)], Err(ConfigFault::Harts)),
+        ([Some(257), None, None, None], Err(ConfigFault::Harts)),
+        ([None, Some(272), Some(9), Some(0)], Err(ConfigFault::Sets)),
+        ([None, None, Some(260), Some(0)], Err(ConfigFault::Ways)),
+        ([None, None, None, Some(0)], Err(ConfigFault::Steps)),
     ];
-    for (harts, steps, want) in rows {
+    for ([harts, sets, ways, steps], want) in rows {
         let command = RunCommand {
-            image: "a",
             harts,
+            sets,
+            ways,
             steps,
-            trace: None,
+            ..BARE
         };
-        let want = want.map(|(harts, steps)| Config {
-            harts,
-            mode: Mode::Plain,
-            sets: 16,
-            ways: 4,
-            lines: 16,
-            long: 2_000,
-            steps,
-        });
-        assert!(rt; command.config() == want, "{harts:?} {steps:?}");
+        assert!(rt; command.config() == want, "{harts:?} {sets:?} {ways:?} {steps:?}");
     }
 }

@@ -1,0 +1,174 @@
+-- what `clap` makes of a form's arguments, and which of them it finds
+use Rattle.std.proofs.Common.{◌≡◌, ◌∙◌, ℕ, ◌+◌, ◌<◌, ◌≤◌, ◌||◌, min, Bool, cond, true, false, List, [], ◌∷◌, ◌++◌, map, length, append_assoc, Option, None, Some, refl, ap, sym, arith, bytes_eq, eqb}
+use Rattle.std.proofs.lemmas.Bool.Decides.{nat_tests}
+use Rattle.std.proofs.lemmas.Slice.Eq.{bytes_eq-Decides}
+use Rattle.clap.specs.Lexer.{usize_max}
+use Rattle.clap.specs.Simple.{filled_from}
+use Rattle.clap.specs.Walk.{Rule, Text, arg_by_id, arg_by_index, arg_by_long, arg_by_short}
+use Rattle.clap.specs.declared.builder.action.ArgAction.TheVariants.{Set}
+use Rattle.clap.specs.declared.builder.value_parser.ValueParser.TheVariants as parser
+use Rattle.command_line.specs.Fields.{Form, is_among}
+use Rattle.command_line.specs.Simple.{option_rule, positional_rule, rules_of}
+
+-- an argument of one value, once it is built
+abbrev pub single : Text → Option Text → Option ℕ → Bool → Rule
+single id long index required = record {
+  id = id;
+  long = long;
+  aliases = [];
+  short = None;
+  short_aliases = [];
+  index = index;
+  action = Some Set;
+  range = Some (record { start_inclusive = 1; end_inclusive = 1 });
+  value_names = 0;
+  defaults = [];
+  missing = [];
+  trailing_var_arg = false;
+  parser = Some parser.String;
+  ignore_case = false;
+  required = required;
+  is_simple = true;
+  is_free = true;
+}
+
+abbrev pub built_option : Text → Rule
+built_option name = single name (Some name) None false
+
+-- the positional words, numbered from a place on
+abbrev pub numbered : ℕ → List Text → List Rule
+numbered place [] = []
+numbered place (name ∷ names) = single name None (Some place) true ∷ numbered (min (place + 1) usize_max) names
+
+abbrev pub built_rules : Form → List Rule
+built_rules form = numbered 1 form.positionals ++ map built_option form.options
+
+filled_options : (place : ℕ) (names : List Text) → filled_from place (map option_rule names) ≡ map built_option names
+filled_options place [] = refl
+filled_options place (name ∷ names) = ap (λ rest. built_option name ∷ rest) (filled_options place names)
+
+filled_rules : (place : ℕ) (names options : List Text)
+    → filled_from place (map positional_rule names ++ map option_rule options) ≡ numbered place names ++ map built_option options
+filled_rules place [] options = filled_options place options
+filled_rules place (name ∷ names) options = ap (λ rest. single name None (Some place) true ∷ rest) (filled_rules (min (place + 1) usize_max) names options)
+
+pub filled_form : (form : Form) → filled_from 1 (rules_of form) ≡ built_rules form
+filled_form form = filled_rules 1 form.positionals form.options
+
+-- ---- the argument of an option's name
+
+no_long : (place : ℕ) (names : List Text) (rest : List Rule) (name : Text) → arg_by_long (numbered place names ++ rest) name ≡ arg_by_long rest name
+no_long place [] rest name = refl
+no_long place (other ∷ names) rest name = no_long (min (place + 1) usize_max) names rest name
+
+abbrev pub option_named : Text → Bool → Option Rule
+option_named name there = cond there (Some (built_option name)) None
+
+long_option : (options : List Text) (name : Text) → arg_by_long (map built_option options) name ≡ option_named name (is_among name options)
+long_option [] name = refl
+long_option (other ∷ options) name = go (bytes_eq other name) refl (long_option options name)
+  where
+    go : (same : Bool) → bytes_eq other name ≡ same → arg_by_long (map built_option options) name ≡ option_named name (is_among name options)
+        → arg_by_long (map built_option (other ∷ options)) name ≡ option_named name (is_among name (other ∷ options))
+    go true e later = rw (e, (bytes_eq-Decides other name).0 e) refl
+    go false e later = rw e later
+
+pub long_of_form : (form : Form) (name : Text) → arg_by_long (built_rules form) name ≡ option_named name (is_among name form.options)
+long_of_form form name = no_long 1 form.positionals (map built_option form.options) name ∙ long_option form.options name
+
+-- no argument has a short name
+no_short_option : (options : List Text) (x : ℕ) → arg_by_short (map built_option options) x ≡ None
+no_short_option [] x = refl
+no_short_option (name ∷ options) x = no_short_option options x
+
+no_short : (place : ℕ) (names options : List Text) (x : ℕ) → arg_by_short (numbered place names ++ map built_option options) x ≡ None
+no_short place [] options x = no_short_option options x
+no_short place (name ∷ names) options x = no_short (min (place + 1) usize_max) names options x
+
+pub short_of_form : (form : Form) (x : ℕ) → arg_by_short (built_rules form) x ≡ None
+short_of_form form x = no_short 1 form.positionals form.options x
+
+-- ---- the argument of an id
+
+pub record IsKnown (rules : List Rule) (id : Text) : Type 0 where
+  pub long : Option Text
+  pub index : Option ℕ
+  pub required : Bool
+  pub found : arg_by_id rules id ≡ Some (single id long index required)
+
+known_first : (long : Option Text) (index : Option ℕ) (required : Bool) (other id : Text) (rest : List Rule)
+    → (bytes_eq other id ≡ false → IsKnown rest id) → IsKnown (single other long index required ∷ rest) id
+known_first long index required other id rest later = go (bytes_eq other id) refl
+  where
+    go : (same : Bool) → bytes_eq other id ≡ same → IsKnown (single other long index required ∷ rest) id
+    go true e = record { long = long; index = index; required = required; found = rw (e, (bytes_eq-Decides other id).0 e) refl }
+    go false e = let known = later e in record { long = known.long; index = known.index; required = known.required; found = rw e known.found }
+
+known_option : (options : List Text) (id : Text) → is_among id options ≡ true → IsKnown (map built_option options) id
+known_option [] id among = cc
+known_option (other ∷ options) id among =
+    known_first (Some other) None false other id (map built_option options) (λ differs. known_option options id (rw differs at among))
+
+known_after : (place : ℕ) (names : List Text) (rest : List Rule) (id : Text) → IsKnown rest id → IsKnown (numbered place names ++ rest) id
+known_after place [] rest id known = known
+known_after place (other ∷ names) rest id known =
+    known_first None (Some place) true other id (numbered (min (place + 1) usize_max) names ++ rest) (λ differs. known_after (min (place + 1) usize_max) names rest id known)
+
+known_word : (place : ℕ) (names : List Text) (rest : List Rule) (id : Text) → is_among id names ≡ true → IsKnown (numbered place names ++ rest) id
+known_word place [] rest id among = cc
+known_word place (other ∷ names) rest id among =
+    known_first None (Some place) true other id (numbered (min (place + 1) usize_max) names ++ rest)
+    (λ differs. known_word (min (place + 1) usize_max) names rest id (rw differs at among))
+
+pub option_known : (form : Form) (id : Text) → is_among id form.options ≡ true → IsKnown (built_rules form) id
+option_known form id among = known_after 1 form.positionals (map built_option form.options) id (known_option form.options id among)
+
+-- ---- the argument of a place
+
+-- the positional words from a place on are these
+abbrev pub Reads : List Rule → ℕ → List Text → Type 0
+Reads rules place [] = arg_by_index rules place ≡ None
+Reads rules place (name ∷ names) =
+    (arg_by_index rules place ≡ Some (single name None (Some place) true)) × IsKnown rules name × Reads rules (min (place + 1) usize_max) names
+
+-- none of the rules has this place or one after it
+abbrev Below : List Rule → ℕ → Type 0
+Below rules place = (at : ℕ) (rest : List Rule) → place ≤ at → arg_by_index (rules ++ rest) at ≡ arg_by_index rest at
+
+below_more : (rules : List Rule) (place : ℕ) (name : Text) → Below rules place → Below (rules ++ single name None (Some place) true ∷ []) (place + 1)
+below_more rules place name below at rest le =
+    ap (λ all. arg_by_index all at) (append_assoc rules (single name None (Some place) true ∷ []) rest)
+    ∙ below at (single name None (Some place) true ∷ rest) (omega arith) ∙ rw (differs place at (omega arith)) refl
+  where
+    differs : (m n : ℕ) → m < n → eqb m n ≡ false
+    differs m n lt = grind (arith, nat_tests)
+
+no_index : (options : List Text) (at : ℕ) → arg_by_index (map built_option options) at ≡ None
+no_index [] at = refl
+no_index (name ∷ options) at = no_index options at
+
+reads : (rules before : List Rule) (place : ℕ) (names options : List Text) → place + length names ≤ usize_max → Below before place
+    → rules ≡ before ++ (numbered place names ++ map built_option options) → ((id : Text) → is_among id names ≡ true → IsKnown rules id) → Reads rules place names
+reads rules before place [] options few below is known =
+    ap (λ all. arg_by_index all place) is ∙ below place (map built_option options) (omega arith) ∙ no_index options place
+reads rules before place (name ∷ names) options few below is known =
+    let next : min (place + 1) usize_max ≡ place + 1 = omega arith in
+    let first = single name None (Some place) true in
+    let rest = numbered (min (place + 1) usize_max) names ++ map built_option options in (
+      ap (λ all. arg_by_index all place) is ∙ below place (first ∷ rest) (omega arith) ∙ rw (same place) refl,
+      known name (rw ((bytes_eq-Decides name name).1 refl) refl),
+      rw next (reads rules (before ++ first ∷ []) (place + 1) names options (omega arith) (below_more before place name below)
+          (is ∙ rw next (sym (append_assoc before (first ∷ []) _))) (λ id among. known id (either (bytes_eq name id) _ among))),
+    )
+  where
+    same : (n : ℕ) → eqb n n ≡ true
+    same n = grind (arith, nat_tests)
+
+    either : (a b : Bool) → b ≡ true → (a || b) ≡ true
+    either true b e = refl
+    either false b e = e
+
+pub form_reads : (form : Form) → length form.positionals < usize_max → Reads (built_rules form) 1 form.positionals
+form_reads form few =
+    reads (built_rules form) [] 1 form.positionals form.options (omega arith) (λ at rest le. refl) refl
+    (λ id among. known_word 1 form.positionals (map built_option form.options) id among)

@@ -1,6 +1,0 @@
--- two words less at each option
-use Rattle.std.proofs.Common.{length}
-use Rattle.command_line.proofs.reading.+read_options.Given as goal
-
-abbrev pub decreases-read_options : goal.decreases-read_options
-decreases-read_options l = length l.words.now

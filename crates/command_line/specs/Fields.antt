@@ -1,0 +1,56 @@
+-- what a command takes after its name
+use Rattle.std.specs.Prelude.{ℕ, ◌++◌, ◌&&◌, Bool, true, not, List, [], ◌∷◌, find, bytes_eq, if◌then◌else◌, Option, None, Some, is_some}
+use Rattle.std.specs.List.{list_all, list_any}
+use Rattle.std.specs.Option.{option_and_then, option_map}
+use Rattle.command_line.specs.Pieces.{Piece, OptionWith, Positional, pieces_of}
+
+-- the names of a command's positional words, in their order, and of its options
+pub record Form : Type 0 where
+  pub positionals : List (List ℕ)
+  pub options : List (List ℕ)
+
+-- a positional word or an option, with what is given for it
+pub record Field : Type 0 where
+  pub name : List ℕ
+  pub value : List ℕ
+
+abbrev pub is_among : List ℕ → List (List ℕ) → Bool
+is_among name names = list_any (λ other. bytes_eq other name) names
+
+-- what is given for a name
+abbrev pub value_in : List Field → List ℕ → Option (List ℕ)
+value_in fields name = option_map (λ field. field.value) (find (λ field. bytes_eq field.name name) fields)
+
+abbrev pub has_field : List Field → List ℕ → Bool
+has_field fields name = is_some (value_in fields name)
+
+abbrev pub with_field : List ℕ → List ℕ → Option (List Field) → Option (List Field)
+with_field name value fields = option_map (λ rest. record { name = name; value = value } ∷ rest) fields
+
+-- the fields that pieces give: each option is one of these, and each positional word gets the next of these names
+abbrev pub fields_in : List (List ℕ) → List (List ℕ) → List Piece → Option (List Field)
+fields_in positionals options [] = Some []
+fields_in positionals options (OptionWith name value ∷ pieces) =
+    if is_among name options then with_field name value (fields_in positionals options pieces) else None
+fields_in [] options (Positional word ∷ pieces) = None
+fields_in (name ∷ positionals) options (Positional word ∷ pieces) = with_field name word (fields_in positionals options pieces)
+
+-- no field has the name of one before it
+abbrev pub are_new : List Field → List Field → Bool
+are_new before [] = true
+are_new before (field ∷ fields) = not (has_field before field.name) && are_new (before ++ field ∷ []) fields
+
+-- nothing is given twice, and no positional word is missing
+abbrev pub are_whole : Form → List Field → Bool
+are_whole form fields = are_new [] fields && list_all (has_field fields) form.positionals
+
+infixl 10 ◌>>=◌
+abbrev pub ◌>>=◌ : {A B : Type 0} → Option A → (A → Option B) → Option B
+value >>= next = option_and_then next value
+
+-- the fields that words give to a form, or none where it does not take these words
+abbrev pub fields_of : Form → List (List ℕ) → Option (List Field)
+fields_of form words = do
+  pieces ← pieces_of words
+  fields ← fields_in form.positionals form.options pieces
+  if are_whole form fields then Some fields else None

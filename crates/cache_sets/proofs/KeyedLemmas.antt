@@ -1,12 +1,12 @@
 -- Lists whose elements have a key: what is found under a key, and what stays after elements are taken out or changed.
 use Rattle.cache_sets.specs.Keyed.{changed, changed_at, count_of, found, fronted, without}
-use Rattle.std.proofs.Common.{◌≡◌, ◌≢◌, ℕ, zero, suc, ◌+◌, ◌≤◌, ◌<◌, Bool, true, false, not, cond, eqb, List, [], ◌∷◌, length, map, get_or, Option, None, Some, option_map, refl, ap, sym, ◌∙◌, inl, inr, arith}
+use Rattle.std.proofs.Common.{◌≡◌, ◌≢◌, ℕ, zero, suc, ◌+◌, ◌≤◌, ◌<◌, Bool, true, false, not, cond, eqb, List, [], ◌∷◌, length, map, get_or, Option, None, Some, option_map, is_some, refl, ap, sym, ◌∙◌, inl, inr, arith}
 use Rattle.std.specs.Option.{option_map_or}
-use Rattle.std.proofs.lemmas.Bool.{cases_eq}
+use Rattle.std.proofs.lemmas.Bool.{cases_eq, cases_lt}
 use Rattle.std.specs.List.{position, position_or_len, remove, sum_by}
 use Rattle.std.proofs.lemmas.List.Folds.{find_at}
 use Rattle.std.proofs.lemmas.List.Quantifiers.{position-Some}
-use Rattle.std.proofs.lemmas.Option.{slice_get_past, slice_get_read}
+use Rattle.std.proofs.lemmas.Option.{slice_get-get_or, slice_get_past, slice_get_read}
 use Rattle.std.specs.Prelude.{slice_get}
 use Rattle.std.proofs.lemmas.Bool.{eqb-true}
 use Rattle.std.proofs.lemmas.Bool.Decides.{nat_tests}
@@ -129,10 +129,32 @@ module _ {X : Type 0} (key : X → ℕ) where
       | inr other ↦
       grind (arith, nat_tests, counts, sums, changed_sums, sum_by-changed f change xs k) ]
 
+  -- what is found has its part in a sum, and two that are found have theirs
+  pub found-le-sum_by : (f : X → ℕ) (xs : List X) (k : ℕ) (x : X) → found key xs k ≡ Some x → f x ≤ sum_by f xs
+  found-le-sum_by f [] k x is = absurd cc
+  found-le-sum_by f (y ∷ xs) k x is = grind (arith, nat_tests, sum_by-cons f y xs, found-le-sum_by f xs k x)
+
+  pub two_found : (f : X → ℕ) (xs : List X) (k j : ℕ) (x y : X) → count_of key xs k ≤ 1 → j ≢ k → found key xs k ≡ Some x → found key xs j ≡ Some y →
+      f x + f y ≤ sum_by f xs
+  two_found f xs k j x y once other first second =
+      let there : option_map_or f (found key xs k) 0 ≡ f x = ap (λ w. option_map_or f w 0) first in
+      omega (arith, there, sum_by-without f xs k once, found-le-sum_by f (without key xs k) j y (found-without_other xs k j other ∙ second))
+
   -- where the position of a key is
   pub position-found : (xs : List X) (k : ℕ) → position (λ x. eqb (key x) k) xs ≡ None → found key xs k ≡ None
   position-found xs k none =
       find_at (λ x. eqb (key x) k) xs ∙ slice_get_past xs (position_or_len (λ x. eqb (key x) k) xs) (grind (arith, nat_tests))
+
+  pub position-some : (xs : List X) (k : ℕ) → is_some (position (λ x. eqb (key x) k) xs) ≡ is_some (found key xs k)
+  position-some [] k = refl
+  position-some (x ∷ xs) k =
+      let ys = x ∷ xs in
+      let test = λ (y : X). eqb (key y) k in
+      let n = position_or_len test ys in
+      let here : found key ys k ≡ slice_get ys n = find_at test ys in
+      elim (cases_lt n (length ys))
+      [ inl low ↦ grind (arith, nat_tests, here, slice_get-get_or ys n x low)
+      | inr past ↦ grind (arith, nat_tests, here, slice_get_past ys n past) ]
 
   pub position-key : (xs : List X) (k i : ℕ) (d : X) → position (λ x. eqb (key x) k) xs ≡ Some i → (i < length xs) × (key (get_or xs i d) ≡ k)
   position-key xs k i d is = let at = position-Some (λ x. eqb (key x) k) xs i d is in (at.0, eqb-true (key (get_or xs i d)) k at.1)

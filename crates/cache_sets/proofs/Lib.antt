@@ -5,3 +5,7 @@ pub mod WellFormedLemmas
 pub mod MarkLemmas
 pub mod VictimPlaces
 pub mod Places
+pub mod ShownLemmas
+pub mod RowLemmas
+pub mod BitLemmas
+pub mod CachedLemmas

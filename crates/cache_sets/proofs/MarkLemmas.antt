@@ -13,6 +13,7 @@ use Rattle.moesi.specs.declared.letter.Letter.{Letter}
 use Rattle.cache_sets.specs.Residency.{Way, changed_in, dropped, evicted_in, filled_in, is_marked, left_in, room_in, touched_in, way_in, with_bit, with_letter, without_bits}
 use Rattle.cache_sets.specs.Cache.{bit_in, cleared, committed, committed_way, empty_cache, evicted_by, filled_with, has_bit, has_marks, is_resident, lettered, marked, read_bit, set_number, set_of, touched, way_of, with_set, without_line, write_bit, write_bits_of}
 use Rattle.cache_sets.specs.WellFormed.{IsWellFormed}
+use Rattle.cache_sets.specs.Kept.{marks_of}
 use Rattle.cache_sets.proofs.ResidencyLemmas.{counted, evicted_in-victim, line_of, once_less, same_or, sum_by-changed_in, sum_by-dropped, sum_by-filled_in, sum_by-map, sum_by-touched_in, victim_in-unmarked}
 use Rattle.cache_sets.proofs.WellFormedLemmas.{fresh}
 
@@ -29,10 +30,6 @@ mark_of way = one_if (is_marked way)
 
 abbrev pub write_of : Way → ℕ
 write_of way = one_if way.write
-
--- how many lines have a bit
-abbrev pub marks_of : List (List Way) → ℕ
-marks_of cache = total mark_of cache
 
 total-with_set : (f : Way → ℕ) (cache : List (List Way)) (line : ℕ) (set : List Way) → 0 < length cache →
     total f (with_set cache line set) + sum_by f (set_of cache line) ≡ total f cache + sum_by f set

@@ -13,7 +13,7 @@ use Rattle.cache_sets.proofs.KeyedLemmas.{count_of-found, found-changed_other, f
 abbrev pub line_of : Way → ℕ
 line_of way = way.line
 
-way_in-found : (set : List Way) (line : ℕ) → way_in set line ≡ found line_of set line
+pub way_in-found : (set : List Way) (line : ℕ) → way_in set line ≡ found line_of set line
 way_in-found [] line = refl
 way_in-found (way ∷ set) line = grind (arith, nat_tests, way_in-found set line)
 

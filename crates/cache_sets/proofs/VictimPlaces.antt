@@ -1,10 +1,11 @@
 -- Looking for a victim from the least recent line on.
-use Rattle.std.proofs.Common.{◌≡◌, ℕ, zero, suc, ◌+◌, ◌≤◌, ◌<◌, Bool, true, false, cond, List, [], ◌∷◌, length, map, drop, get_or, Option, None, Some, refl, ap, sym, ◌∙◌, arith}
+use Rattle.std.proofs.Common.{◌≡◌, ℕ, zero, suc, ◌+◌, ◌≤◌, ◌<◌, Bool, true, false, cond, List, [], ◌∷◌, length, map, drop, get_or, Option, None, Some, is_some, refl, ap, sym, ◌∙◌, arith}
 use Rattle.std.specs.Option.{option_or}
 use Rattle.std.proofs.lemmas.List.{drop_more, drop_all}
 use Rattle.cache_sets.specs.declared.way.Way as code
-use Rattle.cache_sets.specs.Kept.{shown_way}
-use Rattle.cache_sets.specs.Residency.{Way, is_marked, victim_in}
+use Rattle.cache_sets.specs.Kept.{IsVictimPlace, shown_way}
+use Rattle.cache_sets.specs.Residency.{Way, has_unmarked, is_marked, victim_in}
+use Rattle.cache_sets.proofs.ResidencyLemmas.{victim_in-some}
 
 -- one line further to the front
 victim_one_more : (ways : List code.Way) (i : ℕ) (d : code.Way) → i < length ways →
@@ -46,3 +47,9 @@ pub no_victim_from : (ways : List code.Way) (i n : ℕ) → i + 1 ≡ n → n �
     victim_in (map shown_way (drop n ways)) ≡ None → victim_in (map shown_way (drop i ways)) ≡ None
 no_victim_from [] i n next within marked none = absurd (omega arith)
 no_victim_from (first ∷ ways) i n next within marked none = no_victim_more (first ∷ ways) i n first next within (marked first) none
+
+-- a set has a line without bits exactly where it has a victim
+pub some_victim : (ways : List code.Way) (place : Option ℕ) → IsVictimPlace ways place → is_some place ≡ has_unmarked (map shown_way ways)
+some_victim ways None none = ap is_some (sym none) ∙ victim_in-some (map shown_way ways)
+some_victim [] (Some place) at = absurd (omega (arith, at.0))
+some_victim (first ∷ ways) (Some place) at = ap is_some (sym (at.1 first)) ∙ victim_in-some (map shown_way (first ∷ ways))

@@ -1,5 +1,5 @@
 -- how a cache's fields show its sets, and what each set keeps
-use Rattle.std.specs.Prelude.{◌≡◌, ◌≤◌, ◌<◌, ◌+◌, ◌*◌, ◌%◌, ◌==◌, ℕ, Bool, List, [], ◌∷◌, map, length, count_by, nat_lt, if◌then◌else◌, slice_index_or, Option, None, Some, option_map}
+use Rattle.std.specs.Prelude.{◌≡◌, ◌≤◌, ◌<◌, ◌+◌, ◌*◌, ◌%◌, ◌==◌, ℕ, Bool, List, [], ◌∷◌, map, length, count_by, sum_by, nat_lt, if◌then◌else◌, slice_index_or, Option, None, Some, option_map}
 use Rattle.el_base.specs.declared.line.LineAddr.{LineAddr}
 use Rattle.el_base.specs.declared.outcomes.Need.{Need}
 use Rattle.el_base.specs.declared.outcomes.Need.TheVariants.{Read, Write}
@@ -9,7 +9,10 @@ use Rattle.cache_sets.specs.declared.set.Set.{Set}
 use Rattle.cache_sets.specs.declared.way.Way as code
 use Rattle.cache_sets.specs.Bits.{bits_of_number, has_need, with_need}
 use Rattle.cache_sets.specs.Keyed.{found, without}
-use Rattle.cache_sets.specs.Residency.{Way, evicted_in, victim_in}
+use Rattle.cache_sets.specs.Residency.{Way, evicted_in, is_marked, victim_in}
+use Rattle.cache_sets.specs.Cache.{write_bits_of}
+use Rattle.cache_sets.specs.Cached.{Cached}
+use Rattle.cache_sets.specs.WellFormed.{IsWellFormed}
 
 -- the number of the line of a way
 abbrev pub number_of : code.Way → ℕ
@@ -92,3 +95,45 @@ pub record IsDropped (old new : Set) (line : ℕ) : Type 0 where
   pub left : new.ways.items ≡ without number_of old.ways.items line
   pub uses : (row : ℕ) → uses_of new row ≡ uses_of old row
   pub rows : length new.ways.items + length new.spare.items ≡ length old.ways.items + length old.spare.items
+
+-- a set without lines
+abbrev pub no_set : Set
+no_set = record { ways = record { items = [] }; spare = record { items = [] } }
+
+-- the set of a line, and its way
+abbrev pub set_at : List Set → ℕ → Set
+set_at sets line = slice_index_or sets (line % length sets) no_set
+
+abbrev pub way_at : List Set → ℕ → Option code.Way
+way_at sets line = found number_of (set_at sets line).ways.items line
+
+-- where the bytes of a way are among the rows of so many sets: its line tells its set
+abbrev pub row_of : ℕ → ℕ → code.Way → ℕ
+row_of sets ways way = way.line.number % sets * ways + way.slot
+
+abbrev pub bytes_of_way : ℕ → ℕ → List (List ℕ) → code.Way → List ℕ
+bytes_of_way sets ways rows way = slice_index_or rows (row_of sets ways way) []
+
+-- the sets and rows as contracts see them
+abbrev pub shown_cache : ℕ → List Set → List (List ℕ) → Cached
+shown_cache ways sets rows = record {
+  ways = ways;
+  residency = residency_of sets;
+  bytes = map (λ set. map (bytes_of_way (length sets) ways rows) set.ways.items) sets;
+}
+
+-- how many lines have a bit
+abbrev pub marks_of : List (List Way) → ℕ
+marks_of cache = sum_by (λ set. count_by is_marked set) cache
+
+-- what the fields of a cache keep: its ways, sets and rows, and how many lines have bits and are written
+pub record Stands (ways : ℕ) (sets : List Set) (rows : List (List ℕ)) (marks writes : ℕ) : Type 0 where
+  pub some_way : 1 ≤ ways
+  pub ways_fit : ways ≤ 8
+  pub sets_fit : length sets ≤ 64
+  pub well_formed : IsWellFormed ways (residency_of sets)
+  pub each : (line : ℕ) → IsSet ways (set_at sets line)
+  pub all_rows : length rows ≡ length sets * ways
+  pub whole : (row : ℕ) → row < length rows → length (slice_index_or rows row []) ≡ 64
+  pub marked : marks ≡ marks_of (residency_of sets)
+  pub written : writes ≡ write_bits_of (residency_of sets)

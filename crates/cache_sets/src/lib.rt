@@ -6,8 +6,12 @@
 #![tactic(auto)]
 
 mod bits;
+mod evicted;
 mod set;
+mod sets;
 mod way;
 
 pub use bits::Bits;
+pub use evicted::Evicted;
 pub use moesi::Letter;
+pub use sets::Sets;

@@ -1,9 +1,9 @@
-ghost use Rattle.std.specs.Prelude.{◌≡◌, ◌⊎◌, ℕ, ◌≤◌, ◌<◌, ◌+◌, ◌==◌, ◌∷◌, [], ◌++◌, List, map, length, position, slice_index_or, true, IfSome, IsSome};
+ghost use Rattle.std.specs.Prelude.{◌≡◌, ◌⊎◌, ℕ, ◌≤◌, ◌<◌, ◌+◌, ◌==◌, ◌∷◌, [], ◌++◌, List, map, length, position, slice_index_or, true, is_some};
 ghost use Rattle.std.specs.List.{remove};
 ghost use Rattle.cache_sets.specs.declared.way.Way as code;
 ghost use Rattle.cache_sets.specs.Keyed.{changed, count_of, found, fronted, without};
 ghost use Rattle.cache_sets.specs.Kept.{IsDropped, IsFilled, IsSet, IsVictimPlace, MakesRoom, cleared_way, committed_way, lettered_way, marked_way, new_way, number_of, shown_set, shown_way};
-ghost use Rattle.cache_sets.specs.Residency.{has_unmarked, is_marked};
+ghost use Rattle.cache_sets.specs.Residency.{has_unmarked, is_marked, room_in, way_in};
 
 use crate::bits::Bits;
 use crate::way::Way;
@@ -40,6 +40,28 @@ impl Set {
         ensures { result ≡ position (λ way. number_of way == line.number) self.now.ways.items }
     {
         self.ways.iter().position(|way| way.line == line)
+    }
+
+    /// Whether a line is there.
+    fn has(&self, line: LineAddr) -> bool
+        ensures { result ≡ is_some (way_in (shown_set self.now) line.number) }
+    {
+        self.place_of(line).is_some()
+    }
+
+    /// Whether some line has no bit.
+    fn has_unmarked(&self) -> bool
+        ensures { result ≡ has_unmarked (shown_set self.now) }
+    {
+        self.victim_place().is_some()
+    }
+
+    /// Whether there is room for a line: it is there, the set has fewer lines than ways, or some line
+    /// has no bit.
+    pub fn has_room_for(&self, ways: u8, line: LineAddr) -> bool
+        ensures { result ≡ room_in ways (shown_set self.now) line.number }
+    {
+        self.has(line) || self.ways.len() < usize::from(ways) || self.has_unmarked()
     }
 
     /// A line becomes the most recent one.

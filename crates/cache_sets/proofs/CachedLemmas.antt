@@ -1,0 +1,87 @@
+-- What holds of a cache as contracts see it, by what its fields keep.
+use Rattle.std.proofs.Common.{◌≡◌, ◌≢◌, ℕ, zero, suc, ◌+◌, ◌≤◌, ◌<◌, Bool, true, false, not, cond, eqb, ltb, List, [], ◌∷◌, length, map, get_or, Option, None, Some, option_map, is_some, refl, ap, sym, subst, inl, inr, ◌⊎◌, ◌∙◌, arith}
+use Rattle.std.specs.Option.{option_map_or}
+use Rattle.std.proofs.lemmas.Bool.Decides.{nat_tests}
+use Rattle.std.proofs.lemmas.List.{get_or_read, length-map}
+use Rattle.std.proofs.lemmas.Bool.{true≢false}
+use Rattle.std.proofs.lemmas.Option.{none-some, same_Some}
+use Rattle.cache_sets.specs.declared.set.Set.{Set}
+use Rattle.cache_sets.specs.declared.way.Way as code
+use Rattle.cache_sets.specs.Cache.{has_marks, is_resident, way_of}
+use Rattle.cache_sets.specs.Cached.{Cached, Copy, bytes_of, copy_in}
+use Rattle.cache_sets.specs.Calls.{IsCached}
+use Rattle.cache_sets.specs.Kept.{Stands, bytes_of_way, marks_of, residency_of, row_of, shown_cache, shown_set, shown_way, way_at}
+use Rattle.cache_sets.proofs.MarkLemmas.{has_marks-counted}
+use Rattle.cache_sets.proofs.RowLemmas.{row_below}
+use Rattle.cache_sets.proofs.ShownLemmas.{bytes_of_shown, way_found, way_of_shown}
+
+-- the copy of a line, by its way
+pub copy_shown : (ways : ℕ) (sets : List Set) (rows : List (List ℕ)) (line : ℕ) →
+    copy_in (shown_cache ways sets rows) line
+    ≡ option_map (λ way. record { letter = way.letter; bytes = bytes_of_way (length sets) ways rows way }) (way_at sets line)
+copy_shown ways sets rows line = shown (way_at sets line) refl
+  where
+    shown : (way : Option code.Way) → way_at sets line ≡ way →
+        copy_in (shown_cache ways sets rows) line
+        ≡ option_map (λ w. record { letter = w.letter; bytes = bytes_of_way (length sets) ways rows w }) way
+    shown None is =
+        ap (option_map (λ w. record { letter = w.letter; bytes = bytes_of (shown_cache ways sets rows) line })) (way_of_shown sets line ∙ ap (option_map shown_way) is)
+    shown (Some way) is =
+        ap (option_map (λ w. record { letter = w.letter; bytes = bytes_of (shown_cache ways sets rows) line })) (way_of_shown sets line ∙ ap (option_map shown_way) is)
+        ∙ ap (λ bytes. Some (record { letter = way.letter; bytes = bytes })) (bytes_of_shown ways sets rows line ∙ ap (λ w. option_map_or (bytes_of_way (length sets) ways rows) w []) is)
+
+-- some line has a bit exactly where the count says so
+pub some_marks : (ways : ℕ) (sets : List Set) (rows : List (List ℕ)) (marks writes : ℕ) (cached : Cached) →
+    Stands ways sets rows marks writes → shown_cache ways sets rows ≡ cached → ltb 0 marks ≡ has_marks cached.residency
+some_marks ways sets rows marks writes cached stands is =
+    let counted = has_marks-counted (residency_of sets) in
+    let here : ltb 0 marks ≡ has_marks (residency_of sets) = grind (arith, nat_tests, stands.marked, counted) in
+    here ∙ ap (λ v. has_marks v.residency) is
+
+-- each copy has the bytes of a line
+whole_copy : (ways : ℕ) (sets : List Set) (rows : List (List ℕ)) (marks writes line : ℕ) (copy : Copy) → Stands ways sets rows marks writes →
+    copy_in (shown_cache ways sets rows) line ≡ Some copy → length copy.bytes ≡ 64
+whole_copy ways sets rows marks writes line copy stands is = by_way (way_at sets line) refl
+  where
+    by_way : (way : Option code.Way) → way_at sets line ≡ way → length copy.bytes ≡ 64
+    by_way None absent =
+        absurd (none-some copy (sym (copy_shown ways sets rows line ∙ ap (option_map (λ w. record { letter = w.letter; bytes = bytes_of_way (length sets) ways rows w })) absent) ∙ is))
+    by_way (Some way) there =
+        let same : record { letter = way.letter; bytes = bytes_of_way (length sets) ways rows way } ≡ copy =
+        same_Some _ copy (sym (copy_shown ways sets rows line ∙ ap (option_map (λ w. record { letter = w.letter; bytes = bytes_of_way (length sets) ways rows w })) there) ∙ is) in
+        ap (λ c. length c.bytes) (sym same) ∙ stands.whole (row_of (length sets) ways way) (row_below ways sets rows marks writes line way stands there)
+
+pub cached_kept : (ways : ℕ) (sets : List Set) (rows : List (List ℕ)) (marks writes : ℕ) (cached : Cached) →
+    Stands ways sets rows marks writes → shown_cache ways sets rows ≡ cached → IsCached cached
+cached_kept ways sets rows marks writes cached stands is =
+    subst IsCached is (record {
+      well_formed = stands.well_formed;
+      some_way = stands.some_way;
+      ways_fit = stands.ways_fit;
+      sets_fit = omega (arith, stands.sets_fit, length-map sets shown_set);
+      whole = λ line copy. whole_copy ways sets rows marks writes line copy stands;
+    })
+
+-- a line that is there has a way
+pub unfound : (ways : ℕ) (sets slice : List Set) (rows : List (List ℕ)) (cached : Cached) (line : ℕ) →
+    shown_cache ways sets rows ≡ cached → slice ≡ sets → None ≡ way_at slice line → is_resident cached.residency line ≡ true → ⊥
+unfound ways sets slice rows cached line is same none there =
+    true≢false (sym there ∙ ap is_some (way_found ways sets slice rows cached line None is same none))
+
+-- what was read at a way's row is the line's bytes
+pub row_read : (ways : ℕ) (sets slice : List Set) (rows : List (List ℕ)) (marks writes line index : ℕ) (way : code.Way) →
+    Stands ways sets rows marks writes → slice ≡ sets → Some way ≡ way_at slice line → index ≡ row_of (length slice) ways way → index < length rows
+row_read ways sets slice rows marks writes line index way stands same found at =
+    let there : way_at sets line ≡ Some way = ap (λ s. way_at s line) (sym same) ∙ sym found in
+    omega (arith, row_below ways sets rows marks writes line way stands there, at, ap (λ s. row_of (length s) ways way) same)
+
+pub bytes_read : (ways : ℕ) (sets slice : List Set) (rows : List (List ℕ)) (marks writes line index : ℕ) (cached : Cached) (way : code.Way) (bytes : List ℕ) →
+    Stands ways sets rows marks writes → shown_cache ways sets rows ≡ cached → slice ≡ sets → Some way ≡ way_at slice line →
+    index ≡ row_of (length slice) ways way → bytes ≡ get_or rows index bytes → bytes ≡ bytes_of cached line
+bytes_read ways sets slice rows marks writes line index cached way bytes stands is same found at read =
+    let there : way_at sets line ≡ Some way = ap (λ s. way_at s line) (sym same) ∙ sym found in
+    let own : index ≡ row_of (length sets) ways way = at ∙ ap (λ s. row_of (length s) ways way) same in
+    let shown : bytes_of (shown_cache ways sets rows) line ≡ get_or rows (row_of (length sets) ways way) [] =
+    bytes_of_shown ways sets rows line ∙ ap (λ w. option_map_or (bytes_of_way (length sets) ways rows) w []) there in
+    get_or_read rows index bytes (row_read ways sets slice rows marks writes line index way stands same found at) read []
+    ∙ ap (λ n. get_or rows n []) own ∙ sym shown ∙ ap (λ v. bytes_of v line) is

@@ -1,0 +1,16 @@
+use Rattle.std.proofs.Common.{None, Some, ap, sym}
+use Rattle.cache_sets.specs.Cache.{letter_in}
+use Rattle.cache_sets.proofs.ShownLemmas.{way_found}
+use Rattle.cache_sets.proofs.sets.Sets.letter.Goals as goal
+
+pub returns-in-Some : goal.returns-in-Some
+returns-in-Some c =
+    let i = c.self.inside in
+    sym (ap letter_in (way_found i.ways i.sets.items c.as_slice.result.now i.rows.items c.args.self.now c.args.line.number (Some c.in-Some.way)
+    c.self.view_is c.as_slice.ensures.value c.in-Some.ensures))
+
+pub returns-in-None : goal.returns-in-None
+returns-in-None c =
+    let i = c.self.inside in
+    sym (ap letter_in (way_found i.ways i.sets.items c.as_slice.result.now i.rows.items c.args.self.now c.args.line.number None
+    c.self.view_is c.as_slice.ensures.value c.in-None.ensures))

@@ -1,4 +1,5 @@
 pub mod BitSets
 pub mod HartIds
+pub mod ListLaws
 pub mod Ranges
 pub mod SameLosers

@@ -9,3 +9,4 @@ pub mod ShownLemmas
 pub mod RowLemmas
 pub mod BitLemmas
 pub mod CachedLemmas
+pub mod StepLemmas

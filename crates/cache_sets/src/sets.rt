@@ -87,6 +87,16 @@ impl Sets {
         self.written
     }
 
+    /// A line becomes the most recent one of its set.
+    pub fn touch(&mut self, line: LineAddr)
+        requires { is_resident self.old.residency line.number ≡ true }
+        ensures { IsTouched self.old self.new line.number }
+    {
+        let number = set_number(self.sets.as_slice(), line);
+        let set = &mut self.sets[number];
+        set.touch(line);
+    }
+
     /// The bytes of a line that the cache has.
     pub fn bytes(&self, line: LineAddr) -> &[u8; 64]
         requires { is_resident self.now.residency line.number ≡ true }
@@ -100,12 +110,21 @@ impl Sets {
     }
 }
 
+/// The number of the set of a line.
+fn set_number(sets: &[Set], line: LineAddr) -> usize
+    requires { 0 < length sets.now }
+    ensures exact { result ≡ line.number % length sets.now }
+    ensures within { result < length sets.now }
+{
+    line.number as usize % sets.len()
+}
+
 /// The set of a line.
 fn set_of(sets: &[Set], line: LineAddr) -> &Set
     requires { 0 < length sets.now }
     ensures { result.now ≡ set_at sets.now line.number }
 {
-    &sets[line.number as usize % sets.len()]
+    &sets[set_number(sets, line)]
 }
 
 /// Where the bytes of a way are among the rows of all sets.

@@ -10,3 +10,5 @@ pub mod RowLemmas
 pub mod BitLemmas
 pub mod CachedLemmas
 pub mod StepLemmas
+pub mod ChangeSteps
+pub mod CountSteps

@@ -20,10 +20,10 @@ use Rattle.cache_sets.proofs.ResidencyLemmas.{changed_in-changed, dropped-withou
 use Rattle.cache_sets.proofs.MarkLemmas.{mark_of, total-touched, write_of}
 use Rattle.cache_sets.proofs.WellFormedLemmas.{well_formed-touched}
 use Rattle.cache_sets.proofs.RowLemmas.{some_set}
-use Rattle.cache_sets.proofs.CachedLemmas.{copy_shown}
+use Rattle.cache_sets.proofs.CachedLemmas.{copy_of, copy_shown}
 use Rattle.cache_sets.proofs.ShownLemmas.{once_at, set_of_shown, way_in_shown}
 
-length-sets_with : (sets : List Set) (line : ℕ) (set : Set) → length (sets_with sets line set) ≡ length sets
+pub length-sets_with : (sets : List Set) (line : ℕ) (set : Set) → length (sets_with sets line set) ≡ length sets
 length-sets_with sets line set = length-set sets (line % length sets) set
 
 set_at-sets_with_same : (sets : List Set) (line l : ℕ) (set : Set) → 0 < length sets → l % length sets ≡ line % length sets →
@@ -112,12 +112,12 @@ changed_in_shown change code_change ways line commutes =
     ∙ changed-map number_of line_of shown_way (λ way. refl) code_change change ways line commutes
 
 -- the copy of a line whose way is at the same place with the same letter, and which has the same bytes
-same_copy : (ways : ℕ) (sets new_sets : List Set) (rows : List (List ℕ)) (line : ℕ) → length new_sets ≡ length sets →
+pub same_copy : (ways : ℕ) (sets new_sets : List Set) (rows : List (List ℕ)) (line : ℕ) → length new_sets ≡ length sets →
     way_at new_sets line ≡ way_at sets line → copy_in (shown_cache ways new_sets rows) line ≡ copy_in (shown_cache ways sets rows) line
 same_copy ways sets new_sets rows line size same =
     copy_shown ways new_sets rows line
-    ∙ ap (λ n. option_map (λ way. record { letter = way.letter; bytes = bytes_of_way n ways rows way }) (way_at new_sets line)) size
-    ∙ ap (option_map (λ way. record { letter = way.letter; bytes = bytes_of_way (length sets) ways rows way })) same
+    ∙ ap (λ n. option_map (copy_of n ways rows) (way_at new_sets line)) size
+    ∙ ap (option_map (copy_of (length sets) ways rows)) same
     ∙ sym (copy_shown ways sets rows line)
 
 -- a set of which the ways are the old ones after a change that keeps their sums

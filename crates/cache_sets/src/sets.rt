@@ -97,6 +97,45 @@ impl Sets {
         set.touch(line);
     }
 
+    /// A line gets another letter.
+    pub fn set_letter(&mut self, line: LineAddr, letter: Letter)
+        requires resident { is_resident self.old.residency line.number ≡ true }
+        requires valid { letter ≢ I }
+        ensures { IsLettered self.old self.new line.number letter }
+    {
+        let number = set_number(self.sets.as_slice(), line);
+        let set = &mut self.sets[number];
+        set.set_letter(line, letter);
+    }
+
+    /// The hart's section has done to a line what it needed.
+    pub fn set_bit(&mut self, line: LineAddr, need: Need)
+        requires { is_resident self.old.residency line.number ≡ true }
+        ensures { IsMarked self.old self.new line.number need }
+    {
+        let before = self.bits(line);
+        let number = set_number(self.sets.as_slice(), line);
+        let set = &mut self.sets[number];
+        set.set_bit(line, need);
+        let after = before.with(need);
+        self.marked = self.marked - before.marks() + after.marks();
+        self.written = self.written - before.writes() + after.writes();
+    }
+
+    /// A line leaves.
+    pub fn drop_line(&mut self, line: LineAddr)
+        requires { is_resident self.old.residency line.number ≡ true }
+        ensures { IsWithout self.old self.new line.number }
+    {
+        let before = self.bits(line);
+        let number = set_number(self.sets.as_slice(), line);
+        let ways = self.ways;
+        let set = &mut self.sets[number];
+        set.drop_line(ways, line);
+        self.marked -= before.marks();
+        self.written -= before.writes();
+    }
+
     /// The bytes of a line that the cache has.
     pub fn bytes(&self, line: LineAddr) -> &[u8; 64]
         requires { is_resident self.now.residency line.number ≡ true }

@@ -29,7 +29,7 @@ use Rattle.rv_alu.specs.Span.{holds}
 pub store_ends_reservation : (action : Action) (view : HartView) (byte : ℕ → ℕ) →
     OnSome (store_in (perform action view byte)) ((view_after (perform action view byte) view).reserved ≡ None)
 store_ends_reservation (actions.Store address len value) view byte = refl
-store_ends_reservation (actions.StoreReserved rd address value) view byte = refl
+store_ends_reservation (actions.StoreConditional rd address value) view byte = refl
 store_ends_reservation (actions.Amo op rd address source) view byte = refl
 store_ends_reservation _ view byte = tt
 
@@ -46,7 +46,7 @@ loaded-same left right address (suc len) h =
 perform-agree : (action : Action) (view : HartView) (left right : ℕ → ℕ) → AgreeOn (footprint action) left right → perform action view left ≡ perform action view right
 perform-agree (actions.Load width rd address) view left right agree =
     ap (λ number. Goes (put_of view rd.number (extend_of width number)) None None) (loaded-same left right address (load_size_of width) (λ k low high. agree k (low, high)))
-perform-agree (actions.Reserve rd address) view left right agree =
+perform-agree (actions.LoadReserved rd address) view left right agree =
     ap (λ number. Goes (record (put_of view rd.number number) { reserved = Some address }) None None) (loaded-same left right address 4 (λ k low high. agree k (low, high)))
 perform-agree (actions.Amo op rd address source) view left right agree =
     ap (λ number. Goes (release_of (put_of view rd.number number)) (Some (record { address = address; len = 4; value = amo_of op number source })) None)
@@ -147,14 +147,14 @@ perform-regs : (action : Action) (view : HartView) (byte : ℕ → ℕ) → AreR
 perform-regs (actions.Trap cause) view byte h = h
 perform-regs (actions.Exit code) view byte h = h
 perform-regs (actions.Put rd value) view byte h = set-regs view.regs rd.number value h
-perform-regs (actions.Link rd target) view byte h = set-regs view.regs rd.number _ h
+perform-regs (actions.JumpAndLink rd target) view byte h = set-regs view.regs rd.number _ h
 perform-regs (actions.Go target) view byte h = h
 perform-regs (actions.Answer value) view byte h = set-regs view.regs a0 value h
 perform-regs (actions.Append address len) view byte h = set-regs view.regs a0 len h
 perform-regs (actions.Load width rd address) view byte h = set-regs view.regs rd.number _ h
-perform-regs (actions.Reserve rd address) view byte h = set-regs view.regs rd.number _ h
+perform-regs (actions.LoadReserved rd address) view byte h = set-regs view.regs rd.number _ h
 perform-regs (actions.Store address len value) view byte h = h
-perform-regs (actions.StoreReserved rd address value) view byte h = set-regs view.regs rd.number _ h
+perform-regs (actions.StoreConditional rd address value) view byte h = set-regs view.regs rd.number _ h
 perform-regs (actions.Fail rd) view byte h = set-regs view.regs rd.number _ h
 perform-regs (actions.Amo op rd address source) view byte h = set-regs view.regs rd.number _ h
 
@@ -171,7 +171,7 @@ pub record IsWithin (access : Access) (execution : Execution) : Type 0 where
 perform-within : (action : Action) (view : HartView) (byte : ℕ → ℕ) → IsWithin (footprint action) (perform action view byte)
 perform-within (actions.Append address len) view byte = record { store = tt; append = refl }
 perform-within (actions.Store address len value) view byte = record { store = refl; append = tt }
-perform-within (actions.StoreReserved rd address value) view byte = record { store = refl; append = tt }
+perform-within (actions.StoreConditional rd address value) view byte = record { store = refl; append = tt }
 perform-within (actions.Amo op rd address source) view byte = record { store = refl; append = tt }
 perform-within _ view byte = record { store = tt; append = tt }
 

@@ -7,6 +7,7 @@ use Rattle.std.proofs.Math.ListN.{get_or-map}
 use Rattle.std.proofs.lemmas.List.FromFn.{get_or-map-range_with_len, length-map-range_with_len}
 use Rattle.elf_image.specs.Limits.{stack_size}
 use Rattle.elf_image.specs.Program.{Program, code_word}
+use Rattle.el_base.specs.declared.line.TheConstants.{LINE_BYTES}
 use Rattle.el_base.specs.Line.{line_number}
 use Rattle.rv_alu.proofs.Executions.{IsWithin, executed-regs, executed-within, set-regs}
 use Rattle.rv_alu.proofs.Footprints.{fits}
@@ -150,7 +151,7 @@ writes_in_footprint state hart =
 -- so it changes memory only on the line that is written
 on_line : (span : Span) (access : Access) (address : ℕ) → IsInOneLine span access → Writes access address → written_line access ≡ Some (line_number address)
 on_line span (Write from len) address piece there =
-    let short : from % 64 + len ≤ 64 = piece.one_line in
+    let short : from % LINE_BYTES + len ≤ LINE_BYTES = piece.one_line in
     let low : from ≤ address = there.0 in
     let high : address < from + len = there.1 in
     let same : line_number from ≡ line_number address = omega arith in

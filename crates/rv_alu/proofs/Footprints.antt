@@ -72,7 +72,8 @@ pub record Fits (insn : Insn) (span : Span) (room : ℕ) (action : Action) : Typ
   pub footprint : IsFootprint insn span room (footprint action)
 
 -- one of two actions
-fits-if : (insn : Insn) (span : Span) (room : ℕ) (b : Bool) (x y : Action) → Fits insn span room x → Fits insn span room y → Fits insn span room (if b then x else y)
+fits-if : (insn : Insn) (span : Span) (room : ℕ) (b : Bool) (x y : Action) → Fits insn span room x → Fits insn span room y →
+    Fits insn span room (if b then x else y)
 fits-if insn span room true x y hx hy = hx
 fits-if insn span room false x y hx hy = hy
 
@@ -87,11 +88,13 @@ fits-go : (insn : Insn) (span : Span) (room target : ℕ) → Fits insn span roo
 fits-go insn span room target = record { in_place = tt; footprint = tt }
 
 -- an access that may go ahead is a piece of one line
-fits-checked : (insn : Insn) (span : Span) (room address size misaligned outside : ℕ) (action : Action) → IsSize size → (IsPiece span address size → Fits insn span room action) → Fits insn span room (checked_of span address size misaligned outside action)
+fits-checked : (insn : Insn) (span : Span) (room address size misaligned outside : ℕ) (action : Action) → IsSize size →
+    (IsPiece span address size → Fits insn span room action) → Fits insn span room (checked_of span address size misaligned outside action)
 fits-checked insn span room address size misaligned outside action sized fits =
     tested (address % size == 0) (holds span address size) (λ aligned held. fits (piece span address size sized aligned held))
   where
-    tested : (b c : Bool) → (b ≡ true → c ≡ true → Fits insn span room action) → Fits insn span room (if b then (if c then action else Trap outside) else Trap misaligned)
+    tested : (b c : Bool) → (b ≡ true → c ≡ true → Fits insn span room action) →
+        Fits insn span room (if b then (if c then action else Trap outside) else Trap misaligned)
     tested true true h = h refl refl
     tested true false h = fits-trap insn span room outside
     tested false c h = fits-trap insn span room misaligned
@@ -101,7 +104,8 @@ fits-jump insn span room target action h =
     fits-if insn span room (target % 4 == 0) action (Trap instruction_address_misaligned) h (fits-trap insn span room instruction_address_misaligned)
 
 -- what is left of a line in memory, or less of it
-rest_of_line : (span : Span) (address count room : ℕ) → 1 ≤ count → 1 ≤ room → holds span (address - address % LINE_BYTES) LINE_BYTES ≡ true → IsPiece span address (min count (min (LINE_BYTES - address % LINE_BYTES) room))
+rest_of_line : (span : Span) (address count room : ℕ) → 1 ≤ count → 1 ≤ room → holds span (address - address % LINE_BYTES) LINE_BYTES ≡ true →
+    IsPiece span address (min count (min (LINE_BYTES - address % LINE_BYTES) room))
 rest_of_line span address count room some left held =
     record {
       some = grind arith;
@@ -111,8 +115,10 @@ rest_of_line span address count room some left held =
     }
 
 -- what a write call appends, by how its four tests go
-fits-appended : (span : Span) (address count room a b c d : ℕ) (file none lined full : Bool) → (none ≡ false → lined ≡ true → full ≡ false → IsPiece span address count × (count ≤ room)) →
-    Fits insns.Ecall span room (if not file then Answer a else if none then Answer b else if not lined then Answer c else if full then Answer d else Append address count)
+fits-appended : (span : Span) (address count room a b c d : ℕ) (file none lined full : Bool) →
+    (none ≡ false → lined ≡ true → full ≡ false → IsPiece span address count × (count ≤ room)) →
+    Fits insns.Ecall span room
+    (if not file then Answer a else if none then Answer b else if not lined then Answer c else if full then Answer d else Append address count)
 fits-appended span address count room a b c d true false true false h =
     let there : IsPiece span address count × (count ≤ room) = h refl refl refl in record { in_place = there; footprint = there }
 fits-appended span address count room a b c d true false true true h = record { in_place = tt; footprint = tt }
@@ -132,7 +138,8 @@ fits-call regs span room =
     (fits-if insns.Ecall span room (get regs a7 == write_number) _ _ (fits-write_call regs span room) (record { in_place = tt; footprint = tt }))
 
 -- the action of each instruction fits
-pub fits : (insn : Insn) (pc : ℕ) (regs : List ℕ) (reserved : Option ℕ) (span : Span) (room : ℕ) → Fits insn span room (action_of insn pc regs reserved span room)
+pub fits : (insn : Insn) (pc : ℕ) (regs : List ℕ) (reserved : Option ℕ) (span : Span) (room : ℕ) →
+    Fits insn span room (action_of insn pc regs reserved span room)
 unfolding action_of
 fits (insns.Lui rd imm) pc regs reserved span room = record { in_place = tt; footprint = tt }
 fits (insns.Auipc rd imm) pc regs reserved span room = record { in_place = tt; footprint = tt }
@@ -150,9 +157,11 @@ fits (insns.Branch test rs1 rs2 offset) pc regs reserved span room =
     fits-if insn span room (taken_of test (get regs rs1.number) (get regs rs2.number)) (jump_of target (Go target)) (Go (next_pc_of pc))
     (fits-jump insn span room target (Go target) (fits-go insn span room target)) (fits-go insn span room (next_pc_of pc))
 fits (insns.Load width rd rs1 offset) pc regs reserved span room =
-    fits-checked (insns.Load width rd rs1 offset) span room _ (load_size_of width) _ _ _ (load_sized width) (λ there. record { in_place = (there, load_sized width); footprint = (there, load_sized width) })
+    fits-checked (insns.Load width rd rs1 offset) span room _ (load_size_of width) _ _ _ (load_sized width)
+    (λ there. record { in_place = (there, load_sized width); footprint = (there, load_sized width) })
 fits (insns.Store width rs1 rs2 offset) pc regs reserved span room =
-    fits-checked (insns.Store width rs1 rs2 offset) span room _ (store_size_of width) _ _ _ (store_sized width) (λ there. record { in_place = (there, store_sized width); footprint = (there, store_sized width) })
+    fits-checked (insns.Store width rs1 rs2 offset) span room _ (store_size_of width) _ _ _ (store_sized width)
+    (λ there. record { in_place = (there, store_sized width); footprint = (there, store_sized width) })
 fits (insns.OpImm op rd rs1 imm) pc regs reserved span room = record { in_place = tt; footprint = tt }
 fits (insns.Op op rd rs1 rs2) pc regs reserved span room = record { in_place = tt; footprint = tt }
 fits insns.Fence pc regs reserved span room = record { in_place = tt; footprint = tt }
@@ -162,6 +171,7 @@ fits (insns.Lr rd rs1 aq rl) pc regs reserved span room =
     fits-checked (insns.Lr rd rs1 aq rl) span room _ 4 _ _ _ word_sized (λ there. record { in_place = there; footprint = (there, word_sized) })
 fits (insns.Sc rd rs1 rs2 aq rl) pc regs reserved span room =
     fits-checked (insns.Sc rd rs1 rs2 aq rl) span room _ 4 _ _ _ word_sized
-    (λ there. fits-if (insns.Sc rd rs1 rs2 aq rl) span room (has_reserved_of reserved (get regs rs1.number)) _ _ (record { in_place = there; footprint = (there, word_sized) }) (record { in_place = tt; footprint = tt }))
+    (λ there. fits-if (insns.Sc rd rs1 rs2 aq rl) span room (has_reserved_of reserved (get regs rs1.number)) _ _
+    (record { in_place = there; footprint = (there, word_sized) }) (record { in_place = tt; footprint = tt }))
 fits (insns.Amo op rd rs1 rs2 aq rl) pc regs reserved span room =
     fits-checked (insns.Amo op rd rs1 rs2 aq rl) span room _ 4 _ _ _ word_sized (λ there. record { in_place = there; footprint = (there, word_sized) })

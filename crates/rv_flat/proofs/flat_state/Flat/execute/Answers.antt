@@ -28,7 +28,7 @@ returns c =
     let number : c.loaded-number.result ≡ number_of c.next_action-action.result byte =
     rw (← c.loads.ensures.value) (rw (← c.self.view_is) at c.loaded-number.ensures) in
     rw (c.store.ensures, c.append.ensures, ← c.self.view_is)
-    (applied_in_turn state c.args.place c.next_action-action.result c.perform-transfers.new.view c.perform-transfers.result.store c.perform-transfers.result.append
-    action
+    (applied_in_turn state c.args.place c.next_action-action.result c.perform-transfers.new.view
+    c.perform-transfers.result.store c.perform-transfers.result.append action
     (rw (← old)
     (c.perform-transfers.ensures.view byte number, c.perform-transfers.ensures.store byte number, c.perform-transfers.ensures.append byte number)))

@@ -1,7 +1,7 @@
 -- the harts so far have lost their reservations on the line
 use Rattle.std.proofs.Common.{◌≡◌, ◌++◌, map, take, drop}
 use Rattle.rv_flat.specs.Step.{unreserved}
-use Rattle.rv_flat.proofs.reservations.unreserve.Given as goal
+use Rattle.rv_flat.proofs.reservations.unreserve_all.Given as goal
 
 abbrev pub invariant-loop-hart : goal.invariant-loop-hart
 invariant-loop-hart l =

@@ -1,7 +1,7 @@
 -- what is put so far, and then the rest, is all that is put
 use Rattle.std.proofs.Common.{◌≡◌, ◌-◌}
 use Rattle.rv_flat.specs.Memory.{put_bytes}
-use Rattle.rv_flat.proofs.memory.store.Given as goal
+use Rattle.rv_flat.proofs.memory.put_bytes.Given as goal
 
 abbrev pub invariant-loop-at : goal.invariant-loop-at
 invariant-loop-at l =

@@ -40,14 +40,14 @@ pub(crate) fn obey<'a, S: Shelf>(
     shelf: &mut S,
 ) -> Result<Made<'a>, Stop>
     ensures files_stay { S.told shelf.new ≡ S.told shelf.old }
-    ensures answers { MatchResult result
-        (λ made. IsAnswer (texts words.entry.now) (S.told shelf.old) (answer_of made))
-        (StopsWith (IsAnswer (texts words.entry.now) (S.told shelf.old))) }
+    ensures answers { let Answers = IsAnswer (texts words.entry.now) (S.told shelf.old) in
+        MatchResult result (λ made. Answers (answer_of made)) (StopsWith Answers) }
     ensures calls { MatchResult result
         (λ _. S.failures shelf.new ≡ S.failures shelf.old)
         (StopLists (calls_of (job_of (texts words.entry.now))) (S.failures shelf.old) (S.failures shelf.new)) }
     ensures writes { IfOk result (λ made. (before now : List NamedCall) →
-        ListsOne (writes_of made) before now → ListsOne (calls_of (job_of (texts words.entry.now))) before now) }
+        ListsOne (writes_of made) before now →
+        ListsOne (calls_of (job_of (texts words.entry.now))) before now) }
 {
     match read_words(words) {
         None => Err(Refusal::Usage.into()),
@@ -67,13 +67,14 @@ pub(crate) fn obey<'a, S: Shelf>(
 fn run<S: Shelf>(alloc: Global, shelf: &mut S, command: RunCommand<'_>) -> Result<Machine, Stop>
     ensures files_stay { S.told shelf.new ≡ S.told shelf.old }
     ensures in_range { IfOk result (λ _. IsInRange (config_of (run_meaning command.entry))) }
-    ensures answers { MatchResult result
-        (λ machine. IsRunAnswer (run_meaning command.entry) (S.told shelf.old) (ended (run_meaning command.entry).trace machine))
-        (StopsWith (IsRunAnswer (run_meaning command.entry) (S.told shelf.old))) }
-    ensures calls { MatchResult result
+    ensures answers { let job = run_meaning command.entry in
+        let Answers = IsRunAnswer job (S.told shelf.old) in
+        MatchResult result (λ machine. Answers (ended job.trace machine)) (StopsWith Answers) }
+    ensures calls { let job = run_meaning command.entry in
+        let calls = calls_under (config_fault (config_of job)) ((Read, job.image) ∷ []) in
+        MatchResult result
         (λ _. S.failures shelf.new ≡ S.failures shelf.old)
-        (StopLists (calls_under (config_fault (config_of (run_meaning command.entry))) ((Read, command.entry.image.now) ∷ []))
-        (S.failures shelf.old) (S.failures shelf.new)) }
+        (StopLists calls (S.failures shelf.old) (S.failures shelf.new)) }
 {
     let config = command.config()?;
     let file = read_file(alloc, shelf, command.image, IMAGE_FILE_LIMIT)?;
@@ -84,12 +85,12 @@ fn run<S: Shelf>(alloc: Global, shelf: &mut S, command: RunCommand<'_>) -> Resul
 #[tactic(auto, using(crate::proofs::Answering::image_unread))]
 fn replay<S: Shelf>(alloc: Global, shelf: &mut S, image: &str, trace: &str) -> Result<Machine, Stop>
     ensures files_stay { S.told shelf.new ≡ S.told shelf.old }
-    ensures answers { MatchResult result
-        (λ machine. IsReplayAnswer image.now trace.now (S.told shelf.old) (ended None machine))
-        (StopsWith (IsReplayAnswer image.now trace.now (S.told shelf.old))) }
-    ensures calls { MatchResult result
+    ensures answers { let Answers = IsReplayAnswer image.now trace.now (S.told shelf.old) in
+        MatchResult result (λ machine. Answers (ended None machine)) (StopsWith Answers) }
+    ensures calls { let calls = (Read, image.now) ∷ (Read, trace.now) ∷ [] in
+        MatchResult result
         (λ _. S.failures shelf.new ≡ S.failures shelf.old)
-        (StopLists ((Read, image.now) ∷ (Read, trace.now) ∷ []) (S.failures shelf.old) (S.failures shelf.new)) }
+        (StopLists calls (S.failures shelf.old) (S.failures shelf.new)) }
 {
     let image = read_file(alloc, shelf, image, IMAGE_FILE_LIMIT)?;
     let trace = read_file(alloc, shelf, trace, TRACE_LIMIT)?;
@@ -113,10 +114,9 @@ fn read_file<S: Shelf>(
         (StopLists ((Read, name.now) ∷ []) (S.failures shelf.old) (S.failures shelf.new)) }
 {
     match shelf.read(alloc, name, limit) {
-        Err(ShelfFault::TooBig) => Err(Refusal::TooBig { limit }.into()),
-        Err(ShelfFault::Failed) => Err(Fault::Device.into()),
-        Err(ShelfFault::NoMemory) => Err(Fault::NoMemory.into()),
         Ok(file) => Ok(file),
+        Err(ShelfFault::TooBig) => Err(Refusal::TooBig { limit }.into()),
+        Err(fault) => Err(Fault::from(fault).into()),
     }
 }
 

@@ -1,7 +1,6 @@
-pub mod Failing
-pub mod FileContents
-pub mod Ending
-pub mod Judging
+pub mod Answering
+pub mod Files
 pub mod Putting
 pub mod Repeating
+pub mod Succeeding
 pub mod Worked

@@ -1,7 +1,7 @@
 -- A replay of the trace that a run wrote says what the run said.
-use Rattle.std.proofs.Common.{◌≡◌, ℕ, ◌+◌, ◌/◌, ◌<◌, ◌≤◌, Bool, true, false, nat_lt, List, [], ◌∷◌, length, get_or, Option, None, Some, refl, ap, sym, subst, ◌∙◌, arith}
+use Rattle.std.proofs.Common.{◌≡◌, ℕ, ◌+◌, ◌/◌, ◌<◌, ◌≤◌, false, nat_lt, List, [], ◌∷◌, length, get_or, Option, None, Some, refl, ap, sym, subst, ◌∙◌, arith}
 use Rattle.std.specs.Prelude.{All}
-use Rattle.std.specs.Option.{option_map, option_map_or}
+use Rattle.std.specs.Option.{option_map, option_map_or, option_or}
 use Rattle.std.proofs.lemmas.List.{length-map}
 use Rattle.std.proofs.lemmas.Option.{slice_get-get_or}
 use Rattle.std.proofs.Math.Nat.{mod-lt}
@@ -9,28 +9,27 @@ use Rattle.std.proofs.lemmas.Bool.Decides.{nat_tests}
 use Rattle.chronicle.specs.Chronicle.{events}
 use Rattle.command_line.specs.Settings.{config_of}
 use Rattle.command_line.specs.Words.{RunJob}
-use Rattle.el_base.specs.Config.{config_fault}
 use Rattle.el_base.proofs.Ranges.{ranges, at_least, at_most}
 use Rattle.el_base.specs.declared.events.Event.{Event}
 use Rattle.el_base.specs.declared.config.Config.{Config}
-use Rattle.el_base.specs.declared.config.ConfigFault.{ConfigFault}
-use Rattle.plain_model.specs.ModelState.{ModelState, begin}
+use Rattle.el_base.specs.declared.config.Mode.TheVariants.{Plain}
+use Rattle.plain_model.specs.ModelState.{ModelState}
 use Rattle.plain_model.specs.RoundRobin.{IsRoundRobin, IsEventAt}
 use Rattle.plain_model.specs.Runs.{entries_from}
 use Rattle.plain_model.specs.Step.{next}
-use Rattle.el_base.specs.declared.file_fault.FileFault.{FileFault}
-use Rattle.elf_image.specs.Faults.{fault}
 use Rattle.elf_image.specs.Limits.{file_limit}
 use Rattle.elf_image.specs.Loaded.{program_of}
 use Rattle.elf_image.specs.Program.{Program}
-use Rattle.machine.specs.Story.{Story}
-use Rattle.trace_file.specs.declared.fault.Fault as trace_faults
-use Rattle.trace_file.specs.Faults.{trace_fault}
+use Rattle.machine.specs.Story.{Story, continued, state_of}
+use Rattle.trace_file.specs.Faults.{config_at}
 use Rattle.trace_file.specs.Spelling.{IsTrace, event_byte, spelling}
 use Rattle.trace_file.proofs.Spelled.{no_fault, one_spelling}
-use Rattle.tool.specs.declared.messages.Refusal.{Refusal}
-use Rattle.tool.specs.Answer.{Answer, ConfigAnswer, FollowAnswer, ImageAnswer, LimitedAnswer, OverImage, ReplayAnswer, RoundRobinAnswer, RunAnswer, TraceAnswer, TraceFollowed, Within, WrittenFile, ended, refused, story_of, trace_limit, written_by}
+use Rattle.tool.specs.declared.refusal.Refusal.{Refusal}
+use Rattle.tool.specs.Answer.{Answer, WrittenFile, ended, refused, written_by}
+use Rattle.tool.specs.Jobs.{FollowAnswer, ReplayAnswer, RoundRobinAnswer, RunAnswer, UnlessRefused, first_story}
 use Rattle.tool.specs.Laws.{SaysTheSame}
+use Rattle.tool.proofs.Files.{spelled_harts}
+use Rattle.tool.specs.Refusals.{config_refusal, image_refusal, replay_refusal, run_refusal, size_refusal, trace_limit, trace_refusal}
 
 -- The events of a run
 
@@ -45,102 +44,115 @@ harts-made state harts left made some round = λ k d within.
     let turn : IsEventAt harts k (get_or made k d) = round.turns k (get_or made k d) (slice_get-get_or made k d within) in
     rw turn.hart (mod-lt (k / 4) some)
 
-length-spelling : (config : Config) (made : List Event) → length (spelling config made) ≡ 22 + length made
-length-spelling config made = omega (arith, length-map made event_byte)
-
 -- What a run that wrote a file had
 
--- a refusal writes no file
-wrote-no-file : (refusal : Refusal) (ran : Answer) (file : WrittenFile) → ran ≡ refused refusal → ran.written ≡ Some file → ⊥
-wrote-no-file refusal ran file e w =
-    let none : None ≡ Some file = sym (ap (λ (answer : Answer). answer.written) e) ∙ w in
-    cc
+-- neither is there where the first of both is not
+or_none : {A : Type 0} (one other : Option A) → option_or one other ≡ None → (one ≡ None) × (other ≡ None)
+or_none None other none = (refl, none)
+or_none (Some found) other none = absurd cc
 
-ran-config : (Judged : Answer → Type 0) (found : Option ConfigFault) (ran : Answer) (file : WrittenFile) → ran.written ≡ Some file → ConfigAnswer Judged found ran → (found ≡ None) × Judged ran
-ran-config Judged (Some fault) ran file w h = absurd (wrote-no-file _ ran file h w)
-ran-config Judged None ran file w h = (refl, h)
+map_none : {A B : Type 0} (f : A → B) (one : Option A) → option_map f one ≡ None → one ≡ None
+map_none f None none = refl
+map_none f (Some found) none = absurd cc
 
-ran-within : (over : Bool) (limit : ℕ) (Judged : Answer → Type 0) (ran : Answer) (file : WrittenFile) → ran.written ≡ Some file → LimitedAnswer over limit Judged ran → (over ≡ false) × Judged ran
-ran-within true limit Judged ran file w h = absurd (wrote-no-file _ ran file h w)
-ran-within false limit Judged ran file w h = (refl, h)
-
-ran-image : (Runs : Program → Answer → Type 0) (harts : ℕ) (image : List ℕ) (found : Option FileFault) (ran : Answer) (file : WrittenFile) → ran.written ≡ Some file → ImageAnswer Runs harts image found ran → (found ≡ None) × Runs (program_of image harts) ran
-ran-image Runs harts image (Some fault) ran file w h = absurd (wrote-no-file _ ran file h w)
-ran-image Runs harts image None ran file w h = (refl, h)
+-- no refusal writes a file
+not-refused : (found : Option Refusal) (Answers : Answer → Type 0) (answer : Answer) (file : WrittenFile) → answer.written ≡ Some file →
+    UnlessRefused found Answers answer → (found ≡ None) × Answers answer
+not-refused None Answers answer file written is = (refl, is)
+not-refused (Some refusal) Answers answer file written is =
+    let none : None ≡ Some file = sym (ap (λ (one : Answer). one.written) is) ∙ written in
+    absurd cc
 
 -- the file that was written spells the story
-wrote-story : (given : Option (List ℕ)) (story : Story) (file : WrittenFile) → option_map (written_by story) given ≡ Some file → file.bytes ≡ spelling story.config (events story.entries)
-wrote-story None story file e = absurd cc
-wrote-story (Some name) story file e = ap (λ (written : Option WrittenFile). option_map_or (λ (one : WrittenFile). one.bytes) written []) (sym e)
+written-story : (trace : Option (List ℕ)) (story : Story) (file : WrittenFile) → option_map (written_by story) trace ≡ Some file → file.bytes ≡ spelling story.config (events story.entries)
+written-story None story file e = absurd cc
+written-story (Some name) story file e = ap (λ (written : Option WrittenFile). option_map_or (λ (one : WrittenFile). one.bytes) written []) (sym e)
+
+-- a run under a configuration of these events of a program, which wrote the file that spells them
+record Ran (image : List ℕ) (file : WrittenFile) (ran : Answer) : Type 0 where
+  config : Config
+  made : List Event
+  trace : Option (List ℕ)
+  is_trace : IsTrace config made
+  plain : config.mode ≡ Plain
+  spelled : file.bytes ≡ spelling config made
+  small : size_refusal file_limit image ≡ None
+  accepted : image_refusal image config.harts ≡ None
+  exact : ran ≡ ended trace (continued (first_story (program_of image config.harts) config) made)
+
+run-ran : (job : RunJob) (image : List ℕ) (file : WrittenFile) (ran : Answer) → RunAnswer job image ran → ran.written ≡ Some file → Ran image file ran
+run-ran job image file ran answers written =
+    let config : Config = config_of job in
+    let p : Program = program_of image config.harts in
+    let done = not-refused (run_refusal job image) (RoundRobinAnswer config job.trace p) ran file written answers in
+    let configured = or_none (config_refusal config) (option_or (size_refusal file_limit image) (option_or (image_refusal image config.harts) None)) done.0 in
+    let sized = or_none (size_refusal file_limit image) (option_or (image_refusal image config.harts) None) configured.1 in
+    let accepted = or_none (image_refusal image config.harts) None sized.1 in
+    let in_range = map_none _ _ configured.0 in
+    let inside = ranges config in_range in
+    let round = done.1.round_robin in
+    let begins : Story = first_story p config in
+    let story : Story = continued begins round.made in
+    let as_written : option_map (written_by story) job.trace ≡ Some file =
+    sym (ap (λ (one : Answer). one.written) (done.1.exact ∙ ap (ended job.trace) round.story)) ∙ written in
+    let few : length round.made ≤ config.steps = omega (arith, round.round_robin.steps) in
+    record {
+      config = config;
+      made = round.made;
+      trace = job.trace;
+      is_trace = record {
+        in_range = in_range;
+        few = few;
+        harts = harts-made (state_of begins) config.harts _ round.made (at_least 1 8 config.harts inside.harts) round.round_robin;
+      };
+      plain = refl;
+      spelled = written-story job.trace story file as_written ∙ ap (spelling config) (events-entries (state_of begins) round.made);
+      small = sized.0;
+      accepted = accepted.0;
+      exact = done.1.exact ∙ ap (ended job.trace) round.story;
+    }
 
 -- What a replay of it has
 
-replay-limited : (over : Bool) (limit : ℕ) (Judged : Answer → Type 0) (replayed : Answer) → over ≡ false → LimitedAnswer over limit Judged replayed → Judged replayed
-replay-limited over limit Judged replayed e h =
-    let P : Bool → Type 0 = λ passed. LimitedAnswer passed limit Judged replayed in
-    subst P e h
+length-spelling : (config : Config) (made : List Event) → length (spelling config made) ≡ 22 + length made
+length-spelling config made = omega (arith, length-map made event_byte)
 
-replay-followed : (image trace : List ℕ) (found : Option trace_faults.Fault) (replayed : Answer) → found ≡ None → TraceAnswer image trace found replayed → TraceFollowed image trace replayed
-replay-followed image trace found replayed e h =
-    let P : Option trace_faults.Fault → Type 0 = λ judged. TraceAnswer image trace judged replayed in
-    subst P e h
+-- the file that a run wrote is within its limit
+trace-fits : (config : Config) (made : List Event) (file : List ℕ) → IsTrace config made → file ≡ spelling config made → size_refusal trace_limit file ≡ None
+trace-fits config made file trace spelled =
+    let inside = ranges config trace.in_range in
+    let long : length file ≡ 22 + length made = ap length spelled ∙ length-spelling config made in
+    let steps : config.steps ≤ 16777216 = at_most 1 16777216 config.steps inside.steps in
+    let within : length file ≤ trace_limit = omega (arith, trace.few) in
+    let fits : nat_lt trace_limit (length file) ≡ false = grind (arith, nat_tests) in
+    rw fits refl
 
-replay-run : (Runs : Program → Answer → Type 0) (harts : ℕ) (image : List ℕ) (found : Option FileFault) (replayed : Answer) → found ≡ None → ImageAnswer Runs harts image found replayed → Runs (program_of image harts) replayed
-replay-run Runs harts image found replayed e h =
-    let P : Option FileFault → Type 0 = λ judged. ImageAnswer Runs harts image judged replayed in
-    subst P e h
+-- no refusal stands where none of the list does
+replay-accepted : (image trace : List ℕ) (harts : ℕ) → size_refusal file_limit image ≡ None → size_refusal trace_limit trace ≡ None → trace_refusal trace ≡ None
+    → (config_at trace).harts ≡ harts → image_refusal image harts ≡ None → replay_refusal image trace ≡ None
+replay-accepted image trace harts a b c e d = rw (a, b, c, e, d) refl
 
--- the story of these events on a program, told with a trace or without
-same-story : (given : Option (List ℕ)) (story : Story) (ran replayed : Answer) → ran ≡ ended given story → replayed ≡ ended None story → SaysTheSame ran replayed
-same-story given story ran replayed a b =
-    record {
-      status = ap (λ (answer : Answer). answer.status) a ∙ sym (ap (λ (answer : Answer). answer.status) b);
-      out = ap (λ (answer : Answer). answer.out) a ∙ sym (ap (λ (answer : Answer). answer.out) b);
-      err = ap (λ (answer : Answer). answer.err) a ∙ sym (ap (λ (answer : Answer). answer.err) b);
-    }
-
--- a trace of these events followed on the image
-follows : (image trace : List ℕ) (config : Config) (made : List Event) (replayed : Answer) → trace ≡ spelling config made → IsTrace config made → fault image config.harts ≡ None → TraceFollowed image trace replayed → replayed ≡ ended None (story_of (program_of image config.harts) config made)
-follows image trace config made replayed spelled is_trace accepted followed =
-    let same : (config ≡ followed.config) × (made ≡ followed.made) =
-    one_spelling config followed.config made followed.made is_trace followed.is_trace (sym spelled ∙ followed.spelled) in
-    let C : Config → Type 0 = λ settings. OverImage (FollowAnswer settings followed.made) settings.harts image replayed in
-    let M : List Event → Type 0 = λ list. OverImage (FollowAnswer config list) config.harts image replayed in
-    replay-run (FollowAnswer config made) config.harts image (fault image config.harts) replayed accepted
-    (subst M (sym same.1) (subst C (sym same.0) followed.followed))
+-- the answer of a run of these events
+same-events : (image : List ℕ) (config other : Config) (made others : List Event) (answer : Answer) → config ≡ other → made ≡ others → answer ≡ ended None (continued (first_story (program_of image other.harts) other) others)
+    → answer ≡ ended None (continued (first_story (program_of image config.harts) config) made)
+same-events image config other made others answer c m exact = rw (c, m) exact
 
 -- so a replay of the file that a run wrote says what the run said
 pub repeats : (job : RunJob) (image : List ℕ) (file : WrittenFile) (ran replayed : Answer) → RunAnswer job image ran → ran.written ≡ Some file → ReplayAnswer image file.bytes replayed → SaysTheSame ran replayed
-repeats job image file ran replayed r w p =
-    let config : Config = config_of job in
-    let configured : (config_fault config ≡ None) × Within file_limit image (OverImage (RoundRobinAnswer config job.trace) config.harts image) ran =
-    ran-config (Within file_limit image (OverImage (RoundRobinAnswer config job.trace) config.harts image)) (config_fault config) ran file w r in
-    let small : (nat_lt file_limit (length image) ≡ false) × OverImage (RoundRobinAnswer config job.trace) config.harts image ran =
-    ran-within (nat_lt file_limit (length image)) file_limit (OverImage (RoundRobinAnswer config job.trace) config.harts image) ran file w configured.1 in
-    let accepted : (fault image config.harts ≡ None) × RoundRobinAnswer config job.trace (program_of image config.harts) ran =
-    ran-image (RoundRobinAnswer config job.trace) config.harts image (fault image config.harts) ran file w small.1 in
-    let story : Story = story_of (program_of image config.harts) config accepted.1.made in
-    let inside = ranges config configured.0 in
-    let spelled : file.bytes ≡ spelling config accepted.1.made =
-    wrote-story job.trace story file (sym (ap (λ (answer : Answer). answer.written) accepted.1.exact) ∙ w)
-    ∙ ap (spelling config) (events-entries (begin (program_of image config.harts) config) accepted.1.made) in
-    let is_trace : IsTrace config accepted.1.made = record {
-      in_range = configured.0;
-      few = accepted.1.round_robin.steps;
-      harts = harts-made _ config.harts config.steps accepted.1.made (at_least 1 8 config.harts inside.harts) accepted.1.round_robin;
-    } in
-    let fits : nat_lt trace_limit (length file.bytes) ≡ false = fits-trace config accepted.1.made file.bytes spelled accepted.1.round_robin.steps (at_most 1 16777216 config.steps inside.steps) in
-    let judged : Within trace_limit file.bytes (TraceAnswer image file.bytes (trace_fault file.bytes)) replayed =
-    replay-limited (nat_lt file_limit (length image)) file_limit (Within trace_limit file.bytes (TraceAnswer image file.bytes (trace_fault file.bytes))) replayed small.0 p in
-    let traced : TraceAnswer image file.bytes (trace_fault file.bytes) replayed =
-    replay-limited (nat_lt trace_limit (length file.bytes)) trace_limit (TraceAnswer image file.bytes (trace_fault file.bytes)) replayed fits judged in
-    let followed : TraceFollowed image file.bytes replayed =
-    replay-followed image file.bytes (trace_fault file.bytes) replayed (no_fault config accepted.1.made file.bytes is_trace (omega arith) spelled) traced in
-    same-story job.trace story ran replayed accepted.1.exact
-    (follows image file.bytes config accepted.1.made replayed spelled is_trace accepted.0 followed)
-  where
-    fits-trace : (config : Config) (made : List Event) (trace : List ℕ) → trace ≡ spelling config made → length made ≤ config.steps → config.steps ≤ 16777216 → nat_lt trace_limit (length trace) ≡ false
-    fits-trace config made trace e few steps =
-        let long : length trace ≡ 22 + length made = ap length e ∙ length-spelling config made in
-        let within : length trace ≤ trace_limit = omega arith in
-        grind (arith, nat_tests)
+repeats job image file ran replayed answers written replay =
+    let r : Ran image file ran = run-ran job image file ran answers written in
+    let none : replay_refusal image file.bytes ≡ None =
+    replay-accepted image file.bytes r.config.harts r.small (trace-fits r.config r.made file.bytes r.is_trace r.spelled)
+    (ap (option_map _) (no_fault r.config r.made file.bytes r.is_trace (rw r.plain (omega arith)) r.spelled))
+    (spelled_harts file.bytes r.config r.made r.spelled) r.accepted in
+    let P : Option Refusal → Type 0 = λ found. UnlessRefused found (FollowAnswer image file.bytes) replayed in
+    let followed : FollowAnswer image file.bytes replayed = subst P none replay in
+    let same : (r.config ≡ followed.config) × (r.made ≡ followed.made) =
+    one_spelling r.config followed.config r.made followed.made r.is_trace followed.is_trace (sym r.spelled ∙ followed.spelled) in
+    let played : replayed ≡ ended None (continued (first_story (program_of image r.config.harts) r.config) r.made) =
+    same-events image r.config followed.config r.made followed.made replayed same.0 same.1 followed.exact in
+    record {
+      status = ap (λ (answer : Answer). answer.status) r.exact ∙ sym (ap (λ (answer : Answer). answer.status) played);
+      out = ap (λ (answer : Answer). answer.out) r.exact ∙ sym (ap (λ (answer : Answer). answer.out) played);
+      err = ap (λ (answer : Answer). answer.err) r.exact ∙ sym (ap (λ (answer : Answer). answer.err) played);
+    }

@@ -1,6 +1,6 @@
 -- What a fault of a device shows: one call of a device failed, and with any other ending none did.
-use Rattle.std.specs.Prelude.{◌≡◌, ℕ, ◌⊎◌, List, [], ◌∷◌, ◌++◌, map, Contains, Option, None, Some, Result, Ok, Err}
-use Rattle.std.specs.Option.{option_to_list}
+use Rattle.std.specs.Prelude.{◌≡◌, ℕ, ◌⊎◌, List, [], ◌∷◌, ◌++◌, map, Option, None, Some}
+use Rattle.std.specs.Option.{option_map, option_to_list}
 use Rattle.command_line.specs.Settings.{config_of}
 use Rattle.command_line.specs.Words.{Job, Run, Replay, RunJob}
 use Rattle.el_base.specs.Config.{config_fault}
@@ -8,53 +8,57 @@ use Rattle.el_base.specs.declared.config.ConfigFault.{ConfigFault}
 use Rattle.el_io.specs.Counts.{one_more}
 use Rattle.el_io.specs.Shelf.{NamedCall}
 use Rattle.el_io.specs.declared.shelf.Call.TheVariants.{Read, Write}
-use Rattle.el_io.specs.declared.shelf.ShelfFault.{ShelfFault}
-use Rattle.el_io.specs.declared.shelf.ShelfFault.TheVariants as faults
+use Rattle.tool.specs.declared.made.Made.{Made}
+use Rattle.tool.specs.declared.made.Made.TheVariants as made
 use Rattle.tool.specs.declared.status.Status.{Status}
 use Rattle.tool.specs.declared.status.Status.TheVariants.{DeviceFault}
+use Rattle.tool.specs.declared.stop.Fault.{Fault}
+use Rattle.tool.specs.declared.stop.Fault.TheVariants.{Device, NoMemory}
 use Rattle.tool.specs.declared.stop.Stop.{Stop}
-use Rattle.tool.specs.declared.stop.Stop.TheVariants as stops
+use Rattle.tool.specs.declared.stop.Stop.TheVariants.{Refused, Failed}
 
--- the read of an image, under a configuration that has no fault
-abbrev pub reads_of : Option ConfigFault → List ℕ → List NamedCall
-reads_of (Some found) image = []
-reads_of None image = (Read, image) ∷ []
+-- the write of a file, where one is named
+abbrev pub writes_to : Option (List ℕ) → List NamedCall
+writes_to name = map (λ given. (Write, given)) (option_to_list name)
 
--- the write of a trace, where one is named
-abbrev pub writes_of : Option (List ℕ) → List NamedCall
-writes_of trace = map (λ name. (Write, name)) (option_to_list trace)
+-- the writes that are left to what a command has made
+abbrev pub writes_of : Made → List NamedCall
+writes_of (made.Run machine trace) = writes_to (option_map (λ name. name.now) trace)
 
--- the calls that a run makes of the shelf, under a configuration that has no fault
-abbrev pub run_calls : Option ConfigFault → RunJob → List NamedCall
-run_calls (Some found) job = []
-run_calls None job = (Read, job.image) ∷ writes_of job.trace
+-- these calls of the shelf, under a configuration that has no fault
+abbrev pub calls_under : Option ConfigFault → List NamedCall → List NamedCall
+calls_under (Some found) calls = []
+calls_under None calls = calls
+
+-- the calls that a run makes of the shelf
+abbrev pub run_calls : RunJob → List NamedCall
+run_calls job = calls_under (config_fault (config_of job)) ((Read, job.image) ∷ writes_to job.trace)
 
 -- the calls that a job makes of the shelf
 abbrev pub calls_of : Option Job → List NamedCall
 calls_of None = []
-calls_of (Some (Run job)) = run_calls (config_fault (config_of job)) job
+calls_of (Some (Run job)) = run_calls job
 calls_of (Some (Replay image trace)) = (Read, image) ∷ (Read, trace) ∷ []
 
 -- the list of a shelf's failed calls got one of these calls at its end, and nothing else
-pub record CallFailed (calls before now : List NamedCall) : Type 0 where
-  pub call : NamedCall
-  pub made : Contains calls call
-  pub listed : now ≡ before ++ call ∷ []
+abbrev pub ListsOne : List NamedCall → List NamedCall → List NamedCall → Type 0
+ListsOne [] before now = ⊥
+ListsOne (call ∷ calls) before now = (now ≡ before ++ call ∷ []) ⊎ ListsOne calls before now
 
--- the list of a shelf's failed calls after one of these calls: `Failed` puts it at the end, and no other
--- answer puts any
-abbrev pub Lists : {T : Type 0} → List NamedCall → Result T ShelfFault → List NamedCall → List NamedCall → Type 0
-Lists calls (Ok done) before now = now ≡ before
-Lists calls (Err faults.Failed) before now = CallFailed calls before now
-Lists calls (Err faults.TooBig) before now = now ≡ before
-Lists calls (Err faults.NoMemory) before now = now ≡ before
+-- the list of a shelf's failed calls at a fault: one of these calls failed, or none
+abbrev pub FaultLists : List NamedCall → List NamedCall → List NamedCall → Fault → Type 0
+FaultLists calls before now Device = ListsOne calls before now
+FaultLists calls before now NoMemory = now ≡ before
 
--- what holds of a command that no fault of the shelf has stopped
-abbrev pub UnlessFault : {T : Type 0} → Result T Stop → Type 0 → Type 0
-UnlessFault (Ok made) Holds = Holds
-UnlessFault (Err (stops.Refused refusal)) Holds = Holds
-UnlessFault (Err stops.DeviceFault) Holds = Unit {0}
-UnlessFault (Err stops.NoMemory) Holds = Holds
+-- the count of a sink's faults at a fault
+abbrev pub FaultCounts : ℕ → ℕ → Fault → Type 0
+FaultCounts before now Device = now ≡ one_more before
+FaultCounts before now NoMemory = now ≡ before
+
+-- a shelf's list at a stop
+abbrev pub StopLists : List NamedCall → List NamedCall → List NamedCall → Stop → Type 0
+StopLists calls before now (Refused refusal) = now ≡ before
+StopLists calls before now (Failed fault) = FaultLists calls before now fault
 
 -- the failed calls of a shelf, and the counts of faults of out and of err
 pub record Failures : Type 0 where
@@ -65,7 +69,7 @@ pub record Failures : Type 0 where
 -- exactly one call failed: one of these of the shelf, or one of out or of err
 abbrev pub OneFailed : List NamedCall → Failures → Failures → Type 0
 OneFailed calls before now =
-    (CallFailed calls before.shelf now.shelf × (now ≡ record before { shelf = now.shelf }))
+    (ListsOne calls before.shelf now.shelf × (now ≡ record before { shelf = now.shelf }))
     ⊎ ((now ≡ record before { out = one_more before.out }) ⊎ (now ≡ record before { err = one_more before.err }))
 
 -- a call of the program that ended with this status: one call of a device failed where that is a fault of a

@@ -4,6 +4,8 @@ use Rattle.el_io.specs.Shelf.{Contents, Holds, KeepsOthers}
 use Rattle.el_io.specs.Sink.{TookAll}
 use Rattle.tool.specs.declared.status.Status.{Status}
 use Rattle.tool.specs.declared.status.Status.TheVariants.{DeviceFault, NoMemory}
+use Rattle.tool.specs.declared.stop.Fault.{Fault}
+use Rattle.tool.specs.declared.stop.Fault.TheVariants as faults
 use Rattle.tool.specs.Answer.{Answer, WrittenFile}
 
 -- what out, err and the shelf tell
@@ -26,6 +28,16 @@ Wrote before now (Some file) = KeepsOthers before now file.name × Holds now fil
 abbrev pub TriedToWrite : Option Contents → Option Contents → Option WrittenFile → Type 0
 TriedToWrite before now None = ⊥
 TriedToWrite before now (Some file) = KeepsOthers before now file.name
+
+-- a fault cut off what was put to a sink
+abbrev pub Untold : Option (List ℕ) → Option (List ℕ) → List ℕ → Fault → Type 0
+Untold before now bytes faults.Device = TookSome before now bytes
+Untold before now bytes faults.NoMemory = now ≡ before
+
+-- a fault left a file unwritten
+abbrev pub Unwritten : Option Contents → Option Contents → Option WrittenFile → Fault → Type 0
+Unwritten before now file faults.Device = TriedToWrite before now file
+Unwritten before now file faults.NoMemory = now ≡ before
 
 -- all of an answer was put and written
 pub record PutAll (before now : Told) (answer : Answer) : Type 0 where

@@ -2,7 +2,8 @@
 use Rattle.std.specs.Prelude.{◌≡◌, ℕ, List, Some}
 use Rattle.command_line.specs.Words.{Run, Replay, RunJob}
 use Rattle.el_io.specs.Shelf.{Contents}
-use Rattle.tool.specs.Answer.{Answer, JobAnswer}
+use Rattle.tool.specs.Answer.{Answer}
+use Rattle.tool.specs.Jobs.{JobAnswer}
 
 -- two answers put the same bytes and end with the same status
 pub record SaysTheSame (one other : Answer) : Type 0 where
@@ -14,8 +15,8 @@ pub record SaysTheSame (one other : Answer) : Type 0 where
 abbrev pub ReplayRepeatsRun : Type 0
 ReplayRepeatsRun =
     (job : RunJob) (name : List ℕ) (before after : Contents) (ran replayed : Answer) →
-    JobAnswer (Some (Run job)) before before ran →
+    JobAnswer (Some before) (Some (Run job)) ran →
     ran.written ≡ Some (record { name = name; bytes = after name }) →
     after job.image ≡ before job.image →
-    JobAnswer (Some (Replay job.image name)) after after replayed →
+    JobAnswer (Some after) (Some (Replay job.image name)) replayed →
     SaysTheSame ran replayed

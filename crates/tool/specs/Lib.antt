@@ -1,9 +1,11 @@
 pub mod Statuses
 pub mod Messages
-pub mod Contents
+pub mod Refusals
+pub mod Ending
 pub mod Report
 pub mod Answer
+pub mod Jobs
+pub mod Stopping
 pub mod Comes
 pub mod Causes
-pub mod Stopping
 pub mod Laws

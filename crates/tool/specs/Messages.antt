@@ -3,8 +3,9 @@ use Rattle.std.specs.Prelude.{ℕ, List, [], ◌∷◌, ◌++◌, ◌==◌, code
 use Rattle.std.specs.Fmt.{decimal}
 use Rattle.el_base.specs.declared.config.ConfigFault.{ConfigFault}
 use Rattle.el_base.specs.declared.config.ConfigFault.TheVariants.{Harts, Sets, Ways, Lines, Long, Steps}
-use Rattle.tool.specs.declared.messages.Refusal.{Refusal}
-use Rattle.tool.specs.declared.messages.Refusal.TheVariants as refusals
+use Rattle.el_base.specs.declared.file_fault.FileFault.{FileFault}
+use Rattle.tool.specs.declared.refusal.Refusal.{Refusal}
+use Rattle.tool.specs.declared.refusal.Refusal.TheVariants as refusals
 
 -- the name of an image fault, by its number
 unfoldable pub image_fault_name : ℕ → List ℕ
@@ -52,10 +53,10 @@ newline = 10 ∷ []
 abbrev pub config_line : ConfigFault → List ℕ
 config_line fault = codes "config fault " ++ config_fault_text fault ++ newline
 
--- the line of a fault of a file, by what the file is, and the fault's number, name and place
-abbrev pub fault_line : List ℕ → ℕ → List ℕ → ℕ → List ℕ
-fault_line file number name place =
-    file ++ codes " fault " ++ decimal number ++ codes " " ++ name ++ codes " at byte " ++ decimal place ++ newline
+-- the line of a fault of a file, by what the file is, and the fault with its name
+abbrev pub fault_line : List ℕ → FileFault → List ℕ → List ℕ
+fault_line file fault name =
+    file ++ codes " fault " ++ decimal fault.number ++ codes " " ++ name ++ codes " at byte " ++ decimal fault.place ++ newline
 
 -- the line of a refusal, with its newline
 unfoldable pub line_of : Refusal → List ℕ
@@ -63,5 +64,5 @@ line_of refusals.Usage =
     codes "usage: elide run IMAGE [options], elide replay IMAGE TRACE, elide gen KIND NUMBER FILE" ++ newline
 line_of (refusals.Config fault) = config_line fault
 line_of (refusals.TooBig limit) = codes "file too big: limit " ++ decimal limit ++ newline
-line_of (refusals.Image number place) = fault_line (codes "image") number (image_fault_name number) place
-line_of (refusals.Trace number place) = fault_line (codes "trace") number (trace_fault_name number) place
+line_of (refusals.Image fault) = fault_line (codes "image") fault (image_fault_name fault.number)
+line_of (refusals.Trace fault) = fault_line (codes "trace") fault (trace_fault_name fault.number)

@@ -1,44 +1,47 @@
--- What stopped a command before its run had ended.
-use Rattle.std.specs.Prelude.{◌≡◌, ℕ, List, Option, None, Some}
-use Rattle.el_base.specs.declared.events.Event.{Event}
+-- What stopped a command before anything was put.
+use Rattle.std.specs.Prelude.{◌≡◌, ℕ, List, [], ◌∷◌, Option, None, Some}
+use Rattle.el_base.specs.Firsts.{first_of}
 use Rattle.el_base.specs.declared.config.Config.{Config}
 use Rattle.el_base.specs.declared.config.Mode.TheVariants.{Plain}
+use Rattle.el_base.specs.declared.events.Event.{Event}
+use Rattle.el_io.specs.Shelf.{Contents, Holds}
 use Rattle.el_io.specs.declared.shelf.ShelfFault.{ShelfFault}
-use Rattle.el_io.specs.declared.shelf.ShelfFault.TheVariants as faults
-use Rattle.el_base.specs.declared.file_fault.FileFault.{FileFault}
-use Rattle.trace_file.specs.declared.fault.Fault as trace_faults
-use Rattle.trace_file.specs.Faults.{trace_fault}
+use Rattle.el_io.specs.declared.shelf.ShelfFault.TheVariants as shelf_faults
+use Rattle.elf_image.specs.declared.loader.ImageFault.{ImageFault}
+use Rattle.elf_image.specs.declared.loader.ImageFault.TheVariants as image_faults
+use Rattle.machine.specs.declared.fault.MakeFault.{MakeFault}
+use Rattle.machine.specs.declared.fault.MakeFault.TheVariants as make_faults
+use Rattle.trace_file.specs.Faults.{config_at, trace_fault}
 use Rattle.trace_file.specs.Spelling.{IsTrace, spelling}
-use Rattle.tool.specs.declared.messages.Refusal.TheVariants.{Image, TooBig, Trace}
+use Rattle.trace_file.specs.declared.fault.TraceFault.{TraceFault}
+use Rattle.trace_file.specs.declared.fault.TraceFault.TheVariants as trace_faults
+use Rattle.tool.specs.declared.refusal.Refusal.{Refusal}
+use Rattle.tool.specs.declared.refusal.Refusal.TheVariants as refusals
+use Rattle.tool.specs.declared.stop.Fault.{Fault}
+use Rattle.tool.specs.declared.stop.Fault.TheVariants.{Device, NoMemory}
 use Rattle.tool.specs.declared.stop.Stop.{Stop}
-use Rattle.tool.specs.declared.stop.Stop.TheVariants as stops
+use Rattle.tool.specs.declared.stop.Stop.TheVariants.{Refused, Failed}
 use Rattle.tool.specs.Answer.{Answer, refused}
+use Rattle.tool.specs.Refusals.{image_refusal, size_refusal, trace_refusal}
 
--- what stopped a command before its run had ended: a refusal that is an answer, a fault of the shelf, or
--- want of memory
-abbrev pub Stops : (Answer → Type 0) → Type 0 → Stop → Type 0
-Stops Answers Fault (stops.Refused refusal) = Answers (refused refusal)
-Stops Answers Fault stops.DeviceFault = Fault
-Stops Answers Fault stops.NoMemory = Unit {0}
+-- how each error of a callee stops a command
+abbrev pub stop_of_image_fault : ImageFault → Stop
+stop_of_image_fault (image_faults.Bad number place) = Refused (refusals.Image (record { number = number; place = place }))
+stop_of_image_fault image_faults.NoMemory = Failed NoMemory
 
--- what stopped a read of a file: the limit, which the file may pass, a fault of the shelf, or want of
--- memory
-abbrev pub StopsRead : ℕ → Type 0 → Type 0 → Stop → Type 0
-StopsRead limit Over Fault (stops.Refused refusal) = (refusal ≡ TooBig limit) × Over
-StopsRead limit Over Fault stops.DeviceFault = Fault
-StopsRead limit Over Fault stops.NoMemory = Unit {0}
+abbrev pub stop_of_trace_fault : TraceFault → Stop
+stop_of_trace_fault (trace_faults.Bad number place) = Refused (refusals.Trace (record { number = number; place = place }))
+stop_of_trace_fault trace_faults.NoMemory = Failed NoMemory
 
--- what stopped a machine from being made of a file: the fault of the image, or want of memory
-abbrev pub StopsImage : Option FileFault → Stop → Type 0
-StopsImage found (stops.Refused refusal) = (fault : FileFault) × (found ≡ Some fault) × (refusal ≡ Image fault.number fault.place)
-StopsImage found stops.DeviceFault = ⊥
-StopsImage found stops.NoMemory = Unit {0}
+abbrev pub stop_of_make_fault : MakeFault → Stop
+stop_of_make_fault (make_faults.Config fault) = Refused (refusals.Config fault)
+stop_of_make_fault make_faults.NoMemory = Failed NoMemory
 
--- what stopped the reading of a trace: its fault, or want of memory
-abbrev pub StopsTrace : Option trace_faults.Fault → Stop → Type 0
-StopsTrace found (stops.Refused refusal) = (fault : trace_faults.Fault) × (found ≡ Some fault) × (refusal ≡ Trace fault.number fault.place)
-StopsTrace found stops.DeviceFault = ⊥
-StopsTrace found stops.NoMemory = Unit {0}
+-- how each error of the write of a file does
+abbrev pub fault_of_shelf : ShelfFault → Fault
+fault_of_shelf shelf_faults.Failed = Device
+fault_of_shelf shelf_faults.TooBig = Device
+fault_of_shelf shelf_faults.NoMemory = NoMemory
 
 -- a trace that a machine can be made for, and what spells it
 pub record IsTraceOf (file : List ℕ) (config : Config) (made : List Event) : Type 0 where
@@ -47,8 +50,22 @@ pub record IsTraceOf (file : List ℕ) (config : Config) (made : List Event) : T
   pub plain : config.mode ≡ Plain
   pub spelled : file ≡ spelling config made
 
--- what stopped the write of a file: a fault of the shelf, or want of memory
-abbrev pub StopsWrite : Type 0 → Type 0 → ShelfFault → Type 0
-StopsWrite Tried Same faults.Failed = Tried
-StopsWrite Tried Same faults.TooBig = ⊥
-StopsWrite Tried Same faults.NoMemory = Same
+-- the refusals of a replay of files within their limits
+abbrev pub follow_refusal : List ℕ → List ℕ → Option Refusal
+follow_refusal image trace = first_of (trace_refusal trace ∷ image_refusal image (config_at trace).harts ∷ [])
+
+-- this refusal, or want of memory
+abbrev pub StopsBy : Option Refusal → Stop → Type 0
+StopsBy found (Refused refusal) = found ≡ Some refusal
+StopsBy found (Failed Device) = ⊥
+StopsBy found (Failed NoMemory) = Unit {0}
+
+-- a refusal for the size of a file that the shelf may hold, or a fault
+abbrev pub StopsRead : Option Contents → List ℕ → ℕ → Stop → Type 0
+StopsRead told name limit (Refused refusal) = (file : List ℕ) × Holds told name file × (size_refusal limit file ≡ Some refusal)
+StopsRead told name limit (Failed fault) = Unit {0}
+
+-- a refusal that is an answer, or a fault
+abbrev pub StopsWith : (Answer → Type 0) → Stop → Type 0
+StopsWith Answers (Refused refusal) = Answers (refused refusal)
+StopsWith Answers (Failed fault) = Unit {0}

@@ -1,103 +1,104 @@
 //! What a command does before anything is put: it reads its files, and makes a machine that it runs.
-ghost use Rattle.std.specs.Prelude.{◌≡◌, ◌≤◌, None, IfOk, OnOk, MatchResult, length, [], ◌∷◌};
+ghost use Rattle.std.specs.Prelude.{◌≡◌, ◌≤◌, ◌∷◌, [], List, None, IfOk, MatchResult, length};
+ghost use Rattle.command_line.specs.Settings.{config_of};
+ghost use Rattle.command_line.specs.Words.{job_of, run_meaning, texts};
+ghost use Rattle.drive.specs.Drivers.{MakesRoundRobin};
 ghost use Rattle.el_base.specs.Config.{IsInRange, config_fault};
 ghost use Rattle.el_base.specs.declared.config.Mode.TheVariants.{Plain};
+ghost use Rattle.el_io.specs.Shelf.{Holds, NamedCall};
 ghost use Rattle.el_io.specs.declared.shelf.Call.TheVariants.{Read};
 ghost use Rattle.elf_image.specs.Faults.{fault};
 ghost use Rattle.elf_image.specs.Limits.{file_limit};
 ghost use Rattle.elf_image.specs.Loaded.{program_of};
-ghost use Rattle.command_line.specs.Settings.{config_of};
-ghost use Rattle.command_line.specs.Words.{run_meaning};
-ghost use Rattle.trace_file.specs.Faults.{trace_fault};
-ghost use Rattle.tool.specs.Answer.{IsReplayAnswer, IsRunAnswer, TraceAnswer, ended};
-ghost use Rattle.tool.specs.Causes.{CallFailed, UnlessFault, reads_of};
-ghost use Rattle.tool.specs.Contents.{MayHave, MayPass};
-ghost use Rattle.tool.specs.Stopping.{Stops, StopsImage, StopsRead, StopsTrace, IsTraceOf};
+ghost use Rattle.trace_file.specs.Faults.{config_at};
+ghost use Rattle.tool.specs.Answer.{answer_of, ended};
+ghost use Rattle.tool.specs.Causes.{ListsOne, StopLists, calls_of, calls_under, writes_of};
+ghost use Rattle.tool.specs.Jobs.{FollowAnswer, IsAnswer, IsReplayAnswer, IsRunAnswer, first_story};
+ghost use Rattle.tool.specs.Refusals.{image_refusal, trace_refusal};
+ghost use Rattle.tool.specs.Stopping.{IsTraceOf, StopsBy, StopsRead, StopsWith, follow_refusal};
 
-use crate::messages::Refusal;
-use crate::stop::Stop;
-use command_line::RunCommand;
+use crate::made::Made;
+use crate::refusal::Refusal;
+use crate::stop::{Fault, Stop};
+use command_line::{Command, RunCommand, read_words};
 use drive::{follow, round_robin};
 use el_base::Config;
 use el_io::{Shelf, ShelfFault};
-use elf_image::{IMAGE_FILE_LIMIT, ImageFault, load};
-use machine::{Machine, MakeFault};
+use elf_image::{IMAGE_FILE_LIMIT, Image, load};
+use machine::Machine;
 use std::alloc::Global;
-use trace_file::{Trace, TraceFault, read_trace};
+use trace_file::{Trace, read_trace};
 
 /// The most bytes that a trace may have: its head, and a byte for each of the most steps.
 const TRACE_LIMIT: u32 = 16_777_238;
 
-/// Runs an image by a round robin of its harts.
-pub(crate) fn run<S: Shelf>(
+/// Does what the words ask for, as far as it puts and writes nothing. The words are those after the
+/// program's name.
+pub(crate) fn obey<'a, S: Shelf>(
     alloc: Global,
+    words: &'a [String],
     shelf: &mut S,
-    command: RunCommand<'_>,
-) -> Result<Machine, Stop>
+) -> Result<Made<'a>, Stop>
     ensures files_stay { S.told shelf.new ≡ S.told shelf.old }
-    ensures nothing_failed { UnlessFault result (S.failures shelf.new ≡ S.failures shelf.old) }
-    ensures in_range { OnOk result (IsInRange (config_of (run_meaning command.entry))) }
-    ensures answers { MatchResult result
-        (λ machine. IsRunAnswer (run_meaning command.entry) (S.told shelf.old) (ended (run_meaning command.entry).trace machine))
-        (Stops (IsRunAnswer (run_meaning command.entry) (S.told shelf.old))
-        (CallFailed (reads_of (config_fault (config_of (run_meaning command.entry))) command.entry.image.now)
-        (S.failures shelf.old) (S.failures shelf.new))) }
+    ensures answers { let Answers = IsAnswer (texts words.entry.now) (S.told shelf.old) in
+        MatchResult result (λ made. Answers (answer_of made)) (StopsWith Answers) }
+    ensures calls { MatchResult result
+        (λ _. S.failures shelf.new ≡ S.failures shelf.old)
+        (StopLists (calls_of (job_of (texts words.entry.now))) (S.failures shelf.old) (S.failures shelf.new)) }
+    ensures writes { IfOk result (λ made. (before now : List NamedCall) →
+        ListsOne (writes_of made) before now →
+        ListsOne (calls_of (job_of (texts words.entry.now))) before now) }
 {
-    let config = command.config()?;
-    let file = read_file(alloc, shelf, command.image, IMAGE_FILE_LIMIT)?;
-    let mut machine = make_machine(alloc, file.as_slice(), config)?;
-    round_robin(&mut machine);
-    Ok(machine)
-}
-
-/// Makes the events of a trace again, on an image.
-pub(crate) fn replay<S: Shelf>(
-    alloc: Global,
-    shelf: &mut S,
-    image: &str,
-    trace: &str,
-) -> Result<Machine, Stop>
-    ensures files_stay { S.told shelf.new ≡ S.told shelf.old }
-    ensures nothing_failed { UnlessFault result (S.failures shelf.new ≡ S.failures shelf.old) }
-    ensures answers { MatchResult result
-        (λ machine. IsReplayAnswer image.now trace.now (S.told shelf.old) (ended None machine))
-        (Stops (IsReplayAnswer image.now trace.now (S.told shelf.old))
-        (CallFailed ((Read, image.now) ∷ (Read, trace.now) ∷ []) (S.failures shelf.old) (S.failures shelf.new))) }
-{
-    let file = read_file(alloc, shelf, image, IMAGE_FILE_LIMIT)?;
-    let spelled = read_file(alloc, shelf, trace, TRACE_LIMIT)?;
-    replay_files(alloc, file.as_slice(), spelled.as_slice())
-}
-
-/// Makes the events that a trace spells, on an image.
-fn replay_files(alloc: Global, image: &[u8], trace: &[u8]) -> Result<Machine, Stop>
-    requires { length image.now ≤ file_limit }
-    ensures { MatchResult result
-        (λ machine. TraceAnswer image.now trace.now (trace_fault trace.now) (ended None machine))
-        (Stops (TraceAnswer image.now trace.now (trace_fault trace.now)) ⊥) }
-{
-    let trace = trace_of(alloc, trace)?;
-    let mut machine = make_machine(alloc, image, trace.config)?;
-    follow(&mut machine, trace.events.as_slice());
-    Ok(machine)
-}
-
-/// The trace that a file spells.
-fn trace_of(alloc: Global, file: &[u8]) -> Result<Trace, Stop>
-    ensures { MatchResult result
-        (λ trace. IsTraceOf file.now trace.config trace.events)
-        (StopsTrace (trace_fault file.now)) }
-{
-    match read_trace(alloc, file) {
-        Ok(trace) => Ok(trace),
-        Err(TraceFault::Bad { number, place }) => {
-            Err(Stop::Refused(Refusal::Trace { number, place }))
-        }
-        Err(TraceFault::NoMemory) => Err(Stop::NoMemory),
+    match read_words(words) {
+        None => Err(Refusal::Usage.into()),
+        Some(Command::Run(command)) => Ok(Made::Run {
+            machine: run(alloc, shelf, command)?,
+            trace: command.trace,
+        }),
+        Some(Command::Replay { image, trace }) => Ok(Made::Run {
+            machine: replay(alloc, shelf, image, trace)?,
+            trace: None,
+        }),
     }
 }
 
+/// Runs an image by a round robin of its harts.
+#[tactic(auto, using(crate::proofs::Answering::config_refused))]
+fn run<S: Shelf>(alloc: Global, shelf: &mut S, command: RunCommand<'_>) -> Result<Machine, Stop>
+    ensures files_stay { S.told shelf.new ≡ S.told shelf.old }
+    ensures in_range { IfOk result (λ _. IsInRange (config_of (run_meaning command.entry))) }
+    ensures answers { let job = run_meaning command.entry in
+        let Answers = IsRunAnswer job (S.told shelf.old) in
+        MatchResult result (λ machine. Answers (ended job.trace machine)) (StopsWith Answers) }
+    ensures calls { let job = run_meaning command.entry in
+        let calls = calls_under (config_fault (config_of job)) ((Read, job.image) ∷ []) in
+        MatchResult result
+        (λ _. S.failures shelf.new ≡ S.failures shelf.old)
+        (StopLists calls (S.failures shelf.old) (S.failures shelf.new)) }
+{
+    let config = command.config()?;
+    let file = read_file(alloc, shelf, command.image, IMAGE_FILE_LIMIT)?;
+    run_image(alloc, file, config)
+}
+
+/// Makes the events of a trace again, on an image.
+#[tactic(auto, using(crate::proofs::Answering::image_unread))]
+fn replay<S: Shelf>(alloc: Global, shelf: &mut S, image: &str, trace: &str) -> Result<Machine, Stop>
+    ensures files_stay { S.told shelf.new ≡ S.told shelf.old }
+    ensures answers { let Answers = IsReplayAnswer image.now trace.now (S.told shelf.old) in
+        MatchResult result (λ machine. Answers (ended None machine)) (StopsWith Answers) }
+    ensures calls { let calls = (Read, image.now) ∷ (Read, trace.now) ∷ [] in
+        MatchResult result
+        (λ _. S.failures shelf.new ≡ S.failures shelf.old)
+        (StopLists calls (S.failures shelf.old) (S.failures shelf.new)) }
+{
+    let image = read_file(alloc, shelf, image, IMAGE_FILE_LIMIT)?;
+    let trace = read_file(alloc, shelf, trace, TRACE_LIMIT)?;
+    follow_trace(alloc, image, trace)
+}
+
 /// The bytes of a file of at most `limit` bytes.
+#[tactic(auto, using(crate::proofs::Files::over_limit))]
 fn read_file<S: Shelf>(
     alloc: Global,
     shelf: &mut S,
@@ -105,42 +106,71 @@ fn read_file<S: Shelf>(
     limit: u32,
 ) -> Result<Vec<u8>, Stop>
     ensures files_stay { S.told shelf.new ≡ S.told shelf.old }
-    ensures nothing_failed { UnlessFault result (S.failures shelf.new ≡ S.failures shelf.old) }
-    ensures given { IfOk result (λ bytes. MayHave (S.told shelf.old) name.now bytes.items) }
-    ensures within_limit { IfOk result (λ bytes. length bytes.items ≤ limit) }
-    ensures stopped { MatchResult result
-        (λ _. Unit {0})
-        (StopsRead limit (MayPass (S.told shelf.old) name.now limit)
-        (CallFailed ((Read, name.now) ∷ []) (S.failures shelf.old) (S.failures shelf.new))) }
+    ensures given { IfOk result (λ file. Holds (S.told shelf.old) name.now file.items) }
+    ensures within_limit { IfOk result (λ file. length file.items ≤ limit) }
+    ensures stopped { MatchResult result (λ _. Unit {0}) (StopsRead (S.told shelf.old) name.now limit) }
+    ensures calls { MatchResult result
+        (λ _. S.failures shelf.new ≡ S.failures shelf.old)
+        (StopLists ((Read, name.now) ∷ []) (S.failures shelf.old) (S.failures shelf.new)) }
 {
     match shelf.read(alloc, name, limit) {
-        Ok(bytes) => Ok(bytes),
-        Err(ShelfFault::TooBig) => Err(Stop::Refused(Refusal::TooBig { limit })),
-        Err(ShelfFault::Failed) => Err(Stop::DeviceFault),
-        Err(ShelfFault::NoMemory) => Err(Stop::NoMemory),
+        Ok(file) => Ok(file),
+        Err(ShelfFault::TooBig) => Err(Refusal::TooBig { limit }.into()),
+        Err(fault) => Err(Fault::from(fault).into()),
     }
 }
 
-/// A machine of the image in a file, before its first event.
-fn make_machine(alloc: Global, file: &[u8], config: Config) -> Result<Machine, Stop>
-    requires within_limit { length file.now ≤ file_limit }
+/// Runs the image in a file by a round robin of its harts.
+fn run_image(alloc: Global, file: Vec<u8>, config: Config) -> Result<Machine, Stop>
+    requires within_limit { length file.items ≤ file_limit }
     requires in_range { IsInRange config }
     requires plain { config.mode ≡ Plain }
     ensures { MatchResult result
-        (λ machine. (fault file.now config.harts ≡ None)
-        × (machine ≡ record { program = program_of file.now config.harts; config = config; entries = [] }))
-        (StopsImage (fault file.now config.harts)) }
+        (λ machine. (fault file.items config.harts ≡ None)
+        × MakesRoundRobin (first_story (program_of file.items config.harts) config) machine)
+        (StopsBy (image_refusal file.items config.harts)) }
 {
-    let image = match load(alloc, file, config.harts) {
-        Ok(image) => image,
-        Err(ImageFault::Bad { number, place }) => {
-            return Err(Stop::Refused(Refusal::Image { number, place }));
-        }
-        Err(ImageFault::NoMemory) => return Err(Stop::NoMemory),
-    };
-    match Machine::make(alloc, image, config) {
-        Ok(machine) => Ok(machine),
-        Err(MakeFault::Config { .. }) => unreachable!(),
-        Err(MakeFault::NoMemory) => Err(Stop::NoMemory),
-    }
+    let image = image_of(alloc, file, config.harts)?;
+    let mut machine = Machine::make(alloc, image, config)?;
+    round_robin(&mut machine);
+    Ok(machine)
+}
+
+/// Makes the events that a trace spells, on the image in a file.
+fn follow_trace(alloc: Global, image: Vec<u8>, trace: Vec<u8>) -> Result<Machine, Stop>
+    requires { length image.items ≤ file_limit }
+    ensures { MatchResult result
+        (λ machine. (follow_refusal image.items trace.items ≡ None)
+        × FollowAnswer image.items trace.items (ended None machine))
+        (StopsBy (follow_refusal image.items trace.items)) }
+{
+    let trace = trace_of(alloc, trace)?;
+    let image = image_of(alloc, image, trace.config.harts)?;
+    let mut machine = Machine::make(alloc, image, trace.config)?;
+    follow(&mut machine, trace.events.as_slice());
+    Ok(machine)
+}
+
+/// The trace that a file spells. The file is given back.
+#[tactic(auto, using(crate::proofs::Files::harts_of_trace))]
+fn trace_of(alloc: Global, file: Vec<u8>) -> Result<Trace, Stop>
+    ensures exact { MatchResult result
+        (λ trace. IsTraceOf file.items trace.config trace.events)
+        (StopsBy (trace_refusal file.items)) }
+    ensures harts { IfOk result (λ trace. (config_at file.items).harts ≡ trace.config.harts) }
+{
+    Ok(read_trace(alloc, file.as_slice())?)
+}
+
+/// The image in a file. The file is given back.
+#[tactic(auto, using(crate::proofs::Files::loaded_harts))]
+fn image_of(alloc: Global, file: Vec<u8>, harts: u8) -> Result<Image, Stop>
+    requires harts_in_range { (1 ≤ harts) × (harts ≤ 8) }
+    requires within_limit { length file.items ≤ file_limit }
+    ensures exact { MatchResult result
+        (λ image. (fault file.items harts ≡ None) × (image ≡ program_of file.items harts))
+        (StopsBy (image_refusal file.items harts)) }
+    ensures harts { IfOk result (λ image. image.harts ≡ harts) }
+{
+    Ok(load(alloc, file.as_slice(), harts)?)
 }

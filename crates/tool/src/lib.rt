@@ -10,8 +10,11 @@
 #![tactic(auto)]
 
 mod doing;
+mod ending;
 mod laws;
-mod messages;
+mod made;
+mod refusal;
+mod report;
 mod status;
 mod stop;
 mod telling;

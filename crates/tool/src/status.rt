@@ -1,6 +1,8 @@
 ghost use Rattle.std.specs.Prelude.{◌≡◌};
 ghost use Rattle.tool.specs.Statuses.{number_of};
 
+use crate::stop::Fault;
+
 /// How the program ends.
 #[derive(Clone, Copy, Debug, PartialEq, Eq)]
 pub enum Status {
@@ -24,5 +26,18 @@ impl Status {
         ensures { result ≡ number_of self }
     {
         self as u8
+    }
+}
+
+impl From<Fault> for Status {
+    ghost use Rattle.tool.specs.Statuses.{status_of_fault};
+
+    ghost from_gives = { λ fault status. status ≡ status_of_fault fault };
+
+    fn from(fault: Fault) -> Status {
+        match fault {
+            Fault::Device => Status::DeviceFault,
+            Fault::NoMemory => Status::NoMemory,
+        }
     }
 }

@@ -1,19 +1,14 @@
 //! The top call.
-ghost use Rattle.std.specs.Prelude.{[], ◌∷◌};
-ghost use Rattle.command_line.specs.Settings.{config_of};
-ghost use Rattle.command_line.specs.Words.{job_of, run_meaning, texts};
-ghost use Rattle.el_base.specs.Config.{config_fault};
-ghost use Rattle.el_io.specs.declared.shelf.Call.TheVariants.{Read};
-ghost use Rattle.tool.specs.Answer.{IsAnswer, IsReplayAnswer, IsRunAnswer};
-ghost use Rattle.tool.specs.Causes.{Caused, calls_of, run_calls};
+ghost use Rattle.command_line.specs.Words.{job_of, texts};
+ghost use Rattle.tool.specs.Causes.{Caused, calls_of};
 ghost use Rattle.tool.specs.Comes.{Comes};
+ghost use Rattle.tool.specs.Jobs.{IsAnswer};
+ghost use Rattle.tool.specs.Statuses.{status_of};
 
-use crate::doing::{replay, run};
-use crate::messages::Refusal;
+use crate::doing::obey;
 use crate::status::Status;
-use crate::stop::Stop;
-use crate::telling::{tell_refusal, tell_run};
-use command_line::{Command, RunCommand, read_words};
+use crate::stop::{Fault, Stop};
+use crate::telling::{tell, tell_refusal};
 use el_io::{Shelf, Sink};
 use std::alloc::Global;
 
@@ -40,54 +35,30 @@ pub fn tool<R, S: Shelf, O: Sink, E: Sink>(
         (record { shelf = S.failures shelf.old; out = O.faults out.old; err = E.faults err.old })
         (record { shelf = S.failures shelf.new; out = O.faults out.new; err = E.faults err.new }) }
 {
-    match read_words(words) {
-        None => tell_refusal(alloc, Refusal::Usage, err),
-        Some(Command::Run(command)) => do_run(alloc, command, shelf, out, err),
-        Some(Command::Replay { image, trace }) => do_replay(alloc, image, trace, shelf, out, err),
+    match answer(alloc, words, shelf, out, err) {
+        Ok(status) => status,
+        Err(fault) => fault.into(),
     }
 }
 
-fn do_run<S: Shelf, O: Sink, E: Sink>(
+/// Answers the words: with what they ask for, or with the line of their refusal.
+fn answer<S: Shelf, O: Sink, E: Sink>(
     alloc: Global,
-    command: RunCommand<'_>,
+    words: &[String],
     shelf: &mut S,
     out: &mut O,
     err: &mut E,
-) -> Status
-    ensures exact { Comes (IsRunAnswer (run_meaning command.entry) (S.told shelf.old)) result
+) -> Result<Status, Fault>
+    ensures exact { Comes (IsAnswer (texts words.now) (S.told shelf.old)) (status_of result)
         (record { out = O.taken out.old; err = E.taken err.old; files = S.told shelf.old })
         (record { out = O.taken out.new; err = E.taken err.new; files = S.told shelf.new }) }
-    ensures cause { Caused (run_calls (config_fault (config_of (run_meaning command.entry))) (run_meaning command.entry)) result
+    ensures cause { Caused (calls_of (job_of (texts words.now))) (status_of result)
         (record { shelf = S.failures shelf.old; out = O.faults out.old; err = E.faults err.old })
         (record { shelf = S.failures shelf.new; out = O.faults out.new; err = E.faults err.new }) }
 {
-    match run(alloc, shelf, command) {
-        Ok(machine) => tell_run(alloc, &machine, command.trace, shelf, out, err),
+    match obey(alloc, words, shelf) {
+        Ok(made) => tell(alloc, made, shelf, out, err),
         Err(Stop::Refused(refusal)) => tell_refusal(alloc, refusal, err),
-        Err(Stop::DeviceFault) => Status::DeviceFault,
-        Err(Stop::NoMemory) => Status::NoMemory,
-    }
-}
-
-fn do_replay<S: Shelf, O: Sink, E: Sink>(
-    alloc: Global,
-    image: &str,
-    trace: &str,
-    shelf: &mut S,
-    out: &mut O,
-    err: &mut E,
-) -> Status
-    ensures exact { Comes (IsReplayAnswer image.now trace.now (S.told shelf.old)) result
-        (record { out = O.taken out.old; err = E.taken err.old; files = S.told shelf.old })
-        (record { out = O.taken out.new; err = E.taken err.new; files = S.told shelf.new }) }
-    ensures cause { Caused ((Read, image.now) ∷ (Read, trace.now) ∷ []) result
-        (record { shelf = S.failures shelf.old; out = O.faults out.old; err = E.faults err.old })
-        (record { shelf = S.failures shelf.new; out = O.faults out.new; err = E.faults err.new }) }
-{
-    match replay(alloc, shelf, image, trace) {
-        Ok(machine) => tell_run(alloc, &machine, None, shelf, out, err),
-        Err(Stop::Refused(refusal)) => tell_refusal(alloc, refusal, err),
-        Err(Stop::DeviceFault) => Status::DeviceFault,
-        Err(Stop::NoMemory) => Status::NoMemory,
+        Err(Stop::Failed(fault)) => Err(fault),
     }
 }

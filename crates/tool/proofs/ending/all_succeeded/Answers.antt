@@ -1,7 +1,7 @@
 use Rattle.std.proofs.Common.{◌≡◌, ◌∙◌, ap, arith}
 use Rattle.el_base.specs.declared.config.Config.{Config}
-use Rattle.tool.proofs.Ending.{all_looked_at}
-use Rattle.tool.proofs.telling.all_succeeded.Goals as goal
+use Rattle.tool.proofs.Succeeding.{all_looked_at}
+use Rattle.tool.proofs.ending.all_succeeded.Goals as goal
 
 pub returns : goal.returns
 returns c =

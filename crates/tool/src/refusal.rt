@@ -1,8 +1,8 @@
-//! The lines that refusals put to err.
+//! Why a command is refused, and the line that it puts to err then.
 ghost use Rattle.std.specs.Prelude.{◌≡◌, IfOk, string_bytes};
 ghost use Rattle.tool.specs.Messages.{config_fault_text as text_of_config_fault, config_line as line_of_config, fault_line as line_of_fault, image_fault_name as name_of_image_fault, line_of, trace_fault_name as name_of_trace_fault};
 
-use el_base::ConfigFault;
+use el_base::{ConfigFault, FileFault};
 use std::alloc::{AllocError, Global};
 
 const USAGE: &str =
@@ -14,13 +14,13 @@ pub(crate) enum Refusal {
     /// The words are no command line.
     Usage,
     /// The first field of the configuration that is out of its range.
-    Config { fault: ConfigFault },
+    Config(ConfigFault),
     /// A file has more bytes than its limit.
     TooBig { limit: u32 },
     /// The first fault of an image file.
-    Image { number: u8, place: u32 },
+    Image(FileFault),
     /// The first fault of a trace.
-    Trace { number: u8, place: u32 },
+    Trace(FileFault),
 }
 
 impl Refusal {
@@ -31,13 +31,13 @@ impl Refusal {
     {
         match self {
             Refusal::Usage => String::from_str(alloc, USAGE),
-            Refusal::Config { fault } => config_line(alloc, fault),
+            Refusal::Config(fault) => config_line(alloc, fault),
             Refusal::TooBig { limit } => format!(in alloc; "file too big: limit {limit}\n"),
-            Refusal::Image { number, place } => {
-                fault_line(alloc, "image", number, image_fault_name(number), place)
+            Refusal::Image(fault) => {
+                fault_line(alloc, "image", fault, image_fault_name(fault.number))
             }
-            Refusal::Trace { number, place } => {
-                fault_line(alloc, "trace", number, trace_fault_name(number), place)
+            Refusal::Trace(fault) => {
+                fault_line(alloc, "trace", fault, trace_fault_name(fault.number))
             }
         }
     }
@@ -51,16 +51,11 @@ fn config_line(alloc: Global, fault: ConfigFault) -> Result<String, AllocError>
     format!(in alloc; "config fault {text}\n")
 }
 
-/// The line of a fault of a file, by what the file is, and the fault's number, name and place.
-fn fault_line(
-    alloc: Global,
-    file: &str,
-    number: u8,
-    name: &str,
-    place: u32,
-) -> Result<String, AllocError>
-    ensures { IfOk result (λ line. string_bytes line ≡ line_of_fault file.now number name.now place) }
+/// The line of a fault of a file, by what the file is, and the fault with its name.
+fn fault_line(alloc: Global, file: &str, fault: FileFault, name: &str) -> Result<String, AllocError>
+    ensures { IfOk result (λ line. string_bytes line ≡ line_of_fault file.now fault name.now) }
 {
+    let FileFault { number, place } = fault;
     let mut line = format!(in alloc; "{file} fault {number} ")?;
     line.push_str(name)?;
     writeln!(line, " at byte {place}")?;

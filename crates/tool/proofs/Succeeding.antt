@@ -10,7 +10,7 @@ use Rattle.rv_flat.proofs.StepLaws.{keeps_shape}
 use Rattle.rv_flat.specs.FlatState.{FlatState, first_view, no_hart, start, view_of}
 use Rattle.rv_flat.specs.Run.{run}
 use Rattle.rv_flat.specs.Step.{flat}
-use Rattle.tool.specs.Report.{all_succeeded, has_succeeded}
+use Rattle.tool.specs.Ending.{all_succeeded, has_succeeded}
 
 harts-start : (program : Program) → length (start program).harts ≡ program.harts
 unfolding start

@@ -1,0 +1,71 @@
+-- What the program answers to its words, over files.
+use Rattle.std.specs.Prelude.{◌≡◌, ℕ, List, [], Option, None, Some, MatchOption}
+use Rattle.command_line.specs.Settings.{config_of}
+use Rattle.command_line.specs.Words.{Job, Run, Replay, RunJob, job_of}
+use Rattle.drive.specs.Drivers.{MakesRoundRobin}
+use Rattle.el_base.specs.declared.events.Event.{Event}
+use Rattle.el_base.specs.declared.config.Config.{Config}
+use Rattle.el_io.specs.Shelf.{Contents, Holds}
+use Rattle.elf_image.specs.Loaded.{program_of}
+use Rattle.elf_image.specs.Program.{Program}
+use Rattle.machine.specs.Story.{Story, continued}
+use Rattle.trace_file.specs.Spelling.{IsTrace, spelling}
+use Rattle.tool.specs.declared.refusal.Refusal.{Refusal}
+use Rattle.tool.specs.declared.refusal.Refusal.TheVariants.{Usage}
+use Rattle.tool.specs.Answer.{Answer, ended, refused}
+use Rattle.tool.specs.Refusals.{replay_refusal, run_refusal}
+
+-- the story of a program under a configuration, before its first event
+abbrev pub first_story : Program → Config → Story
+first_story program config = record { program = program; config = config; entries = [] }
+
+-- a run of a program by a round robin of its harts
+pub record RoundRobinAnswer (config : Config) (trace : Option (List ℕ)) (program : Program) (answer : Answer) : Type 0 where
+  pub later : Story
+  pub round_robin : MakesRoundRobin (first_story program config) later
+  pub exact : answer ≡ ended trace later
+
+-- the events that a trace spells, made on an image
+pub record FollowAnswer (image trace : List ℕ) (answer : Answer) : Type 0 where
+  pub config : Config
+  pub made : List Event
+  pub is_trace : IsTrace config made
+  pub spelled : trace ≡ spelling config made
+  pub exact : answer ≡ ended None (continued (first_story (program_of image config.harts) config) made)
+
+-- the answer to a job: its first refusal, or else what it comes to
+abbrev pub UnlessRefused : Option Refusal → (Answer → Type 0) → Answer → Type 0
+UnlessRefused found Answers answer = MatchOption found (Answers answer) (λ refusal. answer ≡ refused refusal)
+
+-- to run an image file
+abbrev pub RunAnswer : RunJob → List ℕ → Answer → Type 0
+RunAnswer job image answer =
+    UnlessRefused (run_refusal job image)
+    (RoundRobinAnswer (config_of job) job.trace (program_of image (config_of job).harts)) answer
+
+-- to replay a trace on an image file
+abbrev pub ReplayAnswer : List ℕ → List ℕ → Answer → Type 0
+ReplayAnswer image trace answer = UnlessRefused (replay_refusal image trace) (FollowAnswer image trace) answer
+
+-- the same over the files that a shelf tells, or over any bytes at each read where it tells none
+pub record IsRunAnswer (job : RunJob) (told : Option Contents) (answer : Answer) : Type 0 where
+  pub image : List ℕ
+  pub image_file : Holds told job.image image
+  pub exact : RunAnswer job image answer
+
+pub record IsReplayAnswer (image_name trace_name : List ℕ) (told : Option Contents) (answer : Answer) : Type 0 where
+  pub image : List ℕ
+  pub trace : List ℕ
+  pub image_file : Holds told image_name image
+  pub trace_file : Holds told trace_name trace
+  pub exact : ReplayAnswer image trace answer
+
+-- an answer to a job; words that are none are refused
+abbrev pub JobAnswer : Option Contents → Option Job → Answer → Type 0
+JobAnswer told None answer = answer ≡ refused Usage
+JobAnswer told (Some (Run job)) answer = IsRunAnswer job told answer
+JobAnswer told (Some (Replay image trace)) answer = IsReplayAnswer image trace told answer
+
+-- an answer to these words
+abbrev pub IsAnswer : List (List ℕ) → Option Contents → Answer → Type 0
+IsAnswer words told answer = JobAnswer told (job_of words) answer

@@ -1,0 +1,52 @@
+-- What a command is refused for: of each list, the first.
+use Rattle.std.specs.Prelude.{ℕ, List, [], ◌∷◌, length, nat_lt, Option}
+use Rattle.std.specs.Option.{option_map}
+use Rattle.command_line.specs.Settings.{config_of}
+use Rattle.command_line.specs.Words.{RunJob}
+use Rattle.el_base.specs.Config.{config_fault}
+use Rattle.el_base.specs.Firsts.{first_of, some_if}
+use Rattle.el_base.specs.declared.config.Config as settings
+use Rattle.elf_image.specs.Faults.{fault}
+use Rattle.elf_image.specs.Limits.{file_limit}
+use Rattle.trace_file.specs.Faults.{config_at, trace_fault}
+use Rattle.tool.specs.declared.refusal.Refusal.{Refusal}
+use Rattle.tool.specs.declared.refusal.Refusal.TheVariants.{Config, TooBig, Image, Trace}
+
+-- the most bytes that a trace may have
+abbrev pub trace_limit : ℕ
+trace_limit = 16777238
+
+-- a configuration has a field out of its range
+abbrev pub config_refusal : settings.Config → Option Refusal
+config_refusal config = option_map Config (config_fault config)
+
+-- a file has more bytes than its limit
+abbrev pub size_refusal : ℕ → List ℕ → Option Refusal
+size_refusal limit file = some_if (nat_lt limit (length file)) (TooBig limit)
+
+-- a file is no image of a program for so many harts
+abbrev pub image_refusal : List ℕ → ℕ → Option Refusal
+image_refusal file harts = option_map (λ found. Image (record { number = found.number; place = found.place })) (fault file harts)
+
+-- a file is no trace
+abbrev pub trace_refusal : List ℕ → Option Refusal
+trace_refusal file = option_map (λ found. Trace (record { number = found.number; place = found.place })) (trace_fault file)
+
+-- of a run of an image file
+abbrev pub run_refusal : RunJob → List ℕ → Option Refusal
+run_refusal job image =
+    first_of
+    (config_refusal (config_of job)
+    ∷ size_refusal file_limit image
+    ∷ image_refusal image (config_of job).harts
+    ∷ [])
+
+-- of a replay of a trace on an image file
+abbrev pub replay_refusal : List ℕ → List ℕ → Option Refusal
+replay_refusal image trace =
+    first_of
+    (size_refusal file_limit image
+    ∷ size_refusal trace_limit trace
+    ∷ trace_refusal trace
+    ∷ image_refusal image (config_at trace).harts
+    ∷ [])

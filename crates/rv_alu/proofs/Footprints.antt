@@ -11,9 +11,9 @@ use Rattle.rv_word.specs.declared.insn.StoreWidth.{StoreWidth}
 use Rattle.rv_word.specs.declared.insn.StoreWidth.TheVariants as stores
 use Rattle.rv_word.specs.declared.reg.Reg.{Reg}
 use Rattle.rv_alu.specs.declared.action.Action.{Action}
-use Rattle.rv_alu.specs.declared.action.Action.TheVariants.{Answer, Append, Exit, Trap, JumpAndLink, Go, Load, LoadReserved, Store, StoreConditional, Fail, Amo}
+use Rattle.rv_alu.specs.declared.action.Action.TheVariants.{Answer, Append, Trap, JumpAndLink, Go}
 use Rattle.rv_alu.specs.declared.span.Span.{Span}
-use Rattle.rv_alu.specs.Action.{action_of, checked_of, conditional_of, has_reserved_of, indirect_of, jump_of, load_size_of, next_pc_of, store_size_of}
+use Rattle.rv_alu.specs.Action.{action_of, checked_of, has_reserved_of, indirect_of, jump_of, load_size_of, next_pc_of, store_size_of}
 use Rattle.rv_alu.specs.Cause.{instruction_address_misaligned}
 use Rattle.rv_alu.specs.Footprint.{IsFootprint, IsInPlace, IsPiece, IsSize, footprint}
 use Rattle.rv_alu.specs.Operation.{moved_of, taken_of}

@@ -1,7 +1,8 @@
 -- what an instruction does, with its registers read and its checks made, before anything happens
-use Rattle.std.specs.Prelude.{ℕ, ℤ, Bool, true, false, ◌-◌, ◌%◌, ◌==◌, if◌then◌else◌, List, Option, None, Some}
+use Rattle.std.specs.Prelude.{ℕ, ℤ, Bool, false, ◌-◌, ◌%◌, ◌==◌, if◌then◌else◌, List, Option, None, Some}
 use Rattle.std.specs.Int.{cast_unsigned, w32}
 use Rattle.rv_word.specs.Decoding.{decoded}
+use Rattle.rv_word.specs.declared.insn.AmoOp.{AmoOp}
 use Rattle.rv_word.specs.declared.insn.Insn.{Insn}
 use Rattle.rv_word.specs.declared.insn.Insn.TheVariants as insns
 use Rattle.rv_word.specs.declared.insn.LoadWidth.{LoadWidth}
@@ -45,6 +46,11 @@ indirect_of sum = sum - sum % 2
 abbrev pub jump_of : ℕ → Action → Action
 jump_of target action = if target % 4 == 0 then action else Trap instruction_address_misaligned
 
+-- a branch, taken or not
+abbrev pub branch_of : ℕ → Bool → ℤ → Action
+branch_of pc takes offset =
+    let target = moved_of pc offset in if takes then jump_of target (Go target) else Go (next_pc_of pc)
+
 -- an access to so many bytes traps where its address is no multiple of them, and then where they are not
 -- all in memory
 abbrev pub checked_of : Span → ℕ → ℕ → ℕ → ℕ → Action → Action
@@ -56,6 +62,13 @@ load_of span address size action = checked_of span address size load_address_mis
 
 abbrev pub store_of : Span → ℕ → ℕ → Action → Action
 store_of span address size action = checked_of span address size store_address_misaligned store_access_fault action
+
+-- a store of the low bytes of a value, and an atomic operation on a word
+abbrev pub store_value_of : Span → ℕ → ℕ → ℕ → Action
+store_value_of span address size value = store_of span address size (Store address size value)
+
+abbrev pub update_of : Span → AmoOp → Reg → ℕ → ℕ → Action
+update_of span op rd address source = store_of span address 4 (Amo op rd address source)
 
 -- whether a word is the one that the hart reserved
 abbrev pub has_reserved_of : Option ℕ → ℕ → Bool
@@ -76,13 +89,11 @@ action_of (insns.Jal rd offset) pc regs reserved span room =
 action_of (insns.Jalr rd rs1 offset) pc regs reserved span room =
     let target = indirect_of (moved_of (get regs rs1.number) offset) in jump_of target (JumpAndLink rd target)
 action_of (insns.Branch test rs1 rs2 offset) pc regs reserved span room =
-    let target = moved_of pc offset in
-    if taken_of test (get regs rs1.number) (get regs rs2.number) then jump_of target (Go target) else Go (next_pc_of pc)
+    branch_of pc (taken_of test (get regs rs1.number) (get regs rs2.number)) offset
 action_of (insns.Load width rd rs1 offset) pc regs reserved span room =
     let address = moved_of (get regs rs1.number) offset in load_of span address (load_size_of width) (Load width rd address)
 action_of (insns.Store width rs1 rs2 offset) pc regs reserved span room =
-    let address = moved_of (get regs rs1.number) offset in
-    store_of span address (store_size_of width) (Store address (store_size_of width) (get regs rs2.number))
+    store_value_of span (moved_of (get regs rs1.number) offset) (store_size_of width) (get regs rs2.number)
 action_of (insns.OpImm op rd rs1 imm) pc regs reserved span room =
     Put rd (alu_of op (get regs rs1.number) (cast_unsigned w32 imm))
 action_of (insns.Op op rd rs1 rs2) pc regs reserved span room =
@@ -96,7 +107,7 @@ action_of (insns.Sc rd rs1 rs2 aq rl) pc regs reserved span room =
     let address = get regs rs1.number in
     store_of span address 4 (conditional_of reserved rd address (get regs rs2.number))
 action_of (insns.Amo op rd rs1 rs2 aq rl) pc regs reserved span room =
-    let address = get regs rs1.number in store_of span address 4 (Amo op rd address (get regs rs2.number))
+    update_of span op rd (get regs rs1.number) (get regs rs2.number)
 
 -- the instruction that a hart has come to, where the word at its pc is one
 abbrev pub insn_action_of : Option Insn → HartView → Span → ℕ → Action

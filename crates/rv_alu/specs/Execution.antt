@@ -1,5 +1,5 @@
 -- what one instruction of a hart does, over any memory
-use Rattle.std.specs.Prelude.{◌≡◌, ℕ, Option, None, Some, option_map}
+use Rattle.std.specs.Prelude.{ℕ, Option, None, Some, option_map}
 use Rattle.rv_word.specs.Decoding.{decoded}
 use Rattle.rv_word.specs.declared.insn.Insn.{Insn}
 use Rattle.rv_alu.specs.declared.action.Action.{Action}

@@ -1,6 +1,9 @@
 use crate::abi::A0;
 use crate::cause::{BREAKPOINT, ILLEGAL_INSTRUCTION, INSTRUCTION_ACCESS_FAULT};
-use crate::checks::{conditional, indirect, jump, load, load_size, next_pc, store, store_size};
+use crate::checks::{
+    branch, conditional, indirect, jump, load, load_size, next_pc, store, store_size, store_value,
+    update,
+};
 use crate::effects::{advance, link, put, release};
 use crate::footprint::Access;
 use crate::operation::{alu, amo, extend, moved, taken};
@@ -146,16 +149,7 @@ impl Action {
                 rs1,
                 rs2,
                 offset,
-            } => {
-                if taken(test, regs.get(rs1), regs.get(rs2)) {
-                    let target = moved(pc, offset);
-                    jump(target, Action::Go { target })
-                } else {
-                    Action::Go {
-                        target: next_pc(pc),
-                    }
-                }
-            }
+            } => { branch(pc, taken(test, regs.get(rs1), regs.get(rs2)), offset) }
             Insn::Load {
                 width,
                 rd,
@@ -163,12 +157,8 @@ impl Action {
                 offset,
             } => {
                 let address = moved(regs.get(rs1), offset);
-                load(
-                    span,
-                    address,
-                    load_size(width),
-                    Action::Load { width, rd, address },
-                )
+                let action = Action::Load { width, rd, address };
+                load(span, address, load_size(width), action)
             }
             Insn::Store {
                 width,
@@ -177,18 +167,7 @@ impl Action {
                 offset,
             } => {
                 let address = moved(regs.get(rs1), offset);
-                let len = store_size(width);
-                let value = regs.get(rs2);
-                store(
-                    span,
-                    address,
-                    len,
-                    Action::Store {
-                        address,
-                        len,
-                        value,
-                    },
-                )
+                store_value(span, address, store_size(width), regs.get(rs2))
             }
             Insn::OpImm { op, rd, rs1, imm } => Action::Put {
                 rd,
@@ -208,9 +187,8 @@ impl Action {
                 load(span, address, 4, Action::LoadReserved { rd, address })
             }
             Insn::Sc { rd, rs1, rs2, .. } => {
-                let address = regs.get(rs1);
-                let action = conditional(reserved, rd, address, regs.get(rs2));
-                store(span, address, 4, action)
+                let action = conditional(reserved, rd, regs.get(rs1), regs.get(rs2));
+                store(span, regs.get(rs1), 4, action)
             }
             Insn::Amo {
                 op,
@@ -220,14 +198,7 @@ impl Action {
                 ..
             } => {
                 let address = regs.get(rs1);
-                let source = regs.get(rs2);
-                let action = Action::Amo {
-                    op,
-                    rd,
-                    address,
-                    source,
-                };
-                store(span, address, 4, action)
+                update(span, op, rd, address, regs.get(rs2))
             }
         }
     }

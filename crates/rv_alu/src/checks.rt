@@ -1,5 +1,5 @@
 ghost use Rattle.std.specs.Prelude.{◌≡◌, ◌≤◌};
-ghost use Rattle.rv_alu.specs.Action.{checked_of, conditional_of, has_reserved_of, indirect_of, jump_of, load_of, load_size_of, next_pc_of, store_of, store_size_of};
+ghost use Rattle.rv_alu.specs.Action.{branch_of, checked_of, conditional_of, has_reserved_of, indirect_of, jump_of, load_of, load_size_of, next_pc_of, store_of, store_size_of, store_value_of, update_of};
 ghost use Rattle.rv_alu.specs.Execution.{touched};
 ghost use Rattle.rv_alu.specs.Footprint.{IsFootprint, access_of};
 
@@ -9,10 +9,11 @@ use crate::cause::{
     STORE_ADDRESS_MISALIGNED,
 };
 use crate::footprint::Access;
+use crate::operation::moved;
 use crate::regs::Regs;
 use crate::span::Span;
 use crate::view::HartView;
-use rv_word::{Insn, LoadWidth, Reg, StoreWidth, decode};
+use rv_word::{AmoOp, Insn, LoadWidth, Reg, StoreWidth, decode};
 
 /// What an instruction at `pc` would touch, or how it would stop its hart, before anything happens:
 /// the footprint of [`Action::of`] with the same arguments. An SC that does not trap touches its word
@@ -94,6 +95,20 @@ pub fn jump(target: u32, action: Action) -> Action
     }
 }
 
+/// A branch, taken or not.
+pub fn branch(pc: u32, takes: bool, offset: i32) -> Action
+    ensures { result ≡ branch_of pc takes offset }
+{
+    if takes {
+        let target = moved(pc, offset);
+        jump(target, Action::Go { target })
+    } else {
+        Action::Go {
+            target: next_pc(pc),
+        }
+    }
+}
+
 /// A load of so many bytes, or its trap.
 pub fn load(span: Span, address: u32, size: u32, action: Action) -> Action
     requires { 1 ≤ size }
@@ -122,6 +137,32 @@ pub fn store(span: Span, address: u32, size: u32, action: Action) -> Action
         STORE_ACCESS_FAULT,
         action,
     )
+}
+
+/// A store of the low bytes of a value, or its trap.
+pub fn store_value(span: Span, address: u32, size: u32, value: u32) -> Action
+    requires { 1 ≤ size }
+    ensures { result ≡ store_value_of span address size value }
+{
+    let action = Action::Store {
+        address,
+        len: size,
+        value,
+    };
+    store(span, address, size, action)
+}
+
+/// An atomic operation on a word, or its trap.
+pub fn update(span: Span, op: AmoOp, rd: Reg, address: u32, source: u32) -> Action
+    ensures { result ≡ update_of span op rd address source }
+{
+    let action = Action::Amo {
+        op,
+        rd,
+        address,
+        source,
+    };
+    store(span, address, 4, action)
 }
 
 /// An access to so many bytes, or its trap: with the one cause where the address is no multiple of

@@ -32,7 +32,8 @@ pub applied_in_turn : (state : FlatState) (hart : ℕ) (action : Action) (new : 
     record state {
       harts = unreserved_by store (slice_set state.harts hart new);
       bytes = stored_by store state.base state.bytes;
-      output = appended_by append state.base state.bytes state.output }
+      output = appended_by append state.base state.bytes state.output;
+    }
     ≡ applied state hart (view_of state hart) (execution_of state (view_of state hart))
 unfolding executed
 applied_in_turn state hart action new store append is done =

@@ -48,7 +48,8 @@ own_applied state hart view other left right same =
     let After : List HartView → Option Store → Option Append → FlatState = λ harts store append. record state {
       harts = slice_set harts hart new;
       bytes = stored_by store state.base state.bytes;
-      output = appended_by append state.base state.bytes state.output } in
+      output = appended_by append state.base state.bytes state.output;
+    } in
     ap (λ harts. After harts store (append_in left)) (unreserved_by-set store state.harts hart other)
     ∙ ap (λ harts. record (After harts store (append_in left)) { harts = harts }) (set-set (unreserved_by store state.harts) hart (seen_by store other) new)
     ∙ ap (λ store. After (unreserved_by store state.harts) store (append_in left)) same.store
@@ -80,12 +81,13 @@ own_status state hart reserved Running there none =
     let left : Execution = execution_of state other in
     let right : Execution = execution_of state view in
     let same : IsSameButReservation left right other view =
-    executed-reserved (code_word state.code view.pc) view reserved (span_of state) (room_of state) (byte_in state.base state.bytes) none in
-    ((view_after left other).reserved,
-    own_applied state hart view other left right same
-    ∙ ap (with_view (applied state hart view right) hart) same.seen
-    ∙ ap (λ seen. with_view (applied state hart view right) hart (record seen { reserved = (view_after left other).reserved }))
-    (sym (view-applied state hart view right there)))
+    executed-reserved (code_word state.code view.pc) view reserved (span_of state) (room_of state) (byte_in state.base state.bytes) none in (
+      (view_after left other).reserved,
+      own_applied state hart view other left right same
+          ∙ ap (with_view (applied state hart view right) hart) same.seen
+          ∙ ap (λ seen. with_view (applied state hart view right) hart (record seen { reserved = (view_after left other).reserved }))
+          (sym (view-applied state hart view right there)),
+    )
 own_status state hart reserved (Exited code) there none = (reserved, refl)
 own_status state hart reserved (Trapped cause pc) there none = (reserved, refl)
 
@@ -100,11 +102,12 @@ other_status state hart other reserved Running there apart =
     let after : FlatState = applied state other (view_of state other) execution in
     let seen : view_of after hart ≡ seen_by store (view_of state hart) =
     get_or-set_other (unreserved_by store state.harts) other hart (view_after execution (view_of state other)) no_hart (λ same. apart (sym same))
-    ∙ unreserved_by-get store state.harts hart in
-    ((seen_by store view).reserved,
-    other_applied state hart other view (view_of state other) execution apart
-    ∙ ap (with_view after hart) (seen_by-reserved store (view_of state hart) reserved)
-    ∙ ap (λ view. with_view after hart (record view { reserved = (seen_by store (record (view_of state hart) { reserved = reserved })).reserved })) (sym seen))
+    ∙ unreserved_by-get store state.harts hart in (
+      (seen_by store view).reserved,
+      other_applied state hart other view (view_of state other) execution apart
+          ∙ ap (with_view after hart) (seen_by-reserved store (view_of state hart) reserved)
+          ∙ ap (λ view. with_view after hart (record view { reserved = (seen_by store (record (view_of state hart) { reserved = reserved })).reserved })) (sym seen),
+    )
 other_status state hart other reserved (Exited code) there apart = (reserved, refl)
 other_status state hart other reserved (Trapped cause pc) there apart = (reserved, refl)
 

@@ -184,8 +184,9 @@ impl Flat {
     fn store(&mut self, store: Option<Store>)
         requires { IfSome store (IsStoreIn (span_of self.old)) }
         ensures { self.new ≡ record self.old {
-            harts = unreserved_by store self.old.harts;
-            bytes = stored_by store self.old.base self.old.bytes } }
+          harts = unreserved_by store self.old.harts;
+          bytes = stored_by store self.old.base self.old.bytes;
+        } }
     {
         if let Some(store) = store {
             let place = (store.address - self.base) as usize;

@@ -9,7 +9,7 @@ use Rattle.elf_image.specs.declared.header.FileHeader.{FileHeader}
 use Rattle.elf_image.specs.declared.program_header.ProgramHeader.{ProgramHeader}
 use Rattle.elf_image.specs.declared.layout.Layout.{Layout}
 use Rattle.elf_image.specs.FaultKinds.{fault_of}
-use Rattle.elf_image.specs.Header.{file_header, program_headers}
+use Rattle.elf_image.specs.Header.{elf_magic, file_header, program_headers}
 use Rattle.elf_image.specs.Layout.{is_load, is_dynamic, has_instruction, segments_of, first_overlap, layout_of, size_of}
 use Rattle.elf_image.specs.Limits.{end_limit, header_limit, memory_limit}
 
@@ -22,10 +22,6 @@ differs value wanted = not (value == wanted)
 -- the file has the 52 bytes of an ELF header; the place of this fault is the file's length
 abbrev pub short_fault : List ℕ → Option FileFault
 short_fault file = some_if (nat_lt (length file) 52) (fault_of Short (length file))
-
--- the bytes 0x7f, 'E', 'L', 'F'
-abbrev pub elf_magic : List ℕ
-elf_magic = 0x7f ∷ 0x45 ∷ 0x4c ∷ 0x46 ∷ []
 
 -- the place of the first byte that is not ELF's magic one
 abbrev pub magic_difference : List ℕ → Option ℕ

@@ -40,10 +40,15 @@ headers_at file place count = map (λ index. program_header file (place + 32 * i
 unfoldable pub program_headers : List ℕ → List ProgramHeader
 program_headers file = headers_at file (file_header file).e_phoff (file_header file).e_phnum
 
+-- the bytes 0x7f, 'E', 'L', 'F'
+abbrev pub elf_magic : List ℕ
+elf_magic = 0x7f ∷ 0x45 ∷ 0x4c ∷ 0x46 ∷ []
+
 -- the bytes of an ELF header of class ELFCLASS32 in a file without sections
 unfoldable pub file_header_bytes : FileHeader → List ℕ
 file_header_bytes header =
-    (0x7f ∷ 0x45 ∷ 0x4c ∷ 0x46 ∷ 1 ∷ 1 ∷ 1 ∷ [])
+    elf_magic
+    ++ (1 ∷ 1 ∷ 1 ∷ [])
     ++ replicate 9 0
     ++ half_bytes (header.e_type ∷ header.e_machine ∷ [])
     ++ word_bytes (header.e_version ∷ header.e_entry ∷ header.e_phoff ∷ 0 ∷ header.e_flags ∷ [])

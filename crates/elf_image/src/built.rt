@@ -79,7 +79,7 @@ impl Built {
             p_vaddr: self.base,
             p_filesz: self.words_len(),
             p_memsz: self.words_len(),
-            p_flags: PF_R + PF_X,
+            p_flags: PF_R | PF_X,
         }
     }
 
@@ -96,7 +96,7 @@ impl Built {
             p_vaddr: self.data_start(),
             p_filesz: len,
             p_memsz: len + self.zeros,
-            p_flags: PF_R + PF_W,
+            p_flags: PF_R | PF_W,
         }
     }
 

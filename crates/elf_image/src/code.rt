@@ -1,43 +1,37 @@
-ghost use Rattle.std.specs.Prelude.{◌≡◌, ◌++◌, [], ◌∷◌, OnOk, OnErr, IfOk};
+ghost use Rattle.std.specs.Prelude.{◌≡◌, IfOk};
 ghost use Rattle.elf_image.specs.Program.{code_word};
 
 use crate::code_segment::CodeSegment;
 use el_base::NoMemory;
 use std::alloc::Global;
 use std::marker::Model;
+use std::sync::Arc;
 
-/// What instructions are fetched from: the executable segments as loaded, which no store changes.
+/// What instructions are fetched from: the executable segments as loaded, which no store changes. Every
+/// machine of an image shares them.
 #[derive(Debug, Drop)]
 pub struct Code {
-    segments: Vec<CodeSegment>,
+    segments: Arc<Vec<CodeSegment>>,
 }
 
 impl Model for Code {
     ghost use Rattle.std.specs.Prelude.{List};
+    ghost use Rattle.std.specs.Arc.{arc_value};
     ghost use Rattle.elf_image.specs.Program.{CodeSegment};
 
     ghost Value = { List CodeSegment };
 
-    ghost view = { λ a. a.segments.items };
+    ghost view = { λ a. (arc_value a.segments).items };
 }
 
 impl Code {
-    /// No segment.
-    pub(crate) fn new(alloc: Global) -> Code
-        ensures { result ≡ [] }
+    /// The code of these segments.
+    pub(crate) fn new(alloc: Global, segments: Vec<CodeSegment>) -> Result<Code, NoMemory>
+        ensures { IfOk result (λ code. code ≡ segments.items) }
     {
-        Code {
-            segments: Vec::new(alloc),
-        }
-    }
-
-    /// Puts a segment behind the others. After an error the code is as it was.
-    pub(crate) fn push(&mut self, segment: CodeSegment) -> Result<(), NoMemory>
-        ensures pushed { OnOk result (self.new ≡ self.old ++ segment ∷ []) }
-        ensures unchanged_after_error { OnErr result (self.new ≡ self.old) }
-    {
-        self.segments.push(segment)?;
-        Ok(())
+        Ok(Code {
+            segments: Arc::new(alloc, segments)?,
+        })
     }
 
     /// The segments, in the order of the file's table.
@@ -53,20 +47,19 @@ impl Code {
     pub fn code_word(&self, pc: u32) -> Option<u32>
         ensures { result ≡ code_word self.now pc }
     {
-        self.segments
+        self.segments()
             .iter()
             .find(|segment| segment.has_word(pc))
             .map(|segment| segment.word(pc))
     }
 
-    /// A copy of its own.
-    pub fn try_clone(&self, alloc: Global) -> Result<Code, NoMemory>
-        ensures { IfOk result (λ copy. copy ≡ self.now) }
+    /// The same segments once more, which takes no memory. The one error is that they have as many owners
+    /// as can be counted.
+    pub fn share(&self) -> Result<Code, NoMemory>
+        ensures { IfOk result (λ shared. shared ≡ self.now) }
     {
-        let mut segments = Vec::new(alloc);
-        for segment in &self.segments {
-            segments.push(segment.try_clone(alloc)?)?;
-        }
-        Ok(Code { segments })
+        Ok(Code {
+            segments: Arc::try_clone(&self.segments)?,
+        })
     }
 }

@@ -1,9 +1,7 @@
-ghost use Rattle.std.specs.Prelude.{◌≡◌, ◌+◌, ◌≤◌, IsTrue, IfOk, length};
+ghost use Rattle.std.specs.Prelude.{◌≡◌, ◌+◌, ◌≤◌, IsTrue, length};
 ghost use Rattle.elf_image.specs.Program.{has_word, segment_word};
 
 use crate::bytes::word_at;
-use el_base::NoMemory;
-use std::alloc::Global;
 use std::marker::Model;
 
 /// An executable segment as loaded: its first address and its bytes.
@@ -56,16 +54,5 @@ impl CodeSegment {
         ensures { result ≡ segment_word pc self.now }
     {
         word_at(&self.bytes, (pc - self.start) as usize)
-    }
-
-    /// A copy of its own.
-    pub fn try_clone(&self, alloc: Global) -> Result<CodeSegment, NoMemory>
-        ensures { IfOk result (λ copy. copy ≡ self.now) }
-    {
-        let bytes = Vec::from_slice(alloc, &self.bytes)?;
-        Ok(CodeSegment {
-            start: self.start,
-            bytes,
-        })
     }
 }

@@ -15,26 +15,6 @@ use el_base::{FileFault, NoMemory};
 /// The bytes of an ELF header of class ELFCLASS32.
 pub const FILE_HEADER_LEN: usize = 52;
 
-/// The bytes e_ident of a file that is written.
-const IDENT: [u8; 16] = [
-    0x7f,
-    b'E',
-    b'L',
-    b'F',
-    ELFCLASS32,
-    ELFDATA2LSB,
-    EV_CURRENT,
-    0,
-    0,
-    0,
-    0,
-    0,
-    0,
-    0,
-    0,
-    0,
-];
-
 /// The first four bytes of an ELF file, EI_MAG0 to EI_MAG3.
 const ELF_MAGIC: [u8; 4] = [0x7f, b'E', b'L', b'F'];
 
@@ -73,6 +53,9 @@ pub const EV_CURRENT: u8 = 1;
 pub const ET_EXEC: u16 = 2;
 
 pub const EM_RISCV: u16 = 243;
+
+/// The bytes of e_ident behind EI_VERSION.
+const IDENT_PADDING: usize = 9;
 
 /// The flags of compressed instructions (EF_RISCV_RVC), of a floating-point ABI
 /// (EF_RISCV_FLOAT_ABI) and of the embedded base (EF_RISCV_RVE). That of total store order, 0x10, is
@@ -118,7 +101,9 @@ impl FileHeader {
     pub fn write(&self, file: &mut Vec<u8>) -> Result<(), NoMemory>
         ensures { OnOk result (file.new.items ≡ file.old.items ++ file_header_bytes self.now) }
     {
-        file.extend_from_slice(&IDENT)?;
+        file.extend_from_slice(&ELF_MAGIC)?;
+        file.extend_from_slice(&[ELFCLASS32, ELFDATA2LSB, EV_CURRENT])?;
+        file.extend_from_slice(&[0; IDENT_PADDING])?;
         push_halves(file, &[self.e_type, self.e_machine])?;
         push_words(
             file,

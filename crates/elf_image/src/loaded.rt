@@ -73,7 +73,7 @@ pub fn load_code(
     ensures { IfOk result (λ code.
         code ≡ map (code_segment base bytes.now) (filter is_executable segments.now)) }
 {
-    let mut code = Code::new(alloc);
+    let mut code = Vec::new(alloc);
     for segment in segments {
         if segment.is_executable() {
             let from = (segment.p_vaddr - base) as usize;
@@ -82,5 +82,5 @@ pub fn load_code(
             code.push(CodeSegment::new(segment.p_vaddr, copy))?;
         }
     }
-    Ok(code)
+    Code::new(alloc, code)
 }

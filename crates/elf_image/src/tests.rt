@@ -204,9 +204,9 @@ fn the_file_is_loaded_behind_zeros(rt: HostRuntime) -> Result<(), Fail> {
     ] {
         assert_eq!(rt; image.code_word(pc), word, "at {pc:#x}");
     }
-    let copy = image.code().try_clone(rt.alloc()).ok().ok_or("no memory")?;
-    assert_eq!(rt; copy.segments().len(), 1);
-    for segment in copy.segments() {
+    let shared = image.code().share().ok().ok_or("no memory")?;
+    assert_eq!(rt; shared.segments().len(), 1);
+    for segment in shared.segments() {
         assert_eq!(rt; segment.start(), 0x10000);
         assert_eq!(rt; segment.bytes(), FILE.as_slice());
     }

@@ -56,7 +56,7 @@ impl Flat {
             harts: first_views(alloc, image)?,
             base: image.base(),
             bytes: Vec::from_slice(alloc, image.bytes())?,
-            code: image.code().try_clone(alloc)?,
+            code: image.code().share()?,
             output: Vec::with_capacity(alloc, OUTPUT_LIMIT)?,
         })
     }

@@ -1,6 +1,6 @@
 -- numbers for fields of one byte: one that is no byte is out of the field's range
-use Rattle.std.proofs.Common.{◌≡◌, ℕ, Bool, true, false, refl, arith, ltb, eqb}
-use Rattle.std.specs.List.{list_any}
+use Rattle.std.proofs.Common.{◌≡◌, ℕ, ◌&&◌, ◌||◌, Bool, true, false, List, [], ◌∷◌, refl, ap₂, arith, ltb, eqb}
+use Rattle.std.specs.List.{list_all, list_any}
 use Rattle.std.proofs.lemmas.Bool.Decides.{nat_tests}
 use Rattle.el_base.specs.Config.{config_fault, set_counts, usual, within}
 use Rattle.el_base.specs.declared.config.Config.{Config}
@@ -17,16 +17,25 @@ within_8 n = go (ltb n 256) refl
 abbrev is_count : ℕ → Bool
 is_count n = list_any (λ count. eqb count n) set_counts
 
-other_count : (n count : ℕ) → ltb n 256 ≡ false → ltb count 256 ≡ true → eqb count n ≡ false
-other_count n count large small = grind (arith, nat_tests)
+-- a number that is no byte is none of some bytes
+no_byte : (n : ℕ) → ltb n 256 ≡ false → (bytes : List ℕ) → list_all (λ byte. ltb byte 256) bytes ≡ true → list_any (λ byte. eqb byte n) bytes ≡ false
+no_byte n large [] small = refl
+no_byte n large (byte ∷ bytes) small =
+    ap₂ (λ a b. a || b) (differs byte (both (ltb byte 256) _ small).0) (no_byte n large bytes (both (ltb byte 256) _ small).1)
+  where
+    both : (a b : Bool) → (a && b) ≡ true → (a ≡ true) × (b ≡ true)
+    both true b e = (refl, e)
+    both false b e = absurd cc
+
+    differs : (byte : ℕ) → ltb byte 256 ≡ true → eqb byte n ≡ false
+    differs byte is = grind (arith, nat_tests)
 
 counts : (n : ℕ) → is_count (byte_or_none n) ≡ is_count n
 counts n = go (ltb n 256) refl
   where
     go : (b : Bool) → ltb n 256 ≡ b → is_count (byte_or_none n) ≡ is_count n
     go true e = rw e refl
-    go false e =
-        rw (e, other_count n 1 e refl, other_count n 2 e refl, other_count n 4 e refl, other_count n 8 e refl, other_count n 16 e refl, other_count n 32 e refl, other_count n 64 e refl) refl
+    go false e = rw (e, no_byte n e set_counts refl) refl
 
 abbrev pub plain_config : ℕ → ℕ → ℕ → ℕ → Config
 plain_config harts sets ways steps = record usual { harts = harts; mode = Plain; sets = sets; ways = ways; steps = steps }

@@ -35,10 +35,14 @@ single id long index required = record {
 abbrev pub built_option : Text → Rule
 built_option name = single name (Some name) None false
 
+-- the place after a place
+abbrev pub next_place : ℕ → ℕ
+next_place place = min (place + 1) usize_max
+
 -- the positional words, numbered from a place on
 abbrev pub numbered : ℕ → List Text → List Rule
 numbered place [] = []
-numbered place (name ∷ names) = single name None (Some place) true ∷ numbered (min (place + 1) usize_max) names
+numbered place (name ∷ names) = single name None (Some place) true ∷ numbered (next_place place) names
 
 abbrev pub built_rules : Form → List Rule
 built_rules form = numbered 1 form.positionals ++ map built_option form.options
@@ -50,7 +54,7 @@ filled_options place (name ∷ names) = ap (λ rest. built_option name ∷ rest)
 filled_rules : (place : ℕ) (names options : List Text)
     → filled_from place (map positional_rule names ++ map option_rule options) ≡ numbered place names ++ map built_option options
 filled_rules place [] options = filled_options place options
-filled_rules place (name ∷ names) options = ap (λ rest. single name None (Some place) true ∷ rest) (filled_rules (min (place + 1) usize_max) names options)
+filled_rules place (name ∷ names) options = ap (λ rest. single name None (Some place) true ∷ rest) (filled_rules (next_place place) names options)
 
 pub filled_form : (form : Form) → filled_from 1 (rules_of form) ≡ built_rules form
 filled_form form = filled_rules 1 form.positionals form.options
@@ -59,7 +63,7 @@ filled_form form = filled_rules 1 form.positionals form.options
 
 no_long : (place : ℕ) (names : List Text) (rest : List Rule) (name : Text) → arg_by_long (numbered place names ++ rest) name ≡ arg_by_long rest name
 no_long place [] rest name = refl
-no_long place (other ∷ names) rest name = no_long (min (place + 1) usize_max) names rest name
+no_long place (other ∷ names) rest name = no_long (next_place place) names rest name
 
 abbrev pub option_named : Text → Bool → Option Rule
 option_named name there = cond there (Some (built_option name)) None
@@ -83,7 +87,7 @@ no_short_option (name ∷ options) x = no_short_option options x
 
 no_short : (place : ℕ) (names options : List Text) (x : ℕ) → arg_by_short (numbered place names ++ map built_option options) x ≡ None
 no_short place [] options x = no_short_option options x
-no_short place (name ∷ names) options x = no_short (min (place + 1) usize_max) names options x
+no_short place (name ∷ names) options x = no_short (next_place place) names options x
 
 pub short_of_form : (form : Form) (x : ℕ) → arg_by_short (built_rules form) x ≡ None
 short_of_form form x = no_short 1 form.positionals form.options x
@@ -112,13 +116,13 @@ known_option (other ∷ options) id among =
 known_after : (place : ℕ) (names : List Text) (rest : List Rule) (id : Text) → IsKnown rest id → IsKnown (numbered place names ++ rest) id
 known_after place [] rest id known = known
 known_after place (other ∷ names) rest id known =
-    known_first None (Some place) true other id (numbered (min (place + 1) usize_max) names ++ rest) (λ differs. known_after (min (place + 1) usize_max) names rest id known)
+    known_first None (Some place) true other id (numbered (next_place place) names ++ rest) (λ differs. known_after (next_place place) names rest id known)
 
 known_word : (place : ℕ) (names : List Text) (rest : List Rule) (id : Text) → is_among id names ≡ true → IsKnown (numbered place names ++ rest) id
 known_word place [] rest id among = cc
 known_word place (other ∷ names) rest id among =
-    known_first None (Some place) true other id (numbered (min (place + 1) usize_max) names ++ rest)
-    (λ differs. known_word (min (place + 1) usize_max) names rest id (rw differs at among))
+    known_first None (Some place) true other id (numbered (next_place place) names ++ rest)
+    (λ differs. known_word (next_place place) names rest id (rw differs at among))
 
 pub option_known : (form : Form) (id : Text) → is_among id form.options ≡ true → IsKnown (built_rules form) id
 option_known form id among = known_after 1 form.positionals (map built_option form.options) id (known_option form.options id among)
@@ -129,7 +133,7 @@ option_known form id among = known_after 1 form.positionals (map built_option fo
 abbrev pub Reads : List Rule → ℕ → List Text → Type 0
 Reads rules place [] = arg_by_index rules place ≡ None
 Reads rules place (name ∷ names) =
-    (arg_by_index rules place ≡ Some (single name None (Some place) true)) × IsKnown rules name × Reads rules (min (place + 1) usize_max) names
+    (arg_by_index rules place ≡ Some (single name None (Some place) true)) × IsKnown rules name × Reads rules (next_place place) names
 
 -- none of the rules has this place or one after it
 abbrev Below : List Rule → ℕ → Type 0
@@ -148,13 +152,14 @@ no_index [] at = refl
 no_index (name ∷ options) at = no_index options at
 
 reads : (rules before : List Rule) (place : ℕ) (names options : List Text) → place + length names ≤ usize_max → Below before place
-    → rules ≡ before ++ (numbered place names ++ map built_option options) → ((id : Text) → is_among id names ≡ true → IsKnown rules id) → Reads rules place names
+    → rules ≡ before ++ (numbered place names ++ map built_option options) → ((id : Text) → is_among id names ≡ true → IsKnown rules id)
+    → Reads rules place names
 reads rules before place [] options few below is known =
     ap (λ all. arg_by_index all place) is ∙ below place (map built_option options) (omega arith) ∙ no_index options place
 reads rules before place (name ∷ names) options few below is known =
-    let next : min (place + 1) usize_max ≡ place + 1 = omega arith in
+    let next : next_place place ≡ place + 1 = omega arith in
     let first = single name None (Some place) true in
-    let rest = numbered (min (place + 1) usize_max) names ++ map built_option options in (
+    let rest = numbered (next_place place) names ++ map built_option options in (
       ap (λ all. arg_by_index all place) is ∙ below place (first ∷ rest) (omega arith) ∙ rw (same place) refl,
       known name (rw ((bytes_eq-Decides name name).1 refl) refl),
       rw next (reads rules (before ++ first ∷ []) (place + 1) names options (omega arith) (below_more before place name below)

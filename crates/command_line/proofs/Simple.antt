@@ -8,7 +8,8 @@ use Rattle.command_line.specs.Fields.{Form}
 use Rattle.command_line.specs.Simple.{app_by, option_rule, positional_rule}
 use Rattle.command_line.proofs.Rules.{built_option, built_rules, filled_form, numbered, single}
 
-all_options : (test : Rule → Bool) (rule : Text → Rule) → ((name : Text) → test (rule name) ≡ true) → (names : List Text) → list_all test (map rule names) ≡ true
+all_options : (test : Rule → Bool) (rule : Text → Rule) → ((name : Text) → test (rule name) ≡ true) → (names : List Text)
+    → list_all test (map rule names) ≡ true
 all_options test rule passes [] = refl
 all_options test rule passes (name ∷ names) = ap₂ (λ a b. a && b) (passes name) (all_options test rule passes names)
 
@@ -17,14 +18,16 @@ all_rules : (test : Rule → Bool) → ((name : Text) → test (positional_rule 
 all_rules test words others [] options = all_options test option_rule others options
 all_rules test words others (name ∷ names) options = ap₂ (λ a b. a && b) (words name) (all_rules test words others names options)
 
-all_built : (test : Rule → Bool) → ((id : Text) (long : Option Text) (index : Option ℕ) (required : Bool) → test (single id long index required) ≡ true)
+all_built : (test : Rule → Bool)
+    → ((id : Text) (long : Option Text) (index : Option ℕ) (required : Bool) → test (single id long index required) ≡ true)
     → (place : ℕ) (names options : List Text) → list_all test (numbered place names ++ map built_option options) ≡ true
 all_built test passes place [] options = all_options test built_option (λ name. passes name (Some name) None false) options
 all_built test passes place (name ∷ names) options =
     ap₂ (λ a b. a && b) (passes name None (Some place) true) (all_built test passes (min (place + 1) usize_max) names options)
 
 -- no argument takes several values
-none_early : (count : ℕ) (place : ℕ) (names options : List Text) → list_any (is_early_multiple count) (numbered place names ++ map built_option options) ≡ false
+none_early : (count : ℕ) (place : ℕ) (names options : List Text)
+    → list_any (is_early_multiple count) (numbered place names ++ map built_option options) ≡ false
 none_early count place [] [] = refl
 none_early count place [] (name ∷ options) = none_early count place [] options
 none_early count place (name ∷ names) options = none_early count (min (place + 1) usize_max) names options

@@ -1,45 +1,52 @@
 -- what a form takes of the words is what `clap` takes
-use Rattle.std.proofs.Common.{◌≡◌, ◌∙◌, ℕ, ◌<◌, Bool, cond, true, false, List, [], ◌∷◌, map, length, Option, None, Some, refl, ap, sym, subst}
+use Rattle.std.proofs.Common.{◌≡◌, ◌∙◌, ℕ, ◌<◌, Bool, cond, true, false, List, [], ◌∷◌, map, length, Option, None, Some, refl, ap, sym}
 use Rattle.std.specs.Str.{IsUtf8}
 use Rattle.std.specs.Option.{option_and_then}
 use Rattle.clap.specs.Faults.{fault_of, level_fault}
 use Rattle.clap.specs.Lexer.{usize_max}
 use Rattle.clap.specs.Simple.{Shape, built, matches_of}
-use Rattle.clap.specs.Walk.{Rule, Text}
+use Rattle.clap.specs.Walk.{Rule, Text, Walk}
 use Rattle.clap.specs.Walk as clap
 use Rattle.clap.proofs.FaultLemmas.{leaf_fault}
-use Rattle.command_line.specs.Fields.{Field, Form, are_whole, fields_in, fields_of, is_among}
+use Rattle.command_line.specs.Fields.{Field, Form, are_whole, field_of, fields_in, fields_of, is_among}
 use Rattle.command_line.specs.Pieces.{Piece, Positional, Look, End, Long, Short, Plain, look_of, piece_then, pieces_after, pieces_of, value_then}
 use Rattle.command_line.specs.Simple.{app_by}
 use Rattle.command_line.proofs.Ending.{ends}
 use Rattle.command_line.proofs.Looks.{LooksLike, looks}
+use Rattle.command_line.proofs.Options.{attached_goes, short_fails, unknown_fails, wanting_goes, wants}
+use Rattle.command_line.proofs.Positionals.{plain_word, trailing_word, word_goes}
 use Rattle.command_line.proofs.Rules.{Reads, built_rules, filled_form, form_reads, option_known}
-use Rattle.command_line.proofs.Turns.{attached_goes, named_goes, plain_word, short_fails, trailing_word, unknown_fails, wants, word_goes}
 use Rattle.command_line.proofs.Uses.{IsKnownLast, holds}
-use Rattle.command_line.proofs.Waiting.{end_moves, end_turn, value_goes, wants_ends}
-use Rattle.command_line.proofs.Walking.{Agrees, Continues, agrees_along, at, built_shape, fields_after, goes_on, kinds_at_start, rows_at_start, stops, unknown_option}
+use Rattle.command_line.proofs.Waiting.{end_kinds, end_moves, value_goes, wants_ends}
+use Rattle.command_line.proofs.Walking.{Agrees, Continues, agrees_along, at, built_shape, fields_after, gives_as, goes_on, kinds_at_start, named, rows_at_start, stops, unknown_option}
 
 -- each word is a text
 abbrev pub AreTexts : List Text → Type 0
 AreTexts [] = Unit {0}
 AreTexts (word ∷ words) = IsUtf8 word × AreTexts words
 
+-- the walk while no option wants a value
+abbrev free_at : List Field → Option Field → ℕ → Bool → Walk
+free_at done last place trailing = at (holds done last) clap.idle place trailing
+
 module _ (form : Form) where
   -- after `--` each word is a positional one
   trails : (words : List Text) (done : List Field) (last : Option Field) (place : ℕ) (names : List Text) → IsKnownLast (built_rules form) last
       → Reads (built_rules form) place names
-      → Continues form (at (holds done last) clap.idle place true) words done last (fields_in names form.options (map Positional words))
+      → Continues form (free_at done last place true) words done last (fields_in names form.options (map Positional words))
   trails [] done last place names known reads = ends form done last place true known
   trails (word ∷ words) done last place names known reads =
       word_goes form done last place true word words names (Some (map Positional words)) known reads (trailing_word form (holds done last) place word)
-      (λ done_now name others is next. trails words done_now (Some (record { name = name; value = word })) _ others is next)
+      (λ done_now name others is next. trails words done_now (Some (field_of name word)) _ others is next)
 
   -- from any place of the walk on, where no option wants a value, and where one does
   record Walks (words : List Text) : Type 0 where
-    free : (done : List Field) (last : Option Field) (place : ℕ) (names : List Text) → IsKnownLast (built_rules form) last → Reads (built_rules form) place names
-        → Continues form (at (holds done last) clap.idle place false) words done last (option_and_then (fields_in names form.options) (pieces_after words None))
-    wanting : (done : List Field) (place : ℕ) (name : Text) (names : List Text) → is_among name form.options ≡ true → Reads (built_rules form) place names
-        → Continues form (wants done name place false) words done None (option_and_then (fields_in names form.options) (pieces_after words (Some name)))
+    free : (done : List Field) (last : Option Field) (place : ℕ) (names : List Text) → IsKnownLast (built_rules form) last
+        → Reads (built_rules form) place names
+        → Continues form (free_at done last place false) words done last (named form names (pieces_after words None))
+    wanting : (done : List Field) (place : ℕ) (name : Text) (names : List Text) → is_among name form.options ≡ true
+        → Reads (built_rules form) place names
+        → Continues form (wants done name place false) words done None (named form names (pieces_after words (Some name)))
 
   no_words : Walks []
   no_words = record {
@@ -48,67 +55,73 @@ module _ (form : Form) where
   }
 
   -- an option that the form does not have takes no value
-  no_value : (word value : Text) (names : List Text) (rest : Option Text → Option (List Piece)) (look : Look) (name : Text) → is_among name form.options ≡ false
-      → option_and_then (fields_in names form.options) (value_then name word rest look) ≡ None
-  no_value word value names rest End name unknown = refl
-  no_value word value names rest (Long other attached) name unknown = refl
-  no_value word value names rest Short name unknown = refl
-  no_value word value names rest Plain name unknown = unknown_option form name word names (rest None) unknown
+  no_value : (word : Text) (names : List Text) (rest : Option Text → Option (List Piece)) (look : Look) (name : Text)
+      → is_among name form.options ≡ false → named form names (value_then name word rest look) ≡ None
+  no_value word names rest End name unknown = refl
+  no_value word names rest (Long other attached) name unknown = refl
+  no_value word names rest Short name unknown = refl
+  no_value word names rest Plain name unknown = unknown_option form name word names (rest None) unknown
 
-  never_wanted : (words names : List Text) (name : Text) → is_among name form.options ≡ false
-      → option_and_then (fields_in names form.options) (pieces_after words (Some name)) ≡ None
+  never_wanted : (words names : List Text) (name : Text) → is_among name form.options ≡ false → named form names (pieces_after words (Some name)) ≡ None
   never_wanted [] names name unknown = refl
-  never_wanted (word ∷ words) names name unknown = no_value word word names (pieces_after words) (look_of word) name unknown
+  never_wanted (word ∷ words) names name unknown = no_value word names (pieces_after words) (look_of word) name unknown
 
-  module _ (word : Text) (words : List Text) (walks : Walks words) (utf8 : IsUtf8 word) (done : List Field) (last : Option Field) (place : ℕ) (names : List Text)
-      (known : IsKnownLast (built_rules form) last) (reads : Reads (built_rules form) place names) where
-    abbrev Goes : Option (List Field) → Type 0
-    Goes fields = Continues form (at (holds done last) clap.idle place false) (word ∷ words) done last fields
+  module _ (word : Text) (words : List Text) (walks : Walks words) (utf8 : IsUtf8 word) (done : List Field) (last : Option Field) (place : ℕ)
+      (names : List Text) (known : IsKnownLast (built_rules form) last) (reads : Reads (built_rules form) place names) where
+    abbrev start : Walk
+    start = free_at done last place false
 
-    no_fields : (fields : Option (List Field)) → fields ≡ None → Goes None → Goes fields
-    no_fields fields is goes = subst Goes (sym is) goes
+    -- what the word and those after it give, by its look
+    abbrev given : Look → Option (List Field)
+    given look = named form names (piece_then word words (pieces_after words) look)
+
+    unknown_goes : (name : Text) (value : Option Text) → is_among name form.options ≡ false → LooksLike word (Long name value)
+        → given (Long name value) ≡ None → Continues form start (word ∷ words) done last (given (Long name value))
+    unknown_goes name value unknown looks none =
+        gives_as form start (word ∷ words) _ None (ap (λ fields. fields_after form done last fields) none)
+        (stops form start word words (unknown_fails form (holds done last) clap.idle place word refl name value unknown looks))
 
     option_goes : (b : Bool) (name : Text) (value : Option Text) → is_among name form.options ≡ b → LooksLike word (Long name value)
-        → Goes (option_and_then (fields_in names form.options) (piece_then word words (pieces_after words) (Long name value)))
+        → Continues form start (word ∷ words) done last (given (Long name value))
     option_goes false name (Some value) unknown looks =
-        no_fields _ (unknown_option form name value names (pieces_after words None) unknown)
-        (stops form _ word words (unknown_fails form (holds done last) clap.idle place word refl name (Some value) unknown looks))
-    option_goes false name None unknown looks =
-        no_fields _ (never_wanted words names name unknown)
-        (stops form _ word words (unknown_fails form (holds done last) clap.idle place word refl name None unknown looks))
+        unknown_goes name (Some value) unknown looks (unknown_option form name value names (pieces_after words None) unknown)
+    option_goes false name None unknown looks = unknown_goes name None unknown looks (never_wanted words names name unknown)
     option_goes true name (Some value) among looks =
-        attached_goes form done last place word name words names known value (pieces_after words None) among looks
+        attached_goes form done last place word name words known among value looks names (pieces_after words None)
         (λ done_now. walks.free done_now None place names tt reads)
     option_goes true name None among looks =
-        named_goes form done last place word name words names known among looks
-        (option_and_then (fields_in names form.options) (pieces_after words (Some name)))
+        wanting_goes form done last place word name words known among looks (given (Long name None))
         (λ done_now. walks.wanting done_now place name names among reads)
 
-    piece_goes : (look : Look) → LooksLike word look → Goes (option_and_then (fields_in names form.options) (piece_then word words (pieces_after words) look))
-    piece_goes End looks =
-        goes_on form (at (holds done last) clap.idle place false) (at (holds done last) clap.idle place true) word words _
-        (end_turn form (holds done last) clap.idle place word refl looks) (end_moves form (holds done last) clap.idle place word refl looks)
-        (trails words done last place names known reads)
-    piece_goes (Long name value) looks = option_goes (is_among name form.options) name value refl looks
-    piece_goes Short looks = stops form _ word words (short_fails form (holds done last) clap.idle place word refl refl utf8 looks)
-    piece_goes Plain looks =
+    word_read : (look : Look) → LooksLike word look → Continues form start (word ∷ words) done last (given look)
+    word_read End looks =
+        goes_on form start (free_at done last place true) word words _ (end_kinds form (holds done last) clap.idle place word refl looks)
+        (end_moves form (holds done last) clap.idle place word refl looks) (trails words done last place names known reads)
+    word_read (Long name value) looks = option_goes (is_among name form.options) name value refl looks
+    word_read Short looks = stops form start word words (short_fails form (holds done last) clap.idle place word refl refl utf8 looks)
+    word_read Plain looks =
         word_goes form done last place false word words names (pieces_after words None) known reads (plain_word form (holds done last) place word looks)
-        (λ done_now name others is next. walks.free done_now (Some (record { name = name; value = word })) _ others is next)
+        (λ done_now name others is next. walks.free done_now (Some (field_of name word)) _ others is next)
 
   walks : (words : List Text) → AreTexts words → Walks words
   walks [] texts = no_words
   walks (word ∷ words) texts = record {
-    free = λ done last place names known reads. piece_goes word words (walks words texts.1) texts.0 done last place names known reads (look_of word) (looks word);
+    free = λ done last place names known reads.
+        word_read word words (walks words texts.1) texts.0 done last place names known reads (look_of word) (looks word);
     wanting = λ done place name names among reads.
-        value_goes form done place name (option_known form name among) names word words (pieces_after words) (look_of word) among reads texts.0 (looks word)
-        ((walks words texts.1).free done (Some (record { name = name; value = word })) place names (option_known form name among) reads);
+        let later = (walks words texts.1).free done (Some (field_of name word)) place names (option_known form name among) reads in
+        value_goes form done place name (option_known form name among) names word words (pieces_after words) among reads texts.0 later
+        (look_of word) (looks word);
   }
 
-  same_fields : (words : List Text) → fields_after form [] None (option_and_then (fields_in form.positionals form.options) (pieces_of words)) ≡ fields_of form words
+  -- ---- the whole
+
+  same_fields : (words : List Text) → fields_after form [] None (named form form.positionals (pieces_of words)) ≡ fields_of form words
   same_fields words = go (pieces_of words)
     where
-      go : (pieces : Option (List Piece)) → fields_after form [] None (option_and_then (fields_in form.positionals form.options) pieces)
-          ≡ option_and_then (λ some. option_and_then (λ fields. cond (are_whole form fields) (Some fields) None) (fields_in form.positionals form.options some)) pieces
+      go : (pieces : Option (List Piece)) → fields_after form [] None (named form form.positionals pieces)
+          ≡ option_and_then (λ some.
+          option_and_then (λ fields. cond (are_whole form fields) (Some fields) None) (fields_in form.positionals form.options some)) pieces
       go None = refl
       go (Some pieces) = refl
 
@@ -119,8 +132,9 @@ module _ (form : Form) where
   pub taken : (words : List Text) → length form.positionals < usize_max → AreTexts words
       → Agrees (fault_of (app_by form) words) (matches_of (app_by form) words) (fields_of form words)
   taken words few texts =
-      subst (Agrees (fault_of (app_by form) words) (matches_of (app_by form) words)) (same_fields words)
-      (agrees_along (fields_after form [] None (option_and_then (fields_in form.positionals form.options) (pieces_of words))) _ _ _ _
-      (leaf_fault (built (app_by form)) clap.nothing_held words refl ∙ ap (λ (shape : Shape). level_fault shape [] clap.nothing_held words false []) built_form ∙ kinds_at_start form words)
+      agrees_along (fields_of form words) _ _ _ _
+      (leaf_fault (built (app_by form)) clap.nothing_held words refl
+      ∙ ap (λ (shape : Shape). level_fault shape [] clap.nothing_held words false []) built_form ∙ kinds_at_start form words)
       (ap (λ (rules : List Rule). clap.rows_after rules [] words) (filled_form form) ∙ rows_at_start form words)
+      (gives_as form (free_at [] None 1 false) words _ _ (sym (same_fields words))
       ((walks words texts).free [] None 1 form.positionals tt (form_reads form few)))

@@ -1,14 +1,15 @@
 -- what one field does to the matches of `clap`, and what fails at it
-use Rattle.std.proofs.Common.{◌≡◌, ◌∙◌, ℕ, ◌⊎◌, Bool, cond, true, false, List, [], ◌∷◌, ◌++◌, map, Option, None, Some, refl, ap, sym, inl, inr, bytes_eq, option_map}
+use Rattle.std.proofs.Common.{◌≡◌, ◌∙◌, ℕ, ◌⊎◌, Bool, cond, true, false, List, [], ◌∷◌, ◌++◌, Option, None, Some, refl, ap, sym, inl, inr, option_map}
 use Rattle.std.specs.Option.{option_to_list}
 use Rattle.std.proofs.lemmas.List.{append-nil, map-append}
 use Rattle.clap.specs.Faults.{settle_fault, use_fault}
 use Rattle.clap.specs.Kinds.{Kinds, or_else}
-use Rattle.clap.specs.Walk.{Held, Row, Rule, Text, at_row, has_row, more_values, settled, used, with_values}
+use Rattle.clap.specs.Walk.{Held, Rule, Text, more_values, settled, used, with_values}
 use Rattle.clap.specs.declared.builder.value_parser.Reading.TheVariants.{AsWritten}
 use Rattle.clap.specs.declared.error.kind.ErrorKind.TheVariants.{ArgumentConflict}
 use Rattle.clap.specs.declared.parser.matches.ValueSource.TheVariants.{CommandLine}
 use Rattle.command_line.specs.Fields.{Field, are_new, has_field}
+use Rattle.command_line.proofs.Rows.{at_row-fields, has_row-fields, row_of_field, rows_of_fields}
 use Rattle.command_line.proofs.Rules.{IsKnown, single}
 
 -- ---- kinds of errors
@@ -24,52 +25,31 @@ pub or_else-assoc : (a b c : Kinds) → or_else (or_else a b) c ≡ or_else a (o
 or_else-assoc [] b c = refl
 or_else-assoc (kind ∷ kinds) b c = refl
 
--- ---- fields as rows
-
-abbrev pub row_of_field : Field → Row
-row_of_field field = record { id = field.name; values = field.value ∷ []; count = None; source = Some CommandLine; reading = AsWritten }
-
-abbrev pub rows_of_fields : List Field → List Row
-rows_of_fields = map row_of_field
-
-pub has_row_of : (fields : List Field) (id : Text) → has_row id (rows_of_fields fields) ≡ has_field fields id
-has_row_of [] id = refl
-has_row_of (field ∷ fields) id = go (bytes_eq field.name id) refl (has_row_of fields id)
-  where
-    go : (b : Bool) → bytes_eq field.name id ≡ b → has_row id (rows_of_fields fields) ≡ has_field fields id → has_row id (rows_of_fields (field ∷ fields)) ≡ has_field (field ∷ fields) id
-    go true e later = rw e refl
-    go false e later = rw e later
-
-no_row : (fields : List Field) (id : Text) (change : Row → List Row) (missing : List Row) → has_field fields id ≡ false
-    → at_row id change missing (rows_of_fields fields) ≡ rows_of_fields fields ++ missing
-no_row [] id change missing new = refl
-no_row (field ∷ fields) id change missing new = go (bytes_eq field.name id) refl (no_row fields id change missing)
-  where
-    go : (b : Bool) → bytes_eq field.name id ≡ b → (has_field fields id ≡ false → at_row id change missing (rows_of_fields fields) ≡ rows_of_fields fields ++ missing)
-        → at_row id change missing (rows_of_fields (field ∷ fields)) ≡ rows_of_fields (field ∷ fields) ++ missing
-    go true e later = let bad : true ≡ false = rw e at new in cc
-    go false e later = rw e (ap (λ rows. row_of_field field ∷ rows) (later (rw e at new)))
-
 -- ---- a value that is given for an argument
 
 module _ (done : List Field) (field : Field) (long : Option Text) (index : Option ℕ) (required : Bool) where
   abbrev rule : Rule
   rule = single field.name long index required
 
-  use_kinds : (b : Bool) → has_field done field.name ≡ b → use_fault false rule (field.value ∷ []) (rows_of_fields done) ≡ or_else (cond b (ArgumentConflict ∷ []) []) []
-  use_kinds true e = rw (has_row_of done field.name, e) refl
-  use_kinds false e = rw (has_row_of done field.name, e) refl
+  abbrev kinds : Kinds
+  kinds = use_fault false rule (field.value ∷ []) (rows_of_fields done)
 
-  pub use_again : has_field done field.name ≡ true → Fails (use_fault false rule (field.value ∷ []) (rows_of_fields done))
-  use_again e none = let kinds = sym none ∙ use_kinds true e in cc
+  kinds_of_use : (b : Bool) → has_field done field.name ≡ b → kinds ≡ or_else (cond b (ArgumentConflict ∷ []) []) []
+  kinds_of_use true e = rw (has_row-fields done field.name, e) refl
+  kinds_of_use false e = rw (has_row-fields done field.name, e) refl
 
-  pub use_new : has_field done field.name ≡ false → use_fault false rule (field.value ∷ []) (rows_of_fields done) ≡ []
-  use_new e = use_kinds false e
+  use_again : has_field done field.name ≡ true → Fails kinds
+  use_again e none = let conflict = sym none ∙ kinds_of_use true e in cc
 
-  pub used_new : has_field done field.name ≡ false → used rule (field.value ∷ []) (rows_of_fields done) ≡ rows_of_fields (done ++ field ∷ [])
+  use_new : has_field done field.name ≡ false → kinds ≡ []
+  use_new e = kinds_of_use false e
+
+  used_new : has_field done field.name ≡ false → used rule (field.value ∷ []) (rows_of_fields done) ≡ rows_of_fields (done ++ field ∷ [])
   used_new e =
-      ap (with_values field.name AsWritten CommandLine (field.value ∷ [])) (no_row done field.name (λ _. []) [] e ∙ append-nil (rows_of_fields done))
-      ∙ no_row done field.name (more_values CommandLine (field.value ∷ [])) (row_of_field field ∷ []) e ∙ sym (map-append row_of_field done (field ∷ []))
+      ap (with_values field.name AsWritten CommandLine (field.value ∷ []))
+      (at_row-fields done field.name (λ _. []) [] e ∙ append-nil (rows_of_fields done))
+      ∙ at_row-fields done field.name (more_values CommandLine (field.value ∷ [])) (row_of_field field ∷ []) e
+      ∙ sym (map-append row_of_field done (field ∷ []))
 
 -- ---- what is read and not yet used
 

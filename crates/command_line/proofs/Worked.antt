@@ -21,7 +21,8 @@ runs = refl
 
 options_in_any_order :
     job_of
-    (codes "run" ∷ codes "--trace" ∷ codes "t" ∷ codes "--steps=33" ∷ codes "a" ∷ codes "--ways" ∷ codes "8" ∷ codes "--harts" ∷ codes "2" ∷ codes "--sets=64" ∷ [])
+    (codes "run" ∷ codes "--trace" ∷ codes "t" ∷ codes "--steps=33" ∷ codes "a" ∷ codes "--ways" ∷ codes "8" ∷ codes "--harts=2"
+    ∷ codes "--sets" ∷ codes "64" ∷ [])
     ≡ Some (Run (record bare { harts = Some 2; sets = Some 64; ways = Some 8; steps = Some 33; trace = Some (codes "t") }))
 options_in_any_order = refl
 

@@ -1,5 +1,5 @@
 -- what a command takes after its name
-use Rattle.std.specs.Prelude.{ℕ, ◌++◌, ◌&&◌, Bool, true, not, List, [], ◌∷◌, find, bytes_eq, if◌then◌else◌, Option, None, Some, is_some}
+use Rattle.std.specs.Prelude.{ℕ, ◌++◌, ◌&&◌, Bool, true, not, List, [], ◌∷◌, find, bytes_eq, if◌then◌else◌, Option, None, Some}
 use Rattle.std.specs.List.{list_all, list_any}
 use Rattle.std.specs.Option.{option_and_then, option_map}
 use Rattle.command_line.specs.Pieces.{Piece, OptionWith, Positional, pieces_of}
@@ -14,6 +14,9 @@ pub record Field : Type 0 where
   pub name : List ℕ
   pub value : List ℕ
 
+abbrev pub field_of : List ℕ → List ℕ → Field
+field_of name value = record { name = name; value = value }
+
 abbrev pub is_among : List ℕ → List (List ℕ) → Bool
 is_among name names = list_any (λ other. bytes_eq other name) names
 
@@ -22,18 +25,18 @@ abbrev pub value_in : List Field → List ℕ → Option (List ℕ)
 value_in fields name = option_map (λ field. field.value) (find (λ field. bytes_eq field.name name) fields)
 
 abbrev pub has_field : List Field → List ℕ → Bool
-has_field fields name = is_some (value_in fields name)
+has_field fields name = list_any (λ field. bytes_eq field.name name) fields
 
-abbrev pub with_field : List ℕ → List ℕ → Option (List Field) → Option (List Field)
-with_field name value fields = option_map (λ rest. record { name = name; value = value } ∷ rest) fields
+abbrev pub with_field : Field → Option (List Field) → Option (List Field)
+with_field field fields = option_map (λ rest. field ∷ rest) fields
 
 -- the fields that pieces give: each option is one of these, and each positional word gets the next of these names
 abbrev pub fields_in : List (List ℕ) → List (List ℕ) → List Piece → Option (List Field)
 fields_in positionals options [] = Some []
 fields_in positionals options (OptionWith name value ∷ pieces) =
-    if is_among name options then with_field name value (fields_in positionals options pieces) else None
+    if is_among name options then with_field (field_of name value) (fields_in positionals options pieces) else None
 fields_in [] options (Positional word ∷ pieces) = None
-fields_in (name ∷ positionals) options (Positional word ∷ pieces) = with_field name word (fields_in positionals options pieces)
+fields_in (name ∷ positionals) options (Positional word ∷ pieces) = with_field (field_of name word) (fields_in positionals options pieces)
 
 -- no field has the name of one before it
 abbrev pub are_new : List Field → List Field → Bool

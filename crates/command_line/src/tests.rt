@@ -87,9 +87,7 @@ fn command_lines_mean_what_they_say(rt: HostRuntime) -> Result<(), Fail> {
 
 #[test]
 fn words_that_begin_with_a_dash(rt: HostRuntime) -> Result<(), Fail> {
-    let image = |image| {
-        Ok(Command::Run(RunCommand { image, ..BARE }))
-    };
+    let image = |image| { Ok(Command::Run(RunCommand { image, ..BARE })) };
     let trace = |trace| {
         Ok(Command::Run(RunCommand {
             trace: Some(trace),
@@ -144,7 +142,10 @@ fn other_words_are_no_command_line(rt: HostRuntime) -> Result<(), Fail> {
     ];
     for row in rows {
         let words = strings(rt.alloc(), row)?;
-        assert!(rt; read_words(rt.alloc(), &words) == Err(WordsFault::Usage), "{words:?}");
+        assert!(rt;
+            read_words(rt.alloc(), &words) == Err(WordsFault::Usage),
+            "{words:?}"
+        );
     }
     Ok(())
 }
@@ -170,7 +171,10 @@ fn options_make_a_configuration(rt: HostRuntime) {
     let rows = [
         ([None, None, None, None], Ok(usual)),
         ([Some(8), Some(64), Some(8), Some(16_777_216)], Ok(most)),
-        ([Some(9), Some(3), Some(9), Some(0)], Err(ConfigFault::Harts)),
+        (
+            [Some(9), Some(3), Some(9), Some(0)],
+            Err(ConfigFault::Harts),
+        ),
         ([Some(257), None, None, None], Err(ConfigFault::Harts)),
         ([None, Some(272), Some(9), Some(0)], Err(ConfigFault::Sets)),
         ([None, None, Some(260), Some(0)], Err(ConfigFault::Ways)),
@@ -184,6 +188,9 @@ fn options_make_a_configuration(rt: HostRuntime) {
             steps,
             ..BARE
         };
-        assert!(rt; command.config() == want, "{harts:?} {sets:?} {ways:?} {steps:?}");
+        assert!(rt;
+            command.config() == want,
+            "{harts:?} {sets:?} {ways:?} {steps:?}"
+        );
     }
 }

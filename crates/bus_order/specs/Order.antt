@@ -1,5 +1,5 @@
 -- the order of requests: a list, first to last
-use Rattle.std.specs.Prelude.{ℕ, Bool, List, [], ◌∷◌, ◌++◌, ◌==◌, Option, None, Some, if◌then◌else◌}
+use Rattle.std.specs.Prelude.{ℕ, ◌≤◌, count_by, List, [], ◌∷◌, ◌++◌, ◌==◌, Option, None, Some, if◌then◌else◌}
 use Rattle.std.specs.Option.{option_map, option_or}
 use Rattle.bus_order.specs.declared.request.Request as requests
 use Rattle.el_base.specs.declared.outcomes.Need.{Need}
@@ -58,3 +58,7 @@ abbrev pub queue_of : List Request → ℕ → List Request
 queue_of [] line = []
 queue_of (request ∷ requests) line =
     if request.line == line then request ∷ queue_of requests line else queue_of requests line
+
+-- each hart has at most one request
+abbrev pub IsOneEach : List Request → Type 0
+IsOneEach order = (hart : ℕ) → count_by (λ request. request.hart == hart) order ≤ 1

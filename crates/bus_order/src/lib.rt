@@ -1,10 +1,18 @@
 //! The order of the requests on the bus.
 //!
-//! It stands on `el_base` and `stamp`, and no call of it takes memory.
+//! It stands on `el_base`, `stamp` and `arrayvec`, and no call of it takes memory. An order is seen as
+//! the list of its requests, first to last, and each call as the definition's function on that list, in
+//! `specs/Order.antt`. What a look-up finds after each call stands as lemmas in `proofs/LookUps.antt` and
+//! `proofs/Queues.antt`.
 //!
 //! Where a doc comment names no other source, its rule is this project's profile.
 #![tactic(auto)]
 
+mod order;
 mod request;
 
+pub use order::Order;
 pub use request::Request;
+
+#[cfg(test)]
+mod tests;

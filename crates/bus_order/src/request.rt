@@ -10,3 +10,15 @@ pub struct Request {
     /// The stamp of the hart's open attempt as the request was raised, if one was open.
     pub stamp: Option<Stamp>,
 }
+
+/// What stands in the places of an order that are not used. It tells nothing.
+impl Default for Request {
+    fn default() -> Request {
+        Request {
+            hart: HartId { number: 0 },
+            line: LineAddr { number: 0 },
+            need: Need::Read,
+            stamp: None,
+        }
+    }
+}

@@ -1,5 +1,6 @@
 -- What bits say of reading and writing.
-use Rattle.std.proofs.Common.{◌≡◌, ◌≢◌, ℕ, zero, suc, ◌+◌, ◌≤◌, ◌<◌, Bool, true, false, cond, eqb, ltb, List, [], ◌∷◌, Option, None, Some, bit_and, bit_or, refl, ap, sym, ◌∙◌, arith}
+use Rattle.std.proofs.Common.{◌≡◌, ◌≢◌, ℕ, zero, suc, ◌+◌, ◌≤◌, ◌<◌, Bool, true, false, cond, eqb, ltb, List, [], ◌∷◌, ◌||◌, Option, None, Some, is_some, bit_and, bit_or, refl, ap, sym, ◌∙◌, arith}
+use Rattle.std.specs.Option.{option_map_or}
 use Rattle.std.specs.List.{count_by}
 use Rattle.std.proofs.lemmas.Bool.Decides.{nat_tests}
 use Rattle.std.proofs.lemmas.Nat.{and_or_apart, and_or_self, or_lt}
@@ -7,8 +8,8 @@ use Rattle.el_base.specs.declared.outcomes.Need.{Need}
 use Rattle.el_base.specs.declared.outcomes.Need.TheVariants.{Read, Write}
 use Rattle.cache_sets.specs.declared.bits.Bits.{Bits}
 use Rattle.cache_sets.specs.declared.way.Way as code
-use Rattle.cache_sets.specs.Bits.{bits_of, bits_of_need, bits_of_number, has_need, with_need}
-use Rattle.cache_sets.specs.Residency.{Way, with_bit}
+use Rattle.cache_sets.specs.Bits.{bits_of, bits_of_need, bits_of_number, has_need, marks_in, with_need, writes_in}
+use Rattle.cache_sets.specs.Residency.{Way, is_marked, with_bit}
 use Rattle.cache_sets.specs.Cache.{bit_in}
 use Rattle.cache_sets.specs.Keyed.{found}
 use Rattle.cache_sets.specs.Kept.{cleared_way, committed_way, marked_way, number_of, shown_way}
@@ -55,3 +56,55 @@ named_found ways line way named is =
 pub named-with_need : (need : Need) (n : ℕ) → ltb 3 n ≡ false → ltb 3 (bit_or n (bits_of_need need).0) ≡ false
 named-with_need Read n named = grind (arith, nat_tests, or_lt 2 n 1)
 named-with_need Write n named = grind (arith, nat_tests, or_lt 2 n 2)
+
+-- what the bits of a way count
+pub marks_in-bits_of : (way : Option Way) → marks_in (bits_of way) ≡ option_map_or (λ w. cond (is_marked w) 1 0) way 0
+marks_in-bits_of None = refl
+marks_in-bits_of (Some way) = by_bits way.read way.write
+  where
+    by_bits : (read write : Bool) → marks_in (bits_of_number (cond read 1 0 + cond write 2 0)) ≡ cond (read || write) 1 0
+    by_bits true true = refl
+    by_bits true false = refl
+    by_bits false true = refl
+    by_bits false false = refl
+
+pub writes_in-bits_of : (way : Option Way) → writes_in (bits_of way) ≡ option_map_or (λ w. cond w.write 1 0) way 0
+writes_in-bits_of None = refl
+writes_in-bits_of (Some way) = by_bits way.read way.write
+  where
+    by_bits : (read write : Bool) → writes_in (bits_of_number (cond read 1 0 + cond write 2 0)) ≡ cond write 1 0
+    by_bits true true = refl
+    by_bits true false = refl
+    by_bits false true = refl
+    by_bits false false = refl
+
+-- and with the bit of a need
+marks_after : (need : Need) (read write : Bool) → marks_in (with_need need (bits_of_number (cond read 1 0 + cond write 2 0))) ≡ 1
+marks_after Read true true = refl
+marks_after Read true false = refl
+marks_after Read false true = refl
+marks_after Read false false = refl
+marks_after Write true true = refl
+marks_after Write true false = refl
+marks_after Write false true = refl
+marks_after Write false false = refl
+
+pub marks_in-with_need : (need : Need) (way : Option Way) → is_some way ≡ true → marks_in (with_need need (bits_of way)) ≡ 1
+marks_in-with_need need None some = absurd cc
+marks_in-with_need need (Some way) some = marks_after need way.read way.write
+
+writes_after : (need : Need) (read write : Bool) (way : Way) → way.write ≡ write →
+    writes_in (with_need need (bits_of_number (cond read 1 0 + cond write 2 0))) ≡ cond (with_bit need way).write 1 0
+writes_after Read true true way is = ap (λ b. cond b 1 0) (sym is)
+writes_after Read true false way is = ap (λ b. cond b 1 0) (sym is)
+writes_after Read false true way is = ap (λ b. cond b 1 0) (sym is)
+writes_after Read false false way is = ap (λ b. cond b 1 0) (sym is)
+writes_after Write true true way is = refl
+writes_after Write true false way is = refl
+writes_after Write false true way is = refl
+writes_after Write false false way is = refl
+
+pub writes_in-with_need : (need : Need) (way : Option Way) → is_some way ≡ true →
+    writes_in (with_need need (bits_of way)) ≡ option_map_or (λ w. cond (with_bit need w).write 1 0) way 0
+writes_in-with_need need None some = absurd cc
+writes_in-with_need need (Some way) some = writes_after need way.read way.write way refl

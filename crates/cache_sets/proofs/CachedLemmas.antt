@@ -15,15 +15,19 @@ use Rattle.cache_sets.proofs.MarkLemmas.{has_marks-counted}
 use Rattle.cache_sets.proofs.RowLemmas.{row_below}
 use Rattle.cache_sets.proofs.ShownLemmas.{bytes_of_shown, way_found, way_of_shown}
 
+-- the copy that a way is
+abbrev pub copy_of : ℕ → ℕ → List (List ℕ) → code.Way → Copy
+copy_of sets ways rows way = record { letter = way.letter; bytes = bytes_of_way sets ways rows way }
+
 -- the copy of a line, by its way
 pub copy_shown : (ways : ℕ) (sets : List Set) (rows : List (List ℕ)) (line : ℕ) →
     copy_in (shown_cache ways sets rows) line
-    ≡ option_map (λ way. record { letter = way.letter; bytes = bytes_of_way (length sets) ways rows way }) (way_at sets line)
+    ≡ option_map (copy_of (length sets) ways rows) (way_at sets line)
 copy_shown ways sets rows line = shown (way_at sets line) refl
   where
     shown : (way : Option code.Way) → way_at sets line ≡ way →
         copy_in (shown_cache ways sets rows) line
-        ≡ option_map (λ w. record { letter = w.letter; bytes = bytes_of_way (length sets) ways rows w }) way
+        ≡ option_map (copy_of (length sets) ways rows) way
     shown None is =
         ap (option_map (λ w. record { letter = w.letter; bytes = bytes_of (shown_cache ways sets rows) line })) (way_of_shown sets line ∙ ap (option_map shown_way) is)
     shown (Some way) is =
@@ -45,10 +49,10 @@ whole_copy ways sets rows marks writes line copy stands is = by_way (way_at sets
   where
     by_way : (way : Option code.Way) → way_at sets line ≡ way → length copy.bytes ≡ 64
     by_way None absent =
-        absurd (none-some copy (sym (copy_shown ways sets rows line ∙ ap (option_map (λ w. record { letter = w.letter; bytes = bytes_of_way (length sets) ways rows w })) absent) ∙ is))
+        absurd (none-some copy (sym (copy_shown ways sets rows line ∙ ap (option_map (copy_of (length sets) ways rows)) absent) ∙ is))
     by_way (Some way) there =
         let same : record { letter = way.letter; bytes = bytes_of_way (length sets) ways rows way } ≡ copy =
-        same_Some _ copy (sym (copy_shown ways sets rows line ∙ ap (option_map (λ w. record { letter = w.letter; bytes = bytes_of_way (length sets) ways rows w })) there) ∙ is) in
+        same_Some _ copy (sym (copy_shown ways sets rows line ∙ ap (option_map (copy_of (length sets) ways rows)) there) ∙ is) in
         ap (λ c. length c.bytes) (sym same) ∙ stands.whole (row_of (length sets) ways way) (row_below ways sets rows marks writes line way stands there)
 
 pub cached_kept : (ways : ℕ) (sets : List Set) (rows : List (List ℕ)) (marks writes : ℕ) (cached : Cached) →

@@ -207,6 +207,11 @@ module _ {X : Type 0} (key : X → ℕ) where
           let there : option_map_or f (found key xs k) 0 ≡ f x = ap (λ w. option_map_or f w 0) is in
           omega (arith, rest, there, sum_by-cons f x (without key xs k))
 
+-- the length is the sum of ones
+pub length-sum_by : {X : Type 0} → (xs : List X) → length xs ≡ sum_by (λ x. 1) xs
+length-sum_by [] = refl
+length-sum_by (x ∷ xs) = grind (arith, sum_by-cons (λ y. 1) x xs, length-sum_by xs)
+
 -- the same after each element was shown as another that has its key
 module _ {X Y : Type 0} (key : X → ℕ) (shown_key : Y → ℕ) (show : X → Y) (same : (x : X) → shown_key (show x) ≡ key x) where
   pub found-map : (xs : List X) (k : ℕ) → found shown_key (map show xs) k ≡ option_map show (found key xs k)

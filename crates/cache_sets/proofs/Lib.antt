@@ -9,3 +9,6 @@ pub mod ShownLemmas
 pub mod RowLemmas
 pub mod BitLemmas
 pub mod CachedLemmas
+pub mod StepLemmas
+pub mod ChangeSteps
+pub mod CountSteps

@@ -1,12 +1,13 @@
 -- How many lines have bits, and how many were written, after each word of a cache.
-use Rattle.std.proofs.Common.{◌≡◌, ◌≢◌, ℕ, zero, suc, ◌+◌, ◌%◌, ◌≤◌, ◌<◌, Bool, true, false, not, ◌||◌, cond, eqb, ltb, List, [], ◌∷◌, length, map, replicate, get_or, Option, None, Some, option_map, is_some, refl, ap, sym, subst, inl, inr, ◌⊎◌, ◌∙◌, arith, add-zero}
+use Rattle.std.proofs.Common.{◌≡◌, ◌≢◌, ℕ, zero, suc, ◌+◌, ◌*◌, ◌%◌, ◌≤◌, ◌<◌, Bool, true, false, not, ◌||◌, cond, eqb, ltb, List, [], ◌∷◌, length, map, replicate, get_or, Option, None, Some, option_map, is_some, refl, ap, sym, subst, inl, inr, ◌⊎◌, ◌∙◌, arith, add-zero}
 use Rattle.std.specs.Option.{option_map_or}
 use Rattle.std.specs.List.{count_by, sum_by, list_any}
 use Rattle.cache_sets.specs.Keyed.{count_of}
 use Rattle.std.proofs.lemmas.Bool.{or_parts}
 use Rattle.std.proofs.lemmas.Bool.Decides.{nat_tests}
 use Rattle.std.proofs.lemmas.List.Folds.{fold-map, sum_by-replicate}
-use Rattle.std.proofs.lemmas.List.Sums.{get_or-le-sum_by, sum_by-cons, sum_by-set}
+use Rattle.std.proofs.lemmas.List.Sums.{get_or-le-sum_by, sum_by-cons, sum_by-le, sum_by-set}
+use Rattle.std.proofs.lemmas.List.{get_or_default}
 use Rattle.el_base.specs.declared.outcomes.Need.{Need}
 use Rattle.el_base.specs.declared.outcomes.Need.TheVariants.{Read, Write}
 use Rattle.moesi.specs.declared.letter.Letter.{Letter}
@@ -107,7 +108,7 @@ pub write_bits_of-lettered : (ways : ℕ) (cache : List (List Way)) (line : ℕ)
 write_bits_of-lettered ways cache line letter kept = total-lettered write_of ways cache line letter kept (λ way. refl)
 
 -- what a bit adds to the counts
-more_marks : (need : Need) (way : Option Way) → is_some way ≡ true →
+pub more_marks : (need : Need) (way : Option Way) → is_some way ≡ true →
     option_map_or (λ w. mark_of (with_bit need w)) way 0 ≡ 1
 more_marks need None some = absurd cc
 more_marks Read (Some way) some = refl
@@ -240,3 +241,12 @@ marked_line ways cache kept some =
     let home : set_of cache way.line ≡ set_of cache there.0 = ap (λ n. get_or cache n []) (kept.home there.0 way.line way found.1) in
     let here : way_of cache way.line ≡ Some way = ap (λ s. way_in s way.line) home ∙ found.1 in
     (way.line, ap (λ w. bit_in Read w || bit_in Write w) here ∙ found.2)
+
+-- no more lines than a cache has places
+pub total-le : (f : Way → ℕ) (ways : ℕ) (cache : List (List Way)) → IsWellFormed ways cache → ((way : Way) → f way ≤ 1) → total f cache ≤ length cache * ways
+total-le f ways cache kept small =
+    sum_by-le (λ set. sum_by f set) ways cache (λ k d within.
+    let own : k % length cache ≡ k = grind (arith, within) in
+    let set : get_or cache k d ≡ set_of cache k = get_or_default cache k d [] within ∙ ap (λ n. get_or cache n []) (sym own) in
+    let part = sum_by-le f 1 (get_or cache k d) (λ j e inside. small (get_or (get_or cache k d) j e)) in
+    omega (arith, part, kept.within k, ap length set))

@@ -17,11 +17,11 @@ pub way_in-found : (set : List Way) (line : ℕ) → way_in set line ≡ found l
 way_in-found [] line = refl
 way_in-found (way ∷ set) line = grind (arith, nat_tests, way_in-found set line)
 
-dropped-without : (set : List Way) (line : ℕ) → dropped set line ≡ without line_of set line
+pub dropped-without : (set : List Way) (line : ℕ) → dropped set line ≡ without line_of set line
 dropped-without [] line = refl
 dropped-without (way ∷ set) line = grind (arith, nat_tests, dropped-without set line)
 
-changed_in-changed : (change : Way → Way) (set : List Way) (line : ℕ) → changed_in change set line ≡ changed line_of change set line
+pub changed_in-changed : (change : Way → Way) (set : List Way) (line : ℕ) → changed_in change set line ≡ changed line_of change set line
 changed_in-changed change [] line = refl
 changed_in-changed change (way ∷ set) line = grind (arith, nat_tests, changed_in-changed change set line)
 
@@ -182,11 +182,6 @@ sum_by-filled_in f ways set way once =
     let left = sum_by-left_in f set (evicted_in ways set) once
     (λ gone is. victim_in-resident set gone once (evicted_in-victim ways set gone is)) in
     omega (arith, left, sum_by-cons f way (left_in set (evicted_in ways set)))
-
--- the length is the sum of ones
-pub length-sum_by : (set : List Way) → length set ≡ sum_by (λ way. 1) set
-length-sum_by [] = refl
-length-sum_by (way ∷ set) = grind (arith, sum_by-cons (λ w. 1) way set, length-sum_by set)
 
 -- a sum after a change of every way
 pub sum_by-map : (f : Way → ℕ) (change : Way → Way) (set : List Way) → sum_by f (map change set) ≡ sum_by (λ way. f (change way)) set

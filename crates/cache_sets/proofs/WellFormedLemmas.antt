@@ -12,10 +12,11 @@ use Rattle.el_base.specs.declared.outcomes.Need.{Need}
 use Rattle.cache_sets.specs.Residency.{Way, changed_in, dropped, evicted_in, filled_in, left_in, room_in, touched_in, way_in, with_bit, with_letter, without_bits}
 use Rattle.cache_sets.specs.Cache.{cleared, committed, committed_way, empty_cache, evicted_by, filled_with, is_resident, lettered, marked, room_of, set_number, set_of, touched, way_of, with_set, without_line}
 use Rattle.cache_sets.specs.WellFormed.{IsWellFormed}
-use Rattle.cache_sets.proofs.ResidencyLemmas.{counted, evicted_in-some, evicted_in-victim, uncounted, length-sum_by, line_of, same_or, sum_by-changed_in, sum_by-dropped, sum_by-map, sum_by-filled_in, sum_by-touched_in, way_in-changed_in_other, way_in-changed_in_same, way_in-dropped_other, way_in-dropped_same, way_in-filled_in_other, way_in-filled_in_same, way_in-line, way_in-map, way_in-touched_in}
+use Rattle.cache_sets.proofs.ResidencyLemmas.{counted, evicted_in-some, evicted_in-victim, uncounted, line_of, same_or, sum_by-changed_in, sum_by-dropped, sum_by-map, sum_by-filled_in, sum_by-touched_in, way_in-changed_in_other, way_in-changed_in_same, way_in-dropped_other, way_in-dropped_same, way_in-filled_in_other, way_in-filled_in_same, way_in-line, way_in-map, way_in-touched_in}
 use Rattle.el_base.specs.declared.outcomes.Need.TheVariants.{Read, Write}
 use Rattle.cache_sets.proofs.CacheLemmas.{line-with_bit, length-with_set, set_of-with_set_other, set_of-with_set_same}
 use Rattle.cache_sets.specs.Keyed.{count_of}
+use Rattle.cache_sets.proofs.KeyedLemmas.{length-sum_by}
 
 -- a set that may take the place of a line's
 record Fits (ways : ℕ) (cache : List (List Way)) (line : ℕ) (set : List Way) : Type 0 where

@@ -1,5 +1,5 @@
 -- what a hart's section has done to a line, as bits
-use Rattle.std.specs.Prelude.{ℕ, Bool, ◌==◌, ◌+◌, Option, if◌then◌else◌}
+use Rattle.std.specs.Prelude.{ℕ, Bool, ◌==◌, ◌||◌, ◌+◌, Option, if◌then◌else◌}
 use Rattle.std.specs.Int.RustNames.{bit_and, bit_or}
 use Rattle.el_base.specs.declared.outcomes.Need.{Need}
 use Rattle.el_base.specs.declared.outcomes.Need.TheVariants.{Read, Write}
@@ -27,3 +27,10 @@ has_need need bits = bit_and bits.0 (bits_of_need need).0 == (bits_of_need need)
 -- the bits of a way, and none where there is no way
 abbrev pub bits_of : Option Way → Bits
 bits_of way = bits_of_number ((if bit_in Read way then 1 else 0) + (if bit_in Write way then 2 else 0))
+
+-- how many lines with bits, and how many written lines, a line with these bits is
+abbrev pub marks_in : Bits → ℕ
+marks_in bits = if has_need Read bits || has_need Write bits then 1 else 0
+
+abbrev pub writes_in : Bits → ℕ
+writes_in bits = if has_need Write bits then 1 else 0

@@ -1,5 +1,5 @@
 -- how a cache's fields show its sets, and what each set keeps
-use Rattle.std.specs.Prelude.{◌≡◌, ◌≤◌, ◌<◌, ◌+◌, ◌*◌, ◌%◌, ◌==◌, ℕ, Bool, List, [], ◌∷◌, map, length, count_by, sum_by, nat_lt, if◌then◌else◌, slice_index_or, Option, None, Some, option_map}
+use Rattle.std.specs.Prelude.{◌≡◌, ◌≤◌, ◌<◌, ◌+◌, ◌*◌, ◌%◌, ◌==◌, ℕ, Bool, List, [], ◌∷◌, map, length, count_by, sum_by, nat_lt, if◌then◌else◌, slice_index_or, slice_set, Option, None, Some, option_map}
 use Rattle.el_base.specs.declared.line.LineAddr.{LineAddr}
 use Rattle.el_base.specs.declared.outcomes.Need.{Need}
 use Rattle.el_base.specs.declared.outcomes.Need.TheVariants.{Read, Write}
@@ -106,6 +106,10 @@ set_at sets line = slice_index_or sets (line % length sets) no_set
 
 abbrev pub way_at : List Set → ℕ → Option code.Way
 way_at sets line = found number_of (set_at sets line).ways.items line
+
+-- the sets with another set in the place of a line's
+abbrev pub sets_with : List Set → ℕ → Set → List Set
+sets_with sets line set = slice_set sets (line % length sets) set
 
 -- where the bytes of a way are among the rows of so many sets: its line tells its set
 abbrev pub row_of : ℕ → ℕ → code.Way → ℕ

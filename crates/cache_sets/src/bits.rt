@@ -1,5 +1,5 @@
 ghost use Rattle.std.specs.Prelude.{⊤, ◌≡◌, [], ◌∷◌, codes};
-ghost use Rattle.cache_sets.specs.Bits.{bits_of_need, with_need};
+ghost use Rattle.cache_sets.specs.Bits.{bits_of_need, marks_in, with_need, writes_in};
 
 use bitflags::{Flag, Flags, bitflag_items};
 use el_base::Need;
@@ -48,6 +48,20 @@ impl Bits {
             Need::Read => Bits::READ,
             Need::Write => Bits::WRITE,
         }
+    }
+
+    /// How many lines with bits a line with these is: one, or none without bits.
+    pub(crate) fn marks(self) -> u16
+        ensures { result ≡ marks_in self }
+    {
+        u16::from(self.contains(Bits::READ) || self.contains(Bits::WRITE))
+    }
+
+    /// How many written lines a line with these bits is.
+    pub(crate) fn writes(self) -> u16
+        ensures { result ≡ writes_in self }
+    {
+        u16::from(self.contains(Bits::WRITE))
     }
 
     /// These bits and the one of a need.

@@ -87,6 +87,55 @@ impl Sets {
         self.written
     }
 
+    /// A line becomes the most recent one of its set.
+    pub fn touch(&mut self, line: LineAddr)
+        requires { is_resident self.old.residency line.number ≡ true }
+        ensures { IsTouched self.old self.new line.number }
+    {
+        let number = set_number(self.sets.as_slice(), line);
+        let set = &mut self.sets[number];
+        set.touch(line);
+    }
+
+    /// A line gets another letter.
+    pub fn set_letter(&mut self, line: LineAddr, letter: Letter)
+        requires resident { is_resident self.old.residency line.number ≡ true }
+        requires valid { letter ≢ I }
+        ensures { IsLettered self.old self.new line.number letter }
+    {
+        let number = set_number(self.sets.as_slice(), line);
+        let set = &mut self.sets[number];
+        set.set_letter(line, letter);
+    }
+
+    /// The hart's section has done to a line what it needed.
+    pub fn set_bit(&mut self, line: LineAddr, need: Need)
+        requires { is_resident self.old.residency line.number ≡ true }
+        ensures { IsMarked self.old self.new line.number need }
+    {
+        let before = self.bits(line);
+        let number = set_number(self.sets.as_slice(), line);
+        let set = &mut self.sets[number];
+        set.set_bit(line, need);
+        let after = before.with(need);
+        self.marked = self.marked - before.marks() + after.marks();
+        self.written = self.written - before.writes() + after.writes();
+    }
+
+    /// A line leaves.
+    pub fn drop_line(&mut self, line: LineAddr)
+        requires { is_resident self.old.residency line.number ≡ true }
+        ensures { IsWithout self.old self.new line.number }
+    {
+        let before = self.bits(line);
+        let number = set_number(self.sets.as_slice(), line);
+        let ways = self.ways;
+        let set = &mut self.sets[number];
+        set.drop_line(ways, line);
+        self.marked -= before.marks();
+        self.written -= before.writes();
+    }
+
     /// The bytes of a line that the cache has.
     pub fn bytes(&self, line: LineAddr) -> &[u8; 64]
         requires { is_resident self.now.residency line.number ≡ true }
@@ -100,12 +149,21 @@ impl Sets {
     }
 }
 
+/// The number of the set of a line.
+fn set_number(sets: &[Set], line: LineAddr) -> usize
+    requires { 0 < length sets.now }
+    ensures exact { result ≡ line.number % length sets.now }
+    ensures within { result < length sets.now }
+{
+    line.number as usize % sets.len()
+}
+
 /// The set of a line.
 fn set_of(sets: &[Set], line: LineAddr) -> &Set
     requires { 0 < length sets.now }
     ensures { result.now ≡ set_at sets.now line.number }
 {
-    &sets[line.number as usize % sets.len()]
+    &sets[set_number(sets, line)]
 }
 
 /// Where the bytes of a way are among the rows of all sets.

@@ -1,5 +1,5 @@
--- What a history says of one hart: counts and sums over its entries.
-use Rattle.std.specs.Prelude.{ℕ, ◌+◌, ◌*◌, ◌^◌, Bool, true, false, List, [], ◌∷◌, ◌==◌, IsTrue, nat_lt, nat_le, count_by, sum_by, filter, map, is_some}
+-- What a history says of one hart: sums over its entries.
+use Rattle.std.specs.Prelude.{ℕ, ◌+◌, ◌*◌, ◌^◌, Bool, false, List, [], ◌∷◌, ◌==◌, if◌then◌else◌, IsTrue, nat_lt, nat_le, sum_by, is_some}
 use Rattle.std.specs.List.{list_all}
 use Rattle.el_base.specs.Losers.{beaten_by}
 use Rattle.el_base.specs.declared.entries.Entry.{Entry}
@@ -9,92 +9,77 @@ use Rattle.el_base.specs.declared.outcomes.Outcome.TheVariants.{Stalled, Missed,
 use Rattle.chronicle.specs.Serial.{most_effects}
 use Rattle.chronicle.specs.declared.tally.Tally.{Tally}
 
--- the outcomes of this hart's own events
-abbrev pub own_outcomes : ℕ → List Entry → List Outcome
-own_outcomes hart entries =
-    map (λ entry. entry.outcome) (filter (λ entry. entry.event.hart.number == hart) entries)
+-- the tally of a hart of which there is nothing to say
+abbrev pub nothing : Tally
+nothing = record {
+  ran = 0;
+  began = 0;
+  committed = 0;
+  instr = 0;
+  conflict = 0;
+  room = 0;
+  lines = 0;
+  long = 0;
+  call = 0;
+  mixed = 0;
+  missed = 0;
+  stalled = 0;
+  blocked = 0;
+}
 
-abbrev pub is_ran : Outcome → Bool
-is_ran Ran = true
-is_ran _ = false
+-- what an event of a hart's own counts for, by its outcome
+abbrev pub of_outcome : Outcome → Tally
+of_outcome Ran = record nothing { ran = 1 }
+of_outcome Began = record nothing { began = 1 }
+of_outcome (Committed count) = record nothing { committed = 1; instr = count }
+of_outcome (RolledBack Room) = record nothing { room = 1 }
+of_outcome (RolledBack Lines) = record nothing { lines = 1 }
+of_outcome (RolledBack Long) = record nothing { long = 1 }
+of_outcome (RolledBack Call) = record nothing { call = 1 }
+of_outcome (RolledBack Mixed) = record nothing { mixed = 1 }
+of_outcome (Missed _ _) = record nothing { missed = 1 }
+of_outcome Stalled = record nothing { stalled = 1 }
+of_outcome (Blocked _ _) = record nothing { blocked = 1 }
+of_outcome _ = nothing
 
-abbrev pub is_began : Outcome → Bool
-is_began Began = true
-is_began _ = false
-
-abbrev pub is_committed : Outcome → Bool
-is_committed (Committed _) = true
-is_committed _ = false
-
--- the number of instructions of a commit
-abbrev pub instructions : Outcome → ℕ
-instructions (Committed count) = count
-instructions _ = 0
-
-abbrev pub is_room : Outcome → Bool
-is_room (RolledBack Room) = true
-is_room _ = false
-
-abbrev pub is_lines : Outcome → Bool
-is_lines (RolledBack Lines) = true
-is_lines _ = false
-
-abbrev pub is_long : Outcome → Bool
-is_long (RolledBack Long) = true
-is_long _ = false
-
-abbrev pub is_call : Outcome → Bool
-is_call (RolledBack Call) = true
-is_call _ = false
-
-abbrev pub is_mixed : Outcome → Bool
-is_mixed (RolledBack Mixed) = true
-is_mixed _ = false
-
-abbrev pub is_missed : Outcome → Bool
-is_missed (Missed _ _) = true
-is_missed _ = false
-
-abbrev pub is_stalled : Outcome → Bool
-is_stalled Stalled = true
-is_stalled _ = false
-
-abbrev pub is_blocked : Outcome → Bool
-is_blocked (Blocked _ _) = true
-is_blocked _ = false
-
--- whether a section of this hart lost in the event
+-- whether a section of this hart lost in an event of this outcome
 abbrev pub has_lost : ℕ → Outcome → Bool
 has_lost hart (Ordered losers) = is_some (beaten_by losers hart)
 has_lost hart (Served losers) = is_some (beaten_by losers hart)
 has_lost hart (Delivered losers) = is_some (beaten_by losers hart)
 has_lost hart _ = false
 
--- the tally of a hart with these outcomes of its own that lost this often
-abbrev pub tally_with : List Outcome → ℕ → Tally
-tally_with own lost = record {
-  ran = count_by is_ran own;
-  began = count_by is_began own;
-  committed = count_by is_committed own;
-  instr = sum_by instructions own;
-  conflict = lost;
-  room = count_by is_room own;
-  lines = count_by is_lines own;
-  long = count_by is_long own;
-  call = count_by is_call own;
-  mixed = count_by is_mixed own;
-  missed = count_by is_missed own;
-  stalled = count_by is_stalled own;
-  blocked = count_by is_blocked own;
+-- what an event counts for in the tally of this hart, which may lose in events of any hart
+unfoldable pub of_entry : ℕ → Entry → Tally
+of_entry hart entry =
+    record (if entry.event.hart.number == hart then of_outcome entry.outcome else nothing) {
+      conflict = if has_lost hart entry.outcome then 1 else 0;
+    }
+
+-- one number of the tally of this hart, summed over these entries
+abbrev pub total : (Tally → ℕ) → ℕ → List Entry → ℕ
+total number hart entries = sum_by (λ entry. number (of_entry hart entry)) entries
+
+-- what these entries say of a hart
+unfoldable pub tally_of : ℕ → List Entry → Tally
+tally_of hart entries = record {
+  ran = total (λ tally. tally.ran) hart entries;
+  began = total (λ tally. tally.began) hart entries;
+  committed = total (λ tally. tally.committed) hart entries;
+  instr = total (λ tally. tally.instr) hart entries;
+  conflict = total (λ tally. tally.conflict) hart entries;
+  room = total (λ tally. tally.room) hart entries;
+  lines = total (λ tally. tally.lines) hart entries;
+  long = total (λ tally. tally.long) hart entries;
+  call = total (λ tally. tally.call) hart entries;
+  mixed = total (λ tally. tally.mixed) hart entries;
+  missed = total (λ tally. tally.missed) hart entries;
+  stalled = total (λ tally. tally.stalled) hart entries;
+  blocked = total (λ tally. tally.blocked) hart entries;
 }
 
--- what these entries say of a hart; it loses in events of any hart
-abbrev pub tally_of : ℕ → List Entry → Tally
-tally_of hart entries =
-    tally_with (own_outcomes hart entries) (count_by (λ entry. has_lost hart entry.outcome) entries)
-
 -- the tally of two parts of a history, by those of the parts
-abbrev pub plus : Tally → Tally → Tally
+unfoldable pub plus : Tally → Tally → Tally
 plus a b = record {
   ran = a.ran + b.ran;
   began = a.began + b.began;
@@ -118,9 +103,9 @@ numbers tally =
     tally.call ∷ tally.mixed ∷ tally.missed ∷ tally.stalled ∷ tally.blocked ∷ []
 
 -- the numbers of two tallies can be added
-abbrev pub SumFits : Tally → Tally → Type 0
+unfoldable pub SumFits : Tally → Tally → Type 0
 SumFits a b = IsTrue (list_all (λ number. nat_lt number (2 ^ 64)) (numbers (plus a b)))
 
 -- the tally is one of so many events: none of its numbers is above what their commits can count
-abbrev pub IsTallyOf : ℕ → Tally → Type 0
+unfoldable pub IsTallyOf : ℕ → Tally → Type 0
 IsTallyOf events tally = IsTrue (list_all (λ number. nat_le number (events * most_effects)) (numbers tally))

@@ -61,12 +61,13 @@ impl History {
     {
         let mut total = 0;
         for entry in &self.entries {
-            total += effects_of(entry.outcome);
+            total += effects(entry.outcome);
         }
         total
     }
 
     /// What the history says of a hart.
+    #[tactic(auto, using(crate::proofs::Tallies::tally_laws))]
     pub fn tally(&self, hart: HartId) -> Tally
         ensures { result ≡ tally_of hart.number self.now.entries }
     {
@@ -91,7 +92,7 @@ impl Chronicled for History {
 }
 
 /// How many instructions took effect with this outcome.
-fn effects_of(outcome: Outcome) -> u64
+fn effects(outcome: Outcome) -> u64
     ensures exact { result ≡ effects outcome }
     ensures small { result ≤ most_effects }
 {

@@ -1,5 +1,5 @@
-ghost use Rattle.std.specs.Prelude.{◌≡◌, ◌∷◌, []};
-ghost use Rattle.chronicle.specs.Tally.{tally_of, tally_with, has_lost, plus, SumFits, IsTallyOf};
+ghost use Rattle.std.specs.Prelude.{◌≡◌};
+ghost use Rattle.chronicle.specs.Tally.{has_lost, of_entry, of_outcome, plus, SumFits, IsTallyOf};
 
 use el_base::{Cause, Entry, HartId, Outcome};
 
@@ -36,9 +36,10 @@ pub struct Tally {
 }
 
 impl Tally {
-    /// What an entry says of a hart.
+    /// What an event counts for in the tally of a hart.
+    #[tactic(auto, unfolding(crate::specs::Tally::of_entry, crate::specs::Tally::IsTallyOf))]
     pub(crate) fn of_entry(hart: HartId, entry: Entry) -> Tally
-        ensures exact { result ≡ tally_of hart.number (entry ∷ []) }
+        ensures exact { result ≡ of_entry hart.number entry }
         ensures small { IsTallyOf 1 result }
     {
         let own = if entry.event.hart == hart {
@@ -47,14 +48,15 @@ impl Tally {
             Tally::default()
         };
         Tally {
-            conflict: u64::from(lost_in(hart, entry.outcome)),
+            conflict: u64::from(has_lost(hart, entry.outcome)),
             ..own
         }
     }
 
-    /// What the outcome of an own event says of a hart.
+    /// What an event of a hart's own counts for, by its outcome.
+    #[tactic(auto, unfolding(crate::specs::Tally::IsTallyOf))]
     fn of_outcome(outcome: Outcome) -> Tally
-        ensures exact { result ≡ tally_with (outcome ∷ []) 0 }
+        ensures exact { result ≡ of_outcome outcome }
         ensures small { IsTallyOf 1 result }
     {
         let nothing = Tally::default();
@@ -90,9 +92,10 @@ impl Tally {
         }
     }
 
-    /// What a section that was rolled back says of its hart.
+    /// What a section that was rolled back counts for.
+    #[tactic(auto, unfolding(crate::specs::Tally::IsTallyOf))]
     fn of_cause(cause: Cause) -> Tally
-        ensures exact { result ≡ tally_with (Outcome.RolledBack cause ∷ []) 0 }
+        ensures exact { result ≡ of_outcome (Outcome.RolledBack cause) }
         ensures small { IsTallyOf 1 result }
     {
         let nothing = Tally::default();
@@ -112,6 +115,7 @@ impl Tally {
     }
 
     /// The tally of a history in two parts, by those of the parts.
+    #[tactic(auto, unfolding(crate::specs::Tally::plus, crate::specs::Tally::SumFits))]
     pub(crate) fn plus(self, later: Tally) -> Tally
         requires { SumFits self later }
         ensures { result ≡ plus self later }
@@ -135,7 +139,7 @@ impl Tally {
 }
 
 /// Whether a section of the hart lost in an event of this outcome.
-fn lost_in(hart: HartId, outcome: Outcome) -> bool
+fn has_lost(hart: HartId, outcome: Outcome) -> bool
     ensures { result ≡ has_lost hart.number outcome }
 {
     match outcome {

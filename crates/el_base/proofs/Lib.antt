@@ -3,6 +3,7 @@ pub mod BitSets
 pub mod HartIds
 pub mod Lines
 pub mod MadeLosers
+pub mod ListLaws
 pub mod Ranges
 pub mod SameLosers
 mod Worked

@@ -8,4 +8,6 @@ pub mod Coming
 pub mod Harts
 pub mod Losing
 pub mod Restoring
+pub mod AllHarts
+pub mod Silent
 pub mod Runs

@@ -12,4 +12,5 @@ pub mod InSection
 pub mod Next
 pub mod Causes
 pub mod Losses
+pub mod Quiet
 pub mod Laws

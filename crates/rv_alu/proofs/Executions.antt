@@ -1,5 +1,5 @@
 -- laws of executions
-use Rattle.std.proofs.Common.{◌≡◌, ◌≤◌, ◌<◌, ℕ, ℤ, zero, suc, ◌+◌, ◌%◌, Bool, true, false, List, Option, None, Some, arith, refl, ap}
+use Rattle.std.proofs.Common.{◌≡◌, ◌≤◌, ◌<◌, ℕ, ℤ, zero, suc, ◌+◌, ◌%◌, Bool, true, false, List, Option, None, Some, arith, refl, ap, sym, ◌∙◌}
 use Rattle.std.specs.Prelude.{IfSome, MatchOption, OnSome, ◌==◌, if◌then◌else◌}
 use Rattle.std.proofs.lemmas.Bool.Decides.{nat_tests}
 use Rattle.std.proofs.lemmas.Grind.{common_steps}
@@ -29,7 +29,7 @@ use Rattle.rv_alu.specs.Span.{holds}
 pub store_ends_reservation : (action : Action) (view : HartView) (byte : ℕ → ℕ) →
     OnSome (store_in (perform action view byte)) ((view_after (perform action view byte) view).reserved ≡ None)
 store_ends_reservation (actions.Store address len value) view byte = refl
-store_ends_reservation (actions.StoreReserved rd address value) view byte = refl
+store_ends_reservation (actions.StoreConditional rd address value) view byte = refl
 store_ends_reservation (actions.Amo op rd address source) view byte = refl
 store_ends_reservation _ view byte = tt
 
@@ -39,15 +39,19 @@ pub loaded-same : (left right : ℕ → ℕ) (address len : ℕ) → ((k : ℕ) 
 loaded-same left right address zero h = refl
 loaded-same left right address (suc len) h =
     let first : left address ≡ right address = h address (omega arith) (omega arith) in
-    let rest : loaded left (address + 1) len ≡ loaded right (address + 1) len = loaded-same left right (address + 1) len (λ k low high. h k (omega arith) (omega arith)) in
+    let rest : loaded left (address + 1) len ≡ loaded right (address + 1) len =
+    loaded-same left right (address + 1) len (λ k low high. h k (omega arith) (omega arith)) in
     cc
 
 -- an action depends on the bytes of its footprint alone
-perform-agree : (action : Action) (view : HartView) (left right : ℕ → ℕ) → AgreeOn (footprint action) left right → perform action view left ≡ perform action view right
+perform-agree : (action : Action) (view : HartView) (left right : ℕ → ℕ) → AgreeOn (footprint action) left right →
+    perform action view left ≡ perform action view right
 perform-agree (actions.Load width rd address) view left right agree =
-    ap (λ number. Goes (put_of view rd.number (extend_of width number)) None None) (loaded-same left right address (load_size_of width) (λ k low high. agree k (low, high)))
-perform-agree (actions.Reserve rd address) view left right agree =
-    ap (λ number. Goes (record (put_of view rd.number number) { reserved = Some address }) None None) (loaded-same left right address 4 (λ k low high. agree k (low, high)))
+    ap (λ number. Goes (put_of view rd.number (extend_of width number)) None None)
+    (loaded-same left right address (load_size_of width) (λ k low high. agree k (low, high)))
+perform-agree (actions.LoadReserved rd address) view left right agree =
+    ap (λ number. Goes (record (put_of view rd.number number) { reserved = Some address }) None None)
+    (loaded-same left right address 4 (λ k low high. agree k (low, high)))
 perform-agree (actions.Amo op rd address source) view left right agree =
     ap (λ number. Goes (release_of (put_of view rd.number number)) (Some (record { address = address; len = 4; value = amo_of op number source })) None)
     (loaded-same left right address 4 (λ k low high. agree k (low, high)))
@@ -72,7 +76,8 @@ unfolding action_of
 action-room insns.Ecall pc regs reserved span room other h = cc
 action-room _ pc regs reserved span room other h = refl
 
-insn-room : (insn : Option Insn) (view : HartView) (span : Span) (room other : ℕ) → IsNoCall insn → insn_action_of insn view span room ≡ insn_action_of insn view span other
+insn-room : (insn : Option Insn) (view : HartView) (span : Span) (room other : ℕ) → IsNoCall insn →
+    insn_action_of insn view span room ≡ insn_action_of insn view span other
 insn-room None view span room other h = refl
 insn-room (Some insn) view span room other h = action-room insn view.pc view.regs view.reserved span room other h
 
@@ -90,7 +95,8 @@ no_room-append span (actions.Append address len) view byte h =
     absurd (omega arith)
 no_room-append span _ view byte h = refl
 
-insn-append : (insn : Option Insn) (view : HartView) (span : Span) (room : ℕ) (byte : ℕ → ℕ) → IsNoCall insn → append_in (perform (insn_action_of insn view span room) view byte) ≡ None
+insn-append : (insn : Option Insn) (view : HartView) (span : Span) (room : ℕ) (byte : ℕ → ℕ) → IsNoCall insn →
+    append_in (perform (insn_action_of insn view span room) view byte) ≡ None
 insn-append None view span room byte h = refl
 insn-append (Some insn) view span room byte h =
     rw (action-room insn view.pc view.regs view.reserved span room 0 h)
@@ -103,7 +109,8 @@ unfolding executed
 executed-append None view span room byte h = refl
 executed-append (Some word) view span room byte h = insn-append (decoded word) view span room byte h
 
-touched-room : (insn : Option Insn) (view : HartView) (span : Span) (room other : ℕ) → IsNoCall insn → insn_touched insn view span room ≡ insn_touched insn view span other
+touched-room : (insn : Option Insn) (view : HartView) (span : Span) (room other : ℕ) → IsNoCall insn →
+    insn_touched insn view span room ≡ insn_touched insn view span other
 touched-room None view span room other h = refl
 touched-room (Some insn) view span room other h = ap footprint (action-room insn view.pc view.regs view.reserved span room other h)
 
@@ -131,8 +138,10 @@ insn-reserved : (insn : Option Insn) (view : HartView) (reserved : Option ℕ) (
 insn-reserved None view reserved span room h = refl
 insn-reserved (Some insn) view reserved span room h = action-reserved insn view.pc view.regs reserved view.reserved span room h
 
-pub executed-reserved : (word : Option ℕ) (view : HartView) (reserved : Option ℕ) (span : Span) (room : ℕ) (byte : ℕ → ℕ) → IsNoStoreConditional (insn_at word) →
-    IsSameButReservation (executed word (record view { reserved = reserved }) span room byte) (executed word view span room byte) (record view { reserved = reserved }) view
+pub executed-reserved : (word : Option ℕ) (view : HartView) (reserved : Option ℕ) (span : Span) (room : ℕ) (byte : ℕ → ℕ) →
+    IsNoStoreConditional (insn_at word) →
+    IsSameButReservation (executed word (record view { reserved = reserved }) span room byte) (executed word view span room byte)
+    (record view { reserved = reserved }) view
 unfolding executed
 executed-reserved None view reserved span room byte h = record { seen = refl; store = refl; append = refl }
 executed-reserved (Some word) view reserved span room byte h =
@@ -147,14 +156,14 @@ perform-regs : (action : Action) (view : HartView) (byte : ℕ → ℕ) → AreR
 perform-regs (actions.Trap cause) view byte h = h
 perform-regs (actions.Exit code) view byte h = h
 perform-regs (actions.Put rd value) view byte h = set-regs view.regs rd.number value h
-perform-regs (actions.Link rd target) view byte h = set-regs view.regs rd.number _ h
+perform-regs (actions.JumpAndLink rd target) view byte h = set-regs view.regs rd.number _ h
 perform-regs (actions.Go target) view byte h = h
 perform-regs (actions.Answer value) view byte h = set-regs view.regs a0 value h
 perform-regs (actions.Append address len) view byte h = set-regs view.regs a0 len h
 perform-regs (actions.Load width rd address) view byte h = set-regs view.regs rd.number _ h
-perform-regs (actions.Reserve rd address) view byte h = set-regs view.regs rd.number _ h
+perform-regs (actions.LoadReserved rd address) view byte h = set-regs view.regs rd.number _ h
 perform-regs (actions.Store address len value) view byte h = h
-perform-regs (actions.StoreReserved rd address value) view byte h = set-regs view.regs rd.number _ h
+perform-regs (actions.StoreConditional rd address value) view byte h = set-regs view.regs rd.number _ h
 perform-regs (actions.Fail rd) view byte h = set-regs view.regs rd.number _ h
 perform-regs (actions.Amo op rd address source) view byte h = set-regs view.regs rd.number _ h
 
@@ -171,21 +180,24 @@ pub record IsWithin (access : Access) (execution : Execution) : Type 0 where
 perform-within : (action : Action) (view : HartView) (byte : ℕ → ℕ) → IsWithin (footprint action) (perform action view byte)
 perform-within (actions.Append address len) view byte = record { store = tt; append = refl }
 perform-within (actions.Store address len value) view byte = record { store = refl; append = tt }
-perform-within (actions.StoreReserved rd address value) view byte = record { store = refl; append = tt }
+perform-within (actions.StoreConditional rd address value) view byte = record { store = refl; append = tt }
 perform-within (actions.Amo op rd address source) view byte = record { store = refl; append = tt }
 perform-within _ view byte = record { store = tt; append = tt }
 
-insn-within : (insn : Option Insn) (view : HartView) (span : Span) (room : ℕ) (byte : ℕ → ℕ) → IsWithin (insn_touched insn view span room) (perform (insn_action_of insn view span room) view byte)
+insn-within : (insn : Option Insn) (view : HartView) (span : Span) (room : ℕ) (byte : ℕ → ℕ) →
+    IsWithin (insn_touched insn view span room) (perform (insn_action_of insn view span room) view byte)
 insn-within None view span room byte = record { store = tt; append = tt }
 insn-within (Some insn) view span room byte = perform-within (action_of insn view.pc view.regs view.reserved span room) view byte
 
-pub executed-within : (word : Option ℕ) (view : HartView) (span : Span) (room : ℕ) (byte : ℕ → ℕ) → IsWithin (touched word view span room) (executed word view span room byte)
+pub executed-within : (word : Option ℕ) (view : HartView) (span : Span) (room : ℕ) (byte : ℕ → ℕ) →
+    IsWithin (touched word view span room) (executed word view span room byte)
 unfolding executed
 executed-within None view span room byte = record { store = tt; append = tt }
 executed-within (Some word) view span room byte = insn-within (decoded word) view span room byte
 
 -- an instruction that writes has passed its checks
-checked-went : (span : Span) (address size misaligned outside : ℕ) (action : Action) (from len : ℕ) → footprint (checked_of span address size misaligned outside action) ≡ Write from len →
+checked-went : (span : Span) (address size misaligned outside : ℕ) (action : Action) (from len : ℕ) →
+    footprint (checked_of span address size misaligned outside action) ≡ Write from len →
     checked_of span address size misaligned outside action ≡ action
 checked-went span address size misaligned outside action from len = tested (address % size == 0) (holds span address size)
   where
@@ -208,15 +220,30 @@ amo-action word op rd rs1 rs2 aq rl view span room from len is writes =
     let there : Write address 4 ≡ Write from len = rw went at writes in
     (cc, cc, rw is (cc went))
 
+-- so what it touches and what it does do not depend on the reservation
+pub amo-reserved : (word : ℕ) (op : AmoOp) (rd rs1 rs2 : Reg) (aq rl : Bool) (view : HartView) (reserved : Option ℕ) (span : Span) (room from len : ℕ)
+    (byte : ℕ → ℕ) → decoded word ≡ Some (insns.Amo op rd rs1 rs2 aq rl) → touched (Some word) view span room ≡ Write from len →
+    (touched (Some word) (record view { reserved = reserved }) span room ≡ Write from len)
+    × (executed (Some word) (record view { reserved = reserved }) span room byte ≡ executed (Some word) view span room byte)
+unfolding action_of executed
+amo-reserved word op rd rs1 rs2 aq rl view reserved span room from len byte is writes =
+    let other : HartView = record view { reserved = reserved } in
+    let here = amo-action word op rd rs1 rs2 aq rl view span room from len is writes in
+    let same : touched (Some word) other span room ≡ touched (Some word) view span room = rw is refl in
+    let there = amo-action word op rd rs1 rs2 aq rl other span room from len is (same ∙ writes) in
+    (same ∙ writes, ap (λ action. perform action other byte) there.2 ∙ sym (ap (λ action. perform action view byte) here.2))
+
 -- a store that does not trap, likewise
 pub store-action : (word : ℕ) (width : StoreWidth) (rs1 rs2 : Reg) (offset : ℤ) (view : HartView) (span : Span) (room from len : ℕ) →
     decoded word ≡ Some (insns.Store width rs1 rs2 offset) → touched (Some word) view span room ≡ Write from len →
-    (from ≡ moved_of (get view.regs rs1.number) offset) × (len ≡ store_size_of width) × (action_at (Some word) view span room ≡ actions.Store from len (get view.regs rs2.number))
+    (from ≡ moved_of (get view.regs rs1.number) offset) × (len ≡ store_size_of width)
+    × (action_at (Some word) view span room ≡ actions.Store from len (get view.regs rs2.number))
 unfolding action_of
 store-action word width rs1 rs2 offset view span room from len is writes =
     let address : ℕ = moved_of (get view.regs rs1.number) offset in
     let action : Action = actions.Store address (store_size_of width) (get view.regs rs2.number) in
     let writes = rw is at writes in
-    let went : checked_of span address (store_size_of width) store_address_misaligned store_access_fault action ≡ action = checked-went span address (store_size_of width) _ _ action from len writes in
+    let went : checked_of span address (store_size_of width) store_address_misaligned store_access_fault action ≡ action =
+    checked-went span address (store_size_of width) _ _ action from len writes in
     let there : Write address (store_size_of width) ≡ Write from len = rw went at writes in
     (cc, cc, rw is (cc went))

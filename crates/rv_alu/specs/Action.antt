@@ -10,7 +10,7 @@ use Rattle.rv_word.specs.declared.insn.StoreWidth.{StoreWidth}
 use Rattle.rv_word.specs.declared.insn.StoreWidth.TheVariants as stores
 use Rattle.rv_word.specs.declared.reg.Reg.{Reg}
 use Rattle.rv_alu.specs.declared.action.Action.{Action}
-use Rattle.rv_alu.specs.declared.action.Action.TheVariants.{Trap, Put, Link, Go, Load, Reserve, Store, StoreReserved, Fail, Amo}
+use Rattle.rv_alu.specs.declared.action.Action.TheVariants.{Trap, Put, JumpAndLink, Go, Load, LoadReserved, Store, StoreConditional, Fail, Amo}
 use Rattle.rv_alu.specs.declared.span.Span.{Span}
 use Rattle.rv_alu.specs.declared.view.HartView.{HartView}
 use Rattle.rv_alu.specs.Cause.{breakpoint, illegal_instruction, instruction_access_fault, instruction_address_misaligned, load_access_fault, load_address_misaligned, store_access_fault, store_address_misaligned}
@@ -65,16 +65,16 @@ has_reserved_of (Some word) address = word == address
 -- a store conditional stores only where its word is reserved
 abbrev pub conditional_of : Option ℕ → Reg → ℕ → ℕ → Action
 conditional_of reserved rd address value =
-    if has_reserved_of reserved address then StoreReserved rd address value else Fail rd
+    if has_reserved_of reserved address then StoreConditional rd address value else Fail rd
 
 -- an instruction of a hart that has this pc, these registers and this reservation
 unfoldable pub action_of : Insn → ℕ → List ℕ → Option ℕ → Span → ℕ → Action
 action_of (insns.Lui rd imm) pc regs reserved span room = Put rd imm
 action_of (insns.Auipc rd imm) pc regs reserved span room = Put rd (plus pc imm)
 action_of (insns.Jal rd offset) pc regs reserved span room =
-    let target = moved_of pc offset in jump_of target (Link rd target)
+    let target = moved_of pc offset in jump_of target (JumpAndLink rd target)
 action_of (insns.Jalr rd rs1 offset) pc regs reserved span room =
-    let target = indirect_of (moved_of (get regs rs1.number) offset) in jump_of target (Link rd target)
+    let target = indirect_of (moved_of (get regs rs1.number) offset) in jump_of target (JumpAndLink rd target)
 action_of (insns.Branch test rs1 rs2 offset) pc regs reserved span room =
     let target = moved_of pc offset in
     if taken_of test (get regs rs1.number) (get regs rs2.number) then jump_of target (Go target) else Go (next_pc_of pc)
@@ -91,7 +91,7 @@ action_of insns.Fence pc regs reserved span room = Go (next_pc_of pc)
 action_of insns.Ecall pc regs reserved span room = call_of regs span room
 action_of insns.Ebreak pc regs reserved span room = Trap breakpoint
 action_of (insns.Lr rd rs1 aq rl) pc regs reserved span room =
-    let address = get regs rs1.number in load_of span address 4 (Reserve rd address)
+    let address = get regs rs1.number in load_of span address 4 (LoadReserved rd address)
 action_of (insns.Sc rd rs1 rs2 aq rl) pc regs reserved span room =
     let address = get regs rs1.number in
     store_of span address 4 (conditional_of reserved rd address (get regs rs2.number))

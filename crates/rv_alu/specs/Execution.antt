@@ -54,17 +54,17 @@ abbrev pub perform : Action → HartView → (ℕ → ℕ) → Execution
 perform (actions.Trap cause) view byte = Stops (Trapped cause view.pc)
 perform (actions.Exit code) view byte = Stops (Exited code)
 perform (actions.Put rd value) view byte = Goes (put_of view rd.number value) None None
-perform (actions.Link rd target) view byte = Goes (link_of view rd.number target) None None
+perform (actions.JumpAndLink rd target) view byte = Goes (link_of view rd.number target) None None
 perform (actions.Go target) view byte = Goes (record view { pc = target }) None None
 perform (actions.Answer value) view byte = Goes (put_of view a0 value) None None
 perform (actions.Append address len) view byte = Goes (put_of view a0 len) None (Some (record { address = address; len = len }))
 perform (actions.Load width rd address) view byte =
     Goes (put_of view rd.number (extend_of width (loaded byte address (load_size_of width)))) None None
-perform (actions.Reserve rd address) view byte =
+perform (actions.LoadReserved rd address) view byte =
     Goes (record (put_of view rd.number (loaded byte address 4)) { reserved = Some address }) None None
 perform (actions.Store address len value) view byte =
     Goes (release_of (advance_of view)) (Some (record { address = address; len = len; value = value })) None
-perform (actions.StoreReserved rd address value) view byte =
+perform (actions.StoreConditional rd address value) view byte =
     Goes (release_of (put_of view rd.number 0)) (Some (record { address = address; len = 4; value = value })) None
 perform (actions.Fail rd) view byte = Goes (release_of (put_of view rd.number 1)) None None
 perform (actions.Amo op rd address source) view byte =
@@ -105,7 +105,7 @@ append_in (Goes new store append) = append
 -- the bytes of memory that an action loads
 abbrev pub loads : Action → Option Load
 loads (actions.Load width rd address) = Some (record { address = address; len = load_size_of width })
-loads (actions.Reserve rd address) = Some (record { address = address; len = 4 })
+loads (actions.LoadReserved rd address) = Some (record { address = address; len = 4 })
 loads (actions.Amo op rd address source) = Some (record { address = address; len = 4 })
 loads _ = None
 

@@ -19,14 +19,14 @@ abbrev pub footprint : Action → Access
 footprint (actions.Trap cause) = Trap cause
 footprint (actions.Exit code) = Exit code
 footprint (actions.Put rd value) = Nothing
-footprint (actions.Link rd target) = Nothing
+footprint (actions.JumpAndLink rd target) = Nothing
 footprint (actions.Go target) = Nothing
 footprint (actions.Answer value) = Nothing
 footprint (actions.Append address len) = Read address len
 footprint (actions.Load width rd address) = Read address (load_size_of width)
-footprint (actions.Reserve rd address) = Read address 4
+footprint (actions.LoadReserved rd address) = Read address 4
 footprint (actions.Store address len value) = Write address len
-footprint (actions.StoreReserved rd address value) = Write address 4
+footprint (actions.StoreConditional rd address value) = Write address 4
 footprint (actions.Fail rd) = Nothing
 footprint (actions.Amo op rd address source) = Write address 4
 
@@ -108,8 +108,8 @@ IsAppendIn span room append = IsPiece span append.address append.len × (append.
 abbrev pub IsInPlace : Span → ℕ → Action → Type 0
 IsInPlace span room (actions.Append address len) = IsPiece span address len × (len ≤ room)
 IsInPlace span room (actions.Load width rd address) = IsPiece span address (load_size_of width) × IsSize (load_size_of width)
-IsInPlace span room (actions.Reserve rd address) = IsPiece span address 4
+IsInPlace span room (actions.LoadReserved rd address) = IsPiece span address 4
 IsInPlace span room (actions.Store address len value) = IsPiece span address len × IsSize len
-IsInPlace span room (actions.StoreReserved rd address value) = IsPiece span address 4
+IsInPlace span room (actions.StoreConditional rd address value) = IsPiece span address 4
 IsInPlace span room (actions.Amo op rd address source) = IsPiece span address 4
 IsInPlace span room _ = Unit {0}

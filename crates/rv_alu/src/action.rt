@@ -1,3 +1,4 @@
+use crate::abi::A0;
 use crate::cause::{BREAKPOINT, ILLEGAL_INSTRUCTION, INSTRUCTION_ACCESS_FAULT};
 use crate::checks::{conditional, indirect, jump, load, load_size, next_pc, store, store_size};
 use crate::effects::{advance, link, put, release};
@@ -5,7 +6,7 @@ use crate::footprint::Access;
 use crate::operation::{alu, amo, extend, moved, taken};
 use crate::regs::Regs;
 use crate::span::Span;
-use crate::syscall::{A0, call};
+use crate::syscall::call;
 use crate::transfers::{Append, Load, Store, Transfers};
 use crate::view::{HartStatus, HartView};
 use rv_word::{AmoOp, Insn, LoadWidth, Reg, decode};
@@ -28,7 +29,7 @@ pub enum Action {
         value: u32,
     },
     /// The hart jumps, and the address of the next instruction in memory goes into `rd`.
-    Link {
+    JumpAndLink {
         rd: Reg,
         target: u32,
     },
@@ -52,7 +53,7 @@ pub enum Action {
         address: u32,
     },
     /// The word at `address` goes into `rd`, and is reserved.
-    Reserve {
+    LoadReserved {
         rd: Reg,
         address: u32,
     },
@@ -63,7 +64,7 @@ pub enum Action {
         value: u32,
     },
     /// A store conditional stores its word, and 0 goes into `rd`.
-    StoreReserved {
+    StoreConditional {
         rd: Reg,
         address: u32,
         value: u32,
@@ -134,11 +135,11 @@ impl Action {
             },
             Insn::Jal { rd, offset } => {
                 let target = moved(pc, offset);
-                jump(target, Action::Link { rd, target })
+                jump(target, Action::JumpAndLink { rd, target })
             }
             Insn::Jalr { rd, rs1, offset } => {
                 let target = indirect(moved(regs.get(rs1), offset));
-                jump(target, Action::Link { rd, target })
+                jump(target, Action::JumpAndLink { rd, target })
             }
             Insn::Branch {
                 test,
@@ -204,7 +205,7 @@ impl Action {
             Insn::Ebreak => Action::Trap { cause: BREAKPOINT },
             Insn::Lr { rd, rs1, .. } => {
                 let address = regs.get(rs1);
-                load(span, address, 4, Action::Reserve { rd, address })
+                load(span, address, 4, Action::LoadReserved { rd, address })
             }
             Insn::Sc { rd, rs1, rs2, .. } => {
                 let address = regs.get(rs1);
@@ -239,7 +240,7 @@ impl Action {
             Action::Trap { cause } => Access::Trap { cause },
             Action::Exit { code } => Access::Exit { code },
             Action::Put { .. }
-            | Action::Link { .. }
+            | Action::JumpAndLink { .. }
             | Action::Go { .. }
             | Action::Answer { .. }
             | Action::Fail { .. } => { Access::Nothing }
@@ -248,9 +249,9 @@ impl Action {
                 address,
                 len: load_size(width),
             },
-            Action::Reserve { address, .. } => Access::Read { address, len: 4 },
+            Action::LoadReserved { address, .. } => Access::Read { address, len: 4 },
             Action::Store { address, len, .. } => Access::Write { address, len },
-            Action::StoreReserved { address, .. } | Action::Amo { address, .. } => {
+            Action::StoreConditional { address, .. } | Action::Amo { address, .. } => {
                 Access::Write { address, len: 4 }
             }
         }
@@ -266,7 +267,7 @@ impl Action {
                 address,
                 len: load_size(width),
             }),
-            Action::Reserve { address, .. } | Action::Amo { address, .. } => {
+            Action::LoadReserved { address, .. } | Action::Amo { address, .. } => {
                 Some(Load { address, len: 4 })
             }
             _ => None,
@@ -308,12 +309,12 @@ impl Action {
             Action::Trap { cause } => view.status = HartStatus::Trapped { cause, pc: view.pc },
             Action::Exit { code } => view.status = HartStatus::Exited { code },
             Action::Put { rd, value } => put(view, rd, value),
-            Action::Link { rd, target } => link(view, rd, target),
+            Action::JumpAndLink { rd, target } => link(view, rd, target),
             Action::Go { target } => view.pc = target,
             Action::Answer { value } => put(view, A0, value),
             Action::Append { len, .. } => put(view, A0, len),
             Action::Load { width, rd, .. } => put(view, rd, extend(width, number.unwrap())),
-            Action::Reserve { rd, address } => {
+            Action::LoadReserved { rd, address } => {
                 put(view, rd, number.unwrap());
                 view.reserved = Some(address);
             }
@@ -321,7 +322,7 @@ impl Action {
                 advance(view);
                 release(view);
             }
-            Action::StoreReserved { rd, .. } => {
+            Action::StoreConditional { rd, .. } => {
                 put(view, rd, 0);
                 release(view);
             }
@@ -353,7 +354,7 @@ impl Action {
                 len,
                 value,
             }),
-            Action::StoreReserved { address, value, .. } => Some(Store {
+            Action::StoreConditional { address, value, .. } => Some(Store {
                 address,
                 len: 4,
                 value,

@@ -158,7 +158,7 @@ pub fn conditional(reserved: Option<u32>, rd: Reg, address: u32, value: u32) -> 
     ensures { result ≡ conditional_of reserved rd address value }
 {
     if has_reserved(reserved, address) {
-        Action::StoreReserved { rd, address, value }
+        Action::StoreConditional { rd, address, value }
     } else {
         Action::Fail { rd }
     }

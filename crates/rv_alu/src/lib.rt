@@ -13,6 +13,7 @@
 //! The definition of a free function `foo` is `foo_of`; that of a method has the method's name.
 #![tactic(auto)]
 
+pub mod abi;
 mod action;
 pub mod cause;
 mod checks;

@@ -1,11 +1,11 @@
 ghost use Rattle.std.specs.Prelude.{◌≡◌, ◌≤◌, ◌+◌, ◌-◌, ◌^◌};
 ghost use Rattle.rv_alu.specs.Syscall.{call_of, error_of, write_call_of};
 
+use crate::abi::{A0, A1, A2, A7};
 use crate::action::Action;
 use crate::regs::Regs;
 use crate::span::Span;
 use el_base::LINE_BYTES;
-use rv_word::Reg;
 
 /// The number of the Linux RISC-V system call `exit`.
 const EXIT_NUMBER: u32 = 93;
@@ -24,16 +24,6 @@ const ENOSPC: u32 = 28;
 
 /// Linux's error number of a call that is not there.
 const ENOSYS: u32 = 38;
-
-/// The registers of a call: its number in x17, its arguments in x10, x11 and x12, its answer in x10
-/// (Linux RISC-V system calls).
-pub const A0: Reg = Reg { number: 10 };
-
-const A1: Reg = Reg { number: 11 };
-
-const A2: Reg = Reg { number: 12 };
-
-const A7: Reg = Reg { number: 17 };
 
 /// How the write call that these registers ask for goes, where the output has room for `room`
 /// bytes. The tests, in this order: the file is 1 or 2, both of which are the one output (else -9,

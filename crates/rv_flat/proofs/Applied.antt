@@ -13,7 +13,8 @@ use Rattle.rv_flat.specs.Step.{action_of, appended_by, applied, execution_of, ke
 
 -- a hart without a reservation loses none
 unreserved-none : (line : ℕ) (view : HartView) → view.reserved ≡ None → unreserved line view ≡ view
-unreserved-none line view none = ap (λ reserved. record view { reserved = kept_of line reserved }) none ∙ ap (λ reserved. record view { reserved = reserved }) (sym none)
+unreserved-none line view none =
+    ap (λ reserved. record view { reserved = kept_of line reserved }) none ∙ ap (λ reserved. record view { reserved = reserved }) (sym none)
 
 -- a hart that has lost its reservation may be among those that a store reaches
 unreserved_by-set : (store : Option Store) (harts : List HartView) (hart : ℕ) (view : HartView) → OnSome store (view.reserved ≡ None) →

@@ -31,7 +31,8 @@ same_execution left right view code span room bytes =
     ∙ executed_agree (code_word right.code view.pc) view (span_of right) (room_of right) byte (byte_in right.base right.bytes) bytes
 
 -- a piece of memory depends on the bytes there alone
-piece-same : (left right : List ℕ) (place len : ℕ) → length left ≡ length right → ((k : ℕ) → place ≤ k → k < place + len → slice_index left k ≡ slice_index right k) →
+piece-same : (left right : List ℕ) (place len : ℕ) → length left ≡ length right →
+    ((k : ℕ) → place ≤ k → k < place + len → slice_index left k ≡ slice_index right k) →
     piece_of left place len ≡ piece_of right place len
 piece-same left right place len same h =
     same_number_lists (piece_of left place len) (piece_of right place len)
@@ -69,7 +70,8 @@ same_appended left right (Some append) access same piece is agree =
     let back_right : right.base + k - right.base ≡ k = omega arith in
     rw (back_left, back_right) at (agree (right.base + k) (omega arith, omega arith)))
 
-same_stored : (left right : FlatState) (store : Option Store) → SamePlaces left right → (place : ℕ) → slice_index left.bytes place ≡ slice_index right.bytes place →
+same_stored : (left right : FlatState) (store : Option Store) → SamePlaces left right → (place : ℕ) →
+    slice_index left.bytes place ≡ slice_index right.bytes place →
     slice_index (stored_by store left.base left.bytes) place ≡ slice_index (stored_by store right.base right.bytes) place
 same_stored left right None same place h = h
 same_stored left right (Some store) same place h =
@@ -87,7 +89,8 @@ same_applied hart left right view in_left in_right same agree =
       more = appended (append_in execution) right.base right.bytes;
       left_output =
           appended_by-more (append_in execution) left.base left.bytes left.output
-          ∙ ap (λ more. left.output ++ more) (same_appended left right (append_in execution) (touched_by right view) same (one_line-touched right view) (within right view).append agree);
+          ∙ ap (λ more. left.output ++ more)
+          (same_appended left right (append_in execution) (touched_by right view) same (one_line-touched right view) (within right view).append agree);
       right_output = appended_by-more (append_in execution) right.base right.bytes right.output;
     }
 
@@ -96,8 +99,10 @@ same_status : (hart : ℕ) (left right : FlatState) (view : HartView) (status : 
     AgreeOn (touched_in right view status) (byte_in left.base left.bytes) (byte_in right.base right.bytes) →
     DidTheSame hart left right (status_step left hart view status) (status_step right hart view status)
 same_status hart left right view Running in_left in_right seen code span room agree =
-    let Did : Execution → Type 0 = λ execution. DidTheSame hart left right (applied left hart view execution) (applied right hart view (execution_of right view)) in
-    subst Did (sym (same_execution left right view code span room agree)) (same_applied hart left right view in_left in_right (same_places left right span) agree)
+    let Did : Execution → Type 0 =
+    λ execution. DidTheSame hart left right (applied left hart view execution) (applied right hart view (execution_of right view)) in
+    subst Did (sym (same_execution left right view code span room agree))
+    (same_applied hart left right view in_left in_right (same_places left right span) agree)
 same_status hart left right view (Exited exit) in_left in_right seen code span room agree =
     record { view = seen; bytes = λ place h. h; more = []; left_output = sym (append-nil left.output); right_output = sym (append-nil right.output) }
 same_status hart left right view (Trapped cause pc) in_left in_right seen code span room agree =
@@ -113,7 +118,8 @@ same_step hart left right in_left in_right same =
     (same_status hart left right (view_of right hart) (status_of right hart) in_left in_right same.view same.code same.span same.room same.bytes)
 
 any_output-applied : (state : FlatState) (output : List ℕ) (hart : ℕ) (view : HartView) → IsNoCall (insn_at (code_word state.code view.pc)) →
-    applied (with_output state output) hart view (execution_of (with_output state output) view) ≡ with_output (applied state hart view (execution_of state view)) output
+    applied (with_output state output) hart view (execution_of (with_output state output) view)
+    ≡ with_output (applied state hart view (execution_of state view)) output
 any_output-applied state output hart view none =
     let word : Option ℕ = code_word state.code view.pc in
     let byte : ℕ → ℕ = byte_in state.base state.bytes in
@@ -121,13 +127,15 @@ any_output-applied state output hart view none =
     ∙ ap (λ append. with_output (applied state hart view (execution_of state view)) (appended_by append state.base state.bytes output))
     (executed-append word view (span_of state) (room_of state) byte none)
 
-any_output-status : (state : FlatState) (output : List ℕ) (hart : ℕ) (view : HartView) (status : HartStatus) → IsNoCall (insn_at (code_word state.code view.pc)) →
+any_output-status : (state : FlatState) (output : List ℕ) (hart : ℕ) (view : HartView) (status : HartStatus) →
+    IsNoCall (insn_at (code_word state.code view.pc)) →
     status_step (with_output state output) hart view status ≡ with_output (status_step state hart view status) output
 any_output-status state output hart view Running none = any_output-applied state output hart view none
 any_output-status state output hart view (Exited code) none = refl
 any_output-status state output hart view (Trapped cause pc) none = refl
 
 -- a step that makes no call is the same whatever the output is
-pub any_output : (state : FlatState) (output : List ℕ) (hart : ℕ) → IsNoCall (next_insn state hart) → flat (with_output state output) hart ≡ with_output (flat state hart) output
+pub any_output : (state : FlatState) (output : List ℕ) (hart : ℕ) → IsNoCall (next_insn state hart) →
+    flat (with_output state output) hart ≡ with_output (flat state hart) output
 unfolding flat
 any_output state output hart none = any_output-status state output hart (view_of state hart) (status_of state hart) none

@@ -35,7 +35,7 @@ unreserved_by-get None harts hart = refl
 unreserved_by-get (Some store) harts hart = get_or-map (unreserved (line_number store.address)) harts hart no_hart
 
 seen_by-reserved : (store : Option Store) (view : HartView) (reserved : Option ℕ) →
-    seen_by store (record view { reserved = reserved }) ≡ record (seen_by store view) { reserved = (seen_by store (record view { reserved = reserved })).reserved }
+    let seen : HartView = seen_by store (record view { reserved = reserved }) in seen ≡ record (seen_by store view) { reserved = seen.reserved }
 seen_by-reserved None view reserved = refl
 seen_by-reserved (Some store) view reserved = refl
 
@@ -70,7 +70,8 @@ abbrev pub IsButReserved : ℕ → FlatState → FlatState → Type 0
 IsButReserved hart left right = (reserved : Option ℕ) × (left ≡ with_reserved right hart reserved)
 
 -- it is so after a step of the hart itself, unless that is a store conditional
-own_status : (state : FlatState) (hart : ℕ) (reserved : Option ℕ) (status : HartStatus) → hart < length state.harts → IsNoStoreConditional (next_insn state hart) →
+own_status : (state : FlatState) (hart : ℕ) (reserved : Option ℕ) (status : HartStatus) → hart < length state.harts →
+    IsNoStoreConditional (next_insn state hart) →
     let other : HartView = record (view_of state hart) { reserved = reserved } in
     IsButReserved hart (status_step (with_view state hart other) hart other status) (status_step state hart (view_of state hart) status)
 own_status state hart reserved Running there none =
@@ -83,13 +84,15 @@ own_status state hart reserved Running there none =
     ((view_after left other).reserved,
     own_applied state hart view other left right same
     ∙ ap (with_view (applied state hart view right) hart) same.seen
-    ∙ ap (λ seen. with_view (applied state hart view right) hart (record seen { reserved = (view_after left other).reserved })) (sym (view-applied state hart view right there)))
+    ∙ ap (λ seen. with_view (applied state hart view right) hart (record seen { reserved = (view_after left other).reserved }))
+    (sym (view-applied state hart view right there)))
 own_status state hart reserved (Exited code) there none = (reserved, refl)
 own_status state hart reserved (Trapped cause pc) there none = (reserved, refl)
 
 -- and after a step of another hart
 other_status : (state : FlatState) (hart other : ℕ) (reserved : Option ℕ) (status : HartStatus) → hart < length state.harts → other ≢ hart →
-    IsButReserved hart (status_step (with_reserved state hart reserved) other (view_of state other) status) (status_step state other (view_of state other) status)
+    IsButReserved hart (status_step (with_reserved state hart reserved) other (view_of state other) status)
+    (status_step state other (view_of state other) status)
 other_status state hart other reserved Running there apart =
     let view : HartView = record (view_of state hart) { reserved = reserved } in
     let execution : Execution = execution_of state (view_of state other) in
@@ -118,11 +121,13 @@ step_by state hart next reserved there none (inr apart) =
     (other_status state hart next reserved (status_of state next) there apart)
 
 -- a run depends on a hart's reservation in what is left of it, where the hart makes no store conditional
-run_but_reserved : (state : FlatState) (hart : ℕ) (reserved : Option ℕ) (harts : List ℕ) → hart < length state.harts → MakesNoStoreConditional state hart harts →
+run_but_reserved : (state : FlatState) (hart : ℕ) (reserved : Option ℕ) (harts : List ℕ) → hart < length state.harts →
+    MakesNoStoreConditional state hart harts →
     IsButReserved hart (run (with_reserved state hart reserved) harts) (run state harts)
 run_but_reserved state hart reserved [] there none = (reserved, refl)
 run_but_reserved state hart reserved (next ∷ harts) there none =
-    let step : IsButReserved hart (flat (with_reserved state hart reserved) next) (flat state next) = step_by state hart next reserved there none.0 (cases_eq next hart) in
+    let step : IsButReserved hart (flat (with_reserved state hart reserved) next) (flat state next) =
+    step_by state hart next reserved there none.0 (cases_eq next hart) in
     let goes : IsButReserved hart (run (with_reserved (flat state next) hart step.0) harts) (run (flat state next) harts) =
     run_but_reserved (flat state next) hart step.0 harts (omega (arith, there, (keeps_shape state next).harts)) none.1 in
     (goes.0, ap (λ state. run state harts) step.1 ∙ goes.1)
@@ -140,6 +145,7 @@ run_forgets state hart reserved harts there none left =
     let goes : IsButReserved hart (run (with_reserved state hart reserved) harts) after = run_but_reserved state hart reserved harts there none in
     let within : hart < length after.harts = omega (arith, there, harts-run state harts) in
     let own : goes.0 ≡ (view_of after hart).reserved =
-    sym (ap (λ view. view.reserved) (ap (λ state. view_of state hart) goes.1 ∙ get_or-set_same after.harts hart (record (view_of after hart) { reserved = goes.0 }) no_hart within)) ∙ left in
+    sym (ap (λ view. view.reserved) (ap (λ state. view_of state hart) goes.1
+    ∙ get_or-set_same after.harts hart (record (view_of after hart) { reserved = goes.0 }) no_hart within)) ∙ left in
     goes.1 ∙ ap (with_reserved after hart) own
     ∙ ap (λ harts. record after { harts = harts }) (set-get_or after.harts hart no_hart)

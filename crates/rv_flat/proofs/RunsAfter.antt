@@ -36,7 +36,8 @@ own_before state hart view Running is seen runs = refl
 own_before state hart view (Exited code) is seen runs = sym is ∙ ap (λ view. view.status) (sym seen) ∙ runs
 own_before state hart view (Trapped cause pc) is seen runs = sym is ∙ ap (λ view. view.status) (sym seen) ∙ runs
 
-before_by : (state : FlatState) (hart other : ℕ) → status_of (flat state hart) other ≡ Running → (other ≡ hart) ⊎ (other ≡ hart → ⊥) → status_of state other ≡ Running
+before_by : (state : FlatState) (hart other : ℕ) → status_of (flat state hart) other ≡ Running → (other ≡ hart) ⊎ (other ≡ hart → ⊥) →
+    status_of state other ≡ Running
 unfolding flat
 before_by state hart other runs (inl same) =
     rw same (own_before state hart (view_of state hart) (status_of state hart) refl refl (rw same at runs))

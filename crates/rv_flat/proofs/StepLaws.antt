@@ -7,6 +7,7 @@ use Rattle.std.proofs.Math.ListN.{get_or-map}
 use Rattle.std.proofs.lemmas.List.FromFn.{get_or-map-range_with_len, length-map-range_with_len}
 use Rattle.elf_image.specs.Limits.{stack_size}
 use Rattle.elf_image.specs.Program.{Program, code_word}
+use Rattle.el_base.specs.declared.line.TheConstants.{LINE_BYTES}
 use Rattle.el_base.specs.Line.{line_number}
 use Rattle.rv_alu.proofs.Executions.{IsWithin, executed-regs, executed-within, set-regs}
 use Rattle.rv_alu.proofs.Footprints.{fits}
@@ -76,7 +77,8 @@ unfolding flat
 still state hart h = still_status state hart (view_of state hart) (status_of state hart) h
 
 -- a running hart's step is what its next instruction does
-pub running : (state : FlatState) (hart : ℕ) → status_of state hart ≡ Running → flat state hart ≡ applied state hart (view_of state hart) (execution_of state (view_of state hart))
+pub running : (state : FlatState) (hart : ℕ) → status_of state hart ≡ Running →
+    flat state hart ≡ applied state hart (view_of state hart) (execution_of state (view_of state hart))
 unfolding flat
 running state hart h = ap (status_step state hart (view_of state hart)) h
 
@@ -108,7 +110,9 @@ keeps_shape state hart =
       base = refl;
       length_of_bytes = length-stored_by (store_in execution) state.base state.bytes;
       code = refl;
-      harts = length-set (unreserved_by (store_in execution) state.harts) hart (view_after execution view) ∙ length-unreserved_by (store_in execution) state.harts;
+      harts =
+          length-set (unreserved_by (store_in execution) state.harts) hart (view_after execution view)
+          ∙ length-unreserved_by (store_in execution) state.harts;
       more = appended (append_in execution) state.base state.bytes;
       output = appended_by-more (append_in execution) state.base state.bytes state.output;
     })
@@ -150,7 +154,7 @@ writes_in_footprint state hart =
 -- so it changes memory only on the line that is written
 on_line : (span : Span) (access : Access) (address : ℕ) → IsInOneLine span access → Writes access address → written_line access ≡ Some (line_number address)
 on_line span (Write from len) address piece there =
-    let short : from % 64 + len ≤ 64 = piece.one_line in
+    let short : from % LINE_BYTES + len ≤ LINE_BYTES = piece.one_line in
     let low : from ≤ address = there.0 in
     let high : address < from + len = there.1 in
     let same : line_number from ≡ line_number address = omega arith in
@@ -176,7 +180,8 @@ seen_after-none Nothing none view = refl
 seen_after-none (Trap cause) none view = refl
 seen_after-none (Exit code) none view = refl
 
-unreserved_by-view : (access : Access) (store : Option Store) (harts : List HartView) (other : ℕ) → MatchOption store (IsNoWrite access) (λ store. access ≡ Write store.address store.len) →
+unreserved_by-view : (access : Access) (store : Option Store) (harts : List HartView) (other : ℕ) →
+    MatchOption store (IsNoWrite access) (λ store. access ≡ Write store.address store.len) →
     slice_index_or (unreserved_by store harts) other no_hart ≡ seen_after access (slice_index_or harts other no_hart)
 unreserved_by-view access None harts other none = sym (seen_after-none access none (slice_index_or harts other no_hart))
 unreserved_by-view access (Some store) harts other is = rw is (get_or-map (unreserved (line_number store.address)) harts other no_hart)
@@ -212,13 +217,15 @@ unreserved_by-regs (Some store) harts other h =
     (get_or-map (unreserved line) harts other no_hart) h
 
 -- of the hart whose view is new, or of another
-regs_by : (harts : List HartView) (hart : ℕ) (new : HartView) (other : ℕ) → (hart < length harts → AreRegs new.regs) → AreRegs (slice_index_or harts other no_hart).regs →
+regs_by : (harts : List HartView) (hart : ℕ) (new : HartView) (other : ℕ) → (hart < length harts → AreRegs new.regs) →
+    AreRegs (slice_index_or harts other no_hart).regs →
     other < length harts → (other ≡ hart) ⊎ (other ≡ hart → ⊥) → AreRegs (slice_index_or (slice_set harts hart new) other no_hart).regs
 regs_by harts hart new other own others within (inl same) =
     let there = rw same at within in
     regs_along new (slice_index_or (slice_set harts hart new) other no_hart) (rw same (get_or-set_same harts hart new no_hart there)) (own there)
 regs_by harts hart new other own others within (inr apart) =
-    regs_along (slice_index_or harts other no_hart) (slice_index_or (slice_set harts hart new) other no_hart) (get_or-set_other harts hart other new no_hart apart) others
+    regs_along (slice_index_or harts other no_hart) (slice_index_or (slice_set harts hart new) other no_hart)
+    (get_or-set_other harts hart other new no_hart apart) others
 
 -- a step leaves each hart 32 registers of which the first is 0
 pub keeps_regs : (state : FlatState) (hart : ℕ) → HasRegs state → HasRegs (flat state hart)

@@ -4,20 +4,14 @@ ghost use Rattle.rv_flat.specs.FlatState.{first_view};
 
 use el_base::NoMemory;
 use elf_image::{Image, STACK_BYTES};
+use rv_alu::abi::{A0, A1, SP};
 use rv_alu::{HartStatus, HartView, Regs};
-use rv_word::Reg;
 use std::alloc::Global;
-
-const SP: Reg = Reg { number: 2 };
-
-const A0: Reg = Reg { number: 10 };
-
-const A1: Reg = Reg { number: 11 };
 
 /// A hart before its first step, with its number, the number of harts and its own stack (this
 /// project's profile).
 #[tactic(auto, unfolding(crate::specs::FlatState::first_view))]
-fn first_hart(image: &Image, hart: u8) -> HartView
+fn first_view(image: &Image, hart: u8) -> HartView
     requires { hart < image.now.harts }
     ensures { result ≡ first_view image.now hart }
 {
@@ -40,7 +34,7 @@ pub fn first_views(alloc: Global, image: &Image) -> Result<Vec<HartView>, NoMemo
 {
     let mut views = Vec::new(alloc);
     for hart in 0..image.harts() {
-        views.push(first_hart(image, hart))?;
+        views.push(first_view(image, hart))?;
     }
     Ok(views)
 }

@@ -8,7 +8,7 @@ ghost use Rattle.rv_flat.specs.Step.{action_of, appended_by, applied, execution_
 
 use crate::beginning::first_views;
 use crate::memory;
-use crate::reservations::unreserve;
+use crate::reservations::unreserve_all;
 use el_base::{HartId, NoMemory, line_of};
 use elf_image::{Code, Image};
 use rv_alu::{Action, Append, HartStatus, HartView, Load, Span, Store};
@@ -148,14 +148,14 @@ impl Flat {
         ensures { let view = view_of self.old place in self.new ≡ applied self.old place view (execution_of self.old view) }
     {
         let action = self.next_action(place);
-        let number = self.load(action.loads());
+        let number = self.loaded(action.loads());
         let transfers = action.perform(&mut self.harts[place], number);
         self.append(transfers.append);
         self.store(transfers.store);
     }
 
     /// The number that is loaded, if one is.
-    fn load(&self, load: Option<Load>) -> Option<u32>
+    fn loaded(&self, load: Option<Load>) -> Option<u32>
         requires { IfSome load (IsLoadIn (span_of self.now)) }
         ensures { result ≡ option_map (λ load. loaded (byte_in self.now.base self.now.bytes) load.address load.len) load }
     {
@@ -163,7 +163,7 @@ impl Flat {
             None => None,
             Some(load) => {
                 let place = (load.address - self.base) as usize;
-                Some(memory::load(&self.bytes, place, load.len))
+                Some(memory::loaded(&self.bytes, place, load.len))
             }
         }
     }
@@ -189,8 +189,8 @@ impl Flat {
     {
         if let Some(store) = store {
             let place = (store.address - self.base) as usize;
-            memory::store(&mut self.bytes, place, store.len, store.value);
-            unreserve(&mut self.harts, line_of(store.address));
+            memory::put_bytes(&mut self.bytes, place, store.len, store.value);
+            unreserve_all(&mut self.harts, line_of(store.address));
         }
     }
 }

@@ -6,7 +6,7 @@ ghost use Rattle.rv_flat.specs.Memory.{put_bytes};
 use byteorder::{ByteOrder, LittleEndian};
 
 /// So many bytes from a place on, as a little-endian number.
-pub fn load(bytes: &[u8], place: usize, len: u32) -> u32
+pub fn loaded(bytes: &[u8], place: usize, len: u32) -> u32
     requires size { IsSize len }
     requires inside { place + len ≤ length bytes.now }
     ensures { result ≡ little_from place len bytes.now }
@@ -20,7 +20,7 @@ pub fn load(bytes: &[u8], place: usize, len: u32) -> u32
 
 /// Puts the low bytes of a number at a place, the lowest first.
 #[tactic(auto, using(crate::proofs::PutBytes::put_bytes_more))]
-pub fn store(bytes: &mut [u8], place: usize, len: u32, value: u32)
+pub fn put_bytes(bytes: &mut [u8], place: usize, len: u32, value: u32)
     requires { place + len ≤ length bytes.old }
     ensures { bytes.new ≡ put_bytes bytes.old place len value }
 {

@@ -12,17 +12,17 @@ fn kept(reserved: Option<u32>, line: LineAddr) -> Option<u32>
 }
 
 /// A hart after a store to a line.
-fn unreserve_one(hart: &mut HartView, line: LineAddr)
+fn unreserve(hart: &mut HartView, line: LineAddr)
     ensures { hart.new ≡ unreserved line.number hart.old }
 {
     hart.reserved = kept(hart.reserved, line);
 }
 
 /// Takes the reservations of words on a line from all harts.
-pub fn unreserve(harts: &mut [HartView], line: LineAddr)
+pub fn unreserve_all(harts: &mut [HartView], line: LineAddr)
     ensures { harts.new ≡ map (unreserved line.number) harts.old }
 {
     for hart in harts.iter_mut() {
-        unreserve_one(hart, line);
+        unreserve(hart, line);
     }
 }

@@ -7,4 +7,4 @@ use Rattle.rv_flat.proofs.beginning.first_views.Goals as goal
 pub loop-hart-preserved : goal.loop-hart-preserved
 loop-hart-preserved c =
     rw (map-range_with_len_more (first_view c.args.image.now) 0 c.loop-hart.hart c.loop-hart.hart (zero-add c.loop-hart.hart))
-    (rw (← c.loop-hart.invariant, ← c.first_hart.ensures) c.in_ok-push.ensures.items)
+    (rw (← c.loop-hart.invariant, ← c.first_view.ensures) c.in_ok-push.ensures.items)

@@ -25,10 +25,10 @@ returns c =
     let old : c.index_mut.result.now ≡ view_of state c.args.place =
     c.index_mut.ensures.value ∙ get_or_default state.harts c.args.place c.index_mut.result.now no_hart there in
     let action = rw (← c.self.view_is) at c.next_action-action.ensures.value in
-    let number : c.load-number.result ≡ number_of c.next_action-action.result byte =
-    rw (← c.loads.ensures.value) (rw (← c.self.view_is) at c.load-number.ensures) in
+    let number : c.loaded-number.result ≡ number_of c.next_action-action.result byte =
+    rw (← c.loads.ensures.value) (rw (← c.self.view_is) at c.loaded-number.ensures) in
     rw (c.store.ensures, c.append.ensures, ← c.self.view_is)
-    (applied_in_turn state c.args.place c.next_action-action.result c.perform-transfers.new.view c.perform-transfers.result.store c.perform-transfers.result.append
-    action
+    (applied_in_turn state c.args.place c.next_action-action.result c.perform-transfers.new.view
+    c.perform-transfers.result.store c.perform-transfers.result.append action
     (rw (← old)
     (c.perform-transfers.ensures.view byte number, c.perform-transfers.ensures.store byte number, c.perform-transfers.ensures.append byte number)))

@@ -1,0 +1,6 @@
+pub mod LookUps
+pub mod OneEach
+pub mod Orders
+pub mod Places
+pub mod Queues
+pub mod Words

@@ -7,7 +7,7 @@ use Rattle.rv_alu.specs.declared.view.HartStatus.{HartStatus}
 use Rattle.rv_alu.specs.declared.view.HartStatus.TheVariants.{Running, Exited, Trapped}
 use Rattle.rv_alu.specs.declared.view.HartView.{HartView}
 use Rattle.tool.specs.declared.refusal.Refusal.TheVariants.{Usage, Config, TooBig, Image, Trace}
-use Rattle.tool.specs.Messages.{config_fault_text, image_fault_name, line_of, newline, trace_fault_name}
+use Rattle.tool.specs.Messages.{config_fault_text, line_of, newline, trace_fault_name}
 use Rattle.tool.specs.Ending.{all_succeeded}
 use Rattle.tool.specs.Report.{first_line, last_line}
 
@@ -28,19 +28,19 @@ unfolding line_of digits
 image_over_its_limit = refl
 
 empty_image : line_of (Image (record { number = 1; place = 0 })) ≡ codes "image fault 1 Short at byte 0" ++ newline
-unfolding line_of image_fault_name digits
+unfolding line_of digits
 empty_image = refl
 
 image_of_another_abi : line_of (Image (record { number = 8; place = 36 })) ≡ codes "image fault 8 Flags at byte 36" ++ newline
-unfolding line_of image_fault_name digits
+unfolding line_of digits
 image_of_another_abi = refl
 
 image_too_wide : line_of (Image (record { number = 13; place = 28 })) ≡ codes "image fault 13 TooWide at byte 28" ++ newline
-unfolding line_of image_fault_name digits
+unfolding line_of digits
 image_too_wide = refl
 
 image_without_a_segment : line_of (Image (record { number = 16; place = 44 })) ≡ codes "image fault 16 Empty at byte 44" ++ newline
-unfolding line_of image_fault_name digits
+unfolding line_of digits
 image_without_a_segment = refl
 
 trace_of_no_harts : line_of (Trace (record { number = 4; place = 5 })) ≡ codes "trace fault 4 Config at byte 5" ++ newline

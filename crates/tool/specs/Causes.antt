@@ -2,7 +2,7 @@
 use Rattle.std.specs.Prelude.{◌≡◌, ℕ, ◌⊎◌, List, [], ◌∷◌, ◌++◌, map, Option, None, Some}
 use Rattle.std.specs.Option.{option_map, option_to_list}
 use Rattle.command_line.specs.Settings.{config_of}
-use Rattle.command_line.specs.Words.{Job, Run, Replay, RunJob}
+use Rattle.command_line.specs.Words.{Job, Run, Replay, Gen, RunJob}
 use Rattle.el_base.specs.Config.{config_fault}
 use Rattle.el_base.specs.declared.config.ConfigFault.{ConfigFault}
 use Rattle.el_io.specs.Counts.{one_more}
@@ -39,6 +39,7 @@ abbrev pub calls_of : Option Job → List NamedCall
 calls_of None = []
 calls_of (Some (Run job)) = run_calls job
 calls_of (Some (Replay image trace)) = (Read, image) ∷ (Read, trace) ∷ []
+calls_of (Some (Gen kind number file)) = []
 
 -- the list of a shelf's failed calls got one of these calls at its end, and nothing else
 abbrev pub ListsOne : List NamedCall → List NamedCall → List NamedCall → Type 0

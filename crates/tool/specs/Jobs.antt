@@ -1,7 +1,7 @@
 -- What the program answers to its words, over files.
 use Rattle.std.specs.Prelude.{◌≡◌, ℕ, List, [], Option, None, Some, MatchOption}
 use Rattle.command_line.specs.Settings.{config_of}
-use Rattle.command_line.specs.Words.{Job, Run, Replay, RunJob, job_of}
+use Rattle.command_line.specs.Words.{Job, Run, Replay, Gen, RunJob, job_of}
 use Rattle.drive.specs.Drivers.{MakesRoundRobin}
 use Rattle.el_base.specs.declared.events.Event.{Event}
 use Rattle.el_base.specs.declared.config.Config.{Config}
@@ -65,6 +65,7 @@ abbrev pub JobAnswer : Option Contents → Option Job → Answer → Type 0
 JobAnswer told None answer = answer ≡ refused Usage
 JobAnswer told (Some (Run job)) answer = IsRunAnswer job told answer
 JobAnswer told (Some (Replay image trace)) answer = IsReplayAnswer image trace told answer
+JobAnswer told (Some (Gen kind number file)) answer = answer ≡ refused Usage
 
 -- an answer to these words
 abbrev pub IsAnswer : List (List ℕ) → Option Contents → Answer → Type 0

@@ -1,31 +1,12 @@
 -- The one line that a refusal puts to err.
-use Rattle.std.specs.Prelude.{ℕ, List, [], ◌∷◌, ◌++◌, ◌==◌, codes, if◌then◌else◌}
+use Rattle.std.specs.Prelude.{ℕ, List, [], ◌∷◌, ◌++◌, ◌==◌, codes, if◌then◌else◌, unwrap_or}
 use Rattle.std.specs.Fmt.{decimal}
 use Rattle.el_base.specs.declared.config.ConfigFault.{ConfigFault}
 use Rattle.el_base.specs.declared.config.ConfigFault.TheVariants.{Harts, Sets, Ways, Lines, Long, Steps}
 use Rattle.el_base.specs.declared.file_fault.FileFault.{FileFault}
+use Rattle.elf_image.specs.FaultKinds.{fault_name}
 use Rattle.tool.specs.declared.refusal.Refusal.{Refusal}
 use Rattle.tool.specs.declared.refusal.Refusal.TheVariants as refusals
-
--- the name of an image fault, by its number
-unfoldable pub image_fault_name : ℕ → List ℕ
-image_fault_name number =
-    if number == 1 then codes "Short"
-    else if number == 2 then codes "Magic"
-    else if number == 3 then codes "Class"
-    else if number == 4 then codes "ByteOrder"
-    else if number == 5 then codes "Version"
-    else if number == 6 then codes "FileKind"
-    else if number == 7 then codes "Machine"
-    else if number == 8 then codes "Flags"
-    else if number == 9 then codes "Table"
-    else if number == 10 then codes "Dynamic"
-    else if number == 11 then codes "Segment"
-    else if number == 12 then codes "Overlap"
-    else if number == 13 then codes "TooWide"
-    else if number == 14 then codes "TooHigh"
-    else if number == 15 then codes "Entry"
-    else codes "Empty"
 
 -- the name of a trace fault, by its number
 unfoldable pub trace_fault_name : ℕ → List ℕ
@@ -64,5 +45,5 @@ line_of refusals.Usage =
     codes "usage: elide run IMAGE [options], elide replay IMAGE TRACE, elide gen KIND NUMBER FILE" ++ newline
 line_of (refusals.Config fault) = config_line fault
 line_of (refusals.TooBig limit) = codes "file too big: limit " ++ decimal limit ++ newline
-line_of (refusals.Image fault) = fault_line (codes "image") fault (image_fault_name fault.number)
+line_of (refusals.Image fault) = fault_line (codes "image") fault (unwrap_or (fault_name fault.number) [])
 line_of (refusals.Trace fault) = fault_line (codes "trace") fault (trace_fault_name fault.number)

@@ -26,7 +26,7 @@ size_refusal limit file = some_if (nat_lt limit (length file)) (TooBig limit)
 
 -- a file is no image of a program for so many harts
 abbrev pub image_refusal : List ℕ → ℕ → Option Refusal
-image_refusal file harts = option_map (λ found. Image (record { number = found.number; place = found.place })) (fault file harts)
+image_refusal file harts = option_map Image (fault file harts)
 
 -- a file is no trace
 abbrev pub trace_refusal : List ℕ → Option Refusal

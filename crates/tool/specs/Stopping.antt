@@ -1,5 +1,7 @@
 -- What stopped a command before anything was put.
 use Rattle.std.specs.Prelude.{◌≡◌, ℕ, List, [], ◌∷◌, Option, None, Some}
+use Rattle.command_line.specs.declared.fault.WordsFault.{WordsFault}
+use Rattle.command_line.specs.declared.fault.WordsFault.TheVariants as words_faults
 use Rattle.el_base.specs.Firsts.{first_of}
 use Rattle.el_base.specs.declared.config.Config.{Config}
 use Rattle.el_base.specs.declared.config.Mode.TheVariants.{Plain}
@@ -25,6 +27,10 @@ use Rattle.tool.specs.Answer.{Answer, refused}
 use Rattle.tool.specs.Refusals.{image_refusal, size_refusal, trace_refusal}
 
 -- how each error of a callee stops a command
+abbrev pub stop_of_words_fault : WordsFault → Stop
+stop_of_words_fault words_faults.Usage = Refused refusals.Usage
+stop_of_words_fault words_faults.NoMemory = Failed NoMemory
+
 abbrev pub stop_of_image_fault : ImageFault → Stop
 stop_of_image_fault (image_faults.Bad number place) = Refused (refusals.Image (record { number = number; place = place }))
 stop_of_image_fault image_faults.NoMemory = Failed NoMemory

@@ -49,16 +49,17 @@ pub(crate) fn obey<'a, S: Shelf>(
         ListsOne (writes_of made) before now →
         ListsOne (calls_of (job_of (texts words.entry.now))) before now) }
 {
-    match read_words(words) {
-        None => Err(Refusal::Usage.into()),
-        Some(Command::Run(command)) => Ok(Made::Run {
+    match read_words(alloc, words)? {
+        Command::Run(command) => Ok(Made::Run {
             machine: run(alloc, shelf, command)?,
             trace: command.trace,
         }),
-        Some(Command::Replay { image, trace }) => Ok(Made::Run {
+        Command::Replay { image, trace } => Ok(Made::Run {
             machine: replay(alloc, shelf, image, trace)?,
             trace: None,
         }),
+        // No image is made of a kind yet.
+        Command::Gen { .. } => Err(Refusal::Usage.into()),
     }
 }
 

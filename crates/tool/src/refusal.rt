@@ -1,8 +1,9 @@
 //! Why a command is refused, and the line that it puts to err then.
 ghost use Rattle.std.specs.Prelude.{◌≡◌, IfOk, string_bytes};
-ghost use Rattle.tool.specs.Messages.{config_fault_text as text_of_config_fault, config_line as line_of_config, fault_line as line_of_fault, image_fault_name as name_of_image_fault, line_of, trace_fault_name as name_of_trace_fault};
+ghost use Rattle.tool.specs.Messages.{config_fault_text as text_of_config_fault, config_line as line_of_config, fault_line as line_of_fault, line_of, trace_fault_name as name_of_trace_fault};
 
 use el_base::{ConfigFault, FileFault};
+use elf_image::fault_name;
 use std::alloc::{AllocError, Global};
 
 const USAGE: &str =
@@ -34,7 +35,7 @@ impl Refusal {
             Refusal::Config(fault) => config_line(alloc, fault),
             Refusal::TooBig { limit } => format!(in alloc; "file too big: limit {limit}\n"),
             Refusal::Image(fault) => {
-                fault_line(alloc, "image", fault, image_fault_name(fault.number))
+                fault_line(alloc, "image", fault, fault_name(fault.number).unwrap_or(""))
             }
             Refusal::Trace(fault) => {
                 fault_line(alloc, "trace", fault, trace_fault_name(fault.number))
@@ -74,31 +75,6 @@ fn config_fault_text(fault: ConfigFault) -> &'static str
         ConfigFault::Lines => "4 Lines",
         ConfigFault::Long => "5 Long",
         ConfigFault::Steps => "6 Steps",
-    }
-}
-
-/// The name of an image fault, by its number from 1 to 16.
-#[tactic(auto, unfolding(crate::specs::Messages::image_fault_name))]
-fn image_fault_name(number: u8) -> &'static str
-    ensures { result.now ≡ name_of_image_fault number }
-{
-    match number {
-        1 => "Short",
-        2 => "Magic",
-        3 => "Class",
-        4 => "ByteOrder",
-        5 => "Version",
-        6 => "FileKind",
-        7 => "Machine",
-        8 => "Flags",
-        9 => "Table",
-        10 => "Dynamic",
-        11 => "Segment",
-        12 => "Overlap",
-        13 => "TooWide",
-        14 => "TooHigh",
-        15 => "Entry",
-        _ => "Empty",
     }
 }
 

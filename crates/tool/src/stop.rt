@@ -2,6 +2,7 @@
 ghost use Rattle.std.specs.Prelude.{◌≡◌};
 
 use crate::refusal::Refusal;
+use command_line::WordsFault;
 use el_base::{ConfigFault, FileFault};
 use el_io::{Failed, ShelfFault};
 use elf_image::ImageFault;
@@ -42,6 +43,19 @@ impl From<Fault> for Stop {
 
     fn from(fault: Fault) -> Stop {
         Stop::Failed(fault)
+    }
+}
+
+impl From<WordsFault> for Stop {
+    ghost use Rattle.tool.specs.Stopping.{stop_of_words_fault};
+
+    ghost from_gives = { λ fault stop. stop ≡ stop_of_words_fault fault };
+
+    fn from(fault: WordsFault) -> Stop {
+        match fault {
+            WordsFault::Usage => Refusal::Usage.into(),
+            WordsFault::NoMemory => Fault::NoMemory.into(),
+        }
     }
 }
 

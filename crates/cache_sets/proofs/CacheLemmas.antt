@@ -28,9 +28,10 @@ way_of-with_set_other : (cache : List (List Way)) (line l : ℕ) (set : List Way
 way_of-with_set_other [] line l set kept = refl
 way_of-with_set_other (first ∷ cache) line l set kept =
     let whole = first ∷ cache in
-    elim (cases_eq (set_number whole l) (set_number whole line))
-    [ inl same ↦ rw (set_of-with_set_same whole line l set (omega arith) same) (kept same ∙ ap (λ n. way_in (slice_index_or whole n []) l) (sym same))
-    | inr other ↦ rw (set_of-with_set_other whole line l set other) refl ]
+    elim (cases_eq (set_number whole l) (set_number whole line)) [
+      | inl same ↦ rw (set_of-with_set_same whole line l set (omega arith) same) (kept same ∙ ap (λ n. way_in (slice_index_or whole n []) l) (sym same))
+      | inr other ↦ rw (set_of-with_set_other whole line l set other) refl
+    ]
 
 way_of-with_set_same : (cache : List (List Way)) (line : ℕ) (set : List Way) → 0 < length cache → way_of (with_set cache line set) line ≡ way_in set line
 way_of-with_set_same cache line set some = rw (set_of-with_set_same cache line line set some refl) refl

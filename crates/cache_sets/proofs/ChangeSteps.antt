@@ -60,7 +60,7 @@ module _ (code_change : code.Way → code.Way) (change : Way → Way) (copy_chan
       let old = set_at sets line in
       let once = once_at ways sets line line stands.well_formed in
       let sums : (f : code.Way → ℕ) → sum_by f new.ways.items + option_map_or f (found number_of old.ways.items line) 0
-          ≡ sum_by f old.ways.items + option_map_or (λ w. f (code_change w)) (found number_of old.ways.items line) 0 =
+      ≡ sum_by f old.ways.items + option_map_or (λ w. f (code_change w)) (found number_of old.ways.items line) 0 =
       λ f. ap (λ xs. sum_by f xs + option_map_or f (found number_of old.ways.items line) 0) items ∙ sum_by-changed number_of f code_change old.ways.items line once in
       let same : (f : code.Way → ℕ) → ((w : code.Way) → f (code_change w) ≡ f w) → sum_by f new.ways.items ≡ sum_by f old.ways.items =
       λ f stays. let whole = sums f in let part = same_part f code_change (found number_of old.ways.items line) stays in omega (arith, whole, part) in
@@ -115,22 +115,23 @@ lettered_after ways sets rows marks writes line number old new cached letter sta
     let there : sets_with sets line new ≡ slice_set sets number new = ap (λ n. slice_set sets n new) (sym at.number_is) in
     let changes = lettered_changes letter in
     let residency = changed_residency (lettered_way letter) (with_letter letter) (copy_with_letter letter) changes ways sets rows marks writes line new stands items' spare' in
-    let well_formed = stands.well_formed in
-    (subst (λ s. Stands ways s rows marks writes) there
-    (stands_step ways sets rows rows marks writes marks writes line new (lettered (residency_of sets) line letter) stands residency
-    (well_formed-lettered ways (residency_of sets) line letter valid well_formed)
-    (changed_set (lettered_way letter) (with_letter letter) (copy_with_letter letter) changes ways sets rows marks writes line new stands items' spare')
-    refl stands.whole
-    (stands.marked ∙ sym (total-lettered mark_of ways (residency_of sets) line letter well_formed (λ way. refl)))
-    (stands.written ∙ sym (total-lettered write_of ways (residency_of sets) line letter well_formed (λ way. refl)))),
-    subst (λ s. IsLettered cached (shown_cache ways s rows) line letter) there
-    (subst (λ (v : Cached). IsLettered v (shown_cache ways (sets_with sets line new) rows) line letter) is
-    (record {
-      ways = refl;
-      residency = residency;
-      here = changed_here (lettered_way letter) (with_letter letter) (copy_with_letter letter) changes ways sets rows marks writes line new stands items' spare';
-      others = changed_others (lettered_way letter) (with_letter letter) (copy_with_letter letter) changes ways sets rows marks writes line new stands items' spare';
-    })))
+    let well_formed = stands.well_formed in (
+      subst (λ s. Stands ways s rows marks writes) there
+          (stands_step ways sets rows rows marks writes marks writes line new (lettered (residency_of sets) line letter) stands residency
+          (well_formed-lettered ways (residency_of sets) line letter valid well_formed)
+          (changed_set (lettered_way letter) (with_letter letter) (copy_with_letter letter) changes ways sets rows marks writes line new stands items' spare')
+          refl stands.whole
+          (stands.marked ∙ sym (total-lettered mark_of ways (residency_of sets) line letter well_formed (λ way. refl)))
+          (stands.written ∙ sym (total-lettered write_of ways (residency_of sets) line letter well_formed (λ way. refl)))),
+      subst (λ s. IsLettered cached (shown_cache ways s rows) line letter) there
+          (subst (λ (v : Cached). IsLettered v (shown_cache ways (sets_with sets line new) rows) line letter) is
+          (record {
+            ways = refl;
+            residency = residency;
+            here = changed_here (lettered_way letter) (with_letter letter) (copy_with_letter letter) changes ways sets rows marks writes line new stands items' spare';
+            others = changed_others (lettered_way letter) (with_letter letter) (copy_with_letter letter) changes ways sets rows marks writes line new stands items' spare';
+          })),
+    )
 
 -- a line got a bit
 marked_changes : (need : Need) → Changes (marked_way need) (with_bit need) (λ copy. copy)
@@ -152,25 +153,27 @@ marked_after ways sets rows marks writes new_marks new_writes line number old ne
     let spare' = spare ∙ ap (λ s. s.spare.items) at.set_is in
     let there : sets_with sets line new ≡ slice_set sets number new = ap (λ n. slice_set sets n new) (sym at.number_is) in
     let changes = marked_changes need in
-    let residency = changed_residency (marked_way need) (with_bit need) (λ copy. copy) changes ways sets rows marks writes line new stands items' spare' in
-    (subst (λ s. Stands ways s rows new_marks new_writes) there
-    (stands_step ways sets rows rows marks writes new_marks new_writes line new (marked (residency_of sets) line need) stands residency
-    (well_formed-marked ways (residency_of sets) line need stands.well_formed)
-    (changed_set (marked_way need) (with_bit need) (λ copy. copy) changes ways sets rows marks writes line new stands items' spare')
-    refl stands.whole counted written),
-    subst (λ s. IsMarked cached (shown_cache ways s rows) line need) there
-    (subst (λ (v : Cached). IsMarked v (shown_cache ways (sets_with sets line new) rows) line need) is
-    (record {
-      ways = refl;
-      residency = residency;
-      copies = λ l.
-      elim (cases_eq l line)
-      [ inl same ↦
-      subst (λ n. copy_in (shown_cache ways (sets_with sets line new) rows) n ≡ copy_in (shown_cache ways sets rows) n) (sym same)
-      (changed_here (marked_way need) (with_bit need) (λ copy. copy) changes ways sets rows marks writes line new stands items' spare'
-      ∙ unchanged (copy_in (shown_cache ways sets rows) line))
-      | inr other ↦ changed_others (marked_way need) (with_bit need) (λ copy. copy) changes ways sets rows marks writes line new stands items' spare' l other ];
-    })))
+    let residency = changed_residency (marked_way need) (with_bit need) (λ copy. copy) changes ways sets rows marks writes line new stands items' spare' in (
+      subst (λ s. Stands ways s rows new_marks new_writes) there
+          (stands_step ways sets rows rows marks writes new_marks new_writes line new (marked (residency_of sets) line need) stands residency
+          (well_formed-marked ways (residency_of sets) line need stands.well_formed)
+          (changed_set (marked_way need) (with_bit need) (λ copy. copy) changes ways sets rows marks writes line new stands items' spare')
+          refl stands.whole counted written),
+      subst (λ s. IsMarked cached (shown_cache ways s rows) line need) there
+          (subst (λ (v : Cached). IsMarked v (shown_cache ways (sets_with sets line new) rows) line need) is
+          (record {
+            ways = refl;
+            residency = residency;
+            copies = λ l.
+                elim (cases_eq l line) [
+                  | inl same ↦
+                      subst (λ n. copy_in (shown_cache ways (sets_with sets line new) rows) n ≡ copy_in (shown_cache ways sets rows) n) (sym same)
+                      (changed_here (marked_way need) (with_bit need) (λ copy. copy) changes ways sets rows marks writes line new stands items' spare'
+                      ∙ unchanged (copy_in (shown_cache ways sets rows) line))
+                  | inr other ↦ changed_others (marked_way need) (with_bit need) (λ copy. copy) changes ways sets rows marks writes line new stands items' spare' l other
+                ];
+          })),
+    )
   where
     unchanged : (copy : Option Copy) → option_map (λ c. c) copy ≡ copy
     unchanged None = refl

@@ -73,8 +73,17 @@ module _ (ways : ℕ) (sets : List Set) (rows : List (List ℕ)) (marks writes :
     marks_after_bit had has after was bit own =
         let there : has ≡ 1 = own ∙ ap marks_in bit ∙ ap (λ b. marks_in (with_need need b)) bits ∙ marks_in-with_need need (way_of cached.residency line) resident in
         let sums = total-marked mark_of ways (residency_of sets) line need stands.well_formed in
-        omega (arith, was, there, sums, more_marks need (way_of (residency_of sets) line) here, stands.marked, own_marks, marks_below,
-        ap (λ v. option_map_or mark_of (way_of v.residency line) 0) is)
+        omega (
+          arith,
+          was,
+          there,
+          sums,
+          more_marks need (way_of (residency_of sets) line) here,
+          stands.marked,
+          own_marks,
+          marks_below,
+          ap (λ v. option_map_or mark_of (way_of v.residency line) 0) is,
+        )
 
     pub writes_after_bit : (had has : ℕ) (after : Bits) → had ≡ writes_in before → after ≡ with_need need before → has ≡ writes_in after →
         writes - had + has ≡ write_bits_of (marked (residency_of sets) line need)
@@ -82,16 +91,37 @@ module _ (ways : ℕ) (sets : List Set) (rows : List (List ℕ)) (marks writes :
         let there : has ≡ option_map_or (λ w. write_of (with_bit need w)) (way_of cached.residency line) 0 =
         own ∙ ap writes_in bit ∙ ap (λ b. writes_in (with_need need b)) bits ∙ writes_in-with_need need (way_of cached.residency line) resident in
         let sums = total-marked write_of ways (residency_of sets) line need stands.well_formed in
-        omega (arith, was, there, sums, stands.written, own_writes, writes_below, ap (λ v. option_map_or write_of (way_of v.residency line) 0) is,
-        ap (λ v. option_map_or (λ w. write_of (with_bit need w)) (way_of v.residency line) 0) is)
+        omega (
+          arith,
+          was,
+          there,
+          sums,
+          stands.written,
+          own_writes,
+          writes_below,
+          ap (λ v. option_map_or write_of (way_of v.residency line) 0) is,
+          ap (λ v. option_map_or (λ w. write_of (with_bit need w)) (way_of v.residency line) 0) is,
+        )
 
   -- after the line left
   pub marks_after_drop : (had : ℕ) → had ≡ marks_in before → marks - had ≡ marks_of (without_line (residency_of sets) line)
   marks_after_drop had was =
-      omega (arith, was, total-without_line mark_of ways (residency_of sets) line stands.well_formed, stands.marked, own_marks,
-      ap (λ v. option_map_or mark_of (way_of v.residency line) 0) is)
+      omega (
+        arith,
+        was,
+        total-without_line mark_of ways (residency_of sets) line stands.well_formed,
+        stands.marked,
+        own_marks,
+        ap (λ v. option_map_or mark_of (way_of v.residency line) 0) is,
+      )
 
   pub writes_after_drop : (had : ℕ) → had ≡ writes_in before → writes - had ≡ write_bits_of (without_line (residency_of sets) line)
   writes_after_drop had was =
-      omega (arith, was, total-without_line write_of ways (residency_of sets) line stands.well_formed, stands.written, own_writes,
-      ap (λ v. option_map_or write_of (way_of v.residency line) 0) is)
+      omega (
+        arith,
+        was,
+        total-without_line write_of ways (residency_of sets) line stands.well_formed,
+        stands.written,
+        own_writes,
+        ap (λ v. option_map_or write_of (way_of v.residency line) 0) is,
+      )

@@ -108,12 +108,13 @@ module _ {X : Type 0} (key : X → ℕ) where
   sum_by-without f (x ∷ xs) k once =
       let counts = sum_by-cons (λ y. cond (eqb (key y) k) 1 0) x xs in
       let sums = sum_by-cons f x xs in
-      elim (cases_eq (key x) k)
-      [ inl same ↦
-      let absent : found key xs k ≡ None = found-none_counted xs k (grind (arith, nat_tests, counts)) in
-      grind (arith, nat_tests, sums, without-absent xs k absent)
-      | inr other ↦
-      grind (arith, nat_tests, counts, sums, sum_by-cons f x (without key xs k), sum_by-without f xs k) ]
+      elim (cases_eq (key x) k) [
+        | inl same ↦
+            let absent : found key xs k ≡ None = found-none_counted xs k (grind (arith, nat_tests, counts)) in
+            grind (arith, nat_tests, sums, without-absent xs k absent)
+        | inr other ↦
+            grind (arith, nat_tests, counts, sums, sum_by-cons f x (without key xs k), sum_by-without f xs k)
+      ]
 
   pub sum_by-changed : (f : X → ℕ) (change : X → X) (xs : List X) (k : ℕ) → count_of key xs k ≤ 1 →
       sum_by f (changed key change xs k) + option_map_or f (found key xs k) 0 ≡ sum_by f xs + option_map_or (λ x. f (change x)) (found key xs k) 0
@@ -122,12 +123,13 @@ module _ {X : Type 0} (key : X → ℕ) where
       let counts = sum_by-cons (λ y. cond (eqb (key y) k) 1 0) x xs in
       let sums = sum_by-cons f x xs in
       let changed_sums = sum_by-cons f (changed_at key change k x) (changed key change xs k) in
-      elim (cases_eq (key x) k)
-      [ inl same ↦
-      let absent : found key xs k ≡ None = found-none_counted xs k (grind (arith, nat_tests, counts)) in
-      grind (arith, nat_tests, sums, changed_sums, changed-absent change xs k absent)
-      | inr other ↦
-      grind (arith, nat_tests, counts, sums, changed_sums, sum_by-changed f change xs k) ]
+      elim (cases_eq (key x) k) [
+        | inl same ↦
+            let absent : found key xs k ≡ None = found-none_counted xs k (grind (arith, nat_tests, counts)) in
+            grind (arith, nat_tests, sums, changed_sums, changed-absent change xs k absent)
+        | inr other ↦
+            grind (arith, nat_tests, counts, sums, changed_sums, sum_by-changed f change xs k)
+      ]
 
   -- what is found has its part in a sum, and two that are found have theirs
   pub found-le-sum_by : (f : X → ℕ) (xs : List X) (k : ℕ) (x : X) → found key xs k ≡ Some x → f x ≤ sum_by f xs
@@ -152,9 +154,10 @@ module _ {X : Type 0} (key : X → ℕ) where
       let test = λ (y : X). eqb (key y) k in
       let n = position_or_len test ys in
       let here : found key ys k ≡ slice_get ys n = find_at test ys in
-      elim (cases_lt n (length ys))
-      [ inl low ↦ grind (arith, nat_tests, here, slice_get-get_or ys n x low)
-      | inr past ↦ grind (arith, nat_tests, here, slice_get_past ys n past) ]
+      elim (cases_lt n (length ys)) [
+        | inl low ↦ grind (arith, nat_tests, here, slice_get-get_or ys n x low)
+        | inr past ↦ grind (arith, nat_tests, here, slice_get_past ys n past)
+      ]
 
   pub position-key : (xs : List X) (k i : ℕ) (d : X) → position (λ x. eqb (key x) k) xs ≡ Some i → (i < length xs) × (key (get_or xs i d) ≡ k)
   position-key xs k i d is = let at = position-Some (λ x. eqb (key x) k) xs i d is in (at.0, eqb-true (key (get_or xs i d)) k at.1)

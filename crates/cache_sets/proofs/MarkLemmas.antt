@@ -64,8 +64,11 @@ total-marked f ways cache line need kept = total-changed f (with_bit need) ways 
 pub total-filled_with : (f : Way → ℕ) (ways : ℕ) (cache : List (List Way)) (line : ℕ) (letter : Letter) → IsWellFormed ways cache →
     total f (filled_with ways cache line letter) + option_map_or f (evicted_by ways cache line) 0 ≡ total f cache + f (fresh line letter)
 total-filled_with f ways cache line letter kept =
-    omega (arith, total-with_set f cache line (filled_in ways (set_of cache line) (fresh line letter)) kept.some_set,
-    sum_by-filled_in f ways (set_of cache line) (fresh line letter) (kept.once line))
+    omega (
+      arith,
+      total-with_set f cache line (filled_in ways (set_of cache line) (fresh line letter)) kept.some_set,
+      sum_by-filled_in f ways (set_of cache line) (fresh line letter) (kept.once line),
+    )
 
 sum_by-none : (f : Way → ℕ) (set : List Way) → ((way : Way) → f way ≡ 0) → sum_by f set ≡ 0
 sum_by-none f [] gone = refl
@@ -75,8 +78,13 @@ sum_by-none f (way ∷ set) gone = omega (arith, sum_by-cons f way set, gone way
 total-map : (f : Way → ℕ) (change : Way → Way) (cache : List (List Way)) → ((way : Way) → f (change way) ≡ 0) → total f (map (map change) cache) ≡ 0
 total-map f change [] gone = refl
 total-map f change (set ∷ cache) gone =
-    omega (arith, sum_by-cons (λ s. sum_by f s) (map change set) (map (map change) cache), sum_by-map f change set,
-    sum_by-none (λ way. f (change way)) set gone, total-map f change cache gone)
+    omega (
+      arith,
+      sum_by-cons (λ s. sum_by f s) (map change set) (map (map change) cache),
+      sum_by-map f change set,
+      sum_by-none (λ way. f (change way)) set gone,
+      total-map f change cache gone,
+    )
 
 has_marks-counted_in : (set : List Way) → list_any is_marked set ≡ not (eqb (sum_by mark_of set) 0)
 has_marks-counted_in [] = refl
@@ -160,14 +168,20 @@ pub has_marks-filled_with : (ways : ℕ) (cache : List (List Way)) (line : ℕ) 
     has_marks (filled_with ways cache line letter) ≡ has_marks cache
 has_marks-filled_with ways cache line letter kept =
     same_marks cache (filled_with ways cache line letter)
-    (omega (arith, total-filled_with mark_of ways cache line letter kept,
-    none_lost mark_of (evicted_by ways cache line) (λ gone is. ap one_if (evicted_by-unmarked ways cache line gone is))))
+    (omega (
+      arith,
+      total-filled_with mark_of ways cache line letter kept,
+      none_lost mark_of (evicted_by ways cache line) (λ gone is. ap one_if (evicted_by-unmarked ways cache line gone is)),
+    ))
 
 pub write_bits_of-filled_with : (ways : ℕ) (cache : List (List Way)) (line : ℕ) (letter : Letter) → IsWellFormed ways cache →
     write_bits_of (filled_with ways cache line letter) ≡ write_bits_of cache
 write_bits_of-filled_with ways cache line letter kept =
-    omega (arith, total-filled_with write_of ways cache line letter kept,
-    none_lost write_of (evicted_by ways cache line) (λ gone is. ap one_if (or_parts gone.read gone.write (evicted_by-unmarked ways cache line gone is)).1))
+    omega (
+      arith,
+      total-filled_with write_of ways cache line letter kept,
+      none_lost write_of (evicted_by ways cache line) (λ gone is. ap one_if (or_parts gone.read gone.write (evicted_by-unmarked ways cache line gone is)).1),
+    )
 
 written : (way : Option Way) → option_map_or write_of way 0 ≡ one_if (bit_in Write way)
 written None = refl
@@ -213,21 +227,23 @@ marked_way : (set : List Way) → ((l : ℕ) → count_of line_of set l ≤ 1) �
 marked_way [] once some = absurd cc
 marked_way (way ∷ set) once some =
     elim (is_marked way) as (λ b. is_marked way ≡ b → (b || list_any is_marked set) ≡ true →
-    (w : Way) × (way_in (way ∷ set) w.line ≡ Some w) × (is_marked w ≡ true))
-    [ true ↦ λ is any. (way, grind (arith, nat_tests), is)
-    | false ↦ λ is any.
-    let rest = marked_way set (once_less way set once) any in
-    let here = found_behind way set rest.0 (once rest.0.line) rest.1 in
-    (rest.0, here, rest.2) ]
+    (w : Way) × (way_in (way ∷ set) w.line ≡ Some w) × (is_marked w ≡ true)) [
+      | true ↦ λ is any. (way, grind (arith, nat_tests), is)
+      | false ↦ λ is any.
+          let rest = marked_way set (once_less way set once) any in
+          let here = found_behind way set rest.0 (once rest.0.line) rest.1 in
+          (rest.0, here, rest.2)
+    ]
     refl some
 
 marked_set : (cache : List (List Way)) → has_marks cache ≡ true → (k : ℕ) × (k < length cache) × (list_any is_marked (get_or cache k []) ≡ true)
 marked_set [] some = absurd cc
 marked_set (set ∷ cache) some =
     elim (list_any is_marked set) as (λ b. list_any is_marked set ≡ b → (b || has_marks cache) ≡ true →
-    (k : ℕ) × (k < length (set ∷ cache)) × (list_any is_marked (get_or (set ∷ cache) k []) ≡ true))
-    [ true ↦ λ is any. (0, omega arith, is)
-    | false ↦ λ is any. let rest = marked_set cache any in (suc rest.0, omega (arith, rest.1), rest.2) ]
+    (k : ℕ) × (k < length (set ∷ cache)) × (list_any is_marked (get_or (set ∷ cache) k []) ≡ true)) [
+      | true ↦ λ is any. (0, omega arith, is)
+      | false ↦ λ is any. let rest = marked_set cache any in (suc rest.0, omega (arith, rest.1), rest.2)
+    ]
     refl some
 
 -- there is a line with a bit, where any way has one

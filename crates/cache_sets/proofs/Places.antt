@@ -41,8 +41,8 @@ made_room ways old place victim new set once full within read chosen gone =
       room = omega (arith, shorter, set.rows);
       row = λ way is. ap (λ w. w.slot) (sym (same_Some victim way is));
       there = λ way is.
-      subst (λ (w : code.Way). found number_of items w.line.number ≡ Some w) (same_Some victim way is)
-      (found_at number_of items victim.line.number place victim (once victim.line.number) within (ap number_of (sym read)) ∙ ap Some (sym read));
+          subst (λ (w : code.Way). found number_of items w.line.number ≡ Some w) (same_Some victim way is)
+          (found_at number_of items victim.line.number place victim (once victim.line.number) within (ap number_of (sym read)) ∙ ap Some (sym read));
     }
 
 -- a line left, and its row is spare

@@ -72,9 +72,10 @@ choice None false first way is = inr (refl, cc)
 pub victim_in-unmarked : (set : List Way) (way : Way) → victim_in set ≡ Some way → is_marked way ≡ false
 victim_in-unmarked [] way is = absurd cc
 victim_in-unmarked (first ∷ set) way is =
-    elim (choice (victim_in set) (is_marked first) first way is)
-    [ inl later ↦ victim_in-unmarked set way later
-    | inr own ↦ subst (λ (w : Way). is_marked w ≡ false) own.1 own.0 ]
+    elim (choice (victim_in set) (is_marked first) first way is) [
+      | inl later ↦ victim_in-unmarked set way later
+      | inr own ↦ subst (λ (w : Way). is_marked w ≡ false) own.1 own.0
+    ]
 
 pub once_less : (first : Way) (set : List Way) → ((line : ℕ) → count_of line_of (first ∷ set) line ≤ 1) → (line : ℕ) → count_of line_of set line ≤ 1
 once_less first set once line = grind (arith, once line, sum_by-cons (λ way. cond (eqb (line_of way) line) 1 0) first set)
@@ -94,11 +95,12 @@ pub victim_in-resident : (set : List Way) (way : Way) → ((line : ℕ) → coun
     way_in set way.line ≡ Some way
 victim_in-resident [] way once is = absurd cc
 victim_in-resident (first ∷ set) way once is =
-    elim (choice (victim_in set) (is_marked first) first way is)
-    [ inl later ↦
-    let rest = victim_in-resident set way (once_less first set once) later in
-    grind (arith, nat_tests, once way.line, counted set way.line way rest, sum_by-cons (λ w. cond (eqb (line_of w) way.line) 1 0) first set)
-    | inr own ↦ subst (λ (w : Way). way_in (first ∷ set) w.line ≡ Some w) own.1 (grind (arith, nat_tests)) ]
+    elim (choice (victim_in set) (is_marked first) first way is) [
+      | inl later ↦
+          let rest = victim_in-resident set way (once_less first set once) later in
+          grind (arith, nat_tests, once way.line, counted set way.line way rest, sum_by-cons (λ w. cond (eqb (line_of w) way.line) 1 0) first set)
+      | inr own ↦ subst (λ (w : Way). way_in (first ∷ set) w.line ≡ Some w) own.1 (grind (arith, nat_tests))
+    ]
 
 some_choice : (later : Option Way) (marked : Bool) (way : Way) → is_some (option_or later (cond marked None (Some way))) ≡ cond marked (is_some later) true
 some_choice (Some other) true way = refl

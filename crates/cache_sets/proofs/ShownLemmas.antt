@@ -39,8 +39,12 @@ sum_by_shown f ways = fold-map (λ total way. total + f way) shown_way 0 ways
 pub once_at : (ways : ℕ) (sets : List Set) (line l : ℕ) → IsWellFormed ways (residency_of sets) →
     count_of number_of (set_at sets line).ways.items l ≤ 1
 once_at ways sets line l kept =
-    omega (arith, kept.once line l, ap (λ set. count_of line_of set l) (set_of_shown sets line),
-    sum_by_shown (λ way. cond (eqb way.line l) 1 0) (set_at sets line).ways.items)
+    omega (
+      arith,
+      kept.once line l,
+      ap (λ set. count_of line_of set l) (set_of_shown sets line),
+      sum_by_shown (λ way. cond (eqb way.line l) 1 0) (set_at sets line).ways.items,
+    )
 
 -- the bytes of a line
 bytes_in_shown : (bytes : code.Way → List ℕ) (ways : List code.Way) (line : ℕ) →
@@ -55,8 +59,10 @@ bytes_of_shown ways (first ∷ sets) rows line =
     let whole = first ∷ sets in
     let bytes = bytes_of_way (length whole) ways rows in
     rw (length-map whole shown_set)
-    (rw (get_or-map shown_set whole (line % length whole) no_set [] (omega arith),
-    get_or-map (λ set. map bytes set.ways.items) whole (line % length whole) no_set [] (omega arith))
+    (rw (
+      get_or-map shown_set whole (line % length whole) no_set [] (omega arith),
+      get_or-map (λ set. map bytes set.ways.items) whole (line % length whole) no_set [] (omega arith),
+    )
     (bytes_in_shown bytes (set_at whole line).ways.items line))
 
 -- what the cache shows of a line, by the way that was found

@@ -40,9 +40,10 @@ set_at-sets_with_other sets line l set other =
 each_set_at : (P : Set → Type 0) (sets : List Set) (line : ℕ) (set : Set) → 0 < length sets → P set → ((l : ℕ) → P (set_at sets l)) →
     (l : ℕ) → P (set_at (sets_with sets line set) l)
 each_set_at P sets line set some here others l =
-    elim (cases_eq (l % length sets) (line % length sets))
-    [ inl same ↦ subst P (sym (set_at-sets_with_same sets line l set some same)) here
-    | inr other ↦ subst P (sym (set_at-sets_with_other sets line l set other)) (others l) ]
+    elim (cases_eq (l % length sets) (line % length sets)) [
+      | inl same ↦ subst P (sym (set_at-sets_with_same sets line l set some same)) here
+      | inr other ↦ subst P (sym (set_at-sets_with_other sets line l set other)) (others l)
+    ]
 
 -- the way of the line itself, and of another line, which has in the new set the way that it had
 pub way_at-sets_with_same : (sets : List Set) (line : ℕ) (set : Set) → 0 < length sets →
@@ -53,11 +54,12 @@ pub way_at-sets_with_other : (sets : List Set) (line l : ℕ) (set : Set) → 0 
     (found number_of set.ways.items l ≡ found number_of (set_at sets line).ways.items l) →
     way_at (sets_with sets line set) l ≡ way_at sets l
 way_at-sets_with_other sets line l set some kept =
-    elim (cases_eq (l % length sets) (line % length sets))
-    [ inl same ↦
-    ap (λ s. found number_of s.ways.items l) (set_at-sets_with_same sets line l set some same) ∙ kept
-    ∙ ap (λ n. found number_of (get_or sets n no_set).ways.items l) (sym same)
-    | inr other ↦ ap (λ s. found number_of s.ways.items l) (set_at-sets_with_other sets line l set other) ]
+    elim (cases_eq (l % length sets) (line % length sets)) [
+      | inl same ↦
+          ap (λ s. found number_of s.ways.items l) (set_at-sets_with_same sets line l set some same) ∙ kept
+          ∙ ap (λ n. found number_of (get_or sets n no_set).ways.items l) (sym same)
+      | inr other ↦ ap (λ s. found number_of s.ways.items l) (set_at-sets_with_other sets line l set other)
+    ]
 
 -- what the sets show
 pub residency_of-sets_with : (sets : List Set) (line : ℕ) (set : Set) → residency_of (sets_with sets line set) ≡ with_set (residency_of sets) line (shown_set set)
@@ -173,9 +175,9 @@ module _ (ways : ℕ) (sets : List Set) (rows : List (List ℕ)) (marks writes l
     ways = refl;
     residency = touched_residency;
     copies = λ l.
-    same_copy ways sets (sets_with sets line new) rows l (length-sets_with sets line new)
-    (way_at-sets_with_other sets line l new (some_set ways sets rows marks writes stands)
-    (ap (λ items. found number_of items l) front ∙ found-fronted number_of (set_at sets line).ways.items line l));
+        same_copy ways sets (sets_with sets line new) rows l (length-sets_with sets line new)
+        (way_at-sets_with_other sets line l new (some_set ways sets rows marks writes stands)
+        (ap (λ items. found number_of items l) front ∙ found-fronted number_of (set_at sets line).ways.items line l));
   }
 
 pub touched_after : (ways : ℕ) (sets : List Set) (rows : List (List ℕ)) (marks writes line number : ℕ) (old new : Set) (cached : Cached) →
@@ -185,8 +187,9 @@ pub touched_after : (ways : ℕ) (sets : List Set) (rows : List (List ℕ)) (mar
 touched_after ways sets rows marks writes line number old new cached stands at is front spare =
     let front' = front ∙ ap (λ s. fronted number_of s.ways.items line) at.set_is in
     let spare' = spare ∙ ap (λ s. s.spare.items) at.set_is in
-    let there : sets_with sets line new ≡ slice_set sets number new = ap (λ n. slice_set sets n new) (sym at.number_is) in
-    (subst (λ s. Stands ways s rows marks writes) there (touched_stands ways sets rows marks writes line new stands front' spare'),
-    subst (λ s. IsTouched cached (shown_cache ways s rows) line) there
-    (subst (λ (v : Cached). IsTouched v (shown_cache ways (sets_with sets line new) rows) line) is
-    (touched_shown ways sets rows marks writes line new stands front' spare')))
+    let there : sets_with sets line new ≡ slice_set sets number new = ap (λ n. slice_set sets n new) (sym at.number_is) in (
+      subst (λ s. Stands ways s rows marks writes) there (touched_stands ways sets rows marks writes line new stands front' spare'),
+      subst (λ s. IsTouched cached (shown_cache ways s rows) line) there
+          (subst (λ (v : Cached). IsTouched v (shown_cache ways (sets_with sets line new) rows) line) is
+          (touched_shown ways sets rows marks writes line new stands front' spare')),
+    )

@@ -29,9 +29,10 @@ record Fits (ways : ℕ) (cache : List (List Way)) (line : ℕ) (set : List Way)
 each_set : (P : List Way → ℕ → Type 0) (cache : List (List Way)) (line : ℕ) (set : List Way) → 0 < length cache →
     ((n : ℕ) → n ≡ set_number cache line → P set n) → ((l : ℕ) → P (set_of cache l) (set_number cache l)) → (l : ℕ) → P (set_of (with_set cache line set) l) (set_number cache l)
 each_set P cache line set some here others l =
-    elim (cases_eq (set_number cache l) (set_number cache line))
-    [ inl same ↦ subst (λ (s : List Way). P s (set_number cache l)) (sym (set_of-with_set_same cache line l set some same)) (here (set_number cache l) same)
-    | inr other ↦ subst (λ (s : List Way). P s (set_number cache l)) (sym (set_of-with_set_other cache line l set other)) (others l) ]
+    elim (cases_eq (set_number cache l) (set_number cache line)) [
+      | inl same ↦ subst (λ (s : List Way). P s (set_number cache l)) (sym (set_of-with_set_same cache line l set some same)) (here (set_number cache l) same)
+      | inr other ↦ subst (λ (s : List Way). P s (set_number cache l)) (sym (set_of-with_set_other cache line l set other)) (others l)
+    ]
 
 -- the set of a line has the same number in both
 same_number : (cache : List (List Way)) (line l : ℕ) (set : List Way) → set_number (with_set cache line set) l ≡ set_number cache l
@@ -44,10 +45,10 @@ well_formed-with_set ways cache line set kept fits = record {
   within = each_set (λ s n. length s ≤ ways) cache line set kept.some_set (λ n is. fits.within) kept.within;
   once = each_set (λ s n. (l : ℕ) → count_of line_of s l ≤ 1) cache line set kept.some_set (λ n is. fits.once) kept.once;
   home = λ line' l way is.
-  same_number cache line l set
-  ∙ each_set (λ s n. (l : ℕ) (way : Way) → way_in s l ≡ Some way → set_number cache l ≡ n) cache line set kept.some_set
-  (λ n is l way found. fits.home l way found ∙ sym is) kept.home line' l way is
-  ∙ sym (same_number cache line line' set);
+      same_number cache line l set
+      ∙ each_set (λ s n. (l : ℕ) (way : Way) → way_in s l ≡ Some way → set_number cache l ≡ n) cache line set kept.some_set
+      (λ n is l way found. fits.home l way found ∙ sym is) kept.home line' l way is
+      ∙ sym (same_number cache line line' set);
   valid = each_set (λ s n. (l : ℕ) (way : Way) → way_in s l ≡ Some way → way.letter ≢ I) cache line set kept.some_set (λ n is. fits.valid) kept.valid;
 }
 
@@ -72,9 +73,10 @@ well_formed-touched ways cache line kept =
 -- a way that is found in a set without a line was found before
 found_before : (set : List Way) (line l : ℕ) (way : Way) → way_in (dropped set line) l ≡ Some way → way_in set l ≡ Some way
 found_before set line l way is =
-    elim (cases_eq l line)
-    [ inl same ↦ absurd (grind (arith, way_in-dropped_same set line, same, is))
-    | inr other ↦ sym (way_in-dropped_other set line l other) ∙ is ]
+    elim (cases_eq l line) [
+      | inl same ↦ absurd (grind (arith, way_in-dropped_same set line, same, is))
+      | inr other ↦ sym (way_in-dropped_other set line l other) ∙ is
+    ]
 
 pub well_formed-without_line : (ways : ℕ) (cache : List (List Way)) (line : ℕ) → IsWellFormed ways cache → IsWellFormed ways (without_line cache line)
 well_formed-without_line ways cache line kept =
@@ -97,12 +99,13 @@ mapped change (Some old) way is = (old, refl, cc)
 unchanged_or : (change : Way → Way) (set : List Way) (line l : ℕ) (way : Way) → ((w : Way) → (change w).line ≡ w.line) →
     way_in (changed_in change set line) l ≡ Some way → (old : Way) × (way_in set l ≡ Some old) × ((old ≡ way) ⊎ (change old ≡ way))
 unchanged_or change set line l way kept is =
-    elim (cases_eq l line)
-    [ inl same ↦
-    let there = mapped change (way_in set line) way
-    (sym (way_in-changed_in_same change set line kept) ∙ subst (λ n. way_in (changed_in change set line) n ≡ Some way) same is) in
-    (there.0, subst (λ n. way_in set n ≡ Some there.0) (sym same) there.1, inr there.2)
-    | inr other ↦ (way, sym (way_in-changed_in_other change set line l kept other) ∙ is, inl refl) ]
+    elim (cases_eq l line) [
+      | inl same ↦
+          let there = mapped change (way_in set line) way
+          (sym (way_in-changed_in_same change set line kept) ∙ subst (λ n. way_in (changed_in change set line) n ≡ Some way) same is) in
+          (there.0, subst (λ n. way_in set n ≡ Some there.0) (sym same) there.1, inr there.2)
+      | inr other ↦ (way, sym (way_in-changed_in_other change set line l kept other) ∙ is, inl refl)
+    ]
 
 fits-changed : (change : Way → Way) (ways : ℕ) (cache : List (List Way)) (line : ℕ) → Changes change → IsWellFormed ways cache →
     Fits ways cache line (changed_in change (set_of cache line) line)
@@ -117,11 +120,12 @@ fits-changed change ways cache line keeps kept =
       once = λ l. omega (arith, kept.once line l, sums (λ way. cond (eqb (line_of way) l) 1 0) (λ w. ap (λ n. cond (eqb n l) 1 0) (keeps.line w)));
       home = λ l way is. let before = unchanged_or change old line l way keeps.line is in kept.home line l before.0 before.1;
       valid = λ l way is.
-      let before = unchanged_or change old line l way keeps.line is in
-      let was = kept.valid line l before.0 before.1 in
-      elim before.2
-      [ inl same ↦ subst (λ (w : Way). w.letter ≢ I) same was
-      | inr changed ↦ subst (λ (w : Way). w.letter ≢ I) changed (keeps.valid before.0 was) ];
+          let before = unchanged_or change old line l way keeps.line is in
+          let was = kept.valid line l before.0 before.1 in
+          elim before.2 [
+            | inl same ↦ subst (λ (w : Way). w.letter ≢ I) same was
+            | inr changed ↦ subst (λ (w : Way). w.letter ≢ I) changed (keeps.valid before.0 was)
+          ];
     }
 
 pub well_formed-lettered : (ways : ℕ) (cache : List (List Way)) (line : ℕ) (letter : Letter) → letter ≢ I → IsWellFormed ways cache →
@@ -167,11 +171,12 @@ fewer : (ways : ℕ) (set : List Way) (line : ℕ) → room_in ways set line ≡
     length set + 1 ≤ ways + option_map_or (λ way. 1) (evicted_in ways set) 0
 fewer ways set line room absent within =
     let leaves = evicted_in-some ways set line room absent in
-    elim (cases_lt (length set) ways)
-    [ inl low ↦ omega (arith, low)
-    | inr full ↦
-    let one = one_of (evicted_in ways set) (grind (arith, nat_tests, leaves, full)) in
-    omega (arith, one, within) ]
+    elim (cases_lt (length set) ways) [
+      | inl low ↦ omega (arith, low)
+      | inr full ↦
+          let one = one_of (evicted_in ways set) (grind (arith, nat_tests, leaves, full)) in
+          omega (arith, one, within)
+    ]
 
 fits-filled : (ways : ℕ) (cache : List (List Way)) (line : ℕ) (letter : Letter) → room_of ways cache line ≡ true →
     is_resident cache line ≡ false → letter ≢ I → IsWellFormed ways cache →
@@ -188,16 +193,18 @@ fits-filled ways cache line letter room absent some kept =
       within = omega (arith, sums (λ way. 1), fewer ways old line room none (kept.within line), length-sum_by new, length-sum_by old);
       once = λ l. grind (arith, nat_tests, sums (λ way. cond (eqb (line_of way) l) 1 0), kept.once line l, own l);
       home = λ l way is.
-      elim (cases_eq l line)
-      [ inl same ↦ ap (set_number cache) same
-      | inr other ↦ kept.home line l way (filled_before ways old (fresh line letter) l way other is) ];
+          elim (cases_eq l line) [
+            | inl same ↦ ap (set_number cache) same
+            | inr other ↦ kept.home line l way (filled_before ways old (fresh line letter) l way other is)
+          ];
       valid = λ l way is.
-      elim (cases_eq l line)
-      [ inl same ↦
-      let here : Some (fresh line letter) ≡ Some way =
-      sym (way_in-filled_in_same ways old (fresh line letter)) ∙ subst (λ n. way_in new n ≡ Some way) same is in
-      subst (λ (w : Way). w.letter ≢ I) (same_Some (fresh line letter) way here) some
-      | inr other ↦ kept.valid line l way (filled_before ways old (fresh line letter) l way other is) ];
+          elim (cases_eq l line) [
+            | inl same ↦
+                let here : Some (fresh line letter) ≡ Some way =
+                sym (way_in-filled_in_same ways old (fresh line letter)) ∙ subst (λ n. way_in new n ≡ Some way) same is in
+                subst (λ (w : Way). w.letter ≢ I) (same_Some (fresh line letter) way here) some
+            | inr other ↦ kept.valid line l way (filled_before ways old (fresh line letter) l way other is)
+          ];
     }
 
 pub well_formed-filled_with : (ways : ℕ) (cache : List (List Way)) (line : ℕ) (letter : Letter) → room_of ways cache line ≡ true →
@@ -217,17 +224,17 @@ well_formed-map change ways cache keeps kept =
       some_set = omega (arith, kept.some_set, length-map cache (map change));
       within = λ line. omega (arith, kept.within line, ap length (sets line), length-map (set_of cache line) change);
       once = λ line l.
-      let same : count_of line_of (map change (set_of cache line)) l ≡ count_of line_of (set_of cache line) l =
-      sum_by-map (λ way. cond (eqb (line_of way) l) 1 0) change (set_of cache line) ∙ λ i. sum_by (λ way. cond (eqb (keeps.line way i) l) 1 0) (set_of cache line) in
-      omega (arith, kept.once line l, same, ap (λ set. count_of line_of set l) (sets line));
+          let same : count_of line_of (map change (set_of cache line)) l ≡ count_of line_of (set_of cache line) l =
+          sum_by-map (λ way. cond (eqb (line_of way) l) 1 0) change (set_of cache line) ∙ λ i. sum_by (λ way. cond (eqb (keeps.line way i) l) 1 0) (set_of cache line) in
+          omega (arith, kept.once line l, same, ap (λ set. count_of line_of set l) (sets line));
       home = λ line l way is.
-      let was = mapped change (way_in (set_of cache line) l) way
-      (sym (way_in-map change (set_of cache line) l keeps.line) ∙ ap (λ set. way_in set l) (sym (sets line)) ∙ is) in
-      number l ∙ kept.home line l was.0 was.1 ∙ sym (number line);
+          let was = mapped change (way_in (set_of cache line) l) way
+          (sym (way_in-map change (set_of cache line) l keeps.line) ∙ ap (λ set. way_in set l) (sym (sets line)) ∙ is) in
+          number l ∙ kept.home line l was.0 was.1 ∙ sym (number line);
       valid = λ line l way is.
-      let was = mapped change (way_in (set_of cache line) l) way
-      (sym (way_in-map change (set_of cache line) l keeps.line) ∙ ap (λ set. way_in set l) (sym (sets line)) ∙ is) in
-      subst (λ (w : Way). w.letter ≢ I) was.2 (keeps.valid was.0 (kept.valid line l was.0 was.1));
+          let was = mapped change (way_in (set_of cache line) l) way
+          (sym (way_in-map change (set_of cache line) l keeps.line) ∙ ap (λ set. way_in set l) (sym (sets line)) ∙ is) in
+          subst (λ (w : Way). w.letter ≢ I) was.2 (keeps.valid was.0 (kept.valid line l was.0 was.1));
     }
 
 pub well_formed-cleared : (ways : ℕ) (cache : List (List Way)) → IsWellFormed ways cache → IsWellFormed ways (cleared cache)

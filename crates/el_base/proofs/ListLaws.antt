@@ -183,7 +183,7 @@ module _ {X : Type 0} (code : X → ℕ) where
 
   all_below : (n : ℕ) (xs : List X) → ((x : X) → code x < n) → count_by (λ x. nat_lt (code x) n) xs ≡ length xs
   all_below n [] small = refl
-  all_below n (x ∷ xs) small = 
+  all_below n (x ∷ xs) small =
       let one = sum_by-cons (λ y. cond (nat_lt (code y) n) 1 0) x xs in
       grind (arith, nat_tests, one, all_below n xs small, small x)
 

@@ -80,10 +80,10 @@ unfolding faced
 faced_silent state head stampless all =
     all_each IsSilent state (faced_hart state head) (new_is_silent 0)
     (λ h hart silent.
-      by_test IsSilent (h == head.hart) (post_all hart (markers_for state.config.mode state head))
-      (after_fate state head (fate_of state head h hart) hart)
-      (λ own. markers_silent state.config.mode state head hart stampless silent)
-      (λ other. fate_silent state head hart (fate_of state head h hart) silent))
+    by_test IsSilent (h == head.hart) (post_all hart (markers_for state.config.mode state head))
+    (after_fate state head (fate_of state head h hart) hart)
+    (λ own. markers_silent state.config.mode state head hart stampless silent)
+    (λ other. fate_silent state head hart (fate_of state head h hart) silent))
     all
 
 faced_if_silent : (state : ModelState) (head : Option Request) → has_stamps state.config.mode ≡ false → All IsSilent state →

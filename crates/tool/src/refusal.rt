@@ -35,7 +35,12 @@ impl Refusal {
             Refusal::Config(fault) => config_line(alloc, fault),
             Refusal::TooBig { limit } => format!(in alloc; "file too big: limit {limit}\n"),
             Refusal::Image(fault) => {
-                fault_line(alloc, "image", fault, fault_name(fault.number).unwrap_or(""))
+                fault_line(
+                    alloc,
+                    "image",
+                    fault,
+                    fault_name(fault.number).unwrap_or(""),
+                )
             }
             Refusal::Trace(fault) => {
                 fault_line(alloc, "trace", fault, trace_fault_name(fault.number))

@@ -5,9 +5,12 @@ use Rattle.cache_sets.proofs.sets.Sets.bytes.Goals as goal
 pub index-requires : goal.index-requires
 index-requires c =
     let i = c.self.inside in
-    omega (arith, i.rows.ok.0,
-    row_read i.ways i.sets.items c.as_slice-sets.result.now i.rows.items i.marked i.written c.args.line.number c.row_of.result c.in-Some.way c.self.invariant
-    c.as_slice-sets.ensures.value c.in-Some.ensures c.row_of.ensures)
+    omega (
+      arith,
+      i.rows.ok.0,
+      row_read i.ways i.sets.items c.as_slice-sets.result.now i.rows.items i.marked i.written c.args.line.number c.row_of.result c.in-Some.way c.self.invariant
+          c.as_slice-sets.ensures.value c.in-Some.ensures c.row_of.ensures,
+    )
 
 pub unreachable-requires : goal.unreachable-requires
 unreachable-requires c =

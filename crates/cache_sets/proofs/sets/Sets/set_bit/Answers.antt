@@ -14,26 +14,44 @@ set_bit-requires c =
 pub overflow_sub-self : goal.overflow_sub-self
 overflow_sub-self c =
     let i = c.self.inside in
-    omega (arith, c.marks.ensures, marks_below i.ways i.sets.items i.rows.items i.marked i.written c.args.self.now c.args.line.number c.bits-before.result c.self.invariant
-    c.self.view_is c.bits-before.ensures)
+    omega (
+      arith,
+      c.marks.ensures,
+      marks_below i.ways i.sets.items i.rows.items i.marked i.written c.args.self.now c.args.line.number c.bits-before.result c.self.invariant
+          c.self.view_is c.bits-before.ensures,
+    )
 
 pub overflow_add-self : goal.overflow_add-self
 overflow_add-self c =
     let i = c.self.inside in
-    omega (arith, c.marks-2.ensures, marks_in-le c.with-after.result, few_marks i.ways i.sets.items i.rows.items i.marked i.written c.args.self.now c.args.line.number c.bits-before.result c.self.invariant
-    c.self.view_is c.bits-before.ensures)
+    omega (
+      arith,
+      c.marks-2.ensures,
+      marks_in-le c.with-after.result,
+      few_marks i.ways i.sets.items i.rows.items i.marked i.written c.args.self.now c.args.line.number c.bits-before.result c.self.invariant
+          c.self.view_is c.bits-before.ensures,
+    )
 
 pub overflow_sub-self-2 : goal.overflow_sub-self-2
 overflow_sub-self-2 c =
     let i = c.self.inside in
-    omega (arith, c.writes.ensures, writes_below i.ways i.sets.items i.rows.items i.marked i.written c.args.self.now c.args.line.number c.bits-before.result c.self.invariant
-    c.self.view_is c.bits-before.ensures)
+    omega (
+      arith,
+      c.writes.ensures,
+      writes_below i.ways i.sets.items i.rows.items i.marked i.written c.args.self.now c.args.line.number c.bits-before.result c.self.invariant
+          c.self.view_is c.bits-before.ensures,
+    )
 
 pub overflow_add-self-2 : goal.overflow_add-self-2
 overflow_add-self-2 c =
     let i = c.self.inside in
-    omega (arith, c.writes-2.ensures, writes_in-le c.with-after.result, few_writes i.ways i.sets.items i.rows.items i.marked i.written c.args.self.now c.args.line.number c.bits-before.result c.self.invariant
-    c.self.view_is c.bits-before.ensures)
+    omega (
+      arith,
+      c.writes-2.ensures,
+      writes_in-le c.with-after.result,
+      few_writes i.ways i.sets.items i.rows.items i.marked i.written c.args.self.now c.args.line.number c.bits-before.result c.self.invariant
+          c.self.view_is c.bits-before.ensures,
+    )
 
 pub invariant_of-self : goal.invariant_of-self
 invariant_of-self c =

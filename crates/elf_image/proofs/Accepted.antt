@@ -16,7 +16,7 @@ use Rattle.elf_image.specs.Header.{file_header, program_headers}
 use Rattle.elf_image.specs.Limits.{end_limit, header_limit, memory_limit, stack_size}
 use Rattle.elf_image.specs.Layout.{is_segment, segment_end, segments_of, first_overlap, memory_base, memory_end, layout_of, size_of}
 use Rattle.elf_image.specs.FaultKinds.{fault_of}
-use Rattle.elf_image.specs.Faults.{fault, ident_fault, header_fault, headers_fault, memory_fault, differs, header_version_fault, file_kind_fault, machine_fault, flags_fault, table_fault, dynamic_fault, load_fault, segment_fault, overlap_fault, too_wide_fault, too_high_fault, entry_fault, empty_fault, has_segment, is_entry}
+use Rattle.elf_image.specs.Faults.{fault, ident_fault, header_fault, headers_fault, memory_fault, differs, header_version_fault, file_kind_fault, machine_fault, flags_fault, table_fault, dynamic_fault, load_fault, segments_fault, overlap_fault, too_wide_fault, too_high_fault, entry_fault, empty_fault, has_segment, is_entry}
 use Rattle.elf_image.specs.Loaded.{Fits, IsLoadable}
 
 -- Parts of what is none
@@ -94,7 +94,7 @@ pub all_in_file : (file : List ℕ) → headers_fault (program_headers file) (le
 unfolding headers_fault segments_of
 all_in_file file e =
     let headers = program_headers file in
-    let none = all_none (load_fault (length file)) headers (none_first (segment_fault headers (length file)) None (none_second (dynamic_fault headers) _ e)) in
+    let none = all_none (load_fault (length file)) headers (none_first (segments_fault headers (length file)) None (none_second (dynamic_fault headers) _ e)) in
     let kept = All-filter is_segment (λ header. load_fault (length file) header ≡ None) headers none in
     let passed = filter_passes is_segment headers in
     λ k d below. in_file (length file) _ (kept k d below) (passed k d below)

@@ -93,8 +93,8 @@ load_fault file_len header =
     else None
 
 -- of all headers: the first fault in the order of the table
-abbrev pub segment_fault : List ProgramHeader → ℕ → Option FileFault
-segment_fault headers file_len = first_of (map (load_fault file_len) headers)
+abbrev pub segments_fault : List ProgramHeader → ℕ → Option FileFault
+segments_fault headers file_len = first_of (map (load_fault file_len) headers)
 
 -- The segments in memory
 
@@ -154,7 +154,7 @@ header_fault header file_len =
 
 -- the first fault of the program headers, in a file of so many bytes
 unfoldable pub headers_fault : List ProgramHeader → ℕ → Option FileFault
-headers_fault headers file_len = first_of (dynamic_fault headers ∷ segment_fault headers file_len ∷ [])
+headers_fault headers file_len = first_of (dynamic_fault headers ∷ segments_fault headers file_len ∷ [])
 
 -- the first fault of the segments in memory that lies so, with an entry
 unfoldable pub memory_fault : List ProgramHeader → Layout → ℕ → Option FileFault

@@ -13,7 +13,7 @@ use crate::header::{FileHeader, check_ident};
 use crate::image::Image;
 use crate::layout::{Layout, check_memory};
 use crate::loaded::{load_bytes, load_code};
-use crate::table::{ProgramHeaders, check_program_headers, read_table, segments_of};
+use crate::table::{ProgramHeaders, check_headers, headers_at, segments_of};
 use el_base::FileFault;
 use std::alloc::Global;
 use thiserror::Error;
@@ -70,8 +70,8 @@ fn judge(file: &[u8], harts: u8) -> Result<Accepted, FileFault>
     check_ident(file)?;
     let header = FileHeader::read(file);
     header.check(file.len())?;
-    let headers = read_table(file, &header);
-    check_program_headers(&headers, file.len())?;
+    let headers = headers_at(file, header.e_phoff, header.e_phnum);
+    check_headers(&headers, file.len())?;
     let segments = segments_of(&headers);
     let layout = Layout::of(&segments, harts);
     check_memory(&segments, layout, header.e_entry)?;
@@ -84,7 +84,7 @@ fn judge(file: &[u8], harts: u8) -> Result<Accepted, FileFault>
 
 /// The program that a file without a fault loads.
 #[tactic(auto, unfolding(crate::specs::Loaded::program_of, crate::specs::Loaded::loaded_bytes))]
-fn build(
+fn load_program(
     alloc: Global,
     file: &[u8],
     parts: &Accepted,
@@ -119,6 +119,6 @@ pub fn load(alloc: Global, file: &[u8], harts: u8) -> Result<Image, ImageFault>
     ensures memory_after_faults { result ≡ Err NoMemory → fault file.now harts ≡ None }
 {
     let parts = judge(file, harts)?;
-    let image = build(alloc, file, &parts, harts)?;
+    let image = load_program(alloc, file, &parts, harts)?;
     Ok(image)
 }

@@ -1,13 +1,12 @@
 //! The table of program headers.
 
 ghost use Rattle.std.specs.Prelude.{◌≡◌, ◌≤◌, ◌+◌, ◌*◌, None, Some, All, IfErr, OnOk, filter, length};
-ghost use Rattle.elf_image.specs.Header.{HasTable, headers_at};
+ghost use Rattle.elf_image.specs.Header as header;
 ghost use Rattle.elf_image.specs.Layout.{is_segment};
 ghost use Rattle.elf_image.specs.Faults as faults;
 ghost use Rattle.elf_image.specs.Limits.{file_limit, header_limit};
 
 use crate::fault::FaultKind;
-use crate::header::FileHeader;
 use crate::limits::PROGRAM_HEADER_LIMIT;
 use crate::program_header::{PROGRAM_HEADER_LEN, ProgramHeader};
 use arrayvec::ArrayVec;
@@ -16,23 +15,13 @@ use el_base::FileFault;
 /// Program headers, in the order of their table.
 pub type ProgramHeaders = ArrayVec<ProgramHeader, PROGRAM_HEADER_LIMIT>;
 
-/// The program headers of a file that has this header.
-pub fn read_table(file: &[u8], header: &FileHeader) -> ProgramHeaders
-    requires within_limit { length file.now ≤ file_limit }
-    requires table { HasTable header.now (length file.now) }
-    ensures exact { result.items ≡ headers_at file.now header.now.e_phoff header.now.e_phnum }
-    ensures places { All (λ header. header.place ≤ file_limit) result.items }
-{
-    read_headers(file, header.e_phoff, header.e_phnum)
-}
-
 /// So many program headers, the first of them at a place of the file.
 #[tactic(auto, unfolding(crate::specs::Header::headers_at))]
-fn read_headers(file: &[u8], place: u32, count: u16) -> ProgramHeaders
+pub fn headers_at(file: &[u8], place: u32, count: u16) -> ProgramHeaders
     requires within_limit { length file.now ≤ file_limit }
     requires few { count ≤ header_limit }
     requires inside { place + 32 * count ≤ length file.now }
-    ensures exact { result.items ≡ headers_at file.now place count }
+    ensures exact { result.items ≡ header.headers_at file.now place count }
     ensures places { All (λ header. header.place ≤ file_limit) result.items }
 {
     let mut headers = ProgramHeaders::new();
@@ -46,7 +35,7 @@ fn read_headers(file: &[u8], place: u32, count: u16) -> ProgramHeaders
 /// Judges the headers: none asks for a dynamic linker, and what is loaded lies in a file of `file_len`
 /// bytes.
 #[tactic(auto, unfolding(crate::specs::Faults::headers_fault))]
-pub fn check_program_headers(headers: &[ProgramHeader], file_len: usize) -> Result<(), FileFault>
+pub fn check_headers(headers: &[ProgramHeader], file_len: usize) -> Result<(), FileFault>
     requires { All (λ header. header.place ≤ file_limit) headers.now }
     ensures accepted { OnOk result (faults.headers_fault headers.now file_len ≡ None) }
     ensures refused { IfErr result (λ fault. faults.headers_fault headers.now file_len ≡ Some fault) }
@@ -54,7 +43,7 @@ pub fn check_program_headers(headers: &[ProgramHeader], file_len: usize) -> Resu
     if let Some(place) = first_dynamic(headers) {
         return Err(FaultKind::Dynamic.at(place));
     }
-    check_each(headers, file_len)
+    check_segments(headers, file_len)
 }
 
 /// The place of the first header that asks for a dynamic linker.
@@ -68,10 +57,10 @@ fn first_dynamic(headers: &[ProgramHeader]) -> Option<u32>
 }
 
 /// Judges each header of type PT_LOAD.
-fn check_each(headers: &[ProgramHeader], file_len: usize) -> Result<(), FileFault>
+fn check_segments(headers: &[ProgramHeader], file_len: usize) -> Result<(), FileFault>
     requires { All (λ header. header.place ≤ file_limit) headers.now }
-    ensures accepted { OnOk result (faults.segment_fault headers.now file_len ≡ None) }
-    ensures refused { IfErr result (λ fault. faults.segment_fault headers.now file_len ≡ Some fault) }
+    ensures accepted { OnOk result (faults.segments_fault headers.now file_len ≡ None) }
+    ensures refused { IfErr result (λ fault. faults.segments_fault headers.now file_len ≡ Some fault) }
 {
     for header in headers {
         header.check(file_len)?;

@@ -1,5 +1,5 @@
 use Rattle.std.proofs.Common.{◌≡◌, length, ap, arith}
-use Rattle.elf_image.proofs.loader.build.Goals as goal
+use Rattle.elf_image.proofs.loader.load_program.Goals as goal
 
 pub load_code-requires : goal.load_code-requires
 load_code-requires c k d below =

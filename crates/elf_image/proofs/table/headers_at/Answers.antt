@@ -2,7 +2,7 @@ use Rattle.std.proofs.Common.{◌≤◌, arith}
 use Rattle.std.proofs.lemmas.List.Elements.{All-push}
 use Rattle.elf_image.specs.Limits.{file_limit}
 use Rattle.elf_image.proofs.Headers.{headers_more, header_place}
-use Rattle.elf_image.proofs.table.read_headers.Goals as goal
+use Rattle.elf_image.proofs.table.headers_at.Goals as goal
 
 pub loop-index-preserved : goal.loop-index-preserved
 loop-index-preserved c =

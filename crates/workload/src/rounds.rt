@@ -5,7 +5,9 @@ ghost use Rattle.workload.specs.Extent.{GrowsWithin, HasRoom, grown};
 
 use crate::layout::{LOCKS, WORDS};
 use crate::mnemonics::addi;
-use crate::parts::{add_to_word, again, data_address, draw_line, give_lock, seed, small, take_lock};
+use crate::parts::{
+    add_to_word, again, data_address, draw_line, give_lock, seed, small, take_lock,
+};
 use crate::program::Program;
 use crate::registers::{LEFT, LOCK, OTHER_LOCK, OTHER_WORD, ROUNDS, WORD};
 use crate::work::Work;

@@ -14,3 +14,6 @@ mod work;
 
 pub use building::build;
 pub use work::Work;
+
+#[cfg(test)]
+mod tests;

@@ -12,3 +12,4 @@ pub mod CachedLemmas
 pub mod StepLemmas
 pub mod ChangeSteps
 pub mod CountSteps
+pub mod DropSteps

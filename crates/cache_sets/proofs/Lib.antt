@@ -13,3 +13,4 @@ pub mod StepLemmas
 pub mod ChangeSteps
 pub mod CountSteps
 pub mod DropSteps
+pub mod FillSteps

@@ -14,3 +14,4 @@ pub mod ChangeSteps
 pub mod CountSteps
 pub mod DropSteps
 pub mod FillSteps
+pub mod EachSteps

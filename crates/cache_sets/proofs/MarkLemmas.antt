@@ -182,14 +182,20 @@ pub write_bits_of-without_line : (ways : ℕ) (cache : List (List Way)) (line : 
 write_bits_of-without_line ways cache line kept =
     omega (arith, total-without_line write_of ways cache line kept, written (way_of cache line))
 
+pub marks_of-cleared : (cache : List (List Way)) → marks_of (cleared cache) ≡ 0
+marks_of-cleared cache = total-map mark_of without_bits cache (λ way. refl)
+
+pub marks_of-committed : (cache : List (List Way)) → marks_of (committed cache) ≡ 0
+marks_of-committed cache = total-map mark_of committed_way cache (λ way. refl)
+
 pub has_marks-cleared : (cache : List (List Way)) → has_marks (cleared cache) ≡ false
-has_marks-cleared cache = has_marks-counted (cleared cache) ∙ ap (λ n. not (eqb n 0)) (total-map mark_of without_bits cache (λ way. refl))
+has_marks-cleared cache = has_marks-counted (cleared cache) ∙ ap (λ n. not (eqb n 0)) (marks_of-cleared cache)
 
 pub write_bits_of-cleared : (cache : List (List Way)) → write_bits_of (cleared cache) ≡ 0
 write_bits_of-cleared cache = total-map write_of without_bits cache (λ way. refl)
 
 pub has_marks-committed : (cache : List (List Way)) → has_marks (committed cache) ≡ false
-has_marks-committed cache = has_marks-counted (committed cache) ∙ ap (λ n. not (eqb n 0)) (total-map mark_of committed_way cache (λ way. refl))
+has_marks-committed cache = has_marks-counted (committed cache) ∙ ap (λ n. not (eqb n 0)) (marks_of-committed cache)
 
 pub write_bits_of-committed : (cache : List (List Way)) → write_bits_of (committed cache) ≡ 0
 write_bits_of-committed cache = total-map write_of committed_way cache (λ way. refl)

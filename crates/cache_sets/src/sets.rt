@@ -160,7 +160,7 @@ impl Sets {
     pub fn clear_bits(&mut self)
         ensures { IsCleared self.old self.new }
     {
-        clear_sets(&mut self.sets);
+        clear(self.sets.as_mut_slice());
         self.marked = 0;
         self.written = 0;
     }
@@ -170,7 +170,7 @@ impl Sets {
     pub fn commit_bits(&mut self)
         ensures { IsCommitted self.old self.new }
     {
-        commit_sets(&mut self.sets);
+        commit(self.sets.as_mut_slice());
         self.marked = 0;
         self.written = 0;
     }
@@ -235,21 +235,19 @@ fn find(sets: &[Set], line: LineAddr) -> Option<Way>
 }
 
 /// No way of any set has a bit any more.
-fn clear_sets(sets: &mut Vec<Set>)
-    ensures { AreChanged cleared_way sets.old.items sets.new.items }
+fn clear(sets: &mut [Set])
+    ensures { AreChanged cleared_way sets.old sets.new }
 {
-    for number in 0..sets.len() {
-        let set = &mut sets[number];
+    for set in sets.iter_mut() {
         set.clear_bits();
     }
 }
 
 /// The written ways of all sets become modified, and none has a bit any more.
-fn commit_sets(sets: &mut Vec<Set>)
-    ensures { AreChanged committed_way sets.old.items sets.new.items }
+fn commit(sets: &mut [Set])
+    ensures { AreChanged committed_way sets.old sets.new }
 {
-    for number in 0..sets.len() {
-        let set = &mut sets[number];
+    for set in sets.iter_mut() {
         set.commit_bits();
     }
 }

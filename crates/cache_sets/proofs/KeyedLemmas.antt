@@ -210,6 +210,12 @@ module _ {X : Type 0} (key : X → ℕ) where
           let there : option_map_or f (found key xs k) 0 ≡ f x = ap (λ w. option_map_or f w 0) is in
           omega (arith, rest, there, sum_by-cons f x (without key xs k))
 
+-- what a mapped value comes from
+pub mapped : {X Y : Type 0} (change : X → Y) (before : Option X) (after : Y) → option_map change before ≡ Some after →
+    (old : X) × (before ≡ Some old) × (change old ≡ after)
+mapped change None after is = absurd cc
+mapped change (Some old) after is = (old, refl, cc)
+
 -- the length is the sum of ones
 pub length-sum_by : {X : Type 0} → (xs : List X) → length xs ≡ sum_by (λ x. 1) xs
 length-sum_by [] = refl

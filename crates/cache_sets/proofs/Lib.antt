@@ -12,3 +12,6 @@ pub mod CachedLemmas
 pub mod StepLemmas
 pub mod ChangeSteps
 pub mod CountSteps
+pub mod DropSteps
+pub mod FillSteps
+pub mod EachSteps

@@ -164,15 +164,25 @@ none_lost : (f : Way → ℕ) (evicted : Option Way) → ((gone : Way) → evict
 none_lost f None stays = refl
 none_lost f (Some gone) stays = stays gone refl
 
+pub marks_of-filled_with : (ways : ℕ) (cache : List (List Way)) (line : ℕ) (letter : Letter) → IsWellFormed ways cache →
+    marks_of (filled_with ways cache line letter) ≡ marks_of cache
+marks_of-filled_with ways cache line letter kept =
+    omega (arith, total-filled_with mark_of ways cache line letter kept,
+    none_lost mark_of (evicted_by ways cache line) (λ gone is. ap one_if (evicted_by-unmarked ways cache line gone is)))
+
 pub has_marks-filled_with : (ways : ℕ) (cache : List (List Way)) (line : ℕ) (letter : Letter) → IsWellFormed ways cache →
     has_marks (filled_with ways cache line letter) ≡ has_marks cache
 has_marks-filled_with ways cache line letter kept =
+<<<<<<< HEAD
     same_marks cache (filled_with ways cache line letter)
     (omega (
       arith,
       total-filled_with mark_of ways cache line letter kept,
       none_lost mark_of (evicted_by ways cache line) (λ gone is. ap one_if (evicted_by-unmarked ways cache line gone is)),
     ))
+=======
+    same_marks cache (filled_with ways cache line letter) (marks_of-filled_with ways cache line letter kept)
+>>>>>>> e3d34d1dbdceff18b8eb6e5ed490ebed8a798572
 
 pub write_bits_of-filled_with : (ways : ℕ) (cache : List (List Way)) (line : ℕ) (letter : Letter) → IsWellFormed ways cache →
     write_bits_of (filled_with ways cache line letter) ≡ write_bits_of cache
@@ -192,14 +202,20 @@ pub write_bits_of-without_line : (ways : ℕ) (cache : List (List Way)) (line : 
 write_bits_of-without_line ways cache line kept =
     omega (arith, total-without_line write_of ways cache line kept, written (way_of cache line))
 
+pub marks_of-cleared : (cache : List (List Way)) → marks_of (cleared cache) ≡ 0
+marks_of-cleared cache = total-map mark_of without_bits cache (λ way. refl)
+
+pub marks_of-committed : (cache : List (List Way)) → marks_of (committed cache) ≡ 0
+marks_of-committed cache = total-map mark_of committed_way cache (λ way. refl)
+
 pub has_marks-cleared : (cache : List (List Way)) → has_marks (cleared cache) ≡ false
-has_marks-cleared cache = has_marks-counted (cleared cache) ∙ ap (λ n. not (eqb n 0)) (total-map mark_of without_bits cache (λ way. refl))
+has_marks-cleared cache = has_marks-counted (cleared cache) ∙ ap (λ n. not (eqb n 0)) (marks_of-cleared cache)
 
 pub write_bits_of-cleared : (cache : List (List Way)) → write_bits_of (cleared cache) ≡ 0
 write_bits_of-cleared cache = total-map write_of without_bits cache (λ way. refl)
 
 pub has_marks-committed : (cache : List (List Way)) → has_marks (committed cache) ≡ false
-has_marks-committed cache = has_marks-counted (committed cache) ∙ ap (λ n. not (eqb n 0)) (total-map mark_of committed_way cache (λ way. refl))
+has_marks-committed cache = has_marks-counted (committed cache) ∙ ap (λ n. not (eqb n 0)) (marks_of-committed cache)
 
 pub write_bits_of-committed : (cache : List (List Way)) → write_bits_of (committed cache) ≡ 0
 write_bits_of-committed cache = total-map write_of committed_way cache (λ way. refl)

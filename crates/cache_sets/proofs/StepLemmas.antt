@@ -26,7 +26,7 @@ use Rattle.cache_sets.proofs.ShownLemmas.{once_at, set_of_shown, way_in_shown}
 pub length-sets_with : (sets : List Set) (line : ℕ) (set : Set) → length (sets_with sets line set) ≡ length sets
 length-sets_with sets line set = length-set sets (line % length sets) set
 
-set_at-sets_with_same : (sets : List Set) (line l : ℕ) (set : Set) → 0 < length sets → l % length sets ≡ line % length sets →
+pub set_at-sets_with_same : (sets : List Set) (line l : ℕ) (set : Set) → 0 < length sets → l % length sets ≡ line % length sets →
     set_at (sets_with sets line set) l ≡ set
 set_at-sets_with_same sets line l set some same =
     rw (length-sets_with sets line set, same) (get_or-set_same sets (line % length sets) set no_set (omega arith))

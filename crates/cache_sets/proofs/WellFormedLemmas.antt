@@ -16,7 +16,7 @@ use Rattle.cache_sets.proofs.ResidencyLemmas.{counted, evicted_in-some, evicted_
 use Rattle.el_base.specs.declared.outcomes.Need.TheVariants.{Read, Write}
 use Rattle.cache_sets.proofs.CacheLemmas.{line-with_bit, length-with_set, set_of-with_set_other, set_of-with_set_same}
 use Rattle.cache_sets.specs.Keyed.{count_of}
-use Rattle.cache_sets.proofs.KeyedLemmas.{length-sum_by}
+use Rattle.cache_sets.proofs.KeyedLemmas.{length-sum_by, mapped}
 
 -- a set that may take the place of a line's
 record Fits (ways : ℕ) (cache : List (List Way)) (line : ℕ) (set : List Way) : Type 0 where
@@ -90,12 +90,6 @@ record Changes (change : Way → Way) : Type 0 where
   line : (way : Way) → (change way).line ≡ way.line
   valid : (way : Way) → way.letter ≢ I → (change way).letter ≢ I
 
--- what was there before a change
-mapped : (change : Way → Way) (before : Option Way) (way : Way) → option_map change before ≡ Some way →
-    (old : Way) × (before ≡ Some old) × (change old ≡ way)
-mapped change None way is = absurd cc
-mapped change (Some old) way is = (old, refl, cc)
-
 unchanged_or : (change : Way → Way) (set : List Way) (line l : ℕ) (way : Way) → ((w : Way) → (change w).line ≡ w.line) →
     way_in (changed_in change set line) l ≡ Some way → (old : Way) × (way_in set l ≡ Some old) × ((old ≡ way) ⊎ (change old ≡ way))
 unchanged_or change set line l way kept is =
@@ -158,7 +152,7 @@ filled_before : (ways : ℕ) (set : List Way) (new : Way) (l : ℕ) (way : Way) 
 filled_before ways set new l way other is =
     left_before set (evicted_in ways set) l way (grind (arith, nat_tests))
 
-none_from : (way : Option Way) → is_some way ≡ false → way ≡ None
+pub none_from : (way : Option Way) → is_some way ≡ false → way ≡ None
 none_from None none = refl
 none_from (Some way) none = absurd cc
 

@@ -5,6 +5,7 @@ use Rattle.el_base.specs.declared.outcomes.Need.{Need}
 use Rattle.el_base.specs.declared.outcomes.Need.TheVariants.{Read, Write}
 use Rattle.moesi.specs.declared.letter.Letter.{Letter}
 use Rattle.moesi.specs.declared.letter.Letter.TheVariants.{M}
+use Rattle.cache_sets.specs.declared.evicted.Evicted.{Evicted}
 use Rattle.cache_sets.specs.declared.set.Set.{Set}
 use Rattle.cache_sets.specs.declared.way.Way as code
 use Rattle.cache_sets.specs.Bits.{bits_of_number, has_need, with_need}
@@ -90,6 +91,10 @@ pub record IsFilled (ways : ℕ) (old new : Set) (way : code.Way) (gone : Option
   pub row : (other : code.Way) → gone ≡ Some other → other.slot ≡ way.slot
   pub there : (other : code.Way) → gone ≡ Some other → found number_of old.ways.items other.line.number ≡ Some other
 
+-- what is told of a way that left, and of its bytes
+abbrev pub evicted_of : Option code.Way → List ℕ → Option Evicted
+evicted_of gone bytes = option_map (λ way. record { line = way.line; letter = way.letter; bytes = bytes }) gone
+
 -- a set after a line left it
 pub record IsDropped (old new : Set) (line : ℕ) : Type 0 where
   pub left : new.ways.items ≡ without number_of old.ways.items line
@@ -110,6 +115,13 @@ way_at sets line = found number_of (set_at sets line).ways.items line
 -- the sets with another set in the place of a line's
 abbrev pub sets_with : List Set → ℕ → Set → List Set
 sets_with sets line set = slice_set sets (line % length sets) set
+
+-- each set after a change of each of its ways, in its place
+abbrev pub changed_set : (code.Way → code.Way) → Set → Set
+changed_set change set = record { ways = record { items = map change set.ways.items }; spare = set.spare }
+
+abbrev pub AreChanged : (code.Way → code.Way) → List Set → List Set → Type 0
+AreChanged change old new = new ≡ map (changed_set change) old
 
 -- where the bytes of a way are among the rows of so many sets: its line tells its set
 abbrev pub row_of : ℕ → ℕ → code.Way → ℕ

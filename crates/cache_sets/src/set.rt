@@ -2,7 +2,7 @@ ghost use Rattle.std.specs.Prelude.{◌≡◌, ◌⊎◌, ℕ, ◌≤◌, ◌<�
 ghost use Rattle.std.specs.List.{remove};
 ghost use Rattle.cache_sets.specs.declared.way.Way as code;
 ghost use Rattle.cache_sets.specs.Keyed.{changed, count_of, found, fronted, without};
-ghost use Rattle.cache_sets.specs.Kept.{IsDropped, IsFilled, IsSet, IsVictimPlace, MakesRoom, cleared_way, committed_way, lettered_way, marked_way, new_way, number_of, shown_set, shown_way};
+ghost use Rattle.cache_sets.specs.Kept.{IsDropped, IsFilled, IsSet, IsVictimPlace, MakesRoom, changed_set, cleared_way, committed_way, lettered_way, marked_way, new_way, number_of, shown_set, shown_way};
 ghost use Rattle.cache_sets.specs.Residency.{has_unmarked, is_marked, room_in, way_in};
 
 use crate::bits::Bits;
@@ -137,16 +137,14 @@ impl Set {
 
     /// No line has a bit any more.
     pub fn clear_bits(&mut self)
-        ensures ways { self.new.ways.items ≡ map cleared_way self.old.ways.items }
-        ensures spare { self.new.spare.items ≡ self.old.spare.items }
+        ensures { self.new ≡ changed_set cleared_way self.old }
     {
         clear(self.ways.as_mut_slice());
     }
 
     /// The lines that are written become modified, and no line has a bit any more.
     pub fn commit_bits(&mut self)
-        ensures ways { self.new.ways.items ≡ map committed_way self.old.ways.items }
-        ensures spare { self.new.spare.items ≡ self.old.spare.items }
+        ensures { self.new ≡ changed_set committed_way self.old }
     {
         commit(self.ways.as_mut_slice());
     }

@@ -1,12 +1,12 @@
-ghost use Rattle.std.specs.Prelude.{◌≡◌, ◌≢◌, ◌<◌, ◌≤◌, ◌%◌, ◌↔◌, ℕ, true, false, IfOk, IsNone, length};
+ghost use Rattle.std.specs.Prelude.{◌≡◌, ◌≢◌, ◌<◌, ◌≤◌, ◌+◌, ◌*◌, ◌%◌, ◌↔◌, ℕ, true, false, IfOk, IsNone, length};
 ghost use Rattle.el_base.specs.Config.{IsInRange};
 ghost use Rattle.el_base.specs.declared.config.Config.{Config};
 ghost use Rattle.moesi.specs.declared.letter.Letter.TheVariants.{I};
 ghost use Rattle.cache_sets.specs.Bits.{bits_of};
-ghost use Rattle.cache_sets.specs.Cache.{has_marks, is_resident, letter_of, room_of, way_of, write_bits_of};
+ghost use Rattle.cache_sets.specs.Cache.{has_marks, is_resident, letter_of, room_of, set_of, way_of, write_bits_of};
 ghost use Rattle.cache_sets.specs.Cached.{bytes_of, copy_in, empty_cached};
 ghost use Rattle.cache_sets.specs.Calls.{IsCached, IsCleared, IsCommitted, IsFilledWith, IsLettered, IsMarked, IsTouched, IsWithout};
-ghost use Rattle.cache_sets.specs.Kept.{row_of, set_at, way_at};
+ghost use Rattle.cache_sets.specs.Kept.{AreChanged, cleared_way, committed_way, evicted_of, set_at, way_at};
 
 use crate::bits::Bits;
 use crate::evicted::Evicted;
@@ -122,6 +122,26 @@ impl Sets {
         self.written = self.written - before.writes() + after.writes();
     }
 
+    /// A line comes, with its bytes, as the most recent one of its set. Where the set has as many lines
+    /// as ways, the least recent line without bits leaves, and is told with its bytes.
+    pub fn fill(&mut self, line: LineAddr, letter: Letter, bytes: &[u8; 64]) -> Option<Evicted>
+        requires room { room_of self.old.ways self.old.residency line.number ≡ true }
+        requires absent { is_resident self.old.residency line.number ≡ false }
+        requires valid { letter ≢ I }
+        ensures filled { IsFilledWith self.old self.new line.number letter bytes.now result }
+        ensures none_leaves { IsNone result ↔ (length (set_of self.old.residency line.number) < self.old.ways) }
+    {
+        let ways = self.ways;
+        let number = set_number(self.sets.as_slice(), line);
+        let set = &mut self.sets[number];
+        let placed = set.fill(ways, line, letter);
+        let row = row_of(number, ways, placed.slot);
+        let gone = evicted(placed.gone, &self.rows[row]);
+        let new = *bytes;
+        self.rows[row] = new;
+        gone
+    }
+
     /// A line leaves.
     pub fn drop_line(&mut self, line: LineAddr)
         requires { is_resident self.old.residency line.number ≡ true }
@@ -136,6 +156,25 @@ impl Sets {
         self.written -= before.writes();
     }
 
+    /// No line has a bit any more.
+    pub fn clear_bits(&mut self)
+        ensures { IsCleared self.old self.new }
+    {
+        clear(self.sets.as_mut_slice());
+        self.marked = 0;
+        self.written = 0;
+    }
+
+    /// The hart's section committed: the lines that it wrote are modified, and no line has a bit any
+    /// more.
+    pub fn commit_bits(&mut self)
+        ensures { IsCommitted self.old self.new }
+    {
+        commit(self.sets.as_mut_slice());
+        self.marked = 0;
+        self.written = 0;
+    }
+
     /// The bytes of a line that the cache has.
     pub fn bytes(&self, line: LineAddr) -> &[u8; 64]
         requires { is_resident self.now.residency line.number ≡ true }
@@ -143,7 +182,7 @@ impl Sets {
     {
         let sets = self.sets.as_slice();
         match find(sets, line) {
-            Some(way) => &self.rows[row_of(sets, self.ways, way)],
+            Some(way) => &self.rows[row_of(set_number(sets, way.line), self.ways, way.slot)],
             None => unreachable!(),
         }
     }
@@ -166,14 +205,25 @@ fn set_of(sets: &[Set], line: LineAddr) -> &Set
     &sets[set_number(sets, line)]
 }
 
-/// Where the bytes of a way are among the rows of all sets.
-fn row_of(sets: &[Set], ways: u8, way: Way) -> usize
-    requires some { 0 < length sets.now }
-    requires few { length sets.now ≤ 64 }
+/// Where a row of a set is among the rows of all sets.
+fn row_of(number: usize, ways: u8, slot: u8) -> usize
+    requires few { number < 64 }
     requires ways_fit { ways ≤ 8 }
-    ensures { result ≡ row_of (length sets.now) ways way }
+    ensures { result ≡ number * ways + slot }
 {
-    way.line.number as usize % sets.len() * usize::from(ways) + usize::from(way.slot)
+    number * usize::from(ways) + usize::from(slot)
+}
+
+/// What is told of the way that left, and of its bytes.
+fn evicted(gone: Option<Way>, bytes: &[u8; 64]) -> Option<Evicted>
+    ensures { result ≡ evicted_of gone bytes.now }
+{
+    let way = gone?;
+    Some(Evicted {
+        line: way.line,
+        letter: way.letter,
+        bytes: *bytes,
+    })
 }
 
 /// The way of a line.
@@ -182,4 +232,22 @@ fn find(sets: &[Set], line: LineAddr) -> Option<Way>
     ensures { result ≡ way_at sets.now line.number }
 {
     set_of(sets, line).find(line)
+}
+
+/// No way of any set has a bit any more.
+fn clear(sets: &mut [Set])
+    ensures { AreChanged cleared_way sets.old sets.new }
+{
+    for set in sets.iter_mut() {
+        set.clear_bits();
+    }
+}
+
+/// The written ways of all sets become modified, and none has a bit any more.
+fn commit(sets: &mut [Set])
+    ensures { AreChanged committed_way sets.old sets.new }
+{
+    for set in sets.iter_mut() {
+        set.commit_bits();
+    }
 }

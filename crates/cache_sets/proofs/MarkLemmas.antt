@@ -167,22 +167,16 @@ none_lost f (Some gone) stays = stays gone refl
 pub marks_of-filled_with : (ways : ℕ) (cache : List (List Way)) (line : ℕ) (letter : Letter) → IsWellFormed ways cache →
     marks_of (filled_with ways cache line letter) ≡ marks_of cache
 marks_of-filled_with ways cache line letter kept =
-    omega (arith, total-filled_with mark_of ways cache line letter kept,
-    none_lost mark_of (evicted_by ways cache line) (λ gone is. ap one_if (evicted_by-unmarked ways cache line gone is)))
+    omega (
+      arith,
+      total-filled_with mark_of ways cache line letter kept,
+      none_lost mark_of (evicted_by ways cache line) (λ gone is. ap one_if (evicted_by-unmarked ways cache line gone is)),
+    )
 
 pub has_marks-filled_with : (ways : ℕ) (cache : List (List Way)) (line : ℕ) (letter : Letter) → IsWellFormed ways cache →
     has_marks (filled_with ways cache line letter) ≡ has_marks cache
 has_marks-filled_with ways cache line letter kept =
-<<<<<<< HEAD
-    same_marks cache (filled_with ways cache line letter)
-    (omega (
-      arith,
-      total-filled_with mark_of ways cache line letter kept,
-      none_lost mark_of (evicted_by ways cache line) (λ gone is. ap one_if (evicted_by-unmarked ways cache line gone is)),
-    ))
-=======
     same_marks cache (filled_with ways cache line letter) (marks_of-filled_with ways cache line letter kept)
->>>>>>> e3d34d1dbdceff18b8eb6e5ed490ebed8a798572
 
 pub write_bits_of-filled_with : (ways : ℕ) (cache : List (List Way)) (line : ℕ) (letter : Letter) → IsWellFormed ways cache →
     write_bits_of (filled_with ways cache line letter) ≡ write_bits_of cache

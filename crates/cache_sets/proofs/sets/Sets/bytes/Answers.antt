@@ -5,19 +5,13 @@ use Rattle.cache_sets.proofs.sets.Sets.bytes.Goals as goal
 pub index-requires : goal.index-requires
 index-requires c =
     let i = c.self.inside in
-<<<<<<< HEAD
     omega (
       arith,
       i.rows.ok.0,
       row_read i.ways i.sets.items c.as_slice-sets.result.now i.rows.items i.marked i.written c.args.line.number c.row_of.result c.in-Some.way c.self.invariant
-          c.as_slice-sets.ensures.value c.in-Some.ensures c.row_of.ensures,
+          c.as_slice-sets.ensures.value c.in-Some.ensures
+          (c.row_of.ensures ∙ ap (λ n. n * i.ways + c.in-Some.way.slot) c.set_number.ensures.exact),
     )
-=======
-    omega (arith, i.rows.ok.0,
-    row_read i.ways i.sets.items c.as_slice-sets.result.now i.rows.items i.marked i.written c.args.line.number c.row_of.result c.in-Some.way c.self.invariant
-    c.as_slice-sets.ensures.value c.in-Some.ensures
-    (c.row_of.ensures ∙ ap (λ n. n * i.ways + c.in-Some.way.slot) c.set_number.ensures.exact))
->>>>>>> e3d34d1dbdceff18b8eb6e5ed490ebed8a798572
 
 pub unreachable-requires : goal.unreachable-requires
 unreachable-requires c =

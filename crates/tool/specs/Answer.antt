@@ -5,7 +5,6 @@ use Rattle.chronicle.specs.Chronicle.{events}
 use Rattle.machine.specs.Story.{Story, committed}
 use Rattle.trace_file.specs.Spelling.{spelling}
 use Rattle.tool.specs.declared.made.Made.{Made}
-use Rattle.tool.specs.declared.made.Made.TheVariants.{Run}
 use Rattle.tool.specs.declared.refusal.Refusal.{Refusal}
 use Rattle.tool.specs.declared.status.Status.{Status}
 use Rattle.tool.specs.declared.status.Status.TheVariants.{Refused}
@@ -45,4 +44,4 @@ ended trace story = record {
 
 -- the answer that has been made
 abbrev pub answer_of : Made → Answer
-answer_of (Run machine trace) = ended (option_map (λ name. name.now) trace) machine
+answer_of made = ended (option_map (λ name. name.now) made.trace) made.machine

@@ -9,7 +9,6 @@ use Rattle.el_io.specs.Counts.{one_more}
 use Rattle.el_io.specs.Shelf.{NamedCall}
 use Rattle.el_io.specs.declared.shelf.Call.TheVariants.{Read, Write}
 use Rattle.tool.specs.declared.made.Made.{Made}
-use Rattle.tool.specs.declared.made.Made.TheVariants as made
 use Rattle.tool.specs.declared.status.Status.{Status}
 use Rattle.tool.specs.declared.status.Status.TheVariants.{DeviceFault}
 use Rattle.tool.specs.declared.stop.Fault.{Fault}
@@ -23,7 +22,7 @@ writes_to name = map (λ given. (Write, given)) (option_to_list name)
 
 -- the writes that are left to what a command has made
 abbrev pub writes_of : Made → List NamedCall
-writes_of (made.Run machine trace) = writes_to (option_map (λ name. name.now) trace)
+writes_of made = writes_to (option_map (λ name. name.now) made.trace)
 
 -- these calls of the shelf, under a configuration that has no fault
 abbrev pub calls_under : Option ConfigFault → List NamedCall → List NamedCall

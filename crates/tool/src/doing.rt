@@ -50,11 +50,11 @@ pub(crate) fn obey<'a, S: Shelf>(
         ListsOne (calls_of (job_of (texts words.entry.now))) before now) }
 {
     match read_words(alloc, words)? {
-        Command::Run(command) => Ok(Made::Run {
+        Command::Run(command) => Ok(Made {
             machine: run(alloc, shelf, command)?,
             trace: command.trace,
         }),
-        Command::Replay { image, trace } => Ok(Made::Run {
+        Command::Replay { image, trace } => Ok(Made {
             machine: replay(alloc, shelf, image, trace)?,
             trace: None,
         }),

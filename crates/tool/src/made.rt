@@ -1,11 +1,9 @@
 use machine::Machine;
 
-/// What a command has made, of which nothing was put or written yet.
+/// A run that has ended, of which nothing was put or written yet.
 #[derive(Drop)]
-pub(crate) enum Made<'a> {
-    /// A run that has ended, and the name of the file for its trace, where one was given.
-    Run {
-        machine: Machine,
-        trace: Option<&'a str>,
-    },
+pub(crate) struct Made<'a> {
+    pub(crate) machine: Machine,
+    /// The name of the file for its trace, where one was given.
+    pub(crate) trace: Option<&'a str>,
 }

@@ -34,9 +34,7 @@ pub(crate) fn tell<S: Shelf, O: Sink, E: Sink>(
         (record { shelf = S.failures shelf.old; out = O.faults out.old; err = E.faults err.old })
         (record { shelf = S.failures shelf.new; out = O.faults out.new; err = E.faults err.new }) }
 {
-    match made {
-        Made::Run { machine, trace } => tell_run(alloc, &machine, trace, shelf, out, err),
-    }
+    tell_run(alloc, &made.machine, made.trace, shelf, out, err)
 }
 
 /// Puts the output of a run that has ended, writes its trace where a name was given, and puts its

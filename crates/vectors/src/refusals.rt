@@ -12,7 +12,7 @@ fn is_refused(ending: &Ending, line: &str) -> bool {
 
 #[test]
 fn words_outside_the_grammar_are_the_usage_line(rt: HostRuntime) -> Result<(), Fail> {
-    let rows: [&[&str]; 15] = [
+    let rows: [&[&str]; 14] = [
         &[],
         &["walk", "x"],
         &["run"],
@@ -22,7 +22,6 @@ fn words_outside_the_grammar_are_the_usage_line(rt: HostRuntime) -> Result<(), F
         &["run", "a", "--steps"],
         &["run", "a", "--steps", "4294967296"],
         &["run", "a", "--harts", "1", "--harts", "1"],
-        &["run", "a", "--sets", "3"],
         &["run", "a", "--threads", "5"],
         &["run", "a", "--trace", "-t"],
         &["replay", "a"],
@@ -38,13 +37,15 @@ fn words_outside_the_grammar_are_the_usage_line(rt: HostRuntime) -> Result<(), F
 
 #[test]
 fn configurations_are_judged_before_files(rt: HostRuntime) -> Result<(), Fail> {
-    let rows: [(&[&str], &str); 6] = [
+    let rows: [(&[&str], &str); 8] = [
         (&["run", "a", "--harts", "9"], "config fault 1 Harts\n"),
         (&["run", "a", "--harts", "0"], "config fault 1 Harts\n"),
         (
             &["run", "a", "--harts", "4294967295"],
             "config fault 1 Harts\n",
         ),
+        (&["run", "a", "--sets", "3"], "config fault 2 Sets\n"),
+        (&["run", "a", "--ways=9"], "config fault 3 Ways\n"),
         (&["run", "a", "--steps", "0"], "config fault 6 Steps\n"),
         (
             &["run", "a", "--steps", "16777217"],

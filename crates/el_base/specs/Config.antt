@@ -3,6 +3,7 @@ use Rattle.std.specs.Prelude.{ℕ, Bool, List, [], ◌∷◌, ◌≡◌, Option,
 use Rattle.std.specs.List.{list_any}
 use Rattle.el_base.specs.Firsts.{first_of, some_if}
 use Rattle.el_base.specs.declared.hart_id.TheConstants.{MAX_HARTS}
+use Rattle.el_base.specs.declared.config.TheConstants.{MAX_STEPS}
 use Rattle.el_base.specs.declared.config.Config.{Config}
 use Rattle.el_base.specs.declared.config.Mode.TheVariants.{Tlr}
 use Rattle.el_base.specs.declared.config.ConfigFault.{ConfigFault}
@@ -27,7 +28,7 @@ allows Sets n = list_any (λ count. count == n) set_counts
 allows Ways n = within 1 8 n
 allows Lines n = within 1 32 n
 allows Long n = within 2 65536 n
-allows Steps n = within 1 16777216 n
+allows Steps n = within 1 MAX_STEPS n
 
 -- the fault of a field with this number, if it has one
 abbrev pub field_fault : ConfigFault → ℕ → Option ConfigFault

@@ -1,8 +1,10 @@
-ghost use Rattle.std.specs.Prelude.{◌≡◌, Err, None, OnOk, Some};
+ghost use Rattle.std.specs.Prelude.{◌≡◌, None, IfErr, OnOk, Some};
 ghost use Rattle.el_base.specs.Config.{allows, config_fault, field_fault, usual};
-ghost use Rattle.el_base.specs.declared.config.ConfigFault.{ConfigFault};
 
 use crate::hart_id::MAX_HARTS;
+
+/// The most events of a run.
+pub const MAX_STEPS: u32 = 16_777_216;
 
 /// How a machine treats an acquire. Machines are built for the plain mode so far.
 #[derive(Clone, Copy, Debug, PartialEq, Eq)]
@@ -65,7 +67,7 @@ impl Config {
     /// the faults' numbers.
     pub fn check(&self) -> Result<(), ConfigFault>
         ensures accepted { OnOk result (config_fault self.now ≡ None) }
-        ensures refused { (fault : ConfigFault) → result ≡ Err fault → config_fault self.now ≡ Some fault }
+        ensures refused { IfErr result (λ fault. config_fault self.now ≡ Some fault) }
     {
         ConfigFault::Harts.judge(self.harts.into())?;
         ConfigFault::Sets.judge(self.sets.into())?;
@@ -87,14 +89,14 @@ impl ConfigFault {
             ConfigFault::Ways => (1..=8).contains(&number),
             ConfigFault::Lines => (1..=32).contains(&number),
             ConfigFault::Long => (2..=65_536).contains(&number),
-            ConfigFault::Steps => (1..=16_777_216).contains(&number),
+            ConfigFault::Steps => (1..=MAX_STEPS).contains(&number),
         }
     }
 
     /// That the field may have this number. The error is this fault.
     fn judge(self, number: u32) -> Result<(), ConfigFault>
         ensures accepted { OnOk result (field_fault self number ≡ None) }
-        ensures refused { (fault : ConfigFault) → result ≡ Err fault → field_fault self number ≡ Some fault }
+        ensures refused { IfErr result (λ fault. field_fault self number ≡ Some fault) }
     {
         if self.allows(number) {
             Ok(())

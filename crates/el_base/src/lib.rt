@@ -23,7 +23,7 @@ mod no_memory;
 mod outcomes;
 mod stamped;
 
-pub use config::{Config, ConfigFault, Mode};
+pub use config::{Config, ConfigFault, MAX_STEPS, Mode};
 pub use entries::{Chronicled, Entry};
 pub use events::{Event, Kind};
 pub use file_fault::FileFault;

@@ -1,4 +1,4 @@
-use Rattle.std.proofs.Common.{◌≡◌, ◌∙◌, Some, refl, rules, sym, unwrap_or}
+use Rattle.std.proofs.Common.{◌≡◌, ◌∙◌, Some, rules, sym, unwrap_or}
 use Rattle.el_base.specs.Config.{config_fault, usual}
 use Rattle.command_line.specs.Settings.{config_of}
 use Rattle.command_line.specs.Words.{run_meaning}
@@ -11,5 +11,5 @@ returns-in_err-check c =
     let found : config_fault (config_of (run_meaning given)) ≡ Some c.in_err-check.field-0.0 =
     sym (same_fault (unwrap_or given.harts usual.harts) (unwrap_or given.sets usual.sets) (unwrap_or given.ways usual.ways) (unwrap_or given.steps usual.steps))
     ∙ rw (c.byte_given.ensures, c.byte_given-2.ensures, c.byte_given-3.ensures, c.unwrap_or.ensures, c.usual-usual.ensures)
-    at (c.in_err-check.ensures.refused c.in_err-check.field-0.0 refl) in
+    at c.in_err-check.ensures.refused in
     search rules

@@ -1,5 +1,5 @@
 -- What holds of a cache as contracts see it, by what its fields keep.
-use Rattle.std.proofs.Common.{◌≡◌, ◌≢◌, ℕ, zero, suc, ◌+◌, ◌*◌, ◌%◌, ◌≤◌, ◌<◌, Bool, true, false, not, cond, eqb, ltb, List, [], ◌∷◌, length, map, get_or, Option, None, Some, option_map, is_some, refl, ap, sym, subst, inl, inr, ◌⊎◌, ◌∙◌, arith}
+use Rattle.std.proofs.Common.{◌≡◌, ℕ, ◌+◌, ◌*◌, ◌%◌, ◌<◌, true, ltb, List, [], length, get_or, Option, None, Some, option_map, is_some, refl, ap, sym, subst, ◌∙◌, arith}
 use Rattle.std.specs.Option.{option_map_or}
 use Rattle.std.proofs.lemmas.Bool.Decides.{nat_tests}
 use Rattle.std.proofs.lemmas.List.{get_or_read, length-map}
@@ -7,10 +7,10 @@ use Rattle.std.proofs.lemmas.Bool.{true≢false}
 use Rattle.std.proofs.lemmas.Option.{none-some, same_Some}
 use Rattle.cache_sets.specs.declared.set.Set.{Set}
 use Rattle.cache_sets.specs.declared.way.Way as code
-use Rattle.cache_sets.specs.Cache.{has_marks, is_resident, way_of}
+use Rattle.cache_sets.specs.Cache.{has_marks, is_resident}
 use Rattle.cache_sets.specs.Cached.{Cached, Copy, bytes_of, copy_in}
 use Rattle.cache_sets.specs.Calls.{IsCached}
-use Rattle.cache_sets.specs.Kept.{Stands, bytes_of_way, marks_of, residency_of, row_of, shown_cache, shown_set, shown_way, way_at}
+use Rattle.cache_sets.specs.Kept.{Stands, bytes_of_way, residency_of, row_of, shown_cache, shown_set, shown_way, way_at}
 use Rattle.cache_sets.proofs.MarkLemmas.{has_marks-counted}
 use Rattle.cache_sets.proofs.RowLemmas.{row_below}
 use Rattle.cache_sets.proofs.ShownLemmas.{bytes_of_shown, way_found, way_of_shown}

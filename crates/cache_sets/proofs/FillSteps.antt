@@ -1,12 +1,11 @@
 -- A step in which a line comes, and another one leaves for it, if one does.
-use Rattle.std.proofs.Common.{◌≡◌, ◌≢◌, ℕ, zero, suc, ◌+◌, ◌*◌, ◌%◌, ◌≤◌, ◌<◌, Bool, true, false, not, cond, eqb, ltb, List, [], ◌∷◌, length, map, get_or, Option, None, Some, option_map, is_some, refl, ap, sym, subst, inl, inr, ◌⊎◌, ◌∙◌, zero-add, arith}
+use Rattle.std.proofs.Common.{◌≡◌, ◌≢◌, ℕ, zero, suc, ◌+◌, ◌*◌, ◌%◌, ◌≤◌, ◌<◌, true, false, cond, eqb, ltb, List, [], ◌∷◌, length, map, get_or, Option, None, Some, option_map, is_some, refl, ap, sym, subst, inl, inr, ◌⊎◌, ◌∙◌, zero-add, arith}
 use Rattle.std.specs.Prelude.{slice_set}
-use Rattle.std.specs.Option.{option_map_or}
-use Rattle.std.specs.List.{count_by, sum_by}
+use Rattle.std.specs.List.{sum_by}
 use Rattle.std.proofs.lemmas.Bool.{cases_eq, cases_lt, eq-eqb}
 use Rattle.std.proofs.lemmas.Nat.{mul-add-lt}
 use Rattle.std.proofs.lemmas.Bool.Decides.{nat_tests}
-use Rattle.std.proofs.lemmas.Option.{none-some, same_Some}
+use Rattle.std.proofs.lemmas.Option.{none-some}
 use Rattle.std.proofs.lemmas.List.{get_or_read, get_or-set_other, get_or-set_same, length-map, length-set}
 use Rattle.std.proofs.lemmas.List.Sums.{sum_by-cons}
 use Rattle.el_base.specs.declared.line.LineAddr.{LineAddr}
@@ -15,19 +14,19 @@ use Rattle.moesi.specs.declared.letter.Letter.TheVariants.{I}
 use Rattle.cache_sets.specs.declared.evicted.Evicted.{Evicted}
 use Rattle.cache_sets.specs.declared.set.Set.{Set}
 use Rattle.cache_sets.specs.declared.way.Way as code
-use Rattle.cache_sets.specs.Keyed.{count_of, found, without}
+use Rattle.cache_sets.specs.Keyed.{count_of, found}
 use Rattle.cache_sets.specs.Residency.{Way, evicted_in, filled_in, has_unmarked, left_in, room_in, way_in}
-use Rattle.cache_sets.specs.Cache.{evicted_by, filled_with, is_resident, room_of, set_number, set_of, way_of, with_set, write_bits_of}
-use Rattle.cache_sets.specs.Cached.{Cached, Copy, copy_in}
+use Rattle.cache_sets.specs.Cache.{filled_with, is_resident, room_of, set_of, with_set}
+use Rattle.cache_sets.specs.Cached.{Cached, copy_in}
 use Rattle.cache_sets.specs.Calls.{IsFilledWith}
-use Rattle.cache_sets.specs.Kept.{IsFilled, IsSet, Stands, bytes_of_way, evicted_of, left_by, marks_of, new_way, no_set, number_of, residency_of, row_of, set_at, sets_with, shown_cache, shown_set, shown_way, way_at}
+use Rattle.cache_sets.specs.Kept.{IsFilled, IsSet, Stands, bytes_of_way, evicted_of, left_by, new_way, no_set, number_of, residency_of, row_of, set_at, sets_with, shown_cache, shown_set, shown_way, way_at}
 use Rattle.cache_sets.proofs.CachedLemmas.{copy_of, copy_shown}
-use Rattle.cache_sets.proofs.KeyedLemmas.{found-key, mapped, found-without_other, found-without_same, sum_by-without}
+use Rattle.cache_sets.proofs.KeyedLemmas.{mapped, found-without_other, found-without_same, sum_by-without}
 use Rattle.cache_sets.proofs.MarkLemmas.{marks_of-filled_with, write_bits_of-filled_with}
 use Rattle.cache_sets.proofs.RowLemmas.{row_below, rows_apart, some_set}
 use Rattle.cache_sets.proofs.ShownLemmas.{once_at, set_of_shown, way_in_shown, way_of_shown}
 use Rattle.cache_sets.proofs.StepLemmas.{Reaches, dropped_shown, length-sets_with, residency_of-sets_with, set_at-sets_with_same, set_kept, stands_step, way_at-sets_with_other, way_at-sets_with_same}
-use Rattle.cache_sets.proofs.WellFormedLemmas.{fresh, none_from, well_formed-filled_with}
+use Rattle.cache_sets.proofs.WellFormedLemmas.{fresh, well_formed-filled_with}
 
 -- what stays in a set as a way leaves
 left_by_shown : (ways : List code.Way) (gone : Option code.Way) → map shown_way (left_by ways gone) ≡ left_in (map shown_way ways) (option_map shown_way gone)

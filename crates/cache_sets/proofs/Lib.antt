@@ -15,3 +15,4 @@ pub mod CountSteps
 pub mod DropSteps
 pub mod FillSteps
 pub mod EachSteps
+pub mod Unmarked

@@ -1,21 +1,20 @@
 -- A step of one set: what the sets show after it, and that they keep what they keep.
-use Rattle.std.proofs.Common.{◌≡◌, ◌≢◌, ℕ, zero, suc, ◌+◌, ◌*◌, ◌%◌, ◌≤◌, ◌<◌, Bool, true, false, not, cond, eqb, ltb, List, [], ◌∷◌, length, map, get_or, Option, None, Some, option_map, is_some, refl, ap, sym, subst, inl, inr, ◌⊎◌, ◌∙◌, arith}
+use Rattle.std.proofs.Common.{◌≡◌, ◌≢◌, ℕ, ◌+◌, ◌*◌, ◌%◌, ◌≤◌, ◌<◌, cond, eqb, ltb, List, [], ◌∷◌, length, map, get_or, Option, None, Some, option_map, refl, ap, sym, subst, inl, inr, ◌∙◌, arith}
 use Rattle.std.specs.Option.{option_map_or}
 use Rattle.std.specs.List.{sum_by, count_by}
 use Rattle.std.specs.Prelude.{slice_set}
 use Rattle.std.proofs.lemmas.Bool.{cases_eq}
-use Rattle.std.proofs.lemmas.Bool.Decides.{nat_tests}
 use Rattle.std.proofs.lemmas.List.{get_or_read, get_or-set_other, get_or-set_same, length-map, length-set, map-set}
 use Rattle.cache_sets.specs.declared.set.Set.{Set}
 use Rattle.cache_sets.specs.declared.way.Way as code
 use Rattle.cache_sets.specs.Keyed.{changed, count_of, found, fronted, without}
 use Rattle.cache_sets.specs.Residency.{Way, changed_in, dropped, to_front, touched_in}
-use Rattle.cache_sets.specs.Cache.{set_number, set_of, touched, with_set, write_bits_of}
-use Rattle.cache_sets.specs.Cached.{Cached, Copy, copy_in, copy_with_letter}
-use Rattle.cache_sets.specs.Calls.{IsLettered, IsMarked, IsTouched, IsWithout}
-use Rattle.cache_sets.specs.Kept.{IsSet, Stands, bytes_of_way, marks_of, no_set, number_of, residency_of, row_of, set_at, sets_with, shown_cache, shown_set, shown_way, uses_of, way_at}
+use Rattle.cache_sets.specs.Cache.{touched, with_set, write_bits_of}
+use Rattle.cache_sets.specs.Cached.{Cached, copy_in}
+use Rattle.cache_sets.specs.Calls.{IsTouched}
+use Rattle.cache_sets.specs.Kept.{IsSet, Stands, marks_of, no_set, number_of, residency_of, set_at, sets_with, shown_cache, shown_set, shown_way, uses_of, way_at}
 use Rattle.cache_sets.specs.WellFormed.{IsWellFormed}
-use Rattle.cache_sets.proofs.KeyedLemmas.{changed-map, found-fronted, found-key, found-map, length-sum_by, sum_by-fronted, without-map}
+use Rattle.cache_sets.proofs.KeyedLemmas.{changed-map, found-fronted, length-sum_by, sum_by-fronted, without-map}
 use Rattle.cache_sets.proofs.ResidencyLemmas.{changed_in-changed, dropped-without, line_of}
 use Rattle.cache_sets.proofs.MarkLemmas.{mark_of, total-touched, write_of}
 use Rattle.cache_sets.proofs.WellFormedLemmas.{well_formed-touched}

@@ -1,5 +1,5 @@
 -- one hart's cache with the bytes of its lines
-use Rattle.std.specs.Prelude.{ℕ, ◌==◌, if◌then◌else◌, List, [], ◌∷◌, Option, None, Some, option_map, replicate, slice_index_or, slice_set}
+use Rattle.std.specs.Prelude.{ℕ, ◌==◌, if◌then◌else◌, List, [], ◌∷◌, Option, option_map, replicate, slice_index_or, slice_set}
 use Rattle.moesi.specs.declared.letter.Letter.{Letter}
 use Rattle.cache_sets.specs.Residency.{Way}
 use Rattle.cache_sets.specs.Cache.{empty_cache, set_number, set_of, way_of}

@@ -1,10 +1,9 @@
 -- what each call of a cache makes of it
-use Rattle.std.specs.Prelude.{◌≡◌, ◌≢◌, ◌≤◌, ℕ, true, false, List, Option, None, Some, option_map, IfSome, length}
+use Rattle.std.specs.Prelude.{◌≡◌, ◌≢◌, ◌≤◌, ℕ, true, false, List, Option, None, Some, option_map, length}
 use Rattle.el_base.specs.declared.outcomes.Need.{Need}
 use Rattle.moesi.specs.declared.letter.Letter.{Letter}
 use Rattle.moesi.specs.declared.letter.Letter.TheVariants.{M}
 use Rattle.cache_sets.specs.declared.evicted.Evicted.{Evicted}
-use Rattle.cache_sets.specs.Residency.{Way}
 use Rattle.cache_sets.specs.Cache.{cleared, committed, evicted_by, filled_with, lettered, marked, touched, without_line, write_bit}
 use Rattle.cache_sets.specs.Cached.{Cached, Copy, copy_in, copy_with_letter}
 use Rattle.cache_sets.specs.WellFormed.{IsWellFormed}

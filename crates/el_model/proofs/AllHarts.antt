@@ -1,5 +1,5 @@
 -- what holds of every hart, and still does after a change
-use Rattle.std.proofs.Common.{◌≡◌, ℕ, zero, suc, List, [], ◌∷◌, length, replicate, refl}
+use Rattle.std.proofs.Common.{ℕ, zero, suc, List, [], ◌∷◌, replicate}
 use Rattle.std.specs.Prelude.{slice_index_or, slice_set}
 use Rattle.el_model.specs.State.{Hart, ModelState, each_from, each_hart, hart_of, new_hart, with_hart}
 

@@ -2,7 +2,6 @@
 use Rattle.std.proofs.Common.{◌≡◌, ◌∙◌, ℕ, Bool, true, false, List, [], ◌∷◌, Option, Some, None, refl, ap, sym, subst, inl, inr, if◌then◌else◌}
 use Rattle.std.specs.Prelude.{◌↔◌, ◌⊎◌}
 use Rattle.bus_order.specs.Order.{Request}
-use Rattle.el_base.specs.HartId.{hart_id}
 use Rattle.el_base.specs.LineAddr.{line_addr}
 use Rattle.el_base.specs.declared.events.Event.{Event}
 use Rattle.el_base.specs.declared.events.Kind.{Kind}
@@ -10,11 +9,11 @@ use Rattle.el_base.specs.declared.events.Kind.TheVariants as kinds
 use Rattle.el_base.specs.declared.outcomes.Need.{Need}
 use Rattle.el_base.specs.declared.outcomes.Outcome.{Outcome}
 use Rattle.el_base.specs.declared.outcomes.Outcome.TheVariants.{Idle, Stalled, Missed, Ran, Began, Buffered, Committed, RolledBack, Ordered, Served, Blocked, Delivered}
-use Rattle.el_model.specs.Causes.{ComesWhere, Goes, GoesInside, GoesOutside, HasStopped, IsBlocked, IsServed, NothingToDo, TakesMessage, TakesPlace, Waits}
+use Rattle.el_model.specs.Causes.{ComesWhere, Goes, GoesInside, GoesOutside, NothingToDo, Waits}
 use Rattle.el_model.specs.Deliver.{deliver_next, deliver_turn}
 use Rattle.el_model.specs.InSection as inside
 use Rattle.el_model.specs.InSection.{SectionRule, by_section_rule, section_rule, section_turn}
-use Rattle.el_model.specs.Next.{going_turn, kind_turn, next, running_turn, stalled, status_turn, step_turn}
+use Rattle.el_model.specs.Next.{going_turn, kind_turn, next, stalled, status_turn, step_turn}
 use Rattle.el_model.specs.Order.{order_raised, order_turn}
 use Rattle.el_model.specs.Plain as outside
 use Rattle.el_model.specs.Plain.{PlainRule, by_plain_rule, plain_rule, plain_turn}

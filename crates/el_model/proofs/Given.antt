@@ -1,5 +1,5 @@
 -- how a run of small numbers is told: where it starts, its events, and what it comes to
-use Rattle.std.proofs.Common.{◌≡◌, ℕ, suc, ◌+◌, ◌-◌, ◌*◌, ◌/◌, ◌%◌, ◌^◌, Bool, ◌&&◌, List, [], ◌∷◌, ◌==◌, if◌then◌else◌, map, filter, replicate, Option, Some, None}
+use Rattle.std.proofs.Common.{ℕ, ◌+◌, ◌-◌, ◌*◌, ◌/◌, ◌%◌, ◌^◌, Bool, List, [], ◌∷◌, ◌==◌, if◌then◌else◌, map, filter, replicate, Option, Some, None}
 use Rattle.std.specs.Prelude.{slice_set}
 use Rattle.std.specs.List.{range_with_len}
 use Rattle.bus_order.specs.Order.{Request}
@@ -12,7 +12,6 @@ use Rattle.el_base.specs.declared.events.Event.{Event}
 use Rattle.el_base.specs.declared.events.Kind.{Kind}
 use Rattle.el_base.specs.declared.losers.Losers.{Losers}
 use Rattle.el_base.specs.declared.outcomes.Need.{Need}
-use Rattle.elf_image.specs.Program.{Program}
 use Rattle.el_model.specs.State.{Hart, ModelState, Section, new_hart}
 use Rattle.moesi.specs.declared.letter.Letter.{Letter}
 use Rattle.pair_table.specs.Predictor.{Watch}

@@ -1,9 +1,8 @@
 -- how a hart is read after each hart, or one, has changed
-use Rattle.std.proofs.Common.{◌≡◌, ◌≢◌, ◌∙◌, ℕ, zero, suc, ◌+◌, ◌<◌, ◌≤◌, List, [], ◌∷◌, length, refl, ap, sym, arith}
+use Rattle.std.proofs.Common.{◌≡◌, ◌≢◌, ℕ, zero, suc, ◌+◌, ◌<◌, ◌≤◌, List, [], ◌∷◌, length, refl, ap, arith}
 use Rattle.std.specs.Prelude.{slice_index_or, slice_set}
 use Rattle.std.proofs.lemmas.List.{get_or-set_same, get_or-set_other}
 use Rattle.el_model.specs.State.{Hart, ModelState, each_from, each_hart, hart_of, new_hart, with_hart}
-use Rattle.mail.specs.Mailbox.{Message}
 
 pub past_end : (harts : List Hart) (g : ℕ) (none : Hart) → length harts ≤ g → slice_index_or harts g none ≡ none
 past_end [] g none past = refl

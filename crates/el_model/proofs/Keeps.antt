@@ -1,16 +1,13 @@
 -- what no event of the bus changes: the configuration, what is committed, and how many harts there are
-use Rattle.std.proofs.Common.{◌≡◌, ◌∙◌, ℕ, suc, List, [], ◌∷◌, Option, Some, None, length, refl, ap, sym}
-use Rattle.std.specs.Prelude.{slice_set}
+use Rattle.std.proofs.Common.{◌≡◌, ◌∙◌, ℕ, suc, List, [], ◌∷◌, Option, Some, None, length, refl, ap}
 use Rattle.std.proofs.Math.ListN.{length-set}
-use Rattle.bus_order.specs.Order.{Request, tail_of}
+use Rattle.bus_order.specs.Order.{Request}
 use Rattle.el_base.specs.declared.config.Mode.{Mode}
 use Rattle.el_base.specs.declared.config.Mode.TheVariants.{Plain, Sle, Tlr}
-use Rattle.el_model.specs.Deliver.{post_to}
 use Rattle.el_model.specs.Face.{faced, faced_if}
-use Rattle.el_model.specs.Order.{marked_by, marked_from, marking, unraised}
+use Rattle.el_model.specs.Order.{marked_by, marked_from, marking}
 use Rattle.el_model.specs.Serve.{served}
-use Rattle.el_model.specs.State.{Hart, ModelState, each_from, each_hart, hart_of, with_hart}
-use Rattle.mail.specs.Mailbox.{Message}
+use Rattle.el_model.specs.State.{Hart, ModelState, each_from, each_hart, with_hart}
 
 pub record Keeps (old new : ModelState) : Type 0 where
   pub config : new.config ≡ old.config

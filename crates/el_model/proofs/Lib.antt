@@ -9,5 +9,8 @@ pub mod Harts
 pub mod Losing
 pub mod Restoring
 pub mod AllHarts
+pub mod Deeds
 pub mod Silent
+pub mod PlainMode
+pub mod FromStart
 pub mod Runs

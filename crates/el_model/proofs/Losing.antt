@@ -1,19 +1,19 @@
 -- where an event of the bus names no winner for a hart, its section, tries and flag are as they were; where it names one they are those after a loss
-use Rattle.std.proofs.Common.{◌≡◌, ◌≢◌, ◌∙◌, ℕ, suc, ◌+◌, ◌<◌, ◌≤◌, Bool, true, false, ◌&&◌, not, ◌==◌, List, [], ◌∷◌, Option, Some, None, is_some, length, refl, ap, sym, arith, if◌then◌else◌, filter, map}
+use Rattle.std.proofs.Common.{◌≡◌, ◌∙◌, ℕ, suc, ◌+◌, ◌<◌, ◌≤◌, Bool, true, false, ◌&&◌, not, ◌==◌, List, [], ◌∷◌, Option, Some, None, length, refl, ap, sym, arith, if◌then◌else◌}
 use Rattle.std.specs.Prelude.{IfSome, nat_lt}
 use Rattle.std.proofs.lemmas.Bool.{ltb-true, ltb-false}
 use Rattle.bus_order.specs.Order.{Request}
 use Rattle.defer_list.specs.HartSet.{has}
 use Rattle.el_base.proofs.MadeLosers.{beaten_by-beyond, beaten_by-losers_of}
-use Rattle.el_base.specs.Losers.{beaten_by, losers_of}
+use Rattle.el_base.specs.Losers.{beaten_by}
 use Rattle.el_base.specs.declared.config.Mode.{Mode}
 use Rattle.el_base.specs.declared.config.Mode.TheVariants.{Plain, Sle, Tlr}
 use Rattle.el_model.specs.Conflicts.{conflicts, earlier, least_such, meets_bit, stamp_in, told_winner, wins_over}
-use Rattle.el_model.specs.Face.{Fate, LosesTo, Stays, Unmet, after_fate, deferring, deferring_fate, face_losers, face_losers_if, faced, faced_hart, faced_if, fate_at, fate_of, markers_for, told_fate, winner_in, winning_stamp}
-use Rattle.el_model.specs.Losses.{Standing, lost_in, restored, standing_of}
-use Rattle.el_model.specs.RollBack.{after_loss, beaten, most_tries, one_more_try, out_of_section}
-use Rattle.el_model.specs.State.{Hart, ModelState, count_up, each_hart, hart_of, new_hart, numbers_of, ordered_on, post_all}
-use Rattle.el_model.proofs.Harts.{each_hart_kept, hart_of-each_hart, hart_of-each_hart_past, hart_of-past}
+use Rattle.el_model.specs.Face.{Fate, LosesTo, Stays, Unmet, after_fate, deferring, deferring_fate, face_losers, faced, faced_hart, fate_at, fate_of, markers_for, told_fate, winner_in, winning_stamp}
+use Rattle.el_model.specs.Losses.{lost_in, restored, standing_of}
+use Rattle.el_model.specs.RollBack.{beaten, most_tries, out_of_section}
+use Rattle.el_model.specs.State.{Hart, ModelState, count_up, hart_of, new_hart, ordered_on, post_all}
+use Rattle.el_model.proofs.Harts.{hart_of-each_hart, hart_of-each_hart_past, hart_of-past}
 use Rattle.el_model.proofs.Tests.{by_test}
 use Rattle.mail.specs.Mailbox.{Message, posted}
 use Rattle.stamp.specs.Stamps.{Stamp, is_before}

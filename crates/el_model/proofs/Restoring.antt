@@ -9,7 +9,7 @@ use Rattle.el_base.proofs.MadeLosers.{beaten_by-beyond, beaten_by-losers_of}
 use Rattle.el_base.specs.Losers.{beaten_by, losers_of}
 use Rattle.el_base.specs.declared.config.Mode.{Mode}
 use Rattle.el_base.specs.declared.config.Mode.TheVariants.{Plain, Sle, Tlr}
-use Rattle.el_model.specs.Conflicts.{conflicts, conflicts_with, meets_bit, retains, stamp_in}
+use Rattle.el_model.specs.Conflicts.{conflicts_with, meets_bit, stamp_in}
 use Rattle.el_model.specs.Deliver.{after_marker, after_probe, deliver_next, deliver_turn, delivered, forwarded, forwards_on, losers_by, loses_to_origin, nobody, one_lost, probe_losers, taken, told_of, told_on}
 use Rattle.el_model.specs.Face.{face_losers, face_losers_if, faced, faced_if}
 use Rattle.el_model.specs.Losses.{AreNumbered, HartsAreNumbered, restored, standing_of, winner_over}
@@ -18,10 +18,9 @@ use Rattle.el_base.specs.declared.events.Event.{Event}
 use Rattle.el_base.specs.declared.events.Kind.{Kind}
 use Rattle.el_base.specs.declared.events.Kind.TheVariants as kinds
 use Rattle.el_model.specs.Order.{Alone, Behind, InFront, Place, before_face, losers_at, marked_by, marked_from, marking, order_raised, order_turn, place_for, placed, placed_in_front, placed_last}
-use Rattle.el_model.specs.RollBack.{beaten}
 use Rattle.el_model.specs.Serve.{Blocks, Free, Obstacle, bystander, obstacle_to, serve_losers, serve_ordered, serve_past, serve_turn, served, served_hart, serving, with_claim}
-use Rattle.el_model.specs.State.{Hart, ModelState, each_hart, hart_of, head_of, ordered_of, post_all, raised_of, with_hart}
-use Rattle.el_model.proofs.Harts.{each_hart_kept, hart_of-past, hart_of-with_hart_other, hart_of-with_hart_same, with_hart_kept}
+use Rattle.el_model.specs.State.{Hart, ModelState, hart_of, head_of, ordered_of, post_all, raised_of, with_hart}
+use Rattle.el_model.proofs.Harts.{each_hart_kept, hart_of-with_hart_other, hart_of-with_hart_same, with_hart_kept}
 use Rattle.el_model.proofs.Keeps.{Keeps, keeps_marking, keeps_served, keeps_twice, keeps_with_hart}
 use Rattle.el_model.proofs.Losing.{beaten_stands, face_restores, no_section_meets, post_all_stands}
 use Rattle.el_model.proofs.Tests.{by_test}

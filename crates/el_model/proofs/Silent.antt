@@ -1,34 +1,27 @@
 -- without stamps nothing of messages and attempts ever arises
-use Rattle.std.proofs.Common.{◌≡◌, ◌≢◌, ◌∙◌, ℕ, Bool, true, false, List, [], ◌∷◌, Option, None, Some, is_some, refl, ap, sym, if◌then◌else◌, ◌==◌, ◌+◌}
+use Rattle.std.proofs.Common.{◌≡◌, ◌∙◌, ℕ, Bool, true, false, Option, None, Some, is_some, refl, ap, if◌then◌else◌, ◌==◌, ◌+◌}
 use Rattle.bus_order.specs.Order.{Request, tail_of}
-use Rattle.el_base.specs.declared.config.Config.{Config}
 use Rattle.el_base.specs.declared.config.Mode.{Mode}
 use Rattle.el_base.specs.declared.config.Mode.TheVariants.{Plain, Sle, Tlr}
 use Rattle.el_base.specs.declared.events.Event.{Event}
 use Rattle.el_base.specs.declared.events.Kind.{Kind}
 use Rattle.el_base.specs.declared.events.Kind.TheVariants as kinds
-use Rattle.el_base.specs.declared.outcomes.Cause.{Cause}
-use Rattle.el_model.specs.Attempts.{close_attempt, open_attempt, opened}
-use Rattle.el_model.specs.Deliver.{deliver_next, deliver_turn}
+use Rattle.el_model.specs.Attempts.{opened}
+use Rattle.el_model.specs.Deed.{Begins, Buffers, Commits, Deed, Misses, Rests, RollsBack, Runs, Waits, hart_after}
+use Rattle.el_model.specs.Deliver.{deliver_turn}
 use Rattle.el_model.specs.Face.{Fate, LosesTo, Stays, Unmet, after_fate, deferring, faced, faced_hart, faced_if, fate_of, markers_for, winning_stamp}
-use Rattle.el_model.specs.InSection as inside
-use Rattle.el_model.specs.InSection.{SectionRule, by_section_rule, section_rule, section_turn}
-use Rattle.el_model.specs.Next.{going_turn, kind_turn, next, stalled, status_turn, step_turn}
+use Rattle.el_model.specs.Next.{kind_turn, next, step_turn}
 use Rattle.el_model.specs.Order.{Alone, Behind, InFront, Place, before_face, marked_by, marked_from, marking, order_raised, order_turn, place_for, placed, placed_in_front, placed_last, unraised}
-use Rattle.el_model.specs.Plain as outside
-use Rattle.el_model.specs.Plain.{PlainRule, after_candidate, by_plain_rule, candidate_of, plain_rule, plain_turn}
+use Rattle.el_model.specs.Plain.{after_candidate, candidate_of}
 use Rattle.el_model.specs.Quiet.{IsSilent, has_stamps}
 use Rattle.el_model.specs.RollBack.{beaten, most_tries, out_of_section}
 use Rattle.el_model.specs.Serve.{Blocks, Free, Obstacle, bystander, obstacle_to, serve_ordered, serve_past, serve_turn, served, served_hart, serving, with_claim}
-use Rattle.el_model.specs.State.{Hart, ModelState, Section, has_request, hart_of, head_of, new_hart, ordered_of, post_all, raised_of, section_of}
+use Rattle.el_model.specs.State.{Hart, ModelState, hart_of, head_of, new_hart, ordered_of, post_all, raised_of}
 use Rattle.el_model.specs.Upcoming.{Swap}
 use Rattle.el_model.proofs.AllHarts.{All, all_each, all_with}
-use Rattle.el_model.proofs.Keeps.{Keeps, keeps_marking}
+use Rattle.el_model.proofs.Deeds.{step_deed}
+use Rattle.el_model.proofs.Keeps.{keeps_marking, keeps_served}
 use Rattle.el_model.proofs.Tests.{by_test}
-use Rattle.mail.specs.Mailbox.{Message}
-use Rattle.rv_alu.specs.declared.view.HartStatus.{HartStatus}
-use Rattle.rv_alu.specs.declared.view.HartStatus.TheVariants.{Running, Exited, Trapped}
-use Rattle.rv_flat.specs.FlatState.{status_of}
 use Rattle.stamp.specs.Stamps.{Stamp}
 
 pub new_is_silent : (sets : ℕ) → IsSilent (new_hart sets)
@@ -143,3 +136,87 @@ unfolding served
 served_silent state request all =
     all_each IsSilent state (serving state request) (new_is_silent 0)
     (λ h hart silent. serving_silent state request hart (h == request.hart) silent) all
+
+-- a message is taken out of no mailbox
+deliver_silent : (state : ModelState) (h : ℕ) → All IsSilent state → All IsSilent (deliver_turn state h).state
+unfolding deliver_turn
+deliver_silent state h all = rw (all h).mail all
+
+raised_silent : (state : ModelState) (raised : Option Request) → has_stamps state.config.mode ≡ false → All IsSilent state →
+    All IsSilent (order_raised state raised).state
+raised_silent state None stampless all = all
+raised_silent state (Some request) stampless all = placed_silent state request (place_for state request) stampless all
+
+order_silent : (state : ModelState) (h : ℕ) → has_stamps state.config.mode ≡ false → All IsSilent state →
+    All IsSilent (order_turn state h).state
+unfolding order_turn
+order_silent state h stampless all = raised_silent state (raised_of state h) stampless all
+
+past_silent : (state : ModelState) (request : Request) (obstacle : Obstacle) → has_stamps state.config.mode ≡ false →
+    All IsSilent state → All IsSilent (serve_past state request obstacle).state
+past_silent state request (Blocks why by) stampless all = all
+past_silent state request Free stampless all =
+    let after = served state request in
+    faced_if_silent after (head_of after request.line)
+    (ap (λ config. has_stamps config.mode) (keeps_served state request).config ∙ stampless)
+    (served_silent state request all)
+
+ordered_silent : (state : ModelState) (request : Option Request) → has_stamps state.config.mode ≡ false →
+    All IsSilent state → All IsSilent (serve_ordered state request).state
+ordered_silent state None stampless all = all
+ordered_silent state (Some request) stampless all = past_silent state request (obstacle_to state request) stampless all
+
+serve_silent : (state : ModelState) (h : ℕ) → has_stamps state.config.mode ≡ false → All IsSilent state →
+    All IsSilent (serve_turn state h).state
+unfolding serve_turn
+serve_silent state h stampless all = ordered_silent state (ordered_of state h) stampless all
+
+-- a hart's own deed opens no attempt
+opened_none : (mode : Mode) (h clock : ℕ) (attempt : Option Stamp) → has_stamps mode ≡ false → attempt ≡ None →
+    opened mode h clock attempt ≡ None
+opened_none Tlr h clock attempt stampless none = absurd (cc)
+opened_none Sle h clock attempt stampless none = none
+opened_none Plain h clock attempt stampless none = none
+
+candidate_silent : (pc : ℕ) (had_watch : Bool) (candidate : Option Swap) (hart : Hart) → IsSilent hart →
+    IsSilent (after_candidate pc had_watch candidate hart)
+candidate_silent pc had_watch None hart silent = silent
+candidate_silent pc had_watch (Some swap) hart silent = still_silent hart _ refl refl refl refl silent
+
+deed_silent : (state : ModelState) (h : ℕ) (deed : Deed) (hart : Hart) → has_stamps state.config.mode ≡ false →
+    IsSilent hart → IsSilent (hart_after state h deed hart)
+deed_silent state h Rests hart stampless silent = silent
+deed_silent state h Waits hart stampless silent = silent
+deed_silent state h (Misses line need) hart stampless silent = still_silent hart _ refl refl refl refl silent
+deed_silent state h (Runs touch) hart stampless silent =
+    candidate_silent _ _ (candidate_of state h) _ (still_silent hart _ refl refl refl refl silent)
+deed_silent state h (Begins swap) hart stampless silent = record {
+  mail = silent.mail;
+  told = silent.told;
+  upstream = silent.upstream;
+  attempt = opened_none state.config.mode h hart.clock hart.attempt stampless silent.attempt;
+}
+deed_silent state h (Buffers section touch) hart stampless silent = still_silent hart _ refl refl refl refl silent
+deed_silent state h (Commits section) hart stampless silent = record { mail = silent.mail; told = silent.told; upstream = silent.upstream; attempt = refl }
+deed_silent state h (RollsBack section cause) hart stampless silent =
+    record { mail = silent.mail; told = silent.told; upstream = silent.upstream; attempt = refl }
+
+step_silent : (state : ModelState) (h : ℕ) → has_stamps state.config.mode ≡ false → All IsSilent state →
+    All IsSilent (step_turn state h).state
+step_silent state h stampless all =
+    let step = step_deed state h in
+    rw (step.turn_is)
+    (all_with IsSilent state h (hart_after state h step.deed (hart_of state h))
+    (deed_silent state h step.deed (hart_of state h) stampless (all h)) all)
+
+kind_silent : (state : ModelState) (h : ℕ) (kind : Kind) → has_stamps state.config.mode ≡ false → All IsSilent state →
+    All IsSilent (kind_turn state h kind).state
+kind_silent state h kinds.Step stampless all = step_silent state h stampless all
+kind_silent state h kinds.Order stampless all = order_silent state h stampless all
+kind_silent state h kinds.Serve stampless all = serve_silent state h stampless all
+kind_silent state h kinds.Deliver stampless all = deliver_silent state h all
+
+pub next_silent : (state : ModelState) (event : Event) → has_stamps state.config.mode ≡ false → All IsSilent state →
+    All IsSilent (next state event).state
+unfolding next
+next_silent state event stampless all = kind_silent state event.hart.number event.kind stampless all

@@ -1,22 +1,20 @@
 -- what every turn keeps, and what takes effect in it
-use Rattle.std.proofs.Common.{◌≡◌, ◌∙◌, ℕ, zero, suc, Bool, true, false, List, [], ◌∷◌, ◌++◌, Option, Some, None, is_some, length, replicate, refl, ap, sym, if◌then◌else◌}
+use Rattle.std.proofs.Common.{◌≡◌, ◌∙◌, ℕ, List, [], ◌∷◌, Option, Some, None, replicate, refl, ap, sym}
 use Rattle.bus_order.specs.Order.{Request, appended, in_front_of, tail_of}
 use Rattle.chronicle.specs.Serial.{effects}
 use Rattle.defer_list.specs.HartSet.{has}
 use Rattle.el_base.specs.declared.events.Event.{Event}
 use Rattle.el_base.specs.declared.events.Kind.{Kind}
 use Rattle.el_base.specs.declared.events.Kind.TheVariants as kinds
-use Rattle.el_base.specs.declared.outcomes.Outcome.{Outcome}
 use Rattle.el_base.specs.declared.outcomes.Outcome.TheVariants.{Idle}
-use Rattle.el_base.specs.declared.outcomes.Why.{Why}
 use Rattle.el_model.specs.Deliver.{after_probe, deliver_next, deliver_turn, delivered, taken}
 use Rattle.el_model.specs.InSection.{SectionRule, Buffers, Commits, Misses, RollsBack, by_section_rule, section_rule, section_turn}
-use Rattle.el_model.specs.Next.{going_turn, kind_turn, next, running_turn, stalled, status_turn, step_turn}
+use Rattle.el_model.specs.Next.{going_turn, kind_turn, next, stalled, status_turn, step_turn}
 use Rattle.el_model.specs.Order.{Alone, Behind, InFront, Place, order_raised, order_turn, place_for, placed, placed_in_front, placed_last}
 use Rattle.el_model.specs.Plain as plain
 use Rattle.el_model.specs.Plain.{PlainRule, Begins, Runs, by_plain_rule, plain_rule, plain_turn}
 use Rattle.el_model.specs.Serve.{Blocks, Free, Obstacle, obstacle_to, serve_ordered, serve_past, serve_turn, served}
-use Rattle.el_model.specs.State.{Hart, ModelState, Section, Turn, has_request, hart_of, head_of, ordered_of, raised_of, section_of}
+use Rattle.el_model.specs.State.{ModelState, Section, Turn, has_request, hart_of, head_of, ordered_of, raised_of, section_of}
 use Rattle.el_model.proofs.Keeps.{Keeps, keeps_all, keeps_each_hart, keeps_faced, keeps_faced_if, keeps_marked_by, keeps_marking, keeps_reordered, keeps_served, keeps_twice, keeps_with_hart}
 use Rattle.el_model.proofs.Tests.{by_test}
 use Rattle.mail.specs.Mailbox.{Marker, Message, Probe}

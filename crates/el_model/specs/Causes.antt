@@ -1,14 +1,12 @@
 -- where each outcome comes
-use Rattle.std.specs.Prelude.{◌≡◌, ◌≢◌, ◌⊎◌, ◌+◌, ℕ, Bool, true, false, List, [], ◌∷◌, Option, None, Some}
+use Rattle.std.specs.Prelude.{◌≡◌, ◌≢◌, ◌⊎◌, ◌+◌, ℕ, true, false, List, [], ◌∷◌, Option, None, Some}
 use Rattle.bus_order.specs.Order.{Request}
 use Rattle.el_base.specs.HartId.{hart_id}
 use Rattle.el_base.specs.LineAddr.{line_addr}
 use Rattle.el_base.specs.declared.events.Event.{Event}
 use Rattle.el_base.specs.declared.events.Kind.TheVariants as kinds
-use Rattle.el_base.specs.declared.line.LineAddr.{LineAddr}
 use Rattle.el_base.specs.declared.hart_id.HartId.{HartId}
 use Rattle.el_base.specs.declared.losers.Losers.{Losers}
-use Rattle.el_base.specs.declared.outcomes.Cause.{Cause}
 use Rattle.el_base.specs.declared.outcomes.Need.{Need}
 use Rattle.el_base.specs.declared.outcomes.Outcome.{Outcome}
 use Rattle.el_base.specs.declared.outcomes.Outcome.TheVariants.{Idle, Stalled, Missed, Ran, Began, Buffered, Committed, RolledBack, Ordered, Served, Blocked, Delivered}
@@ -20,7 +18,7 @@ use Rattle.el_model.specs.InSection.{SectionRule, section_rule}
 use Rattle.el_model.specs.Order.{order_losers}
 use Rattle.el_model.specs.Plain as outside
 use Rattle.el_model.specs.Plain.{PlainRule, plain_rule}
-use Rattle.el_model.specs.Serve.{Blocks, Free, Obstacle, obstacle_to, serve_losers}
+use Rattle.el_model.specs.Serve.{Blocks, Free, obstacle_to, serve_losers}
 use Rattle.el_model.specs.State.{ModelState, Section, has_request, hart_of, ordered_of, raised_of, section_of}
 use Rattle.el_model.specs.Upcoming.{Swap, Touch}
 use Rattle.rv_alu.specs.declared.view.HartStatus.TheVariants.{Running}

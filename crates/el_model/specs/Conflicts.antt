@@ -1,13 +1,12 @@
 -- where requests meet sections, and who wins
 use Rattle.std.specs.Prelude.{ℕ, Bool, true, false, ◌&&◌, ◌||◌, List, [], ◌∷◌, Option, None, Some, is_some, ◌==◌, not, if◌then◌else◌}
-use Rattle.std.specs.Option.{option_or}
 use Rattle.bus_order.specs.Order.{Request}
 use Rattle.cache_sets.specs.Cache.{has_bit, write_bit}
 use Rattle.defer_list.specs.HartSet.{has}
 use Rattle.el_base.specs.declared.config.Mode.{Mode}
 use Rattle.el_base.specs.declared.outcomes.Need.{Need}
 use Rattle.el_base.specs.declared.outcomes.Need.TheVariants.{Read, Write}
-use Rattle.el_model.specs.State.{Hart, ModelState, hart_of, head_of, is_held, is_live, numbers_of, ordered_on}
+use Rattle.el_model.specs.State.{Hart, ModelState, hart_of, head_of, is_held, numbers_of, ordered_on}
 use Rattle.policy.specs.Winners.{wins_of}
 use Rattle.stamp.specs.Stamps.{Stamp, is_before}
 

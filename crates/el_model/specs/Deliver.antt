@@ -1,5 +1,5 @@
 -- a hart takes the oldest message of its mailbox
-use Rattle.std.specs.Prelude.{ℕ, Bool, true, false, ◌&&◌, List, [], ◌∷◌, map, filter, Option, None, Some, is_some, not, ◌==◌, if◌then◌else◌}
+use Rattle.std.specs.Prelude.{ℕ, Bool, false, ◌&&◌, List, [], ◌∷◌, map, filter, Option, None, Some, is_some, not, ◌==◌, if◌then◌else◌}
 use Rattle.bus_order.specs.Order.{Request}
 use Rattle.defer_list.specs.HartSet.{has, included}
 use Rattle.el_base.specs.Losers.{losers_of}

@@ -1,5 +1,5 @@
 -- the head of a line meets the sections that conflict with it
-use Rattle.std.specs.Prelude.{ℕ, List, [], ◌∷◌, map, Option, None, Some, ◌==◌, if◌then◌else◌, filter, is_some}
+use Rattle.std.specs.Prelude.{ℕ, List, [], map, Option, None, Some, ◌==◌, if◌then◌else◌, filter, is_some}
 use Rattle.bus_order.specs.Order.{Request}
 use Rattle.el_base.specs.Losers.{losers_of}
 use Rattle.el_base.specs.declared.config.Mode.{Mode}

@@ -1,5 +1,5 @@
 -- a step of a hart with a live section, which waits for no request
-use Rattle.std.specs.Prelude.{ℕ, ◌+◌, Bool, true, false, ◌&&◌, ◌||◌, List, Option, None, Some, not, ◌==◌, if◌then◌else◌}
+use Rattle.std.specs.Prelude.{ℕ, ◌+◌, Bool, false, ◌||◌, List, Option, None, Some, not, ◌==◌, if◌then◌else◌}
 use Rattle.cache_sets.specs.Cache.{committed, letter_of, marked, read_bit, room_of, touched, write_bit, write_bits_of}
 use Rattle.cache_sets.specs.Residency.{Way}
 use Rattle.el_base.specs.declared.outcomes.Cause.{Cause}
@@ -8,7 +8,7 @@ use Rattle.el_base.specs.declared.outcomes.Need.{Need}
 use Rattle.el_base.specs.declared.outcomes.Need.TheVariants.{Read, Write}
 use Rattle.el_base.specs.declared.outcomes.Outcome.TheVariants as outcomes
 use Rattle.el_model.specs.Attempts.{close_attempt}
-use Rattle.el_model.specs.Conflicts.{is_wanted, writes}
+use Rattle.el_model.specs.Conflicts.{is_wanted}
 use Rattle.el_model.specs.Plain.{missed}
 use Rattle.el_model.specs.RollBack.{rolled_back}
 use Rattle.el_model.specs.State.{Hart, ModelState, Section, Turn, cache_of, hart_of, with_hart}

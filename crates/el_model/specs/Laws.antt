@@ -1,15 +1,18 @@
 -- what the definitions come to
-use Rattle.std.specs.Prelude.{◌≡◌, ◌≢◌, ◌<◌, ◌↔◌, ℕ, List, length}
+use Rattle.std.specs.Prelude.{◌≡◌, ◌≢◌, ◌<◌, ◌↔◌, ℕ, false, List, length}
 use Rattle.chronicle.specs.Serial.{serial}
 use Rattle.el_base.specs.declared.config.Config.{Config}
+use Rattle.el_base.specs.declared.config.Mode.TheVariants.{Plain}
 use Rattle.el_base.specs.declared.events.Event.{Event}
 use Rattle.el_base.specs.declared.events.Kind.TheVariants as kinds
 use Rattle.el_base.specs.declared.outcomes.Outcome.{Outcome}
 use Rattle.el_base.specs.declared.outcomes.Outcome.TheVariants as outcomes
 use Rattle.elf_image.specs.Program.{Program}
 use Rattle.el_model.specs.Causes.{ComesWhere}
+use Rattle.el_model.specs.Deed.{IsDeed}
 use Rattle.el_model.specs.Losses.{HartsAreNumbered, restored, standing_of, winner_over}
 use Rattle.el_model.specs.Next.{after, entries_from, next}
+use Rattle.el_model.specs.Quiet.{AllPlain, AllSilent, has_stamps}
 use Rattle.el_model.specs.State.{ModelState, begin, hart_of}
 use Rattle.rv_flat.specs.FlatState.{start}
 use Rattle.rv_flat.specs.Run.{run}
@@ -40,3 +43,19 @@ LosersAreRestored =
     (state : ModelState) (event : Event) (g : ℕ) → HartsAreNumbered state → event.kind ≢ kinds.Step → g < length state.harts →
     standing_of (hart_of (next state event).state g)
     ≡ restored state.config.mode (winner_over (next state event).outcome g) (standing_of (hart_of state g))
+
+-- a step is one deed of its hart, where the rule of the deed says so, and changes nothing else
+abbrev pub StepsAreDeeds : Type 0
+StepsAreDeeds =
+    (state : ModelState) (event : Event) → event.kind ≡ kinds.Step → IsDeed state event.hart.number (next state event)
+
+-- in a mode without stamps, from the start on, no hart has a message, an origin that it was told of, a hart before it, or an attempt
+abbrev pub StamplessStaysSilent : Type 0
+StamplessStaysSilent =
+    (program : Program) (config : Config) (events : List Event) → has_stamps config.mode ≡ false →
+    AllSilent (after program config events)
+
+-- in the plain mode, from the start on, no hart has a section, a bit, or a watch either
+abbrev pub PlainStaysPlain : Type 0
+PlainStaysPlain =
+    (program : Program) (config : Config) (events : List Event) → config.mode ≡ Plain → AllPlain (after program config events)

@@ -12,5 +12,6 @@ pub mod InSection
 pub mod Next
 pub mod Causes
 pub mod Losses
+pub mod Deed
 pub mod Quiet
 pub mod Laws

@@ -1,5 +1,5 @@
 -- a raised request takes its place in the order
-use Rattle.std.specs.Prelude.{ℕ, Bool, true, false, ◌&&◌, List, [], ◌∷◌, Option, None, Some, is_some, if◌then◌else◌}
+use Rattle.std.specs.Prelude.{ℕ, ◌&&◌, Option, None, Some, is_some, if◌then◌else◌}
 use Rattle.bus_order.specs.Order.{Request, appended, in_front_of, tail_of}
 use Rattle.cache_sets.specs.Cache.{has_bit}
 use Rattle.el_base.specs.declared.config.Mode.{Mode}
@@ -8,7 +8,7 @@ use Rattle.el_base.specs.declared.outcomes.Outcome.TheVariants.{Ordered}
 use Rattle.el_base.specs.Losers.{losers_of}
 use Rattle.el_base.specs.declared.losers.Losers.{Losers}
 use Rattle.el_model.specs.Face.{face_losers, faced}
-use Rattle.el_model.specs.State.{Hart, ModelState, Turn, cache_of, hart_of, head_of, idle, is_live, raised_of, with_hart}
+use Rattle.el_model.specs.State.{ModelState, Turn, cache_of, hart_of, head_of, idle, is_live, raised_of, with_hart}
 use Rattle.mail.specs.Mailbox.{Marker, posted}
 
 -- a hart without the request that it had raised

@@ -1,5 +1,5 @@
 -- an ordered request is served, or something is in its way
-use Rattle.std.specs.Prelude.{ℕ, Bool, true, false, ◌&&◌, ◌||◌, List, [], ◌∷◌, Option, None, Some, is_some, not, ◌==◌, if◌then◌else◌}
+use Rattle.std.specs.Prelude.{ℕ, Bool, true, false, ◌&&◌, List, [], Option, None, Some, is_some, not, ◌==◌, if◌then◌else◌}
 use Rattle.std.specs.List.{list_any}
 use Rattle.bus_order.specs.Order.{Request, removed}
 use Rattle.cache_sets.specs.Cache.{filled_with, is_resident, letter_of, lettered, marked, touched, without_line}

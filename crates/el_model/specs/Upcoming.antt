@@ -1,16 +1,14 @@
 -- what the next instruction of a hart is to the rules, in a state of plain shared memory
 use Rattle.std.specs.Prelude.{ℕ, ◌+◌, Bool, true, false, ◌&&◌, ◌||◌, Option, None, Some, not, ◌==◌, nat_lt, if◌then◌else◌}
-use Rattle.std.specs.Option.{option_and_then}
 use Rattle.elf_image.specs.Program.{code_word}
 use Rattle.el_base.specs.Line.{line_number}
 use Rattle.el_base.specs.declared.outcomes.Need.{Need}
 use Rattle.el_base.specs.declared.outcomes.Need.TheVariants as needs
-use Rattle.rv_alu.specs.Execution.{Append, Execution, Goes, Stops, Store, store_in, touched}
+use Rattle.rv_alu.specs.Execution.{Execution, Goes, Stops, Store, store_in, touched}
 use Rattle.rv_alu.specs.Footprint.{is_call}
 use Rattle.rv_alu.specs.Loaded.{loaded}
 use Rattle.rv_alu.specs.declared.footprint.Access.{Access}
 use Rattle.rv_alu.specs.declared.footprint.Access.TheVariants.{Nothing, Read, Write, Trap, Exit}
-use Rattle.rv_alu.specs.declared.view.HartView.{HartView}
 use Rattle.rv_flat.specs.FlatState.{FlatState, room_of, span_of, view_of}
 use Rattle.rv_flat.specs.Laws.{next_insn}
 use Rattle.rv_flat.specs.Memory.{byte_in}

@@ -1,4 +1,12 @@
-ghost use Rattle.el_model.specs.Laws.{CommitsInSerialOrder, IdleChangesNothing, LosersAreRestored, OutcomesComeByTheirRules};
+ghost use Rattle.el_model.specs.Laws.{
+  CommitsInSerialOrder,
+  IdleChangesNothing,
+  LosersAreRestored,
+  OutcomesComeByTheirRules,
+  PlainStaysPlain,
+  StamplessStaysSilent,
+  StepsAreDeeds,
+};
 
 /// Whatever the events, in every mode, the committed state is that of one run of the program on plain
 /// shared memory, in the serial order of the history of these events.
@@ -24,4 +32,23 @@ pub fn idle_changes_nothing()
 #[tactic(auto, using(crate::proofs::Restoring::losers_restored))]
 pub fn losers_are_restored()
     ensures { LosersAreRestored }
+{}
+
+/// A step is one deed of its hart: the hart becomes what the deed says, what is committed likewise, and
+/// nothing else changes. The deed is told with all that its rule asks for.
+#[tactic(auto, using(crate::proofs::FromStart::steps_are_deeds))]
+pub fn steps_are_deeds()
+    ensures { StepsAreDeeds }
+{}
+
+/// In the modes without stamps nothing of messages and attempts ever arises.
+#[tactic(auto, using(crate::proofs::FromStart::stampless_silent))]
+pub fn stampless_stays_silent()
+    ensures { StamplessStaysSilent }
+{}
+
+/// In the plain mode nothing of sections, access bits and watches ever arises either.
+#[tactic(auto, using(crate::proofs::FromStart::plain_plain))]
+pub fn plain_stays_plain()
+    ensures { PlainStaysPlain }
 {}

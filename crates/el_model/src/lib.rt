@@ -20,5 +20,5 @@ mod laws;
 
 pub use laws::{
     commits_in_serial_order, idle_changes_nothing, losers_are_restored,
-    outcomes_come_by_their_rules,
+    outcomes_come_by_their_rules, plain_stays_plain, stampless_stays_silent, steps_are_deeds,
 };

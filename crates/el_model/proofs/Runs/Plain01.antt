@@ -1,22 +1,20 @@
 -- 2 harts in plain memory over caches, 110 random events: a serve blocked as Behind, a serve blocked as Locked
-use Rattle.std.proofs.Common.{◌≡◌, ℕ, true, false, List, [], ◌∷◌, Some, None, replicate, refl}
+use Rattle.std.proofs.Common.{◌≡◌, ℕ, false, List, [], ◌∷◌, Some, None, replicate, refl}
 use Rattle.el_base.specs.HartId.{hart_id}
 use Rattle.el_base.specs.LineAddr.{line_addr}
 use Rattle.el_base.specs.declared.config.Config.{Config}
-use Rattle.el_base.specs.declared.config.Mode.TheVariants.{Plain, Sle, Tlr}
+use Rattle.el_base.specs.declared.config.Mode.TheVariants.{Plain}
 use Rattle.el_base.specs.declared.events.Event.{Event}
 use Rattle.el_base.specs.declared.events.Kind.TheVariants.{Step, Order, Serve, Deliver}
-use Rattle.el_base.specs.declared.outcomes.Cause.TheVariants.{Room, Lines, Long, Call, Mixed}
 use Rattle.el_base.specs.declared.outcomes.Need.TheVariants.{Read, Write}
 use Rattle.el_base.specs.declared.outcomes.Outcome.{Outcome}
-use Rattle.el_base.specs.declared.outcomes.Outcome.TheVariants.{Idle, Stalled, Missed, Ran, Began, Buffered, Committed, RolledBack, Ordered, Served, Blocked, Delivered}
-use Rattle.el_base.specs.declared.outcomes.Why.TheVariants.{Behind, Retained, Locked}
+use Rattle.el_base.specs.declared.outcomes.Outcome.TheVariants.{Idle, Stalled, Missed, Ran, Ordered, Served, Blocked}
+use Rattle.el_base.specs.declared.outcomes.Why.TheVariants.{Behind, Locked}
 use Rattle.el_model.proofs.Computing.{computing}
-use Rattle.el_model.proofs.Given.{Ending, ending_of, event, first_state, lost, patched, request, section, stamp, watch, way}
+use Rattle.el_model.proofs.Given.{Ending, ending_of, event, first_state, lost, patched, way}
 use Rattle.el_model.specs.Next.{outcomes_from, state_after}
-use Rattle.el_model.specs.State.{Hart, ModelState}
-use Rattle.mail.specs.Mailbox.{Marker, Probe}
-use Rattle.moesi.specs.declared.letter.Letter.TheVariants.{M, O, E, S}
+use Rattle.el_model.specs.State.{ModelState}
+use Rattle.moesi.specs.declared.letter.Letter.TheVariants.{M, E}
 
 abbrev config : Config
 config = record {

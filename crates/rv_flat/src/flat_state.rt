@@ -30,7 +30,7 @@ pub struct Flat {
 }
 
 impl Model for Flat {
-    ghost use Rattle.std.specs.Prelude.{◌+◌, ◌≤◌, length, vec_capacity};
+    ghost use Rattle.std.specs.Prelude.{◌+◌, ◌<◌, ◌≤◌, ◌^◌, length, vec_capacity};
     ghost use Rattle.rv_flat.specs.FlatState.{FlatState, output_limit};
 
     ghost Value = { FlatState };
@@ -38,7 +38,7 @@ impl Model for Flat {
     ghost view = { λ f. record { harts = f.harts.items; base = f.base; bytes = f.bytes.items; code = f.code; output = f.output.items } };
 
     ghost invariant = { λ f. record {
-      not_high : f.base + length f.bytes.items ≤ 0xffff0000;
+      small : f.base + length f.bytes.items < 2 ^ 32;
       within : length f.output.items ≤ output_limit;
       reserved : output_limit ≤ vec_capacity f.output;
     } };

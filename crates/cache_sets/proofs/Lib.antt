@@ -16,3 +16,5 @@ pub mod DropSteps
 pub mod FillSteps
 pub mod EachSteps
 pub mod Unmarked
+pub mod AbsentLetters
+pub mod AbsentLines

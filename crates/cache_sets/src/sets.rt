@@ -46,7 +46,8 @@ impl Model for Sets {
 impl Sets {
     /// What the cache knows of a line; it is I exactly where the cache has not the line.
     pub fn letter(&self, line: LineAddr) -> Letter
-        ensures { result ≡ letter_of self.now.residency line.number }
+        ensures exact { result ≡ letter_of self.now.residency line.number }
+        ensures absent_exactly { (result ≡ I) ↔ (is_resident self.now.residency line.number ≡ false) }
     {
         match find(self.sets.as_slice(), line) {
             Some(way) => way.letter,

@@ -1,0 +1,116 @@
+-- a hart keeps its copy: caches and main memory tell what they told
+use Rattle.std.proofs.Common.{◌≡◌, ◌≢◌, ◌∙◌, ◌⊎◌, ◌<◌, ◌≤◌, ℕ, Bool, true, false, List, length, Option, None, Some, is_some, option_map, ap, refl, sym, subst, inl, inr}
+use Rattle.std.specs.Prelude.{slice_set}
+use Rattle.std.proofs.lemmas.Bool.{cases_eq, cases_lt}
+use Rattle.std.proofs.lemmas.List.{get_or-set_other, get_or-set_same, length-set}
+use Rattle.cache_sets.specs.Cache.{is_resident, letter_of}
+use Rattle.cache_sets.specs.Cached.{Cached, Copy, bytes_of, copy_in, copy_with_letter}
+use Rattle.cache_sets.specs.Calls.{IsLettered, IsTouched, IsWithout}
+use Rattle.coherence.specs.Caches.{AreCoherent, IsInMemory, OthersGiveUp, behind_of, cache_at, copies_of, no_cache}
+use Rattle.coherence.specs.Kept.{IsKept, LeavesTo}
+use Rattle.coherence.specs.Line.{Coherent}
+use Rattle.coherence.proofs.FetchLaws.{given_up_at, other_new}
+use Rattle.coherence.proofs.Fetched.{copy_resident}
+use Rattle.coherence.proofs.GivenUp.{beyond}
+use Rattle.coherence.proofs.LineLaws.{same_line, write_served}
+use Rattle.coherence.proofs.Owners.{copy_is}
+use Rattle.el_base.specs.declared.outcomes.Need.{Need}
+use Rattle.el_base.specs.declared.outcomes.Need.TheVariants.{Read, Write}
+use Rattle.el_model.specs.Serve.{kept_letter}
+use Rattle.moesi.specs.declared.letter.Letter.TheVariants.{M}
+
+pub modified : (h place line : ℕ) (old mid : List Cached) (before after : Cached) → OthersGiveUp Write h line old mid → place ≡ h →
+    h < length old → before ≡ cache_at mid h → IsLettered before after line M → IsKept Write h line old (slice_set mid place after)
+modified h place line old mid before after gave same inside was lettered =
+    rw same
+    (record {
+      count = length-set mid h after ∙ gave.count;
+      own =
+          rw (get_or-set_same mid h after no_cache (subst (λ n. h < n) (sym gave.count) inside))
+          (subst (λ c. IsLettered c after line M) (was ∙ gave.own) lettered);
+      others = λ g other.
+          subst (λ c. IsWithout (cache_at old g) c line) (sym (other_new h g mid after other)) (given_up_at Write h line old mid gave g other);
+    })
+
+-- where the copies of other lines are as they were, only the line itself is to be looked at
+pub one_line : (told : ℕ → List ℕ) (first line : ℕ) (lines : List (List ℕ)) (old new : List Cached) → AreCoherent told first lines old →
+    ((l g : ℕ) → l ≢ line → copies_of new l g ≡ copies_of old l g) → IsInMemory first (length lines) line →
+    Coherent (told line) (copies_of new line) (behind_of first lines line) → AreCoherent told first lines new
+one_line told first line lines old new coherent same there here = record {
+  each = λ l in_memory. elim (cases_eq l line) [
+    | inl is ↦ subst (λ k. Coherent (told k) (copies_of new k) (behind_of first lines k)) (sym is) here
+    | inr other ↦ same_line (told l) (copies_of old l) (copies_of new l) _ _ (coherent.each l in_memory) (λ g. same l g other) refl
+  ];
+  inside = λ g l resident. elim (cases_eq l line) [
+    | inl is ↦ subst (IsInMemory first (length lines)) (sym is) there
+    | inr other ↦
+        coherent.inside g l
+        (copy_resident (cache_at old g) l _ (sym (same l g other) ∙ copy_is (cache_at new g) l resident))
+  ];
+}
+
+kept_other : (need : Need) (h line l g : ℕ) (old new : List Cached) → IsKept need h line old new → l ≢ line →
+    copies_of new l g ≡ copies_of old l g
+kept_other need h line l g old new kept other =
+    elim (cases_eq g h) [
+      | inl own ↦ rw own (kept.own.others l other)
+      | inr apart ↦ by need (kept.others g apart)
+    ]
+  where by : (n : Need) → LeavesTo n (cache_at old g) (cache_at new g) line → copies_of new l g ≡ copies_of old l g
+        by Read same = ap (λ c. copy_in c l) same
+        by Write without = without.others l other
+
+-- the copy of the hart itself
+pub own_kept : (need : Need) (h line : ℕ) (old new : List Cached) → IsKept need h line old new →
+    is_resident (cache_at old h).residency line ≡ true →
+    copies_of new line h
+    ≡ Some (record { letter = kept_letter need (letter_of (cache_at old h).residency line); bytes = bytes_of (cache_at old h) line })
+own_kept need h line old new kept resident =
+    kept.own.here
+    ∙ ap (λ copy. option_map (copy_with_letter (kept_letter need (letter_of (cache_at old h).residency line))) copy)
+    (copy_is (cache_at old h) line resident)
+
+line_kept : (need : Need) (h line : ℕ) (told behind : List ℕ) (old new : List Cached) → IsKept need h line old new →
+    is_resident (cache_at old h).residency line ≡ true → Coherent told (copies_of old line) behind →
+    Coherent told (copies_of new line) behind
+line_kept Read h line told behind old new kept resident coherent =
+    same_line told (copies_of old line) (copies_of new line) behind behind coherent (λ g. same g) refl
+  where same : (g : ℕ) → copies_of new line g ≡ copies_of old line g
+        same g = elim (cases_eq g h) [
+          | inl own ↦ rw own (own_kept Read h line old new kept resident ∙ sym (copy_is (cache_at old h) line resident))
+          | inr apart ↦ ap (λ c. copy_in c line) (kept.others g apart)
+        ]
+line_kept Write h line told behind old new kept resident coherent =
+    write_served told behind h (copies_of new line) _ (own_kept Write h line old new kept resident) refl
+    (coherent.same h _ (copy_is (cache_at old h) line resident))
+    (λ g apart. (kept.others g apart).here)
+
+pub coherent_kept : (need : Need) (h line first : ℕ) (lines : List (List ℕ)) (told : ℕ → List ℕ) (old new : List Cached) →
+    IsKept need h line old new → is_resident (cache_at old h).residency line ≡ true → AreCoherent told first lines old →
+    AreCoherent told first lines new
+coherent_kept need h line first lines told old new kept resident coherent =
+    let there = coherent.inside h line resident in
+    one_line told first line lines old new coherent (λ l g other. kept_other need h line l g old new kept other) there
+    (line_kept need h line (told line) (behind_of first lines line) old new kept resident (coherent.each line there))
+
+-- a line that is touched is as it was
+pub coherent_touched : (h line first : ℕ) (lines : List (List ℕ)) (told : ℕ → List ℕ) (old : List Cached) (cache : Cached) →
+    IsTouched (cache_at old h) cache line → AreCoherent told first lines old → AreCoherent told first lines (slice_set old h cache)
+coherent_touched h line first lines told old cache touch coherent = record {
+  each = λ l in_memory. same_line (told l) (copies_of old l) (copies_of (slice_set old h cache) l) _ _ (coherent.each l in_memory) (same l) refl;
+  inside = λ g l resident.
+      coherent.inside g l (copy_resident (cache_at old g) l _ (sym (same l g) ∙ copy_is (cache_at (slice_set old h cache) g) l resident));
+}
+  where
+    same : (l g : ℕ) → copies_of (slice_set old h cache) l g ≡ copies_of old l g
+    same l g =
+        elim (cases_eq g h) [
+          | inl own ↦ rw own (here (cases_lt h (length old)))
+          | inr apart ↦ ap (λ c. copy_in c l) (other_new h g old cache apart)
+        ]
+      where
+        here : (h < length old) ⊎ (length old ≤ h) → copies_of (slice_set old h cache) l h ≡ copies_of old l h
+        here (inl inside) = ap (λ c. copy_in c l) (get_or-set_same old h cache no_cache inside) ∙ touch.copies l
+        here (inr outside) =
+            ap (λ c. copy_in c l)
+            (beyond (slice_set old h cache) h (subst (λ n. n ≤ h) (sym (length-set old h cache)) outside) ∙ sym (beyond old h outside))

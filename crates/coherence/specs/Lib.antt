@@ -1,0 +1,5 @@
+pub mod Line
+pub mod Caches
+pub mod Served
+pub mod Writing
+pub mod Kept

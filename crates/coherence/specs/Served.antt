@@ -1,0 +1,92 @@
+-- what a served request makes of the caches and of main memory
+use Rattle.std.specs.Prelude.{ℕ, ◌≡◌, ◌≢◌, ◌-◌, Bool, true, List, length, Option, None, Some, option_map, if◌then◌else◌, slice_set}
+use Rattle.cache_sets.specs.Cache.{evicted_by, filled_with, is_resident, room_of, touched}
+use Rattle.cache_sets.specs.Cached.{Cached}
+use Rattle.cache_sets.specs.Residency.{Way}
+use Rattle.cache_sets.specs.declared.evicted.Evicted.{Evicted}
+use Rattle.coherence.specs.Caches.{AreCoherent, IsInMemory, cache_at, others_have}
+use Rattle.coherence.specs.declared.hierarchy.Hierarchy as hierarchies
+use Rattle.el_base.specs.declared.outcomes.Need.{Need}
+use Rattle.el_model.specs.Serve.{given_up, kept_letter, others_cache, own_copy}
+use Rattle.moesi.specs.Letters.{filled_of, is_dirty}
+
+-- main memory after a line left a cache, if one did: it is written back where main memory was behind
+abbrev pub written_back : ℕ → List (List ℕ) → Option Evicted → List (List ℕ)
+written_back first lines None = lines
+written_back first lines (Some gone) =
+    if is_dirty gone.letter then slice_set lines (gone.line.number - first) gone.bytes else lines
+
+-- the line that leaves a cache for another, which comes where it is not there
+abbrev pub victim_of : Cached → ℕ → Option ℕ
+victim_of cached line =
+    if is_resident cached.residency line then None
+    else option_map (λ way. way.line) (evicted_by cached.ways cached.residency line)
+
+-- main memory and the caches of all harts
+pub record Copies : Type 0 where
+  pub first : ℕ
+  pub lines : List (List ℕ)
+  pub caches : List Cached
+
+-- whatever the bytes are that the old copies tell, the new ones tell the same
+pub record StaysCoherent (old new : Copies) : Type 0 where
+  pub first : new.first ≡ old.first
+  pub lines : length new.lines ≡ length old.lines
+  pub caches : length new.caches ≡ length old.caches
+  pub coherent : (bytes : ℕ → List ℕ) → AreCoherent bytes old.first old.lines old.caches →
+      AreCoherent bytes new.first new.lines new.caches
+
+-- a line was fetched for a hart that had it not
+pub record IsFetched (need : Need) (h line : ℕ) (old new : Copies) : Type 0 where
+  pub stays : StaysCoherent old new
+  pub here : is_resident (cache_at new.caches h).residency line ≡ true
+  pub ways : (g : ℕ) → (cache_at new.caches g).ways ≡ (cache_at old.caches g).ways
+  pub own :
+      (cache_at new.caches h).residency
+      ≡ filled_with (cache_at old.caches h).ways (cache_at old.caches h).residency line
+      (filled_of need (others_have old.caches h line))
+  pub others : (g : ℕ) → g ≢ h → (cache_at new.caches g).residency ≡ given_up need (cache_at old.caches g).residency line
+  -- main memory changes in the line that left alone
+  pub evicted : Option Evicted
+  pub victim :
+      option_map (λ gone. gone.line.number) evicted
+      ≡ option_map (λ way. way.line) (evicted_by (cache_at old.caches h).ways (cache_at old.caches h).residency line)
+  pub memory : new.lines ≡ written_back old.first old.lines evicted
+
+-- a request was served, and this has become of the order of the hart's lines: its copy has the letter that its need gives, and the other
+-- harts have given up what the definition says
+pub record Moves (ordering : List (List Way) → List (List Way)) (need : Need) (h line : ℕ) (old new : Copies) : Type 0 where
+  pub stays : StaysCoherent old new
+  pub here : is_resident (cache_at new.caches h).residency line ≡ true
+  pub ways : (g : ℕ) → (cache_at new.caches g).ways ≡ (cache_at old.caches g).ways
+  pub own :
+      (cache_at new.caches h).residency
+      ≡ ordering (own_copy (cache_at old.caches h).ways (others_have old.caches h line) need (cache_at old.caches h).residency line)
+  pub others : (g : ℕ) → g ≢ h →
+      (cache_at new.caches g).residency
+      ≡ others_cache (is_resident (cache_at old.caches h).residency line) need (cache_at old.caches g).residency line
+  -- main memory changes in the line that left alone, and there where it was behind
+  pub evicted : Option Evicted
+  pub victim : option_map (λ gone. gone.line.number) evicted ≡ victim_of (cache_at old.caches h) line
+  pub memory : new.lines ≡ written_back old.first old.lines evicted
+
+-- a request was served, and the line is the most recent one of its set
+abbrev pub IsServed : Need → ℕ → ℕ → Copies → Copies → Type 0
+IsServed need h line old new = Moves (λ cache. touched cache line) need h line old new
+
+-- caches and main memory tell one thing of each line
+pub record IsCoherent (copies : Copies) : Type 0 where
+  pub bytes : ℕ → List ℕ
+  pub tells : AreCoherent bytes copies.first copies.lines copies.caches
+
+-- main memory and caches as contracts see them
+abbrev pub shown : hierarchies.Hierarchy → Copies
+shown hierarchy = record { first = hierarchy.first; lines = hierarchy.lines.items; caches = hierarchy.caches.items }
+
+-- a line lies in main memory
+abbrev pub HasLine : Copies → ℕ → Type 0
+HasLine copies line = IsInMemory copies.first (length copies.lines) line
+
+-- a hart's cache has room for a line
+abbrev pub has_room : Copies → ℕ → ℕ → Bool
+has_room copies h line = room_of (cache_at copies.caches h).ways (cache_at copies.caches h).residency line

@@ -1,5 +1,5 @@
 -- What bits say of reading and writing.
-use Rattle.std.proofs.Common.{◌≡◌, ◌≢◌, ℕ, zero, suc, ◌+◌, ◌≤◌, ◌<◌, Bool, true, false, cond, eqb, ltb, List, [], ◌∷◌, ◌||◌, Option, None, Some, is_some, bit_and, bit_or, refl, ap, sym, ◌∙◌, arith}
+use Rattle.std.proofs.Common.{◌≡◌, ℕ, zero, suc, ◌+◌, Bool, true, false, cond, eqb, ltb, List, ◌||◌, Option, None, Some, is_some, bit_and, bit_or, refl, ap, sym, ◌∙◌, arith}
 use Rattle.std.specs.Option.{option_map_or}
 use Rattle.std.specs.List.{count_by}
 use Rattle.std.proofs.lemmas.Bool.Decides.{nat_tests}
@@ -10,9 +10,8 @@ use Rattle.cache_sets.specs.declared.bits.Bits.{Bits}
 use Rattle.cache_sets.specs.declared.way.Way as code
 use Rattle.cache_sets.specs.Bits.{bits_of, bits_of_need, bits_of_number, has_need, marks_in, with_need, writes_in}
 use Rattle.cache_sets.specs.Residency.{Way, is_marked, with_bit}
-use Rattle.cache_sets.specs.Cache.{bit_in}
 use Rattle.cache_sets.specs.Keyed.{found}
-use Rattle.cache_sets.specs.Kept.{cleared_way, committed_way, marked_way, number_of, shown_way}
+use Rattle.cache_sets.specs.Kept.{marked_way, number_of, shown_way}
 use Rattle.cache_sets.proofs.KeyedLemmas.{found-le-sum_by}
 
 -- the bit of a need that was set, and the other one

@@ -1,27 +1,24 @@
 -- A step that changes the way of one line.
-use Rattle.std.proofs.Common.{◌≡◌, ◌≢◌, ℕ, zero, suc, ◌+◌, ◌*◌, ◌%◌, ◌≤◌, ◌<◌, Bool, true, false, not, cond, eqb, ltb, List, [], ◌∷◌, length, map, get_or, Option, None, Some, option_map, is_some, refl, ap, sym, subst, inl, inr, ◌⊎◌, ◌∙◌, arith}
+use Rattle.std.proofs.Common.{◌≡◌, ◌≢◌, ℕ, ◌+◌, false, cond, eqb, ltb, List, length, map, Option, None, Some, option_map, refl, ap, sym, subst, inl, inr, ◌∙◌, arith}
 use Rattle.std.specs.Option.{option_map_or}
 use Rattle.std.specs.List.{sum_by, count_by}
 use Rattle.std.specs.Prelude.{slice_set}
 use Rattle.std.proofs.lemmas.Bool.{cases_eq}
-use Rattle.std.proofs.lemmas.Bool.Decides.{nat_tests}
 use Rattle.el_base.specs.declared.outcomes.Need.{Need}
-use Rattle.el_base.specs.declared.outcomes.Need.TheVariants.{Read, Write}
 use Rattle.moesi.specs.declared.letter.Letter.{Letter}
 use Rattle.moesi.specs.declared.letter.Letter.TheVariants.{I}
 use Rattle.cache_sets.specs.declared.set.Set.{Set}
 use Rattle.cache_sets.specs.declared.way.Way as code
-use Rattle.cache_sets.specs.Keyed.{changed, count_of, found}
+use Rattle.cache_sets.specs.Keyed.{changed, found}
 use Rattle.cache_sets.specs.Residency.{Way, changed_in, with_bit, with_letter}
-use Rattle.cache_sets.specs.Cache.{bit_in, is_resident, lettered, marked, set_of, way_of, with_set, write_bits_of}
+use Rattle.cache_sets.specs.Cache.{lettered, marked, set_of, with_set, write_bits_of}
 use Rattle.cache_sets.specs.Cached.{Cached, Copy, copy_in, copy_with_letter}
 use Rattle.cache_sets.specs.Calls.{IsLettered, IsMarked}
-use Rattle.cache_sets.specs.Kept.{IsSet, Stands, bytes_of_way, lettered_way, marked_way, marks_of, number_of, residency_of, set_at, sets_with, shown_cache, shown_set, shown_way, way_at}
-use Rattle.cache_sets.specs.WellFormed.{IsWellFormed}
+use Rattle.cache_sets.specs.Kept.{IsSet, Stands, lettered_way, marked_way, marks_of, number_of, residency_of, set_at, sets_with, shown_cache, shown_way, way_at}
 use Rattle.cache_sets.proofs.BitLemmas.{named_found, named-with_need, shown_marked}
 use Rattle.cache_sets.proofs.CachedLemmas.{copy_of, copy_shown}
 use Rattle.cache_sets.proofs.KeyedLemmas.{found-changed_other, found-changed_same, length-sum_by, sum_by-changed}
-use Rattle.cache_sets.proofs.MarkLemmas.{mark_of, one_if, total-lettered, total-marked, write_of}
+use Rattle.cache_sets.proofs.MarkLemmas.{mark_of, one_if, total-lettered, write_of}
 use Rattle.cache_sets.proofs.RowLemmas.{some_set}
 use Rattle.cache_sets.proofs.ShownLemmas.{once_at, set_of_shown}
 use Rattle.cache_sets.proofs.StepLemmas.{Reaches, changed_in_shown, length-sets_with, residency_of-sets_with, same_copy, set_kept, stands_step, way_at-sets_with_other, way_at-sets_with_same}
@@ -120,7 +117,7 @@ lettered_after ways sets rows marks writes line number old new cached letter sta
           (stands_step ways sets rows rows marks writes marks writes line new (lettered (residency_of sets) line letter) stands residency
           (well_formed-lettered ways (residency_of sets) line letter valid well_formed)
           (changed_set (lettered_way letter) (with_letter letter) (copy_with_letter letter) changes ways sets rows marks writes line new stands items' spare')
-          refl stands.whole
+          refl
           (stands.marked ∙ sym (total-lettered mark_of ways (residency_of sets) line letter well_formed (λ way. refl)))
           (stands.written ∙ sym (total-lettered write_of ways (residency_of sets) line letter well_formed (λ way. refl)))),
       subst (λ s. IsLettered cached (shown_cache ways s rows) line letter) there
@@ -158,7 +155,7 @@ marked_after ways sets rows marks writes new_marks new_writes line number old ne
           (stands_step ways sets rows rows marks writes new_marks new_writes line new (marked (residency_of sets) line need) stands residency
           (well_formed-marked ways (residency_of sets) line need stands.well_formed)
           (changed_set (marked_way need) (with_bit need) (λ copy. copy) changes ways sets rows marks writes line new stands items' spare')
-          refl stands.whole counted written),
+          refl counted written),
       subst (λ s. IsMarked cached (shown_cache ways s rows) line need) there
           (subst (λ (v : Cached). IsMarked v (shown_cache ways (sets_with sets line new) rows) line need) is
           (record {

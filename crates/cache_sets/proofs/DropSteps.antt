@@ -1,15 +1,15 @@
 -- A step in which a line leaves.
-use Rattle.std.proofs.Common.{◌≡◌, ◌≢◌, ℕ, ◌+◌, ◌≤◌, Bool, true, false, cond, ltb, List, length, map, Option, None, Some, option_map, refl, ap, sym, subst, ◌∙◌, arith}
+use Rattle.std.proofs.Common.{◌≡◌, ℕ, cond, ltb, List, length, map, option_map, refl, ap, sym, subst, ◌∙◌, arith}
 use Rattle.std.specs.Prelude.{slice_set}
 use Rattle.std.specs.List.{sum_by}
 use Rattle.cache_sets.specs.declared.set.Set.{Set}
 use Rattle.cache_sets.specs.declared.way.Way as code
-use Rattle.cache_sets.specs.Keyed.{found, without}
+use Rattle.cache_sets.specs.Keyed.{found}
 use Rattle.cache_sets.specs.Residency.{dropped}
 use Rattle.cache_sets.specs.Cache.{with_set, without_line, write_bits_of}
-use Rattle.cache_sets.specs.Cached.{Cached, copy_in}
+use Rattle.cache_sets.specs.Cached.{Cached}
 use Rattle.cache_sets.specs.Calls.{IsWithout}
-use Rattle.cache_sets.specs.Kept.{IsDropped, IsSet, Stands, marks_of, number_of, residency_of, set_at, sets_with, shown_cache, shown_way, way_at}
+use Rattle.cache_sets.specs.Kept.{IsDropped, IsSet, Stands, marks_of, number_of, residency_of, set_at, sets_with, shown_cache, shown_way}
 use Rattle.cache_sets.proofs.CachedLemmas.{copy_of, copy_shown}
 use Rattle.cache_sets.proofs.KeyedLemmas.{found-without_other, found-without_same, sum_by-without}
 use Rattle.cache_sets.proofs.RowLemmas.{some_set}
@@ -39,7 +39,7 @@ module _ (ways : ℕ) (sets : List Set) (rows : List (List ℕ)) (marks writes n
   dropped_stands : Stands ways (sets_with sets line new) rows new_marks new_writes
   dropped_stands =
       stands_step ways sets rows rows marks writes new_marks new_writes line new (without_line (residency_of sets) line) stands dropped_residency
-      (well_formed-without_line ways (residency_of sets) line stands.well_formed) dropped_set refl stands.whole counted written
+      (well_formed-without_line ways (residency_of sets) line stands.well_formed) dropped_set refl counted written
 
   dropped_cache : IsWithout (shown_cache ways sets rows) (shown_cache ways (sets_with sets line new) rows) line
   dropped_cache = record {

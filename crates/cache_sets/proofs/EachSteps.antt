@@ -1,5 +1,5 @@
 -- A step that changes every way of a cache.
-use Rattle.std.proofs.Common.{◌≡◌, ◌≢◌, ℕ, ◌+◌, ◌*◌, ◌%◌, ◌≤◌, ◌<◌, Bool, true, false, not, cond, eqb, ltb, List, [], ◌∷◌, length, map, get_or, Option, None, Some, option_map, is_some, refl, ap, sym, subst, inl, inr, ◌⊎◌, ◌∙◌, arith}
+use Rattle.std.proofs.Common.{◌≡◌, ℕ, ◌+◌, ◌*◌, ◌%◌, ◌<◌, Bool, true, false, cond, eqb, ltb, List, [], ◌∷◌, length, map, Option, None, Some, option_map, refl, ap, sym, subst, ◌∙◌, arith}
 use Rattle.std.specs.List.{count_by, sum_by}
 use Rattle.std.specs.Vec.{with_items}
 use Rattle.std.specs.Prelude.{Vec}
@@ -11,13 +11,12 @@ use Rattle.moesi.specs.declared.letter.Letter.TheVariants.{M}
 use Rattle.el_base.specs.declared.outcomes.Need.TheVariants.{Write}
 use Rattle.cache_sets.specs.declared.set.Set.{Set}
 use Rattle.cache_sets.specs.declared.way.Way as code
-use Rattle.cache_sets.specs.Bits.{has_need}
 use Rattle.cache_sets.specs.Keyed.{found}
 use Rattle.cache_sets.specs.Residency.{Way, without_bits}
 use Rattle.cache_sets.specs.Cache.{bit_in, cleared, committed, committed_way as spec_committed, write_bit, write_bits_of}
 use Rattle.cache_sets.specs.Cached.{Cached, copy_in, copy_with_letter}
 use Rattle.cache_sets.specs.Calls.{IsCleared, IsCommitted}
-use Rattle.cache_sets.specs.Kept.{AreChanged, IsSet, Stands, bytes_of_way, changed_set, cleared_way, committed_way, marks_of, no_set, number_of, residency_of, set_at, shown_cache, shown_set, shown_way, uses_of, way_at}
+use Rattle.cache_sets.specs.Kept.{AreChanged, IsSet, Stands, bytes_of_way, changed_set, cleared_way, committed_way, marks_of, no_set, number_of, residency_of, set_at, shown_cache, shown_set, shown_way, way_at}
 use Rattle.cache_sets.specs.WellFormed.{IsWellFormed}
 use Rattle.cache_sets.proofs.CachedLemmas.{copy_of, copy_shown}
 use Rattle.cache_sets.proofs.KeyedLemmas.{found-map}
@@ -85,7 +84,6 @@ module _ (change : code.Way → code.Way) (shown_change : Way → Way) (clears :
         well_formed = subst (λ c. IsWellFormed ways c) (sym there) well_formed;
         each = λ line. subst (λ (s : Set). IsSet ways s) (sym (set_at-changed sets line some)) (set_changed ways (set_at sets line) (stands.each line));
         all_rows = omega (arith, stands.all_rows, ap (λ n. n * ways) (length-map sets (changed_set change)));
-        whole = stands.whole;
         marked = marked ∙ ap marks_of (sym there);
         written = written ∙ ap write_bits_of (sym there);
       }

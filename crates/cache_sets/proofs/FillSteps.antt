@@ -1,12 +1,11 @@
 -- A step in which a line comes, and another one leaves for it, if one does.
-use Rattle.std.proofs.Common.{◌≡◌, ◌≢◌, ℕ, zero, suc, ◌+◌, ◌*◌, ◌%◌, ◌≤◌, ◌<◌, Bool, true, false, not, cond, eqb, ltb, List, [], ◌∷◌, length, map, get_or, Option, None, Some, option_map, is_some, refl, ap, sym, subst, inl, inr, ◌⊎◌, ◌∙◌, zero-add, arith}
+use Rattle.std.proofs.Common.{◌≡◌, ◌≢◌, ℕ, zero, suc, ◌+◌, ◌*◌, ◌%◌, ◌≤◌, ◌<◌, true, false, cond, eqb, ltb, List, [], ◌∷◌, length, map, get_or, Option, None, Some, option_map, is_some, refl, ap, sym, subst, inl, inr, ◌⊎◌, ◌∙◌, zero-add, arith}
 use Rattle.std.specs.Prelude.{slice_set}
-use Rattle.std.specs.Option.{option_map_or}
-use Rattle.std.specs.List.{count_by, sum_by}
-use Rattle.std.proofs.lemmas.Bool.{cases_eq, cases_lt, eq-eqb}
+use Rattle.std.specs.List.{sum_by}
+use Rattle.std.proofs.lemmas.Bool.{cases_lt, eq-eqb}
 use Rattle.std.proofs.lemmas.Nat.{mul-add-lt}
 use Rattle.std.proofs.lemmas.Bool.Decides.{nat_tests}
-use Rattle.std.proofs.lemmas.Option.{none-some, same_Some}
+use Rattle.std.proofs.lemmas.Option.{none-some}
 use Rattle.std.proofs.lemmas.List.{get_or_read, get_or-set_other, get_or-set_same, length-map, length-set}
 use Rattle.std.proofs.lemmas.List.Sums.{sum_by-cons}
 use Rattle.el_base.specs.declared.line.LineAddr.{LineAddr}
@@ -15,19 +14,19 @@ use Rattle.moesi.specs.declared.letter.Letter.TheVariants.{I}
 use Rattle.cache_sets.specs.declared.evicted.Evicted.{Evicted}
 use Rattle.cache_sets.specs.declared.set.Set.{Set}
 use Rattle.cache_sets.specs.declared.way.Way as code
-use Rattle.cache_sets.specs.Keyed.{count_of, found, without}
+use Rattle.cache_sets.specs.Keyed.{count_of, found}
 use Rattle.cache_sets.specs.Residency.{Way, evicted_in, filled_in, has_unmarked, left_in, room_in, way_in}
-use Rattle.cache_sets.specs.Cache.{evicted_by, filled_with, is_resident, room_of, set_number, set_of, way_of, with_set, write_bits_of}
-use Rattle.cache_sets.specs.Cached.{Cached, Copy, copy_in}
+use Rattle.cache_sets.specs.Cache.{filled_with, is_resident, room_of, set_of, with_set}
+use Rattle.cache_sets.specs.Cached.{Cached, copy_in}
 use Rattle.cache_sets.specs.Calls.{IsFilledWith}
-use Rattle.cache_sets.specs.Kept.{IsFilled, IsSet, Stands, bytes_of_way, evicted_of, left_by, marks_of, new_way, no_set, number_of, residency_of, row_of, set_at, sets_with, shown_cache, shown_set, shown_way, way_at}
+use Rattle.cache_sets.specs.Kept.{IsFilled, IsSet, Stands, bytes_of_way, evicted_of, left_by, new_way, no_set, number_of, residency_of, row_of, set_at, sets_with, shown_cache, shown_set, shown_way, way_at}
 use Rattle.cache_sets.proofs.CachedLemmas.{copy_of, copy_shown}
-use Rattle.cache_sets.proofs.KeyedLemmas.{found-key, mapped, found-without_other, found-without_same, sum_by-without}
+use Rattle.cache_sets.proofs.KeyedLemmas.{mapped, found-without_other, found-without_same, sum_by-without}
 use Rattle.cache_sets.proofs.MarkLemmas.{marks_of-filled_with, write_bits_of-filled_with}
 use Rattle.cache_sets.proofs.RowLemmas.{row_below, rows_apart, some_set}
 use Rattle.cache_sets.proofs.ShownLemmas.{once_at, set_of_shown, way_in_shown, way_of_shown}
 use Rattle.cache_sets.proofs.StepLemmas.{Reaches, dropped_shown, length-sets_with, residency_of-sets_with, set_at-sets_with_same, set_kept, stands_step, way_at-sets_with_other, way_at-sets_with_same}
-use Rattle.cache_sets.proofs.WellFormedLemmas.{fresh, none_from, well_formed-filled_with}
+use Rattle.cache_sets.proofs.WellFormedLemmas.{fresh, well_formed-filled_with}
 
 -- what stays in a set as a way leaves
 left_by_shown : (ways : List code.Way) (gone : Option code.Way) → map shown_way (left_by ways gone) ≡ left_in (map shown_way ways) (option_map shown_way gone)
@@ -76,7 +75,7 @@ filled_row ways sets rows marks writes number index line letter slot gone old ne
 module _ (ways : ℕ) (sets : List Set) (rows : List (List ℕ)) (marks writes : ℕ) (line : LineAddr) (letter : Letter) (slot : ℕ) (gone : Option code.Way)
     (new : Set) (bytes : List ℕ) (stands : Stands ways sets rows marks writes)
     (room : room_of ways (residency_of sets) line.number ≡ true) (absent : is_resident (residency_of sets) line.number ≡ false) (valid : letter ≢ I)
-    (filled : IsFilled ways (set_at sets line.number) new (new_way line letter slot) gone) (whole : length bytes ≡ 64) where
+    (filled : IsFilled ways (set_at sets line.number) new (new_way line letter slot) gone) where
   filled_residency : residency_of (sets_with sets line.number new) ≡ filled_with ways (residency_of sets) line.number letter
   filled_residency =
       let old = set_at sets line.number in
@@ -100,22 +99,12 @@ module _ (ways : ℕ) (sets : List Set) (rows : List (List ℕ)) (marks writes :
   abbrev row : ℕ
   row = line.number % length sets * ways + slot
 
-  whole_after : (r : ℕ) → r < length (slice_set rows row bytes) → length (get_or (slice_set rows row bytes) r []) ≡ 64
-  whole_after r within =
-      let inside : r < length rows = omega (arith, within, length-set rows row bytes) in
-      elim (cases_eq r row) [
-        | inl same ↦
-            subst (λ n. length (get_or (slice_set rows row bytes) n []) ≡ 64) (sym same)
-            (ap length (get_or-set_same rows row bytes [] (omega (arith, inside, same))) ∙ whole)
-        | inr other ↦ ap length (get_or-set_other rows row r bytes [] other) ∙ stands.whole r inside
-      ]
-
   filled_stands : Stands ways (sets_with sets line.number new) (slice_set rows row bytes) marks writes
   filled_stands =
       stands_step ways sets rows (slice_set rows row bytes) marks writes marks writes line.number new (filled_with ways (residency_of sets) line.number letter) stands
       filled_residency
       (well_formed-filled_with ways (residency_of sets) line.number letter room absent valid stands.well_formed)
-      filled_set (length-set rows row bytes) whole_after
+      filled_set (length-set rows row bytes)
       (stands.marked ∙ sym (marks_of-filled_with ways (residency_of sets) line.number letter stands.well_formed))
       (stands.written ∙ sym (write_bits_of-filled_with ways (residency_of sets) line.number letter stands.well_formed))
 
@@ -249,11 +238,11 @@ pub filled_after : (ways : ℕ) (sets : List Set) (rows : List (List ℕ)) (mark
     (gone : Option code.Way) (old new : Set) (bytes read : List ℕ) (told_of : Option Evicted) (cached : Cached) →
     Stands ways sets rows marks writes → Reaches sets line.number number old → shown_cache ways sets rows ≡ cached →
     room_of cached.ways cached.residency line.number ≡ true → is_resident cached.residency line.number ≡ false → letter ≢ I →
-    IsFilled ways old new (new_way line letter slot) gone → length bytes ≡ 64 → index ≡ number * ways + slot →
+    IsFilled ways old new (new_way line letter slot) gone → index ≡ number * ways + slot →
     read ≡ get_or rows index read → told_of ≡ evicted_of gone read →
     Stands ways (slice_set sets number new) (slice_set rows index bytes) marks writes
     × IsFilledWith cached (shown_cache ways (slice_set sets number new) (slice_set rows index bytes)) line.number letter bytes told_of
-filled_after ways sets rows marks writes number index line letter slot gone old new bytes read told_of cached stands at is room absent valid filled whole place own says =
+filled_after ways sets rows marks writes number index line letter slot gone old new bytes read told_of cached stands at is room absent valid filled place own says =
     let room' : room_of ways (residency_of sets) line.number ≡ true = ap (λ (v : Cached). room_of v.ways v.residency line.number) is ∙ room in
     let absent' : is_resident (residency_of sets) line.number ≡ false = ap (λ (v : Cached). is_resident v.residency line.number) is ∙ absent in
     let filled' = subst (λ (s : Set). IsFilled ways s new (new_way line letter slot) gone) at.set_is filled in
@@ -262,10 +251,10 @@ filled_after ways sets rows marks writes number index line letter slot gone old 
     let there : sets_with sets line.number new ≡ slice_set sets number new = ap (λ n. slice_set sets n new) (sym at.number_is) in (
       subst (λ s. Stands ways s (slice_set rows index bytes) marks writes) there
           (subst (λ n. Stands ways (sets_with sets line.number new) (slice_set rows n bytes) marks writes) index'
-          (filled_stands ways sets rows marks writes line letter slot gone new bytes stands room' absent' valid filled' whole)),
+          (filled_stands ways sets rows marks writes line letter slot gone new bytes stands room' absent' valid filled')),
       subst (λ t. IsFilledWith cached (shown_cache ways (slice_set sets number new) (slice_set rows index bytes)) line.number letter bytes t) (sym says)
           (subst (λ s. IsFilledWith cached (shown_cache ways s (slice_set rows index bytes)) line.number letter bytes (evicted_of gone read)) there
           (subst (λ n. IsFilledWith cached (shown_cache ways (sets_with sets line.number new) (slice_set rows n bytes)) line.number letter bytes (evicted_of gone read)) index'
           (subst (λ (v : Cached). IsFilledWith v (shown_cache ways (sets_with sets line.number new) (slice_set rows (line.number % length sets * ways + slot) bytes)) line.number letter bytes (evicted_of gone read)) is
-          (filled_cache ways sets rows marks writes line letter slot gone new bytes stands room' absent' valid filled' whole read own')))),
+          (filled_cache ways sets rows marks writes line letter slot gone new bytes stands room' absent' valid filled' read own')))),
     )

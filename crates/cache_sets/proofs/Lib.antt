@@ -15,3 +15,6 @@ pub mod CountSteps
 pub mod DropSteps
 pub mod FillSteps
 pub mod EachSteps
+pub mod ListSteps
+pub mod LendSteps
+pub mod EmptySteps

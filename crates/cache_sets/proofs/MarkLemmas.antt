@@ -1,18 +1,17 @@
 -- How many lines have bits, and how many were written, after each word of a cache.
-use Rattle.std.proofs.Common.{◌≡◌, ◌≢◌, ℕ, zero, suc, ◌+◌, ◌*◌, ◌%◌, ◌≤◌, ◌<◌, Bool, true, false, not, ◌||◌, cond, eqb, ltb, List, [], ◌∷◌, length, map, replicate, get_or, Option, None, Some, option_map, is_some, refl, ap, sym, subst, inl, inr, ◌⊎◌, ◌∙◌, arith, add-zero}
+use Rattle.std.proofs.Common.{◌≡◌, ℕ, suc, ◌+◌, ◌*◌, ◌%◌, ◌≤◌, ◌<◌, Bool, true, false, not, ◌||◌, cond, eqb, List, [], ◌∷◌, length, map, get_or, Option, None, Some, is_some, refl, ap, sym, ◌∙◌, arith}
 use Rattle.std.specs.Option.{option_map_or}
-use Rattle.std.specs.List.{count_by, sum_by, list_any}
+use Rattle.std.specs.List.{sum_by, list_any}
 use Rattle.cache_sets.specs.Keyed.{count_of}
 use Rattle.std.proofs.lemmas.Bool.{or_parts}
 use Rattle.std.proofs.lemmas.Bool.Decides.{nat_tests}
-use Rattle.std.proofs.lemmas.List.Folds.{fold-map, sum_by-replicate}
 use Rattle.std.proofs.lemmas.List.Sums.{get_or-le-sum_by, sum_by-cons, sum_by-le, sum_by-set}
 use Rattle.std.proofs.lemmas.List.{get_or_default}
 use Rattle.el_base.specs.declared.outcomes.Need.{Need}
 use Rattle.el_base.specs.declared.outcomes.Need.TheVariants.{Read, Write}
 use Rattle.moesi.specs.declared.letter.Letter.{Letter}
-use Rattle.cache_sets.specs.Residency.{Way, changed_in, dropped, evicted_in, filled_in, is_marked, left_in, room_in, touched_in, way_in, with_bit, with_letter, without_bits}
-use Rattle.cache_sets.specs.Cache.{bit_in, cleared, committed, committed_way, empty_cache, evicted_by, filled_with, has_bit, has_marks, is_resident, lettered, marked, read_bit, set_number, set_of, touched, way_of, with_set, without_line, write_bit, write_bits_of}
+use Rattle.cache_sets.specs.Residency.{Way, changed_in, dropped, filled_in, is_marked, touched_in, way_in, with_bit, with_letter, without_bits}
+use Rattle.cache_sets.specs.Cache.{bit_in, cleared, committed, committed_way, evicted_by, filled_with, has_bit, has_marks, is_resident, lettered, marked, set_number, set_of, touched, way_of, with_set, without_line, write_bit, write_bits_of}
 use Rattle.cache_sets.specs.WellFormed.{IsWellFormed}
 use Rattle.cache_sets.specs.Kept.{marks_of}
 use Rattle.cache_sets.proofs.ResidencyLemmas.{counted, evicted_in-victim, line_of, once_less, same_or, sum_by-changed_in, sum_by-dropped, sum_by-filled_in, sum_by-map, sum_by-touched_in, victim_in-unmarked}

@@ -1,6 +1,6 @@
 -- How a set makes room for a line.
-use Rattle.std.proofs.Common.{◌≡◌, ℕ, zero, suc, ◌+◌, ◌≤◌, ◌<◌, Bool, true, false, cond, eqb, ltb, List, [], ◌∷◌, ◌++◌, length, map, get_or, Option, None, Some, is_some, refl, ap, sym, subst, inl, inr, ◌⊎◌, ◌∙◌, arith}
-use Rattle.std.specs.List.{count_by, position, remove, sum_by}
+use Rattle.std.proofs.Common.{◌≡◌, ℕ, ◌+◌, ◌≤◌, ◌<◌, true, cond, eqb, List, [], ◌∷◌, ◌++◌, length, map, get_or, None, Some, is_some, refl, ap, sym, subst, inl, inr, ◌⊎◌, ◌∙◌, arith}
+use Rattle.std.specs.List.{position, remove, sum_by}
 use Rattle.std.proofs.lemmas.Bool.Decides.{nat_tests}
 use Rattle.std.proofs.lemmas.List.{length-map, length_push}
 use Rattle.std.proofs.lemmas.Option.{same_Some}
@@ -9,9 +9,9 @@ use Rattle.std.proofs.lemmas.List.Sums.{sum_by-remove, sum_by_push}
 use Rattle.arrayvec.specs.ArrayVec.{ArrayVec}
 use Rattle.cache_sets.specs.declared.set.Set.{Set}
 use Rattle.cache_sets.specs.declared.way.Way as code
-use Rattle.cache_sets.specs.Keyed.{count_of, found, without}
-use Rattle.cache_sets.specs.Kept.{IsDropped, IsSet, MakesRoom, number_of, shown_set, shown_way, uses_of}
-use Rattle.cache_sets.specs.Residency.{evicted_in, has_unmarked, victim_in}
+use Rattle.cache_sets.specs.Keyed.{count_of, found}
+use Rattle.cache_sets.specs.Kept.{IsDropped, IsSet, MakesRoom, number_of, shown_set, shown_way}
+use Rattle.cache_sets.specs.Residency.{has_unmarked, victim_in}
 use Rattle.cache_sets.proofs.KeyedLemmas.{found_at, position-key, remove-without, without-absent}
 use Rattle.cache_sets.proofs.ResidencyLemmas.{victim_in-some}
 

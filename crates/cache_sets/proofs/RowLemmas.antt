@@ -1,15 +1,12 @@
 -- Where the bytes of a line are among the rows.
-use Rattle.std.proofs.Common.{◌≡◌, ◌≢◌, ℕ, zero, suc, ◌+◌, ◌*◌, ◌%◌, ◌≤◌, ◌<◌, Bool, true, false, cond, eqb, ltb, List, [], ◌∷◌, length, map, get_or, Option, None, Some, option_map, is_some, refl, ap, sym, subst, inl, inr, ◌⊎◌, ◌∙◌, arith}
-use Rattle.std.specs.Option.{option_map_or}
-use Rattle.std.specs.List.{count_by}
-use Rattle.std.proofs.lemmas.Bool.{cases_eq}
+use Rattle.std.proofs.Common.{◌≡◌, ◌≢◌, ℕ, ◌%◌, ◌≤◌, ◌<◌, cond, eqb, List, length, get_or, Some, ap, sym, ◌∙◌, arith}
 use Rattle.std.proofs.lemmas.Bool.Decides.{nat_tests}
 use Rattle.std.proofs.lemmas.List.{length-map}
 use Rattle.std.proofs.lemmas.Nat.{mul-add-lt, same_from_place}
 use Rattle.cache_sets.specs.declared.set.Set.{Set}
 use Rattle.cache_sets.specs.declared.way.Way as code
 use Rattle.cache_sets.specs.Keyed.{count_of, found}
-use Rattle.cache_sets.specs.Kept.{IsSet, Stands, no_set, number_of, residency_of, row_of, set_at, shown_set, uses_of, way_at}
+use Rattle.cache_sets.specs.Kept.{IsSet, Stands, no_set, number_of, row_of, set_at, shown_set, way_at}
 use Rattle.cache_sets.proofs.KeyedLemmas.{found-key, found-le-sum_by, two_found}
 use Rattle.cache_sets.proofs.ShownLemmas.{once_at}
 

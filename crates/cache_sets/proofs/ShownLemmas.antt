@@ -1,5 +1,5 @@
 -- What a cache's fields show of a line.
-use Rattle.std.proofs.Common.{◌≡◌, ℕ, zero, suc, ◌+◌, ◌%◌, ◌≤◌, ◌<◌, Bool, true, false, cond, eqb, ltb, List, [], ◌∷◌, length, map, get_or, Option, None, Some, option_map, is_some, refl, ap, sym, subst, inl, inr, ◌⊎◌, ◌∙◌, arith}
+use Rattle.std.proofs.Common.{◌≡◌, ℕ, ◌+◌, ◌%◌, ◌≤◌, cond, eqb, List, [], ◌∷◌, length, map, Option, None, Some, option_map, is_some, refl, ap, sym, ◌∙◌, arith}
 use Rattle.std.specs.Option.{option_map_or}
 use Rattle.std.specs.List.{position, sum_by}
 use Rattle.std.proofs.lemmas.Bool.Decides.{nat_tests}
@@ -9,7 +9,7 @@ use Rattle.cache_sets.specs.declared.set.Set.{Set}
 use Rattle.cache_sets.specs.declared.way.Way as code
 use Rattle.cache_sets.specs.Keyed.{count_of, found}
 use Rattle.cache_sets.specs.Residency.{Way, way_in}
-use Rattle.cache_sets.specs.Cache.{set_number, set_of, way_of}
+use Rattle.cache_sets.specs.Cache.{set_of, way_of}
 use Rattle.cache_sets.specs.Cached.{Cached, bytes_in, bytes_of}
 use Rattle.cache_sets.specs.Kept.{bytes_of_way, no_set, number_of, residency_of, set_at, shown_cache, shown_set, shown_way, way_at}
 use Rattle.cache_sets.specs.WellFormed.{IsWellFormed}

@@ -1,21 +1,20 @@
 -- A step of one set: what the sets show after it, and that they keep what they keep.
-use Rattle.std.proofs.Common.{◌≡◌, ◌≢◌, ℕ, zero, suc, ◌+◌, ◌*◌, ◌%◌, ◌≤◌, ◌<◌, Bool, true, false, not, cond, eqb, ltb, List, [], ◌∷◌, length, map, get_or, Option, None, Some, option_map, is_some, refl, ap, sym, subst, inl, inr, ◌⊎◌, ◌∙◌, arith}
+use Rattle.std.proofs.Common.{◌≡◌, ◌≢◌, ℕ, ◌+◌, ◌*◌, ◌%◌, ◌≤◌, ◌<◌, cond, eqb, ltb, List, ◌∷◌, length, map, get_or, Option, None, Some, option_map, refl, ap, sym, subst, inl, inr, ◌∙◌, arith}
 use Rattle.std.specs.Option.{option_map_or}
 use Rattle.std.specs.List.{sum_by, count_by}
 use Rattle.std.specs.Prelude.{slice_set}
 use Rattle.std.proofs.lemmas.Bool.{cases_eq}
-use Rattle.std.proofs.lemmas.Bool.Decides.{nat_tests}
 use Rattle.std.proofs.lemmas.List.{get_or_read, get_or-set_other, get_or-set_same, length-map, length-set, map-set}
 use Rattle.cache_sets.specs.declared.set.Set.{Set}
 use Rattle.cache_sets.specs.declared.way.Way as code
 use Rattle.cache_sets.specs.Keyed.{changed, count_of, found, fronted, without}
 use Rattle.cache_sets.specs.Residency.{Way, changed_in, dropped, to_front, touched_in}
-use Rattle.cache_sets.specs.Cache.{set_number, set_of, touched, with_set, write_bits_of}
-use Rattle.cache_sets.specs.Cached.{Cached, Copy, copy_in, copy_with_letter}
-use Rattle.cache_sets.specs.Calls.{IsLettered, IsMarked, IsTouched, IsWithout}
-use Rattle.cache_sets.specs.Kept.{IsSet, Stands, bytes_of_way, marks_of, no_set, number_of, residency_of, row_of, set_at, sets_with, shown_cache, shown_set, shown_way, uses_of, way_at}
+use Rattle.cache_sets.specs.Cache.{touched, with_set, write_bits_of}
+use Rattle.cache_sets.specs.Cached.{Cached, copy_in}
+use Rattle.cache_sets.specs.Calls.{IsTouched}
+use Rattle.cache_sets.specs.Kept.{IsSet, Stands, marks_of, no_set, number_of, residency_of, set_at, sets_with, shown_cache, shown_set, shown_way, uses_of, way_at}
 use Rattle.cache_sets.specs.WellFormed.{IsWellFormed}
-use Rattle.cache_sets.proofs.KeyedLemmas.{changed-map, found-fronted, found-key, found-map, length-sum_by, sum_by-fronted, without-map}
+use Rattle.cache_sets.proofs.KeyedLemmas.{changed-map, found-fronted, length-sum_by, sum_by-fronted, without-map}
 use Rattle.cache_sets.proofs.ResidencyLemmas.{changed_in-changed, dropped-without, line_of}
 use Rattle.cache_sets.proofs.MarkLemmas.{mark_of, total-touched, write_of}
 use Rattle.cache_sets.proofs.WellFormedLemmas.{well_formed-touched}
@@ -70,16 +69,15 @@ residency_of-sets_with sets line set =
 -- the sets and rows keep what they keep
 pub stands_step : (ways : ℕ) (sets : List Set) (rows new_rows : List (List ℕ)) (marks writes new_marks new_writes line : ℕ) (set : Set) (cache : List (List Way)) →
     Stands ways sets rows marks writes → residency_of (sets_with sets line set) ≡ cache → IsWellFormed ways cache → IsSet ways set →
-    length new_rows ≡ length rows → ((row : ℕ) → row < length new_rows → length (get_or new_rows row []) ≡ 64) →
+    length new_rows ≡ length rows →
     new_marks ≡ marks_of cache → new_writes ≡ write_bits_of cache → Stands ways (sets_with sets line set) new_rows new_marks new_writes
-stands_step ways sets rows new_rows marks writes new_marks new_writes line set cache stands is well_formed kept same whole marked written = record {
+stands_step ways sets rows new_rows marks writes new_marks new_writes line set cache stands is well_formed kept same marked written = record {
   some_way = stands.some_way;
   ways_fit = stands.ways_fit;
   sets_fit = omega (arith, stands.sets_fit, length-sets_with sets line set);
   well_formed = subst (λ c. IsWellFormed ways c) (sym is) well_formed;
   each = each_set_at (IsSet ways) sets line set (some_set ways sets rows marks writes stands) kept stands.each;
   all_rows = omega (arith, stands.all_rows, same, ap (λ n. n * ways) (length-sets_with sets line set));
-  whole = whole;
   marked = marked ∙ ap marks_of (sym is);
   written = written ∙ ap write_bits_of (sym is);
 }
@@ -166,7 +164,7 @@ module _ (ways : ℕ) (sets : List Set) (rows : List (List ℕ)) (marks writes l
       (well_formed-touched ways (residency_of sets) line stands.well_formed)
       (set_same ways (set_at sets line) new (stands.each line) spare
       (λ f. ap (sum_by f) front ∙ sum_by-fronted number_of f (set_at sets line).ways.items line (once_at ways sets line line stands.well_formed)))
-      refl stands.whole
+      refl
       (stands.marked ∙ sym (total-touched mark_of ways (residency_of sets) line stands.well_formed))
       (stands.written ∙ sym (total-touched write_of ways (residency_of sets) line stands.well_formed))
 

@@ -1,18 +1,18 @@
 -- What holds of every cache is kept by each word of a cache.
-use Rattle.std.proofs.Common.{◌≡◌, ◌≢◌, ℕ, zero, suc, ◌+◌, ◌%◌, ◌≤◌, ◌<◌, Bool, true, false, not, ◌||◌, cond, eqb, ltb, List, [], ◌∷◌, length, map, replicate, Option, None, Some, option_map, is_some, refl, ap, sym, subst, inl, inr, ◌⊎◌, ◌∙◌, arith, add-zero}
+use Rattle.std.proofs.Common.{◌≡◌, ◌≢◌, ℕ, zero, suc, ◌+◌, ◌%◌, ◌≤◌, ◌<◌, Bool, true, false, cond, eqb, List, [], length, map, Option, None, Some, is_some, refl, ap, sym, subst, inl, inr, ◌⊎◌, ◌∙◌, arith}
 use Rattle.std.specs.Option.{option_map_or}
-use Rattle.std.specs.List.{count_by, sum_by}
+use Rattle.std.specs.List.{sum_by}
 use Rattle.std.proofs.lemmas.Bool.{cases_eq, cases_lt}
 use Rattle.std.proofs.lemmas.Option.{none-some, same_Some}
 use Rattle.std.proofs.lemmas.Bool.Decides.{nat_tests}
-use Rattle.std.proofs.lemmas.List.{length-map, get_or-map, get_or-replicate, length-replicate, get_or_past}
+use Rattle.std.proofs.lemmas.List.{length-map, get_or-map, get_or-replicate, length-replicate}
 use Rattle.moesi.specs.declared.letter.Letter.{Letter}
 use Rattle.moesi.specs.declared.letter.Letter.TheVariants.{I, M}
 use Rattle.el_base.specs.declared.outcomes.Need.{Need}
 use Rattle.cache_sets.specs.Residency.{Way, changed_in, dropped, evicted_in, filled_in, left_in, room_in, touched_in, way_in, with_bit, with_letter, without_bits}
-use Rattle.cache_sets.specs.Cache.{cleared, committed, committed_way, empty_cache, evicted_by, filled_with, is_resident, lettered, marked, room_of, set_number, set_of, touched, way_of, with_set, without_line}
+use Rattle.cache_sets.specs.Cache.{cleared, committed, committed_way, empty_cache, filled_with, is_resident, lettered, marked, room_of, set_number, set_of, touched, with_set, without_line}
 use Rattle.cache_sets.specs.WellFormed.{IsWellFormed}
-use Rattle.cache_sets.proofs.ResidencyLemmas.{counted, evicted_in-some, evicted_in-victim, uncounted, line_of, same_or, sum_by-changed_in, sum_by-dropped, sum_by-map, sum_by-filled_in, sum_by-touched_in, way_in-changed_in_other, way_in-changed_in_same, way_in-dropped_other, way_in-dropped_same, way_in-filled_in_other, way_in-filled_in_same, way_in-line, way_in-map, way_in-touched_in}
+use Rattle.cache_sets.proofs.ResidencyLemmas.{evicted_in-some, uncounted, line_of, same_or, sum_by-changed_in, sum_by-dropped, sum_by-map, sum_by-filled_in, sum_by-touched_in, way_in-changed_in_other, way_in-changed_in_same, way_in-dropped_other, way_in-dropped_same, way_in-filled_in_same, way_in-map, way_in-touched_in}
 use Rattle.el_base.specs.declared.outcomes.Need.TheVariants.{Read, Write}
 use Rattle.cache_sets.proofs.CacheLemmas.{line-with_bit, length-with_set, set_of-with_set_other, set_of-with_set_same}
 use Rattle.cache_sets.specs.Keyed.{count_of}

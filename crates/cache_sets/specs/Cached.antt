@@ -1,5 +1,5 @@
 -- one hart's cache with the bytes of its lines
-use Rattle.std.specs.Prelude.{ℕ, ◌==◌, if◌then◌else◌, List, [], ◌∷◌, Option, None, Some, option_map, replicate, slice_index_or, slice_set}
+use Rattle.std.specs.Prelude.{ℕ, ◌==◌, if◌then◌else◌, List, [], ◌∷◌, Option, option_map, replicate, slice_index_or, slice_set}
 use Rattle.moesi.specs.declared.letter.Letter.{Letter}
 use Rattle.cache_sets.specs.Residency.{Way}
 use Rattle.cache_sets.specs.Cache.{empty_cache, set_number, set_of, way_of}
@@ -19,11 +19,11 @@ bytes_in [] rows line = []
 bytes_in (way ∷ ways) [] line = []
 bytes_in (way ∷ ways) (bytes ∷ rows) line = if way.line == line then bytes else bytes_in ways rows line
 
--- the same after the line got other bytes
+-- these bytes after the line got other ones
 abbrev pub put_in : List Way → List (List ℕ) → ℕ → List ℕ → List (List ℕ)
 put_in [] rows line new = rows
 put_in (way ∷ ways) [] line new = []
-put_in (way ∷ ways) (bytes ∷ rows) line new = if way.line == line then new ∷ rows else bytes ∷ put_in ways rows line new
+put_in (way ∷ ways) (bytes ∷ rows) line new = (if way.line == line then new else bytes) ∷ put_in ways rows line new
 
 -- the bytes of a line, and no bytes of a line that is not there
 abbrev pub bytes_of : Cached → ℕ → List ℕ

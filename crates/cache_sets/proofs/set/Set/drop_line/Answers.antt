@@ -1,6 +1,6 @@
 use Rattle.std.proofs.Common.{sym, ◌∙◌}
 use Rattle.cache_sets.specs.Kept.{number_of}
-use Rattle.cache_sets.proofs.KeyedLemmas.{position-found, position-key}
+use Rattle.cache_sets.proofs.KeyedLemmas.{position-found}
 use Rattle.cache_sets.proofs.Places.{dropped_at, none_dropped}
 use Rattle.cache_sets.proofs.set.Set.drop_line.Goals as goal
 

@@ -1,4 +1,4 @@
-use Rattle.std.proofs.Common.{◌≡◌, get_or, ap, sym, ◌∙◌}
+use Rattle.std.proofs.Common.{get_or, ap, sym, ◌∙◌}
 use Rattle.cache_sets.specs.Kept.{number_of}
 use Rattle.cache_sets.proofs.KeyedLemmas.{found_read, position-found}
 use Rattle.cache_sets.proofs.set.Set.find.Goals as goal

@@ -1,4 +1,4 @@
-use Rattle.std.proofs.Common.{◌≤◌, sym, ◌∙◌, arith}
+use Rattle.std.proofs.Common.{arith}
 use Rattle.cache_sets.proofs.Places.{made_room, no_victim}
 use Rattle.cache_sets.proofs.set.Set.make_room.Goals as goal
 

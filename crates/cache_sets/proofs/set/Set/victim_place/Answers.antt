@@ -1,4 +1,4 @@
-use Rattle.std.proofs.Common.{◌≡◌, ◌-◌, true, false, sym, ◌∙◌, arith}
+use Rattle.std.proofs.Common.{◌-◌, sym, ◌∙◌, arith}
 use Rattle.cache_sets.proofs.VictimPlaces.{no_victim_from, victim_here}
 use Rattle.cache_sets.proofs.set.Set.victim_place.Goals as goal
 

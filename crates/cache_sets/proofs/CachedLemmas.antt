@@ -4,7 +4,6 @@ use Rattle.std.specs.Option.{option_map_or}
 use Rattle.std.proofs.lemmas.Bool.Decides.{nat_tests}
 use Rattle.std.proofs.lemmas.List.{get_or_read, length-map}
 use Rattle.std.proofs.lemmas.Bool.{true≢false}
-use Rattle.std.proofs.lemmas.Option.{none-some, same_Some}
 use Rattle.cache_sets.specs.declared.set.Set.{Set}
 use Rattle.cache_sets.specs.declared.way.Way as code
 use Rattle.cache_sets.specs.Cache.{has_marks, is_resident}
@@ -42,19 +41,6 @@ some_marks ways sets rows marks writes cached stands is =
     let here : ltb 0 marks ≡ has_marks (residency_of sets) = grind (arith, nat_tests, stands.marked, counted) in
     here ∙ ap (λ v. has_marks v.residency) is
 
--- each copy has the bytes of a line
-whole_copy : (ways : ℕ) (sets : List Set) (rows : List (List ℕ)) (marks writes line : ℕ) (copy : Copy) → Stands ways sets rows marks writes →
-    copy_in (shown_cache ways sets rows) line ≡ Some copy → length copy.bytes ≡ 64
-whole_copy ways sets rows marks writes line copy stands is = by_way (way_at sets line) refl
-  where
-    by_way : (way : Option code.Way) → way_at sets line ≡ way → length copy.bytes ≡ 64
-    by_way None absent =
-        absurd (none-some copy (sym (copy_shown ways sets rows line ∙ ap (option_map (copy_of (length sets) ways rows)) absent) ∙ is))
-    by_way (Some way) there =
-        let same : record { letter = way.letter; bytes = bytes_of_way (length sets) ways rows way } ≡ copy =
-        same_Some _ copy (sym (copy_shown ways sets rows line ∙ ap (option_map (copy_of (length sets) ways rows)) there) ∙ is) in
-        ap (λ c. length c.bytes) (sym same) ∙ stands.whole (row_of (length sets) ways way) (row_below ways sets rows marks writes line way stands there)
-
 pub cached_kept : (ways : ℕ) (sets : List Set) (rows : List (List ℕ)) (marks writes : ℕ) (cached : Cached) →
     Stands ways sets rows marks writes → shown_cache ways sets rows ≡ cached → IsCached cached
 cached_kept ways sets rows marks writes cached stands is =
@@ -63,7 +49,6 @@ cached_kept ways sets rows marks writes cached stands is =
       some_way = stands.some_way;
       ways_fit = stands.ways_fit;
       sets_fit = omega (arith, stands.sets_fit, length-map sets shown_set);
-      whole = λ line copy. whole_copy ways sets rows marks writes line copy stands;
     })
 
 -- a line that is there has a way

@@ -117,7 +117,7 @@ lettered_after ways sets rows marks writes line number old new cached letter sta
           (stands_step ways sets rows rows marks writes marks writes line new (lettered (residency_of sets) line letter) stands residency
           (well_formed-lettered ways (residency_of sets) line letter valid well_formed)
           (changed_set (lettered_way letter) (with_letter letter) (copy_with_letter letter) changes ways sets rows marks writes line new stands items' spare')
-          refl stands.whole
+          refl
           (stands.marked ∙ sym (total-lettered mark_of ways (residency_of sets) line letter well_formed (λ way. refl)))
           (stands.written ∙ sym (total-lettered write_of ways (residency_of sets) line letter well_formed (λ way. refl)))),
       subst (λ s. IsLettered cached (shown_cache ways s rows) line letter) there
@@ -155,7 +155,7 @@ marked_after ways sets rows marks writes new_marks new_writes line number old ne
           (stands_step ways sets rows rows marks writes new_marks new_writes line new (marked (residency_of sets) line need) stands residency
           (well_formed-marked ways (residency_of sets) line need stands.well_formed)
           (changed_set (marked_way need) (with_bit need) (λ copy. copy) changes ways sets rows marks writes line new stands items' spare')
-          refl stands.whole counted written),
+          refl counted written),
       subst (λ s. IsMarked cached (shown_cache ways s rows) line need) there
           (subst (λ (v : Cached). IsMarked v (shown_cache ways (sets_with sets line new) rows) line need) is
           (record {

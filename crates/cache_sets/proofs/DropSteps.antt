@@ -39,7 +39,7 @@ module _ (ways : ℕ) (sets : List Set) (rows : List (List ℕ)) (marks writes n
   dropped_stands : Stands ways (sets_with sets line new) rows new_marks new_writes
   dropped_stands =
       stands_step ways sets rows rows marks writes new_marks new_writes line new (without_line (residency_of sets) line) stands dropped_residency
-      (well_formed-without_line ways (residency_of sets) line stands.well_formed) dropped_set refl stands.whole counted written
+      (well_formed-without_line ways (residency_of sets) line stands.well_formed) dropped_set refl counted written
 
   dropped_cache : IsWithout (shown_cache ways sets rows) (shown_cache ways (sets_with sets line new) rows) line
   dropped_cache = record {

@@ -84,7 +84,6 @@ module _ (change : code.Way → code.Way) (shown_change : Way → Way) (clears :
         well_formed = subst (λ c. IsWellFormed ways c) (sym there) well_formed;
         each = λ line. subst (λ (s : Set). IsSet ways s) (sym (set_at-changed sets line some)) (set_changed ways (set_at sets line) (stands.each line));
         all_rows = omega (arith, stands.all_rows, ap (λ n. n * ways) (length-map sets (changed_set change)));
-        whole = stands.whole;
         marked = marked ∙ ap marks_of (sym there);
         written = written ∙ ap write_bits_of (sym there);
       }

@@ -2,7 +2,7 @@
 use Rattle.std.proofs.Common.{◌≡◌, ◌≢◌, ℕ, zero, suc, ◌+◌, ◌*◌, ◌%◌, ◌≤◌, ◌<◌, true, false, cond, eqb, ltb, List, [], ◌∷◌, length, map, get_or, Option, None, Some, option_map, is_some, refl, ap, sym, subst, inl, inr, ◌⊎◌, ◌∙◌, zero-add, arith}
 use Rattle.std.specs.Prelude.{slice_set}
 use Rattle.std.specs.List.{sum_by}
-use Rattle.std.proofs.lemmas.Bool.{cases_eq, cases_lt, eq-eqb}
+use Rattle.std.proofs.lemmas.Bool.{cases_lt, eq-eqb}
 use Rattle.std.proofs.lemmas.Nat.{mul-add-lt}
 use Rattle.std.proofs.lemmas.Bool.Decides.{nat_tests}
 use Rattle.std.proofs.lemmas.Option.{none-some}
@@ -75,7 +75,7 @@ filled_row ways sets rows marks writes number index line letter slot gone old ne
 module _ (ways : ℕ) (sets : List Set) (rows : List (List ℕ)) (marks writes : ℕ) (line : LineAddr) (letter : Letter) (slot : ℕ) (gone : Option code.Way)
     (new : Set) (bytes : List ℕ) (stands : Stands ways sets rows marks writes)
     (room : room_of ways (residency_of sets) line.number ≡ true) (absent : is_resident (residency_of sets) line.number ≡ false) (valid : letter ≢ I)
-    (filled : IsFilled ways (set_at sets line.number) new (new_way line letter slot) gone) (whole : length bytes ≡ 64) where
+    (filled : IsFilled ways (set_at sets line.number) new (new_way line letter slot) gone) where
   filled_residency : residency_of (sets_with sets line.number new) ≡ filled_with ways (residency_of sets) line.number letter
   filled_residency =
       let old = set_at sets line.number in
@@ -99,22 +99,12 @@ module _ (ways : ℕ) (sets : List Set) (rows : List (List ℕ)) (marks writes :
   abbrev row : ℕ
   row = line.number % length sets * ways + slot
 
-  whole_after : (r : ℕ) → r < length (slice_set rows row bytes) → length (get_or (slice_set rows row bytes) r []) ≡ 64
-  whole_after r within =
-      let inside : r < length rows = omega (arith, within, length-set rows row bytes) in
-      elim (cases_eq r row) [
-        | inl same ↦
-            subst (λ n. length (get_or (slice_set rows row bytes) n []) ≡ 64) (sym same)
-            (ap length (get_or-set_same rows row bytes [] (omega (arith, inside, same))) ∙ whole)
-        | inr other ↦ ap length (get_or-set_other rows row r bytes [] other) ∙ stands.whole r inside
-      ]
-
   filled_stands : Stands ways (sets_with sets line.number new) (slice_set rows row bytes) marks writes
   filled_stands =
       stands_step ways sets rows (slice_set rows row bytes) marks writes marks writes line.number new (filled_with ways (residency_of sets) line.number letter) stands
       filled_residency
       (well_formed-filled_with ways (residency_of sets) line.number letter room absent valid stands.well_formed)
-      filled_set (length-set rows row bytes) whole_after
+      filled_set (length-set rows row bytes)
       (stands.marked ∙ sym (marks_of-filled_with ways (residency_of sets) line.number letter stands.well_formed))
       (stands.written ∙ sym (write_bits_of-filled_with ways (residency_of sets) line.number letter stands.well_formed))
 
@@ -248,11 +238,11 @@ pub filled_after : (ways : ℕ) (sets : List Set) (rows : List (List ℕ)) (mark
     (gone : Option code.Way) (old new : Set) (bytes read : List ℕ) (told_of : Option Evicted) (cached : Cached) →
     Stands ways sets rows marks writes → Reaches sets line.number number old → shown_cache ways sets rows ≡ cached →
     room_of cached.ways cached.residency line.number ≡ true → is_resident cached.residency line.number ≡ false → letter ≢ I →
-    IsFilled ways old new (new_way line letter slot) gone → length bytes ≡ 64 → index ≡ number * ways + slot →
+    IsFilled ways old new (new_way line letter slot) gone → index ≡ number * ways + slot →
     read ≡ get_or rows index read → told_of ≡ evicted_of gone read →
     Stands ways (slice_set sets number new) (slice_set rows index bytes) marks writes
     × IsFilledWith cached (shown_cache ways (slice_set sets number new) (slice_set rows index bytes)) line.number letter bytes told_of
-filled_after ways sets rows marks writes number index line letter slot gone old new bytes read told_of cached stands at is room absent valid filled whole place own says =
+filled_after ways sets rows marks writes number index line letter slot gone old new bytes read told_of cached stands at is room absent valid filled place own says =
     let room' : room_of ways (residency_of sets) line.number ≡ true = ap (λ (v : Cached). room_of v.ways v.residency line.number) is ∙ room in
     let absent' : is_resident (residency_of sets) line.number ≡ false = ap (λ (v : Cached). is_resident v.residency line.number) is ∙ absent in
     let filled' = subst (λ (s : Set). IsFilled ways s new (new_way line letter slot) gone) at.set_is filled in
@@ -261,10 +251,10 @@ filled_after ways sets rows marks writes number index line letter slot gone old 
     let there : sets_with sets line.number new ≡ slice_set sets number new = ap (λ n. slice_set sets n new) (sym at.number_is) in (
       subst (λ s. Stands ways s (slice_set rows index bytes) marks writes) there
           (subst (λ n. Stands ways (sets_with sets line.number new) (slice_set rows n bytes) marks writes) index'
-          (filled_stands ways sets rows marks writes line letter slot gone new bytes stands room' absent' valid filled' whole)),
+          (filled_stands ways sets rows marks writes line letter slot gone new bytes stands room' absent' valid filled')),
       subst (λ t. IsFilledWith cached (shown_cache ways (slice_set sets number new) (slice_set rows index bytes)) line.number letter bytes t) (sym says)
           (subst (λ s. IsFilledWith cached (shown_cache ways s (slice_set rows index bytes)) line.number letter bytes (evicted_of gone read)) there
           (subst (λ n. IsFilledWith cached (shown_cache ways (sets_with sets line.number new) (slice_set rows n bytes)) line.number letter bytes (evicted_of gone read)) index'
           (subst (λ (v : Cached). IsFilledWith v (shown_cache ways (sets_with sets line.number new) (slice_set rows (line.number % length sets * ways + slot) bytes)) line.number letter bytes (evicted_of gone read)) is
-          (filled_cache ways sets rows marks writes line letter slot gone new bytes stands room' absent' valid filled' whole read own')))),
+          (filled_cache ways sets rows marks writes line letter slot gone new bytes stands room' absent' valid filled' read own')))),
     )

@@ -18,3 +18,6 @@ pub mod EachSteps
 pub mod Unmarked
 pub mod AbsentLetters
 pub mod AbsentLines
+pub mod ListSteps
+pub mod LendSteps
+pub mod EmptySteps

@@ -1,5 +1,5 @@
 -- A step of one set: what the sets show after it, and that they keep what they keep.
-use Rattle.std.proofs.Common.{◌≡◌, ◌≢◌, ℕ, ◌+◌, ◌*◌, ◌%◌, ◌≤◌, ◌<◌, cond, eqb, ltb, List, [], ◌∷◌, length, map, get_or, Option, None, Some, option_map, refl, ap, sym, subst, inl, inr, ◌∙◌, arith}
+use Rattle.std.proofs.Common.{◌≡◌, ◌≢◌, ℕ, ◌+◌, ◌*◌, ◌%◌, ◌≤◌, ◌<◌, cond, eqb, ltb, List, ◌∷◌, length, map, get_or, Option, None, Some, option_map, refl, ap, sym, subst, inl, inr, ◌∙◌, arith}
 use Rattle.std.specs.Option.{option_map_or}
 use Rattle.std.specs.List.{sum_by, count_by}
 use Rattle.std.specs.Prelude.{slice_set}
@@ -69,16 +69,15 @@ residency_of-sets_with sets line set =
 -- the sets and rows keep what they keep
 pub stands_step : (ways : ℕ) (sets : List Set) (rows new_rows : List (List ℕ)) (marks writes new_marks new_writes line : ℕ) (set : Set) (cache : List (List Way)) →
     Stands ways sets rows marks writes → residency_of (sets_with sets line set) ≡ cache → IsWellFormed ways cache → IsSet ways set →
-    length new_rows ≡ length rows → ((row : ℕ) → row < length new_rows → length (get_or new_rows row []) ≡ 64) →
+    length new_rows ≡ length rows →
     new_marks ≡ marks_of cache → new_writes ≡ write_bits_of cache → Stands ways (sets_with sets line set) new_rows new_marks new_writes
-stands_step ways sets rows new_rows marks writes new_marks new_writes line set cache stands is well_formed kept same whole marked written = record {
+stands_step ways sets rows new_rows marks writes new_marks new_writes line set cache stands is well_formed kept same marked written = record {
   some_way = stands.some_way;
   ways_fit = stands.ways_fit;
   sets_fit = omega (arith, stands.sets_fit, length-sets_with sets line set);
   well_formed = subst (λ c. IsWellFormed ways c) (sym is) well_formed;
   each = each_set_at (IsSet ways) sets line set (some_set ways sets rows marks writes stands) kept stands.each;
   all_rows = omega (arith, stands.all_rows, same, ap (λ n. n * ways) (length-sets_with sets line set));
-  whole = whole;
   marked = marked ∙ ap marks_of (sym is);
   written = written ∙ ap write_bits_of (sym is);
 }
@@ -165,7 +164,7 @@ module _ (ways : ℕ) (sets : List Set) (rows : List (List ℕ)) (marks writes l
       (well_formed-touched ways (residency_of sets) line stands.well_formed)
       (set_same ways (set_at sets line) new (stands.each line) spare
       (λ f. ap (sum_by f) front ∙ sum_by-fronted number_of f (set_at sets line).ways.items line (once_at ways sets line line stands.well_formed)))
-      refl stands.whole
+      refl
       (stands.marked ∙ sym (total-touched mark_of ways (residency_of sets) line stands.well_formed))
       (stands.written ∙ sym (total-touched write_of ways (residency_of sets) line stands.well_formed))
 

@@ -19,11 +19,11 @@ bytes_in [] rows line = []
 bytes_in (way ∷ ways) [] line = []
 bytes_in (way ∷ ways) (bytes ∷ rows) line = if way.line == line then bytes else bytes_in ways rows line
 
--- the same after the line got other bytes
+-- these bytes after the line got other ones
 abbrev pub put_in : List Way → List (List ℕ) → ℕ → List ℕ → List (List ℕ)
 put_in [] rows line new = rows
 put_in (way ∷ ways) [] line new = []
-put_in (way ∷ ways) (bytes ∷ rows) line new = if way.line == line then new ∷ rows else bytes ∷ put_in ways rows line new
+put_in (way ∷ ways) (bytes ∷ rows) line new = (if way.line == line then new else bytes) ∷ put_in ways rows line new
 
 -- the bytes of a line, and no bytes of a line that is not there
 abbrev pub bytes_of : Cached → ℕ → List ℕ

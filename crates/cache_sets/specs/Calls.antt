@@ -5,7 +5,7 @@ use Rattle.moesi.specs.declared.letter.Letter.{Letter}
 use Rattle.moesi.specs.declared.letter.Letter.TheVariants.{M}
 use Rattle.cache_sets.specs.declared.evicted.Evicted.{Evicted}
 use Rattle.cache_sets.specs.Cache.{cleared, committed, evicted_by, filled_with, lettered, marked, touched, without_line, write_bit}
-use Rattle.cache_sets.specs.Cached.{Cached, Copy, copy_in, copy_with_letter}
+use Rattle.cache_sets.specs.Cached.{Cached, copy_in, copy_with_letter}
 use Rattle.cache_sets.specs.WellFormed.{IsWellFormed}
 
 -- what holds of every cache with its bytes
@@ -14,7 +14,6 @@ pub record IsCached (cached : Cached) : Type 0 where
   pub some_way : 1 ≤ cached.ways
   pub ways_fit : cached.ways ≤ 8
   pub sets_fit : length cached.residency ≤ 64
-  pub whole : (line : ℕ) (copy : Copy) → copy_in cached line ≡ Some copy → length copy.bytes ≡ 64
 
 -- a line became the most recent one of its set
 pub record IsTouched (old new : Cached) (line : ℕ) : Type 0 where

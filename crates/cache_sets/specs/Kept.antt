@@ -1,5 +1,5 @@
 -- how a cache's fields show its sets, and what each set keeps
-use Rattle.std.specs.Prelude.{◌≡◌, ◌≤◌, ◌<◌, ◌+◌, ◌*◌, ◌%◌, ◌==◌, ℕ, List, [], ◌∷◌, map, length, count_by, sum_by, nat_lt, if◌then◌else◌, slice_index_or, slice_set, Option, None, Some, option_map}
+use Rattle.std.specs.Prelude.{◌≡◌, ◌≤◌, ◌<◌, ◌+◌, ◌*◌, ◌%◌, ◌==◌, ℕ, All, List, [], ◌∷◌, map, length, count_by, sum_by, nat_lt, if◌then◌else◌, slice_index_or, slice_set, Option, None, Some, option_map}
 use Rattle.el_base.specs.declared.line.LineAddr.{LineAddr}
 use Rattle.el_base.specs.declared.outcomes.Need.{Need}
 use Rattle.el_base.specs.declared.outcomes.Need.TheVariants.{Read, Write}
@@ -67,6 +67,16 @@ pub record IsSet (ways : ℕ) (set : Set) : Type 0 where
   -- no way has bits that have no name
   pub named : count_by (λ way. nat_lt 3 way.bits.0) set.ways.items ≡ 0
 
+-- a set that has no lines
+pub record IsEmpty (ways : ℕ) (set : Set) : Type 0 where
+  pub no_ways : set.ways.items ≡ []
+  pub kept : IsSet ways set
+
+-- so many sets that have no lines
+pub record AreEmpty (ways count : ℕ) (sets : List Set) : Type 0 where
+  pub count_is : length sets ≡ count
+  pub each : All (IsEmpty ways) sets
+
 -- the ways that stay as one leaves, if one does
 abbrev pub left_by : List code.Way → Option code.Way → List code.Way
 left_by ways None = ways
@@ -90,6 +100,11 @@ pub record IsFilled (ways : ℕ) (old new : Set) (way : code.Way) (gone : Option
   pub rows : length new.ways.items + length new.spare.items ≡ length old.ways.items + length old.spare.items
   pub row : (other : code.Way) → gone ≡ Some other → other.slot ≡ way.slot
   pub there : (other : code.Way) → gone ≡ Some other → found number_of old.ways.items other.line.number ≡ Some other
+
+-- so many rows of a set are spare
+pub record AreSpare (count : ℕ) (spare : List ℕ) : Type 0 where
+  pub count_is : length spare ≡ count
+  pub apart : (slot : ℕ) → count_by (λ n. n == slot) spare ≡ (if nat_lt slot count then 1 else 0)
 
 -- what is told of a way that left, and of its bytes
 abbrev pub evicted_of : Option code.Way → List ℕ → Option Evicted
@@ -150,6 +165,5 @@ pub record Stands (ways : ℕ) (sets : List Set) (rows : List (List ℕ)) (marks
   pub well_formed : IsWellFormed ways (residency_of sets)
   pub each : (line : ℕ) → IsSet ways (set_at sets line)
   pub all_rows : length rows ≡ length sets * ways
-  pub whole : (row : ℕ) → row < length rows → length (slice_index_or rows row []) ≡ 64
   pub marked : marks ≡ marks_of (residency_of sets)
   pub written : writes ≡ write_bits_of (residency_of sets)

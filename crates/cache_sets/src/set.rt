@@ -2,7 +2,7 @@ ghost use Rattle.std.specs.Prelude.{◌≡◌, ◌⊎◌, ℕ, ◌≤◌, ◌<�
 ghost use Rattle.std.specs.List.{remove};
 ghost use Rattle.cache_sets.specs.declared.way.Way as code;
 ghost use Rattle.cache_sets.specs.Keyed.{changed, count_of, found, fronted, without};
-ghost use Rattle.cache_sets.specs.Kept.{IsDropped, IsFilled, IsSet, IsVictimPlace, MakesRoom, changed_set, cleared_way, committed_way, lettered_way, marked_way, new_way, number_of, shown_set, shown_way};
+ghost use Rattle.cache_sets.specs.Kept.{IsDropped, IsEmpty, IsFilled, IsSet, IsVictimPlace, MakesRoom, changed_set, cleared_way, committed_way, lettered_way, marked_way, new_way, number_of, shown_set, shown_way};
 ghost use Rattle.cache_sets.specs.Residency.{has_unmarked, is_marked, room_in, way_in};
 
 use crate::bits::Bits;
@@ -27,6 +27,21 @@ pub struct Placed {
 }
 
 impl Set {
+    /// A set of so many ways without lines: each of its rows is spare.
+    pub fn empty(ways: u8) -> Set
+        requires { ways ≤ 8 }
+        ensures { IsEmpty ways result }
+    {
+        let mut spare = ArrayVec::new();
+        for slot in 0..ways {
+            spare.push(slot);
+        }
+        Set {
+            ways: ArrayVec::new(),
+            spare,
+        }
+    }
+
     /// The way of a line.
     pub fn find(&self, line: LineAddr) -> Option<Way>
         ensures { result ≡ found number_of self.now.ways.items line.number }

@@ -1,4 +1,4 @@
-ghost use Rattle.std.specs.Prelude.{◌≡◌, ◌≢◌, ◌<◌, ◌≤◌, ◌+◌, ◌*◌, ◌%◌, ◌↔◌, ℕ, true, false, IfOk, IsNone, length};
+ghost use Rattle.std.specs.Prelude.{◌≡◌, ◌≢◌, ◌<◌, ◌≤◌, ◌+◌, ◌*◌, ◌%◌, ◌↔◌, ℕ, true, false, IfOk, IsNone, Some, is_some, length};
 ghost use Rattle.el_base.specs.Config.{IsInRange};
 ghost use Rattle.el_base.specs.declared.config.Config.{Config};
 ghost use Rattle.moesi.specs.declared.letter.Letter.TheVariants.{I};
@@ -6,7 +6,9 @@ ghost use Rattle.cache_sets.specs.Bits.{bits_of};
 ghost use Rattle.cache_sets.specs.Cache.{has_marks, is_resident, letter_of, room_of, set_of, way_of, write_bits_of};
 ghost use Rattle.cache_sets.specs.Cached.{bytes_of, copy_in, empty_cached};
 ghost use Rattle.cache_sets.specs.Calls.{IsCached, IsCleared, IsCommitted, IsFilledWith, IsLettered, IsMarked, IsTouched, IsWithout};
-ghost use Rattle.cache_sets.specs.Kept.{AreChanged, cleared_way, committed_way, evicted_of, set_at, way_at};
+ghost use Rattle.cache_sets.specs.declared.way.Way as code;
+ghost use Rattle.cache_sets.specs.Kept.{AreChanged, AreEmpty, cleared_way, committed_way, evicted_of, row_of, set_at, way_at};
+ghost use Rattle.std.specs.Borrow.{sem};
 
 use crate::bits::Bits;
 use crate::evicted::Evicted;
@@ -44,6 +46,25 @@ impl Model for Sets {
 }
 
 impl Sets {
+    ghost use Rattle.cache_sets.specs.Lending.{LendsBytes};
+
+    /// A cache without lines, of a configuration's sets and ways.
+    pub fn make(alloc: Global, config: &Config) -> Result<Sets, NoMemory>
+        requires { IsInRange config.now }
+        ensures { IfOk result (λ cache. cache ≡ empty_cached config.now.ways config.now.sets) }
+    {
+        let ways = config.ways;
+        let sets = empty_sets(alloc, config.sets, ways)?;
+        let rows = vec![in alloc; [0; 64]; sets.len() * ways as usize]?;
+        Ok(Sets {
+            sets,
+            ways,
+            rows,
+            marked: 0,
+            written: 0,
+        })
+    }
+
     /// What the cache knows of a line; it is I exactly where the cache has not the line.
     pub fn letter(&self, line: LineAddr) -> Letter
         ensures exact { result ≡ letter_of self.now.residency line.number }
@@ -186,6 +207,43 @@ impl Sets {
             Some(way) => &self.rows[row_of(set_number(sets, way.line), self.ways, way.slot)],
             None => unreachable!(),
         }
+    }
+
+    /// The bytes of a line that the cache has, to be written. What is written becomes the line's bytes, and all else
+    /// stays as it was.
+    pub fn bytes_mut(&mut self, line: LineAddr) -> &mut [u8; 64]
+        requires { is_resident self.old.residency line.number ≡ true }
+        ensures* lends { sem 𝓛 (LendsBytes self.entry line.number result) }
+        ensures value { result.now ≡ bytes_of self.old line.number }
+    {
+        let row = row_at(self.sets.as_slice(), self.ways, line);
+        &mut self.rows[row]
+    }
+}
+
+/// Sets of so many ways without lines.
+fn empty_sets(alloc: Global, count: u8, ways: u8) -> Result<Vec<Set>, NoMemory>
+    requires { ways ≤ 8 }
+    ensures { IfOk result (λ sets. AreEmpty ways count sets.items) }
+{
+    let mut sets = Vec::with_capacity(alloc, count.into())?;
+    for _ in 0..count {
+        sets.push(Set::empty(ways))?;
+    }
+    Ok(sets)
+}
+
+/// Where the bytes of a line that is there are among the rows of all sets.
+fn row_at(sets: &[Set], ways: u8, line: LineAddr) -> usize
+    requires some_set { 0 < length sets.now }
+    requires few { length sets.now ≤ 64 }
+    requires ways_fit { ways ≤ 8 }
+    requires there { is_some (way_at sets.now line.number) ≡ true }
+    ensures { (way : code.Way) → way_at sets.now line.number ≡ Some way → result ≡ row_of (length sets.now) ways way }
+{
+    match find(sets, line) {
+        Some(way) => row_of(set_number(sets, way.line), ways, way.slot),
+        None => unreachable!(),
     }
 }
 

@@ -44,7 +44,7 @@ invariant_of-self c =
     c.evicted-gone.result c.args.self.now c.self.invariant
     (reached i.sets.items c.as_slice.result.now c.args.line.number c.set_number-number.result c.index_mut-set.result.now c.as_slice.ensures.value
     c.set_number-number.ensures.exact c.set_number-number.ensures.within c.index_mut-set.ensures.value)
-    c.self.view_is c.requires.room c.requires.absent c.requires.valid c.fill-placed.ensures c.told-bytes c.row_of-row.ensures c.index.ensures c.evicted-gone.ensures).0
+    c.self.view_is c.requires.room c.requires.absent c.requires.valid c.fill-placed.ensures c.row_of-row.ensures c.index.ensures c.evicted-gone.ensures).0
 
 pub returns-clause-filled : goal.returns-clause-filled
 returns-clause-filled c =
@@ -54,4 +54,4 @@ returns-clause-filled c =
     c.evicted-gone.result c.args.self.now c.self.invariant
     (reached i.sets.items c.as_slice.result.now c.args.line.number c.set_number-number.result c.index_mut-set.result.now c.as_slice.ensures.value
     c.set_number-number.ensures.exact c.set_number-number.ensures.within c.index_mut-set.ensures.value)
-    c.self.view_is c.requires.room c.requires.absent c.requires.valid c.fill-placed.ensures c.told-bytes c.row_of-row.ensures c.index.ensures c.evicted-gone.ensures).1
+    c.self.view_is c.requires.room c.requires.absent c.requires.valid c.fill-placed.ensures c.row_of-row.ensures c.index.ensures c.evicted-gone.ensures).1

@@ -1,19 +1,18 @@
 -- a line is fetched: the others give it up, it comes into the hart's cache, and the line that leaves is written back
-use Rattle.std.proofs.Common.{◌≡◌, ◌≢◌, ◌∙◌, ◌<◌, ◌≤◌, ◌+◌, ◌-◌, arith, ℕ, Bool, true, false, not, ◌==◌, ◌&&◌, ◌||◌, suc, zero, List, [], ◌∷◌, length, Option, None, Some, is_some, option_map, ap, refl, sym, subst, inl, inr, if◌then◌else◌}
+use Rattle.std.proofs.Common.{◌≡◌, ◌≢◌, ◌∙◌, ◌<◌, ◌≤◌, ◌+◌, arith, ℕ, Bool, true, false, not, ◌==◌, ◌&&◌, ◌||◌, suc, zero, List, [], ◌∷◌, length, Option, None, Some, option_map, ap, refl, sym, subst, inl, inr, if◌then◌else◌}
 use Rattle.std.specs.Prelude.{slice_set}
 use Rattle.std.proofs.lemmas.Bool.{cases_eq, cases_lt}
 use Rattle.std.proofs.lemmas.Bool.Decides.{nat_tests}
-use Rattle.std.proofs.lemmas.List.{get_or-set_other, get_or-set_same, length-set}
+use Rattle.std.proofs.lemmas.List.{get_or-set_other, get_or-set_same}
 use Rattle.cache_sets.specs.Cache.{is_resident, letter_of}
 use Rattle.cache_sets.specs.Cached.{Cached, Copy, copy_in, copy_with_letter}
 use Rattle.cache_sets.specs.Calls.{IsFilledWith}
 use Rattle.cache_sets.specs.declared.evicted.Evicted.{Evicted}
 use Rattle.cache_sets.proofs.AbsentLines.{no_copy}
-use Rattle.coherence.specs.Caches.{AreCoherent, GivesUp, IsInMemory, OthersGiveUp, behind_of, cache_at, copies_of, no_cache, others_from, others_have}
+use Rattle.coherence.specs.Caches.{GivesUp, OthersGiveUp, cache_at, copies_of, no_cache, others_from, others_have}
 use Rattle.coherence.specs.Line.{Coherent, IsFound}
-use Rattle.coherence.specs.Served.{written_back}
 use Rattle.coherence.proofs.GivenUp.{beyond}
-use Rattle.coherence.proofs.LineLaws.{HasLeft, IsRead, as_read, found_bytes, left_cache, none_is, read_served, same_line, write_served}
+use Rattle.coherence.proofs.LineLaws.{as_read, found_bytes, left_cache, none_is, read_served, write_served}
 use Rattle.coherence.proofs.Owners.{letter_is}
 use Rattle.coherence.proofs.Stays.{nothing_given_up}
 use Rattle.el_base.specs.declared.outcomes.Need.{Need}
@@ -71,17 +70,20 @@ unshared_from : (from : ℕ) (caches : List Cached) (h line k : ℕ) → others_
     is_resident (cache_at caches k).residency line ≡ false
 unshared_from from [] h line k none other = refl
 unshared_from from (cache ∷ caches) h line zero none other = not_first (from == h) (is_resident cache.residency line) _ none (λ same. other (same_number from h same))
-  where not_first : (same here later : Bool) → ((not same && here) || later) ≡ false → (same ≡ true → ⊥) → here ≡ false
-        not_first true here later none other = absurd (other refl)
-        not_first false true later none other = absurd (cc)
-        not_first false false later none other = refl
-        same_number : (a b : ℕ) → (a == b) ≡ true → a + 0 ≡ b
-        same_number a b same = grind (arith, nat_tests)
+  where
+    not_first : (same here later : Bool) → ((not same && here) || later) ≡ false → (same ≡ true → ⊥) → here ≡ false
+    not_first true here later none other = absurd (other refl)
+    not_first false true later none other = absurd (cc)
+    not_first false false later none other = refl
+
+    same_number : (a b : ℕ) → (a == b) ≡ true → a + 0 ≡ b
+    same_number a b same = grind (arith, nat_tests)
 unshared_from from (cache ∷ caches) h line (suc k) none other =
     unshared_from (suc from) caches h line k (later (not (from == h) && is_resident cache.residency line) _ none) (λ same. other (omega (arith, same)))
-  where later : (first rest : Bool) → (first || rest) ≡ false → rest ≡ false
-        later true rest none = absurd (cc)
-        later false rest none = none
+  where
+    later : (first rest : Bool) → (first || rest) ≡ false → rest ≡ false
+    later true rest none = absurd (cc)
+    later false rest none = none
 
 pub unshared : (caches : List Cached) (h line : ℕ) → others_have caches h line ≡ false → (g : ℕ) → g ≢ h →
     copies_of caches line g ≡ None
@@ -140,12 +142,13 @@ line_fetched Read h line old mid cache bytes told behind evicted fetch found coh
       others = λ g other. fetched_other Read h line g old mid cache fetch.gave other;
       unshared = λ none g. nobody none g;
     })
-  where nobody : others_have old h line ≡ false → (g : ℕ) → copies_of old line g ≡ None
-        nobody none g =
-            elim (cases_eq g h) [
-              | inl own ↦ ap (copies_of old line) own ∙ no_copy (cache_at old h) line fetch.absent
-              | inr other ↦ unshared old h line none g other
-            ]
+  where
+    nobody : others_have old h line ≡ false → (g : ℕ) → copies_of old line g ≡ None
+    nobody none g =
+        elim (cases_eq g h) [
+          | inl own ↦ ap (copies_of old line) own ∙ no_copy (cache_at old h) line fetch.absent
+          | inr other ↦ unshared old h line none g other
+        ]
 
 -- the line that left tells what it told, once it is written back
 pub line_left : (need : Need) (h line : ℕ) (old mid : List Cached) (cache : Cached) (bytes told behind after : List ℕ) (evicted : Option Evicted)

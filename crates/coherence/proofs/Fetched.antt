@@ -1,5 +1,5 @@
 -- after a fetch caches and main memory tell of each line what they told
-use Rattle.std.proofs.Common.{◌≡◌, ◌≢◌, ◌∙◌, ◌⊎◌, ◌<◌, ◌≤◌, ◌+◌, ◌-◌, arith, ℕ, Bool, true, false, List, [], length, Option, None, Some, is_some, option_map, ap, refl, sym, subst, inl, inr, if◌then◌else◌}
+use Rattle.std.proofs.Common.{◌≡◌, ◌≢◌, ◌∙◌, ◌⊎◌, ◌<◌, ◌≤◌, ◌-◌, arith, ℕ, Bool, true, false, List, [], length, Option, None, Some, is_some, option_map, ap, refl, sym, subst, inl, inr, if◌then◌else◌}
 use Rattle.std.specs.Prelude.{slice_index_or, slice_set}
 use Rattle.std.proofs.lemmas.Bool.{cases_eq}
 use Rattle.std.proofs.lemmas.List.{get_or_read_under, get_or-set_other, get_or-set_same, length-set}
@@ -25,39 +25,43 @@ pub length-written_back : (first : ℕ) (lines : List (List ℕ)) (evicted : Opt
     length (written_back first lines evicted) ≡ length lines
 length-written_back first lines None = refl
 length-written_back first lines (Some gone) = by (is_dirty gone.letter)
-  where by : (dirty : Bool) → length (if dirty then slice_set lines (gone.line.number - first) gone.bytes else lines) ≡ length lines
-        by true = length-set lines (gone.line.number - first) gone.bytes
-        by false = refl
+  where
+    by : (dirty : Bool) → length (if dirty then slice_set lines (gone.line.number - first) gone.bytes else lines) ≡ length lines
+    by true = length-set lines (gone.line.number - first) gone.bytes
+    by false = refl
 
 behind_here : (first : ℕ) (lines : List (List ℕ)) (gone : Evicted) → IsInMemory first (length lines) gone.line.number →
     behind_of first (written_back first lines (Some gone)) gone.line.number
     ≡ (if is_dirty gone.letter then gone.bytes else behind_of first lines gone.line.number)
 behind_here first lines gone there = by (is_dirty gone.letter)
-  where by : (dirty : Bool) →
-            behind_of first (if dirty then slice_set lines (gone.line.number - first) gone.bytes else lines) gone.line.number
-            ≡ (if dirty then gone.bytes else behind_of first lines gone.line.number)
-        by true = get_or-set_same lines (gone.line.number - first) gone.bytes [] (omega (arith, there.from, there.below))
-        by false = refl
+  where
+    by : (dirty : Bool) →
+        behind_of first (if dirty then slice_set lines (gone.line.number - first) gone.bytes else lines) gone.line.number
+        ≡ (if dirty then gone.bytes else behind_of first lines gone.line.number)
+    by true = get_or-set_same lines (gone.line.number - first) gone.bytes [] (omega (arith, there.from, there.below))
+    by false = refl
 
 pub behind_rest : (first l : ℕ) (lines : List (List ℕ)) (evicted : Option Evicted) → first ≤ l →
     ((gone : Evicted) → evicted ≡ Some gone → (first ≤ gone.line.number) × (l ≢ gone.line.number)) →
     behind_of first (written_back first lines evicted) l ≡ behind_of first lines l
 behind_rest first l lines None from other = refl
 behind_rest first l lines (Some gone) from other = by (is_dirty gone.letter) (other gone refl)
-  where by : (dirty : Bool) → (first ≤ gone.line.number) × (l ≢ gone.line.number) →
-            behind_of first (if dirty then slice_set lines (gone.line.number - first) gone.bytes else lines) l ≡ behind_of first lines l
-        by true apart =
-            get_or-set_other lines (gone.line.number - first) (l - first) gone.bytes []
-            (λ same. apart.1 (omega (arith, same, from, apart.0)))
-        by false apart = refl
+  where
+    by : (dirty : Bool) → (first ≤ gone.line.number) × (l ≢ gone.line.number) →
+        behind_of first (if dirty then slice_set lines (gone.line.number - first) gone.bytes else lines) l ≡ behind_of first lines l
+    by true apart =
+        get_or-set_other lines (gone.line.number - first) (l - first) gone.bytes []
+        (λ same. apart.1 (omega (arith, same, from, apart.0)))
+    by false apart = refl
 
 -- a line is there where a copy is
 pub copy_resident : (cached : Cached) (line : ℕ) (copy : Copy) → copy_in cached line ≡ Some copy → is_resident cached.residency line ≡ true
 copy_resident cached line copy there = by (way_of cached.residency line) there
-  where by : (way : Option Way) → option_map {U = Copy} (λ w. record { letter = w.letter; bytes = bytes_of cached line }) way ≡ Some copy →
-            is_some way ≡ true
-        by None is = none_is copy is
-        by (Some way) is = refl
+  where
+    by : (way : Option Way) → option_map {U = Copy} (λ w. record { letter = w.letter; bytes = bytes_of cached line }) way ≡ Some copy →
+        is_some way ≡ true
+    by None is = none_is copy is
+    by (Some way) is = refl
 
 -- a line that left was in memory
 pub gone_inside : (need : Need) (h line first : ℕ) (lines : List (List ℕ)) (old mid : List Cached) (cache : Cached) (bytes : List ℕ)
@@ -83,12 +87,17 @@ each_fetched need h line first lines old mid cache bytes told evicted fetch foun
     here : l ≡ line → Coherent (told l) (copies_of (slice_set mid h cache) l) (behind_of first (written_back first lines evicted) l)
     here same =
         let in_memory : IsInMemory first (length lines) line = subst (IsInMemory first (length lines)) same there in
-        rw (same, behind_rest first line lines evicted in_memory.from
-        (λ gone is.
-        ((gone_inside need h line first lines old mid cache bytes told evicted gone fetch coherent is).from,
-        λ is_it. left_other need h line old mid cache bytes evicted gone fetch is (sym is_it))))
+        rw (
+          same,
+          behind_rest first line lines evicted in_memory.from
+              (λ gone is. (
+                (gone_inside need h line first lines old mid cache bytes told evicted gone fetch coherent is).from,
+                λ is_it. left_other need h line old mid cache bytes evicted gone fetch is (sym is_it),
+              )),
+        )
         (line_fetched need h line old mid cache bytes (told line) (behind_of first lines line) evicted fetch found
         (coherent.each line in_memory))
+
     rest : l ≢ line → ((gone : Evicted) → evicted ≡ Some gone → l ≢ gone.line.number) →
         Coherent (told l) (copies_of (slice_set mid h cache) l) (behind_of first (written_back first lines evicted) l)
     rest other stays =
@@ -96,6 +105,7 @@ each_fetched need h line first lines old mid cache bytes told evicted fetch foun
         (λ g. fetched_rest need h line l g old mid cache bytes evicted fetch other stays)
         (behind_rest first l lines evicted there.from
         (λ gone is. ((gone_inside need h line first lines old mid cache bytes told evicted gone fetch coherent is).from, stays gone is)))
+
     left : (gone : Evicted) → evicted ≡ Some gone → l ≡ gone.line.number →
         Coherent (told l) (copies_of (slice_set mid h cache) l) (behind_of first (written_back first lines evicted) l)
     left gone is same =
@@ -105,6 +115,7 @@ each_fetched need h line first lines old mid cache bytes told evicted fetch foun
         (left_other need h line old mid cache bytes evicted gone fetch is)
         (ap (λ e. behind_of first (written_back first lines e) gone.line.number) is ∙ behind_here first lines gone inside)
         (coherent.each gone.line.number inside))
+
     apart : (found : Option Evicted) → evicted ≡ found → l ≢ line →
         Coherent (told l) (copies_of (slice_set mid h cache) l) (behind_of first (written_back first lines evicted) l)
     apart None is other = rest other (λ gone some. none_is gone (sym is ∙ some))
@@ -132,6 +143,7 @@ inside_fetched need h line first lines old mid cache bytes told evicted fetch co
     was same =
         coherent.inside g l
         (copy_resident (cache_at old g) l _ (sym same ∙ copy_is (cache_at (slice_set mid h cache) g) l resident))
+
     gone_or_not : (found : Option Evicted) → evicted ≡ found →
         ((gone : Evicted) → evicted ≡ Some gone → l ≢ gone.line.number) ⊎ ((gone : Evicted) × (evicted ≡ Some gone) × (l ≡ gone.line.number))
     gone_or_not None is = inl (λ gone some. none_is gone (sym is ∙ some))
@@ -140,6 +152,7 @@ inside_fetched need h line first lines old mid cache bytes told evicted fetch co
           | inl same ↦ inr (gone, is, same)
           | inr differs ↦ inl (λ e some. subst (λ x. l ≢ x.line.number) (some_is gone e (sym is ∙ some)) differs)
         ]
+
     mine : g ≡ h → ((gone : Evicted) → evicted ≡ Some gone → l ≢ gone.line.number)
         ⊎ ((gone : Evicted) × (evicted ≡ Some gone) × (l ≡ gone.line.number)) → l ≢ line → IsInMemory first (length lines) l
     mine own (inl stays) other = was (fetched_rest need h line l g old mid cache bytes evicted fetch other stays)

@@ -1,5 +1,5 @@
 -- one hart after another gives a line up
-use Rattle.std.proofs.Common.{◌≡◌, ◌≢◌, ◌∙◌, ◌<◌, ◌≤◌, ◌+◌, ◌==◌, ◌&&◌, ◌||◌, not, Bool, ℕ, zero, suc, List, [], ◌∷◌, drop, length, ap, arith, refl, sym, subst, inl, inr}
+use Rattle.std.proofs.Common.{◌≡◌, ◌≢◌, ◌∙◌, ◌<◌, ◌≤◌, ◌==◌, ◌&&◌, ◌||◌, not, Bool, ℕ, zero, suc, List, [], ◌∷◌, drop, length, arith, refl, sym, subst, inl, inr}
 use Rattle.std.specs.Prelude.{slice_set}
 use Rattle.std.proofs.Math.Seq.{drop-cons}
 use Rattle.std.proofs.lemmas.Bool.{cases_eq}
@@ -28,8 +28,9 @@ passed_over need h line number old new own below = record {
   done = λ g other under. below.done g other (not_last g other under);
   rest = λ g from. below.rest g (omega arith);
 }
-  where not_last : (g : ℕ) → g ≢ h → g < suc number → g < number
-        not_last g other under = elim (cases_eq g number) [ | inl same ↦ absurd (other (same ∙ own)) | inr apart ↦ omega (arith, apart) ]
+  where
+    not_last : (g : ℕ) → g ≢ h → g < suc number → g < number
+    not_last g other under = elim (cases_eq g number) [ inl same ↦ absurd (other (same ∙ own)) | inr apart ↦ omega (arith, apart) ]
 
 -- another one gives it up
 pub one_more : (need : Need) (h line number : ℕ) (old new : List Cached) (cache : Cached) → number ≢ h → number < length new →
@@ -46,10 +47,11 @@ one_more need h line number old new cache other inside gives below = record {
   ];
   rest = λ g from. get_or-set_other new number g cache no_cache (omega arith) ∙ below.rest g (omega arith);
 }
-  where here : (g : ℕ) → g ≡ number → GivesUp need (cache_at old g) (cache_at (slice_set new number cache) g) line
-        here g same =
-            rw (same, get_or-set_same new number cache no_cache inside)
-            (subst (λ c. GivesUp need c cache line) (below.rest number (omega arith)) gives)
+  where
+    here : (g : ℕ) → g ≡ number → GivesUp need (cache_at old g) (cache_at (slice_set new number cache) g) line
+    here g same =
+        rw (same, get_or-set_same new number cache no_cache inside)
+        (subst (λ c. GivesUp need c cache line) (below.rest number (omega arith)) gives)
 
 pub all_given_up : (need : Need) (h line number : ℕ) (old new : List Cached) → number ≡ length old →
     GivenUpBelow need h line number old new → OthersGiveUp need h line old new

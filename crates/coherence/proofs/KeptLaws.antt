@@ -1,10 +1,10 @@
 -- a hart keeps its copy: caches and main memory tell what they told
-use Rattle.std.proofs.Common.{◌≡◌, ◌≢◌, ◌∙◌, ◌⊎◌, ◌<◌, ◌≤◌, ℕ, Bool, true, false, List, length, Option, None, Some, is_some, option_map, ap, refl, sym, subst, inl, inr}
+use Rattle.std.proofs.Common.{◌≡◌, ◌≢◌, ◌∙◌, ◌⊎◌, ◌<◌, ◌≤◌, ℕ, true, List, length, Some, option_map, ap, refl, sym, subst, inl, inr}
 use Rattle.std.specs.Prelude.{slice_set}
 use Rattle.std.proofs.lemmas.Bool.{cases_eq, cases_lt}
-use Rattle.std.proofs.lemmas.List.{get_or-set_other, get_or-set_same, length-set}
+use Rattle.std.proofs.lemmas.List.{get_or-set_same, length-set}
 use Rattle.cache_sets.specs.Cache.{is_resident, letter_of}
-use Rattle.cache_sets.specs.Cached.{Cached, Copy, bytes_of, copy_in, copy_with_letter}
+use Rattle.cache_sets.specs.Cached.{Cached, bytes_of, copy_in, copy_with_letter}
 use Rattle.cache_sets.specs.Calls.{IsLettered, IsTouched, IsWithout}
 use Rattle.coherence.specs.Caches.{AreCoherent, IsInMemory, OthersGiveUp, behind_of, cache_at, copies_of, no_cache}
 use Rattle.coherence.specs.Kept.{IsKept, LeavesTo}
@@ -56,9 +56,10 @@ kept_other need h line l g old new kept other =
       | inl own ↦ rw own (kept.own.others l other)
       | inr apart ↦ by need (kept.others g apart)
     ]
-  where by : (n : Need) → LeavesTo n (cache_at old g) (cache_at new g) line → copies_of new l g ≡ copies_of old l g
-        by Read same = ap (λ c. copy_in c l) same
-        by Write without = without.others l other
+  where
+    by : (n : Need) → LeavesTo n (cache_at old g) (cache_at new g) line → copies_of new l g ≡ copies_of old l g
+    by Read same = ap (λ c. copy_in c l) same
+    by Write without = without.others l other
 
 -- the copy of the hart itself
 pub own_kept : (need : Need) (h line : ℕ) (old new : List Cached) → IsKept need h line old new →
@@ -75,11 +76,12 @@ line_kept : (need : Need) (h line : ℕ) (told behind : List ℕ) (old new : Lis
     Coherent told (copies_of new line) behind
 line_kept Read h line told behind old new kept resident coherent =
     same_line told (copies_of old line) (copies_of new line) behind behind coherent (λ g. same g) refl
-  where same : (g : ℕ) → copies_of new line g ≡ copies_of old line g
-        same g = elim (cases_eq g h) [
-          | inl own ↦ rw own (own_kept Read h line old new kept resident ∙ sym (copy_is (cache_at old h) line resident))
-          | inr apart ↦ ap (λ c. copy_in c line) (kept.others g apart)
-        ]
+  where
+    same : (g : ℕ) → copies_of new line g ≡ copies_of old line g
+    same g = elim (cases_eq g h) [
+      | inl own ↦ rw own (own_kept Read h line old new kept resident ∙ sym (copy_is (cache_at old h) line resident))
+      | inr apart ↦ ap (λ c. copy_in c line) (kept.others g apart)
+    ]
 line_kept Write h line told behind old new kept resident coherent =
     write_served told behind h (copies_of new line) _ (own_kept Write h line old new kept resident) refl
     (coherent.same h _ (copy_is (cache_at old h) line resident))

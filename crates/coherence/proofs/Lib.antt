@@ -6,3 +6,4 @@ pub mod FetchLaws
 pub mod Fetched
 pub mod KeptLaws
 pub mod ServedLaws
+pub mod AtFirst

@@ -1,12 +1,12 @@
 -- what becomes of one line keeps its copies and main memory telling one thing
-use Rattle.std.proofs.Common.{◌≡◌, ◌≢◌, ◌∙◌, ℕ, Bool, true, false, List, Option, None, Some, option_map, refl, ap, sym, subst, inl, inr, ◌⊎◌, if◌then◌else◌}
+use Rattle.std.proofs.Common.{◌≡◌, ◌≢◌, ◌∙◌, ℕ, Bool, true, false, List, Option, None, Some, option_map, refl, ap, sym, inl, inr, if◌then◌else◌}
 use Rattle.std.proofs.lemmas.Bool.{cases_eq}
 use Rattle.cache_sets.specs.Cached.{Copy, copy_with_letter}
 use Rattle.coherence.specs.Line.{Coherent, InCopy, InMemory, IsClean, IsFound}
 use Rattle.moesi.specs.Letters.{filled_of, is_dirty, may_write, on_read_of}
 use Rattle.moesi.specs.declared.letter.Letter.{Letter}
 use Rattle.moesi.specs.declared.letter.Letter.TheVariants.{M, O, E, S, I}
-use Rattle.el_base.specs.declared.outcomes.Need.TheVariants.{Read, Write}
+use Rattle.el_base.specs.declared.outcomes.Need.TheVariants.{Read}
 
 -- the bytes that are found are those of the line
 pub found_bytes : (bytes : List ℕ) (copies : ℕ → Option Copy) (behind found : List ℕ) → Coherent bytes copies behind →
@@ -29,11 +29,13 @@ write_served bytes behind h new own here letter has others = record {
   owner = λ f g one other first second dirty dirty'. only f one first ∙ sym (only g other second);
   memory = λ clean. absurd (not_both (is_dirty own.letter) (clean h own here) (ap is_dirty letter));
 }
-  where only : (g : ℕ) (copy : Copy) → new g ≡ Some copy → g ≡ h
-        only g copy there =
-            elim (cases_eq g h) [ | inl same ↦ same | inr other ↦ none_is copy (sym (others g other) ∙ there) ]
-        not_both : (b : Bool) → b ≡ false → b ≡ true → ⊥
-        not_both b no_ yes_ = absurd (cc)
+  where
+    only : (g : ℕ) (copy : Copy) → new g ≡ Some copy → g ≡ h
+    only g copy there =
+        elim (cases_eq g h) [ inl same ↦ same | inr other ↦ none_is copy (sym (others g other) ∙ there) ]
+
+    not_both : (b : Bool) → b ≡ false → b ≡ true → ⊥
+    not_both b no_ yes_ = absurd (cc)
 
 -- a read was served to a hart that had no copy
 pub record IsRead (h : ℕ) (bytes : List ℕ) (shared : Bool) (old new : ℕ → Option Copy) : Type 0 where
@@ -57,9 +59,10 @@ after_read h bytes shared old new read g copy there =
       | inl same ↦ Own same (some_is copy _ (sym there ∙ (ap new same ∙ read.here)))
       | inr other ↦ was (old g) refl other (sym (read.others g other) ∙ there)
     ]
-  where was : (before : Option Copy) → old g ≡ before → g ≢ h → option_map as_read before ≡ Some copy → AfterRead h bytes shared old g copy
-        was None is other same = none_is copy same
-        was (Some before) is other same = Other other before is (some_is copy (as_read before) (sym same))
+  where
+    was : (before : Option Copy) → old g ≡ before → g ≢ h → option_map as_read before ≡ Some copy → AfterRead h bytes shared old g copy
+    was None is other same = none_is copy same
+    was (Some before) is other same = Other other before is (some_is copy (as_read before) (sym same))
 
 -- a letter that a read has met may not be written, and main memory is behind it as before
 read_only : (letter : Letter) → may_write (on_read_of letter) ≡ true → ⊥
@@ -111,8 +114,9 @@ read_owner bytes behind h shared old coherent f g one other (Other apart before 
     both (is_dirty other.letter) (ap (λ c. is_dirty c.letter) is' ∙ filled_clean shared) dirty'
 read_owner bytes behind h shared old coherent f g one other (Other apart before there is) (Other apart' before' there' is') dirty dirty' =
     coherent.owner f g before before' there there' (was_dirty one before is dirty) (was_dirty other before' is' dirty')
-  where was_dirty : (copy before : Copy) → copy ≡ as_read before → is_dirty copy.letter ≡ true → is_dirty before.letter ≡ true
-        was_dirty copy before same dirty = sym (still_dirty before.letter) ∙ (sym (ap (λ c. is_dirty c.letter) same) ∙ dirty)
+  where
+    was_dirty : (copy before : Copy) → copy ≡ as_read before → is_dirty copy.letter ≡ true → is_dirty before.letter ≡ true
+    was_dirty copy before same dirty = sym (still_dirty before.letter) ∙ (sym (ap (λ c. is_dirty c.letter) same) ∙ dirty)
 
 clean_before_read : (h : ℕ) (bytes : List ℕ) (shared : Bool) (old new : ℕ → Option Copy) → IsRead h bytes shared old new → IsClean new →
     IsClean old
@@ -187,9 +191,10 @@ pub stored : (bytes behind put : List ℕ) (h : ℕ) (old new : ℕ → Option C
 stored bytes behind put h old new coherent store =
     write_served put behind h new (record { letter = M; bytes = put }) store.here refl refl
     (λ g other. store.others g other ∙ nothing g other (old g) refl)
-  where nothing : (g : ℕ) → g ≢ h → (copy : Option Copy) → old g ≡ copy → copy ≡ None
-        nothing g other None is = refl
-        nothing g other (Some copy) is = absurd (other (sym (coherent.alone h g store.before copy store.there is store.may)))
+  where
+    nothing : (g : ℕ) → g ≢ h → (copy : Option Copy) → old g ≡ copy → copy ≡ None
+    nothing g other None is = refl
+    nothing g other (Some copy) is = absurd (other (sym (coherent.alone h g store.before copy store.there is store.may)))
 
 -- copies and main memory that are as they were tell what they told
 pub same_line : (bytes : List ℕ) (old new : ℕ → Option Copy) (behind after : List ℕ) → Coherent bytes old behind →

@@ -1,5 +1,5 @@
 -- the copy that main memory may be behind, where there is one
-use Rattle.std.proofs.Common.{◌≡◌, ◌∙◌, ◌<◌, ◌≤◌, ◌-◌, arith, cond, inl, inr, ℕ, zero, suc, Bool, true, false, List, [], ◌∷◌, length, Option, None, Some, is_some, option_map, ap, refl, sym, if◌then◌else◌}
+use Rattle.std.proofs.Common.{◌≡◌, ◌∙◌, ◌<◌, ◌≤◌, arith, cond, inl, inr, ℕ, Bool, true, false, List, length, Option, None, Some, is_some, option_map, ap, refl, sym}
 use Rattle.std.specs.List.{position, position_or_len}
 use Rattle.std.proofs.lemmas.Bool.{cases_lt, ltb-false}
 use Rattle.std.proofs.lemmas.List.Sums.{fails_before_first}
@@ -7,7 +7,7 @@ use Rattle.std.proofs.lemmas.List.Quantifiers.{position-Some}
 use Rattle.cache_sets.specs.Cache.{is_resident, letter_in, letter_of, way_of}
 use Rattle.cache_sets.specs.Cached.{Cached, Copy, bytes_of, copy_in}
 use Rattle.cache_sets.specs.Residency.{Way}
-use Rattle.coherence.specs.Caches.{behind_of, cache_at, copies_of, no_cache}
+use Rattle.coherence.specs.Caches.{cache_at, copies_of, no_cache}
 use Rattle.coherence.proofs.GivenUp.{beyond}
 use Rattle.coherence.specs.Line.{InCopy, InMemory, IsClean, IsFound}
 use Rattle.moesi.specs.Letters.{is_dirty}
@@ -16,29 +16,34 @@ use Rattle.moesi.specs.Letters.{is_dirty}
 pub copy_is : (cached : Cached) (line : ℕ) → is_resident cached.residency line ≡ true →
     copy_in cached line ≡ Some (record { letter = letter_of cached.residency line; bytes = bytes_of cached line })
 copy_is cached line resident = by (way_of cached.residency line) resident
-  where by : (way : Option Way) → is_some way ≡ true →
-            option_map {U = Copy} (λ w. record { letter = w.letter; bytes = bytes_of cached line }) way
-            ≡ Some (record { letter = letter_in way; bytes = bytes_of cached line })
-        by None some = absurd (cc)
-        by (Some way) some = refl
+  where
+    by : (way : Option Way) → is_some way ≡ true →
+        option_map {U = Copy} (λ w. record { letter = w.letter; bytes = bytes_of cached line }) way
+        ≡ Some (record { letter = letter_in way; bytes = bytes_of cached line })
+    by None some = absurd (cc)
+    by (Some way) some = refl
 
 pub letter_is : (cached : Cached) (line : ℕ) (copy : Copy) → copy_in cached line ≡ Some copy → letter_of cached.residency line ≡ copy.letter
 letter_is cached line copy there = by (way_of cached.residency line) there
-  where by : (way : Option Way) → option_map {U = Copy} (λ w. record { letter = w.letter; bytes = bytes_of cached line }) way ≡ Some copy →
-            letter_in way ≡ copy.letter
-        by None is = absurd (none is)
-          where none : None ≡ Some copy → ⊥
-                none same = absurd (cc)
-        by (Some way) is = ap (λ c. c.letter) (some_is is)
-          where some_is : {A : Type 0} {x y : A} → Some x ≡ Some y → x ≡ y
-                some_is same = cc
+  where
+    by : (way : Option Way) → option_map {U = Copy} (λ w. record { letter = w.letter; bytes = bytes_of cached line }) way ≡ Some copy →
+        letter_in way ≡ copy.letter
+    by None is = absurd (none is)
+      where
+        none : None ≡ Some copy → ⊥
+        none same = absurd (cc)
+    by (Some way) is = ap (λ c. c.letter) (some_is is)
+      where
+        some_is : {A : Type 0} {x y : A} → Some x ≡ Some y → x ≡ y
+        some_is same = cc
 
 pub dirty_resident : (cached : Cached) (line : ℕ) → is_dirty (letter_of cached.residency line) ≡ true →
     is_resident cached.residency line ≡ true
 dirty_resident cached line dirty = by (way_of cached.residency line) dirty
-  where by : (way : Option Way) → is_dirty (letter_in way) ≡ true → is_some way ≡ true
-        by None is = absurd (cc)
-        by (Some way) is = refl
+  where
+    by : (way : Option Way) → is_dirty (letter_in way) ≡ true → is_some way ≡ true
+    by None is = absurd (cc)
+    by (Some way) is = refl
 
 abbrev owns : ℕ → Cached → Bool
 owns line cache = is_dirty (letter_of cache.residency line)

@@ -7,8 +7,6 @@ use Rattle.coherence.specs.Caches.{GivesUp}
 use Rattle.el_base.specs.declared.outcomes.Need.{Need}
 use Rattle.el_base.specs.declared.outcomes.Need.TheVariants.{Read, Write}
 use Rattle.moesi.specs.Letters.{on_read_of}
-use Rattle.moesi.specs.declared.letter.Letter.{Letter}
-use Rattle.moesi.specs.declared.letter.Letter.TheVariants.{M, O, E, S, I}
 
 pub nothing_given_up : (need : Need) (cached : Cached) (line : ℕ) → is_resident cached.residency line ≡ false →
     GivesUp need cached cached line

@@ -3,3 +3,4 @@ pub mod Caches
 pub mod Served
 pub mod Writing
 pub mod Kept
+pub mod Beginning

@@ -1,5 +1,5 @@
 -- one line of memory: its copies in the caches of the harts, and what main memory has of it
-use Rattle.std.specs.Prelude.{ℕ, ◌≡◌, Bool, true, false, List, Option, None, Some}
+use Rattle.std.specs.Prelude.{ℕ, ◌≡◌, true, false, List, Option, Some}
 use Rattle.cache_sets.specs.Cached.{Copy}
 use Rattle.moesi.specs.Letters.{is_dirty, may_write}
 

@@ -7,7 +7,7 @@ use Rattle.cache_sets.specs.declared.evicted.Evicted.{Evicted}
 use Rattle.coherence.specs.Caches.{AreCoherent, IsInMemory, cache_at, others_have}
 use Rattle.coherence.specs.declared.hierarchy.Hierarchy as hierarchies
 use Rattle.el_base.specs.declared.outcomes.Need.{Need}
-use Rattle.el_model.specs.Serve.{given_up, kept_letter, others_cache, own_copy}
+use Rattle.el_model.specs.Serve.{given_up, others_cache, own_copy}
 use Rattle.moesi.specs.Letters.{filled_of, is_dirty}
 
 -- main memory after a line left a cache, if one did: it is written back where main memory was behind
@@ -74,10 +74,14 @@ pub record Moves (ordering : List (List Way) → List (List Way)) (need : Need) 
 abbrev pub IsServed : Need → ℕ → ℕ → Copies → Copies → Type 0
 IsServed need h line old new = Moves (λ cache. touched cache line) need h line old new
 
+-- caches and main memory tell these bytes
+abbrev pub TellsOf : Copies → (ℕ → List ℕ) → Type 0
+TellsOf copies bytes = AreCoherent bytes copies.first copies.lines copies.caches
+
 -- caches and main memory tell one thing of each line
 pub record IsCoherent (copies : Copies) : Type 0 where
   pub bytes : ℕ → List ℕ
-  pub tells : AreCoherent bytes copies.first copies.lines copies.caches
+  pub tells : TellsOf copies bytes
 
 -- main memory and caches as contracts see them
 abbrev pub shown : hierarchies.Hierarchy → Copies

@@ -17,7 +17,7 @@ fn owner(caches: &[Sets], line: LineAddr) -> Option<usize>
     ensures { MatchOption result
         (IsClean (copies_of caches.now line.number))
         (λ place. (place < length caches.now)
-            × (is_dirty (letter_of (cache_at caches.now place).residency line.number) ≡ true)) }
+        × (is_dirty (letter_of (cache_at caches.now place).residency line.number) ≡ true)) }
 {
     caches.iter().position(|cache| is_dirty(cache.letter(line)))
 }

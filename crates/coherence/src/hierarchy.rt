@@ -1,16 +1,26 @@
 //! Main memory and the caches of all harts.
 
-ghost use Rattle.std.specs.Prelude.{◌≡◌, ◌<◌, true, length};
+ghost use Rattle.std.specs.Prelude.{◌≡◌, ◌<◌, ◌*◌, ◌%◌, ◌↔◌, ℕ, List, IfOk, IfSome, IsNone, true, length, replicate, slice_index};
+ghost use Rattle.std.specs.Bool.{MatchBool};
 ghost use Rattle.cache_sets.specs.Cache.{is_resident};
-ghost use Rattle.coherence.specs.Caches.{cache_at};
+ghost use Rattle.cache_sets.specs.Cached.{empty_cached};
+ghost use Rattle.coherence.specs.Beginning.{bytes_at_first};
+ghost use Rattle.coherence.specs.Caches.{behind_of, cache_at};
 ghost use Rattle.coherence.specs.Kept.{IsTouchedAt};
-ghost use Rattle.coherence.specs.Served.{HasLine, IsCoherent, IsServed, Moves, has_room, shown};
+ghost use Rattle.coherence.specs.Served.{HasLine, IsCoherent, IsServed, Moves, TellsOf, has_room, shown};
+ghost use Rattle.el_base.specs.Config.{IsInRange};
+ghost use Rattle.el_base.specs.Line.{line_number};
+ghost use Rattle.el_base.specs.declared.line.TheConstants.{LINE_BYTES};
 
+use crate::beginning::{empty_caches, lines_of};
 use crate::fetching::fetch;
+use crate::found::current;
 use crate::keeping::keep;
 use cache_sets::Sets;
-use el_base::{HartId, LineAddr, Need};
+use el_base::{Config, HartId, LINE_BYTES, LineAddr, Need, NoMemory, line_of};
+use elf_image::Image;
 use moesi::Letter;
+use std::alloc::Global;
 
 /// Main memory, line by line from its first one on, and the cache of each hart.
 #[derive(Drop)]
@@ -21,6 +31,70 @@ pub struct Hierarchy {
 }
 
 impl Hierarchy {
+    /// Main memory as the image has it, and for each of the image's harts a cache without lines. It
+    /// takes all memory of both.
+    pub fn make(alloc: Global, image: &Image, config: &Config) -> Result<Hierarchy, NoMemory>
+        requires in_range { IsInRange config.now }
+        requires one_hart_each { image.now.harts ≡ config.now.harts }
+        ensures memory { IfOk result (λ hierarchy. TellsOf (shown hierarchy) (bytes_at_first image.now)) }
+        ensures caches { IfOk result (λ hierarchy.
+            (shown hierarchy).caches ≡ replicate config.now.harts (empty_cached config.now.ways config.now.sets)) }
+        ensures first { IfOk result (λ hierarchy. ((shown hierarchy).first * LINE_BYTES ≡ image.now.base)
+            × (length (shown hierarchy).lines * LINE_BYTES ≡ length image.now.bytes)) }
+    {
+        let count = image.bytes().len() as u32 / LINE_BYTES;
+        Ok(Hierarchy {
+            first: image.base() / LINE_BYTES,
+            lines: lines_of(alloc, image.bytes(), count)?,
+            caches: empty_caches(alloc, config)?,
+        })
+    }
+
+    /// The cache of a hart.
+    pub fn cache(&self, hart: HartId) -> &Sets
+        requires { hart.number < length (shown self.now).caches }
+        ensures { result.now ≡ cache_at (shown self.now).caches hart.number }
+    {
+        &self.caches[usize::from(hart.number)]
+    }
+
+    /// The byte at an address that caches and main memory tell, or none outside memory.
+    pub fn byte(&self, address: u32) -> Option<u8>
+        requires { IsCoherent (shown self.now) }
+        ensures none_exactly_outside { IsNone result ↔ ¬ (HasLine (shown self.now) (line_number address)) }
+        ensures exact { (bytes : ℕ → List ℕ) → TellsOf (shown self.now) bytes →
+            IfSome result (λ byte. byte ≡ slice_index (bytes (line_number address)) (address % LINE_BYTES)) }
+    {
+        let line = line_of(address);
+        if !self.has_in_memory(line) {
+            return None;
+        }
+        let bytes = current(
+            self.first,
+            self.lines.as_slice(),
+            self.caches.as_slice(),
+            line,
+        );
+        Some(bytes[(address % LINE_BYTES) as usize])
+    }
+
+    /// The byte at an address in main memory, whatever copies there are.
+    pub fn main_byte(&self, address: u32) -> u8
+        requires { HasLine (shown self.now) (line_number address) }
+        ensures { result ≡ slice_index
+            (behind_of (shown self.now).first (shown self.now).lines (line_number address)) (address % LINE_BYTES) }
+    {
+        let line = self.lines[(line_of(address).number - self.first) as usize];
+        line[(address % LINE_BYTES) as usize]
+    }
+
+    /// Whether a line lies in main memory.
+    fn has_in_memory(&self, line: LineAddr) -> bool
+        ensures { MatchBool result (HasLine (shown self.now) line.number) (¬ (HasLine (shown self.now) line.number)) }
+    {
+        self.first <= line.number && ((line.number - self.first) as usize) < self.lines.len()
+    }
+
     /// A request of a hart is served: the other harts' copies go for a write, and change their letters
     /// for a read; the hart's own copy has the letter that its need gives, and is the most recent one
     /// of its set. A line that leaves the hart's cache for it is written back where main memory is
@@ -47,7 +121,14 @@ impl Hierarchy {
         if self.has(hart, line) {
             keep(&mut self.caches, hart, line, need);
         } else {
-            fetch(self.first, &mut self.lines, &mut self.caches, hart, line, need);
+            fetch(
+                self.first,
+                &mut self.lines,
+                &mut self.caches,
+                hart,
+                line,
+                need,
+            );
         }
     }
 

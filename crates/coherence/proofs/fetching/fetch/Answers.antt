@@ -30,10 +30,10 @@ returns c =
     let inside : h < length mid = subst (λ n. h < n) (sym c.others_give_up.ensures.count) c.requires.hart_exists in
     let was : before ≡ cache_at mid h = indexed mid c.from.result h before c.index_mut-cache.ensures.value c.from.ensures inside in
     let letter : c.filled.result ≡ filled_of c.args.need (others_have old h line) =
-        c.filled.ensures
-        ∙ ap (filled_of c.args.need) (c.others_have-shared.ensures ∙ ap (λ caches. others_have caches h line) c.as_slice.ensures.value) in
+    c.filled.ensures
+    ∙ ap (filled_of c.args.need) (c.others_have-shared.ensures ∙ ap (λ caches. others_have caches h line) c.as_slice.ensures.value) in
     let found : IsFound (copies_of old line) (behind_of c.args.first c.args.lines.now.items line) c.current-bytes.result =
-        rw (c.as_slice-3.ensures.value, c.as_slice-2.ensures.value) at c.current-bytes.ensures in
+    rw (c.as_slice-3.ensures.value, c.as_slice-2.ensures.value) at c.current-bytes.ensures in
     let parts : Fetch c.args.need h line old mid cache c.current-bytes.result c.fill-evicted.result = record {
       inside = c.requires.hart_exists;
       absent = c.requires.absent;

@@ -1,0 +1,24 @@
+use Rattle.std.proofs.Common.{◌≡◌, ◌∙◌, ◌*◌, ◌/◌, ◌%◌, ℕ, ap, arith, length}
+use Rattle.std.proofs.lemmas.List.FromFn.{length-map-range_with_len}
+use Rattle.coherence.specs.Beginning.{line_in}
+use Rattle.coherence.proofs.AtFirst.{first_coherent}
+use Rattle.coherence.proofs.hierarchy.Hierarchy.make.Goals as goal
+
+pub returns-clause-memory : goal.returns-clause-memory
+returns-clause-memory c =
+    first_coherent c.args.image.now (c.base.result / 64) _ _ _ _ c.in_ok-lines_of.field-0.items c.in_ok-empty_caches.field-0.items
+    (ap (λ n. n / 64) c.base.ensures.exact) (rw c.bytes-2.ensures.exact at c.in_ok-lines_of.ensures) c.in_ok-empty_caches.ensures
+
+whole_lines : (n : ℕ) → n % 64 ≡ 0 → n / 64 * 64 ≡ n
+whole_lines n on_line = omega (arith, on_line)
+
+pub returns-clause-first : goal.returns-clause-first
+returns-clause-first c =
+    let program = c.args.image.now in
+    let bytes = c.bytes.result.now in
+    let count = length bytes / 64 in
+    let lines : length c.in_ok-lines_of.field-0.items ≡ count =
+    ap length c.in_ok-lines_of.ensures ∙ length-map-range_with_len (line_in c.bytes-2.result.now) 0 count in (
+      ap (λ n. n / 64 * 64) c.base.ensures.exact ∙ whole_lines program.base c.base.ensures.valid.base_on_line,
+      ap (λ n. n * 64) (lines ∙ ap (λ b. length b / 64) c.bytes.ensures.exact) ∙ whole_lines (length program.bytes) c.base.ensures.valid.length_on_line,
+    )

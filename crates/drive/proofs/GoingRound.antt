@@ -2,7 +2,7 @@
 use Rattle.std.proofs.Math.Seq.{take-length}
 use Rattle.std.proofs.lemmas.Bool.{cases_order}
 use Rattle.std.proofs.lemmas.List.{take-append-le}
-use Rattle.std.proofs.Common.{◌≡◌, ℕ, zero, suc, ◌+◌, ◌-◌, ◌<◌, ◌≤◌, ◌⊎◌, List, [], ◌∷◌, ◌++◌, length, take, Some, false, refl, ◌∙◌, ap, sym, subst, arith, length-append, inl, inr}
+use Rattle.std.proofs.Common.{◌≡◌, ℕ, zero, suc, ◌+◌, ◌-◌, ◌<◌, ◌≤◌, ◌⊎◌, List, [], ◌∷◌, ◌++◌, length, take, Some, false, true, refl, ◌∙◌, ap, sym, subst, arith, length-append, inl, inr}
 use Rattle.std.specs.Prelude.{slice_get, IsTrue}
 use Rattle.drive.specs.Drivers.{MakesRoundRobin}
 use Rattle.el_base.specs.declared.events.Event.{Event}
@@ -44,13 +44,11 @@ slice_get_push (first ∷ xs) x (suc i) y found =
 reached : (before now : Story) (place : ℕ) (round : GoesRound before now place) → state_of now ≡ state_after (state_of before) round.made
 reached before now place round = ap state_of round.story ∙ state_of_continued before round.made
 
-pub one_made : (before now later : Story) (place : ℕ) (event : Event) (outcome : Outcome) → GoesRound before now place →
-    is_over (state_of now) ≡ false → IsEventAt before.config.harts place event →
-    later ≡ record now { entries = now.entries ++ record { event = event; outcome = outcome } ∷ [] } →
-    outcome ≡ (next (state_of now) event).outcome → GoesRound before later (place + 1)
-one_made before now later place event outcome round runs turn more told = record {
+pub one_made : (before now later : Story) (place : ℕ) (event : Event) → GoesRound before now place → is_over (state_of now) ≡ false →
+    IsEventAt before.config.harts place event → later ≡ continued now (event ∷ []) → GoesRound before later (place + 1)
+one_made before now later place event round runs turn more = record {
   made = round.made ++ event ∷ [];
-  story = continued_more before now later round.made event outcome round.story more told;
+  story = continued_more before now later round.made event round.story more;
   count = omega (arith, length-append round.made (event ∷ []), round.count);
   turns = λ i other found.
       elim (slice_get_push round.made event i other found) [
@@ -73,12 +71,12 @@ one_made before now later place event outcome round runs turn more told = record
 }
 
 -- a step is left where fewer were made than were left
-pub one_left : (before now : Story) (place : ℕ) → GoesRound before now place → place < left_of before → 1 ≤ left_of now
-one_left before now place round within =
+pub one_left : (before now : Story) (place steps : ℕ) → GoesRound before now place → steps ≡ left_of before → place < steps → 1 ≤ left_of now
+one_left before now place steps round all within =
     let left : left_of now ≡ left_of before - length round.made = ap left_of round.story ∙ left_of_continued before round.made in
-    omega (arith, round.count)
+    omega (arith, round.count, all, within)
 
-pub all_made : (before now : Story) (place : ℕ) → GoesRound before now place → place ≤ left_of before →
+all_made : (before now : Story) (place : ℕ) → GoesRound before now place → place ≤ left_of before →
     (place ≡ left_of before) ⊎ IsTrue (is_over (state_of now)) → MakesRoundRobin before now
 all_made before now place round within ended = record {
   made = round.made;
@@ -93,3 +91,11 @@ all_made before now place round within ended = record {
   };
   story = round.story;
 }
+
+-- a round robin ends where no step is left, or where every hart has stopped
+pub no_step_left : (before now : Story) (place : ℕ) → GoesRound before now place → place ≡ left_of before → MakesRoundRobin before now
+no_step_left before now place round full = all_made before now place round (omega (arith, full)) (inl full)
+
+pub all_stopped : (before now : Story) (place steps : ℕ) → GoesRound before now place → steps ≡ left_of before → place < steps →
+    is_over (state_of now) ≡ true → MakesRoundRobin before now
+all_stopped before now place steps round all within over = all_made before now place round (omega (arith, all, within)) (inr over)

@@ -9,14 +9,13 @@ use Rattle.machine.proofs.Continued.{continued_more, left_of_continued}
 use Rattle.machine.specs.Story.{Story, continued, left_of, state_of}
 
 -- the next of a list of events
-pub one_followed : (before now later : Story) (events : List Event) (place : ℕ) (event : Event) (outcome : Outcome) →
+pub one_followed : (before now later : Story) (events : List Event) (place : ℕ) (event : Event) →
     now ≡ continued before (take place events) → place < length events → event ≡ get_or events place event →
-    later ≡ record now { entries = now.entries ++ record { event = event; outcome = outcome } ∷ [] } →
-    outcome ≡ (next (state_of now) event).outcome → later ≡ continued before (take (place + 1) events)
-one_followed before now later events place event outcome reached within here more told =
+    later ≡ continued now (event ∷ []) → later ≡ continued before (take (place + 1) events)
+one_followed before now later events place event reached within here more =
     let next_ones : take place events ++ event ∷ [] ≡ take (place + 1) events =
     ap (λ e. take place events ++ e ∷ []) here ∙ sym (take_more events place event within) in
-    continued_more before now later (take place events) event outcome reached more told
+    continued_more before now later (take place events) event reached more
     ∙ ap (λ made. continued before made) next_ones
 
 -- a step is left for it

@@ -1,6 +1,7 @@
 ghost use Rattle.std.specs.Prelude.{◌≡◌, ◌<◌, ◌≤◌, ◌%◌, ◌/◌};
 ghost use Rattle.drive.specs.Drivers.{MakesRoundRobin};
 ghost use Rattle.el_base.specs.Kinds.{kind_number};
+ghost use Rattle.machine.specs.Story.{left_of};
 ghost use Rattle.plain_model.specs.RoundRobin.{IsEventAt};
 
 use el_base::{Event, HartId, Kind};
@@ -12,7 +13,20 @@ pub fn round_robin(machine: &mut Machine)
     ensures { MakesRoundRobin machine.old machine.new }
 {
     let harts = machine.config().harts;
-    for place in 0..machine.steps_left() {
+    let steps = machine.steps_left();
+    go_round(machine, harts, steps);
+}
+
+/// Makes the events of a round robin of so many harts, and of so many steps at most.
+#[tactic(auto, using(crate::proofs::GoingRound::none_made, crate::proofs::GoingRound::one_left, crate::proofs::GoingRound::one_made, crate::proofs::GoingRound::no_step_left, crate::proofs::GoingRound::all_stopped))]
+fn go_round(machine: &mut Machine, harts: u8, steps: u32)
+    requires some { 1 ≤ harts }
+    requires few { harts ≤ 8 }
+    requires harts_are { harts ≡ machine.old.config.harts }
+    requires steps_are { steps ≡ left_of machine.old }
+    ensures { MakesRoundRobin machine.old machine.new }
+{
+    for place in 0..steps {
         if machine.over() {
             break;
         }

@@ -3,11 +3,9 @@ use Rattle.std.proofs.Common.{◌≡◌, ◌-◌, length, length-append, arith, 
 use Rattle.std.proofs.lemmas.List.{map-append}
 use Rattle.chronicle.specs.Chronicle.{events}
 use Rattle.el_base.specs.declared.events.Event.{Event}
-use Rattle.el_base.specs.declared.outcomes.Outcome.{Outcome}
 use Rattle.plain_model.proofs.Runs.{entries_from-append, length-entries_from, events-entries_from, state_after-append}
 use Rattle.plain_model.specs.ModelState.{begin}
 use Rattle.plain_model.specs.Runs.{after, entries_from, state_after}
-use Rattle.plain_model.specs.Step.{next}
 use Rattle.machine.specs.Story.{Story, continued, left_of, state_of}
 
 -- the state after further events
@@ -36,17 +34,8 @@ continued_twice story first second =
     ∙ append_assoc story.entries (entries_from (state_of story) first) (entries_from (state_after (state_of story) first) second)
     ∙ ap (λ list. story.entries ++ list) (sym (entries_from-append (state_of story) first second)))
 
--- going on by one event, as a machine tells it
-pub continued_once : (story : Story) (event : Event) (outcome : Outcome) → outcome ≡ (next (state_of story) event).outcome →
-    record story { entries = story.entries ++ record { event = event; outcome = outcome } ∷ [] } ≡ continued story (event ∷ [])
-continued_once story event outcome told =
-    ap (λ o. record story { entries = story.entries ++ record { event = event; outcome = o } ∷ [] }) told
-
 -- one event more
-pub continued_more : (before now later : Story) (made : List Event) (event : Event) (outcome : Outcome) → now ≡ continued before made →
-    later ≡ record now { entries = now.entries ++ record { event = event; outcome = outcome } ∷ [] } →
-    outcome ≡ (next (state_of now) event).outcome → later ≡ continued before (made ++ event ∷ [])
-continued_more before now later made event outcome reached more told =
-    more ∙ continued_once now event outcome told
-    ∙ ap (λ story. continued story (event ∷ [])) reached
-    ∙ continued_twice before made (event ∷ [])
+pub continued_more : (before now later : Story) (made : List Event) (event : Event) → now ≡ continued before made →
+    later ≡ continued now (event ∷ []) → later ≡ continued before (made ++ event ∷ [])
+continued_more before now later made event reached more =
+    more ∙ ap (λ story. continued story (event ∷ [])) reached ∙ continued_twice before made (event ∷ [])

@@ -24,7 +24,7 @@ ghost use Rattle.el_base.specs.declared.config.ConfigFault.{ConfigFault};
 ghost use Rattle.el_base.specs.declared.config.Mode.TheVariants.{Plain};
 ghost use Rattle.plain_model.specs.ModelState.{is_over, shown_of};
 ghost use Rattle.plain_model.specs.Step.{next};
-ghost use Rattle.machine.specs.Story.{IsOneRun, Story, committed, history_of, left_of, memory_of, state_of};
+ghost use Rattle.machine.specs.Story.{IsOneRun, committed, continued, history_of, left_of, memory_of, state_of};
 ghost use Rattle.rv_alu.specs.Span.{holds};
 ghost use Rattle.rv_flat.specs.FlatState.{output_limit, view_of};
 ghost use Rattle.rv_flat.specs.Memory.{byte_in};
@@ -64,6 +64,7 @@ impl Machine {
     /// A machine before its first event, of an image that was made for the configuration's harts. It
     /// takes all memory of the run. An error is the fault of the configuration, if it has one, and
     /// else want of memory. Machines are built for the plain mode so far.
+    #[tactic(auto, using(crate::proofs::Beginning::first))]
     pub fn make(alloc: Global, image: Image, config: Config) -> Result<Machine, MakeFault>
         requires one_hart_each { image.harts ≡ config.harts }
         requires plain { config.mode ≡ Plain }
@@ -87,14 +88,12 @@ impl Machine {
     }
 
     /// Makes one event, and puts it with its outcome behind the history.
+    #[tactic(auto, using(crate::proofs::GoesOn::told_more))]
     pub fn step(&mut self, event: Event) -> Outcome
         requires hart_exists { event.hart.number < self.old.config.harts }
         requires step_left { 1 ≤ left_of self.old }
-        ensures one_entry_more { self.new ≡ record self.old {
-          entries = self.old.entries ++ record { event = event; outcome = result } ∷ [];
-        } }
+        ensures goes_on { self.new ≡ continued self.old (event ∷ []) }
         ensures outcome { result ≡ (next (state_of self.old) event).outcome }
-        ensures state { state_of self.new ≡ (next (state_of self.old) event).state }
         ensures one_run { IsOneRun self.new }
     {
         let outcome = self.engine.step(event);

@@ -1,6 +1,6 @@
 -- what one event does, case by case
 use Rattle.std.proofs.Common.{◌≡◌, ℕ, zero, suc, List, ◌∷◌, [], replicate, Bool, true, false, ◌&&◌, refl, sym, append-nil}
-use Rattle.std.specs.Prelude.{◌↔◌, IsTrue, slice_index_or}
+use Rattle.std.specs.Prelude.{IsTrue, slice_index_or}
 use Rattle.chronicle.specs.Serial.{effects}
 use Rattle.el_base.specs.declared.events.Event.{Event}
 use Rattle.el_base.specs.declared.events.Kind.{Kind}
@@ -36,7 +36,7 @@ unfolding next
 next_effect state event = kind_effect state event.hart.number event.kind
 
 -- no event changes the number of harts, the place and size of memory and the code
-unchanged : (state : FlatState) → KeepsShape state state
+pub unchanged : (state : FlatState) → KeepsShape state state
 unchanged state = record {
   base = refl;
   length_of_bytes = refl;
@@ -91,13 +91,10 @@ kind_ran state hart Order h = cc
 kind_ran state hart Serve h = cc
 kind_ran state hart Deliver h = cc
 
-running_step : (state : ModelState) (hart : ℕ) (kind : Kind) → (kind ≡ Step) × (status_of state.committed hart ≡ Running) → (kind_turn state hart kind).outcome ≡ Ran
-running_step state hart kind h = rw (h.0, h.1) refl
-
-pub next_ran : (state : ModelState) (event : Event) →
-    (((next state event).outcome ≡ Ran) ↔ ((event.kind ≡ Step) × (status_of state.committed event.hart.number ≡ Running)))
+pub next_ran : (state : ModelState) (event : Event) → (next state event).outcome ≡ Ran →
+    (event.kind ≡ Step) × (status_of state.committed event.hart.number ≡ Running)
 unfolding next
-next_ran state event = (kind_ran state event.hart.number event.kind, running_step state event.hart.number event.kind)
+next_ran state event = kind_ran state event.hart.number event.kind
 
 both_left : (a b : Bool) → (a && b) ≡ true → a ≡ true
 both_left true b h = refl

@@ -2,3 +2,4 @@ pub mod Events
 pub mod Runs
 pub mod RoundRobins
 mod Worked
+mod Wrong

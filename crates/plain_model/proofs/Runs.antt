@@ -1,13 +1,17 @@
 -- runs of events, by induction
-use Rattle.std.proofs.Common.{◌≡◌, suc, List, ◌∷◌, ◌++◌, [], length, map, replicate, refl, ◌∙◌, ap, sym}
+use Rattle.std.proofs.Common.{◌≡◌, suc, List, ◌∷◌, ◌++◌, [], length, map, replicate, refl, ◌∙◌, ap, append_assoc, sym}
 use Rattle.chronicle.specs.Chronicle.{events}
 use Rattle.chronicle.specs.Serial.{effects, serial}
 use Rattle.el_base.specs.declared.events.Event.{Event}
-use Rattle.plain_model.specs.ModelState.{ModelState}
-use Rattle.plain_model.specs.Runs.{state_after, outcomes_from, entries_from}
+use Rattle.el_base.specs.declared.config.Config.{Config}
+use Rattle.elf_image.specs.Program.{Program}
+use Rattle.plain_model.specs.ModelState.{ModelState, begin}
+use Rattle.plain_model.specs.Runs.{after, entries_from, outcomes_from, state_after}
 use Rattle.plain_model.specs.Step.{next}
+use Rattle.rv_flat.specs.FlatState.{FlatState, start}
+use Rattle.rv_flat.specs.Laws.{KeepsShape}
 use Rattle.rv_flat.specs.Run.{run}
-use Rattle.plain_model.proofs.Events.{next_effect}
+use Rattle.plain_model.proofs.Events.{next_effect, next_keeps, unchanged}
 use Rattle.rv_flat.proofs.StepLaws.{run_append}
 
 pub state_after-append : (state : ModelState) (first second : List Event) →
@@ -54,3 +58,25 @@ pub outcomes-entries_from : (state : ModelState) (made : List Event) →
 outcomes-entries_from state [] = refl
 outcomes-entries_from state (event ∷ made) =
     ap (λ rest. (next state event).outcome ∷ rest) (outcomes-entries_from (next state event).state made)
+
+-- no event changes the place and size of memory, the code and the number of harts
+keeps_twice : (first second third : FlatState) → KeepsShape first second → KeepsShape second third → KeepsShape first third
+keeps_twice first second third one two = record {
+  base = two.base ∙ one.base;
+  length_of_bytes = two.length_of_bytes ∙ one.length_of_bytes;
+  code = two.code ∙ one.code;
+  harts = two.harts ∙ one.harts;
+  more = one.more ++ two.more;
+  output = two.output ∙ ap (λ output. output ++ two.more) one.output ∙ append_assoc first.output one.more two.more;
+}
+
+keeps_after : (state : ModelState) (events : List Event) → KeepsShape state.committed (state_after state events).committed
+keeps_after state [] = unchanged state.committed
+keeps_after state (event ∷ events) =
+    keeps_twice state.committed (next state event).state.committed (state_after state (event ∷ events)).committed (next_keeps state event)
+    (keeps_after (next state event).state events)
+
+pub keeps_place : (program : Program) (config : Config) (events : List Event) →
+    KeepsShape (start program) (after program config events).committed
+unfolding begin
+keeps_place program config events = keeps_after (begin program config) events

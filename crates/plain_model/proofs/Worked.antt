@@ -19,7 +19,7 @@ use Rattle.rv_flat.specs.FlatState.{start, first_view, status_of}
 use Rattle.rv_flat.specs.Step.{flat}
 
 -- `addi x10,x10,1`, and nothing behind it
-abbrev program : Program
+abbrev pub program : Program
 program = record {
   base = 0x10000;
   bytes = [];
@@ -28,16 +28,16 @@ program = record {
   code = record { start = 0x10000; bytes = 0x13 ∷ 0x05 ∷ 0x15 ∷ 0x00 ∷ [] } ∷ [];
 }
 
-abbrev first : HartId
+abbrev pub first : HartId
 first = record { number = 0; small = lit< tt }
 
-abbrev second : HartId
+abbrev pub second : HartId
 second = record { number = 1; small = lit< tt }
 
-abbrev of : Kind → HartId → Event
+abbrev pub of : Kind → HartId → Event
 of kind hart = record { kind = kind; hart = hart }
 
-abbrev made : List Event
+abbrev pub made : List Event
 made =
     of Step first ∷ of Order first ∷ of Serve first ∷ of Deliver first ∷ of Step second
     ∷ of Step first ∷ of Step first ∷ of Step second ∷ of Step second ∷ []

@@ -1,11 +1,10 @@
 ghost use Rattle.plain_model.specs.Laws.{
   CommitsInSerialOrder,
-  EachEventHasOneOutcome,
   IdleChangesNothing,
+  KeepsPlace,
   OneRoundRobin,
+  OnlyRunningHartsRun,
   OverIsIdle,
-  RunningHartsRun,
-  RunsCompose,
 };
 
 /// Whatever the events, the committed state is that of one run of the program on plain shared memory,
@@ -15,14 +14,10 @@ pub fn commits_in_serial_order()
     ensures { CommitsInSerialOrder }
 {}
 
-/// Some events and then others are all of them in one run.
-pub fn runs_compose()
-    ensures { RunsCompose }
-{}
-
-/// Each event has one outcome.
-pub fn each_event_has_one_outcome()
-    ensures { EachEventHasOneOutcome }
+/// Whatever the events, memory lies where the program's does, code is the program's, and there are as
+/// many harts.
+pub fn keeps_place()
+    ensures { KeepsPlace }
 {}
 
 /// An event that had nothing to do has changed nothing.
@@ -31,13 +26,12 @@ pub fn idle_changes_nothing()
     ensures { IdleChangesNothing }
 {}
 
-/// An instruction takes effect outside of a section exactly at a step of a hart that runs.
-#[tactic(auto, using(crate::proofs::Events::next_ran))]
-pub fn running_harts_run()
-    ensures { RunningHartsRun }
+/// An instruction takes effect outside of a section only at a step of a hart that runs.
+pub fn only_running_harts_run()
+    ensures { OnlyRunningHartsRun }
 {}
 
-/// Once every hart has stopped, no event has anything to do.
+/// In each state that a program can reach, once every hart has stopped no event has anything to do.
 #[tactic(auto, using(crate::proofs::Events::next_over))]
 pub fn over_is_idle()
     ensures { OverIsIdle }

@@ -9,5 +9,4 @@ step-requires-clause-step_left c =
 pub loop-event-preserved : goal.loop-event-preserved
 loop-event-preserved c =
     one_followed c.args.machine.now c.loop-event.machine c.step.new.self c.args.events.now c.loop-event.event-index
-    c.event-item.result c.step.result c.loop-event.invariant c.loop-event-test.true c.event-item.is
-    c.step.ensures.one_entry_more c.step.ensures.outcome
+    c.event-item.result c.loop-event.invariant c.loop-event-test.true c.event-item.is c.step.ensures.goes_on

@@ -1,8 +1,11 @@
-use Rattle.std.proofs.Common.{sym, ◌∙◌, ap}
-use Rattle.plain_model.specs.Step.{next}
-use Rattle.machine.specs.Story.{state_of}
-use Rattle.machine.proofs.GoesOn.{stands_more}
+use Rattle.std.proofs.Common.{ℕ, ◌<◌, ap, refl, subst, sym, ◌∙◌}
+use Rattle.machine.proofs.GoesOn.{as_many, one_run, stands_more, told_more}
 use Rattle.machine.proofs.machine.Machine.step.Goals as goal
+
+pub step-outcome-requires : goal.step-outcome-requires
+step-outcome-requires c =
+    let Below : ℕ → Type 0 = λ count. c.args.event.hart.number < count in
+    subst Below (sym (as_many _ _ _ _ c.self.invariant c.self.view_is)) c.requires.hart_exists
 
 pub invariant_of-self : goal.invariant_of-self
 invariant_of-self c =
@@ -11,11 +14,5 @@ invariant_of-self c =
     rw c.push.ensures
     (stands_more _ _ _ _ _ _ c.self.invariant below left c.step-outcome.ensures.state c.step-outcome.ensures.outcome)
 
-pub returns-clause-state : goal.returns-clause-state
-returns-clause-state c =
-    sym (invariant_of-self c).state
-    ∙ c.step-outcome.ensures.state
-    ∙ ap (λ s. (next s c.args.event).state) (c.self.invariant.state ∙ ap state_of c.self.view_is)
-
 pub returns-clause-one_run : goal.returns-clause-one_run
-returns-clause-one_run c = (invariant_of-self c).run
+returns-clause-one_run c = one_run _ _ _ _ (invariant_of-self c) refl

@@ -27,10 +27,8 @@ use el_io::{Shelf, ShelfFault};
 use elf_image::{IMAGE_FILE_LIMIT, Image, load};
 use machine::Machine;
 use std::alloc::Global;
-use trace_file::{Trace, read_trace};
+use trace_file::{MAX_FILE_BYTES, Trace, read_trace};
 
-/// The most bytes that a trace may have: its head, and a byte for each of the most steps.
-const TRACE_LIMIT: u32 = 16_777_238;
 
 /// Does what the words ask for, as far as it puts and writes nothing. The words are those after the
 /// program's name.
@@ -94,7 +92,7 @@ fn replay<S: Shelf>(alloc: Global, shelf: &mut S, image: &str, trace: &str) -> R
         (StopLists calls (S.failures shelf.old) (S.failures shelf.new)) }
 {
     let image = read_file(alloc, shelf, image, IMAGE_FILE_LIMIT)?;
-    let trace = read_file(alloc, shelf, trace, TRACE_LIMIT)?;
+    let trace = read_file(alloc, shelf, trace, MAX_FILE_BYTES)?;
     follow_trace(alloc, image, trace)
 }
 

@@ -5,15 +5,17 @@ use Rattle.std.proofs.lemmas.Bool.{ltb-false}
 use Rattle.std.proofs.lemmas.List.{get_or-drop, length-drop, drop-drop}
 use Rattle.std.specs.Option.{option_or}
 use Rattle.std.proofs.lemmas.Bool.Decides.{nat_tests}
-use Rattle.el_base.specs.Config.{within}
+use Rattle.el_base.specs.Config.{allows}
+use Rattle.el_base.specs.declared.config.ConfigFault.TheVariants.{Harts, Sets, Ways, Lines, Long, Steps}
 use Rattle.el_base.specs.Firsts.{first_of, some_if}
 use Rattle.byteorder.specs.Endian.{little_bytes, little_number}
 use Rattle.el_base.specs.declared.config.Config.{Config}
-use Rattle.trace_file.specs.declared.fault.Fault.{Fault}
+use Rattle.el_base.specs.declared.file_fault.FileFault.{FileFault}
 use Rattle.trace_file.specs.declared.fault.FaultKind.{FaultKind}
 use Rattle.trace_file.specs.declared.fault.FaultKind.TheVariants.{Short, Magic, Version, Config as config_kind}
 use Rattle.trace_file.specs.Spelling.{head, mode_number, last_mode}
-use Rattle.trace_file.specs.Faults.{fault_of, field, wrong, byte_fault, magic_fault, version_fault, sets_fault, settings_fault, number_fault, number_at, mode_at, config_at}
+use Rattle.trace_file.specs.FaultKinds.{fault_of}
+use Rattle.trace_file.specs.Faults.{field, wrong, byte_fault, magic_fault, version_fault, settings_fault, number_fault, is_built, number_at, mode_at, config_at}
 
 abbrev pub IsBytes : List ℕ → Type 0
 IsBytes bytes = (i : ℕ) → get_or bytes i 0 < 256
@@ -63,7 +65,7 @@ four_at file place end fits long is =
 
 -- ---- faults
 
-pub or_none : (a b : Option Fault) → option_or a b ≡ None → (a ≡ None) × (b ≡ None)
+pub or_none : (a b : Option FileFault) → option_or a b ≡ None → (a ≡ None) × (b ≡ None)
 or_none None b none = (refl, none)
 or_none (Some fault) b none = absurd cc
 
@@ -71,12 +73,12 @@ pub if_none : (wrong : Bool) (kind : FaultKind) (place : ℕ) → some_if wrong 
 if_none true kind place none = absurd cc
 if_none false kind place none = refl
 
-neither : (short : Bool) (x : Fault) (fault : Option Fault) → cond short (Some x) fault ≡ None →
+neither : (short : Bool) (x : FileFault) (fault : Option FileFault) → cond short (Some x) fault ≡ None →
     (short ≡ false) × (fault ≡ None)
 neither true x fault none = absurd cc
 neither false x fault none = (refl, none)
 
-pub field_none : (file : List ℕ) (end : ℕ) (fault : Option Fault) → field file end fault ≡ None →
+pub field_none : (file : List ℕ) (end : ℕ) (fault : Option FileFault) → field file end fault ≡ None →
     (end ≤ length file) × (fault ≡ None)
 unfolding field
 field_none file end fault none =
@@ -119,26 +121,38 @@ mode_again (suc zero) small = refl
 mode_again (suc (suc zero)) small = refl
 mode_again (suc (suc (suc n))) small = absurd (omega arith)
 
-within_of : (low high n : ℕ) → not (within low high n) ≡ false → (low ≤ n) × (n ≤ high)
-within_of low high n e = grind (arith, nat_tests)
+pub not_true : (b : Bool) → not b ≡ false → b ≡ true
+not_true true e = refl
+not_true false e = absurd cc
 
-byte_none : (file : List ℕ) (place low high : ℕ) → byte_fault file place low high ≡ None →
-    (low ≤ get_or file place 0) × (get_or file place 0 ≤ high)
+-- a field without a fault passes its test
+pub byte_passed : (file : List ℕ) (place : ℕ) (test : ℕ → Bool) → byte_fault file place test ≡ None → test (get_or file place 0) ≡ true
 unfolding byte_fault
-byte_none file place low high none =
-    let beyond = not (within low high (get_or file place 0)) in
-    let e = field_none file (place + 1) (some_if beyond (fault_of config_kind place)) none in
-    within_of low high (get_or file place 0) (if_none beyond config_kind place e.1)
+byte_passed file place test none =
+    let passed = test (get_or file place 0) in
+    let e = field_none file (place + 1) (some_if (not passed) (fault_of config_kind place)) none in
+    not_true passed (if_none (not passed) config_kind place e.1)
+
+pub number_passed : (file : List ℕ) (place : ℕ) (test : ℕ → Bool) → number_fault file place test ≡ None →
+    (place + 4 ≤ length file) × (test (number_at file place) ≡ true)
+unfolding number_fault
+number_passed file place test none =
+    let passed = test (number_at file place) in
+    let e = field_none file (place + 4) (some_if (not passed) (fault_of config_kind place)) none in
+    (e.0, not_true passed (if_none (not passed) config_kind place e.1))
+
+at_most_last : (n : ℕ) → is_built n ≡ true → n ≤ last_mode
+at_most_last n built = grind (arith, nat_tests)
 
 pub mode_none : (file : List ℕ) → settings_fault file ≡ None →
     (mode_number (mode_at (get_or file 6 0)) ≡ get_or file 6 0) × (get_or file 6 0 ≤ last_mode)
 unfolding settings_fault
 mode_none file none =
-    let numbers = number_fault file 10 2 65536 ∷ number_fault file 14 1 16777216 ∷ [] in
-    let behind = sets_fault file ∷ byte_fault file 8 1 8 ∷ byte_fault file 9 1 32 ∷ numbers in
-    let e = or_none (byte_fault file 5 1 8) (first_of (byte_fault file 6 0 last_mode ∷ behind)) none in
-    let mode = or_none (byte_fault file 6 0 last_mode) (first_of behind) e.1 in
-    let small : get_or file 6 0 ≤ last_mode = (byte_none file 6 0 last_mode mode.0).1 in
+    let numbers = number_fault file 10 (allows Long) ∷ number_fault file 14 (allows Steps) ∷ [] in
+    let behind = byte_fault file 7 (allows Sets) ∷ byte_fault file 8 (allows Ways) ∷ byte_fault file 9 (allows Lines) ∷ numbers in
+    let e = or_none (byte_fault file 5 (allows Harts)) (first_of (byte_fault file 6 is_built ∷ behind)) none in
+    let mode = or_none (byte_fault file 6 is_built) (first_of behind) e.1 in
+    let small : get_or file 6 0 ≤ last_mode = at_most_last (get_or file 6 0) (byte_passed file 6 is_built mode.0) in
     (mode_again (get_or file 6 0) (omega arith), small)
 
 -- ---- the head

@@ -7,72 +7,48 @@ use Rattle.std.proofs.lemmas.Bool.{ltb-false}
 use Rattle.std.proofs.lemmas.Bool.Decides.{nat_tests}
 use Rattle.std.proofs.lemmas.List.Elements.{All-cons}
 use Rattle.std.proofs.lemmas.List.{length-drop}
-use Rattle.el_base.specs.Config.{within, set_counts}
+use Rattle.el_base.specs.Config.{allows}
+use Rattle.el_base.specs.declared.config.ConfigFault.TheVariants.{Harts, Sets, Ways, Lines, Long, Steps}
+use Rattle.el_base.specs.declared.hart_id.TheConstants.{MAX_HARTS}
 use Rattle.el_base.specs.Firsts.{first_of, some_if}
 use Rattle.el_base.proofs.Ranges.{Ranges, in_range, at_most}
 use Rattle.el_base.specs.Kinds.{kind_number}
 use Rattle.el_base.specs.declared.hart_id.HartId.{HartId}
 use Rattle.el_base.specs.declared.events.Event.{Event}
 use Rattle.el_base.specs.declared.config.Config.{Config}
-use Rattle.trace_file.specs.declared.fault.FaultKind.TheVariants.{Config as config_kind, Event as event_kind, Tail}
+use Rattle.trace_file.specs.declared.fault.FaultKind.TheVariants.{Event as event_kind, Tail}
 use Rattle.trace_file.specs.Spelling.{spelling, event_byte, last_mode, IsTrace, IsBuilt}
-use Rattle.trace_file.specs.Faults.{fault_of, byte_fault, magic_fault, version_fault, sets_fault, settings_fault, number_fault, head_fault, number_at, config_at, is_event, event_fault, end_fault, trace_fault}
+use Rattle.trace_file.specs.FaultKinds.{fault_of}
+use Rattle.trace_file.specs.Faults.{byte_fault, magic_fault, version_fault, settings_fault, number_fault, head_fault, number_at, config_at, is_built, is_few, is_event, event_fault, end_fault, trace_fault}
 use Rattle.trace_file.proofs.EventBytes.{none_fails, all_taken}
-use Rattle.trace_file.proofs.Heads.{IsBytes, or_none, if_none, field_none, mode_none, head_spelled}
+use Rattle.trace_file.proofs.Heads.{IsBytes, byte_passed, number_passed, or_none, if_none, field_none, mode_none, head_spelled}
 use Rattle.trace_file.proofs.Spelled.{kind_at, read_is}
 
 -- ---- the configuration
 
-not_true : (b : Bool) → not b ≡ false → b ≡ true
-not_true true e = refl
-not_true false e = absurd cc
-
-byte_within : (file : List ℕ) (place low high : ℕ) → byte_fault file place low high ≡ None →
-    within low high (get_or file place 0) ≡ true
-unfolding byte_fault
-byte_within file place low high none =
-    let inside = within low high (get_or file place 0) in
-    let e = field_none file (place + 1) (some_if (not inside) (fault_of config_kind place)) none in
-    not_true inside (if_none (not inside) config_kind place e.1)
-
-number_within : (file : List ℕ) (place low high : ℕ) → number_fault file place low high ≡ None →
-    (place + 4 ≤ length file) × (within low high (number_at file place) ≡ true)
-unfolding number_fault
-number_within file place low high none =
-    let inside = within low high (number_at file place) in
-    let e = field_none file (place + 4) (some_if (not inside) (fault_of config_kind place)) none in
-    (e.0, not_true inside (if_none (not inside) config_kind place e.1))
-
-sets_known : (file : List ℕ) → sets_fault file ≡ None → list_any (λ n. n == get_or file 7 0) set_counts ≡ true
-unfolding sets_fault
-sets_known file none =
-    let known = list_any (λ n. n == get_or file 7 0) set_counts in
-    let e = field_none file 8 (some_if (not known) (fault_of config_kind 7)) none in
-    not_true known (if_none (not known) config_kind 7 e.1)
-
 settings_within : (file : List ℕ) → settings_fault file ≡ None → Ranges (config_at file)
 unfolding settings_fault config_at
 settings_within file none =
-    let numbers = number_fault file 14 1 16777216 ∷ [] in
-    let long = number_fault file 10 2 65536 ∷ numbers in
-    let lines = byte_fault file 9 1 32 ∷ long in
-    let ways = byte_fault file 8 1 8 ∷ lines in
-    let sets = sets_fault file ∷ ways in
-    let mode = byte_fault file 6 0 last_mode ∷ sets in
-    let e0 = or_none (byte_fault file 5 1 8) (first_of mode) none in
-    let e1 = or_none (byte_fault file 6 0 last_mode) (first_of sets) e0.1 in
-    let e2 = or_none (sets_fault file) (first_of ways) e1.1 in
-    let e3 = or_none (byte_fault file 8 1 8) (first_of lines) e2.1 in
-    let e4 = or_none (byte_fault file 9 1 32) (first_of long) e3.1 in
-    let e5 = or_none (number_fault file 10 2 65536) (first_of numbers) e4.1 in
-    let e6 = or_none (number_fault file 14 1 16777216) None e5.1 in
+    let numbers = number_fault file 14 (allows Steps) ∷ [] in
+    let long = number_fault file 10 (allows Long) ∷ numbers in
+    let lines = byte_fault file 9 (allows Lines) ∷ long in
+    let ways = byte_fault file 8 (allows Ways) ∷ lines in
+    let sets = byte_fault file 7 (allows Sets) ∷ ways in
+    let mode = byte_fault file 6 is_built ∷ sets in
+    let e0 = or_none (byte_fault file 5 (allows Harts)) (first_of mode) none in
+    let e1 = or_none (byte_fault file 6 is_built) (first_of sets) e0.1 in
+    let e2 = or_none (byte_fault file 7 (allows Sets)) (first_of ways) e1.1 in
+    let e3 = or_none (byte_fault file 8 (allows Ways)) (first_of lines) e2.1 in
+    let e4 = or_none (byte_fault file 9 (allows Lines)) (first_of long) e3.1 in
+    let e5 = or_none (number_fault file 10 (allows Long)) (first_of numbers) e4.1 in
+    let e6 = or_none (number_fault file 14 (allows Steps)) None e5.1 in
     record {
-      harts = byte_within file 5 1 8 e0.0;
-      sets = sets_known file e2.0;
-      ways = byte_within file 8 1 8 e3.0;
-      lines = byte_within file 9 1 32 e4.0;
-      long = (number_within file 10 2 65536 e5.0).1;
-      steps = (number_within file 14 1 16777216 e6.0).1;
+      harts = byte_passed file 5 (allows Harts) e0.0;
+      sets = byte_passed file 7 (allows Sets) e2.0;
+      ways = byte_passed file 8 (allows Ways) e3.0;
+      lines = byte_passed file 9 (allows Lines) e4.0;
+      long = (number_passed file 10 (allows Long) e5.0).1;
+      steps = (number_passed file 14 (allows Steps) e6.0).1;
     }
 
 -- ---- the events
@@ -111,6 +87,9 @@ events_of harts few (byte ∷ bytes) known =
 
 -- ---- the whole file
 
+few_of : (steps count : ℕ) → is_few steps count ≡ true → count ≤ steps
+few_of steps count few = grind (arith, nat_tests)
+
 no_place : (place : Option ℕ) → option_map (λ i. fault_of event_kind (22 + i)) place ≡ None → place ≡ None
 no_place None none = refl
 no_place (Some i) none = absurd cc
@@ -124,12 +103,12 @@ faultless file fits none =
     let e0 = or_none (head_fault file) (first_of (event_fault harts count file ∷ end_fault count file ∷ [])) none in
     let e1 = or_none (event_fault harts count file) (first_of (end_fault count file ∷ [])) e0.1 in
     let e2 = or_none (end_fault count file) None e1.1 in
-    let counted = number_fault file 18 0 (number_at file 14) ∷ [] in
+    let counted = number_fault file 18 (is_few (number_at file 14)) ∷ [] in
     let h0 = or_none (magic_fault file) (first_of (version_fault file ∷ settings_fault file ∷ counted)) e0.0 in
     let h1 = or_none (version_fault file) (first_of (settings_fault file ∷ counted)) h0.1 in
     let h2 = or_none (settings_fault file) (first_of counted) h1.1 in
-    let h3 = or_none (number_fault file 18 0 (number_at file 14)) None h2.1 in
-    let number = number_within file 18 0 (number_at file 14) h3.0 in
+    let h3 = or_none (number_fault file 18 (is_few (number_at file 14))) None h2.1 in
+    let number = number_passed file 18 (is_few (number_at file 14)) h3.0 in
     let c = config_at file in
     let r = settings_within file h2.0 in
     let spelled = head_spelled file c count fits number.0 h0.0 h1.0 h2.0 refl refl in
@@ -141,9 +120,9 @@ faultless file fits none =
     let bytes-are : take count bytes ≡ bytes = all_taken count bytes (omega (arith, length-drop 22 file)) in
     let known = none_fails (is_event harts) (take count bytes) (no_place _ e1.0) in
     let known' = rw bytes-are at known in
-    let events = events_of harts (at_most 1 8 harts r.harts) bytes known' in
+    let events = events_of harts (at_most 1 MAX_HARTS harts r.harts) bytes known' in
     let is =
-    read_is file c count events.0 (in_range c r) (at_most 0 (number_at file 14) count number.1) whole spelled
+    read_is file c count events.0 (in_range c r) (few_of (number_at file 14) count number.1) whole spelled
     events.1
     events.2
     in

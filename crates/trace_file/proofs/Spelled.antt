@@ -10,7 +10,9 @@ use Rattle.std.proofs.lemmas.List.Elements.{All-map}
 use Rattle.std.specs.Option.{option_or}
 use Rattle.byteorder.specs.Endian.{little_bytes}
 use Rattle.byteorder.specs.Numbers.{little_number-reads_back}
-use Rattle.el_base.specs.Config.{within, set_counts, IsInRange}
+use Rattle.el_base.specs.Config.{IsInRange, allows}
+use Rattle.el_base.specs.declared.config.ConfigFault.TheVariants.{Harts, Sets, Ways, Lines, Long, Steps}
+use Rattle.el_base.specs.declared.config.TheConstants.{MAX_STEPS}
 use Rattle.el_base.specs.Firsts.{some_if}
 use Rattle.el_base.proofs.Ranges.{Ranges, ranges, at_most}
 use Rattle.el_base.specs.Kinds.{kind_number}
@@ -22,15 +24,16 @@ use Rattle.el_base.specs.declared.events.Kind.TheVariants.{Step, Order, Serve, D
 use Rattle.el_base.specs.declared.config.Config.{Config}
 use Rattle.el_base.specs.declared.config.Mode.{Mode}
 use Rattle.el_base.specs.declared.config.Mode.TheVariants.{Plain, Sle, Tlr}
-use Rattle.trace_file.specs.declared.fault.Fault.{Fault}
+use Rattle.el_base.specs.declared.file_fault.FileFault.{FileFault}
 use Rattle.trace_file.specs.declared.fault.FaultKind.{FaultKind}
 use Rattle.trace_file.specs.declared.fault.FaultKind.TheVariants.{Config as config_kind}
 use Rattle.trace_file.specs.Spelling.{head, spelling, mode_number, event_byte, last_mode, IsTrace, IsBuilt}
-use Rattle.trace_file.specs.Faults.{fault_of, field, byte_fault, magic_fault, version_fault, sets_fault, settings_fault, number_fault, head_fault, number_at, mode_at, is_event, event_fault, end_fault, trace_fault}
+use Rattle.trace_file.specs.FaultKinds.{fault_of}
+use Rattle.trace_file.specs.Faults.{field, byte_fault, magic_fault, version_fault, settings_fault, number_fault, head_fault, number_at, mode_at, is_built, is_few, is_event, event_fault, end_fault, trace_fault}
 
 -- ---- fields without a fault
 
-field_passes : (file : List ℕ) (end : ℕ) (fault : Option Fault) → end ≤ length file → fault ≡ None →
+field_passes : (file : List ℕ) (end : ℕ) (fault : Option FileFault) → end ≤ length file → fault ≡ None →
     field file end fault ≡ None
 unfolding field
 field_passes file end fault whole none = rw (le-ltb (length file) end whole) none
@@ -39,17 +42,17 @@ holds_passes : (holds : Bool) (kind : FaultKind) (place : ℕ) → holds ≡ tru
 holds_passes true kind place e = refl
 holds_passes false kind place e = absurd cc
 
-byte_passes : (file : List ℕ) (place low high : ℕ) → place + 1 ≤ length file →
-    within low high (get_or file place 0) ≡ true → byte_fault file place low high ≡ None
+byte_passes : (file : List ℕ) (place : ℕ) (test : ℕ → Bool) → place + 1 ≤ length file → test (get_or file place 0) ≡ true →
+    byte_fault file place test ≡ None
 unfolding byte_fault
-byte_passes file place low high whole inside =
-    field_passes file (place + 1) _ whole (holds_passes (within low high (get_or file place 0)) config_kind place inside)
+byte_passes file place test whole passed =
+    field_passes file (place + 1) _ whole (holds_passes (test (get_or file place 0)) config_kind place passed)
 
-number_passes : (file : List ℕ) (place low high : ℕ) → place + 4 ≤ length file →
-    within low high (number_at file place) ≡ true → number_fault file place low high ≡ None
+number_passes : (file : List ℕ) (place : ℕ) (test : ℕ → Bool) → place + 4 ≤ length file → test (number_at file place) ≡ true →
+    number_fault file place test ≡ None
 unfolding number_fault
-number_passes file place low high whole inside =
-    field_passes file (place + 4) _ whole (holds_passes (within low high (number_at file place)) config_kind place inside)
+number_passes file place test whole passed =
+    field_passes file (place + 4) _ whole (holds_passes (test (number_at file place)) config_kind place passed)
 
 -- ---- what stands in a spelling
 
@@ -77,31 +80,30 @@ not_both false passes fails = absurd cc
 
 -- ---- a spelling has no fault
 
-both_none : (a b : Option Fault) → a ≡ None → b ≡ None → option_or a b ≡ None
+both_none : (a b : Option FileFault) → a ≡ None → b ≡ None → option_or a b ≡ None
 both_none None b first second = second
 both_none (Some fault) b first second = absurd cc
 
-count_within : (count steps : ℕ) → count ≤ steps → within 0 steps count ≡ true
-count_within count steps few = grind (arith, nat_tests)
+few_pass : (count steps : ℕ) → count ≤ steps → is_few steps count ≡ true
+few_pass count steps few = grind (arith, nat_tests)
 
 settings_pass : (c : Config) (es : List Event) → Ranges c → IsBuilt c.mode → settings_fault (spelling c es) ≡ None
-unfolding settings_fault sets_fault
+unfolding settings_fault
 settings_pass c es r built =
     let file = spelling c es in
     let long = spelled_length c es in
     let small = at_most 2 65536 c.long r.long in
-    let few = at_most 1 16777216 c.steps r.steps in
-    let mode = count_within (mode_number c.mode) last_mode built in
-    let long-in : within 2 65536 (number_at file 10) ≡ true = rw (long_is c es (omega arith)) r.long in
-    let steps-in : within 1 16777216 (number_at file 14) ≡ true = rw (steps_is c es (omega arith)) r.steps in
-    both_none (byte_fault file 5 1 8) _ (byte_passes file 5 1 8 (omega arith) r.harts)
-    (both_none (byte_fault file 6 0 last_mode) _ (byte_passes file 6 0 last_mode (omega arith) mode)
-    (both_none (sets_fault file) _
-    (field_passes file 8 _ (omega arith) (holds_passes (list_any (λ n. n == c.sets) set_counts) config_kind 7 r.sets))
-    (both_none (byte_fault file 8 1 8) _ (byte_passes file 8 1 8 (omega arith) r.ways)
-    (both_none (byte_fault file 9 1 32) _ (byte_passes file 9 1 32 (omega arith) r.lines)
-    (both_none (number_fault file 10 2 65536) _ (number_passes file 10 2 65536 (omega arith) long-in)
-    (both_none (number_fault file 14 1 16777216) None (number_passes file 14 1 16777216 (omega arith) steps-in) refl))))))
+    let few = at_most 1 MAX_STEPS c.steps r.steps in
+    let mode : is_built (mode_number c.mode) ≡ true = few_pass (mode_number c.mode) last_mode built in
+    let long-in : allows Long (number_at file 10) ≡ true = rw (long_is c es (omega arith)) r.long in
+    let steps-in : allows Steps (number_at file 14) ≡ true = rw (steps_is c es (omega arith)) r.steps in
+    both_none (byte_fault file 5 (allows Harts)) _ (byte_passes file 5 (allows Harts) (omega arith) r.harts)
+    (both_none (byte_fault file 6 is_built) _ (byte_passes file 6 is_built (omega arith) mode)
+    (both_none (byte_fault file 7 (allows Sets)) _ (byte_passes file 7 (allows Sets) (omega arith) r.sets)
+    (both_none (byte_fault file 8 (allows Ways)) _ (byte_passes file 8 (allows Ways) (omega arith) r.ways)
+    (both_none (byte_fault file 9 (allows Lines)) _ (byte_passes file 9 (allows Lines) (omega arith) r.lines)
+    (both_none (number_fault file 10 (allows Long)) _ (number_passes file 10 (allows Long) (omega arith) long-in)
+    (both_none (number_fault file 14 (allows Steps)) None (number_passes file 14 (allows Steps) (omega arith) steps-in) refl))))))
 
 head_passes : (c : Config) (es : List Event) → Ranges c → IsBuilt c.mode → length es ≤ c.steps →
     head_fault (spelling c es) ≡ None
@@ -109,15 +111,15 @@ unfolding head_fault magic_fault version_fault
 head_passes c es r built few =
     let file = spelling c es in
     let long = spelled_length c es in
-    let most = at_most 1 16777216 c.steps r.steps in
-    let count-in : within 0 (number_at file 14) (number_at file 18) ≡ true =
-    rw (steps_is c es (omega arith), count_is c es (omega arith)) (count_within (length es) c.steps few)
+    let most = at_most 1 MAX_STEPS c.steps r.steps in
+    let count-in : is_few (number_at file 14) (number_at file 18) ≡ true =
+    rw (steps_is c es (omega arith), count_is c es (omega arith)) (few_pass (length es) c.steps few)
     in
     both_none (magic_fault file) _ (field_passes file 4 _ (omega arith) refl)
     (both_none (version_fault file) _ (field_passes file 5 _ (omega arith) refl)
     (both_none (settings_fault file) _ (settings_pass c es r built)
-    (both_none (number_fault file 18 0 (number_at file 14)) None
-    (number_passes file 18 0 (number_at file 14) (omega arith) count-in) refl)))
+    (both_none (number_fault file 18 (is_few (number_at file 14))) None
+    (number_passes file 18 (is_few (number_at file 14)) (omega arith) count-in) refl)))
 
 kind_small : (kind : Kind) → kind_number kind ≤ 3
 kind_small Step = omega arith
@@ -174,7 +176,7 @@ pub no_fault : (c : Config) (es : List Event) (file : List ℕ) → IsTrace c es
 unfolding trace_fault
 no_fault c es file is built file-is =
     let r = ranges c is.in_range in
-    let most = at_most 1 16777216 c.steps r.steps in
+    let most = at_most 1 MAX_STEPS c.steps r.steps in
     let few = is.few in
     let count = count_is c es (omega arith) in
     let spelled : trace_fault (spelling c es) ≡ None =
@@ -253,8 +255,8 @@ one_spelling c d es fs is is' same =
     let r' = ranges d is'.in_range in
     let long = at_most 2 65536 c.long r.long in
     let long' = at_most 2 65536 d.long r'.long in
-    let steps = at_most 1 16777216 c.steps r.steps in
-    let steps' = at_most 1 16777216 d.steps r'.steps in
+    let steps = at_most 1 MAX_STEPS c.steps r.steps in
+    let steps' = at_most 1 MAX_STEPS d.steps r'.steps in
     let harts-are : c.harts ≡ d.harts = ap (λ (l : List ℕ). get_or l 5 0) same in
     let mode-is : c.mode ≡ d.mode =
     sym (mode_back c.mode) ∙ ap (λ (l : List ℕ). mode_at (get_or l 6 0)) same ∙ mode_back d.mode

@@ -1,2 +1,3 @@
+pub mod FaultKinds
 pub mod Faults
 pub mod Spelling

@@ -1,45 +1,81 @@
 //! What is wrong with a file that is no trace.
 
-use el_base::NoMemory;
+ghost use Rattle.std.specs.Prelude.{◌≡◌};
+ghost use Rattle.std.specs.Option.{option_copied};
+ghost use Rattle.trace_file.specs.FaultKinds as kinds;
+
+use el_base::{FileFault, NoMemory};
 use thiserror::Error;
 
-/// The kinds of faults, by number.
+/// The kinds of faults, by number. Their numbers, names and order are this project's.
 #[derive(Clone, Copy, Debug, PartialEq, Eq)]
 pub enum FaultKind {
     /// The file ends before a field or an event is whole.
     Short = 1,
     /// The file does not begin with the four magic bytes.
-    Magic = 2,
+    Magic,
     /// The version is not 1.
-    Version = 3,
+    Version,
     /// A field of the configuration is out of its range, or there are more events than steps.
-    Config = 4,
+    Config,
     /// An event has no kind, or a hart that the machine lacks.
-    Event = 5,
+    Event,
     /// Bytes follow the last event.
-    Tail = 6,
+    Tail,
 }
 
-/// A fault of a file: its number, and the place in the file that shows it.
-#[derive(Clone, Copy, Debug, PartialEq, Eq)]
-pub struct Fault {
-    pub number: u8,
-    pub place: u32,
-}
+impl FaultKind {
+    /// All kinds, in the order of their numbers.
+    pub const ALL: [FaultKind; 6] = [
+        FaultKind::Short,
+        FaultKind::Magic,
+        FaultKind::Version,
+        FaultKind::Config,
+        FaultKind::Event,
+        FaultKind::Tail,
+    ];
 
-impl Fault {
-    ghost use Rattle.std.specs.Prelude.{◌≡◌};
-    ghost use Rattle.trace_file.specs.Faults.{fault_of};
-
-    /// The fault of a kind at a place of the file.
-    pub fn new(kind: FaultKind, place: u32) -> Fault
-        ensures { result ≡ fault_of kind place }
+    /// The number of the kind, from 1 to 6.
+    pub fn number(self) -> u8
+        ensures { result ≡ kinds.number_of self }
     {
-        Fault {
-            number: kind as u8,
+        self as u8
+    }
+
+    /// The name of the kind, as a refusal has it.
+    pub fn name(self) -> &'static str
+        ensures { result.now ≡ kinds.name_of self }
+    {
+        match self {
+            FaultKind::Short => "Short",
+            FaultKind::Magic => "Magic",
+            FaultKind::Version => "Version",
+            FaultKind::Config => "Config",
+            FaultKind::Event => "Event",
+            FaultKind::Tail => "Tail",
+        }
+    }
+
+    /// The fault of this kind that a place of the file shows.
+    pub fn at(self, place: u32) -> FileFault
+        ensures { result ≡ kinds.fault_of self place }
+    {
+        FileFault {
+            number: self.number(),
             place,
         }
     }
+}
+
+/// The name of the fault that has a number, or none where no fault has it: a number that is not from 1
+/// to 6.
+pub fn fault_name(number: u8) -> Option<&'static str>
+    ensures { option_copied result ≡ kinds.fault_name number }
+{
+    FaultKind::ALL
+        .iter()
+        .find(|kind| kind.number() == number)
+        .map(|kind| kind.name())
 }
 
 /// Why a file was not read as a trace.
@@ -54,13 +90,13 @@ pub enum TraceFault {
     NoMemory,
 }
 
-impl From<Fault> for TraceFault {
+impl From<FileFault> for TraceFault {
     ghost use Rattle.std.specs.Prelude.{◌≡◌};
     ghost use Rattle.trace_file.specs.declared.fault.TraceFault.TheVariants.{Bad};
 
     ghost from_gives = { λ fault answer. answer ≡ Bad fault.number fault.place };
 
-    fn from(fault: Fault) -> TraceFault {
+    fn from(fault: FileFault) -> TraceFault {
         TraceFault::Bad {
             number: fault.number,
             place: fault.place,

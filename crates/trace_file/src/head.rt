@@ -1,14 +1,13 @@
 //! The fields before the events.
 
-ghost use Rattle.std.specs.Prelude.{◌≡◌, ◌≤◌, ◌++◌, drop, None, Some, length, slice_index, IsTrue, IfOk, ◌==◌};
-ghost use Rattle.std.specs.List.{list_any};
-ghost use Rattle.el_base.specs.Config.{IsInRange, set_counts};
-ghost use Rattle.trace_file.specs.Faults.{Answers, Judges, head_fault, magic_fault, version_fault, byte_fault, sets_fault, settings_fault, number_at, mode_at, config_at};
-ghost use Rattle.trace_file.specs.Spelling.{head, last_mode, IsBuilt};
+ghost use Rattle.std.specs.Prelude.{◌≡◌, ◌≤◌, ◌++◌, drop, None, Some, length, slice_index, IfErr, IfOk, OnOk};
+ghost use Rattle.el_base.specs.Config.{IsInRange};
+ghost use Rattle.trace_file.specs.Faults.{byte_fault, config_at, head_fault, is_built, is_few, magic_fault, mode_at, number_at, number_fault, settings_fault, version_fault};
+ghost use Rattle.trace_file.specs.Spelling.{head, IsBuilt};
 
-use crate::fault::{Fault, FaultKind};
-use crate::fields::{byte_within, expect, number_within, reaches};
-use el_base::{Config, ConfigFault, Mode};
+use crate::fault::FaultKind;
+use crate::fields::{self, expect, reaches, setting_byte, setting_number};
+use el_base::{Config, ConfigFault, FileFault, MAX_STEPS, Mode};
 
 /// The first four bytes of a trace.
 pub const MAGIC: [u8; 4] = [b'E', b'L', b'T', b'R'];
@@ -20,6 +19,8 @@ pub const VERSION: u8 = 1;
 const HARTS: u32 = 5;
 
 const MODE: u32 = 6;
+
+const SETS: u32 = 7;
 
 const WAYS: u32 = 8;
 
@@ -34,6 +35,9 @@ const COUNT: u32 = 18;
 /// How many bytes stand before the events.
 pub const HEAD_BYTES: u32 = 22;
 
+/// The most bytes that a trace has: its head, and one byte an event.
+pub const MAX_FILE_BYTES: u32 = HEAD_BYTES + MAX_STEPS;
+
 /// The configuration of a trace, and how many events it says that it has.
 #[derive(Drop)]
 pub struct Head {
@@ -43,10 +47,11 @@ pub struct Head {
 
 /// The fields before the events, or the first fault among them.
 #[tactic(auto, unfolding(crate::specs::Faults::head_fault, crate::specs::Faults::config_at))]
-pub fn head_of(file: &[u8]) -> Result<Head, Fault>
-    ensures exact { Judges result (head_fault file.now) }
+pub fn head_of(file: &[u8]) -> Result<Head, FileFault>
+    ensures accepted { OnOk result (head_fault file.now ≡ None) }
+    ensures refused { IfErr result (λ fault. head_fault file.now ≡ Some fault) }
     ensures fields { IfOk result (λ head. (head.config ≡ config_at file.now) × (head.count ≡ number_at file.now 18)) }
-    ensures whole { IfOk result (λ _. 22 ≤ length file.now) }
+    ensures whole { OnOk result (22 ≤ length file.now) }
     ensures settings { IfOk result (λ head. IsInRange head.config × IsBuilt head.config.mode) }
     ensures few { IfOk result (λ head. head.count ≤ head.config.steps) }
     ensures spelled { IfOk result (λ found. file.now ≡ head found.config found.count ++ drop 22 file.now) }
@@ -54,13 +59,14 @@ pub fn head_of(file: &[u8]) -> Result<Head, Fault>
     check_magic(file)?;
     check_version(file)?;
     let config = config_of(file)?;
-    let count = number_within(file, COUNT, 0, config.steps)?;
+    let count = count_of(file, config.steps)?;
     Ok(Head { config, count })
 }
 
 #[tactic(auto, unfolding(crate::specs::Faults::field, crate::specs::Faults::magic_fault))]
-fn check_magic(file: &[u8]) -> Result<(), Fault>
-    ensures { Judges result (magic_fault file.now) }
+fn check_magic(file: &[u8]) -> Result<(), FileFault>
+    ensures accepted { OnOk result (magic_fault file.now ≡ None) }
+    ensures refused { IfErr result (λ fault. magic_fault file.now ≡ Some fault) }
 {
     reaches(file, 4)?;
     expect(file[0] == MAGIC[0], FaultKind::Magic, 0)?;
@@ -70,26 +76,29 @@ fn check_magic(file: &[u8]) -> Result<(), Fault>
 }
 
 #[tactic(auto, unfolding(crate::specs::Faults::field, crate::specs::Faults::version_fault))]
-fn check_version(file: &[u8]) -> Result<(), Fault>
-    ensures { Judges result (version_fault file.now) }
+fn check_version(file: &[u8]) -> Result<(), FileFault>
+    ensures accepted { OnOk result (version_fault file.now ≡ None) }
+    ensures refused { IfErr result (λ fault. version_fault file.now ≡ Some fault) }
 {
     reaches(file, 5)?;
     expect(file[4] == VERSION, FaultKind::Version, 4)
 }
 
 #[tactic(auto, unfolding(crate::specs::Faults::settings_fault, crate::specs::Faults::config_at))]
-fn config_of(file: &[u8]) -> Result<Config, Fault>
-    ensures exact { Answers result (config_at file.now) (settings_fault file.now) }
+fn config_of(file: &[u8]) -> Result<Config, FileFault>
+    ensures value { IfOk result (λ config. config ≡ config_at file.now) }
+    ensures accepted { OnOk result (settings_fault file.now ≡ None) }
+    ensures refused { IfErr result (λ fault. settings_fault file.now ≡ Some fault) }
     ensures in_range { IfOk result (λ config. IsInRange config) }
     ensures is_built { IfOk result (λ config. IsBuilt config.mode) }
 {
-    let harts = byte_within(file, HARTS, 1, 8)?;
+    let harts = setting_byte(file, HARTS, ConfigFault::Harts)?;
     let mode = mode_of(file)?;
-    let sets = sets_of(file)?;
-    let ways = byte_within(file, WAYS, 1, 8)?;
-    let lines = byte_within(file, LINES, 1, 32)?;
-    let long = number_within(file, LONG, 2, 65_536)?;
-    let steps = number_within(file, STEPS, 1, 16_777_216)?;
+    let sets = setting_byte(file, SETS, ConfigFault::Sets)?;
+    let ways = setting_byte(file, WAYS, ConfigFault::Ways)?;
+    let lines = setting_byte(file, LINES, ConfigFault::Lines)?;
+    let long = setting_number(file, LONG, ConfigFault::Long)?;
+    let steps = setting_number(file, STEPS, ConfigFault::Steps)?;
     Ok(Config {
         harts,
         mode,
@@ -105,24 +114,34 @@ fn config_of(file: &[u8]) -> Result<Config, Fault>
 const LAST_MODE: u8 = 0;
 
 /// The mode, one of those that machines are built for.
-fn mode_of(file: &[u8]) -> Result<Mode, Fault>
-    ensures exact { Answers result (mode_at (slice_index file.now 6)) (byte_fault file.now 6 0 last_mode) }
+#[tactic(auto, unfolding(crate::specs::Faults::field, crate::specs::Faults::byte_fault))]
+fn mode_of(file: &[u8]) -> Result<Mode, FileFault>
+    ensures value { IfOk result (λ mode. mode ≡ mode_at (slice_index file.now 6)) }
+    ensures accepted { OnOk result (byte_fault file.now 6 is_built ≡ None) }
+    ensures refused { IfErr result (λ fault. byte_fault file.now 6 is_built ≡ Some fault) }
     ensures is_built { IfOk result (λ mode. IsBuilt mode) }
 {
-    match byte_within(file, MODE, 0, LAST_MODE)? {
+    reaches(file, MODE + 1)?;
+    let number = file[MODE as usize];
+    expect(number <= LAST_MODE, FaultKind::Config, MODE)?;
+    match number {
         0 => Ok(Mode::Plain),
         1 => Ok(Mode::Sle),
         _ => Ok(Mode::Tlr),
     }
 }
 
-#[tactic(auto, unfolding(crate::specs::Faults::field, crate::specs::Faults::sets_fault))]
-fn sets_of(file: &[u8]) -> Result<u8, Fault>
-    ensures exact { Answers result (slice_index file.now 7) (sets_fault file.now) }
-    ensures known { IfOk result (λ sets. IsTrue (list_any (λ n. n == sets) set_counts)) }
+/// How many events there are: no more than steps.
+#[tactic(auto, unfolding(crate::specs::Faults::field, crate::specs::Faults::number_fault))]
+fn count_of(file: &[u8], steps: u32) -> Result<u32, FileFault>
+    ensures value { IfOk result (λ count. count ≡ number_at file.now 18) }
+    ensures accepted { OnOk result (number_fault file.now 18 (is_few steps) ≡ None) }
+    ensures refused { IfErr result (λ fault. number_fault file.now 18 (is_few steps) ≡ Some fault) }
+    ensures few { IfOk result (λ count. count ≤ steps) }
+    ensures whole { OnOk result (22 ≤ length file.now) }
 {
-    reaches(file, 8)?;
-    let sets = file[7];
-    expect(ConfigFault::Sets.allows(sets.into()), FaultKind::Config, 7)?;
-    Ok(sets)
+    reaches(file, COUNT + 4)?;
+    let count = fields::number_at(file, COUNT);
+    expect(count <= steps, FaultKind::Config, COUNT)?;
+    Ok(count)
 }

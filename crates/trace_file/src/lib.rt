@@ -17,7 +17,8 @@ mod reading;
 mod writing;
 
 pub use content::{Events, Trace};
-pub use fault::TraceFault;
+pub use fault::{FaultKind, TraceFault, fault_name};
+pub use head::MAX_FILE_BYTES;
 pub use laws::grammar;
 pub use reading::read_trace;
 pub use writing::write_trace;

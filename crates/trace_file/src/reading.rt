@@ -1,16 +1,17 @@
 //! From bytes to a trace.
 
-ghost use Rattle.std.specs.Prelude.{◌≡◌, ℕ, List, ◌+◌, ◌++◌, ◌<◌, ◌≤◌, None, Some, Err, IsTrue, not, position, length, map, slice_index, take, drop, All, IfNone, IfOk};
+ghost use Rattle.std.specs.Prelude.{◌≡◌, ℕ, List, ◌+◌, ◌++◌, ◌<◌, ◌≤◌, None, Some, Err, IsTrue, not, position, length, map, slice_index, take, drop, All, IfErr, IfNone, IfOk, OnOk};
 ghost use Rattle.el_base.specs.Config.{IsInRange};
 ghost use Rattle.el_base.specs.declared.config.Config.{Config};
-ghost use Rattle.trace_file.specs.Faults.{Judges, is_event, event_fault, end_fault, trace_fault, config_at, number_at};
+ghost use Rattle.el_base.specs.declared.config.TheConstants.{MAX_STEPS};
+ghost use Rattle.trace_file.specs.Faults.{is_event, event_fault, end_fault, trace_fault, config_at, number_at};
 ghost use Rattle.trace_file.specs.Spelling.{event_byte, head, spelling, IsTrace, IsBuilt};
 
 use crate::content::{Events, Trace};
-use crate::fault::{Fault, FaultKind, TraceFault};
+use crate::fault::{FaultKind, TraceFault};
 use crate::fields::{expect, reaches};
 use crate::head::{HEAD_BYTES, Head, head_of};
-use el_base::{Event, HartId, Kind, NoMemory};
+use el_base::{Event, FileFault, HartId, Kind, NoMemory};
 use std::alloc::Global;
 
 /// Whether a byte is an event of one of so many harts.
@@ -41,24 +42,26 @@ fn first_other(bytes: &[u8], harts: u8) -> Option<usize>
 }
 
 #[tactic(auto, unfolding(crate::specs::Faults::event_fault))]
-fn check_events(file: &[u8], harts: u8, count: u32) -> Result<(), Fault>
+fn check_events(file: &[u8], harts: u8, count: u32) -> Result<(), FileFault>
     requires head { 22 ≤ length file.now }
-    requires few { count ≤ 16777216 }
-    ensures exact { Judges result (event_fault harts count file.now) }
-    ensures each { IfOk result (λ _. All (λ byte. IsTrue (is_event harts byte)) (take count (drop 22 file.now))) }
+    requires few { count ≤ MAX_STEPS }
+    ensures accepted { OnOk result (event_fault harts count file.now ≡ None) }
+    ensures refused { IfErr result (λ fault. event_fault harts count file.now ≡ Some fault) }
+    ensures each { OnOk result (All (λ byte. IsTrue (is_event harts byte)) (take count (drop 22 file.now))) }
 {
     let events = at_most(count as usize, &file[HEAD_BYTES as usize..]);
     match first_other(events, harts) {
         None => Ok(()),
-        Some(place) => Err(Fault::new(FaultKind::Event, HEAD_BYTES + place as u32)),
+        Some(place) => Err(FaultKind::Event.at(HEAD_BYTES + place as u32)),
     }
 }
 
 #[tactic(auto, unfolding(crate::specs::Faults::field, crate::specs::Faults::end_fault))]
-fn check_end(file: &[u8], count: u32) -> Result<(), Fault>
-    requires few { count ≤ 16777216 }
-    ensures exact { Judges result (end_fault count file.now) }
-    ensures whole { IfOk result (λ _. length file.now ≡ 22 + count) }
+fn check_end(file: &[u8], count: u32) -> Result<(), FileFault>
+    requires few { count ≤ MAX_STEPS }
+    ensures accepted { OnOk result (end_fault count file.now ≡ None) }
+    ensures refused { IfErr result (λ fault. end_fault count file.now ≡ Some fault) }
+    ensures whole { OnOk result (length file.now ≡ 22 + count) }
 {
     reaches(file, HEAD_BYTES + count)?;
     let ends = file.len() == (HEAD_BYTES + count) as usize;
@@ -79,8 +82,9 @@ fn event_of(byte: u8, harts: u8) -> Event
 
 /// The fields before the events of a file that is a trace, or the first fault.
 #[tactic(auto, using(crate::proofs::EventBytes::all_taken), unfolding(crate::specs::Faults::trace_fault, crate::specs::Faults::config_at))]
-fn checked(file: &[u8]) -> Result<Head, Fault>
-    ensures exact { Judges result (trace_fault file.now) }
+fn checked(file: &[u8]) -> Result<Head, FileFault>
+    ensures accepted { OnOk result (trace_fault file.now ≡ None) }
+    ensures refused { IfErr result (λ fault. trace_fault file.now ≡ Some fault) }
     ensures settings { IfOk result (λ found. IsInRange found.config × IsBuilt found.config.mode) }
     ensures few { IfOk result (λ found. found.count ≤ found.config.steps) }
     ensures whole { IfOk result (λ found. length file.now ≡ 22 + found.count) }

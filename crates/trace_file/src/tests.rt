@@ -2,9 +2,9 @@ ghost use Rattle.std.specs.Prelude.{◌≡◌, ◌^◌, ◌<◌, length, IfOk};
 ghost use Rattle.chronicle.specs.Chronicle.{events};
 
 use super::*;
-use crate::fault::{Fault, FaultKind};
+use crate::fault::FaultKind;
 use chronicle::History;
-use el_base::{Config, Entry, Event, HartId, Kind, Mode, Outcome};
+use el_base::{Config, Entry, Event, FileFault, HartId, Kind, Mode, Outcome};
 use el_io::{MemShelf, ShelfFault, SureShelf};
 use std::alloc::Global;
 use std::test::Fail;
@@ -57,16 +57,16 @@ fn change(file: &mut [u8], changes: &[(usize, u8)]) {
     }
 }
 
-fn fault_of(alloc: Global, file: &[u8]) -> Option<Fault> {
+fn fault_of(alloc: Global, file: &[u8]) -> Option<FileFault> {
     match read_trace(alloc, file) {
-        Err(TraceFault::Bad { number, place }) => Some(Fault { number, place }),
+        Err(TraceFault::Bad { number, place }) => Some(FileFault { number, place }),
         _ => None,
     }
 }
 
 /// The fault of a kind at a place, or none.
-fn bad(fault: Option<(FaultKind, u32)>) -> Option<Fault> {
-    fault.map(|(kind, place)| Fault::new(kind, place))
+fn bad(fault: Option<(FaultKind, u32)>) -> Option<FileFault> {
+    fault.map(|(kind, place)| kind.at(place))
 }
 
 #[test]
@@ -125,7 +125,7 @@ fn each_kind_has_its_number(rt: HostRuntime) {
         (FaultKind::Event, 5),
         (FaultKind::Tail, 6),
     ] {
-        assert_eq!(rt; Fault::new(kind, 0).number, number, "{kind:?}");
+        assert_eq!(rt; kind.at(0).number, number, "{kind:?}");
     }
 }
 
@@ -135,17 +135,10 @@ fn each_cut_is_short(rt: HostRuntime) -> Result<(), Fail> {
     for len in 0..55_u32 {
         assert!(rt; len as usize <= file.len());
         let cut = fault_of(rt.alloc(), &file[..len as usize]);
-        assert_eq!(rt;
-            cut,
-            Some(Fault::new(FaultKind::Short, len)),
-            "cut to {len}"
-        );
+        assert_eq!(rt; cut, Some(FaultKind::Short.at(len)), "cut to {len}");
     }
     file.push(0x00)?;
-    assert_eq!(rt;
-        fault_of(rt.alloc(), &file),
-        Some(Fault::new(FaultKind::Tail, 55))
-    );
+    assert_eq!(rt; fault_of(rt.alloc(), &file), Some(FaultKind::Tail.at(55)));
     Ok(())
 }
 

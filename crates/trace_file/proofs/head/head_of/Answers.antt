@@ -10,8 +10,8 @@ returns-clause-spelled c =
     c.in_ok-count.count
     (λ i. omega (arith, c.type_inv.file i))
     (omega (arith, c.in_ok-count.ensures.whole))
-    c.in_ok-check_magic.ensures
-    c.in_ok-check_version.ensures
-    c.in_ok-config.ensures.exact.1
-    c.in_ok-config.ensures.exact.0
-    c.in_ok-count.ensures.exact.0
+    c.in_ok-check_magic.ensures.accepted
+    c.in_ok-check_version.ensures.accepted
+    c.in_ok-config.ensures.accepted
+    c.in_ok-config.ensures.value
+    c.in_ok-count.ensures.value

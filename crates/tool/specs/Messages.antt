@@ -1,4 +1,4 @@
--- The one line that a refusal puts to err.
+-- The one line that a refusal or a written image puts to err.
 use Rattle.std.specs.Prelude.{ℕ, List, [], ◌∷◌, ◌++◌, ◌==◌, codes, if◌then◌else◌, unwrap_or}
 use Rattle.std.specs.Fmt.{decimal}
 use Rattle.el_base.specs.declared.config.ConfigFault.{ConfigFault}
@@ -47,3 +47,7 @@ line_of (refusals.Config fault) = config_line fault
 line_of (refusals.TooBig limit) = codes "file too big: limit " ++ decimal limit ++ newline
 line_of (refusals.Image fault) = fault_line (codes "image") fault (unwrap_or (fault_name fault.number) [])
 line_of (refusals.Trace fault) = fault_line (codes "trace") fault (trace_fault_name fault.number)
+
+-- the line that says how many bytes a file was written with, with its newline
+abbrev pub written_line : ℕ → List ℕ
+written_line count = codes "wrote " ++ decimal count ++ codes " bytes" ++ newline

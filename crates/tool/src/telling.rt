@@ -7,6 +7,7 @@ ghost use Rattle.tool.specs.Causes.{Caused, FaultCounts, FaultLists, is_run, wri
 ghost use Rattle.tool.specs.Comes.{Comes, Untold, Unwritten, Wrote};
 ghost use Rattle.tool.specs.Messages.{line_of, written_line as line_of_written};
 ghost use Rattle.tool.specs.Statuses.{status_of};
+ghost use Rattle.tool.specs.Telling.{Only};
 
 use crate::ending::ending;
 use crate::made::Made;
@@ -27,7 +28,7 @@ pub(crate) fn tell<S: Shelf, O: Sink, E: Sink>(
     out: &mut O,
     err: &mut E,
 ) -> Result<Status, Fault>
-    ensures exact { Comes (λ answer. answer ≡ answer_of made.entry) (status_of result)
+    ensures exact { Comes (Only (answer_of made.entry)) (status_of result)
         (record { out = O.taken out.old; err = E.taken err.old; files = S.told shelf.old })
         (record { out = O.taken out.new; err = E.taken err.new; files = S.told shelf.new }) }
     ensures cause { Caused (writes_of made.entry) (is_run made.entry) (status_of result)
@@ -51,7 +52,7 @@ fn tell_run<S: Shelf, O: Sink, E: Sink>(
     out: &mut O,
     err: &mut E,
 ) -> Result<Status, Fault>
-    ensures exact { Comes (λ answer. answer ≡ ended (option_map (λ name. name.now) trace.entry) machine.now) (status_of result)
+    ensures exact { Comes (Only (ended (option_map (λ name. name.now) trace.entry) machine.now)) (status_of result)
         (record { out = O.taken out.old; err = E.taken err.old; files = S.told shelf.old })
         (record { out = O.taken out.new; err = E.taken err.new; files = S.told shelf.new }) }
     ensures cause { Caused (writes_to (option_map (λ name. name.now) trace.entry)) true (status_of result)
@@ -73,7 +74,7 @@ fn tell_image<S: Shelf, E: Sink>(
     shelf: &mut S,
     err: &mut E,
 ) -> Result<Status, Fault>
-    ensures exact { (out : Option (List ℕ)) → Comes (λ answer. answer ≡ generated file.now bytes.items) (status_of result)
+    ensures exact { (out : Option (List ℕ)) → Comes (Only (generated file.now bytes.items)) (status_of result)
         (record { out = out; err = E.taken err.old; files = S.told shelf.old })
         (record { out = out; err = E.taken err.new; files = S.told shelf.new }) }
     ensures cause { (out : ℕ) → Caused (writes_to (Some file.now)) false (status_of result)

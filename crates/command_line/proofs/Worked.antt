@@ -7,7 +7,7 @@ use Rattle.el_base.specs.declared.config.Mode.TheVariants.{Plain}
 use Rattle.command_line.specs.Numbers.{number_of}
 use Rattle.command_line.specs.Settings.{config_of}
 use Rattle.command_line.specs.Words.{Job, Gen, Replay, Run, RunJob, job_of}
-use Rattle.command_line.specs.declared.work.Work.TheVariants.{Bank, Overflow}
+use Rattle.workload.specs.declared.work.Work.TheVariants.{Bank, Overflow}
 
 -- to run the image `a` with no option
 abbrev bare : RunJob

@@ -7,8 +7,8 @@ use Rattle.command_line.specs.Numbers.{number_of}
 use Rattle.command_line.specs.declared.command.Command.{Command}
 use Rattle.command_line.specs.declared.command.Command.TheVariants as commands
 use Rattle.command_line.specs.declared.command.RunCommand.{RunCommand}
-use Rattle.command_line.specs.declared.work.Work.{Work}
-use Rattle.command_line.specs.declared.work.Work.TheVariants.{Counter, Bank, Buckets, Locks, Overflow}
+use Rattle.workload.specs.declared.work.Work.{Work}
+use Rattle.workload.specs.declared.work.Work.TheVariants.{Counter, Bank, Buckets, Locks, Overflow}
 
 -- an image to run, with what was given of the options
 pub record RunJob : Type 0 where

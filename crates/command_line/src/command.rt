@@ -1,4 +1,4 @@
-use crate::work::Work;
+use workload::Work;
 
 /// What a command line asks for.
 #[derive(Clone, Copy, Debug, PartialEq, Eq)]

@@ -1,8 +1,9 @@
 //! What the words of a command line ask for.
 //!
-//! The crate stands on `el_base`. It knows which words there are, `run` and `replay` with their
-//! positional words and options, and what they mean: a command with the names of its files, and the
-//! configuration of its machine. It opens no file and says nothing of what a command does.
+//! The crate stands on `el_base`, the kinds of `workload` and the kit's `clap`. It knows which words
+//! there are, `run`, `replay` and `gen` with their positional words and options, and what they mean: a
+//! command with the names of its files, and the configuration of its machine. It opens no file and says
+//! nothing of what a command does.
 //!
 //! Where a doc comment names no other source, its rule is this project's profile.
 #![tactic(auto)]
@@ -14,12 +15,11 @@ mod matching;
 mod numbers;
 mod reading;
 mod settings;
-mod work;
 
 pub use command::{Command, RunCommand};
 pub use fault::WordsFault;
 pub use reading::read_words;
-pub use work::Work;
+pub use workload::Work;
 
 #[cfg(test)]
 mod tests;

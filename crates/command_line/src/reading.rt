@@ -8,8 +8,8 @@ use crate::fault::WordsFault;
 use crate::form::{GEN, REPLAY, RUN};
 use crate::matching::Given;
 use crate::numbers::read_number;
-use crate::work::Work;
 use std::alloc::Global;
+use workload::Work;
 
 /// The command of these words, which are those after the program's name. The answer is `Usage`
 /// exactly where they are no command line; nothing says when want of memory comes.

@@ -21,7 +21,7 @@ fn strings(alloc: Global, words: &[&str]) -> Result<Vec<String>, AllocError> {
 
 #[test]
 fn command_lines_mean_what_they_say(rt: HostRuntime) -> Result<(), Fail> {
-    let rows: [(&[&str], Command); 6] = [
+    let rows: [(&[&str], Command); 8] = [
         (&["run", "a"], Command::Run(BARE)),
         (
             &[
@@ -59,6 +59,22 @@ fn command_lines_mean_what_they_say(rt: HostRuntime) -> Result<(), Fail> {
                 kind: Work::Counter,
                 number: 1,
                 file: "f",
+            },
+        ),
+        (
+            &["gen", "bank", "07", "f"],
+            Command::Gen {
+                kind: Work::Bank,
+                number: 7,
+                file: "f",
+            },
+        ),
+        (
+            &["gen", "--", "overflow", "3", "-f"],
+            Command::Gen {
+                kind: Work::Overflow,
+                number: 3,
+                file: "-f",
             },
         ),
         (

@@ -1,15 +1,14 @@
 -- Files that a shelf may hold, and what was read of them.
-use Rattle.std.proofs.Common.{◌≡◌, ℕ, ◌+◌, ◌<◌, true, nat_lt, List, [], length, replicate, Option, None, Some, refl, ap, ◌∙◌, arith}
+use Rattle.std.proofs.Common.{◌≡◌, ℕ, ◌+◌, ◌<◌, true, nat_lt, List, [], length, replicate, Option, None, Some, refl, ap, arith}
 use Rattle.std.proofs.lemmas.List.{length-replicate}
 use Rattle.std.proofs.lemmas.Bool.Decides.{nat_tests}
-use Rattle.std.specs.Prelude.{IfSome, if◌then◌else◌, slice_index}
+use Rattle.std.specs.Prelude.{IfSome, slice_index}
 use Rattle.el_base.specs.declared.config.Config.{Config}
 use Rattle.el_base.specs.declared.events.Event.{Event}
 use Rattle.el_io.specs.Shelf.{Contents, Holds}
 use Rattle.elf_image.specs.Loaded.{program_of}
 use Rattle.trace_file.specs.Faults.{config_at}
 use Rattle.trace_file.specs.Spelling.{spelling}
-use Rattle.tool.specs.declared.refusal.Refusal.{Refusal}
 use Rattle.tool.specs.declared.refusal.Refusal.TheVariants.{TooBig}
 use Rattle.tool.specs.Refusals.{size_refusal}
 use Rattle.tool.specs.Stopping.{IsTraceOf}

@@ -6,6 +6,7 @@ use Rattle.tool.specs.declared.stop.Fault.TheVariants.{Device, NoMemory}
 use Rattle.tool.specs.Answer.{Answer}
 use Rattle.tool.specs.Comes.{Comes, Told, TookSome, Unwritten}
 use Rattle.tool.specs.Statuses.{status_of_fault}
+use Rattle.tool.specs.Telling.{Only}
 
 -- all bytes are some of them
 took_all : (before now : Option (List ℕ)) (bytes : List ℕ) → TookAll before now bytes → TookSome before now bytes
@@ -15,7 +16,7 @@ took_all before now bytes took =
 
 -- a file that was not written leaves an answer cut off behind its output
 pub unwritten_comes : (before now : Told) (answer : Answer) (fault : Fault) → TookAll before.out now.out answer.out → Unwritten before.files now.files answer.written fault → now.err ≡ before.err →
-    Comes (λ other. other ≡ answer) (status_of_fault fault) before now
+    Comes (Only answer) (status_of_fault fault) before now
 unwritten_comes before now answer Device took unwritten same =
     inr (answer, refl, inr (inl (record { out = took; written = unwritten; err = same })))
 unwritten_comes before now answer NoMemory took same_files same =

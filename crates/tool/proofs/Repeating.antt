@@ -25,7 +25,7 @@ use Rattle.trace_file.specs.Faults.{config_at}
 use Rattle.trace_file.specs.Spelling.{IsTrace, event_byte, spelling}
 use Rattle.trace_file.proofs.Spelled.{no_fault, one_spelling}
 use Rattle.tool.specs.declared.refusal.Refusal.{Refusal}
-use Rattle.tool.specs.Answer.{Answer, WrittenFile, ended, refused, written_by}
+use Rattle.tool.specs.Answer.{Answer, WrittenFile, ended, written_by}
 use Rattle.tool.specs.Jobs.{FollowAnswer, ReplayAnswer, RoundRobinAnswer, RunAnswer, UnlessRefused, first_story}
 use Rattle.tool.specs.Laws.{SaysTheSame}
 use Rattle.tool.proofs.Files.{spelled_harts}

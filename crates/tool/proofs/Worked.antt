@@ -7,7 +7,7 @@ use Rattle.rv_alu.specs.declared.view.HartStatus.{HartStatus}
 use Rattle.rv_alu.specs.declared.view.HartStatus.TheVariants.{Running, Exited, Trapped}
 use Rattle.rv_alu.specs.declared.view.HartView.{HartView}
 use Rattle.tool.specs.declared.refusal.Refusal.TheVariants.{Usage, Config, TooBig, Image, Trace}
-use Rattle.tool.specs.Messages.{config_fault_text, line_of, newline, trace_fault_name}
+use Rattle.tool.specs.Messages.{config_fault_text, line_of, newline, written_line}
 use Rattle.tool.specs.Ending.{all_succeeded}
 use Rattle.tool.specs.Report.{first_line, last_line}
 
@@ -44,12 +44,16 @@ unfolding line_of digits
 image_without_a_segment = refl
 
 trace_of_no_harts : line_of (Trace (record { number = 4; place = 5 })) ≡ codes "trace fault 4 Config at byte 5" ++ newline
-unfolding line_of trace_fault_name digits
+unfolding line_of digits
 trace_of_no_harts = refl
 
 trace_with_a_byte_more : line_of (Trace (record { number = 6; place = 55 })) ≡ codes "trace fault 6 Tail at byte 55" ++ newline
-unfolding line_of trace_fault_name digits
+unfolding line_of digits
 trace_with_a_byte_more = refl
+
+image_of_9496_bytes : written_line 9496 ≡ codes "wrote 9496 bytes" ++ newline
+unfolding digits
+image_of_9496_bytes = refl
 
 -- one hart that writes `A` and a newline and exits: nine instructions in 33 events
 first_of_a_report : first_line 1 33 ≡ codes "elide plain harts 1 events 33" ++ newline

@@ -1,15 +1,16 @@
 -- What the program puts and writes, and how it ends.
-use Rattle.std.specs.Prelude.{ℕ, List, [], Option, None}
+use Rattle.std.specs.Prelude.{ℕ, List, [], length, Option, None, Some}
 use Rattle.std.specs.Option.{option_map}
 use Rattle.chronicle.specs.Chronicle.{events}
 use Rattle.machine.specs.Story.{Story, committed}
 use Rattle.trace_file.specs.Spelling.{spelling}
 use Rattle.tool.specs.declared.made.Made.{Made}
+use Rattle.tool.specs.declared.made.Made.TheVariants as made
 use Rattle.tool.specs.declared.refusal.Refusal.{Refusal}
 use Rattle.tool.specs.declared.status.Status.{Status}
-use Rattle.tool.specs.declared.status.Status.TheVariants.{Refused}
+use Rattle.tool.specs.declared.status.Status.TheVariants.{Done, Refused}
 use Rattle.tool.specs.Ending.{ending}
-use Rattle.tool.specs.Messages.{line_of}
+use Rattle.tool.specs.Messages.{line_of, written_line}
 use Rattle.tool.specs.Report.{report_of}
 
 -- a file that the program writes
@@ -42,6 +43,16 @@ ended trace story = record {
   written = option_map (written_by story) trace;
 }
 
+-- an image is written to its file, and its length is put to err
+abbrev pub generated : List ℕ → List ℕ → Answer
+generated file image = record {
+  status = Done;
+  out = [];
+  err = written_line (length image);
+  written = Some (record { name = file; bytes = image });
+}
+
 -- the answer that has been made
 abbrev pub answer_of : Made → Answer
-answer_of made = ended (option_map (λ name. name.now) made.trace) made.machine
+answer_of (made.Run machine trace) = ended (option_map (λ name. name.now) trace) machine
+answer_of (made.Image bytes file) = generated file.now bytes.items

@@ -1,5 +1,5 @@
 -- What a fault of a device shows: one call of a device failed, and with any other ending none did.
-use Rattle.std.specs.Prelude.{◌≡◌, ℕ, ◌⊎◌, List, [], ◌∷◌, ◌++◌, map, Option, None, Some}
+use Rattle.std.specs.Prelude.{◌≡◌, ℕ, ◌⊎◌, Bool, true, false, List, [], ◌∷◌, ◌++◌, map, Option, None, Some}
 use Rattle.std.specs.Option.{option_map, option_to_list}
 use Rattle.command_line.specs.Settings.{config_of}
 use Rattle.command_line.specs.Words.{Job, Run, Replay, Gen, RunJob}
@@ -9,6 +9,7 @@ use Rattle.el_io.specs.Counts.{one_more}
 use Rattle.el_io.specs.Shelf.{NamedCall}
 use Rattle.el_io.specs.declared.shelf.Call.TheVariants.{Read, Write}
 use Rattle.tool.specs.declared.made.Made.{Made}
+use Rattle.tool.specs.declared.made.Made.TheVariants as made
 use Rattle.tool.specs.declared.status.Status.{Status}
 use Rattle.tool.specs.declared.status.Status.TheVariants.{DeviceFault}
 use Rattle.tool.specs.declared.stop.Fault.{Fault}
@@ -22,7 +23,8 @@ writes_to name = map (λ given. (Write, given)) (option_to_list name)
 
 -- the writes that are left to what a command has made
 abbrev pub writes_of : Made → List NamedCall
-writes_of made = writes_to (option_map (λ name. name.now) made.trace)
+writes_of (made.Run machine trace) = writes_to (option_map (λ name. name.now) trace)
+writes_of (made.Image bytes file) = writes_to (Some file.now)
 
 -- these calls of the shelf, under a configuration that has no fault
 abbrev pub calls_under : Option ConfigFault → List NamedCall → List NamedCall
@@ -38,7 +40,19 @@ abbrev pub calls_of : Option Job → List NamedCall
 calls_of None = []
 calls_of (Some (Run job)) = run_calls job
 calls_of (Some (Replay image trace)) = (Read, image) ∷ (Read, trace) ∷ []
-calls_of (Some (Gen kind number file)) = []
+calls_of (Some (Gen kind number file)) = writes_to (Some file)
+
+-- a job whose answer may have bytes for out
+abbrev pub puts_of : Option Job → Bool
+puts_of None = false
+puts_of (Some (Run job)) = true
+puts_of (Some (Replay image trace)) = true
+puts_of (Some (Gen kind number file)) = false
+
+-- the same of what a command has made
+abbrev pub is_run : Made → Bool
+is_run (made.Run machine trace) = true
+is_run (made.Image bytes file) = false
 
 -- the list of a shelf's failed calls got one of these calls at its end, and nothing else
 abbrev pub ListsOne : List NamedCall → List NamedCall → List NamedCall → Type 0
@@ -66,14 +80,15 @@ pub record Failures : Type 0 where
   pub out : ℕ
   pub err : ℕ
 
--- exactly one call failed: one of these of the shelf, or one of out or of err
-abbrev pub OneFailed : List NamedCall → Failures → Failures → Type 0
-OneFailed calls before now =
+-- exactly one call failed: one of these of the shelf, one of out where it is put to, or one of err
+abbrev pub OneFailed : List NamedCall → Bool → Failures → Failures → Type 0
+OneFailed calls puts before now =
     (ListsOne calls before.shelf now.shelf × (now ≡ record before { shelf = now.shelf }))
-    ⊎ ((now ≡ record before { out = one_more before.out }) ⊎ (now ≡ record before { err = one_more before.err }))
+    ⊎ (((puts ≡ true) × (now ≡ record before { out = one_more before.out }))
+    ⊎ (now ≡ record before { err = one_more before.err }))
 
 -- a call of the program that ended with this status: one call of a device failed where that is a fault of a
 -- device, and else none
-abbrev pub Caused : List NamedCall → Status → Failures → Failures → Type 0
-Caused calls DeviceFault before now = OneFailed calls before now
-Caused calls status before now = now ≡ before
+abbrev pub Caused : List NamedCall → Bool → Status → Failures → Failures → Type 0
+Caused calls puts DeviceFault before now = OneFailed calls puts before now
+Caused calls puts status before now = now ≡ before

@@ -1,18 +1,21 @@
 -- What the program answers to its words, over files.
-use Rattle.std.specs.Prelude.{◌≡◌, ℕ, List, [], Option, None, Some, MatchOption}
+use Rattle.std.specs.Prelude.{◌≡◌, ◌≤◌, ℕ, List, [], length, Option, None, Some, MatchOption}
 use Rattle.command_line.specs.Settings.{config_of}
 use Rattle.command_line.specs.Words.{Job, Run, Replay, Gen, RunJob, job_of}
 use Rattle.drive.specs.Drivers.{MakesRoundRobin}
 use Rattle.el_base.specs.declared.events.Event.{Event}
 use Rattle.el_base.specs.declared.config.Config.{Config}
 use Rattle.el_io.specs.Shelf.{Contents, Holds}
+use Rattle.elf_image.specs.Faults.{IsFaultless}
+use Rattle.elf_image.specs.Limits.{file_limit}
 use Rattle.elf_image.specs.Loaded.{program_of}
 use Rattle.elf_image.specs.Program.{Program}
 use Rattle.machine.specs.Story.{Story, continued}
 use Rattle.trace_file.specs.Spelling.{IsTrace, spelling}
+use Rattle.workload.specs.Image.{number_in}
 use Rattle.tool.specs.declared.refusal.Refusal.{Refusal}
 use Rattle.tool.specs.declared.refusal.Refusal.TheVariants.{Usage}
-use Rattle.tool.specs.Answer.{Answer, ended, refused}
+use Rattle.tool.specs.Answer.{Answer, ended, generated, refused}
 use Rattle.tool.specs.Refusals.{replay_refusal, run_refusal}
 
 -- the story of a program under a configuration, before its first event
@@ -60,12 +63,20 @@ pub record IsReplayAnswer (image_name trace_name : List ℕ) (told : Option Cont
   pub trace_file : Holds told trace_name trace
   pub exact : ReplayAnswer image trace answer
 
+-- to write an image with this number to a file, whatever its kind: the image is what `workload` promises that it builds
+pub record IsGenAnswer (number : ℕ) (file : List ℕ) (answer : Answer) : Type 0 where
+  pub image : List ℕ
+  pub accepted : IsFaultless image
+  pub within_limit : length image ≤ file_limit
+  pub numbered : number_in image ≡ number
+  pub exact : answer ≡ generated file image
+
 -- an answer to a job; words that are none are refused
 abbrev pub JobAnswer : Option Contents → Option Job → Answer → Type 0
 JobAnswer told None answer = answer ≡ refused Usage
 JobAnswer told (Some (Run job)) answer = IsRunAnswer job told answer
 JobAnswer told (Some (Replay image trace)) answer = IsReplayAnswer image trace told answer
-JobAnswer told (Some (Gen kind number file)) answer = answer ≡ refused Usage
+JobAnswer told (Some (Gen kind number file)) answer = IsGenAnswer number file answer
 
 -- an answer to these words
 abbrev pub IsAnswer : List (List ℕ) → Option Contents → Answer → Type 0

@@ -7,5 +7,6 @@ pub mod Answer
 pub mod Jobs
 pub mod Stopping
 pub mod Comes
+pub mod Telling
 pub mod Causes
 pub mod Laws

@@ -1,22 +1,13 @@
--- The one line that a refusal puts to err.
-use Rattle.std.specs.Prelude.{ℕ, List, [], ◌∷◌, ◌++◌, ◌==◌, codes, if◌then◌else◌, unwrap_or}
+-- The one line that a refusal or a written image puts to err.
+use Rattle.std.specs.Prelude.{ℕ, List, [], ◌∷◌, ◌++◌, codes, unwrap_or}
 use Rattle.std.specs.Fmt.{decimal}
 use Rattle.el_base.specs.declared.config.ConfigFault.{ConfigFault}
 use Rattle.el_base.specs.declared.config.ConfigFault.TheVariants.{Harts, Sets, Ways, Lines, Long, Steps}
 use Rattle.el_base.specs.declared.file_fault.FileFault.{FileFault}
-use Rattle.elf_image.specs.FaultKinds.{fault_name}
+use Rattle.elf_image.specs.FaultKinds as image_faults
 use Rattle.tool.specs.declared.refusal.Refusal.{Refusal}
 use Rattle.tool.specs.declared.refusal.Refusal.TheVariants as refusals
-
--- the name of a trace fault, by its number
-unfoldable pub trace_fault_name : ℕ → List ℕ
-trace_fault_name number =
-    if number == 1 then codes "Short"
-    else if number == 2 then codes "Magic"
-    else if number == 3 then codes "Version"
-    else if number == 4 then codes "Config"
-    else if number == 5 then codes "Event"
-    else codes "Tail"
+use Rattle.trace_file.specs.FaultKinds as trace_faults
 
 -- the number and the name of a fault of a configuration
 unfoldable pub config_fault_text : ConfigFault → List ℕ
@@ -45,5 +36,9 @@ line_of refusals.Usage =
     codes "usage: elide run IMAGE [options], elide replay IMAGE TRACE, elide gen KIND NUMBER FILE" ++ newline
 line_of (refusals.Config fault) = config_line fault
 line_of (refusals.TooBig limit) = codes "file too big: limit " ++ decimal limit ++ newline
-line_of (refusals.Image fault) = fault_line (codes "image") fault (unwrap_or (fault_name fault.number) [])
-line_of (refusals.Trace fault) = fault_line (codes "trace") fault (trace_fault_name fault.number)
+line_of (refusals.Image fault) = fault_line (codes "image") fault (unwrap_or (image_faults.fault_name fault.number) [])
+line_of (refusals.Trace fault) = fault_line (codes "trace") fault (unwrap_or (trace_faults.fault_name fault.number) [])
+
+-- the line that says how many bytes a file was written with, with its newline
+abbrev pub written_line : ℕ → List ℕ
+written_line count = codes "wrote " ++ decimal count ++ codes " bytes" ++ newline

@@ -1,4 +1,5 @@
-//! What a command does before anything is put: it reads its files, and makes a machine that it runs.
+//! What a command does before anything is put: it reads its files and makes a machine that it runs, or
+//! it builds an image.
 ghost use Rattle.std.specs.Prelude.{◌≡◌, ◌≤◌, ◌∷◌, [], List, None, IfOk, MatchResult, length};
 ghost use Rattle.command_line.specs.Settings.{config_of};
 ghost use Rattle.command_line.specs.Words.{job_of, run_meaning, texts};
@@ -12,7 +13,7 @@ ghost use Rattle.elf_image.specs.Limits.{file_limit};
 ghost use Rattle.elf_image.specs.Loaded.{program_of};
 ghost use Rattle.trace_file.specs.Faults.{config_at};
 ghost use Rattle.tool.specs.Answer.{answer_of, ended};
-ghost use Rattle.tool.specs.Causes.{ListsOne, StopLists, calls_of, calls_under, writes_of};
+ghost use Rattle.tool.specs.Causes.{ListsOne, StopLists, calls_of, calls_under, is_run, puts_of, writes_of};
 ghost use Rattle.tool.specs.Jobs.{FollowAnswer, IsAnswer, IsReplayAnswer, IsRunAnswer, first_story};
 ghost use Rattle.tool.specs.Refusals.{image_refusal, trace_refusal};
 ghost use Rattle.tool.specs.Stopping.{IsTraceOf, StopsBy, StopsRead, StopsWith, follow_refusal};
@@ -28,7 +29,7 @@ use elf_image::{IMAGE_FILE_LIMIT, Image, load};
 use machine::Machine;
 use std::alloc::Global;
 use trace_file::{MAX_FILE_BYTES, Trace, read_trace};
-
+use workload::build;
 
 /// Does what the words ask for, as far as it puts and writes nothing. The words are those after the
 /// program's name.
@@ -46,18 +47,21 @@ pub(crate) fn obey<'a, S: Shelf>(
     ensures writes { IfOk result (λ made. (before now : List NamedCall) →
         ListsOne (writes_of made) before now →
         ListsOne (calls_of (job_of (texts words.entry.now))) before now) }
+    ensures puts { IfOk result (λ made. is_run made ≡ puts_of (job_of (texts words.entry.now))) }
 {
     match read_words(alloc, words)? {
-        Command::Run(command) => Ok(Made {
+        Command::Run(command) => Ok(Made::Run {
             machine: run(alloc, shelf, command)?,
             trace: command.trace,
         }),
-        Command::Replay { image, trace } => Ok(Made {
+        Command::Replay { image, trace } => Ok(Made::Run {
             machine: replay(alloc, shelf, image, trace)?,
             trace: None,
         }),
-        // No image is made of a kind yet.
-        Command::Gen { .. } => Err(Refusal::Usage.into()),
+        Command::Gen { kind, number, file } => Ok(Made::Image {
+            bytes: build(alloc, kind, number)?,
+            file,
+        }),
     }
 }
 

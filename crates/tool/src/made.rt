@@ -1,9 +1,16 @@
 use machine::Machine;
 
-/// A run that has ended, of which nothing was put or written yet.
+/// What a command has made, of which nothing was put or written yet.
 #[derive(Drop)]
-pub(crate) struct Made<'a> {
-    pub(crate) machine: Machine,
-    /// The name of the file for its trace, where one was given.
-    pub(crate) trace: Option<&'a str>,
+pub(crate) enum Made<'a> {
+    /// A run that has ended, and the name of the file for its trace, where one was given.
+    Run {
+        machine: Machine,
+        trace: Option<&'a str>,
+    },
+    /// The bytes of an image, and the name of the file for them.
+    Image {
+        bytes: Vec<u8>,
+        file: &'a str,
+    },
 }

@@ -1,9 +1,8 @@
 //! Why a command is refused, and the line that it puts to err then.
 ghost use Rattle.std.specs.Prelude.{◌≡◌, IfOk, string_bytes};
-ghost use Rattle.tool.specs.Messages.{config_fault_text as text_of_config_fault, config_line as line_of_config, fault_line as line_of_fault, line_of, trace_fault_name as name_of_trace_fault};
+ghost use Rattle.tool.specs.Messages.{config_fault_text as text_of_config_fault, config_line as line_of_config, fault_line as line_of_fault, line_of};
 
 use el_base::{ConfigFault, FileFault};
-use elf_image::fault_name;
 use std::alloc::{AllocError, Global};
 
 const USAGE: &str =
@@ -35,15 +34,12 @@ impl Refusal {
             Refusal::Config(fault) => config_line(alloc, fault),
             Refusal::TooBig { limit } => format!(in alloc; "file too big: limit {limit}\n"),
             Refusal::Image(fault) => {
-                fault_line(
-                    alloc,
-                    "image",
-                    fault,
-                    fault_name(fault.number).unwrap_or(""),
-                )
+                let name = elf_image::fault_name(fault.number).unwrap_or("");
+                fault_line(alloc, "image", fault, name)
             }
             Refusal::Trace(fault) => {
-                fault_line(alloc, "trace", fault, trace_fault_name(fault.number))
+                let name = trace_file::fault_name(fault.number).unwrap_or("");
+                fault_line(alloc, "trace", fault, name)
             }
         }
     }
@@ -80,20 +76,5 @@ fn config_fault_text(fault: ConfigFault) -> &'static str
         ConfigFault::Lines => "4 Lines",
         ConfigFault::Long => "5 Long",
         ConfigFault::Steps => "6 Steps",
-    }
-}
-
-/// The name of a trace fault, by its number from 1 to 6.
-#[tactic(auto, unfolding(crate::specs::Messages::trace_fault_name))]
-fn trace_fault_name(number: u8) -> &'static str
-    ensures { result.now ≡ name_of_trace_fault number }
-{
-    match number {
-        1 => "Short",
-        2 => "Magic",
-        3 => "Version",
-        4 => "Config",
-        5 => "Event",
-        _ => "Tail",
     }
 }

@@ -6,7 +6,7 @@ use crate::stop::Fault;
 /// How the program ends.
 #[derive(Clone, Copy, Debug, PartialEq, Eq)]
 pub enum Status {
-    /// Every hart exited with code 0.
+    /// Every hart exited with code 0, or an image was written.
     Done = 0,
     /// Every hart has stopped, and not all exited with code 0.
     HartFailed = 1,

@@ -3,7 +3,7 @@ ghost use Rattle.std.specs.Prelude.{◌≡◌};
 
 use crate::refusal::Refusal;
 use command_line::WordsFault;
-use el_base::{ConfigFault, FileFault};
+use el_base::{ConfigFault, FileFault, NoMemory};
 use el_io::{Failed, ShelfFault};
 use elf_image::ImageFault;
 use machine::MakeFault;
@@ -106,6 +106,17 @@ impl From<MakeFault> for Stop {
             MakeFault::Config { fault } => fault.into(),
             MakeFault::NoMemory => Fault::NoMemory.into(),
         }
+    }
+}
+
+impl From<NoMemory> for Stop {
+    ghost use Rattle.tool.specs.declared.stop.Fault.TheVariants as faults;
+    ghost use Rattle.tool.specs.declared.stop.Stop.TheVariants as stops;
+
+    ghost from_gives = { λ _ stop. stop ≡ stops.Failed faults.NoMemory };
+
+    fn from(_refused: NoMemory) -> Stop {
+        Fault::NoMemory.into()
     }
 }
 

@@ -1,6 +1,6 @@
 //! The top call.
 ghost use Rattle.command_line.specs.Words.{job_of, texts};
-ghost use Rattle.tool.specs.Causes.{Caused, calls_of};
+ghost use Rattle.tool.specs.Causes.{Caused, calls_of, puts_of};
 ghost use Rattle.tool.specs.Comes.{Comes};
 ghost use Rattle.tool.specs.Jobs.{IsAnswer};
 ghost use Rattle.tool.specs.Statuses.{status_of};
@@ -17,9 +17,9 @@ use std::alloc::Global;
 ///
 /// With a status other than the two faults, exactly one answer was put and written: the one to the
 /// words over the contents that the shelf tells. A fault of a device comes exactly where, in this
-/// call, one call of a device failed: one of the shelf that the words ask for, or one of a sink.
-/// Nothing says when want of memory comes. After either, what was put and written is nothing or the
-/// beginning of an answer.
+/// call, one call of a device failed: one of the shelf that the words ask for, one of err, or, where
+/// the words ask for a run or a replay, one of out. Nothing says when want of memory comes. After
+/// either, what was put and written is nothing or the beginning of an answer.
 pub fn tool<R, S: Shelf, O: Sink, E: Sink>(
     _runtime: &R,
     alloc: Global,
@@ -31,7 +31,7 @@ pub fn tool<R, S: Shelf, O: Sink, E: Sink>(
     ensures exact { Comes (IsAnswer (texts words.now) (S.told shelf.old)) result
         (record { out = O.taken out.old; err = E.taken err.old; files = S.told shelf.old })
         (record { out = O.taken out.new; err = E.taken err.new; files = S.told shelf.new }) }
-    ensures cause { Caused (calls_of (job_of (texts words.now))) result
+    ensures cause { Caused (calls_of (job_of (texts words.now))) (puts_of (job_of (texts words.now))) result
         (record { shelf = S.failures shelf.old; out = O.faults out.old; err = E.faults err.old })
         (record { shelf = S.failures shelf.new; out = O.faults out.new; err = E.faults err.new }) }
 {
@@ -52,7 +52,7 @@ fn answer<S: Shelf, O: Sink, E: Sink>(
     ensures exact { Comes (IsAnswer (texts words.now) (S.told shelf.old)) (status_of result)
         (record { out = O.taken out.old; err = E.taken err.old; files = S.told shelf.old })
         (record { out = O.taken out.new; err = E.taken err.new; files = S.told shelf.new }) }
-    ensures cause { Caused (calls_of (job_of (texts words.now))) (status_of result)
+    ensures cause { Caused (calls_of (job_of (texts words.now))) (puts_of (job_of (texts words.now))) (status_of result)
         (record { shelf = S.failures shelf.old; out = O.faults out.old; err = E.faults err.old })
         (record { shelf = S.failures shelf.new; out = O.faults out.new; err = E.faults err.new }) }
 {

@@ -29,6 +29,8 @@ const RUN_WITH_TRACE: &[&str] = &["run", "a", "--trace", "t"];
 
 const REPLAY: &[&str] = &["replay", "a", "t"];
 
+const GEN: &[&str] = &["gen", "counter", "1", "t"];
+
 #[test]
 fn nothing_is_put_or_written_after_a_fault(rt: HostRuntime) -> Result<(), Fail> {
     let rows = [
@@ -85,6 +87,16 @@ fn nothing_is_put_or_written_after_a_fault(rt: HostRuntime) -> Result<(), Fail> 
             put: "A\n",
             ..FAULTLESS
         },
+        Row {
+            words: GEN,
+            shelf: &[1],
+            ..FAULTLESS
+        },
+        Row {
+            words: GEN,
+            err: &[1],
+            ..FAULTLESS
+        },
     ];
     for row in rows {
         let names = strings(rt.alloc(), &["a", "t"])?;
@@ -124,6 +136,32 @@ fn a_failed_output_leaves_the_trace_unwritten(rt: HostRuntime) -> Result<(), Fai
         assert_eq!(rt; status.number(), 4);
         assert_eq!(rt; shelf.contents("t"), wanted);
         assert_eq!(rt; err.taken(), b"".as_slice());
+    }
+    Ok(())
+}
+
+// An image is written before its length is told, and nothing is asked of out, which would fail. What a
+// failed write leaves is open; here it is the file as it was.
+#[test]
+fn an_image_is_written_before_its_length_is_told(rt: HostRuntime) -> Result<(), Fail> {
+    let rows: [(&[u32], &[u32], u8, bool); 3] = [
+        (&[1], &[], 4, false),
+        (&[], &[1], 4, true),
+        (&[], &[], 0, true),
+    ];
+    for (shelf, err, number, is_written) in rows {
+        let names = strings(rt.alloc(), &["t"])?;
+        let contents = [Vec::from_slice(rt.alloc(), b"old")?];
+        assert!(rt; names.len() == 1);
+        let mut shelf = MemShelf::make(rt.alloc(), &names, &contents, shelf)?;
+        let mut out = MemSink::make(rt.alloc(), 256, 256, &[1])?;
+        let mut err = MemSink::make(rt.alloc(), 256, 256, err)?;
+        let words = strings(rt.alloc(), GEN)?;
+        let status = tool(&rt, rt.alloc(), &words, &mut shelf, &mut out, &mut err);
+        assert_eq!(rt; status.number(), number);
+        assert_eq!(rt; out.taken(), b"".as_slice());
+        assert_eq!(rt; shelf.contents("t") != b"old".as_slice(), is_written);
+        assert_eq!(rt; err.taken().is_empty(), number == 4);
     }
     Ok(())
 }

@@ -9,6 +9,8 @@
 #[cfg(test)]
 mod devices;
 #[cfg(test)]
+mod generated;
+#[cfg(test)]
 mod linked;
 #[cfg(test)]
 mod refusals;

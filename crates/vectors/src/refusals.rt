@@ -12,7 +12,7 @@ fn is_refused(ending: &Ending, line: &str) -> bool {
 
 #[test]
 fn words_outside_the_grammar_are_the_usage_line(rt: HostRuntime) -> Result<(), Fail> {
-    let rows: [&[&str]; 14] = [
+    let rows: [&[&str]; 18] = [
         &[],
         &["walk", "x"],
         &["run"],
@@ -26,7 +26,11 @@ fn words_outside_the_grammar_are_the_usage_line(rt: HostRuntime) -> Result<(), F
         &["run", "a", "--trace", "-t"],
         &["replay", "a"],
         &["replay", "a", "t", "--steps", "1"],
-        &["gen", "counter", "1", "t"],
+        &["gen", "counter", "x", "t"],
+        &["gen", "nothing", "1", "t"],
+        &["gen", "counter", "4294967296", "t"],
+        &["gen", "counter", "1"],
+        &["gen", "counter", "1", "t", "--harts", "1"],
     ];
     for words in rows {
         let ending = answer(&rt, words, &HELLO, &TRACE)?;

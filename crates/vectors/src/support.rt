@@ -95,7 +95,7 @@ pub struct Ending {
     pub status: Status,
     pub out: Vec<u8>,
     pub err: Vec<u8>,
-    pub trace: Vec<u8>,
+    pub written: Vec<u8>,
 }
 
 /// The program's answer to these words, where the file `a` is an image and `t` a trace.
@@ -122,6 +122,6 @@ pub fn answer(
         status,
         out: Vec::from_slice(rt.alloc(), out.taken())?,
         err: Vec::from_slice(rt.alloc(), err.taken())?,
-        trace: Vec::from_slice(rt.alloc(), shelf.contents("t"))?,
+        written: Vec::from_slice(rt.alloc(), shelf.contents("t"))?,
     })
 }

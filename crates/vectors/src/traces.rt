@@ -5,14 +5,14 @@ use std::test::Fail;
 #[test]
 fn a_run_writes_its_trace_and_its_replay_is_the_same(rt: HostRuntime) -> Result<(), Fail> {
     let ran = answer(&rt, &["run", "a", "--trace", "t"], &HELLO, &[])?;
-    assert_eq!(rt; ran.trace.as_slice(), TRACE.as_slice());
-    let played = answer(&rt, &["replay", "a", "t"], &HELLO, &ran.trace)?;
+    assert_eq!(rt; ran.written.as_slice(), TRACE.as_slice());
+    let played = answer(&rt, &["replay", "a", "t"], &HELLO, &ran.written)?;
     assert_eq!(rt; played.status, ran.status);
     assert_eq!(rt; played.out.as_slice(), ran.out.as_slice());
     assert_eq!(rt; played.err.as_slice(), ran.err.as_slice());
     assert_eq!(rt; played.out.as_slice(), b"A\n".as_slice());
     assert_eq!(rt; played.err.as_slice(), REPORT.as_bytes());
-    assert_eq!(rt; played.trace.as_slice(), TRACE.as_slice());
+    assert_eq!(rt; played.written.as_slice(), TRACE.as_slice());
     Ok(())
 }
 

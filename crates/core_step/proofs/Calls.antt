@@ -1,10 +1,9 @@
 -- laws of what a write call appends to the output
-use Rattle.std.proofs.Common.{◌≡◌, ℕ, Bool, List, Option, None, Some, ap, refl, sym, ◌∙◌}
+use Rattle.std.proofs.Common.{◌≡◌, ℕ, Bool, None, Some, ap, refl, sym, ◌∙◌}
 use Rattle.std.specs.Prelude.{IfSome}
 use Rattle.std.specs.Option.{option_map}
 use Rattle.el_base.specs.declared.outcomes.Need.{Need}
 use Rattle.rv_word.specs.Decoding.{decoded}
-use Rattle.rv_word.specs.declared.insn.Insn.{Insn}
 use Rattle.rv_word.specs.declared.insn.Insn.TheVariants.{Ecall}
 use Rattle.rv_alu.specs.declared.action.Action.{Action}
 use Rattle.rv_alu.specs.declared.action.Action.TheVariants as actions
@@ -13,7 +12,7 @@ use Rattle.rv_alu.specs.declared.view.HartView.{HartView}
 use Rattle.rv_alu.specs.Action.{action_at, action_of}
 use Rattle.rv_alu.specs.Execution.{append_in, executed, perform, touched}
 use Rattle.rv_alu.specs.Footprint.{footprint}
-use Rattle.core_step.specs.Run.{ended_by, ended_of, lacking}
+use Rattle.core_step.specs.Run.{ended_of, lacking}
 use Rattle.core_step.specs.Written.{appended_of, read_of}
 use Rattle.core_step.specs.declared.ended.Ended.TheVariants.{Ran}
 use Rattle.core_step.proofs.Runs.{performed}

@@ -2,24 +2,20 @@
 use Rattle.std.proofs.Common.{◌≡◌, ℕ, ◌-◌, ◌%◌, Bool, true, false, inl, inr, List, Option, None, Some, arith, refl}
 use Rattle.std.specs.Prelude.{◌==◌, if◌then◌else◌, ◌||◌, not, IfSome}
 use Rattle.std.proofs.lemmas.Bool.Decides.{nat_tests}
-use Rattle.el_base.specs.Line.{line_number}
 use Rattle.el_base.specs.LineAddr.{line_addr}
 use Rattle.el_base.specs.declared.line.TheConstants.{LINE_BYTES}
 use Rattle.el_base.specs.declared.outcomes.Need.{Need}
-use Rattle.el_base.specs.declared.outcomes.Need.TheVariants.{Read, Write}
 use Rattle.rv_word.specs.Decoding.{decoded}
-use Rattle.core_step.specs.Port.{MayRead, MayWrite}
 use Rattle.rv_word.specs.declared.insn.Insn.{Insn}
 use Rattle.rv_word.specs.declared.insn.Insn.TheVariants as insns
 use Rattle.rv_word.specs.declared.insn.LoadWidth.{LoadWidth}
 use Rattle.rv_word.specs.declared.insn.LoadWidth.TheVariants as loads_of
 use Rattle.rv_word.specs.declared.insn.StoreWidth.{StoreWidth}
 use Rattle.rv_word.specs.declared.insn.StoreWidth.TheVariants as stores_of
-use Rattle.rv_word.specs.declared.reg.Reg.{Reg}
 use Rattle.rv_alu.specs.declared.action.Action.{Action}
 use Rattle.rv_alu.specs.declared.action.Action.TheVariants as actions
 use Rattle.rv_alu.specs.declared.span.Span.{Span}
-use Rattle.rv_alu.specs.declared.view.HartStatus.TheVariants.{Exited, Running, Trapped}
+use Rattle.rv_alu.specs.declared.view.HartStatus.TheVariants.{Running}
 use Rattle.rv_alu.specs.declared.view.HartView.{HartView}
 use Rattle.rv_alu.specs.Action.{action_at, action_of, checked_of, has_reserved_of, indirect_of, insn_action_of, jump_of, load_size_of, store_size_of}
 use Rattle.rv_alu.specs.Cause.{instruction_address_misaligned}

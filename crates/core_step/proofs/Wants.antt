@@ -1,12 +1,11 @@
 -- lines that an access wants and is refused
-use Rattle.std.proofs.Common.{◌≡◌, ℕ, ◌<◌, ◌^◌, ◌∙◌, Bool, false, None, Some, ap, sym}
+use Rattle.std.proofs.Common.{◌≡◌, ℕ, ◌<◌, ◌^◌, ◌∙◌, Bool, false, Some, ap, sym}
 use Rattle.el_base.specs.Line.{line_number}
 use Rattle.el_base.specs.LineAddr.{line_addr}
 use Rattle.el_base.specs.declared.line.LineAddr.{LineAddr}
 use Rattle.el_base.specs.declared.outcomes.Need.{Need}
 use Rattle.el_base.proofs.Lines.{line_addr-number, line_number-below, same_line}
 use Rattle.core_step.specs.Run.{refused}
-use Rattle.core_step.specs.declared.want.Want.{Want}
 
 -- the line of an address is the one of its number
 wanted_line : (address : ℕ) (line : LineAddr) → address < 2 ^ 32 → line.number ≡ line_number address →

@@ -1,5 +1,5 @@
 -- how an instruction runs over a port
-use Rattle.std.specs.Prelude.{ℕ, Bool, true, ◌≡◌, ◌%◌, if◌then◌else◌, Option, None, Some}
+use Rattle.std.specs.Prelude.{ℕ, Bool, ◌≡◌, ◌%◌, if◌then◌else◌, Option, None, Some}
 use Rattle.el_base.specs.Line.{line_number}
 use Rattle.el_base.specs.LineAddr.{line_addr}
 use Rattle.el_base.specs.declared.outcomes.Need.{Need}

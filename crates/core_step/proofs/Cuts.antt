@@ -6,13 +6,16 @@ use Rattle.rv_alu.specs.Footprint.{IsSize}
 use Rattle.rv_alu.specs.Loaded.{loaded}
 
 -- a shift by whole bytes
-pub byte_shift : (place : ℕ) → place ≤ 4 → 2 ^ (8 * place) ≡ 256 ^ place
-byte_shift zero h = refl
-byte_shift (suc zero) h = refl
-byte_shift (suc (suc zero)) h = refl
-byte_shift (suc (suc (suc zero))) h = refl
-byte_shift (suc (suc (suc (suc zero)))) h = refl
-byte_shift (suc (suc (suc (suc (suc n))))) h = absurd (omega arith)
+power : (place : ℕ) → place ≤ 4 → 2 ^ (8 * place) ≡ 256 ^ place
+power zero h = refl
+power (suc zero) h = refl
+power (suc (suc zero)) h = refl
+power (suc (suc (suc zero))) h = refl
+power (suc (suc (suc (suc zero)))) h = refl
+power (suc (suc (suc (suc (suc n))))) h = absurd (omega arith)
+
+pub byte_shift : (shift place : ℕ) → place ≤ 4 → shift ≡ 8 * place → 2 ^ shift ≡ 256 ^ place
+byte_shift shift place h is = ap (λ n. 2 ^ n) is ∙ power place h
 
 some_bytes : (n : ℕ) → zero < 256 ^ n
 some_bytes zero = omega arith
@@ -54,9 +57,9 @@ loaded-high byte start (suc place) m (suc n) h bytes =
     let first : byte start < 256 = bytes start (omega arith) (omega arith) in
     let rest : ℕ = loaded byte (start + 1) n in
     let over : (byte start + 256 * rest) / 256 ≡ rest = omega arith in
-    let power : 256 ^ suc place ≡ 256 * 256 ^ place = rw pow-suc (omega arith) in
+    let more : 256 ^ suc place ≡ 256 * 256 ^ place = rw pow-suc (omega arith) in
     let there : start + 1 + place ≡ start + suc place = omega arith in
-    ap (λ power. (byte start + 256 * rest) / power) power
+    ap (λ power. (byte start + 256 * rest) / power) more
     ∙ sym (div-div-eq-div-mul (byte start + 256 * rest) 256 (256 ^ place)) ∙ ap (λ high. high / 256 ^ place) over
     ∙ loaded-high byte (start + 1) place m n (omega arith) (bytes-rest byte start n bytes) ∙ ap (λ from. loaded byte from m) there
 

@@ -10,8 +10,8 @@ use el_base::{LineAddr, Need};
 /// A way to memory that gives the words of the lines that it permits to be read or written.
 ///
 /// `byte` is the byte at each address. `permits` tells of a line, by its number, whether it may be
-/// touched for a need. `put` is what a port says of itself before and after a store, beside what is
-/// said of every port: that of the low `len` bytes of a value from an address on.
+/// touched for a need. `put before after address len value` is what a port of one kind promises of a
+/// store of the low `len` bytes of a value, beside what every port does.
 pub trait Port {
     ghost use Rattle.std.specs.Prelude.{Bool};
 

@@ -1,7 +1,6 @@
 use super::*;
 
-/// An instruction word of which only the access or the stop matters, and how it ends over a page that
-/// permits nothing.
+/// Instructions, an address in the line that each needs, and for what.
 const REFUSED: [(u32, u32, Need); 5] = [
     // lw x8, 64(x5)
     (0x0402a403, 0x10088, Need::Read),

@@ -1,0 +1,5 @@
+pub mod Wants
+pub mod Cuts
+pub mod Runs
+pub mod Calls
+pub mod Lines

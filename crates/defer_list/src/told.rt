@@ -53,7 +53,7 @@ impl Told {
     }
 
     /// Adds an origin, and answers whether it was not in the set before.
-    #[tactic(auto, using(crate::proofs::OnceEach::added_fits, crate::proofs::OnceEach::added_once, crate::proofs::OnceEach::added_included, crate::proofs::OnceEach::known_included))]
+    #[tactic(auto, using(crate::proofs::OnceEach::added_included, crate::proofs::OnceEach::known_included))]
     pub fn add(&mut self, origin: HartId) -> bool
         ensures origins { self.new ≡ included self.old origin.number }
         ensures was_new { result ≡ not (has self.old origin.number) }
@@ -66,7 +66,6 @@ impl Told {
     }
 
     /// Whether an origin is in the set.
-    #[tactic(auto, using(crate::proofs::OnceEach::has_by_place))]
     pub fn told(&self, origin: HartId) -> bool
         ensures { result ≡ has self.now origin.number }
     {
@@ -74,7 +73,7 @@ impl Told {
     }
 
     /// Takes an origin out of the set, if it is there.
-    #[tactic(auto, using(crate::proofs::OnceEach::taken_once, crate::proofs::OnceEach::taken_excluded, crate::proofs::OnceEach::nothing_excluded))]
+    #[tactic(auto, using(crate::proofs::OnceEach::taken_excluded))]
     pub fn purge(&mut self, origin: HartId)
         ensures { self.new ≡ excluded self.old origin.number }
     {

@@ -1,5 +1,6 @@
 -- What each call of the ring of messages does to the mailbox.
-use Rattle.std.proofs.Common.{◌≡◌, ◌+◌, ◌-◌, ◌<◌, ◌||◌, not, Bool, true, false, cond, List, [], ◌∷◌, ◌++◌, length, map, drop, slice_get, refl, ap, sym, subst, ◌∙◌, arith}
+use Rattle.std.proofs.Common.{◌≡◌, ◌+◌, ◌-◌, ◌<◌, ◌||◌, not, Bool, true, false, cond, List, []}
+use Rattle.std.proofs.Common.{◌∷◌, ◌++◌, length, map, drop, slice_get, refl, ap, sym, subst, ◌∙◌, arith}
 use Rattle.std.specs.List.{list_any}
 use Rattle.std.specs.Option.{option_map}
 use Rattle.std.proofs.lemmas.List.{length-append}
@@ -48,16 +49,16 @@ module _ (box new : Buffer messages.Message) (message : messages.Message) where
         once = subst P (sym as_numbers) (once_each_behind (map numbered box.items) (numbered message) is.once none);
       }
 
-  pub pushed_posted : new ≡ buffer (keep_last box.capacity (box.items ++ message ∷ [])) box.capacity
+  pub post_new : new ≡ buffer (keep_last box.capacity (box.items ++ message ∷ [])) box.capacity
       → IsBox box → has_message (map numbered box.items) (numbered message) ≡ false
       → map numbered new.items ≡ posted (map numbered box.items) (numbered message)
-  pushed_posted pushed is none =
+  post_new pushed is none =
       ap (map numbered) (pushed_items pushed is none) ∙ sym (append_of_map numbered box.items (message ∷ []))
       ∙ sym (ap (λ there. cond there (map numbered box.items) (map numbered box.items ++ numbered message ∷ [])) none)
 
-pub known_posted : (items : List messages.Message) (message : messages.Message) → has_message (map numbered items) (numbered message) ≡ true
+pub known : (items : List messages.Message) (message : messages.Message) → has_message (map numbered items) (numbered message) ≡ true
     → map numbered items ≡ posted (map numbered items) (numbered message)
-known_posted items message there =
+known items message there =
     sym (ap (λ there. cond there (map numbered items) (map numbered items ++ numbered message ∷ [])) there)
 
 -- the oldest message gone

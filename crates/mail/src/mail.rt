@@ -44,7 +44,7 @@ impl Mail {
     }
 
     /// Puts a message behind all others. One that is in the box already is not put there twice.
-    #[tactic(auto, using(crate::proofs::Boxes::has_any, crate::proofs::Boxes::pushed_box, crate::proofs::Boxes::pushed_posted, crate::proofs::Boxes::known_posted))]
+    #[tactic(auto, using(crate::proofs::Boxes::has_any, crate::proofs::Boxes::post_new, crate::proofs::Boxes::known))]
     pub fn post(&mut self, message: Message)
         ensures { self.new ≡ definition.posted self.old (definition.numbered message) }
     {
@@ -54,7 +54,7 @@ impl Mail {
     }
 
     /// Takes the oldest message, or answers `None` where the box is empty.
-    #[tactic(auto, using(crate::proofs::Boxes::popped_box, crate::proofs::Boxes::oldest_of_items, crate::proofs::Boxes::others_of_items))]
+    #[tactic(auto, using(crate::proofs::Boxes::oldest_of_items, crate::proofs::Boxes::others_of_items))]
     pub fn next(&mut self) -> Option<Message>
         ensures oldest { option_map definition.numbered result ≡ definition.oldest self.old }
         ensures others_stay { self.new ≡ definition.without_oldest self.old }
@@ -70,7 +70,7 @@ impl Mail {
     }
 
     /// Takes out the probe of an origin, if it is in the box.
-    #[tactic(auto, using(crate::proofs::Boxes::withdrawn_box, crate::proofs::Withdrawals::probe_remaining))]
+    #[tactic(auto, using(crate::proofs::Withdrawals::probe_remaining))]
     pub fn purge(&mut self, origin: HartId)
         ensures { self.new ≡ definition.without_probe self.old origin.number }
     {
@@ -78,7 +78,7 @@ impl Mail {
     }
 
     /// Takes out all markers.
-    #[tactic(auto, using(crate::proofs::Boxes::withdrawn_box, crate::proofs::Withdrawals::markers_remaining))]
+    #[tactic(auto, using(crate::proofs::Withdrawals::markers_remaining))]
     pub fn purge_markers(&mut self)
         ensures { self.new ≡ definition.without_markers self.old }
     {

@@ -1,1 +1,3 @@
+pub mod Kept
 pub mod Mailbox
+pub mod Withdrawn

@@ -1,5 +1,5 @@
 -- a mailbox: a list of messages, oldest first, none of them twice
-use Rattle.std.specs.Prelude.{ℕ, Bool, true, false, List, [], ◌∷◌, ◌++◌, ◌==◌, if◌then◌else◌}
+use Rattle.std.specs.Prelude.{ℕ, ◌≤◌, Bool, true, false, count_by, List, [], ◌∷◌, ◌++◌, ◌==◌, Option, None, Some, if◌then◌else◌}
 use Rattle.mail.specs.declared.message.Message as messages
 use Rattle.mail.specs.declared.message.Message.TheVariants as declared
 
@@ -41,3 +41,17 @@ abbrev pub without_markers : List Message → List Message
 without_markers [] = []
 without_markers (Marker sender ∷ others) = without_markers others
 without_markers (Probe origin ∷ others) = Probe origin ∷ without_markers others
+
+-- the oldest message
+abbrev pub oldest : List Message → Option Message
+oldest [] = None
+oldest (first ∷ others) = Some first
+
+-- the box without its oldest message
+abbrev pub without_oldest : List Message → List Message
+without_oldest [] = []
+without_oldest (first ∷ others) = others
+
+-- no message is in the box twice
+abbrev pub IsOnceEach : List Message → Type 0
+IsOnceEach box = (message : Message) → count_by (λ other. same_message other message) box ≤ 1

@@ -1,0 +1,4 @@
+pub mod Boxes
+pub mod LookUps
+pub mod OnceEach
+pub mod Withdrawals

@@ -11,3 +11,4 @@ pub mod Restoring
 pub mod AllHarts
 pub mod Silent
 pub mod Runs
+pub mod Rows

@@ -8,6 +8,7 @@ pub mod LockWord
 pub mod BothReleases
 pub mod ShortestLimit
 pub mod CallInside
+pub mod BufferedStore
 pub mod LostReservation
 pub mod ChainOfTwo
 pub mod ChainOfTwoElision

@@ -14,3 +14,4 @@ pub mod Silent
 pub mod PlainMode
 pub mod FromStart
 pub mod Runs
+pub mod Rows

@@ -3,10 +3,8 @@ use Rattle.std.proofs.Common.{◌≡◌, ℕ, ◌+◌, ◌<◌, List, [], ◌∷
 use Rattle.std.proofs.Math.Nat.{le_of_lt}
 use Rattle.std.proofs.lemmas.List.{length-take-le, take_more}
 use Rattle.el_base.specs.declared.events.Event.{Event}
-use Rattle.el_base.specs.declared.outcomes.Outcome.{Outcome}
-use Rattle.plain_model.specs.Step.{next}
 use Rattle.machine.proofs.Continued.{continued_more, left_of_continued}
-use Rattle.machine.specs.Story.{Story, continued, left_of, state_of}
+use Rattle.machine.specs.Story.{Story, continued, left_of}
 
 -- the next of a list of events
 pub one_followed : (before now later : Story) (events : List Event) (place : ℕ) (event : Event) →

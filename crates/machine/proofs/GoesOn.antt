@@ -1,11 +1,10 @@
 -- a machine stands after each event, and what follows from that
-use Rattle.std.proofs.Common.{◌≡◌, ℕ, ◌+◌, ◌≤◌, ◌<◌, List, [], ◌∷◌, ◌++◌, length, sym, ◌∙◌, ap, subst, arith, length-append}
+use Rattle.std.proofs.Common.{◌≡◌, ℕ, ◌+◌, ◌≤◌, ◌<◌, [], ◌∷◌, ◌++◌, length, sym, ◌∙◌, ap, subst, arith, length-append}
 use Rattle.std.proofs.lemmas.List.Elements.{All-push}
 use Rattle.std.proofs.lemmas.List.{map-append}
-use Rattle.std.specs.Prelude.{All, map}
+use Rattle.std.specs.Prelude.{map}
 use Rattle.chronicle.specs.Chronicle.{events}
 use Rattle.chronicle.specs.Serial.{serial}
-use Rattle.el_base.specs.declared.entries.Entry.{Entry}
 use Rattle.el_base.specs.declared.events.Event.{Event}
 use Rattle.el_base.specs.declared.outcomes.Outcome.{Outcome}
 use Rattle.elf_image.specs.Program.{Program}
@@ -15,7 +14,7 @@ use Rattle.machine.specs.Stands.{IsGiven, Stands}
 use Rattle.machine.specs.Story.{IsOneRun, Story, committed, continued, left_of, memory_of, state_of}
 use Rattle.plain_model.proofs.Runs.{entries_from-append, keeps_place, outcomes-entries_from, serial_run}
 use Rattle.plain_model.specs.ModelState.{ModelState, begin}
-use Rattle.plain_model.specs.Runs.{entries_from, outcomes}
+use Rattle.plain_model.specs.Runs.{entries_from}
 use Rattle.plain_model.specs.Step.{next}
 use Rattle.rv_flat.specs.FlatState.{FlatState, span_of, start}
 use Rattle.rv_flat.specs.Laws.{KeepsShape}

@@ -1,4 +1,4 @@
-use Rattle.std.proofs.Common.{◌≡◌, ℕ, List, subst, false}
+use Rattle.std.proofs.Common.{◌≡◌, ℕ, subst, false}
 use Rattle.std.specs.Prelude.{◌↔◌, IfSome, IsNone}
 use Rattle.machine.proofs.GoesOn.{reached_committed, same_base, same_span}
 use Rattle.machine.proofs.machine.Machine.byte.Goals as goal

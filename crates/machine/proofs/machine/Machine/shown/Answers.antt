@@ -1,7 +1,6 @@
-use Rattle.std.proofs.Common.{ℕ, ◌<◌, ap, subst, sym, ◌∙◌}
-use Rattle.machine.proofs.GoesOn.{as_many, reached_committed}
+use Rattle.std.proofs.Common.{ℕ, ◌<◌, subst, sym}
+use Rattle.machine.proofs.GoesOn.{as_many}
 use Rattle.machine.proofs.machine.Machine.shown.Goals as goal
-use Rattle.rv_flat.specs.FlatState.{view_of}
 
 pub shown-requires : goal.shown-requires
 shown-requires c =

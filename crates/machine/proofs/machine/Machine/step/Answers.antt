@@ -1,5 +1,5 @@
-use Rattle.std.proofs.Common.{ℕ, ◌<◌, ap, refl, subst, sym, ◌∙◌}
-use Rattle.machine.proofs.GoesOn.{as_many, one_run, stands_more, told_more}
+use Rattle.std.proofs.Common.{ℕ, ◌<◌, refl, subst, sym}
+use Rattle.machine.proofs.GoesOn.{as_many, one_run, stands_more}
 use Rattle.machine.proofs.machine.Machine.step.Goals as goal
 
 pub step-outcome-requires : goal.step-outcome-requires

@@ -7,8 +7,10 @@ use Rattle.el_base.specs.declared.outcomes.Need.{Need}
 use Rattle.el_base.specs.declared.outcomes.Need.TheVariants.{Read, Write}
 use Rattle.moesi.specs.declared.letter.Letter.{Letter}
 use Rattle.cache_sets.specs.Residency.{Way, changed_in, filled_in, touched_in, way_in, with_bit, with_letter, without_bits}
-use Rattle.cache_sets.specs.Cache.{cleared, committed, committed_way, evicted_by, filled_with, lettered, marked, set_number, set_of, touched, way_of, with_set, without_line}
-use Rattle.cache_sets.proofs.ResidencyLemmas.{way_in-changed_in_other, way_in-changed_in_same, way_in-dropped_other, way_in-dropped_same, way_in-filled_in_evicted, way_in-filled_in_other, way_in-filled_in_same, way_in-map, way_in-touched_in}
+use Rattle.cache_sets.specs.Cache.{cleared, committed, committed_way, evicted_by, filled_with, lettered, marked, set_number, set_of, touched, way_of}
+use Rattle.cache_sets.specs.Cache.{with_set, without_line}
+use Rattle.cache_sets.proofs.ResidencyLemmas.{way_in-changed_in_other, way_in-changed_in_same, way_in-dropped_other, way_in-dropped_same}
+use Rattle.cache_sets.proofs.ResidencyLemmas.{way_in-filled_in_evicted, way_in-filled_in_other, way_in-filled_in_same, way_in-map, way_in-touched_in}
 
 -- the set of a line whose set another one took the place of, and the other sets
 pub set_of-with_set_same : (cache : List (List Way)) (line l : ℕ) (set : List Way) → 0 < length cache → set_number cache l ≡ set_number cache line →

@@ -1,5 +1,6 @@
 -- What holds of a cache as contracts see it, by what its fields keep.
-use Rattle.std.proofs.Common.{◌≡◌, ℕ, ◌+◌, ◌*◌, ◌%◌, ◌<◌, true, ltb, List, [], length, get_or, Option, None, Some, option_map, is_some, refl, ap, sym, subst, ◌∙◌, arith}
+use Rattle.std.proofs.Common.{◌≡◌, ℕ, ◌+◌, ◌*◌, ◌%◌, ◌<◌, true, ltb, List, [], length, get_or, Option, None, Some, option_map, is_some, refl, ap, sym, subst}
+use Rattle.std.proofs.Common.{◌∙◌, arith}
 use Rattle.std.specs.Option.{option_map_or}
 use Rattle.std.proofs.lemmas.Bool.Decides.{nat_tests}
 use Rattle.std.proofs.lemmas.List.{get_or_read, length-map}
@@ -59,7 +60,8 @@ unfound ways sets slice rows cached line is same none there =
 
 -- what was read at a way's row is the line's bytes
 pub row_read : (ways : ℕ) (sets slice : List Set) (rows : List (List ℕ)) (marks writes line index : ℕ) (way : code.Way) →
-    Stands ways sets rows marks writes → slice ≡ sets → Some way ≡ way_at slice line → index ≡ way.line.number % length slice * ways + way.slot → index < length rows
+    Stands ways sets rows marks writes → slice ≡ sets → Some way ≡ way_at slice line → index ≡ way.line.number % length slice * ways + way.slot →
+    index < length rows
 row_read ways sets slice rows marks writes line index way stands same found at =
     let there : way_at sets line ≡ Some way = ap (λ s. way_at s line) (sym same) ∙ sym found in
     omega (arith, row_below ways sets rows marks writes line way stands there, at, ap (λ s. row_of (length s) ways way) same)

@@ -1,5 +1,6 @@
 -- A step that changes the way of one line.
-use Rattle.std.proofs.Common.{◌≡◌, ◌≢◌, ℕ, ◌+◌, false, cond, eqb, ltb, List, length, map, Option, None, Some, option_map, refl, ap, sym, subst, inl, inr, ◌∙◌, arith}
+use Rattle.std.proofs.Common.{◌≡◌, ◌≢◌, ℕ, ◌+◌, false, cond, eqb, ltb, List, length, map, Option, None, Some, option_map, refl, ap, sym, subst, inl, inr, ◌∙◌}
+use Rattle.std.proofs.Common.{arith}
 use Rattle.std.specs.Option.{option_map_or}
 use Rattle.std.specs.List.{sum_by, count_by}
 use Rattle.std.specs.Prelude.{slice_set}
@@ -21,7 +22,8 @@ use Rattle.cache_sets.proofs.KeyedLemmas.{found-changed_other, found-changed_sam
 use Rattle.cache_sets.proofs.MarkLemmas.{mark_of, one_if, total-lettered, write_of}
 use Rattle.cache_sets.proofs.RowLemmas.{some_set}
 use Rattle.cache_sets.proofs.ShownLemmas.{once_at, set_of_shown}
-use Rattle.cache_sets.proofs.StepLemmas.{Reaches, changed_in_shown, length-sets_with, residency_of-sets_with, same_copy, set_kept, stands_step, way_at-sets_with_other, way_at-sets_with_same}
+use Rattle.cache_sets.proofs.StepLemmas.{Reaches, changed_in_shown, length-sets_with, residency_of-sets_with, same_copy, set_kept, stands_step}
+use Rattle.cache_sets.proofs.StepLemmas.{way_at-sets_with_other, way_at-sets_with_same}
 use Rattle.cache_sets.proofs.WellFormedLemmas.{well_formed-lettered, well_formed-marked}
 
 -- a change of a way in the code, of the way that it shows, and of the copy that the cache has

@@ -14,7 +14,8 @@ use Rattle.cache_sets.proofs.CachedLemmas.{copy_of, copy_shown}
 use Rattle.cache_sets.proofs.KeyedLemmas.{found-without_other, found-without_same, sum_by-without}
 use Rattle.cache_sets.proofs.RowLemmas.{some_set}
 use Rattle.cache_sets.proofs.ShownLemmas.{once_at, set_of_shown}
-use Rattle.cache_sets.proofs.StepLemmas.{Reaches, dropped_shown, length-sets_with, residency_of-sets_with, same_copy, set_kept, stands_step, way_at-sets_with_other, way_at-sets_with_same}
+use Rattle.cache_sets.proofs.StepLemmas.{Reaches, dropped_shown, length-sets_with, residency_of-sets_with, same_copy, set_kept, stands_step}
+use Rattle.cache_sets.proofs.StepLemmas.{way_at-sets_with_other, way_at-sets_with_same}
 use Rattle.cache_sets.proofs.WellFormedLemmas.{well_formed-without_line}
 
 module _ (ways : ℕ) (sets : List Set) (rows : List (List ℕ)) (marks writes new_marks new_writes line : ℕ) (new : Set) (stands : Stands ways sets rows marks writes)

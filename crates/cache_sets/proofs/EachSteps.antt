@@ -1,5 +1,6 @@
 -- A step that changes every way of a cache.
-use Rattle.std.proofs.Common.{◌≡◌, ℕ, ◌+◌, ◌*◌, ◌%◌, ◌<◌, Bool, true, false, cond, eqb, ltb, List, [], ◌∷◌, length, map, Option, None, Some, option_map, refl, ap, sym, subst, ◌∙◌, arith}
+use Rattle.std.proofs.Common.{◌≡◌, ℕ, ◌+◌, ◌*◌, ◌%◌, ◌<◌, Bool, true, false, cond, eqb, ltb, List, [], ◌∷◌, length, map, Option, None, Some, option_map, refl}
+use Rattle.std.proofs.Common.{ap, sym, subst, ◌∙◌, arith}
 use Rattle.std.specs.List.{count_by, sum_by}
 use Rattle.std.specs.Vec.{with_items}
 use Rattle.std.specs.Prelude.{Vec}
@@ -16,7 +17,8 @@ use Rattle.cache_sets.specs.Residency.{Way, without_bits}
 use Rattle.cache_sets.specs.Cache.{bit_in, cleared, committed, committed_way as spec_committed, write_bit, write_bits_of}
 use Rattle.cache_sets.specs.Cached.{Cached, copy_in, copy_with_letter}
 use Rattle.cache_sets.specs.Calls.{IsCleared, IsCommitted}
-use Rattle.cache_sets.specs.Kept.{AreChanged, IsSet, Stands, bytes_of_way, changed_set, cleared_way, committed_way, marks_of, no_set, number_of, residency_of, set_at, shown_cache, shown_set, shown_way, way_at}
+use Rattle.cache_sets.specs.Kept.{AreChanged, IsSet, Stands, bytes_of_way, changed_set, cleared_way, committed_way, marks_of, no_set, number_of, residency_of}
+use Rattle.cache_sets.specs.Kept.{set_at, shown_cache, shown_set, shown_way, way_at}
 use Rattle.cache_sets.specs.WellFormed.{IsWellFormed}
 use Rattle.cache_sets.proofs.CachedLemmas.{copy_of, copy_shown}
 use Rattle.cache_sets.proofs.KeyedLemmas.{found-map}

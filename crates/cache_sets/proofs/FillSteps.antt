@@ -1,5 +1,6 @@
 -- A step in which a line comes, and another one leaves for it, if one does.
-use Rattle.std.proofs.Common.{◌≡◌, ◌≢◌, ℕ, zero, suc, ◌+◌, ◌*◌, ◌%◌, ◌≤◌, ◌<◌, true, false, cond, eqb, ltb, List, [], ◌∷◌, length, map, get_or, Option, None, Some, option_map, is_some, refl, ap, sym, subst, inl, inr, ◌⊎◌, ◌∙◌, zero-add, arith}
+use Rattle.std.proofs.Common.{◌≡◌, ◌≢◌, ℕ, zero, suc, ◌+◌, ◌*◌, ◌%◌, ◌≤◌, ◌<◌, true, false, cond, eqb, ltb, List, [], ◌∷◌, length, map, get_or, Option, None}
+use Rattle.std.proofs.Common.{Some, option_map, is_some, refl, ap, sym, subst, inl, inr, ◌⊎◌, ◌∙◌, zero-add, arith}
 use Rattle.std.specs.Prelude.{slice_set}
 use Rattle.std.specs.List.{sum_by}
 use Rattle.std.proofs.lemmas.Bool.{cases_lt, eq-eqb}
@@ -19,13 +20,15 @@ use Rattle.cache_sets.specs.Residency.{Way, evicted_in, filled_in, has_unmarked,
 use Rattle.cache_sets.specs.Cache.{filled_with, is_resident, room_of, set_of, with_set}
 use Rattle.cache_sets.specs.Cached.{Cached, copy_in}
 use Rattle.cache_sets.specs.Calls.{IsFilledWith}
-use Rattle.cache_sets.specs.Kept.{IsFilled, IsSet, Stands, bytes_of_way, evicted_of, left_by, new_way, no_set, number_of, residency_of, row_of, set_at, sets_with, shown_cache, shown_set, shown_way, way_at}
+use Rattle.cache_sets.specs.Kept.{IsFilled, IsSet, Stands, bytes_of_way, evicted_of, left_by, new_way, no_set, number_of, residency_of, row_of, set_at}
+use Rattle.cache_sets.specs.Kept.{sets_with, shown_cache, shown_set, shown_way, way_at}
 use Rattle.cache_sets.proofs.CachedLemmas.{copy_of, copy_shown}
 use Rattle.cache_sets.proofs.KeyedLemmas.{mapped, found-without_other, found-without_same, sum_by-without}
 use Rattle.cache_sets.proofs.MarkLemmas.{marks_of-filled_with, write_bits_of-filled_with}
 use Rattle.cache_sets.proofs.RowLemmas.{row_below, rows_apart, some_set}
 use Rattle.cache_sets.proofs.ShownLemmas.{once_at, set_of_shown, way_in_shown, way_of_shown}
-use Rattle.cache_sets.proofs.StepLemmas.{Reaches, dropped_shown, length-sets_with, residency_of-sets_with, set_at-sets_with_same, set_kept, stands_step, way_at-sets_with_other, way_at-sets_with_same}
+use Rattle.cache_sets.proofs.StepLemmas.{Reaches, dropped_shown, length-sets_with, residency_of-sets_with, set_at-sets_with_same, set_kept, stands_step}
+use Rattle.cache_sets.proofs.StepLemmas.{way_at-sets_with_other, way_at-sets_with_same}
 use Rattle.cache_sets.proofs.WellFormedLemmas.{fresh, well_formed-filled_with}
 
 -- what stays in a set as a way leaves

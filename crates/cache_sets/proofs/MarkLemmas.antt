@@ -1,5 +1,6 @@
 -- How many lines have bits, and how many were written, after each word of a cache.
-use Rattle.std.proofs.Common.{◌≡◌, ℕ, suc, ◌+◌, ◌*◌, ◌%◌, ◌≤◌, ◌<◌, Bool, true, false, not, ◌||◌, cond, eqb, List, [], ◌∷◌, length, map, get_or, Option, None, Some, is_some, refl, ap, sym, ◌∙◌, arith}
+use Rattle.std.proofs.Common.{◌≡◌, ℕ, suc, ◌+◌, ◌*◌, ◌%◌, ◌≤◌, ◌<◌, Bool, true, false, not, ◌||◌, cond, eqb, List, [], ◌∷◌, length, map, get_or, Option, None}
+use Rattle.std.proofs.Common.{Some, is_some, refl, ap, sym, ◌∙◌, arith}
 use Rattle.std.specs.Option.{option_map_or}
 use Rattle.std.specs.List.{sum_by, list_any}
 use Rattle.cache_sets.specs.Keyed.{count_of}
@@ -11,10 +12,12 @@ use Rattle.el_base.specs.declared.outcomes.Need.{Need}
 use Rattle.el_base.specs.declared.outcomes.Need.TheVariants.{Read, Write}
 use Rattle.moesi.specs.declared.letter.Letter.{Letter}
 use Rattle.cache_sets.specs.Residency.{Way, changed_in, dropped, filled_in, is_marked, touched_in, way_in, with_bit, with_letter, without_bits}
-use Rattle.cache_sets.specs.Cache.{bit_in, cleared, committed, committed_way, evicted_by, filled_with, has_bit, has_marks, is_resident, lettered, marked, set_number, set_of, touched, way_of, with_set, without_line, write_bit, write_bits_of}
+use Rattle.cache_sets.specs.Cache.{bit_in, cleared, committed, committed_way, evicted_by, filled_with, has_bit, has_marks, is_resident, lettered, marked}
+use Rattle.cache_sets.specs.Cache.{set_number, set_of, touched, way_of, with_set, without_line, write_bit, write_bits_of}
 use Rattle.cache_sets.specs.WellFormed.{IsWellFormed}
 use Rattle.cache_sets.specs.Kept.{marks_of}
-use Rattle.cache_sets.proofs.ResidencyLemmas.{counted, evicted_in-victim, line_of, once_less, same_or, sum_by-changed_in, sum_by-dropped, sum_by-filled_in, sum_by-map, sum_by-touched_in, victim_in-unmarked}
+use Rattle.cache_sets.proofs.ResidencyLemmas.{counted, evicted_in-victim, line_of, once_less, same_or, sum_by-changed_in, sum_by-dropped, sum_by-filled_in}
+use Rattle.cache_sets.proofs.ResidencyLemmas.{sum_by-map, sum_by-touched_in, victim_in-unmarked}
 use Rattle.cache_sets.proofs.WellFormedLemmas.{fresh}
 
 -- a sum over every way of a cache

@@ -1,13 +1,16 @@
 -- One set: the way of a line after each word of a set, and which way leaves it.
-use Rattle.std.proofs.Common.{◌≡◌, ◌≢◌, ℕ, ◌+◌, ◌≤◌, ◌<◌, Bool, true, false, not, cond, eqb, ltb, List, [], ◌∷◌, length, map, Option, None, Some, option_map, is_some, refl, ap, sym, subst, inl, inr, ◌⊎◌, ◌∙◌, arith, add-zero}
+use Rattle.std.proofs.Common.{◌≡◌, ◌≢◌, ℕ, ◌+◌, ◌≤◌, ◌<◌, Bool, true, false, not, cond, eqb, ltb, List, [], ◌∷◌, length, map, Option, None, Some, option_map}
+use Rattle.std.proofs.Common.{is_some, refl, ap, sym, subst, inl, inr, ◌⊎◌, ◌∙◌, arith, add-zero}
 use Rattle.std.specs.Option.{option_or, option_map_or}
 use Rattle.std.proofs.lemmas.Bool.Decides.{nat_tests}
 use Rattle.std.proofs.lemmas.List.Sums.{sum_by-cons}
 use Rattle.std.proofs.lemmas.List.Folds.{fold-map}
 use Rattle.std.specs.List.{sum_by}
-use Rattle.cache_sets.specs.Residency.{Way, changed_in, dropped, evicted_in, filled_in, has_unmarked, is_marked, left_in, room_in, to_front, touched_in, victim_in, way_in}
+use Rattle.cache_sets.specs.Residency.{Way, changed_in, dropped, evicted_in, filled_in, has_unmarked, is_marked, left_in, room_in, to_front, touched_in}
+use Rattle.cache_sets.specs.Residency.{victim_in, way_in}
 use Rattle.cache_sets.specs.Keyed.{count_of, changed, found, without}
-use Rattle.cache_sets.proofs.KeyedLemmas.{count_of-found, found-changed_other, found-changed_same, found-key, found-without_other, found-without_same, sum_by-changed, sum_by-without}
+use Rattle.cache_sets.proofs.KeyedLemmas.{count_of-found, found-changed_other, found-changed_same, found-key, found-without_other, found-without_same}
+use Rattle.cache_sets.proofs.KeyedLemmas.{sum_by-changed, sum_by-without}
 
 -- the line of a way
 abbrev pub line_of : Way → ℕ

@@ -1,5 +1,6 @@
 -- A step of one set: what the sets show after it, and that they keep what they keep.
-use Rattle.std.proofs.Common.{◌≡◌, ◌≢◌, ℕ, ◌+◌, ◌*◌, ◌%◌, ◌≤◌, ◌<◌, cond, eqb, ltb, List, ◌∷◌, length, map, get_or, Option, None, Some, option_map, refl, ap, sym, subst, inl, inr, ◌∙◌, arith}
+use Rattle.std.proofs.Common.{◌≡◌, ◌≢◌, ℕ, ◌+◌, ◌*◌, ◌%◌, ◌≤◌, ◌<◌, cond, eqb, ltb, List, ◌∷◌, length, map, get_or, Option, None, Some, option_map, refl, ap}
+use Rattle.std.proofs.Common.{sym, subst, inl, inr, ◌∙◌, arith}
 use Rattle.std.specs.Option.{option_map_or}
 use Rattle.std.specs.List.{sum_by, count_by}
 use Rattle.std.specs.Prelude.{slice_set}
@@ -12,7 +13,8 @@ use Rattle.cache_sets.specs.Residency.{Way, changed_in, dropped, to_front, touch
 use Rattle.cache_sets.specs.Cache.{touched, with_set, write_bits_of}
 use Rattle.cache_sets.specs.Cached.{Cached, copy_in}
 use Rattle.cache_sets.specs.Calls.{IsTouched}
-use Rattle.cache_sets.specs.Kept.{IsSet, Stands, marks_of, no_set, number_of, residency_of, set_at, sets_with, shown_cache, shown_set, shown_way, uses_of, way_at}
+use Rattle.cache_sets.specs.Kept.{IsSet, Stands, marks_of, no_set, number_of, residency_of, set_at, sets_with, shown_cache, shown_set, shown_way, uses_of}
+use Rattle.cache_sets.specs.Kept.{way_at}
 use Rattle.cache_sets.specs.WellFormed.{IsWellFormed}
 use Rattle.cache_sets.proofs.KeyedLemmas.{changed-map, found-fronted, length-sum_by, sum_by-fronted, without-map}
 use Rattle.cache_sets.proofs.ResidencyLemmas.{changed_in-changed, dropped-without, line_of}
@@ -61,7 +63,8 @@ way_at-sets_with_other sets line l set some kept =
     ]
 
 -- what the sets show
-pub residency_of-sets_with : (sets : List Set) (line : ℕ) (set : Set) → residency_of (sets_with sets line set) ≡ with_set (residency_of sets) line (shown_set set)
+pub residency_of-sets_with : (sets : List Set) (line : ℕ) (set : Set) →
+    residency_of (sets_with sets line set) ≡ with_set (residency_of sets) line (shown_set set)
 residency_of-sets_with sets line set =
     map-set shown_set sets (line % length sets) set
     ∙ ap (λ n. slice_set (residency_of sets) (line % n) (shown_set set)) (sym (length-map sets shown_set))

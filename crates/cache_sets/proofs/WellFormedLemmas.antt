@@ -1,5 +1,6 @@
 -- What holds of every cache is kept by each word of a cache.
-use Rattle.std.proofs.Common.{◌≡◌, ◌≢◌, ℕ, zero, suc, ◌+◌, ◌%◌, ◌≤◌, ◌<◌, Bool, true, false, cond, eqb, List, [], length, map, Option, None, Some, is_some, refl, ap, sym, subst, inl, inr, ◌⊎◌, ◌∙◌, arith}
+use Rattle.std.proofs.Common.{◌≡◌, ◌≢◌, ℕ, zero, suc, ◌+◌, ◌%◌, ◌≤◌, ◌<◌, Bool, true, false, cond, eqb, List, [], length, map, Option, None, Some, is_some}
+use Rattle.std.proofs.Common.{refl, ap, sym, subst, inl, inr, ◌⊎◌, ◌∙◌, arith}
 use Rattle.std.specs.Option.{option_map_or}
 use Rattle.std.specs.List.{sum_by}
 use Rattle.std.proofs.lemmas.Bool.{cases_eq, cases_lt}
@@ -9,10 +10,14 @@ use Rattle.std.proofs.lemmas.List.{length-map, get_or-map, get_or-replicate, len
 use Rattle.moesi.specs.declared.letter.Letter.{Letter}
 use Rattle.moesi.specs.declared.letter.Letter.TheVariants.{I, M}
 use Rattle.el_base.specs.declared.outcomes.Need.{Need}
-use Rattle.cache_sets.specs.Residency.{Way, changed_in, dropped, evicted_in, filled_in, left_in, room_in, touched_in, way_in, with_bit, with_letter, without_bits}
-use Rattle.cache_sets.specs.Cache.{cleared, committed, committed_way, empty_cache, filled_with, is_resident, lettered, marked, room_of, set_number, set_of, touched, with_set, without_line}
+use Rattle.cache_sets.specs.Residency.{Way, changed_in, dropped, evicted_in, filled_in, left_in, room_in, touched_in, way_in, with_bit, with_letter}
+use Rattle.cache_sets.specs.Residency.{without_bits}
+use Rattle.cache_sets.specs.Cache.{cleared, committed, committed_way, empty_cache, filled_with, is_resident, lettered, marked, room_of, set_number, set_of}
+use Rattle.cache_sets.specs.Cache.{touched, with_set, without_line}
 use Rattle.cache_sets.specs.WellFormed.{IsWellFormed}
-use Rattle.cache_sets.proofs.ResidencyLemmas.{evicted_in-some, uncounted, line_of, same_or, sum_by-changed_in, sum_by-dropped, sum_by-map, sum_by-filled_in, sum_by-touched_in, way_in-changed_in_other, way_in-changed_in_same, way_in-dropped_other, way_in-dropped_same, way_in-filled_in_same, way_in-map, way_in-touched_in}
+use Rattle.cache_sets.proofs.ResidencyLemmas.{evicted_in-some, uncounted, line_of, same_or, sum_by-changed_in, sum_by-dropped, sum_by-map, sum_by-filled_in}
+use Rattle.cache_sets.proofs.ResidencyLemmas.{sum_by-touched_in, way_in-changed_in_other, way_in-changed_in_same, way_in-dropped_other, way_in-dropped_same}
+use Rattle.cache_sets.proofs.ResidencyLemmas.{way_in-filled_in_same, way_in-map, way_in-touched_in}
 use Rattle.el_base.specs.declared.outcomes.Need.TheVariants.{Read, Write}
 use Rattle.cache_sets.proofs.CacheLemmas.{line-with_bit, length-with_set, set_of-with_set_other, set_of-with_set_same}
 use Rattle.cache_sets.specs.Keyed.{count_of}
@@ -27,7 +32,8 @@ record Fits (ways : ℕ) (cache : List (List Way)) (line : ℕ) (set : List Way)
 
 -- a fact of each set holds after one set took the place of another
 each_set : (P : List Way → ℕ → Type 0) (cache : List (List Way)) (line : ℕ) (set : List Way) → 0 < length cache →
-    ((n : ℕ) → n ≡ set_number cache line → P set n) → ((l : ℕ) → P (set_of cache l) (set_number cache l)) → (l : ℕ) → P (set_of (with_set cache line set) l) (set_number cache l)
+    ((n : ℕ) → n ≡ set_number cache line → P set n) → ((l : ℕ) → P (set_of cache l) (set_number cache l)) → (l : ℕ) →
+    P (set_of (with_set cache line set) l) (set_number cache l)
 each_set P cache line set some here others l =
     elim (cases_eq (set_number cache l) (set_number cache line)) [
       | inl same ↦ subst (λ (s : List Way). P s (set_number cache l)) (sym (set_of-with_set_same cache line l set some same)) (here (set_number cache l) same)

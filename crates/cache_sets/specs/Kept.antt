@@ -1,5 +1,6 @@
 -- how a cache's fields show its sets, and what each set keeps
-use Rattle.std.specs.Prelude.{◌≡◌, ◌≤◌, ◌<◌, ◌+◌, ◌*◌, ◌%◌, ◌==◌, ℕ, All, List, [], ◌∷◌, map, length, count_by, sum_by, nat_lt, if◌then◌else◌, slice_index_or, slice_set, Option, None, Some, option_map}
+use Rattle.std.specs.Prelude.{◌≡◌, ◌≤◌, ◌<◌, ◌+◌, ◌*◌, ◌%◌, ◌==◌, ℕ, All, List, [], ◌∷◌, map, length, count_by, sum_by, nat_lt, if◌then◌else◌, slice_index_or}
+use Rattle.std.specs.Prelude.{slice_set, Option, None, Some, option_map}
 use Rattle.el_base.specs.declared.line.LineAddr.{LineAddr}
 use Rattle.el_base.specs.declared.outcomes.Need.{Need}
 use Rattle.el_base.specs.declared.outcomes.Need.TheVariants.{Read, Write}

@@ -15,3 +15,6 @@ pub use bits::Bits;
 pub use evicted::Evicted;
 pub use moesi::Letter;
 pub use sets::Sets;
+
+#[cfg(test)]
+mod tests;

@@ -58,7 +58,7 @@ impl Set {
     }
 
     /// Whether a line is there.
-    fn has(&self, line: LineAddr) -> bool
+    pub fn has(&self, line: LineAddr) -> bool
         ensures { result ≡ is_some (way_in (shown_set self.now) line.number) }
     {
         self.place_of(line).is_some()

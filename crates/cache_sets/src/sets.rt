@@ -65,6 +65,13 @@ impl Sets {
         })
     }
 
+    /// Whether the cache has a line.
+    pub fn has(&self, line: LineAddr) -> bool
+        ensures { result ≡ is_resident self.now.residency line.number }
+    {
+        set_of(self.sets.as_slice(), line).has(line)
+    }
+
     /// What the cache knows of a line; it is I exactly where the cache has not the line.
     pub fn letter(&self, line: LineAddr) -> Letter
         ensures exact { result ≡ letter_of self.now.residency line.number }

@@ -1,5 +1,5 @@
 -- Where the number of a workload stands in its image.
-use Rattle.std.proofs.Common.{◌≡◌, ◌≤◌, ◌∙◌, ap, sym, ℕ, ◌+◌, ◌-◌, ◌*◌, List, ◌++◌, length, zero, suc, refl, arith}
+use Rattle.std.proofs.Common.{◌≡◌, ◌≤◌, ◌∙◌, ap, ℕ, ◌+◌, ◌-◌, ◌*◌, List, ◌++◌, length, zero, suc, refl, arith}
 use Rattle.std.proofs.lemmas.List.{get_or-append-add, append_assoc, length-append, length-replicate}
 use Rattle.std.specs.Prelude.{replicate}
 use Rattle.byteorder.specs.Endian.{little_from}

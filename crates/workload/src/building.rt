@@ -3,6 +3,7 @@
 ghost use Rattle.std.specs.Prelude.{◌≡◌, ◌<◌, ◌≤◌, length, IfOk};
 ghost use Rattle.elf_image.specs.Faults.{IsFaultless};
 ghost use Rattle.elf_image.specs.Limits.{file_limit};
+ghost use Rattle.elf_image.specs.Numbers.{word_at};
 ghost use Rattle.workload.specs.Image.{number_in};
 
 use crate::data::data;
@@ -28,6 +29,19 @@ pub fn build(alloc: Global, kind: Work, number: u32) -> Result<Vec<u8>, NoMemory
 {
     let words = words(alloc, kind)?;
     let bytes = data(alloc, kind, number)?;
+    image_of(alloc, words, bytes)
+}
+
+/// The file of the image of these words and of the data that begins with these bytes.
+fn image_of(alloc: Global, words: Vec<u32>, bytes: Vec<u8>) -> Result<Vec<u8>, NoMemory>
+    requires has_entry { 3 < length words.items }
+    requires few { length words.items ≤ MOST_WORDS }
+    requires some { 4 ≤ length bytes.items }
+    requires fits { length bytes.items ≤ DATA_LEN }
+    ensures accepted { IfOk result (λ file. IsFaultless file.items) }
+    ensures within_limit { IfOk result (λ file. length file.items ≤ file_limit) }
+    ensures numbered { IfOk result (λ file. number_in file.items ≡ word_at bytes.items 0) }
+{
     let zeros = DATA_LEN - bytes.len() as u32;
     let built = Built {
         base: BASE,

@@ -3,12 +3,14 @@ ghost use Rattle.std.specs.Fmt.{decimal};
 ghost use Rattle.el_io.specs.Counts.{one_more};
 ghost use Rattle.el_io.specs.Sink.{TookAll, TookPart};
 ghost use Rattle.machine.specs.Story.{committed};
+ghost use Rattle.chronicle.specs.Tally.{tally_of};
+ghost use Rattle.report.specs.Counting.{tally_at};
 ghost use Rattle.report.specs.Line.{bytes_of};
 ghost use Rattle.report.specs.Puts.{Puts};
 ghost use Rattle.report.specs.Text.{count_words, first_line, hart_line, hart_lines, last_line, mode_name, report_of};
 ghost use Rattle.rv_flat.specs.FlatState.{status_of};
 
-use crate::tallies::tallies_of;
+use crate::tallies::{Tallies, tallies_of};
 use crate::word::{Word, put_line};
 use chronicle::Tally;
 use el_base::{Chronicled, Config, HartId, Mode};
@@ -81,10 +83,27 @@ fn put_hart_lines<S: Sink>(sink: &mut S, machine: &Machine) -> Result<(), Failed
 {
     let tallies = tallies_of(machine.history());
     for number in 0..machine.config().harts {
-        let status = machine.hart(HartId { number }).status;
-        put_hart_line(sink, number, tallies[number as usize], status)?;
+        put_line_of(sink, machine, &tallies, HartId { number })?;
     }
     Ok(())
+}
+
+/// Puts the line of a hart of a machine with these tallies.
+fn put_line_of<S: Sink>(
+    sink: &mut S,
+    machine: &Machine,
+    tallies: &Tallies,
+    hart: HartId,
+) -> Result<(), Failed>
+    requires exists { hart.number < machine.now.config.harts }
+    requires tallied { tally_at tallies.now hart.number ≡ tally_of hart.number machine.now.entries }
+    ensures { Puts result
+        (record { taken = S.taken sink.old; faults = S.faults sink.old })
+        (record { taken = S.taken sink.new; faults = S.faults sink.new })
+        (hart_line hart.number (tally_of hart.number machine.now.entries) (status_of (committed machine.now) hart.number)) }
+{
+    let status = machine.hart(hart).status;
+    put_hart_line(sink, hart.number, tallies[hart.number as usize], status)
 }
 
 /// Puts the line of a hart: its number, what the events count for in its line, and how it stands.

@@ -61,11 +61,17 @@ fn run(rt: &impl Abort, alloc: Global, file: &[u8], events: &[(u8, u32)]) -> Res
     Ok(machine)
 }
 
+/// A sink that took the report of a machine.
+fn told(alloc: Global, machine: &Machine) -> Result<SureSink, Fail> {
+    let mut sink = SureSink::make(alloc, 2_000)?;
+    write_report(&mut sink, machine)?;
+    Ok(sink)
+}
+
 #[test]
 fn a_report_is_three_lines_for_one_hart(rt: HostRuntime) -> Result<(), Fail> {
     let machine = run(&rt, rt.alloc(), &FILE, &[(0, 33)])?;
-    let mut sink = SureSink::make(rt.alloc(), 400)?;
-    write_report(&mut sink, &machine)?;
+    let sink = told(rt.alloc(), &machine)?;
     let text = b"elide plain harts 1 events 33\n\
         hart 0 ran 9 began 0 committed 0 instr 0 conflict 0 room 0 lines 0 long 0 call 0 mixed 0 \
         missed 0 stalled 0 blocked 0 exit 0\n\
@@ -105,8 +111,7 @@ fn a_line_ends_with_how_its_hart_stands(rt: HostRuntime) -> Result<(), Fail> {
         let mut file = FILE;
         file[place..place + 4].copy_from_slice(&word);
         let machine = run(&rt, rt.alloc(), &file, &[(0, events)])?;
-        let mut sink = SureSink::make(rt.alloc(), 400)?;
-        write_report(&mut sink, &machine)?;
+        let sink = told(rt.alloc(), &machine)?;
         let text = str::from_utf8(sink.taken()).map_err(|_| "no text")?;
         assert!(rt; text.contains(ran), "{text}");
         assert!(rt; text.ends_with(end), "{text}");
@@ -127,8 +132,7 @@ fn each_of_eight_harts_has_its_line(rt: HostRuntime) -> Result<(), Fail> {
         (7, 25),
     ];
     let machine = run(&rt, rt.alloc(), &FILE, &events)?;
-    let mut sink = SureSink::make(rt.alloc(), 2_000)?;
-    write_report(&mut sink, &machine)?;
+    let sink = told(rt.alloc(), &machine)?;
     let text = str::from_utf8(sink.taken()).map_err(|_| "no text")?;
     let mut lines = text.lines();
     assert_eq!(rt; lines.next(), Some("elide plain harts 8 events 124"));
@@ -157,21 +161,31 @@ fn each_of_eight_harts_has_its_line(rt: HostRuntime) -> Result<(), Fail> {
 #[test]
 fn a_sink_is_given_the_rest_of_what_it_did_not_take(rt: HostRuntime) -> Result<(), Fail> {
     let machine = run(&rt, rt.alloc(), &FILE, &[(0, 33)])?;
-    let mut whole = SureSink::make(rt.alloc(), 400)?;
-    write_report(&mut whole, &machine)?;
-    let mut slow = MemSink::make(rt.alloc(), 400, 1, &[])?;
+    let whole = told(rt.alloc(), &machine)?;
+    let mut slow = MemSink::make(rt.alloc(), 2_000, 1, &[])?;
     write_report(&mut slow, &machine)?;
     assert_eq!(rt; slow.taken(), whole.taken());
-    for (failing, taken) in [
-        (1, ""),
-        (2, "elide"),
-        (3, "elide "),
-        (13, "elide plain harts 1 events 33\n"),
-    ] {
-        let mut sink = MemSink::make(rt.alloc(), 400, 400, &[failing])?;
-        assert_eq!(rt; write_report(&mut sink, &machine), Err(Failed));
-        assert_eq!(rt; sink.taken(), taken.as_bytes(), "at put {failing}");
+    Ok(())
+}
+
+/// The bytes that were taken by a sink that failed at its put of this number.
+fn taken_until(alloc: Global, machine: &Machine, failing: u32) -> Result<MemSink, Fail> {
+    let mut sink = MemSink::make(alloc, 2_000, 2_000, &[failing])?;
+    match write_report(&mut sink, machine) {
+        Ok(()) => Err("no fault")?,
+        Err(Failed) => Ok(sink),
     }
+}
+
+#[test]
+fn a_sink_that_failed_has_the_beginning(rt: HostRuntime) -> Result<(), Fail> {
+    let machine = run(&rt, rt.alloc(), &FILE, &[(0, 33)])?;
+    let none = taken_until(rt.alloc(), &machine, 1)?;
+    assert!(rt; none.taken().is_empty());
+    let word = taken_until(rt.alloc(), &machine, 2)?;
+    assert_eq!(rt; word.taken(), b"elide".as_slice());
+    let line = taken_until(rt.alloc(), &machine, 13)?;
+    assert_eq!(rt; line.taken(), b"elide plain harts 1 events 33\n".as_slice());
     Ok(())
 }
 

@@ -100,7 +100,8 @@ fn put_line_of<S: Sink>(
     ensures { Puts result
         (record { taken = S.taken sink.old; faults = S.faults sink.old })
         (record { taken = S.taken sink.new; faults = S.faults sink.new })
-        (hart_line hart.number (tally_of hart.number machine.now.entries) (status_of (committed machine.now) hart.number)) }
+        (hart_line hart.number (tally_of hart.number machine.now.entries)
+        (status_of (committed machine.now) hart.number)) }
 {
     let status = machine.hart(hart).status;
     put_hart_line(sink, hart.number, tallies[hart.number as usize], status)

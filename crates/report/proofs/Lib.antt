@@ -1,0 +1,4 @@
+mod Counted
+mod Losing
+mod Putting
+mod Reporting

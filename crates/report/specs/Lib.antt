@@ -1,0 +1,4 @@
+pub mod Counting
+pub mod Line
+pub mod Puts
+pub mod Text

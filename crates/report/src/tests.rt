@@ -1,0 +1,303 @@
+use super::*;
+use crate::report::put_hart_line;
+use crate::tallies::tallies_of;
+use chronicle::{History, Tally};
+use el_base::{
+    Cause, Config, Entry, Event, HartId, Kind, LineAddr, Losers, Mode, Need, Outcome, Why, line_of,
+};
+use el_io::{Failed, MemSink, SureSink};
+use elf_image::load;
+use machine::Machine;
+use rv_alu::HartStatus;
+use std::alloc::Global;
+use std::process::Abort;
+use std::test::Fail;
+
+/// A program of nine instructions at 0x10054 that prints 'A' and a newline and exits, in one segment at
+/// 0x10000 that is the whole file.
+const FILE: [u8; 122] = [
+    0x7f, 0x45, 0x4c, 0x46, 0x01, 0x01, 0x01, 0x00, 0x00, 0x00, 0x00, 0x00, 0x00, 0x00, 0x00, 0x00,
+    0x02, 0x00, 0xf3, 0x00, 0x01, 0x00, 0x00, 0x00, 0x54, 0x00, 0x01, 0x00, 0x34, 0x00, 0x00, 0x00,
+    0x00, 0x00, 0x00, 0x00, 0x00, 0x00, 0x00, 0x00, 0x34, 0x00, 0x20, 0x00, 0x01, 0x00, 0x00, 0x00,
+    0x00, 0x00, 0x00, 0x00, 0x01, 0x00, 0x00, 0x00, 0x00, 0x00, 0x00, 0x00, 0x00, 0x00, 0x01, 0x00,
+    0x00, 0x00, 0x01, 0x00, 0x7a, 0x00, 0x00, 0x00, 0x7a, 0x00, 0x00, 0x00, 0x05, 0x00, 0x00, 0x00,
+    0x00, 0x10, 0x00, 0x00, 0x13, 0x05, 0x10, 0x00, 0x97, 0x05, 0x00, 0x00, 0x93, 0x85, 0x05, 0x02,
+    0x13, 0x06, 0x20, 0x00, 0x93, 0x08, 0x00, 0x04, 0x73, 0x00, 0x00, 0x00, 0x13, 0x05, 0x00, 0x00,
+    0x93, 0x08, 0xd0, 0x05, 0x73, 0x00, 0x00, 0x00, 0x41, 0x0a,
+];
+
+/// The place in the file of the last `addi x10,x0,0`, which gives the exit code.
+const CODE: usize = 108;
+
+/// The place in the file of the first instruction.
+const FIRST: usize = 84;
+
+const KINDS: [Kind; 4] = [Kind::Step, Kind::Order, Kind::Serve, Kind::Deliver];
+
+/// A machine in plain mode of a file that is known to be an image, after these many events of each hart
+/// in turn, of the kinds in their order.
+fn run(rt: &impl Abort, alloc: Global, file: &[u8], events: &[(u8, u32)]) -> Result<Machine, Fail> {
+    assert!(rt; file.len() == 122);
+    assert!(rt; (1..=8).contains(&events.len()));
+    let harts = events.len() as u8;
+    let image = load(alloc, file, harts).map_err(|_| "no image")?;
+    let config = Config {
+        harts,
+        mode: Mode::Plain,
+        steps: 400,
+        ..Config::usual()
+    };
+    assert!(rt; image.harts() == config.harts);
+    let mut machine = Machine::make(alloc, image, config).map_err(|_| "no machine")?;
+    for (number, count) in events {
+        let hart = HartId::new(*number).ok_or("no such hart")?;
+        for place in 0..*count {
+            assert!(rt; machine.steps_left() >= 1);
+            assert!(rt; hart.number < machine.config().harts);
+            let kind = KINDS[place as usize % 4];
+            let _ = machine.step(Event { kind, hart });
+        }
+    }
+    Ok(machine)
+}
+
+/// A sink that took the report of a machine.
+fn told(alloc: Global, machine: &Machine) -> Result<SureSink, Fail> {
+    let mut sink = SureSink::make(alloc, 2_000)?;
+    write_report(&mut sink, machine)?;
+    Ok(sink)
+}
+
+#[test]
+fn a_report_is_three_lines_for_one_hart(rt: HostRuntime) -> Result<(), Fail> {
+    let machine = run(&rt, rt.alloc(), &FILE, &[(0, 33)])?;
+    let sink = told(rt.alloc(), &machine)?;
+    let text = b"elide plain harts 1 events 33\n\
+        hart 0 ran 9 began 0 committed 0 instr 0 conflict 0 room 0 lines 0 long 0 call 0 mixed 0 \
+        missed 0 stalled 0 blocked 0 exit 0\n\
+        serial 9 out 2\n";
+    assert_eq!(rt; sink.taken(), text.as_slice());
+    Ok(())
+}
+
+/// What a hart's line ends with, by the word that stands at a place of the file, and the events.
+#[test]
+fn a_line_ends_with_how_its_hart_stands(rt: HostRuntime) -> Result<(), Fail> {
+    // `lw x10,2(x0)`, `addi x10,x0,-1`, and the program as it is.
+    let rows = [
+        (
+            FIRST,
+            [0x03, 0x25, 0x20, 0x00],
+            4,
+            " ran 1 ",
+            " trap 4 at 00010054\nserial 1 out 0\n",
+        ),
+        (
+            CODE,
+            [0x13, 0x05, 0xf0, 0xff],
+            33,
+            " ran 9 ",
+            " exit 4294967295\nserial 9 out 2\n",
+        ),
+        (
+            CODE,
+            [0x13, 0x05, 0x00, 0x00],
+            20,
+            " ran 5 ",
+            " running\nserial 5 out 0\n",
+        ),
+    ];
+    for (place, word, events, ran, end) in rows {
+        let mut file = FILE;
+        file[place..place + 4].copy_from_slice(&word);
+        let machine = run(&rt, rt.alloc(), &file, &[(0, events)])?;
+        let sink = told(rt.alloc(), &machine)?;
+        let text = str::from_utf8(sink.taken()).map_err(|_| "no text")?;
+        assert!(rt; text.contains(ran), "{text}");
+        assert!(rt; text.ends_with(end), "{text}");
+    }
+    Ok(())
+}
+
+#[test]
+fn each_of_eight_harts_has_its_line(rt: HostRuntime) -> Result<(), Fail> {
+    let events = [
+        (0, 1),
+        (1, 9),
+        (2, 13),
+        (3, 5),
+        (4, 17),
+        (5, 33),
+        (6, 21),
+        (7, 25),
+    ];
+    let machine = run(&rt, rt.alloc(), &FILE, &events)?;
+    let sink = told(rt.alloc(), &machine)?;
+    let text = str::from_utf8(sink.taken()).map_err(|_| "no text")?;
+    let mut lines = text.lines();
+    assert_eq!(rt; lines.next(), Some("elide plain harts 8 events 124"));
+    for (number, ran) in [
+        (0, 1),
+        (1, 3),
+        (2, 4),
+        (3, 2),
+        (4, 5),
+        (5, 9),
+        (6, 6),
+        (7, 7),
+    ] {
+        let status = if number == 5 { "exit 0" } else { "running" };
+        let line = format!(in rt.alloc();
+            "hart {number} ran {ran} began 0 committed 0 instr 0 conflict 0 \
+            room 0 lines 0 long 0 call 0 mixed 0 missed 0 stalled 0 blocked 0 {status}"
+        )?;
+        assert_eq!(rt; lines.next(), Some(line.as_str()));
+    }
+    assert_eq!(rt; lines.next(), Some("serial 37 out 6"));
+    assert_eq!(rt; lines.next(), None);
+    Ok(())
+}
+
+#[test]
+fn a_sink_is_given_the_rest_of_what_it_did_not_take(rt: HostRuntime) -> Result<(), Fail> {
+    let machine = run(&rt, rt.alloc(), &FILE, &[(0, 33)])?;
+    let whole = told(rt.alloc(), &machine)?;
+    let mut slow = MemSink::make(rt.alloc(), 2_000, 1, &[])?;
+    write_report(&mut slow, &machine)?;
+    assert_eq!(rt; slow.taken(), whole.taken());
+    Ok(())
+}
+
+/// The bytes that were taken by a sink that failed at its put of this number.
+fn taken_until(alloc: Global, machine: &Machine, failing: u32) -> Result<MemSink, Fail> {
+    let mut sink = MemSink::make(alloc, 2_000, 2_000, &[failing])?;
+    match write_report(&mut sink, machine) {
+        Ok(()) => Err("no fault")?,
+        Err(Failed) => Ok(sink),
+    }
+}
+
+#[test]
+fn a_sink_that_failed_has_the_beginning(rt: HostRuntime) -> Result<(), Fail> {
+    let machine = run(&rt, rt.alloc(), &FILE, &[(0, 33)])?;
+    let none = taken_until(rt.alloc(), &machine, 1)?;
+    assert!(rt; none.taken().is_empty());
+    let word = taken_until(rt.alloc(), &machine, 2)?;
+    assert_eq!(rt; word.taken(), b"elide".as_slice());
+    let line = taken_until(rt.alloc(), &machine, 13)?;
+    assert_eq!(rt; line.taken(), b"elide plain harts 1 events 33\n".as_slice());
+    Ok(())
+}
+
+#[test]
+fn each_number_stands_behind_its_name(rt: HostRuntime) -> Result<(), Fail> {
+    let tally = Tally {
+        ran: 18_446_744_073_709_551_615,
+        began: 2,
+        committed: 3,
+        instr: 44,
+        conflict: 5,
+        room: 6,
+        lines: 7,
+        long: 8,
+        call: 9,
+        mixed: 10,
+        missed: 11,
+        stalled: 12,
+        blocked: 13,
+    };
+    let mut sink = SureSink::make(rt.alloc(), 400)?;
+    let status = HartStatus::Trapped {
+        cause: 7,
+        pc: 0xdead_beef,
+    };
+    put_hart_line(&mut sink, 6, tally, status)?;
+    let text =
+        b"hart 6 ran 18446744073709551615 began 2 committed 3 instr 44 conflict 5 room 6 lines 7 \
+        long 8 call 9 mixed 10 missed 11 stalled 12 blocked 13 trap 7 at deadbeef\n";
+    assert_eq!(rt; sink.taken(), text.as_slice());
+    Ok(())
+}
+
+/// Two harts whose sections meet at one line, and each way in which a section can end: one pass says of
+/// each hart what its own events and its losses count for.
+#[test]
+fn one_pass_counts_for_every_hart(rt: HostRuntime) -> Result<(), Fail> {
+    let first = HartId::new(0).ok_or("no hart 0")?;
+    let last = HartId::new(7).ok_or("no hart 7")?;
+    let line: LineAddr = line_of(0x1_0040);
+    let need = Need::Write;
+    let why = Why::Retained;
+    let losers = Losers::none().with(first, last);
+    let both = Losers::none().with(last, first).with(first, last);
+    let outcomes = [
+        (last, Outcome::Missed { line, need }),
+        (last, Outcome::Ordered { losers }),
+        (last, Outcome::Blocked { why, by: first }),
+        (last, Outcome::Served { losers }),
+        (last, Outcome::Delivered { losers: both }),
+        (first, Outcome::Stalled),
+        (first, Outcome::Idle),
+        (first, Outcome::Began),
+        (first, Outcome::Buffered),
+        (first, Outcome::Committed { count: 4 }),
+        (first, Outcome::Ran),
+        (
+            first,
+            Outcome::Committed {
+                count: 4_294_967_295,
+            },
+        ),
+        (last, Outcome::RolledBack { cause: Cause::Room }),
+        (
+            last,
+            Outcome::RolledBack {
+                cause: Cause::Lines,
+            },
+        ),
+        (last, Outcome::RolledBack { cause: Cause::Long }),
+        (last, Outcome::RolledBack { cause: Cause::Call }),
+        (
+            last,
+            Outcome::RolledBack {
+                cause: Cause::Mixed,
+            },
+        ),
+    ];
+    let mut history = History::make(rt.alloc(), 17)?;
+    for (hart, outcome) in outcomes {
+        assert!(rt; history.spare() >= 1);
+        let kind = Kind::Step;
+        history.push(Entry {
+            event: Event { kind, hart },
+            outcome,
+        });
+    }
+    let tallies = tallies_of(&history);
+    let of_first = Tally {
+        ran: 1,
+        began: 1,
+        committed: 2,
+        instr: 4_294_967_299,
+        conflict: 3,
+        stalled: 1,
+        ..Tally::default()
+    };
+    let of_last = Tally {
+        conflict: 1,
+        room: 1,
+        lines: 1,
+        long: 1,
+        call: 1,
+        mixed: 1,
+        missed: 1,
+        blocked: 1,
+        ..Tally::default()
+    };
+    assert_eq!(rt; tallies[0], of_first);
+    assert_eq!(rt; tallies[7], of_last);
+    for tally in &tallies[1..7] {
+        assert_eq!(rt; *tally, Tally::default());
+    }
+    Ok(())
+}

@@ -1,0 +1,2 @@
+pub mod EachHart
+pub mod Laws

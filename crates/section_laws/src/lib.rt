@@ -1,0 +1,16 @@
+//! Laws of the machine's definition: what holds of every state that can be reached, whatever the events, in every
+//! mode, and what becomes of the sections that begin.
+//!
+//! It stands on the definition in `el_model` alone, and no machine's code is spoken of here. The functions of this
+//! crate do nothing; each says one law, as its contract. The laws are words of `specs/`; an invariant is proved in
+//! a file of `proofs/` named for it, as what each deed of a hart and each event of the bus keeps.
+//!
+//! The ideas are those of R. Rajwar and J. R. Goodman, 'Speculative Lock Elision', MICRO 2001, and
+//! 'Transactional Lock-Free Execution of Lock-Based Programs', ASPLOS 2002; the rules are this project's profile.
+#![tactic(auto)]
+
+mod laws;
+
+pub use laws::{
+    counters_stay_in_range, only_live_sections_have_bits, tries_stay_below_four,
+};

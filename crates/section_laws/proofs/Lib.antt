@@ -1,6 +1,9 @@
 pub mod EachHart
 pub mod Moves
 pub mod EachKept
+pub mod Statuses
+pub mod Waiting
+pub mod Numbered
 pub mod OnlyInside
 pub mod TriesLeft
 pub mod Counters

@@ -1,11 +1,16 @@
 -- what holds of every state that can be reached
-use Rattle.std.specs.Prelude.{ℕ, List}
+use Rattle.std.specs.Prelude.{ℕ, ◌≡◌, List}
+use Rattle.bus_order.specs.Order.{IsOneEach}
+use Rattle.el_base.specs.Config.{IsInRange}
 use Rattle.el_base.specs.declared.config.Config.{Config}
 use Rattle.el_base.specs.declared.events.Event.{Event}
 use Rattle.elf_image.specs.Program.{Program}
+use Rattle.el_model.specs.Losses.{HartsAreNumbered}
 use Rattle.el_model.specs.Next.{after}
-use Rattle.el_model.specs.State.{ModelState, cache_of, hart_of, section_of}
+use Rattle.el_model.specs.State.{ModelState, cache_of, hart_of, ordered_of, section_of}
+use Rattle.rv_flat.specs.FlatState.{status_of}
 use Rattle.section_laws.specs.EachHart.{AreCounters, HasBitsOnlyInside, HasTriesLeft}
+use Rattle.section_laws.specs.Waiting.{WaitsForOne}
 
 -- what is said of a state holds of each that can be reached
 abbrev Always : (ModelState → Type 0) → Type 0
@@ -22,3 +27,22 @@ TriesStayBelowFour = Always (λ state. (h : ℕ) → HasTriesLeft (hart_of state
 -- a predictor keeps 64 counters, each from 0 to 3
 abbrev pub CountersStayInRange : Type 0
 CountersStayInRange = Always (λ state. (h : ℕ) → AreCounters (hart_of state h).predictor.counters)
+
+-- a hart has at most one of a raised request, an ordered one and a hold, and none where it has stopped; a raised request is its own
+-- hart's, a hart that holds a line has no section, and a hart that has stopped neither
+abbrev pub EachHartWaitsForOne : Type 0
+EachHartWaitsForOne =
+    Always (λ state.
+    (h : ℕ) →
+    WaitsForOne h (status_of state.committed h) (ordered_of state h) (hart_of state h).section (hart_of state h).raised
+    (hart_of state h).held)
+
+-- no two requests in order are of one hart
+abbrev pub OneOrderedRequestEach : Type 0
+OneOrderedRequestEach = Always (λ state. IsOneEach state.order)
+
+-- with as many harts as the configuration has, and that in its range, each request is of a hart that a machine may have
+abbrev pub RequestsAreNumbered : Type 0
+RequestsAreNumbered =
+    (program : Program) (config : Config) (events : List Event) → program.harts ≡ config.harts → IsInRange config →
+    HartsAreNumbered (after program config events)

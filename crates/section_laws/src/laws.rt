@@ -1,6 +1,9 @@
 ghost use Rattle.section_laws.specs.Laws.{
   CountersStayInRange,
+  EachHartWaitsForOne,
+  OneOrderedRequestEach,
   OnlyLiveSectionsHaveBits,
+  RequestsAreNumbered,
   TriesStayBelowFour,
 };
 
@@ -20,4 +23,23 @@ pub fn tries_stay_below_four()
 
 pub fn counters_stay_in_range()
     ensures { CountersStayInRange }
+{}
+
+/// In every state that can be reached, a hart has at most one of a raised request, an ordered request and a hold,
+/// and a raised request names its own hart. A hart that holds a line has no live section; one that has stopped has
+/// nothing of all that.
+#[tactic(auto, using(crate::proofs::Numbered::each_hart_waits_for_one))]
+pub fn each_hart_waits_for_one()
+    ensures { EachHartWaitsForOne }
+{}
+
+/// In every state that can be reached, no two requests in order are of one hart.
+pub fn one_ordered_request_each()
+    ensures { OneOrderedRequestEach }
+{}
+
+/// From a program with as many harts as its configuration has, where that is in range, in every state that can be
+/// reached there are at most eight harts, and each request is of a hart from 0 to 7.
+pub fn requests_are_numbered()
+    ensures { RequestsAreNumbered }
 {}

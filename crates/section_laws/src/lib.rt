@@ -12,5 +12,6 @@
 mod laws;
 
 pub use laws::{
-    counters_stay_in_range, only_live_sections_have_bits, tries_stay_below_four,
+    counters_stay_in_range, each_hart_waits_for_one, one_ordered_request_each,
+    only_live_sections_have_bits, requests_are_numbered, tries_stay_below_four,
 };

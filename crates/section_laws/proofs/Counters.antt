@@ -100,18 +100,20 @@ new_small (suc count) (suc n) = new_small count n
 
 kept : EachKept Holds
 kept = record {
-  moves = record {
-    posted_to = λ h hart mail now. now;
-    told = λ h hart told now. now;
-    preceded = λ h hart upstream now. now;
-    saw = λ h hart seen now. now;
-    lost = λ h hart now. now;
-    gave_up = λ h hart now. now;
-    tried = λ h hart more now. now;
+  bus = record {
+    moves = record {
+      posted_to = λ h hart mail now. now;
+      told = λ h hart told now. now;
+      preceded = λ h hart upstream now. now;
+      saw = λ h hart seen now. now;
+      lost = λ h hart now. now;
+      gave_up = λ h hart now. now;
+      tried = λ h hart more now. now;
+    };
+    unraised = λ h hart now. now;
+    served = λ h state request hart now. claim_holds (is_some hart.section) request _ now;
+    bystander = λ h state request hart now. now;
   };
-  unraised = λ hart now. now;
-  served = λ state request hart now. claim_holds (is_some hart.section) request _ now;
-  bystander = λ state request hart now. now;
   deed = λ state h deed does now. deed_holds state h deed (hart_of state h) now;
   new = λ sets. record { all = refl; small = new_small 64 };
 }

@@ -4,6 +4,7 @@ pub mod EachKept
 pub mod Statuses
 pub mod Waiting
 pub mod Numbered
+pub mod SectionSteps
 pub mod OnlyInside
 pub mod TriesLeft
 pub mod Counters

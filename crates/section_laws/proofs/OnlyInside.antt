@@ -81,20 +81,22 @@ deed_holds state h (RollsBack section cause) hart now = λ none. unmarked-cleare
 
 kept : EachKept Holds
 kept = record {
-  moves = record {
-    posted_to = λ h hart mail now. now;
-    told = λ h hart told now. now;
-    preceded = λ h hart upstream now. now;
-    saw = λ h hart seen now. now;
-    lost = λ h hart now none. unmarked-cleared hart.cache;
-    gave_up = λ h hart now. now;
-    tried = λ h hart more now. now;
+  bus = record {
+    moves = record {
+      posted_to = λ h hart mail now. now;
+      told = λ h hart told now. now;
+      preceded = λ h hart upstream now. now;
+      saw = λ h hart seen now. now;
+      lost = λ h hart now none. unmarked-cleared hart.cache;
+      gave_up = λ h hart now. now;
+      tried = λ h hart more now. now;
+    };
+    unraised = λ h hart now. now;
+    served = λ h state request hart now.
+        claim_holds hart.section request _ refl
+        (λ none. unmarked-touched _ request.line (own_unmarked state.config.ways _ request.need hart.cache request.line (now none)));
+    bystander = λ h state request hart now none. others_unmarked _ request.need hart.cache request.line (now none);
   };
-  unraised = λ hart now. now;
-  served = λ state request hart now.
-      claim_holds hart.section request _ refl
-      (λ none. unmarked-touched _ request.line (own_unmarked state.config.ways _ request.need hart.cache request.line (now none)));
-  bystander = λ state request hart now none. others_unmarked _ request.need hart.cache request.line (now none);
   deed = λ state h deed does now. deed_holds state h deed (hart_of state h) now;
   new = λ sets none. unmarked-empty sets;
 }

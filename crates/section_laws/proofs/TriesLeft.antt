@@ -42,18 +42,20 @@ deed_holds state h (RollsBack section cause) hart now = none_tried
 
 kept : EachKept Holds
 kept = record {
-  moves = record {
-    posted_to = λ h hart mail now. now;
-    told = λ h hart told now. now;
-    preceded = λ h hart upstream now. now;
-    saw = λ h hart seen now. now;
-    lost = λ h hart now. now;
-    gave_up = λ h hart now. none_tried;
-    tried = λ h hart more now. one_more hart.tries more now;
+  bus = record {
+    moves = record {
+      posted_to = λ h hart mail now. now;
+      told = λ h hart told now. now;
+      preceded = λ h hart upstream now. now;
+      saw = λ h hart seen now. now;
+      lost = λ h hart now. now;
+      gave_up = λ h hart now. none_tried;
+      tried = λ h hart more now. one_more hart.tries more now;
+    };
+    unraised = λ h hart now. now;
+    served = λ h state request hart now. claim_holds (is_some hart.section) request _ now;
+    bystander = λ h state request hart now. now;
   };
-  unraised = λ hart now. now;
-  served = λ state request hart now. claim_holds (is_some hart.section) request _ now;
-  bystander = λ state request hart now. now;
   deed = λ state h deed does now. deed_holds state h deed (hart_of state h) now;
   new = λ sets. none_tried;
 }

@@ -1,3 +1,4 @@
 pub mod Waiting
 pub mod EachHart
 pub mod Laws
+pub mod Sections

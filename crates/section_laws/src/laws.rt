@@ -6,6 +6,10 @@ ghost use Rattle.section_laws.specs.Laws.{
   RequestsAreNumbered,
   TriesStayBelowFour,
 };
+ghost use Rattle.section_laws.specs.Sections.{
+  NoneBeginsAfterRollback,
+  SectionStepsAreOfFiveKinds,
+};
 
 /// In every state that can be reached, a hart without a live section has no access bit.
 #[tactic(auto, using(crate::proofs::OnlyInside::only_live_sections_have_bits))]
@@ -42,4 +46,18 @@ pub fn one_ordered_request_each()
 /// reached there are at most eight harts, and each request is of a hart from 0 to 7.
 pub fn requests_are_numbered()
     ensures { RequestsAreNumbered }
+{}
+
+/// In every state that can be reached, a step of a hart with a live section waits for its request, misses a line,
+/// buffers an instruction, commits or rolls back.
+#[tactic(auto, using(crate::proofs::SectionSteps::section_steps_are_of_five_kinds))]
+pub fn section_steps_are_of_five_kinds()
+    ensures { SectionStepsAreOfFiveKinds }
+{}
+
+/// After a hart has rolled its section back itself, it begins no section until it has run a candidate for an
+/// acquire outside of a section, whatever the events.
+#[tactic(auto, using(crate::proofs::SectionSteps::none_begins_after_rollback))]
+pub fn none_begins_after_rollback()
+    ensures { NoneBeginsAfterRollback }
 {}

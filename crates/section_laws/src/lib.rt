@@ -12,6 +12,8 @@
 mod laws;
 
 pub use laws::{
-    counters_stay_in_range, each_hart_waits_for_one, one_ordered_request_each,
-    only_live_sections_have_bits, requests_are_numbered, tries_stay_below_four,
+    counters_stay_in_range, each_hart_waits_for_one, none_begins_after_rollback,
+    one_ordered_request_each,
+    only_live_sections_have_bits, requests_are_numbered,
+    section_steps_are_of_five_kinds, tries_stay_below_four,
 };

@@ -5,6 +5,9 @@ pub mod Statuses
 pub mod Waiting
 pub mod Numbered
 pub mod SectionSteps
+pub mod UnnamedLosers
+pub mod Lengths
+pub mod Accounts
 pub mod OnlyInside
 pub mod TriesLeft
 pub mod Counters

@@ -89,15 +89,20 @@ module _ {P : ℕ → Hart → Type 0} (moves : Moves P) where
   marking_keeps state h None each = each
   marking_keeps state h (Some former) each = marked_keeps state.config.mode state h former.hart each
 
+  -- the state as it is faced
+  pub before_keeps : (state : ModelState) (request : Request) (place : Place) → Each P (unraised state request.hart) →
+      Each P (before_face state request place)
+  before_keeps state request InFront each = marking_keeps (placed_in_front state request) request.hart (head_of state request.line) each
+  before_keeps state request Behind each = marked_by_keeps (placed_last state request) (tail_of state.order request.line) request.hart each
+  before_keeps state request Alone each = each
+
   pub placed_keeps : (state : ModelState) (request : Request) (place : Place) → Each P (unraised state request.hart) →
       Each P (placed state request place)
   unfolding placed
   placed_keeps state request InFront each =
-      faced_keeps (before_face state request InFront) request
-      (marking_keeps (placed_in_front state request) request.hart (head_of state request.line) each)
-  placed_keeps state request Behind each =
-      marked_by_keeps (placed_last state request) (tail_of state.order request.line) request.hart each
-  placed_keeps state request Alone each = faced_keeps (placed_last state request) request each
+      faced_keeps (before_face state request InFront) request (before_keeps state request InFront each)
+  placed_keeps state request Behind each = before_keeps state request Behind each
+  placed_keeps state request Alone each = faced_keeps (before_face state request Alone) request (before_keeps state request Alone each)
 
   -- a message is taken, and takes effect
   told_keeps : (state : ModelState) (h origin : ℕ) (request : Option Request) → Each P state → P h (told_of state h origin request)

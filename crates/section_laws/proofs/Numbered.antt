@@ -155,35 +155,40 @@ kept_numbered count few = record {
   taken_out = numbered_removed;
 }
 
-record Numbered (state : ModelState) : Type 0 where
-  sound : Sound state
-  few : length state.harts ≤ 8
-  numbered : AreNumbered state.order
+pub record Numbered (state : ModelState) : Type 0 where
+  pub sound : Sound state
+  pub few : length state.harts ≤ 8
+  pub numbered : AreNumbered state.order
 
-next_numbered : (state : ModelState) (event : Event) → Numbered state → Numbered (next state event).state
+pub next_numbered : (state : ModelState) (event : Event) → Numbered state → Numbered (next state event).state
 next_numbered state event now = record {
   sound = next_sound state event now.sound;
   few = rw (next_count state event) now.few;
   numbered = order_keeps state event (kept_numbered (length state.harts) now.few) now.sound now.numbered;
 }
 
-always_numbered : (program : Program) (config : Config) (events : List Event) → program.harts ≤ 8 → Numbered (after program config events)
-unfolding begin
-always_numbered program config events few =
-    kept_after Numbered next_numbered (begin program config) events
-    (record { sound = always_sound program config []; few = rw (length-replicate program.harts (new_hart config.sets)) few; numbered = tt })
-
-harts_in_range : (config : Config) → IsInRange config → config.harts ≤ 8
+pub harts_in_range : (config : Config) → IsInRange config → config.harts ≤ 8
 harts_in_range config range = let small = (ranges config range).harts in grind (arith, nat_tests, small)
+
+pub first_numbered : (program : Program) (config : Config) → program.harts ≡ config.harts → IsInRange config → Numbered (begin program config)
+unfolding begin
+first_numbered program config same range = record {
+  sound = always_sound program config [];
+  few = rw (length-replicate program.harts (new_hart config.sets)) (rw same (harts_in_range config range));
+  numbered = tt;
+}
+
+pub numbers_of_state : (state : ModelState) → Numbered state → HartsAreNumbered state
+numbers_of_state state numbered = record {
+  few = numbered.few;
+  raised = λ h request is.
+      let few = numbered.few in
+      let exists = raised_exists state h request numbered.sound is in
+      omega (arith, few, exists);
+  ordered = numbered.numbered;
+}
 
 pub requests_are_numbered : RequestsAreNumbered
 requests_are_numbered program config events same range =
-    let numbered = always_numbered program config events (rw same (harts_in_range config range)) in
-    record {
-      few = numbered.few;
-      raised = λ h request is.
-          let few = numbered.few in
-          let exists = raised_exists (after program config events) h request numbered.sound is in
-          omega (arith, few, exists);
-      ordered = numbered.numbered;
-    }
+    numbers_of_state (after program config events)
+    (kept_after Numbered next_numbered (begin program config) events (first_numbered program config same range))

@@ -7,6 +7,7 @@ ghost use Rattle.section_laws.specs.Laws.{
   TriesStayBelowFour,
 };
 ghost use Rattle.section_laws.specs.Sections.{
+  BegunSectionsAreAccountedFor,
   NoneBeginsAfterRollback,
   SectionStepsAreOfFiveKinds,
 };
@@ -60,4 +61,11 @@ pub fn section_steps_are_of_five_kinds()
 #[tactic(auto, using(crate::proofs::SectionSteps::none_begins_after_rollback))]
 pub fn none_begins_after_rollback()
     ensures { NoneBeginsAfterRollback }
+{}
+
+/// From a program with as many harts as its configuration has, where that is in range, the sections that a hart
+/// began are as many as those that it committed, those that it rolled back, and the events with it among their
+/// losers, and one more where it has a live section.
+pub fn begun_sections_are_accounted_for()
+    ensures { BegunSectionsAreAccountedFor }
 {}

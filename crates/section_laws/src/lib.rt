@@ -12,7 +12,7 @@
 mod laws;
 
 pub use laws::{
-    counters_stay_in_range, each_hart_waits_for_one, none_begins_after_rollback,
+    begun_sections_are_accounted_for, counters_stay_in_range, each_hart_waits_for_one, none_begins_after_rollback,
     one_ordered_request_each,
     only_live_sections_have_bits, requests_are_numbered,
     section_steps_are_of_five_kinds, tries_stay_below_four,

@@ -1,12 +1,10 @@
 -- each section that began has ended once, or is live
-use Rattle.std.proofs.Common.{◌≡◌, ◌≢◌, ◌∙◌, ◌+◌, ◌<◌, ◌==◌, ℕ, Bool, true, false, ◌&&◌, List, [], ◌∷◌, Option, None, Some, is_some, length, refl, ap, sym, subst, inl, inr, ◌⊎◌, arith, if◌then◌else◌}
+use Rattle.std.proofs.Common.{◌≡◌, ◌≢◌, ◌∙◌, ◌+◌, ◌<◌, ◌==◌, ℕ, Bool, true, false, ◌&&◌, List, [], ◌∷◌, Option, None, Some, is_some, length, refl, ap, sym, inl, inr, ◌⊎◌, arith, if◌then◌else◌}
 use Rattle.std.proofs.lemmas.Bool.{cases_eq}
 use Rattle.bus_order.proofs.LookUps.{other_test, own_test}
-use Rattle.el_base.specs.Config.{IsInRange}
 use Rattle.el_base.specs.declared.config.Config.{Config}
 use Rattle.el_base.specs.declared.config.Mode.{Mode}
 use Rattle.el_base.specs.declared.config.Mode.TheVariants.{Plain, Sle, Tlr}
-use Rattle.el_base.specs.declared.entries.Entry.{Entry}
 use Rattle.el_base.specs.declared.events.Event.{Event}
 use Rattle.el_base.specs.declared.events.Kind.{Kind}
 use Rattle.el_base.specs.declared.events.Kind.TheVariants as kinds
@@ -14,8 +12,8 @@ use Rattle.el_base.specs.declared.outcomes.Outcome.{Outcome}
 use Rattle.el_base.specs.declared.outcomes.Outcome.TheVariants as outcomes
 use Rattle.elf_image.specs.Program.{Program}
 use Rattle.el_model.specs.Deed.{Begins, Buffers, Commits, Deed, DoesWhere, Misses, Rests, RollsBack, Runs, Waits, done, hart_after, outcome_of}
-use Rattle.el_model.specs.Losses.{Standing, lost_in, one_more_lost, restored, standing_of, winner_over}
-use Rattle.el_model.specs.Next.{entries_from, kind_turn, next, state_after, step_turn}
+use Rattle.el_model.specs.Losses.{Standing, lost_in, restored, standing_of, winner_over}
+use Rattle.el_model.specs.Next.{entries_from, next, state_after, step_turn}
 use Rattle.el_model.specs.Plain.{after_candidate, candidate_of}
 use Rattle.el_model.specs.RollBack.{most_tries}
 use Rattle.el_model.specs.State.{Hart, ModelState, Section, begin, hart_of, is_live, new_hart, section_of}
@@ -149,7 +147,7 @@ unfolding next
 bus_by state event g numbered bus None none =
     let unnamed = ap (λ winner. one (is_some winner)) (unnamed_outside state event.hart.number event.kind g bus none) in
     let outside = ap (λ section. one (is_some section))
-        (bus_keeps (stays_outside state) state event.hart.number event.kind bus (λ h was. was) g none) in
+    (bus_keeps (stays_outside state) state event.hart.number event.kind bus (λ h was. was) g none) in
     omega (arith, unnamed, outside, ap (λ section. one (is_some section)) none)
 bus_by state event g numbered bus (Some section) live =
     restored_live state.config.mode (winner_over (next state event).outcome g) (standing_of (hart_of state g))

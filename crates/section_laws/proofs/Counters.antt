@@ -1,5 +1,5 @@
 -- the counters of a predictor stay from 0 to 3
-use Rattle.std.proofs.Common.{◌≡◌, ◌∙◌, ◌≤◌, ◌+◌, ◌-◌, ℕ, zero, suc, Bool, true, false, List, [], ◌∷◌, Option, None, Some, is_some, length, min, refl, arith, if◌then◌else◌}
+use Rattle.std.proofs.Common.{◌∙◌, ◌≤◌, ◌+◌, ℕ, zero, suc, Bool, true, false, List, [], ◌∷◌, Option, None, Some, is_some, refl, arith, if◌then◌else◌}
 use Rattle.std.specs.Prelude.{replicate, slice_index, slice_set}
 use Rattle.std.proofs.Math.ListN.{length-set}
 use Rattle.std.proofs.Math.Nat.{min-le_right}
@@ -12,8 +12,7 @@ use Rattle.el_model.specs.RollBack.{blamed}
 use Rattle.el_model.specs.Serve.{with_claim}
 use Rattle.el_model.specs.State.{Hart, ModelState, hart_of}
 use Rattle.el_model.specs.Upcoming.{Swap}
-use Rattle.el_model.proofs.Tests.{by_test}
-use Rattle.pair_table.specs.Predictor.{Predictor, Watch, confidence_of, counted, counter_number, counting, judged, saw_of, saw_with, settled, unwatched, verdict_on, watching}
+use Rattle.pair_table.specs.Predictor.{Predictor, Watch, confidence_of, counted, counter_number, counting, judged, saw_with, settled, verdict_on, watching}
 use Rattle.pair_table.specs.declared.seen.Seen.{Seen}
 use Rattle.pair_table.specs.declared.verdict.Verdict.{Verdict}
 use Rattle.pair_table.specs.declared.verdict.Verdict.TheVariants.{Up, Down}

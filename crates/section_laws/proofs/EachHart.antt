@@ -1,6 +1,6 @@
 -- what holds of each hart by its number, and still does after one hart or each has changed
-use Rattle.std.proofs.Common.{◌≡◌, ◌≢◌, ℕ, zero, suc, ◌<◌, ◌≤◌, Bool, true, false, List, [], ◌∷◌, length, refl, sym, subst, inl, inr, ◌⊎◌, ◌∙◌, arith}
-use Rattle.std.specs.Prelude.{nat_lt, replicate, slice_index_or, slice_set}
+use Rattle.std.proofs.Common.{◌≡◌, ◌≢◌, ℕ, zero, suc, ◌≤◌, Bool, true, false, List, [], ◌∷◌, length, refl, sym, subst, inl, inr, ◌⊎◌, arith}
+use Rattle.std.specs.Prelude.{nat_lt, slice_index_or, slice_set}
 use Rattle.std.proofs.lemmas.Bool.{cases_eq, ltb-true, ltb-false}
 use Rattle.std.proofs.Math.ListN.{length-set}
 use Rattle.el_model.specs.State.{Hart, ModelState, each_hart, hart_of, new_hart, with_hart}

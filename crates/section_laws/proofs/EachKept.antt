@@ -1,5 +1,5 @@
 -- what each change of a hart keeps, every event keeps, and so it holds of every state that can be reached
-use Rattle.std.proofs.Common.{◌≡◌, ◌≢◌, ℕ, List, Option, None, Some, refl}
+use Rattle.std.proofs.Common.{◌≢◌, ℕ, List, Option, None, Some, refl}
 use Rattle.bus_order.specs.Order.{Request}
 use Rattle.el_base.specs.declared.config.Config.{Config}
 use Rattle.el_base.specs.declared.events.Event.{Event}
@@ -66,12 +66,12 @@ module _ {P : Hart → Type 0} (kept : EachKept P) where
   kind_keeps state h kinds.Serve each = bus_keeps kept.bus state h kinds.Serve (λ same. absurd (cc)) each
   kind_keeps state h kinds.Deliver each = bus_keeps kept.bus state h kinds.Deliver (λ same. absurd (cc)) each
 
-  next_keeps : (state : ModelState) (event : Event) → Each (λ h hart. P hart) state →
+  pub next_keeps : (state : ModelState) (event : Event) → Each (λ h hart. P hart) state →
       Each (λ h hart. P hart) (next state event).state
   unfolding next
   next_keeps state event each = kind_keeps state event.hart.number event.kind each
 
-  first_each : (program : Program) (config : Config) → Each (λ h hart. P hart) (begin program config)
+  pub first_each : (program : Program) (config : Config) → Each (λ h hart. P hart) (begin program config)
   unfolding begin
   first_each program config h =
       all_first P program.harts (new_hart config.sets) (new_hart 0) (kept.new config.sets) (kept.new 0) h

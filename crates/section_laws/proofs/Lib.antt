@@ -8,6 +8,10 @@ pub mod SectionSteps
 pub mod UnnamedLosers
 pub mod Lengths
 pub mod Accounts
+pub mod Steady
+pub mod FreeLines
+pub mod Serving
 pub mod OnlyInside
+pub mod Coherence
 pub mod TriesLeft
 pub mod Counters

@@ -1,6 +1,6 @@
 -- what an event of the bus does to each hart, told once: it is posted messages, is told of origins, has harts before it, sees stamps
 -- or loses its section; the hart of the request is placed or served besides
-use Rattle.std.proofs.Common.{◌≡◌, ◌≢◌, ℕ, Bool, true, false, List, [], ◌∷◌, Option, None, Some, is_some, map, refl, ap, sym, ◌∙◌, if◌then◌else◌, ◌==◌, ◌+◌}
+use Rattle.std.proofs.Common.{◌≡◌, ◌≢◌, ℕ, Bool, true, false, List, [], ◌∷◌, Option, None, Some, map, refl, ap, sym, ◌∙◌, if◌then◌else◌, ◌==◌, ◌+◌}
 use Rattle.bus_order.specs.Order.{Request, tail_of}
 use Rattle.bus_order.proofs.LookUps.{number_of_test, own_test}
 use Rattle.defer_list.specs.HartSet.{has, included}
@@ -159,6 +159,7 @@ served_keeps P state request own other each =
   where
     no_own : false ≡ true → ⊥
     no_own wrong = absurd (cc)
+
     one : (h : ℕ) (same : Bool) → (h == request.hart) ≡ same →
         P h (if same then served_hart state request (hart_of state h) else bystander state request (hart_of state h))
     one h true is = let e = number_of_test h request.hart is in rw e own

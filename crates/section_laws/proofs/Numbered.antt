@@ -1,6 +1,6 @@
 -- no hart has two requests in order, and each request is of a hart that a machine may have
-use Rattle.std.proofs.Common.{◌≡◌, ◌∙◌, ◌<◌, ◌≤◌, ◌==◌, ℕ, Bool, true, false, ◌&&◌, not, List, [], ◌∷◌, ◌++◌, Option, None, Some, length, refl, ap, sym, arith, if◌then◌else◌}
-use Rattle.std.specs.Prelude.{nat_le, nat_lt, replicate}
+use Rattle.std.proofs.Common.{◌≡◌, ◌∙◌, ◌<◌, ◌≤◌, ◌==◌, ℕ, Bool, true, false, List, [], ◌∷◌, Option, None, Some, length, refl, ap, sym, arith}
+use Rattle.std.specs.Prelude.{nat_lt}
 use Rattle.std.proofs.lemmas.Bool.{ltb-true, ltb-false}
 use Rattle.std.proofs.lemmas.Bool.Decides.{nat_tests}
 use Rattle.std.proofs.Math.ListN.{length-set}
@@ -16,10 +16,10 @@ use Rattle.el_base.specs.declared.events.Kind.TheVariants as kinds
 use Rattle.elf_image.specs.Program.{Program}
 use Rattle.el_model.specs.Losses.{AreNumbered, HartsAreNumbered}
 use Rattle.el_model.specs.Next.{after, kind_turn, next}
-use Rattle.el_model.specs.Order.{Alone, Behind, InFront, Place, order_raised, order_turn, place_for, placed}
+use Rattle.el_model.specs.Order.{Alone, Behind, InFront, Place, order_raised, order_turn, place_for}
 use Rattle.el_model.specs.Serve.{Blocks, Free, Obstacle, obstacle_to, serve_ordered, serve_past, serve_turn, served}
 use Rattle.el_model.specs.Deliver.{deliver_turn}
-use Rattle.el_model.specs.State.{Hart, ModelState, begin, hart_of, head_of, new_hart, ordered_of, raised_of}
+use Rattle.el_model.specs.State.{ModelState, begin, hart_of, head_of, new_hart, ordered_of, raised_of}
 use Rattle.el_model.proofs.Deeds.{step_deed}
 use Rattle.el_model.proofs.FromStart.{kept_after}
 use Rattle.el_model.proofs.Harts.{hart_of-past}
@@ -105,9 +105,9 @@ module _ {P : List Request → Type 0} where
   order_keeps state event kept sound now = kind_keeps state event.hart.number event.kind kept sound now
 
 -- no hart has two
-record Once (state : ModelState) : Type 0 where
-  sound : Sound state
-  once : IsOneEach state.order
+pub record Once (state : ModelState) : Type 0 where
+  pub sound : Sound state
+  pub once : IsOneEach state.order
 
 kept_once : (count : ℕ) → KeptInOrder IsOneEach count
 kept_once count = record {
@@ -116,17 +116,19 @@ kept_once count = record {
   taken_out = λ order h now. one_each_removed order h now;
 }
 
-next_once : (state : ModelState) (event : Event) → Once state → Once (next state event).state
+pub next_once : (state : ModelState) (event : Event) → Once state → Once (next state event).state
 next_once state event now = record {
   sound = next_sound state event now.sound;
   once = order_keeps state event (kept_once (length state.harts)) now.sound now.once;
 }
 
-pub one_ordered_request_each : OneOrderedRequestEach
+pub first_once : (program : Program) (config : Config) → Once (begin program config)
 unfolding begin
+first_once program config = record { sound = always_sound program config []; once = one_each_none }
+
+pub one_ordered_request_each : OneOrderedRequestEach
 one_ordered_request_each program config events =
-    (kept_after Once next_once (begin program config) events
-    (record { sound = always_sound program config []; once = one_each_none })).once
+    (kept_after Once next_once (begin program config) events (first_once program config)).once
 
 pub each_hart_waits_for_one : EachHartWaitsForOne
 each_hart_waits_for_one = always_sound

@@ -1,5 +1,5 @@
 -- only live sections have bits
-use Rattle.std.proofs.Common.{◌≡◌, ℕ, Bool, true, false, List, [], ◌∷◌, Option, None, Some, is_some, map, refl, ap, sym, ◌∙◌}
+use Rattle.std.proofs.Common.{◌≡◌, ℕ, Bool, true, false, List, [], ◌∷◌, Option, None, Some, is_some, map, refl, sym, ◌∙◌}
 use Rattle.std.specs.List.{list_any}
 use Rattle.bus_order.specs.Order.{Request}
 use Rattle.cache_sets.specs.Cache.{committed, committed_way, has_marks, is_resident}
@@ -17,7 +17,7 @@ use Rattle.section_laws.specs.EachHart.{HasBitsOnlyInside}
 use Rattle.section_laws.specs.Laws.{OnlyLiveSectionsHaveBits}
 use Rattle.section_laws.proofs.EachKept.{EachKept, always_each}
 
-abbrev Holds : Hart → Type 0
+abbrev pub Holds : Hart → Type 0
 Holds hart = HasBitsOnlyInside hart.section hart.cache
 
 some_live : {A X : Type 0} {x : A} → Some x ≡ None → X
@@ -79,7 +79,7 @@ deed_holds state h (Buffers section touch) hart now = λ none. some_live none
 deed_holds state h (Commits section) hart now = λ none. unmarked-committed hart.cache
 deed_holds state h (RollsBack section cause) hart now = λ none. unmarked-cleared hart.cache
 
-kept : EachKept Holds
+pub kept : EachKept Holds
 kept = record {
   bus = record {
     moves = record {

@@ -16,14 +16,14 @@ use Rattle.el_model.specs.Deliver.{deliver_next, deliver_turn}
 use Rattle.el_model.specs.Order.{order_raised, order_turn}
 use Rattle.el_model.specs.Plain.{after_candidate, candidate_of, elides, least_confidence, may_elide}
 use Rattle.el_model.specs.Serve.{Blocks, Free, Obstacle, obstacle_to, serve_ordered, serve_past, serve_turn, with_claim}
-use Rattle.el_model.specs.State.{Hart, ModelState, Section, hart_of, is_live, new_hart, ordered_of, raised_of, section_of}
+use Rattle.el_model.specs.State.{Hart, ModelState, Section, hart_of, is_live, ordered_of, raised_of, section_of}
 use Rattle.el_model.specs.Upcoming.{Swap}
 use Rattle.el_model.proofs.Deeds.{step_deed}
 use Rattle.el_model.proofs.Harts.{hart_of-past, hart_of-with_hart_same}
 use Rattle.mail.specs.Mailbox.{Message}
 use Rattle.pair_table.specs.Predictor.{confidence_of}
 use Rattle.section_laws.specs.Sections.{IsOfSection, NeverRunsCandidate, NoneBeginsAfterRollback, RunsCandidate, SectionStepsAreOfFiveKinds}
-use Rattle.section_laws.proofs.EachHart.{Each, each_but}
+use Rattle.section_laws.proofs.EachHart.{each_but}
 use Rattle.section_laws.proofs.EachKept.{BusKept, bus_keeps}
 use Rattle.section_laws.proofs.Waiting.{Sound, always_sound, is_rolled}
 

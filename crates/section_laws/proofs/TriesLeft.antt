@@ -1,5 +1,5 @@
 -- fewer than four sections are lost in a row
-use Rattle.std.proofs.Common.{◌≡◌, ◌<◌, ◌+◌, ◌==◌, ℕ, Bool, true, false, Option, None, Some, is_some, refl, arith}
+use Rattle.std.proofs.Common.{◌≡◌, ◌<◌, ◌+◌, ◌==◌, ℕ, Bool, true, false, Option, None, Some, is_some, arith}
 use Rattle.std.proofs.lemmas.Bool.Decides.{nat_tests}
 use Rattle.bus_order.specs.Order.{Request}
 use Rattle.el_model.specs.Deed.{Begins, Buffers, Commits, Deed, Misses, Rests, RollsBack, Runs, Waits, hart_after}

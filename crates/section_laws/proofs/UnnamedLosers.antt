@@ -1,25 +1,24 @@
 -- a hart without a section is named among no losers
-use Rattle.std.proofs.Common.{◌≡◌, ◌≢◌, ◌∙◌, ◌≤◌, ◌<◌, ℕ, zero, suc, Bool, true, false, ◌&&◌, not, ◌==◌, List, [], ◌∷◌, Option, None, Some, is_some, cond, ltb, refl, ap, sym, arith, if◌then◌else◌}
+use Rattle.std.proofs.Common.{◌≡◌, ◌≢◌, ◌∙◌, ℕ, zero, suc, Bool, true, false, ◌&&◌, not, ◌==◌, List, [], ◌∷◌, Option, None, Some, is_some, cond, ltb, refl, ap, sym, arith, if◌then◌else◌}
 use Rattle.std.proofs.lemmas.Bool.Decides.{nat_tests}
 use Rattle.bus_order.specs.Order.{Request}
 use Rattle.defer_list.specs.HartSet.{has}
 use Rattle.el_base.specs.Losers.{beaten_by, losers_of, winner_code}
 use Rattle.el_base.specs.declared.events.Kind.{Kind}
 use Rattle.el_base.specs.declared.events.Kind.TheVariants as kinds
-use Rattle.el_base.specs.declared.losers.Losers.{Losers}
 use Rattle.el_base.proofs.MadeLosers.{beaten_by-beyond}
-use Rattle.el_model.specs.Conflicts.{conflicts, conflicts_with, meets_bit, retains, wins_over}
-use Rattle.el_model.specs.Deliver.{deliver_next, deliver_turn, losers_by, loses_to_origin, message_losers, nobody, one_lost, probe_losers, taken}
-use Rattle.el_model.specs.Face.{Fate, LosesTo, Unmet, deferring_fate, face_losers, face_losers_if, fate_at, fate_of, winner_in}
+use Rattle.el_model.specs.Conflicts.{conflicts_with, meets_bit, wins_over}
+use Rattle.el_model.specs.Deliver.{deliver_next, deliver_turn, losers_by, loses_to_origin, nobody, one_lost, probe_losers, taken}
+use Rattle.el_model.specs.Face.{LosesTo, Unmet, deferring_fate, face_losers, face_losers_if, fate_at, winner_in}
 use Rattle.el_model.specs.Losses.{winner_over}
 use Rattle.el_model.specs.Next.{kind_turn}
-use Rattle.el_model.specs.Order.{Alone, Behind, InFront, Place, before_face, losers_at, order_raised, order_turn, place_for, unraised}
+use Rattle.el_model.specs.Order.{Alone, Behind, InFront, Place, before_face, losers_at, order_raised, order_turn, place_for}
 use Rattle.el_model.specs.Serve.{Blocks, Free, Obstacle, obstacle_to, serve_ordered, serve_past, serve_turn, served, with_claim}
-use Rattle.el_model.specs.State.{Hart, ModelState, Section, hart_of, head_of, ordered_of, raised_of, section_of}
+use Rattle.el_model.specs.State.{Hart, ModelState, hart_of, head_of, ordered_of, raised_of, section_of}
 use Rattle.el_model.proofs.Losing.{no_section_meets}
 use Rattle.el_model.proofs.Tests.{by_test}
 use Rattle.mail.specs.Mailbox.{Marker, Message, Probe}
-use Rattle.section_laws.proofs.EachHart.{Each, each_with}
+use Rattle.section_laws.proofs.EachHart.{each_with}
 use Rattle.section_laws.proofs.EachKept.{BusKept}
 use Rattle.section_laws.proofs.Moves.{before_keeps, served_keeps}
 use Rattle.stamp.specs.Stamps.{is_before}

@@ -1,10 +1,8 @@
 -- each hart waits for one thing at most, and for none where it has stopped
-use Rattle.std.proofs.Common.{◌≡◌, ◌≢◌, ◌∙◌, ℕ, ◌≤◌, ◌+◌, zero, suc, Bool, true, false, ◌||◌, List, [], ◌∷◌, Option, None, Some, is_some, length, refl, ap, sym, subst, inl, inr, ◌⊎◌}
-use Rattle.std.specs.Prelude.{replicate}
+use Rattle.std.proofs.Common.{◌≡◌, ◌≢◌, ◌∙◌, ℕ, ◌≤◌, ◌+◌, Bool, false, ◌||◌, List, [], ◌∷◌, Option, None, Some, is_some, length, refl, ap, sym, subst, inl, inr, ◌⊎◌}
 use Rattle.std.proofs.lemmas.Bool.{cases_eq}
-use Rattle.bus_order.specs.Order.{IsOneEach, Request, appended, in_front_of, removed, request_of, tail_of}
+use Rattle.bus_order.specs.Order.{Request, appended, in_front_of, removed, request_of, tail_of}
 use Rattle.bus_order.proofs.LookUps.{request_of_appended_other, request_of_in_front_of_other, request_of_removed_other, request_of_removed_own}
-use Rattle.bus_order.proofs.Orders.{one_each_appended, one_each_in_front_of, one_each_none, one_each_removed}
 use Rattle.bus_order.proofs.Queues.{hart_of_request_of}
 use Rattle.defer_list.specs.HartSet.{has}
 use Rattle.el_base.specs.declared.config.Config.{Config}
@@ -17,26 +15,26 @@ use Rattle.el_base.specs.declared.events.Event.{Event}
 use Rattle.el_base.specs.declared.events.Kind.{Kind}
 use Rattle.el_base.specs.declared.events.Kind.TheVariants as kinds
 use Rattle.elf_image.specs.Program.{Program}
-use Rattle.el_model.specs.Deed.{Begins, Buffers, Commits, Deed, DoesWhere, IsInside, IsOutside, Misses, MissesInside, MissesOutside, MustRollBack, Rests, RollsBack, Runs, Waits, committed_after, done, hart_after}
+use Rattle.el_model.specs.Deed.{Begins, Buffers, Commits, Deed, DoesWhere, IsInside, IsOutside, Misses, MustRollBack, Rests, RollsBack, Runs, Waits, committed_after, done, hart_after}
 use Rattle.el_model.specs.Deliver.{after_probe, deliver_next, deliver_turn, delivered, taken}
 use Rattle.el_model.specs.Face.{faced, faced_if}
 use Rattle.el_model.specs.Next.{after, kind_turn, next, step_turn}
-use Rattle.el_model.specs.Order.{Alone, Behind, InFront, Place, marked_by, marked_from, marking, order_raised, order_turn, place_for, placed, placed_in_front, placed_last, unraised}
+use Rattle.el_model.specs.Order.{Alone, Behind, InFront, Place, marked_by, marked_from, marking, order_raised, order_turn, place_for, placed, placed_in_front, placed_last}
 use Rattle.el_model.specs.Plain.{after_candidate, candidate_of}
-use Rattle.el_model.specs.Serve.{Blocks, Free, Obstacle, obstacle_to, serve_ordered, serve_past, serve_turn, served, served_hart, with_claim}
+use Rattle.el_model.specs.Serve.{Blocks, Free, Obstacle, obstacle_to, serve_ordered, serve_past, serve_turn, served, with_claim}
 use Rattle.el_model.specs.State.{Hart, ModelState, Section, begin, has_request, hart_of, head_of, new_hart, ordered_of, raised_of, section_of}
 use Rattle.el_model.specs.Upcoming.{Swap}
 use Rattle.el_model.proofs.AllHarts.{all_first}
 use Rattle.el_model.proofs.Deeds.{step_deed}
 use Rattle.el_model.proofs.FromStart.{kept_after}
 use Rattle.el_model.proofs.Harts.{hart_of-past}
-use Rattle.el_model.proofs.Keeps.{keeps_faced_if, keeps_served}
+use Rattle.el_model.proofs.Keeps.{keeps_faced_if}
 use Rattle.el_model.proofs.Tests.{by_test}
 use Rattle.el_model.proofs.Turns as turns
 use Rattle.mail.specs.Mailbox.{Marker, Message, Probe}
 use Rattle.rv_alu.specs.declared.view.HartStatus.{HartStatus}
 use Rattle.rv_alu.specs.declared.view.HartStatus.TheVariants.{Running}
-use Rattle.rv_flat.specs.FlatState.{FlatState, status_of}
+use Rattle.rv_flat.specs.FlatState.{status_of}
 use Rattle.section_laws.specs.Waiting.{HasNothing, OnlyHolds, WaitsForOne}
 use Rattle.section_laws.proofs.EachHart.{Each, each_but}
 use Rattle.section_laws.proofs.Moves.{Moves, deliver_keeps, faced_if_keeps, placed_keeps, served_keeps}
@@ -187,16 +185,16 @@ order_sound state h request place sound raised =
     let own = (sound h).own request raised in
     let mine : raised_of state request.hart ≡ Some request = ap (raised_of state) own ∙ raised in
     let before = subst (λ o. WaitsForOne request.hart (status request.hart) o (hart_of state request.hart).section (Some request) (hart_of state request.hart).held)
-        (free_of_order state request.hart request sound mine)
-        (subst (λ r. WaitsForOne request.hart (status request.hart) (ordered_of state request.hart) (hart_of state request.hart).section r (hart_of state request.hart).held)
-        mine (sound request.hart)) in
+    (free_of_order state request.hart request sound mine)
+    (subst (λ r. WaitsForOne request.hart (status request.hart) (ordered_of state request.hart) (hart_of state request.hart).section r (hart_of state request.hart).held)
+    mine (sound request.hart)) in
     let each =
-        placed_keeps (moves status ordered) state request place
-        (each_but (Waiting status ordered) state request.hart (record (hart_of state request.hart) { raised = None })
-        (placed_waits request.hart (status request.hart) (ordered request.hart) (hart_of state request.hart).section
-        (hart_of state request.hart).held request before)
-        (λ g apart. rw (order_other state request place g apart) (sound g))
-        (λ past. some_none (sym mine ∙ ap (λ hart. hart.raised) (hart_of-past state request.hart past)))) in
+    placed_keeps (moves status ordered) state request place
+    (each_but (Waiting status ordered) state request.hart (record (hart_of state request.hart) { raised = None })
+    (placed_waits request.hart (status request.hart) (ordered request.hart) (hart_of state request.hart).section
+    (hart_of state request.hart).held request before)
+    (λ g apart. rw (order_other state request place g apart) (sound g))
+    (λ past. some_none (sym mine ∙ ap (λ hart. hart.raised) (hart_of-past state request.hart past)))) in
     λ g. rw (turns.placed_keeps state request place).committed (rw (placed_order state request place) (each g))
 
 ordered_sound : (state : ModelState) (h : ℕ) (raised : Option Request) → raised_of state h ≡ raised → Sound state →
@@ -262,7 +260,7 @@ past_sound state h request Free sound is =
     let after = served state request in
     let head = head_of after request.line in
     let each =
-        faced_if_keeps (moves (status_of after.committed) (ordered_of after)) after head (serve_sound state h request sound is) in
+    faced_if_keeps (moves (status_of after.committed) (ordered_of after)) after head (serve_sound state h request sound is) in
     same_state after (faced_if after head) (keeps_faced_if after head).committed (faced_order after head) each
 
 taken_sound : (state : ModelState) (h : ℕ) (found : Option Request) → ordered_of state h ≡ found → Sound state →
@@ -290,6 +288,7 @@ no_request state h free = record {
     first : (a b : Option Request) → (is_some a || is_some b) ≡ false → a ≡ None
     first None b none = refl
     first (Some a) b none = absurd (cc)
+
     second : (a b : Option Request) → (is_some a || is_some b) ≡ false → b ≡ None
     second None None none = refl
     second None (Some b) none = absurd (cc)
@@ -430,8 +429,8 @@ first_sound : (program : Program) (config : Config) → Sound (begin program con
 unfolding begin
 first_sound program config h =
     let fresh =
-        all_first IsFresh program.harts (new_hart config.sets) (new_hart 0)
-        (record { no_section = refl; not_raised = refl; not_held = refl }) (record { no_section = refl; not_raised = refl; not_held = refl }) h in
+    all_first IsFresh program.harts (new_hart config.sets) (new_hart 0)
+    (record { no_section = refl; not_raised = refl; not_held = refl }) (record { no_section = refl; not_raised = refl; not_held = refl }) h in
     nothing h _ None _ _ _
     (record { no_section = fresh.no_section; not_raised = fresh.not_raised; not_ordered = refl; not_held = fresh.not_held })
 

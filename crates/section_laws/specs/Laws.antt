@@ -1,6 +1,7 @@
 -- what holds of every state that can be reached
-use Rattle.std.specs.Prelude.{ℕ, ◌≡◌, List}
+use Rattle.std.specs.Prelude.{ℕ, ◌≡◌, ◌≢◌, true, List, None}
 use Rattle.bus_order.specs.Order.{IsOneEach}
+use Rattle.cache_sets.specs.Cache.{way_of, write_bit}
 use Rattle.el_base.specs.Config.{IsInRange}
 use Rattle.el_base.specs.declared.config.Config.{Config}
 use Rattle.el_base.specs.declared.events.Event.{Event}
@@ -9,6 +10,7 @@ use Rattle.el_model.specs.Losses.{HartsAreNumbered}
 use Rattle.el_model.specs.Next.{after}
 use Rattle.el_model.specs.State.{ModelState, cache_of, hart_of, ordered_of, section_of}
 use Rattle.rv_flat.specs.FlatState.{status_of}
+use Rattle.section_laws.specs.Coherence.{AreCoherent, AreOwned}
 use Rattle.section_laws.specs.EachHart.{AreCounters, HasBitsOnlyInside, HasTriesLeft}
 use Rattle.section_laws.specs.Waiting.{WaitsForOne}
 
@@ -46,3 +48,17 @@ abbrev pub RequestsAreNumbered : Type 0
 RequestsAreNumbered =
     (program : Program) (config : Config) (events : List Event) → program.harts ≡ config.harts → IsInRange config →
     HartsAreNumbered (after program config events)
+
+-- no line that is M or E in a cache is in another, and none is O in two
+abbrev pub CopiesAreCoherent : Type 0
+CopiesAreCoherent = Always (λ state. AreCoherent state)
+
+-- a line that a section has written is M or E in its hart's cache
+abbrev pub WrittenLinesMayBeWritten : Type 0
+WrittenLinesMayBeWritten = Always (λ state. (h : ℕ) → AreOwned (cache_of state h))
+
+-- and in no other hart's
+abbrev pub WrittenLinesAreElsewhereInNoCache : Type 0
+WrittenLinesAreElsewhereInNoCache =
+    Always (λ state.
+    (g h line : ℕ) → g ≢ h → write_bit (cache_of state g) line ≡ true → way_of (cache_of state h) line ≡ None)

@@ -1,5 +1,5 @@
 -- what becomes of sections, as it is told
-use Rattle.std.specs.Prelude.{ℕ, ◌≡◌, ◌≢◌, ◌==◌, ◌&&◌, ◌+◌, Bool, true, false, List, [], ◌∷◌, count_by, is_some, if◌then◌else◌}
+use Rattle.std.specs.Prelude.{ℕ, ◌≡◌, ◌≢◌, ◌==◌, ◌&&◌, ◌+◌, Bool, true, false, List, [], ◌∷◌, is_some, if◌then◌else◌}
 use Rattle.el_base.specs.Config.{IsInRange}
 use Rattle.el_base.specs.declared.config.Config.{Config}
 use Rattle.el_base.specs.declared.entries.Entry.{Entry}
@@ -12,7 +12,7 @@ use Rattle.elf_image.specs.Program.{Program}
 use Rattle.el_model.specs.Losses.{winner_over}
 use Rattle.el_model.specs.Next.{after, entries_from, next, state_after}
 use Rattle.el_model.specs.Plain.{candidate_of}
-use Rattle.el_model.specs.State.{ModelState, begin, hart_of, is_live}
+use Rattle.el_model.specs.State.{ModelState, begin, is_live}
 
 -- how a step of a hart with a live section may come out
 abbrev pub IsOfSection : Outcome → Type 0

@@ -1,10 +1,13 @@
 ghost use Rattle.section_laws.specs.Laws.{
+  CopiesAreCoherent,
   CountersStayInRange,
   EachHartWaitsForOne,
   OneOrderedRequestEach,
   OnlyLiveSectionsHaveBits,
   RequestsAreNumbered,
   TriesStayBelowFour,
+  WrittenLinesAreElsewhereInNoCache,
+  WrittenLinesMayBeWritten,
 };
 ghost use Rattle.section_laws.specs.Sections.{
   BegunSectionsAreAccountedFor,
@@ -68,4 +71,20 @@ pub fn none_begins_after_rollback()
 /// losers, and one more where it has a live section.
 pub fn begun_sections_are_accounted_for()
     ensures { BegunSectionsAreAccountedFor }
+{}
+
+/// In every state that can be reached, a line that is M or E in one hart's cache is in no other, and no line is O
+/// in two.
+pub fn copies_are_coherent()
+    ensures { CopiesAreCoherent }
+{}
+
+/// In every state that can be reached, a line that a live section has written is M or E in its hart's cache.
+pub fn written_lines_may_be_written()
+    ensures { WrittenLinesMayBeWritten }
+{}
+
+/// In every state that can be reached, a line that a live section has written is in no other hart's cache.
+pub fn written_lines_are_elsewhere_in_no_cache()
+    ensures { WrittenLinesAreElsewhereInNoCache }
 {}

@@ -88,7 +88,9 @@ own_deed state h (RollsBack section cause) many must =
 -- another hart's step
 other_deed : (state : ModelState) (h g : ℕ) (deed : Deed) → g ≢ h →
     Balanced false (outcome_of deed) g (is_live state g) (is_live (done state h deed).state g)
-other_deed state h g deed apart = by_deed deed (ap (λ hart. is_some hart.section) (hart_of-with_hart_other state h g (hart_after state h deed (hart_of state h)) apart))
+other_deed state h g deed apart =
+    by_deed deed
+    (ap (λ hart. is_some hart.section) (hart_of-with_hart_other state h g (hart_after state h deed (hart_of state h)) apart))
   where
     by_deed : (deed : Deed) {now : Bool} → now ≡ is_live state g → Balanced false (outcome_of deed) g (is_live state g) now
     by_deed Rests same = unchanged _ _ same

@@ -6,8 +6,7 @@ use Rattle.std.proofs.lemmas.Bool.{cases_eq, ltb-true, ltb-false}
 use Rattle.std.proofs.lemmas.Bool.Decides.{nat_tests}
 use Rattle.bus_order.specs.Order.{Request}
 use Rattle.bus_order.proofs.LookUps.{number_of_test, other_test}
-use Rattle.bus_order.proofs.Queues.{hart_of_request_of}
-use Rattle.cache_sets.specs.Cache.{bit_in, is_resident, letter_in, letter_of, lettered, marked, touched, way_of, write_bit}
+use Rattle.cache_sets.specs.Cache.{bit_in, is_resident, letter_in, letter_of, marked, touched, way_of}
 use Rattle.cache_sets.specs.Residency.{Way, way_in, with_bit, with_letter}
 use Rattle.cache_sets.proofs.CacheLemmas.{way_of-touched}
 use Rattle.cache_sets.proofs.WellFormedLemmas.{set_of-empty_cache}
@@ -20,7 +19,7 @@ use Rattle.el_base.specs.declared.outcomes.Need.TheVariants.{Read, Write}
 use Rattle.elf_image.specs.Program.{Program}
 use Rattle.el_model.specs.Deed.{Begins, Buffers, Commits, Deed, DoesWhere, IsCoverable, IsPermitted, Misses, Rests, RollsBack, Runs, Waits, hart_after, is_refused, permits}
 use Rattle.el_model.specs.Deliver.{deliver_turn}
-use Rattle.el_model.specs.InSection.{covered, is_covered}
+use Rattle.el_model.specs.InSection.{covered}
 use Rattle.el_model.specs.Next.{after, kind_turn, next, step_turn}
 use Rattle.el_model.specs.Face.{faced_if}
 use Rattle.el_model.specs.Order.{order_raised, order_turn, place_for}
@@ -32,9 +31,9 @@ use Rattle.el_model.proofs.AllHarts.{all_first}
 use Rattle.el_model.proofs.FromStart.{kept_after}
 use Rattle.el_model.proofs.Harts.{hart_of-each_hart, hart_of-each_hart_past}
 use Rattle.moesi.specs.Letters.{may_of, may_write}
-use Rattle.moesi.specs.declared.letter.Letter.TheVariants.{M, O}
+use Rattle.moesi.specs.declared.letter.Letter.TheVariants.{M}
 use Rattle.section_laws.specs.Laws.{CopiesAreCoherent, WrittenLinesAreElsewhereInNoCache, WrittenLinesMayBeWritten}
-use Rattle.section_laws.specs.Coherence.{AreCoherent, AreOwned, AreTogether, IsOwned, MayBeTogether}
+use Rattle.section_laws.specs.Coherence.{AreCoherent, AreOwned, IsOwned, MayBeTogether}
 use Rattle.section_laws.proofs.EachHart.{Each, each_with}
 use Rattle.section_laws.proofs.EachKept as kept
 use Rattle.section_laws.proofs.FreeLines.{NotWritten, free_line}
@@ -42,7 +41,7 @@ use Rattle.section_laws.proofs.Moves.{Moves, deliver_keeps, faced_if_keeps, plac
 use Rattle.section_laws.proofs.Numbered.{Once, first_once, next_once}
 use Rattle.section_laws.proofs.OnlyInside as inside
 use Rattle.section_laws.proofs.Serving.{IsModified, own_owned, own_together, steady_others, steady_own, steady_owned, together_none, write_copy}
-use Rattle.section_laws.proofs.Steady.{IsSteady, Steady, SteadyWay, same_way, steady_cleared, steady_committed, steady_lettered, steady_marked, steady_touched, together_kept, way_twice}
+use Rattle.section_laws.proofs.Steady.{IsSteady, Steady, same_way, steady_cleared, steady_committed, steady_lettered, steady_marked, steady_touched, together_kept, way_twice}
 
 -- harts of which each has only steady changes
 abbrev SteadySince : ModelState → ℕ → Hart → Type 0
@@ -242,8 +241,10 @@ other_cache state request g =
 
 modified_own : (state : ModelState) (request : Request) → request.need ≡ Write → IsModified (way_of (own_line state request) request.line)
 modified_own state request write =
-    subst (λ need. IsModified (way_of (own_copy state.config.ways (others_have state request.hart request.line) need (cache_of state request.hart) request.line) request.line))
-    (sym write) (write_copy state.config.ways (others_have state request.hart request.line) (cache_of state request.hart) request.line)
+    let others = others_have state request.hart request.line in
+    let cache = cache_of state request.hart in
+    subst (λ need. IsModified (way_of (own_copy state.config.ways others need cache request.line) request.line)) (sym write)
+    (write_copy state.config.ways others cache request.line)
 
 own_steady : (state : ModelState) (request : Request) → IsSteady (own_line state request) (own_cache state request)
 own_steady state request l =
@@ -268,6 +269,7 @@ own_and_other state request g l free now apart below = by (cases_eq l request.li
   where
     before : (k : ℕ) → MayBeTogether (way_of (cache_of state request.hart) k) (way_of (cache_of state g) k)
     before k = now.together request.hart g (λ same. apart (sym same)) k
+
     by : (l ≡ request.line) ⊎ (l ≡ request.line → ⊥) → MayBeTogether (way_of (own_cache state request) l) (way_of (other_cache state request g) l)
     by (inl same) =
         rw same
@@ -307,6 +309,7 @@ whose state request g = by (served_cache state request g) (g == request.hart) re
   where
     differs : (a b : ℕ) → a ≡ b → (a == b) ≡ false → ⊥
     differs a b same test = grind (arith, nat_tests)
+
     by : ServedCache state request g → (own : Bool) → (g == request.hart) ≡ own → Whose state request g (cache_of (served state request) g)
     by (inl none) own is = Nobody none
     by (inr (below, cache)) true is =

@@ -6,12 +6,12 @@ use Rattle.std.proofs.lemmas.Bool.Decides.{nat_tests}
 use Rattle.bus_order.specs.Order.{IsOneEach, Request, first_of, request_of}
 use Rattle.bus_order.proofs.LookUps.{number_of_test, other_test}
 use Rattle.bus_order.proofs.Queues.{hart_of_request_of, request_of_first_of}
-use Rattle.cache_sets.specs.Cache.{bit_in, has_marks, set_number, set_of, way_of, write_bit}
+use Rattle.cache_sets.specs.Cache.{bit_in, has_marks, set_number, set_of, way_of}
 use Rattle.cache_sets.specs.Residency.{Way, is_marked, way_in}
 use Rattle.el_base.specs.declared.outcomes.Need.TheVariants.{Read, Write}
 use Rattle.el_base.specs.declared.outcomes.Why.{Why}
-use Rattle.el_model.specs.Conflicts.{conflicts, conflicts_with, first_such, meets_bit, retainer_of, retains}
-use Rattle.el_model.specs.Serve.{Blocks, Free, Obstacle, blocks_if, obstacle_to, other_head}
+use Rattle.el_model.specs.Conflicts.{conflicts_with, first_such, meets_bit, retainer_of, retains}
+use Rattle.el_model.specs.Serve.{Free, Obstacle, blocks_if, obstacle_to, other_head}
 use Rattle.el_model.specs.State.{Hart, ModelState, Section, cache_of, count_up, hart_of, head_of, ordered_of, section_of}
 use Rattle.el_model.proofs.Tests.{by_test}
 use Rattle.section_laws.specs.EachHart.{HasBitsOnlyInside}
@@ -82,8 +82,10 @@ has_head (first ∷ order) h request is none =
   where
     same_request : (a b : Request) → Some a ≡ Some b → a ≡ b
     same_request a b same = cc
+
     differs : (a b : ℕ) → a ≡ b → (a == b) ≡ false → ⊥
     differs a b same test = grind (arith, nat_tests)
+
     by : (own on_line : Bool) → (first.line == request.line) ≡ on_line →
         (request_of order h ≡ Some request → first_of order request.line ≡ None → ⊥) →
         (if own then Some first else request_of order h) ≡ Some request → (if on_line then Some first else first_of order request.line) ≡ None → ⊥
@@ -118,10 +120,10 @@ free_line state h g request once outside is free apart read = by_section (sectio
     by_section (Some section) live =
         let own = not_blocked _ (other_head request.hart (head_of state request.line)) _ free in
         let head = head_is state h request (head_of state request.line) once is refl own in
-        let retained = not_blocked _ (retainer_of state request.line) _ (blocked_else _ _ _ free) in
+        let retained : retainer_of state request.line ≡ None = not_blocked _ (retainer_of state request.line) _ (blocked_else _ _ _ free) in
         let kept = none_such (λ k. retains state k request.line) 0 g g state.harts retained (live_exists state g section live) (omega arith) in
         let apart_test = ap not (other_test request.hart g (λ same. apart (sym same))) in
         let unmet = sym (ap (λ found. conflicts_with found g (hart_of state g)) head) ∙ kept in
         let bit = not_met (not (request.hart == g)) (is_some (section_of state g)) (meets_bit (hart_of state g) request.line request.need) unmet apart_test
-            (ap is_some live) in
+        (ap is_some live) in
         unwritten_way (way_of (cache_of state g) request.line) (sym (ap (meets_bit (hart_of state g) request.line) read) ∙ bit)

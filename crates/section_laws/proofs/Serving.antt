@@ -1,20 +1,18 @@
 -- what a served request does to the copies of its line, and to the other lines
-use Rattle.std.proofs.Common.{◌≡◌, ◌≢◌, ◌∙◌, ◌<◌, ◌+◌, ◌==◌, ℕ, zero, suc, Bool, true, false, ◌&&◌, ◌||◌, not, List, [], ◌∷◌, length, Option, None, Some, is_some, option_map, refl, ap, sym, subst, inl, inr, ◌⊎◌, arith, if◌then◌else◌}
-use Rattle.std.specs.List.{list_any}
-use Rattle.bus_order.specs.Order.{Request}
-use Rattle.cache_sets.specs.Cache.{filled_with, is_resident, letter_in, letter_of, lettered, marked, touched, way_of, without_line}
-use Rattle.cache_sets.specs.Residency.{Way, with_bit, with_letter}
+use Rattle.std.proofs.Common.{◌≡◌, ◌≢◌, ◌∙◌, ℕ, Bool, true, false, List, [], ◌∷◌, Option, None, Some, is_some, option_map, refl, ap, sym, subst, inl, inr, ◌⊎◌, arith}
+use Rattle.cache_sets.specs.Cache.{filled_with, is_resident, letter_in, letter_of, lettered, way_of}
+use Rattle.cache_sets.specs.Residency.{Way, with_letter}
 use Rattle.cache_sets.proofs.CacheLemmas.{way_of-filled_with_same, way_of-lettered_other, way_of-lettered_same, way_of-without_line_same}
 use Rattle.el_base.specs.declared.outcomes.Need.{Need}
 use Rattle.el_base.specs.declared.outcomes.Need.TheVariants.{Read, Write}
-use Rattle.el_model.specs.Serve.{given_up, kept_letter, others_cache, own_copy}
+use Rattle.el_model.specs.Serve.{kept_letter, others_cache, own_copy}
 use Rattle.el_model.proofs.Tests.{by_test}
 use Rattle.moesi.specs.Letters.{filled_of, may_write, on_read_of}
 use Rattle.moesi.specs.declared.letter.Letter.{Letter}
 use Rattle.moesi.specs.declared.letter.Letter.TheVariants.{M, O, E, S, I}
-use Rattle.section_laws.specs.Coherence.{AreOwned, AreTogether, IsOwned, MayBeTogether}
+use Rattle.section_laws.specs.Coherence.{IsOwned, MayBeTogether}
 use Rattle.section_laws.proofs.FreeLines.{NotWritten}
-use Rattle.section_laws.proofs.Steady.{IsSteady, Steady, SteadyWay, changed_way, same_way, steady_filled, steady_lettered, steady_marked, steady_touched, steady_without_line, together_kept, way_twice}
+use Rattle.section_laws.proofs.Steady.{IsSteady, Steady, SteadyWay, same_way, steady_filled, steady_lettered, steady_without_line, together_kept}
 
 on_read_shared : (letter : Letter) → may_write (on_read_of letter) ≡ false
 on_read_shared M = refl

@@ -1,15 +1,14 @@
 -- what a change of a cache may do to its ways without harm to other caches
 use Rattle.std.proofs.Common.{◌≡◌, ◌≢◌, ◌∙◌, ◌<◌, ℕ, Bool, true, false, List, [], ◌∷◌, length, Option, None, Some, option_map, refl, ap, sym, inl, inr, ◌⊎◌, arith}
 use Rattle.std.proofs.lemmas.Bool.{cases_eq}
-use Rattle.cache_sets.specs.Cache.{cleared, committed, committed_way, evicted_by, filled_with, lettered, letter_in, letter_of, marked, set_number, set_of, touched, way_of, without_line}
+use Rattle.cache_sets.specs.Cache.{cleared, committed, committed_way, evicted_by, filled_with, lettered, marked, set_number, set_of, touched, way_of, without_line}
 use Rattle.cache_sets.specs.Residency.{Way, filled_in, way_in, with_bit, with_letter, without_bits}
 use Rattle.cache_sets.proofs.CacheLemmas.{set_of-with_set_other, way_of-cleared, way_of-committed, way_of-filled_with_evicted, way_of-filled_with_other, way_of-lettered_other, way_of-lettered_same, way_of-marked_other, way_of-marked_same, way_of-touched, way_of-without_line_other, way_of-without_line_same}
 use Rattle.el_base.specs.declared.outcomes.Need.{Need}
-use Rattle.el_base.specs.declared.outcomes.Need.TheVariants.{Read, Write}
-use Rattle.moesi.specs.Letters.{may_of, may_write, on_read_of}
+use Rattle.moesi.specs.Letters.{may_write}
 use Rattle.moesi.specs.declared.letter.Letter.{Letter}
-use Rattle.moesi.specs.declared.letter.Letter.TheVariants.{M, O, E, S, I}
-use Rattle.section_laws.specs.Coherence.{AreOwned, AreTogether, IsOwned, MayBeTogether}
+use Rattle.moesi.specs.declared.letter.Letter.TheVariants.{O}
+use Rattle.section_laws.specs.Coherence.{AreOwned, IsOwned, MayBeTogether}
 
 -- a copy gets no leave to write, is an owner only where it was one or might be written, and stays owned
 pub record Steady (old new : Way) : Type 0 where
@@ -114,8 +113,10 @@ filled_by ways cache line l letter some other (Some gone) is = by_line (cases_eq
         let left = way_of-filled_with_evicted ways cache line letter gone some is (λ own. other (same ∙ own)) (ap (set_number cache) (sym same) ∙ home) in
         rw same (rw left tt)
     by_set same (inr away) =
-        rw (ap (λ set. way_in set l) (set_of-with_set_other cache line l (filled_in ways (set_of cache line) (record { line = line; letter = letter; read = false; write = false })) away))
+        let way : Way = record { line = line; letter = letter; read = false; write = false } in
+        rw (ap (λ set. way_in set l) (set_of-with_set_other cache line l (filled_in ways (set_of cache line) way) away))
         (same_way (way_of cache l))
+
     by_line : (l ≡ gone.line) ⊎ (l ≡ gone.line → ⊥) → SteadyWay (way_of cache l) (way_of (filled_with ways cache line letter) l)
     by_line (inl same) = by_set same (cases_eq (set_number cache l) (set_number cache line))
     by_line (inr apart) =
@@ -146,9 +147,11 @@ together_kept (Some a) (Some b) (Some c) (Some d) first second now = record {
       where
         wrong : {X : Type 0} → false ≡ true → X
         wrong is = absurd (cc)
+
     unless : (may : Bool) → (may ≡ true → ⊥) → may ≡ false
     unless true never = absurd (never refl)
     unless false never = refl
+
     owners : (a.letter ≡ O) ⊎ (may_write a.letter ≡ true) → (b.letter ≡ O) ⊎ (may_write b.letter ≡ true) → ⊥
     owners (inl a_owns) (inl b_owns) = now.one_owner a_owns b_owns
     owners (inr may) other = refused now.one_shared may

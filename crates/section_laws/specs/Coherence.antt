@@ -1,5 +1,5 @@
 -- how the copies of a line in the caches of several harts stand to one another
-use Rattle.std.specs.Prelude.{ℕ, ◌≡◌, ◌≢◌, Bool, true, false, List, Option, None, Some}
+use Rattle.std.specs.Prelude.{ℕ, ◌≡◌, ◌≢◌, true, false, List, Option, None, Some}
 use Rattle.cache_sets.specs.Cache.{way_of}
 use Rattle.cache_sets.specs.Residency.{Way}
 use Rattle.el_model.specs.State.{ModelState, cache_of}

@@ -1,0 +1,17 @@
+pub mod EachHart
+pub mod Moves
+pub mod EachKept
+pub mod Statuses
+pub mod Waiting
+pub mod Numbered
+pub mod SectionSteps
+pub mod UnnamedLosers
+pub mod Lengths
+pub mod Accounts
+pub mod Steady
+pub mod FreeLines
+pub mod Serving
+pub mod OnlyInside
+pub mod Coherence
+pub mod TriesLeft
+pub mod Counters

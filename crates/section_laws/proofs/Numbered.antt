@@ -1,0 +1,196 @@
+-- no hart has two requests in order, and each request is of a hart that a machine may have
+use Rattle.std.proofs.Common.{◌≡◌, ◌∙◌, ◌<◌, ◌≤◌, ◌==◌, ℕ, Bool, true, false, List, [], ◌∷◌, Option, None, Some, length, refl, ap, sym, arith}
+use Rattle.std.specs.Prelude.{nat_lt}
+use Rattle.std.proofs.lemmas.Bool.{ltb-true, ltb-false}
+use Rattle.std.proofs.lemmas.Bool.Decides.{nat_tests}
+use Rattle.std.proofs.Math.ListN.{length-set}
+use Rattle.std.proofs.lemmas.List.{length-replicate}
+use Rattle.bus_order.specs.Order.{IsOneEach, Request, appended, in_front_of, removed, request_of}
+use Rattle.bus_order.proofs.Orders.{one_each_appended, one_each_in_front_of, one_each_none, one_each_removed}
+use Rattle.el_base.specs.Config.{IsInRange}
+use Rattle.el_base.specs.declared.config.Config.{Config}
+use Rattle.el_base.proofs.Ranges.{ranges}
+use Rattle.el_base.specs.declared.events.Event.{Event}
+use Rattle.el_base.specs.declared.events.Kind.{Kind}
+use Rattle.el_base.specs.declared.events.Kind.TheVariants as kinds
+use Rattle.elf_image.specs.Program.{Program}
+use Rattle.el_model.specs.Losses.{AreNumbered, HartsAreNumbered}
+use Rattle.el_model.specs.Next.{after, kind_turn, next}
+use Rattle.el_model.specs.Order.{Alone, Behind, InFront, Place, order_raised, order_turn, place_for}
+use Rattle.el_model.specs.Serve.{Blocks, Free, Obstacle, obstacle_to, serve_ordered, serve_past, serve_turn, served}
+use Rattle.el_model.specs.Deliver.{deliver_turn}
+use Rattle.el_model.specs.State.{ModelState, begin, hart_of, head_of, new_hart, ordered_of, raised_of}
+use Rattle.el_model.proofs.Deeds.{step_deed}
+use Rattle.el_model.proofs.FromStart.{kept_after}
+use Rattle.el_model.proofs.Harts.{hart_of-past}
+use Rattle.el_model.proofs.Tests.{by_test}
+use Rattle.el_model.proofs.Turns.{deliver_calm, order_calm, serve_calm}
+use Rattle.section_laws.specs.Laws.{EachHartWaitsForOne, OneOrderedRequestEach, RequestsAreNumbered}
+use Rattle.section_laws.proofs.Waiting.{Sound, always_sound, faced_order, free_of_order, mail_order, next_sound, order_at, placed_order}
+
+-- no event changes how many harts there are
+kind_count : (state : ModelState) (h : ℕ) (kind : Kind) → length (kind_turn state h kind).state.harts ≡ length state.harts
+kind_count state h kinds.Step = let step = step_deed state h in rw step.turn_is (length-set state.harts h _)
+kind_count state h kinds.Order = (order_calm state h).keeps.count
+kind_count state h kinds.Serve = (serve_calm state h).keeps.count
+kind_count state h kinds.Deliver = (deliver_calm state h).keeps.count
+
+pub next_count : (state : ModelState) (event : Event) → length (next state event).state.harts ≡ length state.harts
+unfolding next
+next_count state event = kind_count state event.hart.number event.kind
+
+-- what is kept of the order: by a request of a hart that has none, and as one is served
+record KeptInOrder (P : List Request → Type 0) (count : ℕ) : Type 0 where
+  placed_last : (order : List Request) (request : Request) → request.hart < count → request_of order request.hart ≡ None → P order →
+      P (appended order request)
+  placed_before : (order : List Request) (request : Request) → request.hart < count → request_of order request.hart ≡ None → P order →
+      P (in_front_of order request)
+  taken_out : (order : List Request) (h : ℕ) → P order → P (removed order h)
+
+some_none : {A X : Type 0} {x : A} → Some x ≡ None → X
+some_none wrong = absurd (cc)
+
+-- a hart with a raised request is one of the machine's
+raised_below : (state : ModelState) (h : ℕ) (request : Request) → raised_of state h ≡ Some request → (below : Bool) →
+    nat_lt h (length state.harts) ≡ below → h < length state.harts
+raised_below state h request raised true below = ltb-true h (length state.harts) below
+raised_below state h request raised false below =
+    some_none (sym raised ∙ ap (λ hart. hart.raised) (hart_of-past state h (ltb-false h (length state.harts) below)))
+
+pub raised_exists : (state : ModelState) (h : ℕ) (request : Request) → Sound state → raised_of state h ≡ Some request →
+    request.hart < length state.harts
+raised_exists state h request sound raised =
+    rw ((sound h).own request raised) (raised_below state h request raised (nat_lt h (length state.harts)) refl)
+
+module _ {P : List Request → Type 0} where
+  place_keeps : (state : ModelState) (request : Request) (place : Place) → KeptInOrder P (length state.harts) →
+      request.hart < length state.harts → request_of state.order request.hart ≡ None → P state.order → P (order_at state request place)
+  place_keeps state request InFront kept exists free now = kept.placed_before state.order request exists free now
+  place_keeps state request Behind kept exists free now = kept.placed_last state.order request exists free now
+  place_keeps state request Alone kept exists free now = kept.placed_last state.order request exists free now
+
+  raised_keeps : (state : ModelState) (h : ℕ) (raised : Option Request) → KeptInOrder P (length state.harts) → Sound state →
+      raised_of state h ≡ raised → P state.order → P (order_raised state raised).state.order
+  raised_keeps state h None kept sound is now = now
+  raised_keeps state h (Some request) kept sound is now =
+      let place = place_for state request in
+      let mine : raised_of state request.hart ≡ Some request = ap (raised_of state) ((sound h).own request is) ∙ is in
+      rw (placed_order state request place)
+      (place_keeps state request place kept (raised_exists state h request sound is) (free_of_order state request.hart request sound mine) now)
+
+  past_keeps : (state : ModelState) (request : Request) (obstacle : Obstacle) → KeptInOrder P (length state.harts) → P state.order →
+      P (serve_past state request obstacle).state.order
+  unfolding served
+  past_keeps state request (Blocks why by) kept now = now
+  past_keeps state request Free kept now =
+      let after = served state request in
+      rw (faced_order after (head_of after request.line)) (kept.taken_out state.order request.hart now)
+
+  ordered_keeps : (state : ModelState) (found : Option Request) → KeptInOrder P (length state.harts) → P state.order →
+      P (serve_ordered state found).state.order
+  ordered_keeps state None kept now = now
+  ordered_keeps state (Some request) kept now = past_keeps state request (obstacle_to state request) kept now
+
+  kind_keeps : (state : ModelState) (h : ℕ) (kind : Kind) → KeptInOrder P (length state.harts) → Sound state → P state.order →
+      P (kind_turn state h kind).state.order
+  unfolding order_turn serve_turn deliver_turn
+  kind_keeps state h kinds.Step kept sound now = let step = step_deed state h in rw step.turn_is now
+  kind_keeps state h kinds.Order kept sound now = raised_keeps state h (raised_of state h) kept sound refl now
+  kind_keeps state h kinds.Serve kept sound now = ordered_keeps state (ordered_of state h) kept now
+  kind_keeps state h kinds.Deliver kept sound now = rw (mail_order state h (hart_of state h).mail) now
+
+  order_keeps : (state : ModelState) (event : Event) → KeptInOrder P (length state.harts) → Sound state → P state.order →
+      P (next state event).state.order
+  unfolding next
+  order_keeps state event kept sound now = kind_keeps state event.hart.number event.kind kept sound now
+
+-- no hart has two
+pub record Once (state : ModelState) : Type 0 where
+  pub sound : Sound state
+  pub once : IsOneEach state.order
+
+kept_once : (count : ℕ) → KeptInOrder IsOneEach count
+kept_once count = record {
+  placed_last = λ order request exists free now. one_each_appended order request now free;
+  placed_before = λ order request exists free now. one_each_in_front_of order request now free;
+  taken_out = λ order h now. one_each_removed order h now;
+}
+
+pub next_once : (state : ModelState) (event : Event) → Once state → Once (next state event).state
+next_once state event now = record {
+  sound = next_sound state event now.sound;
+  once = order_keeps state event (kept_once (length state.harts)) now.sound now.once;
+}
+
+pub first_once : (program : Program) (config : Config) → Once (begin program config)
+unfolding begin
+first_once program config = record { sound = always_sound program config []; once = one_each_none }
+
+pub one_ordered_request_each : OneOrderedRequestEach
+one_ordered_request_each program config events =
+    (kept_after Once next_once (begin program config) events (first_once program config)).once
+
+pub each_hart_waits_for_one : EachHartWaitsForOne
+each_hart_waits_for_one = always_sound
+
+-- each request is of a hart that a machine may have
+numbered_appended : (order : List Request) (request : Request) → request.hart < 8 → AreNumbered order → AreNumbered (appended order request)
+numbered_appended [] request small now = (small, tt)
+numbered_appended (first ∷ order) request small (own, others) = (own, numbered_appended order request small others)
+
+numbered_in_front : (order : List Request) (request : Request) → request.hart < 8 → AreNumbered order → AreNumbered (in_front_of order request)
+numbered_in_front [] request small now = (small, tt)
+numbered_in_front (first ∷ order) request small (own, others) =
+    by_test AreNumbered (first.line == request.line) (request ∷ first ∷ order) (first ∷ in_front_of order request)
+    (λ here. (small, (own, others))) (λ behind. (own, numbered_in_front order request small others))
+
+numbered_removed : (order : List Request) (h : ℕ) → AreNumbered order → AreNumbered (removed order h)
+numbered_removed [] h now = tt
+numbered_removed (first ∷ order) h (own, others) =
+    by_test AreNumbered (first.hart == h) (removed order h) (first ∷ removed order h)
+    (λ gone. numbered_removed order h others) (λ kept. (own, numbered_removed order h others))
+
+kept_numbered : (count : ℕ) → count ≤ 8 → KeptInOrder AreNumbered count
+kept_numbered count few = record {
+  placed_last = λ order request exists free now. numbered_appended order request (omega (arith, exists, few)) now;
+  placed_before = λ order request exists free now. numbered_in_front order request (omega (arith, exists, few)) now;
+  taken_out = numbered_removed;
+}
+
+pub record Numbered (state : ModelState) : Type 0 where
+  pub sound : Sound state
+  pub few : length state.harts ≤ 8
+  pub numbered : AreNumbered state.order
+
+pub next_numbered : (state : ModelState) (event : Event) → Numbered state → Numbered (next state event).state
+next_numbered state event now = record {
+  sound = next_sound state event now.sound;
+  few = rw (next_count state event) now.few;
+  numbered = order_keeps state event (kept_numbered (length state.harts) now.few) now.sound now.numbered;
+}
+
+pub harts_in_range : (config : Config) → IsInRange config → config.harts ≤ 8
+harts_in_range config range = let small = (ranges config range).harts in grind (arith, nat_tests, small)
+
+pub first_numbered : (program : Program) (config : Config) → program.harts ≡ config.harts → IsInRange config → Numbered (begin program config)
+unfolding begin
+first_numbered program config same range = record {
+  sound = always_sound program config [];
+  few = rw (length-replicate program.harts (new_hart config.sets)) (rw same (harts_in_range config range));
+  numbered = tt;
+}
+
+pub numbers_of_state : (state : ModelState) → Numbered state → HartsAreNumbered state
+numbers_of_state state numbered = record {
+  few = numbered.few;
+  raised = λ h request is.
+      let few = numbered.few in
+      let exists = raised_exists state h request numbered.sound is in
+      omega (arith, few, exists);
+  ordered = numbered.numbered;
+}
+
+pub requests_are_numbered : RequestsAreNumbered
+requests_are_numbered program config events same range =
+    numbers_of_state (after program config events)
+    (kept_after Numbered next_numbered (begin program config) events (first_numbered program config same range))

@@ -1,0 +1,250 @@
+-- how the steps of a section come out, and that none begins while its hart has the fallback flag
+use Rattle.std.proofs.Common.{◌≡◌, ◌≢◌, ◌∙◌, ◌≤◌, ◌<◌, ℕ, Bool, true, false, ◌&&◌, not, List, [], ◌∷◌, Option, None, Some, is_some, length, refl, ap, sym, subst, inl, inr, ◌⊎◌}
+use Rattle.std.specs.Prelude.{nat_le, nat_lt}
+use Rattle.std.proofs.lemmas.Bool.{cases_eq, ltb-true, ltb-false}
+use Rattle.bus_order.specs.Order.{Request}
+use Rattle.el_base.specs.declared.config.Mode.{Mode}
+use Rattle.el_base.specs.declared.events.Event.{Event}
+use Rattle.el_base.specs.declared.events.Kind.{Kind}
+use Rattle.el_base.specs.declared.events.Kind.TheVariants as kinds
+use Rattle.el_base.specs.declared.outcomes.Cause.{Cause}
+use Rattle.el_base.specs.declared.outcomes.Outcome.{Outcome}
+use Rattle.el_base.specs.declared.outcomes.Outcome.TheVariants as outcomes
+use Rattle.el_model.specs.Deed.{Begins, Buffers, Commits, Deed, DoesWhere, Misses, Rests, RollsBack, Runs, Waits, done, hart_after, outcome_of}
+use Rattle.el_model.specs.Next.{after, kind_turn, next, state_after, step_turn}
+use Rattle.el_model.specs.Deliver.{deliver_next, deliver_turn}
+use Rattle.el_model.specs.Order.{order_raised, order_turn}
+use Rattle.el_model.specs.Plain.{after_candidate, candidate_of, elides, least_confidence, may_elide}
+use Rattle.el_model.specs.Serve.{Blocks, Free, Obstacle, obstacle_to, serve_ordered, serve_past, serve_turn, with_claim}
+use Rattle.el_model.specs.State.{Hart, ModelState, Section, hart_of, is_live, ordered_of, raised_of, section_of}
+use Rattle.el_model.specs.Upcoming.{Swap}
+use Rattle.el_model.proofs.Deeds.{step_deed}
+use Rattle.el_model.proofs.Harts.{hart_of-past, hart_of-with_hart_same}
+use Rattle.mail.specs.Mailbox.{Message}
+use Rattle.pair_table.specs.Predictor.{confidence_of}
+use Rattle.section_laws.specs.Sections.{IsOfSection, NeverRunsCandidate, NoneBeginsAfterRollback, RunsCandidate, SectionStepsAreOfFiveKinds}
+use Rattle.section_laws.proofs.EachHart.{each_but}
+use Rattle.section_laws.proofs.EachKept.{BusKept, bus_keeps}
+use Rattle.section_laws.proofs.Waiting.{Sound, always_sound, is_rolled}
+
+not_live : {X : Type 0} (section : Option Section) → is_some section ≡ true → section ≡ None → X
+not_live None live none = absurd (cc)
+not_live (Some section) live none = absurd (cc)
+
+deed_of_section : (state : ModelState) (h : ℕ) (deed : Deed) → DoesWhere state h deed → Sound state → is_live state h ≡ true →
+    IsOfSection (outcome_of deed)
+deed_of_section state h Rests ended sound live = not_live (section_of state h) live ((sound h).stopped ended).no_section
+deed_of_section state h Waits does sound live = tt
+deed_of_section state h (Misses line need) does sound live = tt
+deed_of_section state h (Runs touch) runs sound live = not_live (section_of state h) live runs.outside.no_section
+deed_of_section state h (Begins swap) begins sound live = not_live (section_of state h) live begins.outside.no_section
+deed_of_section state h (Buffers section touch) does sound live = tt
+deed_of_section state h (Commits section) does sound live = tt
+deed_of_section state h (RollsBack section cause) does sound live = tt
+
+step_of_section : (state : ModelState) (h : ℕ) (kind : Kind) → kind ≡ kinds.Step → Sound state → is_live state h ≡ true →
+    IsOfSection (kind_turn state h kind).outcome
+step_of_section state h kind is sound live =
+    let step = step_deed state h in
+    rw is (rw step.turn_is (deed_of_section state h step.deed step.where_it sound live))
+
+pub section_steps_are_of_five_kinds : SectionStepsAreOfFiveKinds
+unfolding next
+section_steps_are_of_five_kinds program config events event is live =
+    step_of_section (after program config events) event.hart.number event.kind is (always_sound program config events) live
+
+-- the fallback flag is kept by every event but a candidate that runs
+abbrev Flagged : ModelState → ℕ → Hart → Type 0
+Flagged old h hart = (hart_of old h).fallback ≡ true → hart.fallback ≡ true
+
+claim_flagged : (old : ModelState) (live : Bool) (h : ℕ) (request : Request) (hart : Hart) → Flagged old h hart →
+    Flagged old h (with_claim live request hart)
+claim_flagged old true h request hart now = now
+claim_flagged old false h request hart now = now
+
+flag_kept : (old : ModelState) → BusKept (Flagged old)
+flag_kept old = record {
+  moves = record {
+    posted_to = λ h hart mail now. now;
+    told = λ h hart told now. now;
+    preceded = λ h hart upstream now. now;
+    saw = λ h hart seen now. now;
+    lost = λ h hart now. now;
+    gave_up = λ h hart now was. refl;
+    tried = λ h hart more now. now;
+  };
+  unraised = λ h hart now. now;
+  served = λ h state request hart now. claim_flagged old (is_some hart.section) h request _ now;
+  bystander = λ h state request hart now. now;
+}
+
+candidate_flagged : (pc : ℕ) (had_watch : Bool) (candidate : Option Swap) (hart : Hart) → (is_some candidate ≡ true → ⊥) →
+    hart.fallback ≡ true → (after_candidate pc had_watch candidate hart).fallback ≡ true
+candidate_flagged pc had_watch None hart none was = was
+candidate_flagged pc had_watch (Some swap) hart none was = absurd (none refl)
+
+deed_flagged : (state : ModelState) (h : ℕ) (deed : Deed) → (outcome_of deed ≡ outcomes.Ran → is_some (candidate_of state h) ≡ true → ⊥) →
+    Flagged state h (hart_after state h deed (hart_of state h))
+deed_flagged state h Rests none was = was
+deed_flagged state h Waits none was = was
+deed_flagged state h (Misses line need) none was = was
+deed_flagged state h (Runs touch) none was = candidate_flagged _ _ (candidate_of state h) _ (none refl) was
+deed_flagged state h (Begins swap) none was = was
+deed_flagged state h (Buffers section touch) none was = was
+deed_flagged state h (Commits section) none was = was
+deed_flagged state h (RollsBack section cause) none was = refl
+
+no_flag : {X : Type 0} (state : ModelState) (h : ℕ) → length state.harts ≤ h → (hart_of state h).fallback ≡ true → X
+no_flag state h past was = absurd (never (sym (ap (λ hart. hart.fallback) (hart_of-past state h past)) ∙ was))
+  where
+    never : false ≡ true → ⊥
+    never wrong = absurd (cc)
+
+step_flagged : (state : ModelState) (h g : ℕ) →
+    (g ≡ h → (step_turn state h).outcome ≡ outcomes.Ran → is_some (candidate_of state h) ≡ true → ⊥) →
+    Flagged state g (hart_of (step_turn state h).state g)
+step_flagged state h g none =
+    let step = step_deed state h in
+    rw step.turn_is (by_hart step.deed (λ own ran. none own (ap (λ turn. turn.outcome) step.turn_is ∙ ran)) (cases_eq g h))
+  where
+    by_hart : (deed : Deed) → (g ≡ h → outcome_of deed ≡ outcomes.Ran → is_some (candidate_of state h) ≡ true → ⊥) →
+        (g ≡ h) ⊎ (g ≡ h → ⊥) → Flagged state g (hart_of (done state h deed).state g)
+    by_hart deed none (inl own) =
+        each_but (λ k hart. k ≡ h → Flagged state k hart) state h (hart_after state h deed (hart_of state h))
+        (λ same. deed_flagged state h deed (none own)) (λ k apart same. absurd (apart same))
+        (λ past same was. no_flag state h past was) g own
+    by_hart deed none (inr apart) =
+        each_but (λ k hart. (k ≡ h → ⊥) → Flagged state k hart) state h (hart_after state h deed (hart_of state h))
+        (λ other. absurd (other refl)) (λ k differs other was. was) (λ past other. absurd (other refl)) g apart
+
+kind_flagged : (state : ModelState) (h g : ℕ) (kind : Kind) →
+    (kind ≡ kinds.Step → g ≡ h → (kind_turn state h kind).outcome ≡ outcomes.Ran → is_some (candidate_of state h) ≡ true → ⊥) →
+    Flagged state g (hart_of (kind_turn state h kind).state g)
+kind_flagged state h g kinds.Step none = step_flagged state h g (none refl)
+kind_flagged state h g kinds.Order none = bus_keeps (flag_kept state) state h kinds.Order (λ same. absurd (cc)) (λ k was. was) g
+kind_flagged state h g kinds.Serve none = bus_keeps (flag_kept state) state h kinds.Serve (λ same. absurd (cc)) (λ k was. was) g
+kind_flagged state h g kinds.Deliver none = bus_keeps (flag_kept state) state h kinds.Deliver (λ same. absurd (cc)) (λ k was. was) g
+
+flag_stays : (state : ModelState) (event : Event) (g : ℕ) → (RunsCandidate state g event → ⊥) →
+    Flagged state g (hart_of (next state event).state g)
+unfolding next
+flag_stays state event g none =
+    kind_flagged state event.hart.number g event.kind
+    (λ step own ran candidate.
+    none (record { step = step; own = sym own; ran = ran; candidate = ap (λ k. is_some (candidate_of state k)) own ∙ candidate }))
+
+flag_stays_long : (state : ModelState) (events : List Event) (g : ℕ) → NeverRunsCandidate state g events →
+    (hart_of state g).fallback ≡ true → (hart_of (state_after state events) g).fallback ≡ true
+flag_stays_long state [] g never was = was
+flag_stays_long state (event ∷ events) g (none, never) was =
+    flag_stays_long (next state event).state events g never (flag_stays state event g none was)
+
+-- no section begins with the flag
+refused : {X : Type 0} (a flag b : Bool) → flag ≡ true → (a && not flag && b) ≡ true → X
+refused true true b was wrong = absurd (cc)
+refused false true b was wrong = absurd (cc)
+refused a false b was wrong = absurd (cc)
+
+untrusted : {X : Type 0} (mode : Mode) (hart : Hart) (pc : ℕ) → hart.fallback ≡ true → may_elide mode hart pc ≡ true → X
+untrusted mode hart pc was trusted =
+    refused (elides mode) hart.fallback (nat_le least_confidence (confidence_of hart.predictor pc)) was trusted
+
+-- how an event of the bus may come out
+abbrev pub IsOfBus : Outcome → Type 0
+IsOfBus outcomes.Idle = Unit {0}
+IsOfBus (outcomes.Ordered losers) = Unit {0}
+IsOfBus (outcomes.Served losers) = Unit {0}
+IsOfBus (outcomes.Blocked why by) = Unit {0}
+IsOfBus (outcomes.Delivered losers) = Unit {0}
+IsOfBus _ = ⊥
+
+raised_of_bus : (state : ModelState) (raised : Option Request) → IsOfBus (order_raised state raised).outcome
+raised_of_bus state None = tt
+raised_of_bus state (Some request) = tt
+
+past_of_bus : (state : ModelState) (request : Request) (obstacle : Obstacle) → IsOfBus (serve_past state request obstacle).outcome
+past_of_bus state request Free = tt
+past_of_bus state request (Blocks why by) = tt
+
+ordered_of_bus : (state : ModelState) (ordered : Option Request) → IsOfBus (serve_ordered state ordered).outcome
+ordered_of_bus state None = tt
+ordered_of_bus state (Some request) = past_of_bus state request (obstacle_to state request)
+
+mail_of_bus : (state : ModelState) (h : ℕ) (mail : List Message) → IsOfBus (deliver_next state h mail).outcome
+mail_of_bus state h [] = tt
+mail_of_bus state h (message ∷ others) = tt
+
+pub of_bus : (state : ModelState) (h : ℕ) (kind : Kind) → kind ≢ kinds.Step → IsOfBus (kind_turn state h kind).outcome
+unfolding order_turn serve_turn deliver_turn
+of_bus state h kinds.Step bus = absurd (bus refl)
+of_bus state h kinds.Order bus = raised_of_bus state (raised_of state h)
+of_bus state h kinds.Serve bus = ordered_of_bus state (ordered_of state h)
+of_bus state h kinds.Deliver bus = mail_of_bus state h (hart_of state h).mail
+
+deed_unflagged : (state : ModelState) (h : ℕ) (deed : Deed) → DoesWhere state h deed → (hart_of state h).fallback ≡ true →
+    outcome_of deed ≢ outcomes.Began
+deed_unflagged state h Rests does was began = absurd (cc)
+deed_unflagged state h Waits does was began = absurd (cc)
+deed_unflagged state h (Misses line need) does was began = absurd (cc)
+deed_unflagged state h (Runs touch) does was began = absurd (cc)
+deed_unflagged state h (Begins swap) begins was began = untrusted state.config.mode (hart_of state h) _ was begins.elidable.trusted
+deed_unflagged state h (Buffers section touch) does was began = absurd (cc)
+deed_unflagged state h (Commits section) does was began = absurd (cc)
+deed_unflagged state h (RollsBack section cause) does was began = absurd (cc)
+
+kind_unflagged : (state : ModelState) (h : ℕ) (kind : Kind) → (hart_of state h).fallback ≡ true →
+    (kind_turn state h kind).outcome ≢ outcomes.Began
+kind_unflagged state h kinds.Step was began =
+    let step = step_deed state h in
+    deed_unflagged state h step.deed step.where_it was (sym (ap (λ turn. turn.outcome) step.turn_is) ∙ began)
+kind_unflagged state h kinds.Order was began = absurd (subst IsOfBus began (of_bus state h kinds.Order (λ same. absurd (cc))))
+kind_unflagged state h kinds.Serve was began = absurd (subst IsOfBus began (of_bus state h kinds.Serve (λ same. absurd (cc))))
+kind_unflagged state h kinds.Deliver was began = absurd (subst IsOfBus began (of_bus state h kinds.Deliver (λ same. absurd (cc))))
+
+unflagged : (state : ModelState) (event : Event) → (hart_of state event.hart.number).fallback ≡ true →
+    (next state event).outcome ≢ outcomes.Began
+unfolding next
+unflagged state event was = kind_unflagged state event.hart.number event.kind was
+
+-- a rollback by the hart itself sets the flag
+exists_by : (state : ModelState) (h : ℕ) (section : Section) → section_of state h ≡ Some section → (below : Bool) →
+    nat_lt h (length state.harts) ≡ below → h < length state.harts
+exists_by state h section live true below = ltb-true h (length state.harts) below
+exists_by state h section live false below =
+    not_live (section_of state h) (ap is_some live) (ap (λ hart. hart.section) (hart_of-past state h (ltb-false h (length state.harts) below)))
+
+pub live_exists : (state : ModelState) (h : ℕ) (section : Section) → section_of state h ≡ Some section → h < length state.harts
+live_exists state h section live = exists_by state h section live (nat_lt h (length state.harts)) refl
+
+deed_sets_flag : (state : ModelState) (h : ℕ) (deed : Deed) (cause : Cause) → DoesWhere state h deed →
+    outcome_of deed ≡ outcomes.RolledBack cause → (hart_of (done state h deed).state h).fallback ≡ true
+deed_sets_flag state h Rests cause does back = absurd (cc)
+deed_sets_flag state h Waits cause does back = absurd (cc)
+deed_sets_flag state h (Misses line need) cause does back = absurd (cc)
+deed_sets_flag state h (Runs touch) cause does back = absurd (cc)
+deed_sets_flag state h (Begins swap) cause does back = absurd (cc)
+deed_sets_flag state h (Buffers section touch) cause does back = absurd (cc)
+deed_sets_flag state h (Commits section) cause does back = absurd (cc)
+deed_sets_flag state h (RollsBack section why) cause must back =
+    ap (λ hart. hart.fallback)
+    (hart_of-with_hart_same state h (hart_after state h (RollsBack section why) (hart_of state h))
+    (live_exists state h section (is_rolled state h section why must).live))
+
+kind_sets_flag : (state : ModelState) (h : ℕ) (kind : Kind) (cause : Cause) → (kind_turn state h kind).outcome ≡ outcomes.RolledBack cause →
+    (hart_of (kind_turn state h kind).state h).fallback ≡ true
+kind_sets_flag state h kinds.Step cause back =
+    let step = step_deed state h in
+    rw step.turn_is (deed_sets_flag state h step.deed cause step.where_it (sym (ap (λ turn. turn.outcome) step.turn_is) ∙ back))
+kind_sets_flag state h kinds.Order cause back = absurd (subst IsOfBus back (of_bus state h kinds.Order (λ same. absurd (cc))))
+kind_sets_flag state h kinds.Serve cause back = absurd (subst IsOfBus back (of_bus state h kinds.Serve (λ same. absurd (cc))))
+kind_sets_flag state h kinds.Deliver cause back = absurd (subst IsOfBus back (of_bus state h kinds.Deliver (λ same. absurd (cc))))
+
+sets_flag : (state : ModelState) (event : Event) (cause : Cause) → (next state event).outcome ≡ outcomes.RolledBack cause →
+    (hart_of (next state event).state event.hart.number).fallback ≡ true
+unfolding next
+sets_flag state event cause back = kind_sets_flag state event.hart.number event.kind cause back
+
+pub none_begins_after_rollback : NoneBeginsAfterRollback
+none_begins_after_rollback state event later events cause back never own =
+    unflagged (state_after (next state event).state events) later
+    (rw own (flag_stays_long (next state event).state events event.hart.number never (sets_flag state event cause back)))

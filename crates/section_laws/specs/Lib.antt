@@ -1,0 +1,5 @@
+pub mod Coherence
+pub mod Waiting
+pub mod EachHart
+pub mod Laws
+pub mod Sections

@@ -1,0 +1,90 @@
+ghost use Rattle.section_laws.specs.Laws.{
+  CopiesAreCoherent,
+  CountersStayInRange,
+  EachHartWaitsForOne,
+  OneOrderedRequestEach,
+  OnlyLiveSectionsHaveBits,
+  RequestsAreNumbered,
+  TriesStayBelowFour,
+  WrittenLinesAreElsewhereInNoCache,
+  WrittenLinesMayBeWritten,
+};
+ghost use Rattle.section_laws.specs.Sections.{
+  BegunSectionsAreAccountedFor,
+  NoneBeginsAfterRollback,
+  SectionStepsAreOfFiveKinds,
+};
+
+/// In every state that can be reached, a hart without a live section has no access bit.
+#[tactic(auto, using(crate::proofs::OnlyInside::only_live_sections_have_bits))]
+pub fn only_live_sections_have_bits()
+    ensures { OnlyLiveSectionsHaveBits }
+{}
+
+/// In every state that can be reached, each hart has lost fewer than four sections in a row.
+#[tactic(auto, using(crate::proofs::TriesLeft::tries_stay_below_four))]
+pub fn tries_stay_below_four()
+    ensures { TriesStayBelowFour }
+{}
+
+/// In every state that can be reached, each hart's predictor has 64 counters, each from 0 to 3.
+
+pub fn counters_stay_in_range()
+    ensures { CountersStayInRange }
+{}
+
+/// In every state that can be reached, a hart has at most one of a raised request, an ordered request and a hold,
+/// and a raised request names its own hart. A hart that holds a line has no live section; one that has stopped has
+/// nothing of all that.
+#[tactic(auto, using(crate::proofs::Numbered::each_hart_waits_for_one))]
+pub fn each_hart_waits_for_one()
+    ensures { EachHartWaitsForOne }
+{}
+
+/// In every state that can be reached, no two requests in order are of one hart.
+pub fn one_ordered_request_each()
+    ensures { OneOrderedRequestEach }
+{}
+
+/// From a program with as many harts as its configuration has, where that is in range, in every state that can be
+/// reached there are at most eight harts, and each request is of a hart from 0 to 7.
+pub fn requests_are_numbered()
+    ensures { RequestsAreNumbered }
+{}
+
+/// In every state that can be reached, a step of a hart with a live section waits for its request, misses a line,
+/// buffers an instruction, commits or rolls back.
+#[tactic(auto, using(crate::proofs::SectionSteps::section_steps_are_of_five_kinds))]
+pub fn section_steps_are_of_five_kinds()
+    ensures { SectionStepsAreOfFiveKinds }
+{}
+
+/// After a hart has rolled its section back itself, it begins no section until it has run a candidate for an
+/// acquire outside of a section, whatever the events.
+#[tactic(auto, using(crate::proofs::SectionSteps::none_begins_after_rollback))]
+pub fn none_begins_after_rollback()
+    ensures { NoneBeginsAfterRollback }
+{}
+
+/// From a program with as many harts as its configuration has, where that is in range, the sections that a hart
+/// began are as many as those that it committed, those that it rolled back, and the events with it among their
+/// losers, and one more where it has a live section.
+pub fn begun_sections_are_accounted_for()
+    ensures { BegunSectionsAreAccountedFor }
+{}
+
+/// In every state that can be reached, a line that is M or E in one hart's cache is in no other, and no line is O
+/// in two.
+pub fn copies_are_coherent()
+    ensures { CopiesAreCoherent }
+{}
+
+/// In every state that can be reached, a line that a live section has written is M or E in its hart's cache.
+pub fn written_lines_may_be_written()
+    ensures { WrittenLinesMayBeWritten }
+{}
+
+/// In every state that can be reached, a line that a live section has written is in no other hart's cache.
+pub fn written_lines_are_elsewhere_in_no_cache()
+    ensures { WrittenLinesAreElsewhereInNoCache }
+{}

@@ -1,0 +1,19 @@
+//! Laws of the machine's definition: what holds of every state that can be reached, whatever the events, in every
+//! mode, and what becomes of the sections that begin.
+//!
+//! It stands on the definition in `el_model` alone, and no machine's code is spoken of here. The functions of this
+//! crate do nothing; each says one law, as its contract. The laws are words of `specs/`; an invariant is proved in
+//! a file of `proofs/` named for it, as what each deed of a hart and each event of the bus keeps.
+//!
+//! The ideas are those of R. Rajwar and J. R. Goodman, 'Speculative Lock Elision', MICRO 2001, and
+//! 'Transactional Lock-Free Execution of Lock-Based Programs', ASPLOS 2002; the rules are this project's profile.
+#![tactic(auto)]
+
+mod laws;
+
+pub use laws::{
+    begun_sections_are_accounted_for, copies_are_coherent, counters_stay_in_range,
+    each_hart_waits_for_one, none_begins_after_rollback, one_ordered_request_each,
+    only_live_sections_have_bits, requests_are_numbered, section_steps_are_of_five_kinds,
+    tries_stay_below_four, written_lines_are_elsewhere_in_no_cache, written_lines_may_be_written,
+};

@@ -14,6 +14,7 @@ absent_letter cached line letter kept is = by (way_of cached.residency line) ref
   where
     not_both : (b : Bool) → b ≡ false → b ≡ true → ⊥
     not_both b first second = absurd (cc)
+
     by : (found : Option Way) → way_of cached.residency line ≡ found → (letter ≡ I) ↔ (is_resident cached.residency line ≡ false)
     by None none = (λ absent. ap is_some none, λ absent. is ∙ ap letter_in none)
     by (Some way) some = (

@@ -1,4 +1,4 @@
--- The lines of refusals and of reports, computed.
+-- The lines of refusals and of a written image, computed.
 use Rattle.std.proofs.Common.{◌≡◌, ◌++◌, [], ◌∷◌, true, false, None, refl}
 use Rattle.std.specs.Prelude.{codes, replicate}
 use Rattle.std.specs.Fmt.{digits}
@@ -9,7 +9,6 @@ use Rattle.rv_alu.specs.declared.view.HartView.{HartView}
 use Rattle.tool.specs.declared.refusal.Refusal.TheVariants.{Usage, Config, TooBig, Image, Trace}
 use Rattle.tool.specs.Messages.{config_fault_text, line_of, newline, written_line}
 use Rattle.tool.specs.Ending.{all_succeeded}
-use Rattle.tool.specs.Report.{first_line, last_line}
 
 usage : line_of Usage ≡ codes "usage: elide run IMAGE [options], elide replay IMAGE TRACE, elide gen KIND NUMBER FILE" ++ newline
 unfolding line_of
@@ -54,15 +53,6 @@ trace_with_a_byte_more = refl
 image_of_9496_bytes : written_line 9496 ≡ codes "wrote 9496 bytes" ++ newline
 unfolding digits
 image_of_9496_bytes = refl
-
--- one hart that writes `A` and a newline and exits: nine instructions in 33 events
-first_of_a_report : first_line 1 33 ≡ codes "elide plain harts 1 events 33" ++ newline
-unfolding digits
-first_of_a_report = refl
-
-last_of_a_report : last_line 9 2 ≡ codes "serial 9 out 2" ++ newline
-unfolding digits
-last_of_a_report = refl
 
 hart_that : HartStatus → HartView
 hart_that status = record { pc = 0x10000; regs = replicate 32 0; reserved = None; status = status }

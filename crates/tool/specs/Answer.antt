@@ -11,7 +11,7 @@ use Rattle.tool.specs.declared.status.Status.{Status}
 use Rattle.tool.specs.declared.status.Status.TheVariants.{Done, Refused}
 use Rattle.tool.specs.Ending.{ending}
 use Rattle.tool.specs.Messages.{line_of, written_line}
-use Rattle.tool.specs.Report.{report_of}
+use Rattle.report.specs.Text.{report_of}
 
 -- a file that the program writes
 pub record WrittenFile : Type 0 where

@@ -2,7 +2,6 @@ pub mod Statuses
 pub mod Messages
 pub mod Refusals
 pub mod Ending
-pub mod Report
 pub mod Answer
 pub mod Jobs
 pub mod Stopping

@@ -1,10 +1,10 @@
 //! The top call: the words of a command line, done over a shelf of files and two sinks.
 //!
 //! It stands on the devices of `el_io`, the words of `command_line`, the images of `elf_image` and of
-//! `workload`, the machine with its drivers, and the traces of `trace_file`. `specs/Answer.antt` says
-//! what the program answers to its words over its files, and [`tool`] promises that exactly this is put
-//! and written. `doing` makes what the words ask for, a run that has ended or an image, `telling` puts
-//! and writes it, `report` has what a run says of itself, and `refusal` has every line of a refusal.
+//! `workload`, the machine with its drivers, the traces of `trace_file` and the text of `report`.
+//! `specs/Answer.antt` says what the program answers to its words over its files, and [`tool`] promises
+//! that exactly this is put and written. `doing` makes what the words ask for, a run that has ended or
+//! an image, `telling` puts and writes it, and `refusal` has every line of a refusal.
 //!
 //! Where a doc comment names no other source, its rule is this project's profile.
 #![tactic(auto)]
@@ -14,7 +14,6 @@ mod ending;
 mod laws;
 mod made;
 mod refusal;
-mod report;
 mod status;
 mod stop;
 mod telling;

@@ -12,11 +12,11 @@ ghost use Rattle.tool.specs.Telling.{Only};
 use crate::ending::ending;
 use crate::made::Made;
 use crate::refusal::Refusal;
-use crate::report::report;
 use crate::status::Status;
 use crate::stop::Fault;
 use el_io::{Shelf, Sink, put_all};
 use machine::Machine;
+use report::write_report;
 use std::alloc::{AllocError, Global};
 use trace_file::write_trace;
 
@@ -59,10 +59,9 @@ fn tell_run<S: Shelf, O: Sink, E: Sink>(
         (record { shelf = S.failures shelf.old; out = O.faults out.old; err = E.faults err.old })
         (record { shelf = S.failures shelf.new; out = O.faults out.new; err = E.faults err.new }) }
 {
-    let report = report(alloc, machine)?;
     put_all(out, machine.output())?;
     write_where_named(alloc, machine, trace, shelf)?;
-    put_all(err, report.as_bytes())?;
+    write_report(err, machine)?;
     Ok(ending(machine))
 }
 

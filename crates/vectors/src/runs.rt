@@ -1,5 +1,5 @@
 //! Runs that end by themselves, or at their last step.
-use crate::support::{HELLO, REPORT, answer, changed, image_of};
+use crate::support::{HELLO, REPORT, answer, changed, image_of, report_of};
 use std::test::Fail;
 
 // Each hart exits with its number: addi a7, x0, 93; ecall.
@@ -27,36 +27,66 @@ const LOOPS: [u32; 1] = [0x0000_006f];
 
 #[test]
 fn the_worked_image_prints_and_exits(rt: HostRuntime) -> Result<(), Fail> {
-    let rows: [(&[&str], u8, &str, &str); 7] = [
-        (&["run", "a"], 0, "A\n", REPORT),
-        (&["run", "a", "--steps", "33"], 0, "A\n", REPORT),
+    let rows: [(&[&str], u8, &str, &str, &[(u32, &str)], &str); 7] = [
+        (
+            &["run", "a"],
+            0,
+            "A\n",
+            "elide plain harts 1 events 33",
+            &[(9, "exit 0")],
+            "serial 9 out 2",
+        ),
+        (
+            &["run", "a", "--steps", "33"],
+            0,
+            "A\n",
+            "elide plain harts 1 events 33",
+            &[(9, "exit 0")],
+            "serial 9 out 2",
+        ),
         (
             &["run", "a", "--steps", "32"],
             3,
             "A\n",
-            "elide plain harts 1 events 32\nserial 8 out 2\n",
+            "elide plain harts 1 events 32",
+            &[(8, "running")],
+            "serial 8 out 2",
         ),
         (
             &["run", "a", "--steps", "1"],
             3,
             "",
-            "elide plain harts 1 events 1\nserial 1 out 0\n",
+            "elide plain harts 1 events 1",
+            &[(1, "running")],
+            "serial 1 out 0",
         ),
-        (&["run", "a", "--harts", "01"], 0, "A\n", REPORT),
+        (
+            &["run", "a", "--harts", "01"],
+            0,
+            "A\n",
+            "elide plain harts 1 events 33",
+            &[(9, "exit 0")],
+            "serial 9 out 2",
+        ),
         (
             &["run", "a", "--harts", "2"],
             0,
             "A\nA\n",
-            "elide plain harts 2 events 69\nserial 18 out 4\n",
+            "elide plain harts 2 events 69",
+            &[(9, "exit 0"), (9, "exit 0")],
+            "serial 18 out 4",
         ),
         (
             &["run", "a", "--steps", "16777216", "--harts", "1"],
             0,
             "A\n",
-            REPORT,
+            "elide plain harts 1 events 33",
+            &[(9, "exit 0")],
+            "serial 9 out 2",
         ),
     ];
-    for (words, number, out, err) in rows {
+    for (words, number, out, first, harts, last) in rows {
+        let err = report_of(rt.alloc(), first, harts, last)?;
         let ending = answer(&rt, words, &HELLO, &[])?;
         assert_eq!(rt; ending.status.number(), number, "{words:?}");
         assert_eq!(rt; ending.out.as_slice(), out.as_bytes(), "{words:?}");
@@ -77,51 +107,77 @@ fn total_store_order_is_no_fault(rt: HostRuntime) -> Result<(), Fail> {
 
 #[test]
 fn programs_end_as_their_harts_do(rt: HostRuntime) -> Result<(), Fail> {
-    let rows: [(&[u32], &str, u8, &[u8], &str); 6] = [
+    let rows: [(&[u32], &str, u8, &[u8], &str, &[(u32, &str)], &str); 6] = [
         (
             &EXITS_WITH_ITS_NUMBER,
             "1",
             0,
             &[],
-            "elide plain harts 1 events 5\nserial 2 out 0\n",
+            "elide plain harts 1 events 5",
+            &[(2, "exit 0")],
+            "serial 2 out 0",
         ),
         (
             &EXITS_WITH_ITS_NUMBER,
             "8",
             1,
             &[],
-            "elide plain harts 8 events 61\nserial 16 out 0\n",
+            "elide plain harts 8 events 61",
+            &[
+                (2, "exit 0"),
+                (2, "exit 1"),
+                (2, "exit 2"),
+                (2, "exit 3"),
+                (2, "exit 4"),
+                (2, "exit 5"),
+                (2, "exit 6"),
+                (2, "exit 7"),
+            ],
+            "serial 16 out 0",
         ),
         (
             &WRITES_OVER_A_LINE,
             "1",
             1,
             &[0, 0, 0, 0, 0, 0, 0, 0, 1, 0],
-            "elide plain harts 1 events 29\nserial 8 out 10\n",
+            "elide plain harts 1 events 29",
+            &[(8, "exit 10")],
+            "serial 8 out 10",
         ),
         (
             &LOADS_MISALIGNED,
             "1",
             1,
             &[],
-            "elide plain harts 1 events 1\nserial 1 out 0\n",
+            "elide plain harts 1 events 1",
+            &[(1, "trap 4 at 00010054")],
+            "serial 1 out 0",
         ),
         (
             &LOOPS,
             "1",
             3,
             &[],
-            "elide plain harts 1 events 4000000\nserial 1000000 out 0\n",
+            "elide plain harts 1 events 4000000",
+            &[(1000000, "running")],
+            "serial 1000000 out 0",
         ),
         (
             &LOOPS,
             "3",
             3,
             &[],
-            "elide plain harts 3 events 4000000\nserial 1000000 out 0\n",
+            "elide plain harts 3 events 4000000",
+            &[
+                (333334, "running"),
+                (333333, "running"),
+                (333333, "running"),
+            ],
+            "serial 1000000 out 0",
         ),
     ];
-    for (code, harts, number, out, err) in rows {
+    for (code, harts, number, out, first, stands, last) in rows {
+        let err = report_of(rt.alloc(), first, stands, last)?;
         let image = image_of(rt.alloc(), code)?;
         let ending = answer(&rt, &["run", "a", "--harts", harts], &image, &[])?;
         assert_eq!(rt; ending.status.number(), number, "{code:?} on {harts}");

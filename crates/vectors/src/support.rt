@@ -26,7 +26,29 @@ pub const TRACE: [u8; 55] = [
 ];
 
 /// What `err` takes of a run of it to its end.
-pub const REPORT: &str = "elide plain harts 1 events 33\nserial 9 out 2\n";
+pub const REPORT: &str = "elide plain harts 1 events 33\n\
+hart 0 ran 9 began 0 committed 0 instr 0 conflict 0 room 0 lines 0 long 0 call 0 mixed 0 missed 0 stalled 0 blocked 0 exit 0\n\
+serial 9 out 2\n";
+
+/// What a report says of each hart between the number of its instructions and its status, where there
+/// are neither caches nor sections.
+const NOTHING_ELSE: &str =
+    "began 0 committed 0 instr 0 conflict 0 room 0 lines 0 long 0 call 0 mixed 0 missed 0 stalled 0 blocked 0";
+
+/// A report of these first and last lines, and of harts with so many instructions and such a status.
+pub fn report_of(
+    alloc: Global,
+    first: &str,
+    harts: &[(u32, &str)],
+    last: &str,
+) -> Result<String, AllocError> {
+    let mut text = format!(in alloc; "{first}\n")?;
+    for (number, (ran, status)) in harts.iter().enumerate() {
+        writeln!(text, "hart {number} ran {ran} {NOTHING_ELSE} {status}")?;
+    }
+    writeln!(text, "{last}")?;
+    Ok(text)
+}
 
 pub const USAGE: &str =
     "usage: elide run IMAGE [options], elide replay IMAGE TRACE, elide gen KIND NUMBER FILE\n";

@@ -1,5 +1,5 @@
 //! Traces that are written, and played again.
-use crate::support::{HELLO, REPORT, TRACE, answer, changed};
+use crate::support::{HELLO, REPORT, TRACE, answer, changed, report_of};
 use std::test::Fail;
 
 #[test]
@@ -21,11 +21,24 @@ fn a_run_writes_its_trace_and_its_replay_is_the_same(rt: HostRuntime) -> Result<
 fn a_replay_ends_where_its_trace_does(rt: HostRuntime) -> Result<(), Fail> {
     let mut short = changed(rt.alloc(), &TRACE, 18, 32)?;
     short.truncate(54);
-    let rows: [(&[u8], u8, &str); 2] = [
-        (&TRACE, 0, REPORT),
-        (&short, 3, "elide plain harts 1 events 32\nserial 8 out 2\n"),
+    let rows: [(&[u8], u8, &str, (u32, &str), &str); 2] = [
+        (
+            &TRACE,
+            0,
+            "elide plain harts 1 events 33",
+            (9, "exit 0"),
+            "serial 9 out 2",
+        ),
+        (
+            &short,
+            3,
+            "elide plain harts 1 events 32",
+            (8, "running"),
+            "serial 8 out 2",
+        ),
     ];
-    for (trace, number, report) in rows {
+    for (trace, number, first, hart, last) in rows {
+        let report = report_of(rt.alloc(), first, &[hart], last)?;
         let played = answer(&rt, &["replay", "a", "t"], &HELLO, trace)?;
         assert_eq!(rt; played.status.number(), number, "{report}");
         assert_eq!(rt; played.out.as_slice(), b"A\n".as_slice(), "{report}");

@@ -17,9 +17,11 @@ abbrev first : ModelState
 first =
     machine_of (settings 2 Sle 16 4 16 2000) 64 (
     record { words = swap 7 5 10 ∷ []; registers = usual } ∷
-    record { words = 
-      store_beyond 4 6 10 ∷ store_beyond 4 6 10 ∷ store_beyond 4 6 10 ∷ store_beyond 4 6 10 ∷ []
-    ; registers = usual } ∷ [])
+    record {
+      words =
+          store_beyond 4 6 10 ∷ store_beyond 4 6 10 ∷ store_beyond 4 6 10 ∷ store_beyond 4 6 10 ∷ [];
+      registers = usual;
+    } ∷ [])
 
 abbrev events : List Event
 events =

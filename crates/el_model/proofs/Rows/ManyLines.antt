@@ -18,13 +18,15 @@ use Rattle.el_model.specs.State.{ModelState}
 abbrev large : ModelState
 large =
     machine_of (settings 1 Tlr 16 4 16 2000) 1280 (
-    record { words = 
-      swap 7 5 10 ∷ store_beyond 0 6 11 ∷ store_beyond 64 6 11 ∷ store_beyond 128 6 11 ∷ store_beyond 192 6 11 ∷
-      store_beyond 256 6 11 ∷ store_beyond 320 6 11 ∷ store_beyond 384 6 11 ∷ store_beyond 448 6 11 ∷
-      store_beyond 512 6 11 ∷ store_beyond 576 6 11 ∷ store_beyond 640 6 11 ∷ store_beyond 704 6 11 ∷
-      store_beyond 768 6 11 ∷ store_beyond 832 6 11 ∷ store_beyond 896 6 11 ∷ store_beyond 960 6 11 ∷
-      store_beyond 1024 6 11 ∷ []
-    ; registers = usual } ∷ [])
+    record {
+      words =
+          swap 7 5 10 ∷ store_beyond 0 6 11 ∷ store_beyond 64 6 11 ∷ store_beyond 128 6 11 ∷ store_beyond 192 6 11 ∷
+          store_beyond 256 6 11 ∷ store_beyond 320 6 11 ∷ store_beyond 384 6 11 ∷ store_beyond 448 6 11 ∷
+          store_beyond 512 6 11 ∷ store_beyond 576 6 11 ∷ store_beyond 640 6 11 ∷ store_beyond 704 6 11 ∷
+          store_beyond 768 6 11 ∷ store_beyond 832 6 11 ∷ store_beyond 896 6 11 ∷ store_beyond 960 6 11 ∷
+          store_beyond 1024 6 11 ∷ [];
+      registers = usual;
+    } ∷ [])
 
 abbrev large_events : List Event
 large_events =
@@ -65,13 +67,15 @@ large_outcomes = refl
 abbrev fits : ModelState
 fits =
     machine_of (settings 1 Sle 16 4 16 2000) 1280 (
-    record { words = 
-      swap 7 5 10 ∷ store_beyond 0 6 11 ∷ store_beyond 64 6 11 ∷ store_beyond 128 6 11 ∷ store_beyond 192 6 11 ∷
-      store_beyond 256 6 11 ∷ store_beyond 320 6 11 ∷ store_beyond 384 6 11 ∷ store_beyond 448 6 11 ∷
-      store_beyond 512 6 11 ∷ store_beyond 576 6 11 ∷ store_beyond 640 6 11 ∷ store_beyond 704 6 11 ∷
-      store_beyond 768 6 11 ∷ store_beyond 832 6 11 ∷ store_beyond 896 6 11 ∷ store_beyond 960 6 11 ∷
-      store_word 0 10 ∷ []
-    ; registers = usual } ∷ [])
+    record {
+      words =
+          swap 7 5 10 ∷ store_beyond 0 6 11 ∷ store_beyond 64 6 11 ∷ store_beyond 128 6 11 ∷ store_beyond 192 6 11 ∷
+          store_beyond 256 6 11 ∷ store_beyond 320 6 11 ∷ store_beyond 384 6 11 ∷ store_beyond 448 6 11 ∷
+          store_beyond 512 6 11 ∷ store_beyond 576 6 11 ∷ store_beyond 640 6 11 ∷ store_beyond 704 6 11 ∷
+          store_beyond 768 6 11 ∷ store_beyond 832 6 11 ∷ store_beyond 896 6 11 ∷ store_beyond 960 6 11 ∷
+          store_word 0 10 ∷ [];
+      registers = usual;
+    } ∷ [])
 
 abbrev fits_events : List Event
 fits_events =

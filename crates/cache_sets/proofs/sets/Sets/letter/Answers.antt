@@ -10,8 +10,8 @@ pub returns-in-Some : goal.returns-in-Some
 returns-in-Some c =
     let i = c.self.inside in
     let is =
-        sym (ap letter_in (way_found i.ways i.sets.items c.as_slice.result.now i.rows.items c.args.self.now c.args.line.number (Some c.in-Some.way)
-        c.self.view_is c.as_slice.ensures.value c.in-Some.ensures)) in
+    sym (ap letter_in (way_found i.ways i.sets.items c.as_slice.result.now i.rows.items c.args.self.now c.args.line.number (Some c.in-Some.way)
+    c.self.view_is c.as_slice.ensures.value c.in-Some.ensures)) in
     record {
       exact = is;
       absent_exactly =
@@ -23,8 +23,8 @@ pub returns-in-None : goal.returns-in-None
 returns-in-None c =
     let i = c.self.inside in
     let is =
-        sym (ap letter_in (way_found i.ways i.sets.items c.as_slice.result.now i.rows.items c.args.self.now c.args.line.number None
-        c.self.view_is c.as_slice.ensures.value c.in-None.ensures)) in
+    sym (ap letter_in (way_found i.ways i.sets.items c.as_slice.result.now i.rows.items c.args.self.now c.args.line.number None
+    c.self.view_is c.as_slice.ensures.value c.in-None.ensures)) in
     record {
       exact = is;
       absent_exactly =

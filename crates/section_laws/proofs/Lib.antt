@@ -15,3 +15,4 @@ pub mod OnlyInside
 pub mod Coherence
 pub mod TriesLeft
 pub mod Counters
+pub mod OnceEach

@@ -186,10 +186,10 @@ order_sound state h request place sound raised =
     let mine : raised_of state request.hart ≡ Some request = ap (raised_of state) own ∙ raised in
     let hart = hart_of state request.hart in
     let before =
-        subst (λ o. WaitsForOne request.hart (status request.hart) o hart.section (Some request) hart.held)
-        (free_of_order state request.hart request sound mine)
-        (subst (λ r. WaitsForOne request.hart (status request.hart) (ordered_of state request.hart) hart.section r hart.held) mine
-        (sound request.hart)) in
+    subst (λ o. WaitsForOne request.hart (status request.hart) o hart.section (Some request) hart.held)
+    (free_of_order state request.hart request sound mine)
+    (subst (λ r. WaitsForOne request.hart (status request.hart) (ordered_of state request.hart) hart.section r hart.held) mine
+    (sound request.hart)) in
     let each =
     placed_keeps (moves status ordered) state request place
     (each_but (Waiting status ordered) state request.hart (record (hart_of state request.hart) { raised = None })

@@ -12,6 +12,7 @@ use Rattle.el_model.specs.State.{ModelState, cache_of, hart_of, ordered_of, sect
 use Rattle.rv_flat.specs.FlatState.{status_of}
 use Rattle.section_laws.specs.Coherence.{AreCoherent, AreOwned}
 use Rattle.section_laws.specs.EachHart.{AreCounters, HasBitsOnlyInside, HasTriesLeft}
+use Rattle.section_laws.specs.Once.{AreOnce}
 use Rattle.section_laws.specs.Waiting.{WaitsForOne}
 
 -- what is said of a state holds of each that can be reached
@@ -62,3 +63,7 @@ abbrev pub WrittenLinesAreElsewhereInNoCache : Type 0
 WrittenLinesAreElsewhereInNoCache =
     Always (λ state.
     (g h line : ℕ) → g ≢ h → write_bit (cache_of state g) line ≡ true → way_of (cache_of state h) line ≡ None)
+
+-- no set of a cache has a line twice
+abbrev pub NoSetHasALineTwice : Type 0
+NoSetHasALineTwice = Always (λ state. (h : ℕ) → AreOnce (cache_of state h))

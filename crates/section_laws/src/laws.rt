@@ -2,6 +2,7 @@ ghost use Rattle.section_laws.specs.Laws.{
   CopiesAreCoherent,
   CountersStayInRange,
   EachHartWaitsForOne,
+  NoSetHasALineTwice,
   OneOrderedRequestEach,
   OnlyLiveSectionsHaveBits,
   RequestsAreNumbered,
@@ -87,4 +88,9 @@ pub fn written_lines_may_be_written()
 /// In every state that can be reached, a line that a live section has written is in no other hart's cache.
 pub fn written_lines_are_elsewhere_in_no_cache()
     ensures { WrittenLinesAreElsewhereInNoCache }
+{}
+
+/// In every state that can be reached, no set of a cache has a line twice.
+pub fn no_set_has_a_line_twice()
+    ensures { NoSetHasALineTwice }
 {}

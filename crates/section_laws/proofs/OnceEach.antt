@@ -1,9 +1,9 @@
 -- no set of a cache has a line twice
-use Rattle.std.proofs.Common.{◌≡◌, ◌≢◌, ◌∙◌, ◌==◌, ℕ, zero, suc, Bool, true, false, List, [], ◌∷◌, Option, None, Some, is_some, map, replicate, refl, ap, sym, arith, if◌then◌else◌}
+use Rattle.std.proofs.Common.{◌≡◌, ◌∙◌, ◌==◌, ℕ, zero, suc, Bool, true, false, List, [], ◌∷◌, Option, None, Some, is_some, map, refl, ap, sym, if◌then◌else◌}
 use Rattle.std.specs.Prelude.{slice_index_or, slice_set}
 use Rattle.bus_order.specs.Order.{Request}
-use Rattle.cache_sets.specs.Cache.{cleared, committed, committed_way, empty_cache, filled_with, is_resident, lettered, marked, set_number, set_of, touched, way_of, with_set, without_line}
-use Rattle.cache_sets.specs.Residency.{Way, changed_in, dropped, evicted_in, filled_in, left_in, to_front, touched_in, way_in, with_bit, with_letter, without_bits}
+use Rattle.cache_sets.specs.Cache.{committed_way, empty_cache, filled_with, is_resident, lettered, marked, set_number, set_of, touched, way_of, with_set, without_line}
+use Rattle.cache_sets.specs.Residency.{Way, changed_in, dropped, evicted_in, left_in, to_front, touched_in, way_in, with_bit, with_letter, without_bits}
 use Rattle.cache_sets.proofs.ResidencyLemmas.{way_in-dropped_same}
 use Rattle.cache_sets.proofs.CacheLemmas.{line-with_bit}
 use Rattle.bus_order.proofs.LookUps.{number_of_test}

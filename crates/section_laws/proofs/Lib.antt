@@ -16,3 +16,4 @@ pub mod Coherence
 pub mod TriesLeft
 pub mod Counters
 pub mod OnceEach
+pub mod SerialLength

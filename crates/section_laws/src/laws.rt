@@ -14,6 +14,7 @@ ghost use Rattle.section_laws.specs.Sections.{
   BegunSectionsAreAccountedFor,
   NoneBeginsAfterRollback,
   SectionStepsAreOfFiveKinds,
+  SerialOrderIsNoLonger,
 };
 
 /// In every state that can be reached, a hart without a live section has no access bit.
@@ -93,4 +94,10 @@ pub fn written_lines_are_elsewhere_in_no_cache()
 /// In every state that can be reached, no set of a cache has a line twice.
 pub fn no_set_has_a_line_twice()
     ensures { NoSetHasALineTwice }
+{}
+
+/// The serial order of a history is no longer than the history: no more instructions take effect than there were
+/// events.
+pub fn serial_order_is_no_longer()
+    ensures { SerialOrderIsNoLonger }
 {}

@@ -1,5 +1,5 @@
 -- a serial order is no longer than its history: each instruction of a section had an event of its own
-use Rattle.std.proofs.Common.{◌≡◌, ◌≢◌, ◌∙◌, ◌≤◌, ◌+◌, ℕ, zero, suc, Bool, true, false, List, [], ◌∷◌, ◌++◌, Option, None, Some, is_some, length, replicate, refl, ap, sym, arith}
+use Rattle.std.proofs.Common.{◌≡◌, ◌≢◌, ◌≤◌, ◌+◌, ℕ, zero, suc, Bool, true, false, List, [], ◌∷◌, Option, None, Some, is_some, length, replicate, refl, ap, arith}
 use Rattle.std.specs.Prelude.{slice_index_or, slice_set}
 use Rattle.std.proofs.lemmas.List.{length-append, length-replicate}
 use Rattle.bus_order.specs.Order.{Request}
@@ -9,7 +9,7 @@ use Rattle.el_base.specs.declared.events.Event.{Event}
 use Rattle.el_base.specs.declared.events.Kind.{Kind}
 use Rattle.el_base.specs.declared.events.Kind.TheVariants as kinds
 use Rattle.elf_image.specs.Program.{Program}
-use Rattle.el_model.specs.Deed.{Begins, Buffers, Commits, Deed, DoesWhere, Misses, Rests, RollsBack, Runs, Waits, done, hart_after, outcome_of}
+use Rattle.el_model.specs.Deed.{Begins, Buffers, Commits, Deed, DoesWhere, Misses, Rests, RollsBack, Runs, Waits, hart_after, outcome_of}
 use Rattle.el_model.specs.Next.{entries_from, kind_turn, next, state_after, step_turn}
 use Rattle.el_model.specs.Plain.{after_candidate, candidate_of}
 use Rattle.el_model.specs.Serve.{with_claim}
@@ -19,7 +19,6 @@ use Rattle.el_model.proofs.Deeds.{step_deed}
 use Rattle.el_model.proofs.Turns.{Calm, deliver_calm, order_calm, serve_calm}
 use Rattle.section_laws.specs.Sections.{SerialOrderIsNoLonger}
 use Rattle.section_laws.proofs.EachKept.{BusKept, bus_keeps}
-use Rattle.section_laws.proofs.Waiting.{is_rolled}
 
 -- the instructions of live sections
 abbrev run_in : Option Section → ℕ

@@ -23,7 +23,7 @@ Always P = (program : Program) (config : Config) (events : List Event) → P (af
 abbrev pub OnlyLiveSectionsHaveBits : Type 0
 OnlyLiveSectionsHaveBits = Always (λ state. (h : ℕ) → HasBitsOnlyInside (section_of state h) (cache_of state h))
 
--- fewer than four sections are lost in a row before the lock is taken
+-- the count of sections lost in a row stays below four
 abbrev pub TriesStayBelowFour : Type 0
 TriesStayBelowFour = Always (λ state. (h : ℕ) → HasTriesLeft (hart_of state h).tries)
 

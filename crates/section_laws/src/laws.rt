@@ -23,7 +23,8 @@ pub fn only_live_sections_have_bits()
     ensures { OnlyLiveSectionsHaveBits }
 {}
 
-/// In every state that can be reached, each hart has lost fewer than four sections in a row.
+/// In every state that can be reached, each hart's count of sections lost in a row is below four. Lock removal does
+/// not count them.
 #[tactic(auto, using(crate::proofs::TriesLeft::tries_stay_below_four))]
 pub fn tries_stay_below_four()
     ensures { TriesStayBelowFour }

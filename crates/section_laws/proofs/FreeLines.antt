@@ -110,6 +110,9 @@ not_met true true meets none is lives = none
 not_met false live meets none is lives = absurd (cc)
 not_met true false meets none is lives = absurd (cc)
 
+from_none : (g : ℕ) → g ≡ 0 + g
+from_none g = omega arith
+
 pub free_line : (state : ModelState) (h g : ℕ) (request : Request) → IsOneEach state.order →
     ((k : ℕ) → HasBitsOnlyInside (section_of state k) (cache_of state k)) → ordered_of state h ≡ Some request →
     obstacle_to state request ≡ Free → g ≢ request.hart → request.need ≡ Read → NotWritten (way_of (cache_of state g) request.line)
@@ -121,7 +124,7 @@ free_line state h g request once outside is free apart read = by_section (sectio
         let own = not_blocked _ (other_head request.hart (head_of state request.line)) _ free in
         let head = head_is state h request (head_of state request.line) once is refl own in
         let retained : retainer_of state request.line ≡ None = not_blocked _ (retainer_of state request.line) _ (blocked_else _ _ _ free) in
-        let kept = none_such (λ k. retains state k request.line) 0 g g state.harts retained (live_exists state g section live) (omega arith) in
+        let kept = none_such (λ k. retains state k request.line) 0 g g state.harts retained (live_exists state g section live) (from_none g) in
         let apart_test = ap not (other_test request.hart g (λ same. apart (sym same))) in
         let unmet = sym (ap (λ found. conflicts_with found g (hart_of state g)) head) ∙ kept in
         let bit = not_met (not (request.hart == g)) (is_some (section_of state g)) (meets_bit (hart_of state g) request.line request.need) unmet apart_test

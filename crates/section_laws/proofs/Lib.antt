@@ -15,3 +15,5 @@ pub mod OnlyInside
 pub mod Coherence
 pub mod TriesLeft
 pub mod Counters
+pub mod OnceEach
+pub mod SerialLength

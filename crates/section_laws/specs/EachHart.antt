@@ -9,7 +9,7 @@ use Rattle.el_model.specs.State.{Section}
 abbrev pub HasBitsOnlyInside : Option Section → List (List Way) → Type 0
 HasBitsOnlyInside section cache = section ≡ None → has_marks cache ≡ false
 
--- fewer sections were lost in a row than may be
+-- the count of sections lost in a row is below the most that may be; lock removal does not count them
 abbrev pub HasTriesLeft : ℕ → Type 0
 HasTriesLeft tries = tries < most_tries
 

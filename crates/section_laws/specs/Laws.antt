@@ -12,6 +12,7 @@ use Rattle.el_model.specs.State.{ModelState, cache_of, hart_of, ordered_of, sect
 use Rattle.rv_flat.specs.FlatState.{status_of}
 use Rattle.section_laws.specs.Coherence.{AreCoherent, AreOwned}
 use Rattle.section_laws.specs.EachHart.{AreCounters, HasBitsOnlyInside, HasTriesLeft}
+use Rattle.section_laws.specs.Once.{AreOnce}
 use Rattle.section_laws.specs.Waiting.{WaitsForOne}
 
 -- what is said of a state holds of each that can be reached
@@ -22,7 +23,7 @@ Always P = (program : Program) (config : Config) (events : List Event) → P (af
 abbrev pub OnlyLiveSectionsHaveBits : Type 0
 OnlyLiveSectionsHaveBits = Always (λ state. (h : ℕ) → HasBitsOnlyInside (section_of state h) (cache_of state h))
 
--- fewer than four sections are lost in a row before the lock is taken
+-- the count of sections lost in a row stays below four
 abbrev pub TriesStayBelowFour : Type 0
 TriesStayBelowFour = Always (λ state. (h : ℕ) → HasTriesLeft (hart_of state h).tries)
 
@@ -62,3 +63,7 @@ abbrev pub WrittenLinesAreElsewhereInNoCache : Type 0
 WrittenLinesAreElsewhereInNoCache =
     Always (λ state.
     (g h line : ℕ) → g ≢ h → write_bit (cache_of state g) line ≡ true → way_of (cache_of state h) line ≡ None)
+
+-- no set of a cache has a line twice
+abbrev pub NoSetHasALineTwice : Type 0
+NoSetHasALineTwice = Always (λ state. (h : ℕ) → AreOnce (cache_of state h))

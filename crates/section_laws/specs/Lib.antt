@@ -1,3 +1,4 @@
+pub mod Once
 pub mod Coherence
 pub mod Waiting
 pub mod EachHart

@@ -1,5 +1,6 @@
 -- what becomes of sections, as it is told
-use Rattle.std.specs.Prelude.{ℕ, ◌≡◌, ◌≢◌, ◌==◌, ◌&&◌, ◌+◌, Bool, true, false, List, [], ◌∷◌, is_some, if◌then◌else◌}
+use Rattle.std.specs.Prelude.{ℕ, ◌≡◌, ◌≢◌, ◌==◌, ◌&&◌, ◌+◌, Bool, true, false, List, [], ◌∷◌, is_some, length, ◌≤◌, if◌then◌else◌}
+use Rattle.chronicle.specs.Serial.{serial}
 use Rattle.el_base.specs.Config.{IsInRange}
 use Rattle.el_base.specs.declared.config.Config.{Config}
 use Rattle.el_base.specs.declared.entries.Entry.{Entry}
@@ -89,3 +90,9 @@ BegunSectionsAreAccountedFor =
     + count_of (rolls_back h) (entries_from (begin program config) events)
     + count_of (loses h) (entries_from (begin program config) events)
     + (if is_live (after program config events) h then 1 else 0)
+
+-- no more instructions take effect than there were events
+abbrev pub SerialOrderIsNoLonger : Type 0
+SerialOrderIsNoLonger =
+    (program : Program) (config : Config) (events : List Event) →
+    length (serial (entries_from (begin program config) events)) ≤ length events

@@ -2,6 +2,7 @@ ghost use Rattle.section_laws.specs.Laws.{
   CopiesAreCoherent,
   CountersStayInRange,
   EachHartWaitsForOne,
+  NoSetHasALineTwice,
   OneOrderedRequestEach,
   OnlyLiveSectionsHaveBits,
   RequestsAreNumbered,
@@ -13,6 +14,7 @@ ghost use Rattle.section_laws.specs.Sections.{
   BegunSectionsAreAccountedFor,
   NoneBeginsAfterRollback,
   SectionStepsAreOfFiveKinds,
+  SerialOrderIsNoLonger,
 };
 
 /// In every state that can be reached, a hart without a live section has no access bit.
@@ -21,7 +23,8 @@ pub fn only_live_sections_have_bits()
     ensures { OnlyLiveSectionsHaveBits }
 {}
 
-/// In every state that can be reached, each hart has lost fewer than four sections in a row.
+/// In every state that can be reached, each hart's count of sections lost in a row is below four. Lock removal does
+/// not count them.
 #[tactic(auto, using(crate::proofs::TriesLeft::tries_stay_below_four))]
 pub fn tries_stay_below_four()
     ensures { TriesStayBelowFour }
@@ -87,4 +90,15 @@ pub fn written_lines_may_be_written()
 /// In every state that can be reached, a line that a live section has written is in no other hart's cache.
 pub fn written_lines_are_elsewhere_in_no_cache()
     ensures { WrittenLinesAreElsewhereInNoCache }
+{}
+
+/// In every state that can be reached, no set of a cache has a line twice.
+pub fn no_set_has_a_line_twice()
+    ensures { NoSetHasALineTwice }
+{}
+
+/// The serial order of a history is no longer than the history: no more instructions take effect than there were
+/// events.
+pub fn serial_order_is_no_longer()
+    ensures { SerialOrderIsNoLonger }
 {}

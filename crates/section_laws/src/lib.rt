@@ -13,7 +13,8 @@ mod laws;
 
 pub use laws::{
     begun_sections_are_accounted_for, copies_are_coherent, counters_stay_in_range,
-    each_hart_waits_for_one, none_begins_after_rollback, one_ordered_request_each,
-    only_live_sections_have_bits, requests_are_numbered, section_steps_are_of_five_kinds,
-    tries_stay_below_four, written_lines_are_elsewhere_in_no_cache, written_lines_may_be_written,
+    each_hart_waits_for_one, no_set_has_a_line_twice, none_begins_after_rollback,
+    one_ordered_request_each, only_live_sections_have_bits, requests_are_numbered,
+    section_steps_are_of_five_kinds, serial_order_is_no_longer, tries_stay_below_four,
+    written_lines_are_elsewhere_in_no_cache, written_lines_may_be_written,
 };

@@ -50,6 +50,13 @@ impl Hierarchy {
         })
     }
 
+    /// How many harts there are.
+    pub fn harts(&self) -> usize
+        ensures { result ≡ length (shown self.now).caches }
+    {
+        self.caches.len()
+    }
+
     /// The cache of a hart.
     pub fn cache(&self, hart: HartId) -> &Sets
         requires { hart.number < length (shown self.now).caches }
@@ -89,7 +96,7 @@ impl Hierarchy {
     }
 
     /// Whether a line lies in main memory.
-    fn has_in_memory(&self, line: LineAddr) -> bool
+    pub fn has_in_memory(&self, line: LineAddr) -> bool
         ensures { MatchBool result (HasLine (shown self.now) line.number) (¬ (HasLine (shown self.now) line.number)) }
     {
         self.first <= line.number && ((line.number - self.first) as usize) < self.lines.len()
@@ -104,7 +111,8 @@ impl Hierarchy {
         requires in_memory { HasLine (shown self.old) line.number }
         requires room { has_room (shown self.old) hart.number line.number ≡ true }
         requires coherent { IsCoherent (shown self.old) }
-        ensures { IsServed need hart.number line.number (shown self.old) (shown self.new) }
+        ensures served { IsServed need hart.number line.number (shown self.old) (shown self.new) }
+        ensures coherent { IsCoherent (shown self.new) }
     {
         self.bring(hart, line, need);
         touch(&mut self.caches, hart, line);

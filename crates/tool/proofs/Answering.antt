@@ -15,13 +15,15 @@ use Rattle.tool.specs.Stopping.{StopsRead, StopsWith}
 use Rattle.tool.proofs.Files.{some_file}
 
 -- a configuration is refused whatever the image
-pub config_refused : (job : RunJob) (told : Option Contents) (fault : ConfigFault) → config_fault (config_of job) ≡ Some fault → IsRunAnswer job told (refused (Config fault))
+pub config_refused : (job : RunJob) (told : Option Contents) (fault : ConfigFault) → config_fault (config_of job) ≡ Some fault →
+    IsRunAnswer job told (refused (Config fault))
 config_refused job told fault found =
     let image : (file : List ℕ) × Holds told job.image file = some_file told job.image in
     record { image = image.0; image_file = image.1; exact = rw found refl }
 
 -- an image that is too big is refused whatever the trace
-pub image_unread : (image trace : List ℕ) (told : Option Contents) (stop : Stop) → StopsRead told image file_limit stop → StopsWith (IsReplayAnswer image trace told) stop
+pub image_unread : (image trace : List ℕ) (told : Option Contents) (stop : Stop) → StopsRead told image file_limit stop →
+    StopsWith (IsReplayAnswer image trace told) stop
 image_unread image trace told (Refused refusal) stopped =
     let file : (bytes : List ℕ) × Holds told trace bytes = some_file told trace in
     record { image = stopped.0; trace = file.0; image_file = stopped.1; trace_file = file.1; exact = rw stopped.2 refl }

@@ -24,7 +24,8 @@ size_refused limit file over =
     rw passes refl
 
 -- a file that a read found over its limit may be over it
-pub over_limit : (told : Option Contents) (name : List ℕ) (limit : ℕ) → IfSome told (λ contents. limit < length (contents name)) → (file : List ℕ) × Holds told name file × (size_refusal limit file ≡ Some (TooBig limit))
+pub over_limit : (told : Option Contents) (name : List ℕ) (limit : ℕ) → IfSome told (λ contents. limit < length (contents name)) →
+    (file : List ℕ) × Holds told name file × (size_refusal limit file ≡ Some (TooBig limit))
 over_limit None name limit over =
     let zeros : List ℕ = replicate (limit + 1) 0 in
     let longer : limit < length zeros = omega (arith, length-replicate {A = ℕ} (limit + 1) 0) in

@@ -15,7 +15,8 @@ took_all before now bytes took =
     record { count = length bytes; part = rw whole took }
 
 -- a file that was not written leaves an answer cut off behind its output
-pub unwritten_comes : (before now : Told) (answer : Answer) (fault : Fault) → TookAll before.out now.out answer.out → Unwritten before.files now.files answer.written fault → now.err ≡ before.err →
+pub unwritten_comes : (before now : Told) (answer : Answer) (fault : Fault) → TookAll before.out now.out answer.out →
+    Unwritten before.files now.files answer.written fault → now.err ≡ before.err →
     Comes (Only answer) (status_of_fault fault) before now
 unwritten_comes before now answer Device took unwritten same =
     inr (answer, refl, inr (inl (record { out = took; written = unwritten; err = same })))

@@ -39,7 +39,8 @@ events-entries state [] = refl
 events-entries state (event ∷ made) = ap (λ (rest : List Event). event ∷ rest) (events-entries (next state event).state made)
 
 -- each event of a round robin is of a hart that there is
-harts-made : (state : ModelState) (harts left : ℕ) (made : List Event) → 1 ≤ harts → IsRoundRobin state harts left made → All (λ event. event.hart.number < harts) made
+harts-made : (state : ModelState) (harts left : ℕ) (made : List Event) → 1 ≤ harts → IsRoundRobin state harts left made →
+    All (λ event. event.hart.number < harts) made
 harts-made state harts left made some round = λ k d within.
     let turn : IsEventAt harts k (get_or made k d) = round.turns k (get_or made k d) (slice_get-get_or made k d within) in
     rw turn.hart (mod-lt (k / 4) some)
@@ -64,7 +65,8 @@ not-refused (Some refusal) Answers answer file written is =
     absurd cc
 
 -- the file that was written spells the story
-written-story : (trace : Option (List ℕ)) (story : Story) (file : WrittenFile) → option_map (written_by story) trace ≡ Some file → file.bytes ≡ spelling story.config (events story.entries)
+written-story : (trace : Option (List ℕ)) (story : Story) (file : WrittenFile) → option_map (written_by story) trace ≡ Some file →
+    file.bytes ≡ spelling story.config (events story.entries)
 written-story None story file e = absurd cc
 written-story (Some name) story file e = ap (λ (written : Option WrittenFile). option_map_or (λ (one : WrittenFile). one.bytes) written []) (sym e)
 
@@ -128,17 +130,20 @@ trace-fits config made file trace spelled =
     rw fits refl
 
 -- no refusal stands where none of the list does
-replay-accepted : (image trace : List ℕ) (harts : ℕ) → size_refusal file_limit image ≡ None → size_refusal trace_limit trace ≡ None → trace_refusal trace ≡ None
+replay-accepted : (image trace : List ℕ) (harts : ℕ) → size_refusal file_limit image ≡ None → size_refusal trace_limit trace ≡ None →
+    trace_refusal trace ≡ None
     → (config_at trace).harts ≡ harts → image_refusal image harts ≡ None → replay_refusal image trace ≡ None
 replay-accepted image trace harts a b c e d = rw (a, b, c, e, d) refl
 
 -- the answer of a run of these events
-same-events : (image : List ℕ) (config other : Config) (made others : List Event) (answer : Answer) → config ≡ other → made ≡ others → answer ≡ ended None (continued (first_story (program_of image other.harts) other) others)
+same-events : (image : List ℕ) (config other : Config) (made others : List Event) (answer : Answer) → config ≡ other → made ≡ others →
+    answer ≡ ended None (continued (first_story (program_of image other.harts) other) others)
     → answer ≡ ended None (continued (first_story (program_of image config.harts) config) made)
 same-events image config other made others answer c m exact = rw (c, m) exact
 
 -- so a replay of the file that a run wrote says what the run said
-pub repeats : (job : RunJob) (image : List ℕ) (file : WrittenFile) (ran replayed : Answer) → RunAnswer job image ran → ran.written ≡ Some file → ReplayAnswer image file.bytes replayed → SaysTheSame ran replayed
+pub repeats : (job : RunJob) (image : List ℕ) (file : WrittenFile) (ran replayed : Answer) → RunAnswer job image ran →
+    ran.written ≡ Some file → ReplayAnswer image file.bytes replayed → SaysTheSame ran replayed
 repeats job image file ran replayed answers written replay =
     let r : Ran image file ran = run-ran job image file ran answers written in
     let none : replay_refusal image file.bytes ≡ None =

@@ -1,5 +1,6 @@
 #!/usr/bin/env bash
-# Runs the example images on 1, 2 and 8 harts and compares what they print. Where a compiler for RISC-V
+# Runs the example images on 1, 2 and 8 harts and compares what they print, and the images that the program
+# itself writes on 1, 2, 4 and 8. Where a compiler for RISC-V
 # is there, it builds them anew and runs those too. Then it gives the program words that are no UTF-8,
 # which no test can. The last line counts the runs.
 set -u
@@ -24,6 +25,24 @@ all_of() {
         prints "$1" table "$harts" "$(cat examples/table/expected)"
         prints "$1" counter "$harts" "$((100 * harts))"
     done
+}
+
+# draws KIND NUMBER RESULT..: the image of this kind prints these results on 1, 2, 4 and 8 harts
+draws() {
+    local kind=$1 number=$2 image out harts=1
+    image=$(mktemp) || exit 1
+    shift 2
+    ./elide gen "$kind" "$number" "$image" 2> /dev/null
+    for result in "$@"; do
+        if out=$(./elide run "$image" --harts "$harts" --steps 16777216 2> /dev/null) && [ "$out" = "$result" ]; then
+            passed=$((passed + 1))
+        else
+            echo "examples: $kind $number on $harts harts went wrong"
+            failed=$((failed + 1))
+        fi
+        harts=$((2 * harts))
+    done
+    rm -f "$image"
 }
 
 # refuses LINE WORD..: these words are refused with this line, and nothing is put to standard output
@@ -54,6 +73,11 @@ case $? in
         failed=$((failed + 1))
         ;;
 esac
+draws counter 1 00000064 000000c8 00000190 00000320
+draws bank 7 0000fa00 0000fa00 0000fa00 0000fa00
+draws buckets 3 000000c8 00000190 00000320 00000640
+draws locks 3 000000c8 00000190 00000320 00000640
+draws overflow 3 00000190 00000320 00000640 00000c80
 refuses "usage: elide run IMAGE [options], elide replay IMAGE TRACE, elide gen KIND NUMBER FILE" run $'\xff'
 echo "$passed passed, $failed failed"
 [ "$failed" -eq 0 ]

@@ -16,3 +16,4 @@ pub mod FourLosses
 pub mod ChainOfFour
 pub mod CommitBeforeProbe
 pub mod NothingToDo
+pub mod Parts

@@ -137,7 +137,7 @@ pub fn answer(
     ];
     let mut shelf = SureShelf::make(rt.alloc(), &names, &contents)?;
     let mut out = SureSink::make(rt.alloc(), 1024)?;
-    let mut err = SureSink::make(rt.alloc(), 1024)?;
+    let mut err = SureSink::make(rt.alloc(), 2048)?;
     let words = strings(rt.alloc(), words)?;
     let status = tool(rt, rt.alloc(), &words, &mut shelf, &mut out, &mut err);
     Ok(Ending {

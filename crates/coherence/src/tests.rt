@@ -40,6 +40,9 @@ fn made(alloc: Global, ways: u8) -> Result<Hierarchy, Fail>
         return Err("no such caches".into());
     }
     let image = load(alloc, &HEADER, config.harts).map_err(|_| "no image")?;
+    if image.harts() != config.harts {
+        return Err("an image for other harts".into());
+    }
     Ok(Hierarchy::make(alloc, &image, &config)?)
 }
 

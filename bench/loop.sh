@@ -7,32 +7,7 @@ cd "$(dirname "$0")/.."
 image=$(mktemp)
 trap 'rm -f "$image"' EXIT
 
-python3 - "$image" <<'PYTHON'
-import struct, sys
-
-CODE = [
-    0xfc010293, #        addi x5, x2, -64
-    0x0007a337, #        lui  x6, 0x7a
-    0x11f30313, #        addi x6, x6, 0x11f   499,999 times:
-    0x0002a383, # loop:  lw   x7, 0(x5)
-    0x00338393, #        addi x7, x7, 3
-    0x0072a023, #        sw   x7, 0(x5)
-    0x00744433, #        xor  x8, x8, x7
-    0x00345493, #        srli x9, x8, 3
-    0x00960633, #        add  x12, x12, x9
-    0xfff30313, #        addi x6, x6, -1
-    0xfe0312e3, #        bne  x6, x0, loop
-    0x00000513, #        addi x10, x0, 0
-    0x05d00893, #        addi x17, x0, 93
-    0x00000073, #        ecall                exits with 0
-]
-size = 84 + 4 * len(CODE)
-header = struct.pack("<4s12BHHIIIIIHHHHHH", b"\x7fELF", 1, 1, 1, *[0] * 9,
-                     2, 243, 1, 0x10054, 52, 0, 0, 52, 32, 1, 0, 0, 0)
-segment = struct.pack("<8I", 1, 0, 0x10000, 0x10000, size, size, 7, 0x1000)
-with open(sys.argv[1], "wb") as image:
-    image.write(header + segment + struct.pack("<%dI" % len(CODE), *CODE))
-PYTHON
+bench/loop_image.py "$image"
 
 ./elide run crates/elide/data/hello.elf > /dev/null 2>&1 # builds the program where it is not built
 python3 - "$image" <<'PYTHON'

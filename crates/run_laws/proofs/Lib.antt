@@ -1,0 +1,4 @@
+pub mod Touches
+pub mod Alike
+pub mod WordStores
+pub mod Survival

@@ -1,0 +1,6 @@
+//! Laws of what live sections show.
+#![tactic(auto)]
+
+mod laws;
+
+pub use laws::covered_runs_survive;

@@ -113,6 +113,20 @@ not_met true false meets none is lives = absurd (cc)
 from_none : (g : ℕ) → g ≡ 0 + g
 from_none g = omega arith
 
+-- another hart's section does not meet it
+pub unmet : (state : ModelState) (h g : ℕ) (request : Request) (section : Section) → IsOneEach state.order → ordered_of state h ≡ Some request →
+    obstacle_to state request ≡ Free → g ≢ request.hart → section_of state g ≡ Some section →
+    meets_bit (hart_of state g) request.line request.need ≡ false
+unmet state h g request section once is free apart live =
+    let own = not_blocked _ (other_head request.hart (head_of state request.line)) _ free in
+    let head = head_is state h request (head_of state request.line) once is refl own in
+    let retained : retainer_of state request.line ≡ None = not_blocked _ (retainer_of state request.line) _ (blocked_else _ _ _ free) in
+    let kept = none_such (λ k. retains state k request.line) 0 g g state.harts retained (live_exists state g section live) (from_none g) in
+    let apart_test = ap not (other_test request.hart g (λ same. apart (sym same))) in
+    let unmet = sym (ap (λ found. conflicts_with found g (hart_of state g)) head) ∙ kept in
+    not_met (not (request.hart == g)) (is_some (section_of state g)) (meets_bit (hart_of state g) request.line request.need) unmet apart_test
+    (ap is_some live)
+
 pub free_line : (state : ModelState) (h g : ℕ) (request : Request) → IsOneEach state.order →
     ((k : ℕ) → HasBitsOnlyInside (section_of state k) (cache_of state k)) → ordered_of state h ≡ Some request →
     obstacle_to state request ≡ Free → g ≢ request.hart → request.need ≡ Read → NotWritten (way_of (cache_of state g) request.line)
@@ -121,12 +135,5 @@ free_line state h g request once outside is free apart read = by_section (sectio
     by_section : (section : Option Section) → section_of state g ≡ section → NotWritten (way_of (cache_of state g) request.line)
     by_section None none = unmarked_way (cache_of state g) request.line (outside g none)
     by_section (Some section) live =
-        let own = not_blocked _ (other_head request.hart (head_of state request.line)) _ free in
-        let head = head_is state h request (head_of state request.line) once is refl own in
-        let retained : retainer_of state request.line ≡ None = not_blocked _ (retainer_of state request.line) _ (blocked_else _ _ _ free) in
-        let kept = none_such (λ k. retains state k request.line) 0 g g state.harts retained (live_exists state g section live) (from_none g) in
-        let apart_test = ap not (other_test request.hart g (λ same. apart (sym same))) in
-        let unmet = sym (ap (λ found. conflicts_with found g (hart_of state g)) head) ∙ kept in
-        let bit = not_met (not (request.hart == g)) (is_some (section_of state g)) (meets_bit (hart_of state g) request.line request.need) unmet apart_test
-        (ap is_some live) in
+        let bit = unmet state h g request section once is free apart live in
         unwritten_way (way_of (cache_of state g) request.line) (sym (ap (meets_bit (hart_of state g) request.line) read) ∙ bit)

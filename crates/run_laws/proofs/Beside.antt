@@ -22,7 +22,7 @@ use Rattle.rv_flat.specs.Run.{alone}
 use Rattle.rv_flat.specs.Step.{flat, stored_by}
 use Rattle.run_laws.proofs.Restored.{put_back}
 use Rattle.run_laws.proofs.Survival.{alone_base, alone_more}
-use Rattle.run_laws.proofs.WordStores.{Acquires, StoresWord, acquires}
+use Rattle.run_laws.proofs.WordStores.{StoresWord, acquires}
 use Rattle.run_laws.specs.PrivateRun.{HasItsBit, IsChangeBeside, IsCoveredRun}
 
 -- where no line has a bit, a change beside a hart is one of its reservation alone
@@ -75,7 +75,12 @@ with_bytes : (g : ℕ) (cache : List (List Way)) (old new : FlatState) → IsSee
     ((place : ℕ) → has_bit cache (line_number (old.base + place)) ≡ true → slice_index new.bytes place ≡ slice_index old.bytes place) →
     IsChangeBeside g cache old new
 with_bytes g cache old new seen bytes = record {
-  base = seen.base; code = seen.code; size = seen.size; harts = seen.harts; view = seen.view; bytes = bytes;
+  base = seen.base;
+  code = seen.code;
+  size = seen.size;
+  harts = seen.harts;
+  view = seen.view;
+  bytes = bytes;
 }
 
 -- a step writes no line with a bit of the other hart

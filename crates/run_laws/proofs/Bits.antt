@@ -1,12 +1,12 @@
 -- which changes of a cache keep the bits of a section, and a covered run is covered by more bits too
-use Rattle.std.proofs.Common.{◌≡◌, ◌≢◌, ◌∙◌, ◌≤◌, ◌<◌, ◌==◌, ◌||◌, ℕ, Bool, true, false, List, [], ◌∷◌, Option, None, Some, is_some, length, refl, ap, sym, inl, inr, ◌⊎◌, if◌then◌else◌, option_map, arith}
+use Rattle.std.proofs.Common.{◌≡◌, ◌≢◌, ◌∙◌, ◌==◌, ◌||◌, ℕ, Bool, true, false, List, [], ◌∷◌, Option, None, Some, is_some, refl, ap, sym, inl, inr, ◌⊎◌, if◌then◌else◌, option_map}
 use Rattle.std.specs.Prelude.{slice_index_or}
 use Rattle.std.specs.Option.{option_or}
 use Rattle.std.proofs.lemmas.Bool.{cases_eq}
 use Rattle.bus_order.specs.Order.{Request}
 use Rattle.bus_order.proofs.LookUps.{own_test, other_test}
-use Rattle.cache_sets.specs.Cache.{bit_in, evicted_by, filled_with, is_resident, letter_of, lettered, marked, set_number, set_of, touched, way_of, without_line}
-use Rattle.cache_sets.specs.Residency.{Way, evicted_in, filled_in, is_marked, victim_in, way_in, with_bit, with_letter}
+use Rattle.cache_sets.specs.Cache.{bit_in, evicted_by, filled_with, is_resident, lettered, marked, set_number, set_of, touched, way_of}
+use Rattle.cache_sets.specs.Residency.{Way, filled_in, is_marked, victim_in, way_in, with_bit, with_letter}
 use Rattle.cache_sets.proofs.CacheLemmas.{set_of-with_set_other, way_of-filled_with_other, way_of-lettered_other, way_of-lettered_same, way_of-marked_other, way_of-marked_same, way_of-touched, way_of-without_line_other}
 use Rattle.cache_sets.proofs.ResidencyLemmas.{evicted_in-victim, victim_in-unmarked}
 use Rattle.el_base.specs.declared.outcomes.Need.{Need}
@@ -187,3 +187,22 @@ step_kept shown h word old new keeps step = record {
   unmixed = step.unmixed;
   bit = bit_kept old new _ keeps step.bit;
 }
+
+pub run_kept : (committed : FlatState) (h : ℕ) (old new : List (List Way)) (section : Section) → KeepsBits old new →
+    IsCoveredRun committed h old section → IsCoveredRun committed h new section
+run_kept committed h old new section keeps run = record {
+  some = run.some;
+  acquire = run.acquire;
+  read = keeps _ Read run.read;
+  running = run.running;
+  inside = λ n some less. step_kept _ h section.word old new keeps (run.inside n some less);
+}
+
+-- a line with either bit
+pub some_bit : (need : Need) (way : Option Way) → bit_in need way ≡ true → (bit_in Read way || bit_in Write way) ≡ true
+some_bit Read way bit = rw bit refl
+some_bit Write way bit = second (bit_in Read way) (bit_in Write way) bit
+  where
+    second : (a b : Bool) → b ≡ true → (a || b) ≡ true
+    second true b is = refl
+    second false b is = is

@@ -1,12 +1,12 @@
 -- a section that begins has a covered run, and one more instruction of a section is covered too
-use Rattle.std.proofs.Common.{◌≡◌, ◌∙◌, ◌≤◌, ◌<◌, ◌+◌, ◌||◌, not, ℕ, zero, suc, Bool, true, false, List, Option, None, Some, is_some, refl, ap, sym, inl, inr, ◌⊎◌, arith}
+use Rattle.std.proofs.Common.{◌≡◌, ◌∙◌, ◌≤◌, ◌<◌, ◌+◌, ◌||◌, not, ℕ, zero, suc, Bool, true, false, List, Option, None, Some, is_some, refl, ap, inl, inr, ◌⊎◌, arith}
 use Rattle.std.proofs.lemmas.Bool.{cases_eq}
 use Rattle.cache_sets.specs.Cache.{bit_in, letter_in, marked, read_bit, touched, way_of, write_bit}
 use Rattle.cache_sets.specs.Residency.{Way}
 use Rattle.el_base.specs.Line.{line_number}
 use Rattle.el_base.specs.declared.outcomes.Need.{Need}
 use Rattle.el_base.specs.declared.outcomes.Need.TheVariants.{Read, Write}
-use Rattle.el_model.specs.Deed.{IsCoverable, MayBegin, MayBuffer, is_refused, permits}
+use Rattle.el_model.specs.Deed.{IsCoverable, MayBegin, MayBuffer, permits}
 use Rattle.el_model.specs.InSection.{covered, is_covered}
 use Rattle.el_model.specs.State.{ModelState, Section, cache_of}
 use Rattle.el_model.specs.Upcoming.{Swap, Touch, calls, next_execution, stops}

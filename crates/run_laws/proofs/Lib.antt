@@ -6,3 +6,8 @@ pub mod Bits
 pub mod Growing
 pub mod Restored
 pub mod Beside
+pub mod Reached
+pub mod EventsBeside
+pub mod Kept
+pub mod Reachable
+pub mod Releasing

@@ -3,4 +3,7 @@
 
 mod laws;
 
-pub use laws::covered_runs_survive;
+pub use laws::{
+    covered_runs_survive, live_sections_run_covered, other_harts_change_nothing_covered,
+    other_harts_change_nothing_shown, releases_commit,
+};

@@ -11,3 +11,4 @@ pub mod EventsBeside
 pub mod Kept
 pub mod Reachable
 pub mod Releasing
+mod Worked

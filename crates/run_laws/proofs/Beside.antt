@@ -1,5 +1,5 @@
 -- what the steps of one hart change beside another: a step of its own, and a section that commits
-use Rattle.std.proofs.Common.{◌≡◌, ◌≢◌, ◌≤◌, ◌<◌, ◌+◌, ◌-◌, ◌∙◌, ℕ, zero, suc, Bool, true, false, List, [], Option, None, Some, length, arith, refl, ap, sym, subst, inl, inr, ◌⊎◌}
+use Rattle.std.proofs.Common.{◌≡◌, ◌≢◌, ◌≤◌, ◌<◌, ◌+◌, ◌-◌, ◌∙◌, ℕ, zero, suc, Bool, true, false, List, [], Some, length, arith, refl, ap, sym, subst, inl, inr, ◌⊎◌}
 use Rattle.std.specs.Prelude.{nat_lt, slice_index}
 use Rattle.std.proofs.lemmas.Bool.{ltb-false, ltb-true}
 use Rattle.cache_sets.specs.Cache.{has_bit, write_bit}
@@ -7,23 +7,24 @@ use Rattle.cache_sets.specs.Residency.{Way}
 use Rattle.el_base.specs.Line.{line_number}
 use Rattle.el_base.specs.declared.outcomes.Need.TheVariants as needs
 use Rattle.el_model.specs.State.{Section}
-use Rattle.el_model.specs.Upcoming.{Touch, next_access, next_touch, touch_of}
-use Rattle.rv_alu.specs.Footprint.{IsPiece}
+use Rattle.el_model.specs.Upcoming.{next_touch}
 use Rattle.rv_alu.specs.Loaded.{loaded}
 use Rattle.rv_alu.specs.declared.footprint.Access.{Access}
 use Rattle.rv_alu.specs.declared.footprint.Access.TheVariants.{Nothing, Read, Write, Trap, Exit}
 use Rattle.rv_alu.specs.declared.view.HartStatus.TheVariants.{Running}
 use Rattle.rv_alu.specs.declared.view.HartView.{HartView}
-use Rattle.rv_flat.proofs.StepLaws.{keeps_others, keeps_shape, one_line-touched, running, writes_in_footprint, writes_on_line}
-use Rattle.rv_flat.specs.FlatState.{FlatState, span_of, status_of, view_of}
-use Rattle.rv_flat.specs.Laws.{IsInOneLine, Writes, footprint_of, seen_after, touched_in, written_line}
+use Rattle.rv_flat.proofs.StepLaws.{keeps_others, keeps_shape}
+use Rattle.rv_flat.specs.FlatState.{FlatState, status_of, view_of}
+use Rattle.rv_flat.specs.Laws.{footprint_of, seen_after}
 use Rattle.rv_flat.specs.Memory.{AreBytes, byte_in, put_bytes}
 use Rattle.rv_flat.specs.Run.{alone}
-use Rattle.rv_flat.specs.Step.{flat, stored_by}
+use Rattle.rv_flat.specs.Step.{flat}
 use Rattle.run_laws.proofs.Restored.{put_back}
+use Rattle.run_laws.proofs.Shown.{keeps_line, keeps_outside, puts_word, swap_stores, unwritten_shown, word_piece}
 use Rattle.run_laws.proofs.Survival.{alone_base, alone_more}
+use Rattle.run_laws.proofs.Tests.{not_both}
 use Rattle.run_laws.proofs.WordStores.{StoresWord, acquires}
-use Rattle.run_laws.specs.PrivateRun.{HasItsBit, IsChangeBeside, IsCoveredRun}
+use Rattle.run_laws.specs.PrivateRun.{IsOutsideWord, IsChangeBeside, IsCoveredRun}
 
 -- where no line has a bit, a change beside a hart is one of its reservation alone
 abbrev IsSeenBeside : ℕ → FlatState → FlatState → Type 0
@@ -84,64 +85,24 @@ with_bytes g cache old new seen bytes = record {
 }
 
 -- a step writes no line with a bit of the other hart
-running_footprint : (state : FlatState) (h : ℕ) → status_of state h ≡ Running → footprint_of state h ≡ next_access state h
-running_footprint state h runs = ap (touched_in state (view_of state h)) runs
-
-written_touch : (access : Access) (line : ℕ) → written_line access ≡ Some line → touch_of access ≡ Some (record { line = line; need = needs.Write })
-written_touch (Write from len) line is = let same : line_number from ≡ line = cc in ap (λ line. Some (record { line = line; need = needs.Write })) same
-written_touch (Read from len) line is = absurd (cc)
-written_touch Nothing line is = absurd (cc)
-written_touch (Trap cause) line is = absurd (cc)
-written_touch (Exit code) line is = absurd (cc)
-
 abbrev pub WritesElsewhere : FlatState → ℕ → List (List Way) → Type 0
 WritesElsewhere state h cache =
     (line : ℕ) → next_touch state h ≡ Some (record { line = line; need = needs.Write }) → has_bit cache line ≡ false
 
-not_both : {X : Type 0} {test : Bool} → test ≡ true → test ≡ false → X
-not_both is not = wrong (sym is ∙ not)
-  where
-    wrong : {X : Type 0} → true ≡ false → X
-    wrong is = absurd (cc)
-
-keeps_place : (state : FlatState) (h : ℕ) (cache : List (List Way)) → status_of state h ≡ Running → WritesElsewhere state h cache →
-    (place : ℕ) → has_bit cache (line_number (state.base + place)) ≡ true →
-    slice_index (flat state h).bytes place ≡ slice_index state.bytes place
-keeps_place state h cache runs elsewhere place bit =
-    writes_on_line state h place
-    (λ written.
-    not_both bit
-    (elsewhere (line_number (state.base + place))
-    (written_touch (next_access state h) _ (ap written_line (sym (running_footprint state h runs)) ∙ written))))
-
 pub step_beside : (state : FlatState) (h g : ℕ) (cache : List (List Way)) → g ≢ h → status_of state h ≡ Running → WritesElsewhere state h cache →
     IsChangeBeside g cache state (flat state h)
 step_beside state h g cache apart runs elsewhere =
-    with_bytes g cache state (flat state h) (seen_flat state h g apart) (keeps_place state h cache runs elsewhere)
-
--- a store of a word leaves what is outside of it
-IsOutsideWord : ℕ → ℕ → Type 0
-IsOutsideWord word address = word ≤ address → address < word + 4 → ⊥
-
-keeps_outside : (state : FlatState) (h word value place : ℕ) → status_of state h ≡ Running → StoresWord state h word value →
-    IsOutsideWord word (state.base + place) → slice_index (flat state h).bytes place ≡ slice_index state.bytes place
-unfolding IsOutsideWord
-keeps_outside state h word value place runs stores outside =
-    writes_in_footprint state h place
-    (λ there.
-    let written = subst (λ access. Writes access (state.base + place)) (running_footprint state h runs ∙ stores.writes) there in
-    outside written.0 written.1)
+    with_bytes g cache state (flat state h) (seen_flat state h g apart)
+    (λ place bit. keeps_line state h place runs (λ touch. not_both bit (elsewhere (line_number (state.base + place)) touch)))
 
 in_word : (word address : ℕ) → ((word ≤ address) × (address < word + 4)) ⊎ IsOutsideWord word address
-unfolding IsOutsideWord
 in_word word address = by (nat_lt address word) (nat_lt address (word + 4)) refl refl
   where
     by : (below within : Bool) → nat_lt address word ≡ below → nat_lt address (word + 4) ≡ within →
-        ((word ≤ address) × (address < word + 4)) ⊎ (word ≤ address → address < word + 4 → ⊥)
+        ((word ≤ address) × (address < word + 4)) ⊎ IsOutsideWord word address
     by true within is_below is_within =
         let less = ltb-true address word is_below in inr (λ low high. absurd (omega arith))
-    by false true is_below is_within =
-        inl (ltb-false address word is_below, ltb-true address (word + 4) is_within)
+    by false true is_below is_within = inl (ltb-false address word is_below, ltb-true address (word + 4) is_within)
     by false false is_below is_within =
         let past = ltb-false address (word + 4) is_within in inr (λ low high. absurd (omega arith))
 
@@ -149,63 +110,37 @@ in_word word address = by (nat_lt address word) (nat_lt address (word + 4)) refl
 module _ (committed : FlatState) (h g : ℕ) (own other : List (List Way)) (section : Section) (apart : g ≢ h)
     (run : IsCoveredRun committed h own section) (release : StoresWord (alone committed h section.count) h section.word section.old)
     (bytes : AreBytes committed.bytes) (separate : (line : ℕ) → write_bit own line ≡ true → has_bit other line ≡ false) where
-  elsewhere : (touch : Option Touch) → HasItsBit own touch → (line : ℕ) → touch ≡ Some (record { line = line; need = needs.Write }) →
-      has_bit other line ≡ false
-  elsewhere None bit line is = absurd (cc)
-  elsewhere (Some touch) bit line is = separate line (subst (HasItsBit own) is bit)
-
-  outside_at : (k n : ℕ) → n ≡ k + 1 → n ≤ section.count → (place : ℕ) → has_bit other (line_number (committed.base + place)) ≡ true →
-      IsOutsideWord section.word (committed.base + place) → slice_index (alone committed h n).bytes place ≡ slice_index committed.bytes place
-  outside_at zero n is within place bit outside =
-      let one : n ≡ 1 = omega arith in
-      rw one
-      (keeps_outside committed h section.word section.new place (run.running 0 (omega arith)) (acquires committed h _ run.acquire).stores outside)
-  outside_at (suc k) n is within place bit outside =
-      let more : n ≡ k + 1 + 1 = omega arith in
-      let before = alone committed h (k + 1) in
-      let step = run.inside (k + 1) (omega arith) (omega arith) in
-      rw more
-      (rw (alone_more committed h (k + 1))
-      (keeps_place before h other (run.running (k + 1) (omega arith)) (elsewhere (next_touch before h) step.bit) place
-      (ap (λ base. has_bit other (line_number (base + place))) (alone_base committed h (k + 1)) ∙ bit)
-      ∙ outside_at k (k + 1) refl (omega arith) place bit outside))
-
   old_is : section.old ≡ loaded (byte_in committed.base committed.bytes) section.word 4
   old_is = (acquires committed h _ run.acquire).old
-
-  word_piece : IsPiece (span_of committed) section.word 4
-  word_piece =
-      subst (IsInOneLine (span_of committed)) (acquires committed h _ run.acquire).stores.writes (one_line-touched committed (view_of committed h))
 
   released_bytes : (flat (alone committed h section.count) h).bytes
       ≡ put_bytes (alone committed h section.count).bytes (section.word - committed.base) 4 (loaded (byte_in committed.base committed.bytes) section.word 4)
   released_bytes =
       let before = alone committed h section.count in
-      ap (λ new. new.bytes) (running before h (run.running section.count (omega arith)))
-      ∙ ap (λ store. stored_by store before.base before.bytes) release.stores
+      puts_word before h section.word section.old (run.running section.count (omega arith)) release
       ∙ ap (λ base. put_bytes before.bytes (section.word - base) 4 section.old) (alone_base committed h section.count)
       ∙ ap (put_bytes before.bytes (section.word - committed.base) 4) old_is
+
+  unwritten : (line : ℕ) (wrote : Bool) → write_bit own line ≡ wrote → has_bit other line ≡ true → wrote ≡ false
+  unwritten line true is bit = not_both bit (separate line is)
+  unwritten line false is bit = refl
 
   final : (place : ℕ) → has_bit other (line_number (committed.base + place)) ≡ true →
       ((section.word ≤ committed.base + place) × (committed.base + place < section.word + 4)) ⊎ IsOutsideWord section.word (committed.base + place) →
       slice_index (flat (alone committed h section.count) h).bytes place ≡ slice_index committed.bytes place
-  unfolding IsOutsideWord
   final place bit (inl (low, high)) =
-      let base : committed.base ≤ section.word = word_piece.from_base in
-      let end : section.word + 4 ≤ committed.base + length committed.bytes = word_piece.before_end in
+      let piece = word_piece committed h section.word section.new (swap_stores committed h own section run) in
+      let base : committed.base ≤ section.word = piece.from_base in
+      let end : section.word + 4 ≤ committed.base + length committed.bytes = piece.before_end in
       let size = (seen_alone committed h g section.count apart).size in
       ap (λ bytes. slice_index bytes place) released_bytes
       ∙ put_back (alone committed h section.count).bytes committed.bytes committed.base section.word (section.word - committed.base) 4 place
       (omega arith) bytes size (omega (arith, size)) (omega arith) (omega arith)
   final place bit (inr outside) =
-      let before = alone committed h section.count in
-      let some = run.some in
-      keeps_outside before h section.word section.old place (run.running section.count (omega arith)) release
-      (ap_outside (sym (alone_base committed h section.count)) outside)
-      ∙ outside_at (section.count - 1) section.count (omega arith) (omega arith) place bit outside
-    where
-      ap_outside : {one two : ℕ} → one ≡ two → IsOutsideWord section.word (one + place) → IsOutsideWord section.word (two + place)
-      ap_outside same outside = subst (λ base. IsOutsideWord section.word (base + place)) same outside
+      let line = line_number (committed.base + place) in
+      keeps_outside (alone committed h section.count) h section.word section.old place (run.running section.count (omega arith)) release
+      (subst (λ base. IsOutsideWord section.word (base + place)) (sym (alone_base committed h section.count)) outside)
+      ∙ unwritten_shown committed h own section run place (unwritten line (write_bit own line) refl bit) outside
 
   pub commit_beside : IsChangeBeside g other committed (alone committed h (section.count + 1))
   commit_beside =

@@ -20,6 +20,7 @@ use Rattle.moesi.specs.declared.letter.Letter.{Letter}
 use Rattle.rv_flat.specs.FlatState.{FlatState}
 use Rattle.section_laws.specs.Once.{AreOnce, IsOnce}
 use Rattle.section_laws.proofs.OnceEach.{once_at}
+use Rattle.run_laws.proofs.Tests.{or_right}
 use Rattle.run_laws.specs.PrivateRun.{HasItsBit, IsCoveredRun, IsCoveredStep}
 
 -- each bit on a line is kept
@@ -59,7 +60,9 @@ bits_lettered cache line letter l need bit = at (cases_eq l line)
   where
     at : (l ≡ line) ⊎ (l ≡ line → ⊥) → bit_in need (way_of (lettered cache line letter) l) ≡ true
     at (inl same) =
-        rw same (rw (way_of-lettered_same cache line letter) (bit_lettered letter need (way_of cache line) (ap (λ l. bit_in need (way_of cache l)) (sym same) ∙ bit)))
+        rw same
+        (rw (way_of-lettered_same cache line letter)
+        (bit_lettered letter need (way_of cache line) (ap (λ l. bit_in need (way_of cache l)) (sym same) ∙ bit)))
     at (inr other) = ap (bit_in need) (way_of-lettered_other cache line l letter other) ∙ bit
 
 pub bits_marked : (cache : List (List Way)) (line : ℕ) (more : Need) → KeepsBits cache (marked cache line more)
@@ -67,7 +70,9 @@ bits_marked cache line more l need bit = at (cases_eq l line)
   where
     at : (l ≡ line) ⊎ (l ≡ line → ⊥) → bit_in need (way_of (marked cache line more) l) ≡ true
     at (inl same) =
-        rw same (rw (way_of-marked_same cache line more) (bit_marked more need (way_of cache line) (ap (λ l. bit_in need (way_of cache l)) (sym same) ∙ bit)))
+        rw same
+        (rw (way_of-marked_same cache line more)
+        (bit_marked more need (way_of cache line) (ap (λ l. bit_in need (way_of cache l)) (sym same) ∙ bit)))
     at (inr other) = ap (bit_in need) (way_of-marked_other cache line l more other) ∙ bit
 
 pub marked_has_bit : (cache : List (List Way)) (line : ℕ) (need : Need) → is_resident cache line ≡ true →
@@ -201,8 +206,4 @@ run_kept committed h old new section keeps run = record {
 -- a line with either bit
 pub some_bit : (need : Need) (way : Option Way) → bit_in need way ≡ true → (bit_in Read way || bit_in Write way) ≡ true
 some_bit Read way bit = rw bit refl
-some_bit Write way bit = second (bit_in Read way) (bit_in Write way) bit
-  where
-    second : (a b : Bool) → b ≡ true → (a || b) ≡ true
-    second true b is = refl
-    second false b is = is
+some_bit Write way bit = or_right (bit_in Read way) (bit_in Write way) bit

@@ -13,6 +13,7 @@ use Rattle.rv_flat.specs.Run.{alone}
 use Rattle.section_laws.specs.Coherence.{AreCoherent, MayBeTogether}
 use Rattle.section_laws.proofs.EachHart.{Each}
 use Rattle.run_laws.proofs.Beside.{WritesElsewhere, commit_beside, same_beside, step_beside}
+use Rattle.run_laws.proofs.Tests.{not_both}
 use Rattle.run_laws.proofs.WordStores.{releases}
 use Rattle.run_laws.specs.PrivateRun.{IsChangeBeside, IsCoveredRun}
 
@@ -35,10 +36,7 @@ bare cache line none = ap (λ way. bit_in Read way || bit_in Write way) none
 nowhere : (one other : Option Way) → may_write (letter_in one) ≡ true → MayBeTogether one other → other ≡ None
 nowhere one None may now = refl
 nowhere None (Some other) may now = absurd (cc)
-nowhere (Some one) (Some other) may now = never (sym now.one_shared ∙ may)
-  where
-    never : {X : Type 0} → false ≡ true → X
-    never is = absurd (cc)
+nowhere (Some one) (Some other) may now = not_both may now.one_shared
 
 -- an instruction outside of a section writes where its hart alone has the line
 writes_elsewhere : (state : ModelState) (h g : ℕ) (touch : Option Touch) → g ≢ h → AreCoherent state → MayRun state h touch →

@@ -26,7 +26,7 @@ use Rattle.rv_flat.specs.Run.{alone}
 use Rattle.rv_flat.specs.Step.{flat}
 use Rattle.run_laws.proofs.Bits.{bits_covered, bits_touched, covered_kept, marked_has_bit, step_kept}
 use Rattle.run_laws.proofs.Survival.{alone_more}
-use Rattle.run_laws.proofs.Touches.{or_left}
+use Rattle.run_laws.proofs.Tests.{or_left, second_not}
 use Rattle.run_laws.proofs.WordStores.{acquires}
 use Rattle.run_laws.specs.PrivateRun.{HasItsBit, IsCoveredRun, IsCoveredStep}
 
@@ -41,10 +41,6 @@ executed_status : (word : Option ℕ) (view : HartView) (span : Span) (room : �
     (view_after (executed word view span room byte) view).status ≡ view.status
 unfolding executed
 executed_status word view span room byte is = perform_status (action_at word view span room) view byte is
-
-second_not : (a b : Bool) → (a || b) ≡ false → b ≡ false
-second_not true b is = absurd (cc)
-second_not false b is = is
 
 goes_on_running : (state : FlatState) (h : ℕ) → status_of state h ≡ Running → stops (next_execution state h) ≡ false → status_of (flat state h) h ≡ Running
 goes_on_running state h runs is =

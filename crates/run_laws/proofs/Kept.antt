@@ -27,6 +27,7 @@ use Rattle.run_laws.proofs.Bits.{KeepsBits, bits_claim, bits_others, bits_own, b
 use Rattle.run_laws.proofs.EventsBeside.{AllCovered, Covered, Sound, deed_beside}
 use Rattle.run_laws.proofs.Growing.{begun_run, buffered_run}
 use Rattle.run_laws.proofs.Survival.{survives}
+use Rattle.run_laws.proofs.Tests.{not_both}
 use Rattle.run_laws.specs.PrivateRun.{IsCoveredRun}
 
 none_some : {A X : Type 0} {x : A} → None ≡ Some x → X
@@ -71,10 +72,7 @@ served_covered state request h hart once now section is =
 met_bit : (hart : Hart) (line : ℕ) (need more : Need) {X : Type 0} → need ≡ Write → meets_bit hart line need ≡ false →
     bit_in more (way_of hart.cache line) ≡ true → X
 met_bit hart line need more write unmet bit =
-    wrong (sym (some_bit more (way_of hart.cache line) bit) ∙ ap (meets_bit hart line) (sym write) ∙ unmet)
-  where
-    wrong : {X : Type 0} → true ≡ false → X
-    wrong is = absurd (cc)
+    not_both (some_bit more (way_of hart.cache line) bit) (ap (meets_bit hart line) (sym write) ∙ unmet)
 
 bystander_covered : (state : ModelState) (request : Request) (h : ℕ) →
     ((section : Section) → section_of state h ≡ Some section → meets_bit (hart_of state h) request.line request.need ≡ false) →

@@ -1,7 +1,9 @@
+pub mod Tests
 pub mod Touches
 pub mod Alike
 pub mod WordStores
 pub mod Survival
+pub mod Shown
 pub mod Bits
 pub mod Growing
 pub mod Restored
@@ -11,4 +13,5 @@ pub mod EventsBeside
 pub mod Kept
 pub mod Reachable
 pub mod Releasing
+pub mod LoadedBytes
 mod Worked

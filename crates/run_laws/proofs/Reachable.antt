@@ -1,5 +1,6 @@
 -- in every state that can be reached live sections run covered, and other harts change nothing that they show
-use Rattle.std.proofs.Common.{◌≡◌, ◌≢◌, ◌∙◌, ◌+◌, ℕ, zero, suc, true, false, List, Option, None, Some, is_some, refl, ap, sym, subst, inl, inr, ◌⊎◌}
+use Rattle.std.proofs.Common.{◌≡◌, ◌≢◌, ◌∙◌, ◌+◌, ℕ, zero, suc, true, List, Option, None, Some, is_some, refl, ap, sym, subst, inl, inr, ◌⊎◌}
+use Rattle.cache_sets.specs.Residency.{Way}
 use Rattle.el_base.specs.declared.config.Config.{Config}
 use Rattle.el_base.specs.declared.events.Event.{Event}
 use Rattle.el_base.specs.declared.events.Kind.{Kind}
@@ -27,6 +28,7 @@ use Rattle.run_laws.proofs.EventsBeside.{AllCovered, Sound, deed_beside}
 use Rattle.run_laws.proofs.Kept.{kind_covered}
 use Rattle.run_laws.proofs.Reached.{kept_along}
 use Rattle.run_laws.proofs.Survival.{survives}
+use Rattle.run_laws.proofs.Tests.{not_both}
 use Rattle.run_laws.specs.Laws.{LiveSectionsRunCovered, OtherHartsChangeNothingCovered, OtherHartsChangeNothingShown}
 use Rattle.run_laws.specs.PrivateRun.{IsChangeBeside}
 
@@ -102,22 +104,19 @@ pub live_sections_run_covered : LiveSectionsRunCovered
 live_sections_run_covered program config events h section bytes live = (always_holds program config bytes events).covered h section live
 
 -- an event of another hart
+unchanged : (g : ℕ) (cache : List (List Way)) (old new : FlatState) → new ≡ old → IsChangeBeside g cache old new
+unchanged g cache old new same = subst (IsChangeBeside g cache old) (sym same) (same_beside g cache old)
+
 kind_beside : (state : ModelState) (h g : ℕ) (kind : Kind) → g ≢ h → Sound state → AllCovered state →
     IsChangeBeside g (cache_of state g) state.committed (kind_turn state h kind).state.committed
 kind_beside state h g kinds.Step apart sound covered =
     let step = step_deed state h in rw step.turn_is (deed_beside state h g step.deed apart step.where_it sound covered)
-kind_beside state h g kinds.Order apart sound covered = unchanged (order_calm state h).keeps.committed
-  where
-    unchanged : {new : FlatState} → new ≡ state.committed → IsChangeBeside g (cache_of state g) state.committed new
-    unchanged same = subst (IsChangeBeside g (cache_of state g) state.committed) (sym same) (same_beside g (cache_of state g) state.committed)
-kind_beside state h g kinds.Serve apart sound covered = unchanged (serve_calm state h).keeps.committed
-  where
-    unchanged : {new : FlatState} → new ≡ state.committed → IsChangeBeside g (cache_of state g) state.committed new
-    unchanged same = subst (IsChangeBeside g (cache_of state g) state.committed) (sym same) (same_beside g (cache_of state g) state.committed)
-kind_beside state h g kinds.Deliver apart sound covered = unchanged (deliver_calm state h).keeps.committed
-  where
-    unchanged : {new : FlatState} → new ≡ state.committed → IsChangeBeside g (cache_of state g) state.committed new
-    unchanged same = subst (IsChangeBeside g (cache_of state g) state.committed) (sym same) (same_beside g (cache_of state g) state.committed)
+kind_beside state h g kinds.Order apart sound covered =
+    unchanged g (cache_of state g) state.committed _ (order_calm state h).keeps.committed
+kind_beside state h g kinds.Serve apart sound covered =
+    unchanged g (cache_of state g) state.committed _ (serve_calm state h).keeps.committed
+kind_beside state h g kinds.Deliver apart sound covered =
+    unchanged g (cache_of state g) state.committed _ (deliver_calm state h).keeps.committed
 
 pub other_harts_change_nothing_covered : OtherHartsChangeNothingCovered
 unfolding next
@@ -160,10 +159,7 @@ kind_section state h g kinds.Deliver apart = bus_keeps (kept_or_ended state) sta
 
 still_live : (old new : Option Section) → (new ≡ None) ⊎ (new ≡ old) → is_some new ≡ true → new ≡ old
 still_live old new (inr same) live = same
-still_live old new (inl none) live = never (sym (ap is_some none) ∙ live)
-  where
-    never : {X : Type 0} → false ≡ true → X
-    never is = absurd (cc)
+still_live old new (inl none) live = not_both live (ap is_some none)
 
 pub other_harts_change_nothing_shown : OtherHartsChangeNothingShown
 unfolding next

@@ -1,5 +1,5 @@
 -- a covered run survives a change beside its hart, and shows the same after it
-use Rattle.std.proofs.Common.{◌≡◌, ◌≤◌, ◌<◌, ◌+◌, ◌-◌, ◌∙◌, ℕ, zero, suc, Bool, true, false, ◌||◌, List, None, Some, arith, refl, ap, sym, subst, if◌then◌else◌}
+use Rattle.std.proofs.Common.{◌≡◌, ◌≤◌, ◌<◌, ◌+◌, ◌-◌, ◌∙◌, ℕ, zero, suc, true, false, ◌||◌, List, None, Some, arith, refl, ap, sym, subst, if◌then◌else◌}
 use Rattle.cache_sets.specs.Cache.{has_bit, read_bit, write_bit}
 use Rattle.cache_sets.specs.Residency.{Way}
 use Rattle.elf_image.specs.Program.{code_word}
@@ -18,7 +18,8 @@ use Rattle.rv_flat.specs.Memory.{byte_in}
 use Rattle.rv_flat.specs.Run.{alone}
 use Rattle.rv_flat.specs.Step.{flat}
 use Rattle.run_laws.proofs.Alike.{DidAlike, SamePlaces, did_alike, same_access, same_execution, same_insn, same_span}
-use Rattle.run_laws.proofs.Touches.{SameOnBits, agree_there, on_bit, or_left}
+use Rattle.run_laws.proofs.Tests.{first_not, or_left, second_not}
+use Rattle.run_laws.proofs.Touches.{SameOnBits, agree_there, on_bit}
 use Rattle.run_laws.proofs.WordStores.{Acquires, IsAtomic, acquires, swap_insn}
 use Rattle.run_laws.specs.Laws.{CoveredRunsSurvive}
 use Rattle.run_laws.specs.PrivateRun.{HasItsBit, IsChangeBeside, IsCoveredRun, IsCoveredStep, ShowsTheSame}
@@ -74,14 +75,6 @@ same_acquire h cache old new swap is read change = record { execution = executio
         ∙ ap (λ value. Some (record { word = swap.word; old = value; new = swap.new }))
         (loaded-same (byte_in new.base new.bytes) (byte_in old.base old.bytes) swap.word 4
         (λ k low high. (rw first.stores.writes at agree) k (low, high)) ∙ sym first.old)
-
-first_not : (a b : Bool) → (a || b) ≡ false → a ≡ false
-first_not true b is = is
-first_not false b is = refl
-
-second_not : (a b : Bool) → (a || b) ≡ false → b ≡ false
-second_not true b is = absurd (cc)
-second_not false b is = is
 
 goes_view : (execution : Execution) (one other : HartView) → stops execution ≡ false → view_after execution one ≡ view_after execution other
 goes_view (Stops status) one other is = absurd (cc)

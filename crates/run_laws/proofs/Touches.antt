@@ -1,6 +1,6 @@
 -- what an instruction touches lies on the line of its touch, and where that line has a bit, two memories that agree on the lines
 -- with bits agree there
-use Rattle.std.proofs.Common.{◌≡◌, ◌≤◌, ◌<◌, ◌+◌, ◌-◌, ◌%◌, ◌∙◌, ℕ, Bool, true, false, ◌||◌, List, Option, None, Some, arith, refl, ap}
+use Rattle.std.proofs.Common.{◌≡◌, ◌≤◌, ◌<◌, ◌+◌, ◌-◌, ◌%◌, ◌∙◌, ℕ, true, List, Option, None, Some, arith, ap}
 use Rattle.std.specs.Prelude.{slice_index}
 use Rattle.cache_sets.specs.Cache.{has_bit, read_bit}
 use Rattle.cache_sets.specs.Residency.{Way}
@@ -18,20 +18,13 @@ use Rattle.rv_flat.specs.FlatState.{FlatState, span_of, view_of}
 use Rattle.rv_flat.specs.Laws.{IsInOneLine}
 use Rattle.rv_flat.specs.Memory.{byte_in}
 use Rattle.rv_flat.proofs.StepLaws.{one_line-touched}
+use Rattle.run_laws.proofs.Tests.{or_right}
 use Rattle.run_laws.specs.PrivateRun.{HasItsBit}
 
 -- the line of what is touched has a bit
 abbrev pub IsOnBit : List (List Way) → Option Touch → Type 0
 IsOnBit cache None = Unit {0}
 IsOnBit cache (Some touch) = has_bit cache touch.line ≡ true
-
-or_right : (a b : Bool) → b ≡ true → (a || b) ≡ true
-or_right true b is = refl
-or_right false b is = is
-
-pub or_left : (a b : Bool) → a ≡ true → (a || b) ≡ true
-or_left true b is = refl
-or_left false b is = absurd (cc)
 
 covered_bit : (cache : List (List Way)) (line : ℕ) (need : Need) → is_covered cache line need ≡ true → has_bit cache line ≡ true
 covered_bit cache line needs.Read is = is

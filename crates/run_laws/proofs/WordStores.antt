@@ -1,5 +1,5 @@
 -- the two instructions of a lock: the swap that acquires it, and the store or swap that releases it; each stores a word
-use Rattle.std.proofs.Common.{◌≡◌, ◌∙◌, ℕ, ℤ, Bool, true, false, ◌&&◌, ◌||◌, Option, None, Some, refl, ap, sym, if◌then◌else◌, ◌==◌}
+use Rattle.std.proofs.Common.{◌≡◌, ◌∙◌, ℕ, ℤ, Bool, true, false, ◌||◌, Option, None, Some, refl, ap, sym, if◌then◌else◌, ◌==◌}
 use Rattle.std.specs.Prelude.{MatchOption}
 use Rattle.bus_order.proofs.LookUps.{number_of_test}
 use Rattle.elf_image.specs.Program.{code_word}
@@ -20,6 +20,7 @@ use Rattle.rv_word.specs.declared.insn.Insn.TheVariants as insns
 use Rattle.rv_word.specs.declared.insn.StoreWidth.{StoreWidth}
 use Rattle.rv_word.specs.declared.insn.StoreWidth.TheVariants as widths
 use Rattle.rv_word.specs.declared.reg.Reg.{Reg}
+use Rattle.run_laws.proofs.Tests.{first_of_both, second_of_both}
 
 -- what is stored is what is written
 pub writes_store : (state : FlatState) (h : ℕ) (store : Store) → next_store state h ≡ Some store →
@@ -178,21 +179,13 @@ acquires state h swap is = by (is_swap (next_insn state h)) refl is
 -- and a release
 pub releases : (state : FlatState) (h word old : ℕ) → is_release state h word old ≡ true → StoresWord state h word old
 releases state h word old is =
-    by (is_word_store (next_insn state h)) (is_swap (next_insn state h)) refl refl (first _ _ is) (next_store state h) refl (second _ _ is)
+    by (is_word_store (next_insn state h)) (is_swap (next_insn state h)) refl refl (first_of_both _ _ is) (next_store state h) refl (second_of_both _ _ is)
   where
-    first : (a b : Bool) → (a && b) ≡ true → a ≡ true
-    first true b is = refl
-    first false b is = absurd (cc)
-
-    second : (a b : Bool) → (a && b) ≡ true → b ≡ true
-    second true b is = is
-    second false b is = absurd (cc)
-
     stored : (store : Store) → next_store state h ≡ Some store → gives_back word old (Some store) ≡ true → store.len ≡ 4 →
         calls (next_insn state h) ≡ false → StoresWord state h word old
     stored store is back len none =
-        stores_word state h word old store is (number_of_test store.address word (first _ _ back)) len
-        (number_of_test store.value old (second (store.address == word) _ back)) none
+        stores_word state h word old store is (number_of_test store.address word (first_of_both _ _ back)) len
+        (number_of_test store.value old (second_of_both (store.address == word) _ back)) none
 
     by : (stores swaps : Bool) → is_word_store (next_insn state h) ≡ stores → is_swap (next_insn state h) ≡ swaps → (stores || swaps) ≡ true →
         (store : Option Store) → next_store state h ≡ store → gives_back word old store ≡ true → StoresWord state h word old

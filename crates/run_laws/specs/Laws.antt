@@ -5,6 +5,7 @@ use Rattle.el_base.specs.declared.config.Config.{Config}
 use Rattle.el_base.specs.declared.events.Event.{Event}
 use Rattle.el_base.specs.declared.events.Kind.TheVariants as kinds
 use Rattle.el_base.specs.declared.outcomes.Outcome.TheVariants.{Committed}
+use Rattle.elf_image.specs.Loaded.{program_of}
 use Rattle.elf_image.specs.Program.{Program}
 use Rattle.el_model.specs.InSection.{shown_in}
 use Rattle.el_model.specs.Next.{after, next}
@@ -13,13 +14,19 @@ use Rattle.el_model.specs.Upcoming.{is_release}
 use Rattle.rv_flat.specs.FlatState.{FlatState}
 use Rattle.rv_flat.specs.Memory.{AreBytes}
 use Rattle.rv_flat.specs.Run.{alone}
-use Rattle.run_laws.specs.PrivateRun.{IsChangeBeside, IsCoveredRun, ShowsTheSame}
+use Rattle.run_laws.specs.PrivateRun.{IsChangeBeside, IsCoveredRun, ShowsItsOwn, ShowsTheSame}
 
 -- a covered run depends on what its bits cover alone: after a change beside its hart it is covered as before, and shows the same
 abbrev pub CoveredRunsSurvive : Type 0
 CoveredRunsSurvive =
     (h : ℕ) (cache : List (List Way)) (section : Section) (old new : FlatState) → IsCoveredRun old h cache section →
     IsChangeBeside h cache old new → IsCoveredRun new h cache section × ShowsTheSame h section.count old new
+
+-- a covered run shows its new value in the lock word, and what is committed outside of that word and of the lines with its write bit
+abbrev pub CoveredRunsShowTheirOwn : Type 0
+CoveredRunsShowTheirOwn =
+    (committed : FlatState) (h : ℕ) (cache : List (List Way)) (section : Section) → IsCoveredRun committed h cache section →
+    ShowsItsOwn committed h cache section
 
 -- from a program whose memory is bytes, in every state that can be reached, the private run of each live section is covered
 abbrev pub LiveSectionsRunCovered : Type 0
@@ -62,3 +69,7 @@ ReleasesCommit =
     has_request (after program config events) event.hart.number ≡ false → section.count ≢ config.long →
     is_release (shown_in (after program config events) event.hart.number section) event.hart.number section.word section.old ≡ true →
     TakesEffect (after program config events) event section
+
+-- where a file is bytes, so is the memory of the program that it loads
+abbrev pub LoadedProgramsAreBytes : Type 0
+LoadedProgramsAreBytes = (file : List ℕ) (harts : ℕ) → AreBytes file → AreBytes (program_of file harts).bytes

@@ -1,13 +1,15 @@
 -- the private run of a live section: the steps of its hart alone, from what is committed on
-use Rattle.std.specs.Prelude.{ℕ, ◌≡◌, ◌≤◌, ◌<◌, ◌+◌, true, false, List, length, Option, None, Some, slice_index}
-use Rattle.cache_sets.specs.Cache.{has_bit, read_bit}
+use Rattle.std.specs.Prelude.{ℕ, ◌≡◌, ◌≤◌, ◌<◌, ◌+◌, ◌%◌, ◌^◌, true, false, List, length, Option, None, Some, slice_index}
+use Rattle.cache_sets.specs.Cache.{has_bit, read_bit, write_bit}
 use Rattle.cache_sets.specs.Residency.{Way}
 use Rattle.el_base.specs.Line.{line_number}
 use Rattle.el_model.specs.InSection.{is_covered}
 use Rattle.el_model.specs.State.{Section}
 use Rattle.el_model.specs.Upcoming.{Touch, calls_or_stops, next_swap, next_touch, stores_to_word}
+use Rattle.rv_alu.specs.Loaded.{loaded}
 use Rattle.rv_alu.specs.declared.view.HartStatus.TheVariants.{Running}
 use Rattle.rv_flat.specs.FlatState.{FlatState, status_of, view_of}
+use Rattle.rv_flat.specs.Memory.{byte_in}
 use Rattle.rv_flat.specs.Run.{alone}
 
 -- what an instruction touches has its bit: the write bit where it writes, either bit where it reads
@@ -52,3 +54,15 @@ pub record ShowsTheSame (h count : ℕ) (old new : FlatState) : Type 0 where
   pub view : view_of (alone new h count) h ≡ view_of (alone old h count) h
   pub bytes : (place : ℕ) → slice_index new.bytes place ≡ slice_index old.bytes place →
       slice_index (alone new h count).bytes place ≡ slice_index (alone old h count).bytes place
+
+-- an address is of no byte of a word
+abbrev pub IsOutsideWord : ℕ → ℕ → Type 0
+IsOutsideWord word address = word ≤ address → address < word + 4 → ⊥
+
+-- what a section shows of memory: its new value in the lock word; and what is committed, outside of that word and of the lines with
+-- its write bit
+pub record ShowsItsOwn (committed : FlatState) (h : ℕ) (cache : List (List Way)) (section : Section) : Type 0 where
+  pub lock : loaded (byte_in committed.base (alone committed h section.count).bytes) section.word 4 ≡ section.new % 2 ^ 32
+  pub others : (place : ℕ) → write_bit cache (line_number (committed.base + place)) ≡ false →
+      IsOutsideWord section.word (committed.base + place) →
+      slice_index (alone committed h section.count).bytes place ≡ slice_index committed.bytes place

@@ -1,6 +1,8 @@
 ghost use Rattle.run_laws.specs.Laws.{
+  CoveredRunsShowTheirOwn,
   CoveredRunsSurvive,
   LiveSectionsRunCovered,
+  LoadedProgramsAreBytes,
   OtherHartsChangeNothingCovered,
   OtherHartsChangeNothingShown,
   ReleasesCommit,
@@ -11,6 +13,12 @@ ghost use Rattle.run_laws.specs.Laws.{
 /// ends in the same view, and shows the same at each byte that is the same in both committed states.
 pub fn covered_runs_survive()
     ensures { CoveredRunsSurvive }
+{}
+
+/// The private run of a live section shows its new value in the lock word. Outside of that word and of the lines with
+/// its write bit it shows what is committed.
+pub fn covered_runs_show_their_own()
+    ensures { CoveredRunsShowTheirOwn }
 {}
 
 /// From a program whose memory is bytes, in every state that can be reached, the private run of each live section is
@@ -40,4 +48,10 @@ pub fn other_harts_change_nothing_shown()
 /// release with them.
 pub fn releases_commit()
     ensures { ReleasesCommit }
+{}
+
+/// Where a file is bytes, so is the memory of the program that it loads: what the laws here ask of a program holds of
+/// each that an image gives.
+pub fn loaded_programs_are_bytes()
+    ensures { LoadedProgramsAreBytes }
 {}

@@ -19,6 +19,7 @@ use Rattle.rv_flat.specs.Laws.{footprint_of, seen_after}
 use Rattle.rv_flat.specs.Memory.{AreBytes, byte_in, put_bytes}
 use Rattle.rv_flat.specs.Run.{alone}
 use Rattle.rv_flat.specs.Step.{flat}
+use Rattle.run_laws.proofs.Bits.{KeepsBits, covered_kept, same_bits}
 use Rattle.run_laws.proofs.Restored.{put_back}
 use Rattle.run_laws.proofs.Shown.{keeps_line, keeps_outside, puts_word, swap_stores, unwritten_shown, word_piece}
 use Rattle.run_laws.proofs.Survival.{alone_base, alone_more}
@@ -56,20 +57,27 @@ seen_flat state h g apart =
       bytes = λ place bit. absurd (cc);
     }
 
-seen_twice : (g : ℕ) (one two three : FlatState) → IsSeenBeside g one two → IsSeenBeside g two three → IsSeenBeside g one three
-seen_twice g one two three first second = record {
+-- one change after another, where the bits that there were are kept
+pub beside_twice : (g : ℕ) (cache later : List (List Way)) (one two three : FlatState) → KeepsBits cache later → IsChangeBeside g cache one two →
+    IsChangeBeside g later two three → IsChangeBeside g cache one three
+beside_twice g cache later one two three keeps first second = record {
   base = second.base ∙ first.base;
   code = second.code ∙ first.code;
   size = second.size ∙ first.size;
   harts = second.harts ∙ first.harts;
   view = second.view ∙ ap {A = HartView} (λ view. record view { reserved = (view_of three g).reserved }) first.view;
-  bytes = λ place bit. absurd (cc);
+  bytes = λ place bit.
+      second.bytes place
+      (ap (λ base. has_bit later (line_number (base + place))) first.base
+      ∙ covered_kept cache later (line_number (one.base + place)) needs.Read (keeps (line_number (one.base + place))) bit)
+      ∙ first.bytes place bit;
 }
 
 seen_alone : (state : FlatState) (h g n : ℕ) → g ≢ h → IsSeenBeside g state (alone state h n)
 seen_alone state h g zero apart = same_beside g [] state
 seen_alone state h g (suc n) apart =
-    seen_twice g state (flat state h) (alone state h (suc n)) (seen_flat state h g apart) (seen_alone (flat state h) h g n apart)
+    beside_twice g [] [] state (flat state h) (alone state h (suc n)) (same_bits []) (seen_flat state h g apart)
+    (seen_alone (flat state h) h g n apart)
 
 -- the bytes on the lines with bits, beside all that
 with_bytes : (g : ℕ) (cache : List (List Way)) (old new : FlatState) → IsSeenBeside g old new →

@@ -1,5 +1,5 @@
 -- every event keeps each live section's private run covered
-use Rattle.std.proofs.Common.{◌≡◌, ◌∙◌, ℕ, Bool, true, false, Option, None, Some, is_some, refl, ap, sym, subst}
+use Rattle.std.proofs.Common.{◌≡◌, ◌≢◌, ◌∙◌, ℕ, Bool, true, false, Option, None, Some, is_some, refl, ap, sym, subst, inl, inr, ◌⊎◌}
 use Rattle.bus_order.specs.Order.{IsOneEach, Request}
 use Rattle.cache_sets.specs.Cache.{bit_in, is_resident, way_of}
 use Rattle.el_base.specs.declared.events.Kind.{Kind}
@@ -12,18 +12,17 @@ use Rattle.el_model.specs.InSection.{covered}
 use Rattle.el_model.specs.Next.{kind_turn, step_turn}
 use Rattle.el_model.specs.Order.{order_raised, order_turn, place_for}
 use Rattle.el_model.specs.Plain.{after_candidate, candidate_of}
-use Rattle.el_model.specs.Serve.{Blocks, Free, Obstacle, bystander, obstacle_to, others_cache, others_have, own_copy, serve_ordered, serve_past, serve_turn, served, served_hart}
+use Rattle.el_model.specs.Serve.{Blocks, Free, Obstacle, bystander, obstacle_to, others_have, own_copy, serve_ordered, serve_past, serve_turn, served, served_hart}
 use Rattle.el_model.specs.State.{Hart, ModelState, Section, cache_of, hart_of, head_of, ordered_of, raised_of, section_of}
 use Rattle.el_model.specs.Upcoming.{Swap}
 use Rattle.el_model.proofs.Deeds.{step_deed}
+use Rattle.el_model.proofs.Harts.{hart_of-with_hart_other}
 use Rattle.el_model.proofs.Turns.{deliver_calm, order_calm, serve_calm}
-use Rattle.el_model.specs.Deliver.{deliver_turn}
-use Rattle.rv_flat.specs.FlatState.{FlatState}
 use Rattle.section_laws.specs.Once.{AreOnce}
 use Rattle.section_laws.proofs.EachHart.{Each, each_but, each_with}
 use Rattle.section_laws.proofs.FreeLines.{unmet}
 use Rattle.section_laws.proofs.Moves.{Moves, deliver_keeps, faced_if_keeps, placed_keeps, served_keeps}
-use Rattle.run_laws.proofs.Bits.{KeepsBits, bits_claim, bits_others, bits_own, bits_touched, claim_section, run_kept, some_bit}
+use Rattle.run_laws.proofs.Bits.{KeepsBits, bits_claim, bits_others, bits_own, bits_touched, claim_section, run_kept, same_bits, some_bit}
 use Rattle.run_laws.proofs.EventsBeside.{AllCovered, Covered, Sound, deed_beside}
 use Rattle.run_laws.proofs.Growing.{begun_run, buffered_run}
 use Rattle.run_laws.proofs.Survival.{survives}
@@ -36,37 +35,44 @@ none_some wrong = absurd (cc)
 same_some : {A : Type 0} (x y : A) → Some x ≡ Some y → x ≡ y
 same_some x y same = cc
 
--- the moves of the bus
-moves : (committed : FlatState) → Moves (Covered committed)
-moves committed = record {
+-- after an event of the bus a hart's section has ended, or it is as it was and has kept its bits
+abbrev pub IsKept : ModelState → ℕ → Hart → Type 0
+IsKept old h hart = (hart.section ≡ None) ⊎ ((hart.section ≡ section_of old h) × KeepsBits (cache_of old h) hart.cache)
+
+all_kept : (state : ModelState) → Each (IsKept state) state
+all_kept state h = inr (refl, same_bits (cache_of state h))
+
+moves : (old : ModelState) → Moves (IsKept old)
+moves old = record {
   posted_to = λ h hart mail now. now;
   told = λ h hart told now. now;
   preceded = λ h hart upstream now. now;
   saw = λ h hart seen now. now;
-  lost = λ h hart now section is. none_some is;
+  lost = λ h hart now. inl refl;
   gave_up = λ h hart now. now;
   tried = λ h hart more now. now;
 }
 
-raised_covered : (state : ModelState) (raised : Option Request) → AllCovered state → Each (Covered state.committed) (order_raised state raised).state
-raised_covered state None each = each
-raised_covered state (Some request) each =
-    placed_keeps (moves state.committed) state request (place_for state request)
-    (each_with (Covered state.committed) state request.hart (record (hart_of state request.hart) { raised = None }) (each request.hart) each)
+raised_kept : (state : ModelState) (raised : Option Request) → Each (IsKept state) (order_raised state raised).state
+raised_kept state None = all_kept state
+raised_kept state (Some request) =
+    placed_keeps (moves state) state request (place_for state request)
+    (each_with (IsKept state) state request.hart (record (hart_of state request.hart) { raised = None })
+    (inr (refl, same_bits (cache_of state request.hart))) (all_kept state))
 
 -- a request is served
-own_bits : (state : ModelState) (request : Request) (hart : Hart) → AreOnce hart.cache → KeepsBits hart.cache (served_hart state request hart).cache
-own_bits state request hart once l need bit =
-    let others = others_have state request.hart request.line in
-    let copy = own_copy state.config.ways others request.need hart.cache request.line in
-    bits_claim (is_some hart.section) request _ l need
-    (bits_touched copy request.line l need (bits_own state.config.ways others request.need hart.cache request.line once l need bit))
-
-served_covered : (state : ModelState) (request : Request) (h : ℕ) (hart : Hart) → AreOnce hart.cache → Covered state.committed h hart →
-    Covered state.committed h (served_hart state request hart)
-served_covered state request h hart once now section is =
-    run_kept state.committed h hart.cache (served_hart state request hart).cache section (own_bits state request hart once)
-    (now section (sym (claim_section (is_some hart.section) request _) ∙ is))
+own_kept : (state : ModelState) (request : Request) → AreOnce (cache_of state request.hart) →
+    IsKept state request.hart (served_hart state request (hart_of state request.hart))
+own_kept state request once =
+    inr (
+      claim_section (is_some (section_of state request.hart)) request _,
+      (λ l need bit.
+          let others = others_have state request.hart request.line in
+          let cache = cache_of state request.hart in
+          let copy = own_copy state.config.ways others request.need cache request.line in
+          bits_claim (is_some (section_of state request.hart)) request _ l need
+          (bits_touched copy request.line l need (bits_own state.config.ways others request.need cache request.line once l need bit))),
+    )
 
 -- where a request to write is served, no other live section has a bit on its line
 met_bit : (hart : Hart) (line : ℕ) (need more : Need) {X : Type 0} → need ≡ Write → meets_bit hart line need ≡ false →
@@ -74,37 +80,62 @@ met_bit : (hart : Hart) (line : ℕ) (need more : Need) {X : Type 0} → need �
 met_bit hart line need more write unmet bit =
     not_both (some_bit more (way_of hart.cache line) bit) (ap (meets_bit hart line) (sym write) ∙ unmet)
 
-bystander_covered : (state : ModelState) (request : Request) (h : ℕ) →
+bystander_kept : (state : ModelState) (request : Request) (h : ℕ) →
     ((section : Section) → section_of state h ≡ Some section → meets_bit (hart_of state h) request.line request.need ≡ false) →
-    Covered state.committed h (hart_of state h) → Covered state.committed h (bystander state request (hart_of state h))
-bystander_covered state request h unmet now section is =
-    run_kept state.committed h (cache_of state h) (others_cache had request.need (cache_of state h) request.line) section keeps (now section is)
-  where
-    had : Bool
-    had = is_resident (cache_of state request.hart) request.line
+    (section : Option Section) → section_of state h ≡ section → IsKept state h (bystander state request (hart_of state h))
+bystander_kept state request h clear None none = inl none
+bystander_kept state request h clear (Some section) live =
+    inr (
+      refl,
+      (λ l need bit.
+          bits_others (is_resident (cache_of state request.hart) request.line) request.need (cache_of state h) request.line l
+          (λ write same.
+          met_bit (hart_of state h) request.line request.need need write (clear section live)
+          (ap (λ line. bit_in need (way_of (cache_of state h) line)) (sym same) ∙ bit))
+          need bit),
+    )
 
-    keeps : KeepsBits (cache_of state h) (others_cache had request.need (cache_of state h) request.line)
-    keeps l need bit =
-        bits_others had request.need (cache_of state h) request.line l
-        (λ write same.
-        met_bit (hart_of state h) request.line request.need need write (unmet section is)
-        (ap (λ line. bit_in need (way_of (cache_of state h) line)) (sym same) ∙ bit))
-        need bit
+past_kept : (state : ModelState) (h : ℕ) (request : Request) (obstacle : Obstacle) → obstacle_to state request ≡ obstacle →
+    ordered_of state h ≡ Some request → IsOneEach state.order → ((g : ℕ) → AreOnce (cache_of state g)) →
+    Each (IsKept state) (serve_past state request obstacle).state
+past_kept state h request (Blocks why by) free is one once = all_kept state
+past_kept state h request Free free is one once =
+    faced_if_keeps (moves state) (served state request) (head_of (served state request) request.line)
+    (served_keeps (IsKept state) state request (own_kept state request (once request.hart))
+    (λ g apart.
+    bystander_kept state request g (λ section live. unmet state h g request section one is free apart live) (section_of state g) refl)
+    (all_kept state))
 
-past_covered : (state : ModelState) (h : ℕ) (request : Request) (obstacle : Obstacle) → obstacle_to state request ≡ obstacle →
-    ordered_of state h ≡ Some request → IsOneEach state.order → ((g : ℕ) → AreOnce (cache_of state g)) → AllCovered state →
-    Each (Covered state.committed) (serve_past state request obstacle).state
-past_covered state h request (Blocks why by) free is one once each = each
-past_covered state h request Free free is one once each =
-    faced_if_keeps (moves state.committed) (served state request) (head_of (served state request) request.line)
-    (served_keeps (Covered state.committed) state request
-    (served_covered state request request.hart (hart_of state request.hart) (once request.hart) (each request.hart))
-    (λ g apart. bystander_covered state request g (λ section live. unmet state h g request section one is free apart live) (each g)) each)
+ordered_kept : (state : ModelState) (h : ℕ) (ordered : Option Request) → ordered_of state h ≡ ordered → IsOneEach state.order →
+    ((g : ℕ) → AreOnce (cache_of state g)) → Each (IsKept state) (serve_ordered state ordered).state
+ordered_kept state h None is one once = all_kept state
+ordered_kept state h (Some request) is one once = past_kept state h request (obstacle_to state request) refl is one once
 
-ordered_covered : (state : ModelState) (h : ℕ) (ordered : Option Request) → ordered_of state h ≡ ordered → IsOneEach state.order →
-    ((g : ℕ) → AreOnce (cache_of state g)) → AllCovered state → Each (Covered state.committed) (serve_ordered state ordered).state
-ordered_covered state h None is one once each = each
-ordered_covered state h (Some request) is one once each = past_covered state h request (obstacle_to state request) refl is one once each
+pub bus_kept : (state : ModelState) (h : ℕ) (kind : Kind) → kind ≢ kinds.Step → IsOneEach state.order → ((g : ℕ) → AreOnce (cache_of state g)) →
+    Each (IsKept state) (kind_turn state h kind).state
+unfolding order_turn serve_turn
+bus_kept state h kinds.Step bus one once = absurd (bus refl)
+bus_kept state h kinds.Order bus one once = raised_kept state (raised_of state h)
+bus_kept state h kinds.Serve bus one once = ordered_kept state h (ordered_of state h) refl one once
+bus_kept state h kinds.Deliver bus one once = deliver_keeps (moves state) state h (all_kept state)
+
+-- an event of another hart leaves a section so too
+pub other_kept : (state : ModelState) (h g : ℕ) (kind : Kind) → g ≢ h → IsOneEach state.order → ((k : ℕ) → AreOnce (cache_of state k)) →
+    IsKept state g (hart_of (kind_turn state h kind).state g)
+other_kept state h g kinds.Step apart one once =
+    let step = step_deed state h in
+    rw step.turn_is
+    (subst (IsKept state g) (sym (hart_of-with_hart_other state h g (hart_after state h step.deed (hart_of state h)) apart)) (all_kept state g))
+other_kept state h g kinds.Order apart one once = bus_kept state h kinds.Order (λ same. absurd (cc)) one once g
+other_kept state h g kinds.Serve apart one once = bus_kept state h kinds.Serve (λ same. absurd (cc)) one once g
+other_kept state h g kinds.Deliver apart one once = bus_kept state h kinds.Deliver (λ same. absurd (cc)) one once g
+
+-- what is kept is covered as before
+kept_covered : (state : ModelState) (h : ℕ) (hart : Hart) → IsKept state h hart → Covered state.committed h (hart_of state h) →
+    Covered state.committed h hart
+kept_covered state h hart (inl none) now section is = none_some (sym none ∙ is)
+kept_covered state h hart (inr (same, keeps)) now section is =
+    run_kept state.committed h (cache_of state h) hart.cache section keeps (now section (sym same ∙ is))
 
 -- a deed of its own hart
 candidate_section : (pc : ℕ) (had_watch : Bool) (candidate : Option Swap) (hart : Hart) →
@@ -139,18 +170,18 @@ step_covered state h sound each =
     (λ past section is. none_some is))
 
 -- each event
-same_committed : (old new : FlatState) (state : ModelState) → new ≡ old → Each (Covered old) state → Each (Covered new) state
-same_committed old new state same each = subst (λ committed. Each (Covered committed) state) (sym same) each
+bus_covered : (state : ModelState) (h : ℕ) (kind : Kind) → kind ≢ kinds.Step → (kind_turn state h kind).state.committed ≡ state.committed →
+    IsOneEach state.order → ((g : ℕ) → AreOnce (cache_of state g)) → AllCovered state → AllCovered (kind_turn state h kind).state
+bus_covered state h kind bus same one once each g =
+    subst (λ committed. Covered committed g (hart_of (kind_turn state h kind).state g)) (sym same)
+    (kept_covered state g (hart_of (kind_turn state h kind).state g) (bus_kept state h kind bus one once g) (each g))
 
 pub kind_covered : (state : ModelState) (h : ℕ) (kind : Kind) → Sound state → IsOneEach state.order → ((g : ℕ) → AreOnce (cache_of state g)) →
     AllCovered state → AllCovered (kind_turn state h kind).state
-unfolding order_turn serve_turn
 kind_covered state h kinds.Step sound one once each = step_covered state h sound each
 kind_covered state h kinds.Order sound one once each =
-    same_committed state.committed _ (order_turn state h).state (order_calm state h).keeps.committed (raised_covered state (raised_of state h) each)
+    bus_covered state h kinds.Order (λ same. absurd (cc)) (order_calm state h).keeps.committed one once each
 kind_covered state h kinds.Serve sound one once each =
-    same_committed state.committed _ (serve_turn state h).state (serve_calm state h).keeps.committed
-    (ordered_covered state h (ordered_of state h) refl one once each)
+    bus_covered state h kinds.Serve (λ same. absurd (cc)) (serve_calm state h).keeps.committed one once each
 kind_covered state h kinds.Deliver sound one once each =
-    same_committed state.committed _ (deliver_turn state h).state (deliver_calm state h).keeps.committed
-    (deliver_keeps (moves state.committed) state h each)
+    bus_covered state h kinds.Deliver (λ same. absurd (cc)) (deliver_calm state h).keeps.committed one once each

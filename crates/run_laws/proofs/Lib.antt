@@ -12,6 +12,7 @@ pub mod Reached
 pub mod EventsBeside
 pub mod Kept
 pub mod Reachable
+pub mod OtherHarts
 pub mod Releasing
 pub mod LoadedBytes
 mod Worked

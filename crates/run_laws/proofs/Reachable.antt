@@ -1,17 +1,16 @@
 -- in every state that can be reached live sections run covered, and other harts change nothing that they show
-use Rattle.std.proofs.Common.{◌≡◌, ◌≢◌, ◌∙◌, ◌+◌, ℕ, zero, suc, true, List, Option, None, Some, is_some, refl, ap, sym, subst, inl, inr, ◌⊎◌}
+use Rattle.std.proofs.Common.{◌≡◌, ◌≢◌, ◌∙◌, ◌+◌, ℕ, zero, suc, List, None, Some, refl, sym, subst}
 use Rattle.cache_sets.specs.Residency.{Way}
 use Rattle.el_base.specs.declared.config.Config.{Config}
 use Rattle.el_base.specs.declared.events.Event.{Event}
 use Rattle.el_base.specs.declared.events.Kind.{Kind}
 use Rattle.el_base.specs.declared.events.Kind.TheVariants as kinds
 use Rattle.elf_image.specs.Program.{Program}
-use Rattle.el_model.specs.Deed.{Begins, Buffers, Commits, Deed, Misses, Rests, RollsBack, Runs, Waits, committed_after, hart_after}
+use Rattle.el_model.specs.Deed.{Begins, Buffers, Commits, Deed, Misses, Rests, RollsBack, Runs, Waits, committed_after}
 use Rattle.el_model.specs.Next.{after, kind_turn, next}
-use Rattle.el_model.specs.State.{Hart, ModelState, Section, begin, cache_of, hart_of, new_hart, section_of}
+use Rattle.el_model.specs.State.{ModelState, begin, cache_of, new_hart, section_of}
 use Rattle.el_model.proofs.AllHarts.{all_first}
 use Rattle.el_model.proofs.Deeds.{step_deed}
-use Rattle.el_model.proofs.Harts.{hart_of-with_hart_other}
 use Rattle.el_model.proofs.Turns.{deliver_calm, order_calm, serve_calm}
 use Rattle.rv_flat.proofs.RunsAfter.{keeps_bytes}
 use Rattle.rv_flat.specs.FlatState.{FlatState, start}
@@ -19,17 +18,13 @@ use Rattle.rv_flat.specs.Memory.{AreBytes}
 use Rattle.rv_flat.specs.Run.{alone}
 use Rattle.rv_flat.specs.Step.{flat}
 use Rattle.section_laws.proofs.Coherence.{copies_are_coherent, written_lines_are_elsewhere_in_no_cache}
-use Rattle.section_laws.proofs.EachKept.{BusKept, bus_keeps}
 use Rattle.section_laws.proofs.Numbered.{one_ordered_request_each}
 use Rattle.section_laws.proofs.OnceEach.{no_set_has_a_line_twice}
 use Rattle.run_laws.proofs.Beside.{same_beside}
-use Rattle.run_laws.proofs.Bits.{claim_section}
 use Rattle.run_laws.proofs.EventsBeside.{AllCovered, Sound, deed_beside}
 use Rattle.run_laws.proofs.Kept.{kind_covered}
 use Rattle.run_laws.proofs.Reached.{kept_along}
-use Rattle.run_laws.proofs.Survival.{survives}
-use Rattle.run_laws.proofs.Tests.{not_both}
-use Rattle.run_laws.specs.Laws.{LiveSectionsRunCovered, OtherHartsChangeNothingCovered, OtherHartsChangeNothingShown}
+use Rattle.run_laws.specs.Laws.{LiveSectionsRunCovered, OtherHartsChangeNothingCovered}
 use Rattle.run_laws.specs.PrivateRun.{IsChangeBeside}
 
 -- memory stays bytes
@@ -123,52 +118,3 @@ unfolding next
 other_harts_change_nothing_covered program config events event h bytes apart =
     let now = always_holds program config bytes events in
     kind_beside (after program config events) event.hart.number h event.kind (λ same. apart (sym same)) (sound_of program config events now) now.covered
-
--- the section of another hart is kept or ends
-abbrev KeptOrEnded : Option Section → Hart → Type 0
-KeptOrEnded old hart = (hart.section ≡ None) ⊎ (hart.section ≡ old)
-
-kept_or_ended : (state : ModelState) → BusKept (λ h hart. KeptOrEnded (section_of state h) hart)
-kept_or_ended state = record {
-  moves = record {
-    posted_to = λ h hart mail now. now;
-    told = λ h hart told now. now;
-    preceded = λ h hart upstream now. now;
-    saw = λ h hart seen now. now;
-    lost = λ h hart now. inl refl;
-    gave_up = λ h hart now. now;
-    tried = λ h hart more now. now;
-  };
-  unraised = λ h hart now. now;
-  served = λ h before request hart now. served (claim_section (is_some hart.section) request _) now;
-  bystander = λ h before request hart now. now;
-}
-  where
-    served : {old new third : Option Section} → new ≡ old → (old ≡ None) ⊎ (old ≡ third) → (new ≡ None) ⊎ (new ≡ third)
-    served same (inl none) = inl (same ∙ none)
-    served same (inr is) = inr (same ∙ is)
-
-kind_section : (state : ModelState) (h g : ℕ) (kind : Kind) → g ≢ h → KeptOrEnded (section_of state g) (hart_of (kind_turn state h kind).state g)
-kind_section state h g kinds.Step apart =
-    let step = step_deed state h in
-    rw step.turn_is
-    (inr (ap (λ hart. hart.section) (hart_of-with_hart_other state h g (hart_after state h step.deed (hart_of state h)) apart)))
-kind_section state h g kinds.Order apart = bus_keeps (kept_or_ended state) state h kinds.Order (λ same. absurd (cc)) (λ k. inr refl) g
-kind_section state h g kinds.Serve apart = bus_keeps (kept_or_ended state) state h kinds.Serve (λ same. absurd (cc)) (λ k. inr refl) g
-kind_section state h g kinds.Deliver apart = bus_keeps (kept_or_ended state) state h kinds.Deliver (λ same. absurd (cc)) (λ k. inr refl) g
-
-still_live : (old new : Option Section) → (new ≡ None) ⊎ (new ≡ old) → is_some new ≡ true → new ≡ old
-still_live old new (inr same) live = same
-still_live old new (inl none) live = not_both live (ap is_some none)
-
-pub other_harts_change_nothing_shown : OtherHartsChangeNothingShown
-unfolding next
-other_harts_change_nothing_shown program config events event h section bytes apart live lives =
-    let state = after program config events in
-    let new = kind_turn state event.hart.number event.kind in
-    let run = live_sections_run_covered program config events h section bytes live in
-    let change = other_harts_change_nothing_covered program config events event h bytes apart in
-    record {
-      same = still_live (section_of state h) _ (kind_section state event.hart.number h event.kind (λ same. apart (sym same))) lives ∙ live;
-      shows = (survives h (cache_of state h) section state.committed new.state.committed run change).1;
-    }

@@ -6,7 +6,7 @@ use Rattle.elf_image.specs.Program.{Program}
 use Rattle.el_model.specs.Next.{after, next, state_after}
 use Rattle.el_model.specs.State.{ModelState, begin}
 
-state_after-last : (state : ModelState) (events : List Event) (event : Event) →
+pub state_after-last : (state : ModelState) (events : List Event) (event : Event) →
     state_after state (events ++ event ∷ []) ≡ (next (state_after state events) event).state
 state_after-last state [] event = refl
 state_after-last state (first ∷ events) event = state_after-last (next state first).state events event

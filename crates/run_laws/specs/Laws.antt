@@ -1,5 +1,5 @@
 -- what holds of the private runs of live sections
-use Rattle.std.specs.Prelude.{ℕ, ◌≡◌, ◌≢◌, ◌+◌, true, false, List, Some}
+use Rattle.std.specs.Prelude.{ℕ, ◌≡◌, ◌≢◌, ◌+◌, true, false, List, [], ◌∷◌, Some}
 use Rattle.cache_sets.specs.Residency.{Way}
 use Rattle.el_base.specs.declared.config.Config.{Config}
 use Rattle.el_base.specs.declared.events.Event.{Event}
@@ -8,7 +8,7 @@ use Rattle.el_base.specs.declared.outcomes.Outcome.TheVariants.{Committed}
 use Rattle.elf_image.specs.Loaded.{program_of}
 use Rattle.elf_image.specs.Program.{Program}
 use Rattle.el_model.specs.InSection.{shown_in}
-use Rattle.el_model.specs.Next.{after, next}
+use Rattle.el_model.specs.Next.{after, next, state_after}
 use Rattle.el_model.specs.State.{ModelState, Section, cache_of, has_request, is_live, section_of}
 use Rattle.el_model.specs.Upcoming.{is_release}
 use Rattle.rv_flat.specs.FlatState.{FlatState}
@@ -55,6 +55,19 @@ OtherHartsChangeNothingShown =
     event.hart.number ≢ h → section_of (after program config events) h ≡ Some section →
     is_live (next (after program config events) event).state h ≡ true →
     IsUntouched (after program config events) (next (after program config events) event).state h section
+
+-- none of these events is a hart's own
+abbrev pub AreOfOthers : ℕ → List Event → Type 0
+AreOfOthers h [] = Unit {0}
+AreOfOthers h (event ∷ events) = (event.hart.number ≢ h) × AreOfOthers h events
+
+-- the same of any events of other harts, one after another
+abbrev pub SectionsSurviveOtherHarts : Type 0
+SectionsSurviveOtherHarts =
+    (program : Program) (config : Config) (events others : List Event) (h : ℕ) (section : Section) → AreBytes program.bytes →
+    AreOfOthers h others → section_of (after program config events) h ≡ Some section →
+    is_live (state_after (after program config events) others) h ≡ true →
+    IsUntouched (after program config events) (state_after (after program config events) others) h section
 
 -- a section commits: all its instructions take effect at once, the release with them
 pub record TakesEffect (state : ModelState) (event : Event) (section : Section) : Type 0 where

@@ -6,6 +6,7 @@ ghost use Rattle.run_laws.specs.Laws.{
   OtherHartsChangeNothingCovered,
   OtherHartsChangeNothingShown,
   ReleasesCommit,
+  SectionsSurviveOtherHarts,
 };
 
 /// The private run of a live section depends on what its bits cover alone: after any change of what is committed that
@@ -41,6 +42,13 @@ pub fn other_harts_change_nothing_covered()
 /// both committed states is the same in both shown ones, and the section is as it was, with its old value.
 pub fn other_harts_change_nothing_shown()
     ensures { OtherHartsChangeNothingShown }
+{}
+
+/// The same of any events of other harts, one after another: a section that is live after them all is as it was, and
+/// its private run ends in the same view and shows the same at each byte that is the same in what was committed before
+/// them and in what is after them.
+pub fn sections_survive_other_harts()
+    ensures { SectionsSurviveOtherHarts }
 {}
 
 /// In every state that can be reached, a step of a hart with a live section that is not at its longest, which waits

@@ -16,5 +16,5 @@ mod laws;
 pub use laws::{
     covered_runs_show_their_own, covered_runs_survive, live_sections_run_covered,
     loaded_programs_are_bytes, other_harts_change_nothing_covered,
-    other_harts_change_nothing_shown, releases_commit,
+    other_harts_change_nothing_shown, releases_commit, sections_survive_other_harts,
 };

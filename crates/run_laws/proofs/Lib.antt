@@ -16,3 +16,4 @@ pub mod OtherHarts
 pub mod Releasing
 pub mod LoadedBytes
 mod Worked
+mod WorkedProgram

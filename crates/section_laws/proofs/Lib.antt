@@ -17,3 +17,7 @@ pub mod TriesLeft
 pub mod Counters
 pub mod OnceEach
 pub mod SerialLength
+pub mod Rooms
+pub mod ServedCaches
+pub mod Bounded
+pub mod Bounds

@@ -1,3 +1,9 @@
+ghost use Rattle.section_laws.specs.Bounds.{
+  CachesAreShaped,
+  WaitingLinesHaveRoom,
+  WaitingWritesAreSpared,
+  WrittenLinesAreFew,
+};
 ghost use Rattle.section_laws.specs.Laws.{
   CopiesAreCoherent,
   CountersStayInRange,
@@ -95,6 +101,30 @@ pub fn written_lines_are_elsewhere_in_no_cache()
 /// In every state that can be reached, no set of a cache has a line twice.
 pub fn no_set_has_a_line_twice()
     ensures { NoSetHasALineTwice }
+{}
+
+/// From a program with as many harts as its configuration has, where that is in range, in every state that can be
+/// reached each hart's cache has as many sets as configured, no set has more lines than ways, none has a line twice,
+/// and a line is in the set of its number.
+pub fn caches_are_shaped()
+    ensures { CachesAreShaped }
+{}
+
+/// In the same states, the line of each request that is raised or ordered has room in its hart's cache, until it is
+/// served: it is there, or its set has fewer lines than ways, or a line without access bits.
+pub fn waiting_lines_have_room()
+    ensures { WaitingLinesHaveRoom }
+{}
+
+/// In the same states, no live section has written more lines than configured.
+pub fn written_lines_are_few()
+    ensures { WrittenLinesAreFew }
+{}
+
+/// In the same states, where a hart waits to write a line that its section has not written, it has written fewer lines
+/// than configured, so that it may write this one too.
+pub fn waiting_writes_are_spared()
+    ensures { WaitingWritesAreSpared }
 {}
 
 /// The serial order of a history is no longer than the history: no more instructions take effect than there were

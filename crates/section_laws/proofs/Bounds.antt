@@ -1,0 +1,504 @@
+-- every event keeps the caches within the bounds of the configuration
+use Rattle.std.proofs.Common.{◌≡◌, ◌≢◌, ◌∙◌, ℕ, zero, suc, ◌≤◌, ◌<◌, ◌||◌, Bool, true, false, List, [], ◌∷◌, Option, None, Some, is_some, length}
+use Rattle.std.proofs.Common.{replicate, refl, ap, sym, subst, inl, inr, ◌⊎◌, arith}
+use Rattle.std.specs.Prelude.{nat_lt, slice_index_or}
+use Rattle.std.proofs.lemmas.Bool.{cases_eq, ltb-true, ltb-false}
+use Rattle.std.proofs.lemmas.Bool.Decides.{nat_tests}
+use Rattle.std.specs.List.{count_by}
+use Rattle.std.proofs.lemmas.List.{length-replicate}
+use Rattle.std.proofs.lemmas.List.Sums.{sum_by-cons}
+use Rattle.bus_order.specs.Order.{Request, removed, request_of}
+use Rattle.bus_order.proofs.LookUps.{request_of_appended_other, request_of_appended_own, request_of_in_front_of_other, request_of_in_front_of_own}
+use Rattle.bus_order.proofs.LookUps.{request_of_removed_other, request_of_removed_own}
+use Rattle.bus_order.proofs.Queues.{hart_of_request_of}
+use Rattle.cache_sets.specs.Cache.{cleared, has_marks, write_bits_of}
+use Rattle.cache_sets.specs.Kept.{marks_of}
+use Rattle.cache_sets.specs.Residency.{Way, is_marked}
+use Rattle.cache_sets.proofs.MarkLemmas.{has_marks-counted, mark_of, one_if}
+use Rattle.el_base.specs.Config.{IsInRange, allows}
+use Rattle.el_base.specs.declared.config.Config.{Config}
+use Rattle.el_base.specs.declared.config.ConfigFault.TheVariants.{Sets}
+use Rattle.el_base.specs.declared.events.Event.{Event}
+use Rattle.el_base.specs.declared.events.Kind.{Kind}
+use Rattle.el_base.specs.declared.events.Kind.TheVariants as kinds
+use Rattle.el_base.specs.declared.outcomes.Need.{Need}
+use Rattle.el_base.specs.declared.outcomes.Need.TheVariants.{Read, Write}
+use Rattle.el_base.proofs.Ranges.{at_least, ranges}
+use Rattle.elf_image.specs.Program.{Program}
+use Rattle.el_model.specs.Deed.{Begins, Buffers, Commits, Deed, DoesWhere, HasRoom, IsCoverable, Misses, Rests, RollsBack, Runs, Waits, hart_after}
+use Rattle.el_model.specs.InSection.{is_full}
+use Rattle.el_model.specs.Next.{after, kind_turn, next, step_turn}
+use Rattle.el_model.specs.Deliver.{deliver_turn}
+use Rattle.el_model.specs.Order.{Alone, Behind, InFront, Place, order_raised, order_turn, place_for, placed}
+use Rattle.el_model.specs.Plain.{after_candidate, candidate_of}
+use Rattle.el_model.specs.Serve.{Blocks, Free, Obstacle, bystander, obstacle_to, others_have, serve_ordered, serve_past, serve_turn, served, with_claim}
+use Rattle.el_model.specs.State.{Hart, ModelState, Section, begin, cache_of, hart_of, head_of, new_hart, ordered_of, raised_of}
+use Rattle.el_model.specs.Upcoming.{Swap, Touch}
+use Rattle.el_model.proofs.Deeds.{step_deed}
+use Rattle.el_model.proofs.FromStart.{kept_after, next_config}
+use Rattle.el_model.proofs.Harts.{hart_of-past}
+use Rattle.section_laws.specs.Bounds.{CachesAreShaped, WaitingLinesHaveRoom, WaitingWritesAreSpared, WaitsWith, WrittenLinesAreFew}
+use Rattle.section_laws.proofs.Bounded.{HasPlace, HasSome, IsConfigured, MayCover, configured_claimed, configured_cleared, configured_committed}
+use Rattle.section_laws.proofs.Bounded.{configured_covered, configured_empty, configured_marked, configured_others, configured_own, configured_touch}
+use Rattle.section_laws.proofs.Bounded.{configured_touched, place_cleared, place_others}
+use Rattle.section_laws.proofs.EachHart.{Each, each_but}
+use Rattle.section_laws.proofs.EachKept.{first_each, next_keeps}
+use Rattle.section_laws.proofs.Moves.{Moves, deliver_keeps, faced_if_keeps, placed_keeps, served_keeps}
+use Rattle.section_laws.proofs.Numbered.{KeptInOrder, next_count, order_keeps, raised_exists}
+use Rattle.section_laws.proofs.OnlyInside as inside
+use Rattle.section_laws.proofs.Rooms.{room_unmarked}
+use Rattle.section_laws.proofs.ServedCaches.{own_after}
+use Rattle.section_laws.proofs.Waiting.{Sound, always_sound, faced_order, free_of_order, is_rolled, mail_order, next_sound, no_request, order_at}
+use Rattle.section_laws.proofs.Waiting.{order_other, placed_order}
+
+-- a hart's cache with what it has left for the hart's request, raised or ordered
+pub record IsBounded (config : Config) (cache : List (List Way)) (raised ordered : Option Request) : Type 0 where
+  pub cache_is : IsConfigured config cache
+  pub for_raised : (request : Request) → raised ≡ Some request → HasPlace config cache request
+  pub for_ordered : (request : Request) → ordered ≡ Some request → HasPlace config cache request
+
+-- of each hart of the machine, with these requests in order
+abbrev Within : Config → ℕ → (ℕ → Option Request) → ℕ → Hart → Type 0
+Within config count ordered h hart = h < count → IsBounded config hart.cache hart.raised (ordered h)
+
+some_none : {A X : Type 0} {x : A} → Some x ≡ None → X
+some_none wrong = absurd (cc)
+
+none_some : {A X : Type 0} {x : A} → None ≡ Some x → X
+none_some wrong = absurd (cc)
+
+-- a hart that waits for nothing
+free_bounded : (config : Config) (cache : List (List Way)) (raised ordered : Option Request) → raised ≡ None → ordered ≡ None →
+    IsConfigured config cache → IsBounded config cache raised ordered
+free_bounded config cache raised ordered not_raised not_ordered now = record {
+  cache_is = now;
+  for_raised = λ request is. some_none (sym is ∙ not_raised);
+  for_ordered = λ request is. some_none (sym is ∙ not_ordered);
+}
+
+-- a section that is lost
+lost_bounded : (config : Config) (cache : List (List Way)) (raised ordered : Option Request) → HasSome config →
+    IsBounded config cache raised ordered → IsBounded config (cleared cache) raised ordered
+lost_bounded config cache raised ordered some now = record {
+  cache_is = configured_cleared config cache now.cache_is;
+  for_raised = λ request is. place_cleared config cache request some;
+  for_ordered = λ request is. place_cleared config cache request some;
+}
+
+moves : (config : Config) (count : ℕ) (ordered : ℕ → Option Request) → HasSome config → Moves (Within config count ordered)
+moves config count ordered some = record {
+  posted_to = λ h hart mail now. now;
+  told = λ h hart told now. now;
+  preceded = λ h hart upstream now. now;
+  saw = λ h hart seen later now. now;
+  lost = λ h hart now exists. lost_bounded config hart.cache hart.raised (ordered h) some (now exists);
+  gave_up = λ h hart now. now;
+  tried = λ h hart more now. now;
+}
+
+-- a step: one that takes a line raises a request where the line has room
+written_within : (set : List Way) → count_by (λ way. way.write) set ≤ count_by is_marked set
+written_within [] = omega arith
+written_within (way ∷ set) =
+    omega (arith, sum_by-cons (λ way. one_if way.write) way set, sum_by-cons mark_of way set, written_within set, by way.read way.write)
+  where
+    by : (read write : Bool) → one_if write ≤ one_if (read || write)
+    by true true = omega arith
+    by true false = omega arith
+    by false true = omega arith
+    by false false = omega arith
+
+written_marked : (cache : List (List Way)) → write_bits_of cache ≤ marks_of cache
+written_marked [] = omega arith
+written_marked (set ∷ cache) =
+    omega (
+      arith,
+      sum_by-cons (λ s. count_by (λ way. way.write) s) set cache,
+      sum_by-cons (λ s. count_by is_marked s) set cache,
+      written_within set,
+      written_marked cache,
+    )
+
+none_written : (cache : List (List Way)) → has_marks cache ≡ false → write_bits_of cache ≡ 0
+none_written cache bare =
+    let less = written_marked cache in
+    let counted = sym (has_marks-counted cache) ∙ bare in
+    let none : marks_of cache ≡ 0 = grind (arith, nat_tests) in
+    omega (arith, less, none)
+
+outside_place : (config : Config) (cache : List (List Way)) (request : Request) → HasSome config → has_marks cache ≡ false →
+    HasPlace config cache request
+outside_place config cache request some bare = record {
+  room = room_unmarked config.ways cache request.line some.ways bare;
+  spare = λ write is. let none = none_written cache bare in let lines = some.lines in omega (arith, none, lines);
+}
+
+not_full : (state : ModelState) (h : ℕ) (need : Need) → IsConfigured state.config (cache_of state h) → is_full state h need ≡ false → need ≡ Write →
+    write_bits_of (cache_of state h) < state.config.lines
+not_full state h Read now free write = absurd (cc)
+not_full state h Write now free write = let few = now.written in grind (arith, nat_tests)
+
+inside_place : (state : ModelState) (h : ℕ) (section : Section) (request : Request) → IsConfigured state.config (cache_of state h) →
+    HasRoom state h section (record { line = request.line; need = request.need }) → HasPlace state.config (cache_of state h) request
+inside_place state h section request now room = record {
+  room = room.room;
+  spare = λ write is. not_full state h request.need now room.not_full write;
+}
+
+same_request : (one other : Request) → Some one ≡ Some other → one ≡ other
+same_request one other same = cc
+
+missed_bounded : (state : ModelState) (h : ℕ) (request : Request) → ordered_of state h ≡ None → IsConfigured state.config (cache_of state h) →
+    HasPlace state.config (cache_of state h) request → IsBounded state.config (cache_of state h) (Some request) (ordered_of state h)
+missed_bounded state h request free now place = record {
+  cache_is = now;
+  for_raised = λ other is. subst (HasPlace state.config (cache_of state h)) (same_request request other is) place;
+  for_ordered = λ other is. some_none (sym is ∙ free);
+}
+
+candidate_bounded : (config : Config) (ordered : Option Request) (pc : ℕ) (had_watch : Bool) (candidate : Option Swap) (hart : Hart) →
+    IsBounded config hart.cache hart.raised ordered →
+    IsBounded config (after_candidate pc had_watch candidate hart).cache (after_candidate pc had_watch candidate hart).raised ordered
+candidate_bounded config ordered pc had_watch None hart now = now
+candidate_bounded config ordered pc had_watch (Some swap) hart now = now
+
+coverable : (state : ModelState) (h : ℕ) (section : Section) (touch : Option Touch) → IsConfigured state.config (cache_of state h) →
+    IsCoverable state h section touch → MayCover state.config (cache_of state h) touch
+coverable state h section None now may = tt
+coverable state h section (Some touch) now (inl has) = λ new. absurd (no (sym has ∙ new))
+  where
+    no : true ≡ false → ⊥
+    no wrong = absurd (cc)
+coverable state h section (Some touch) now (inr (room, permitted)) = λ new write. not_full state h touch.need now room.not_full write
+
+deed_bounded : (state : ModelState) (h : ℕ) (deed : Deed) → DoesWhere state h deed → HasSome state.config → inside.Holds (hart_of state h) →
+    IsBounded state.config (cache_of state h) (raised_of state h) (ordered_of state h) →
+    IsBounded state.config (hart_after state h deed (hart_of state h)).cache (hart_after state h deed (hart_of state h)).raised (ordered_of state h)
+deed_bounded state h Rests does some bare now = now
+deed_bounded state h Waits does some bare now = now
+deed_bounded state h (Misses line need) (inl misses) some bare now =
+    let request : Request = record { hart = h; line = line; need = need; stamp = (hart_of state h).attempt } in
+    missed_bounded state h request (no_request state h misses.outside.free).not_ordered now.cache_is
+    (outside_place state.config (cache_of state h) request some (bare misses.outside.no_section))
+deed_bounded state h (Misses line need) (inr misses) some bare now =
+    let request : Request = record { hart = h; line = line; need = need; stamp = (hart_of state h).attempt } in
+    missed_bounded state h request (no_request state h misses.room.wants.goes.goes_on.is_short.inside.free).not_ordered now.cache_is
+    (inside_place state h misses.section request now.cache_is misses.room)
+deed_bounded state h (Runs touch) runs some bare now =
+    let none = no_request state h runs.outside.free in
+    candidate_bounded state.config (ordered_of state h) _ _ (candidate_of state h) _
+    (free_bounded state.config _ _ _ none.not_raised none.not_ordered (configured_touch state.config (cache_of state h) touch now.cache_is))
+deed_bounded state h (Begins swap) begins some bare now =
+    let none = no_request state h begins.outside.free in
+    free_bounded state.config _ _ _ none.not_raised none.not_ordered
+    (configured_touched state.config _ _ (configured_marked state.config (cache_of state h) _ Read now.cache_is (λ write. absurd (cc))))
+deed_bounded state h (Buffers section touch) buffers some bare now =
+    let none = no_request state h buffers.goes.goes_on.is_short.inside.free in
+    free_bounded state.config _ _ _ none.not_raised none.not_ordered
+    (configured_covered state.config (cache_of state h) touch (coverable state h section touch now.cache_is buffers.coverable) now.cache_is)
+deed_bounded state h (Commits section) commits some bare now =
+    let none = no_request state h commits.goes_on.is_short.inside.free in
+    free_bounded state.config _ _ _ none.not_raised none.not_ordered (configured_committed state.config (cache_of state h) now.cache_is)
+deed_bounded state h (RollsBack section cause) must some bare now =
+    let none = no_request state h (is_rolled state h section cause must).free in
+    free_bounded state.config _ _ _ none.not_raised none.not_ordered (configured_cleared state.config (cache_of state h) now.cache_is)
+
+-- what holds of every state that can be reached, with as many harts as configured
+pub record Bounded (state : ModelState) : Type 0 where
+  pub some : HasSome state.config
+  pub count : length state.harts ≡ state.config.harts
+  pub sound : Sound state
+  pub bare : Each (λ h hart. inside.Holds hart) state
+  pub exists : (h : ℕ) (request : Request) → ordered_of state h ≡ Some request → h < length state.harts
+  pub each : Each (Within state.config (length state.harts) (ordered_of state)) state
+
+past_end : {X : Type 0} (h count : ℕ) → count ≤ h → h < count → X
+past_end h count past below = absurd (omega (arith, past, below))
+
+step_each : (state : ModelState) (h : ℕ) → Bounded state →
+    Each (Within state.config (length state.harts) (ordered_of state)) (step_turn state h).state
+step_each state h now =
+    let step = step_deed state h in
+    rw step.turn_is
+    (each_but (Within state.config (length state.harts) (ordered_of state)) state h (hart_after state h step.deed (hart_of state h))
+    (λ below. deed_bounded state h step.deed step.where_it now.some (now.bare h) (now.each h below))
+    (λ g apart. now.each g) (λ past below. past_end h (length state.harts) past below))
+
+-- a request is ordered
+order_own : (state : ModelState) (request : Request) (place : Place) → request_of state.order request.hart ≡ None →
+    request_of (order_at state request place) request.hart ≡ Some request
+order_own state request InFront free = request_of_in_front_of_own state.order request free
+order_own state request Behind free = request_of_appended_own state.order request free
+order_own state request Alone free = request_of_appended_own state.order request free
+
+ordered_bounded : (config : Config) (cache : List (List Way)) (raised ordered before : Option Request) (request : Request) → raised ≡ Some request →
+    ordered ≡ Some request → IsBounded config cache raised before → IsBounded config cache None ordered
+ordered_bounded config cache raised ordered before request was is now = record {
+  cache_is = now.cache_is;
+  for_raised = λ other asked. none_some asked;
+  for_ordered = λ other asked. now.for_raised other (was ∙ sym is ∙ asked);
+}
+
+placed_each : (state : ModelState) (h : ℕ) (request : Request) (place : Place) → Bounded state → raised_of state h ≡ Some request →
+    Each (Within state.config (length state.harts) (request_of (order_at state request place))) (placed state request place)
+placed_each state h request place now raised =
+    let ordered = request_of (order_at state request place) in
+    let mine : raised_of state request.hart ≡ Some request = ap (raised_of state) ((now.sound h).own request raised) ∙ raised in
+    let free = free_of_order state request.hart request now.sound mine in
+    let hart = hart_of state request.hart in
+    placed_keeps (moves state.config (length state.harts) ordered now.some) state request place
+    (each_but (Within state.config (length state.harts) ordered) state request.hart (record (hart_of state request.hart) { raised = None })
+    (λ below.
+    ordered_bounded state.config hart.cache hart.raised (ordered request.hart) (ordered_of state request.hart) request mine
+    (order_own state request place free) (now.each request.hart below))
+    (λ g apart. rw (order_other state request place g apart) (now.each g))
+    (λ past below. past_end request.hart (length state.harts) past below))
+
+raised_each : (state : ModelState) (h : ℕ) (raised : Option Request) → Bounded state → raised_of state h ≡ raised →
+    Each (Within state.config (length state.harts) (ordered_of (order_raised state raised).state)) (order_raised state raised).state
+raised_each state h None now is = now.each
+raised_each state h (Some request) now is =
+    rw (placed_order state request (place_for state request)) (placed_each state h request (place_for state request) now is)
+
+-- a request is served
+claim_bounded : (config : Config) (others : Bool) (live : Option Section) (request : Request) (hart new : Hart) → hart.raised ≡ None →
+    IsConfigured config hart.cache → HasPlace config hart.cache request → new.raised ≡ hart.raised →
+    new.cache ≡ own_after config.ways others request.need hart.cache request.line →
+    IsBounded config (with_claim (is_some live) request new).cache (with_claim (is_some live) request new).raised None
+claim_bounded config others None request hart new free now place raised cache =
+    free_bounded config _ _ None (raised ∙ free) refl (rw cache (configured_own config others hart.cache request now place))
+claim_bounded config others (Some section) request hart new free now place raised cache =
+    free_bounded config _ _ None (raised ∙ free) refl (rw cache (configured_claimed config others hart.cache request now place))
+
+bystander_bounded : (state : ModelState) (request : Request) (hart : Hart) (ordered : Option Request) →
+    IsBounded state.config hart.cache hart.raised ordered →
+    IsBounded state.config (bystander state request hart).cache (bystander state request hart).raised ordered
+bystander_bounded state request hart ordered now = record {
+  cache_is = configured_others state.config _ request.need hart.cache request.line now.cache_is;
+  for_raised = λ other is. place_others state.config _ request.need hart.cache request.line other now.cache_is (now.for_raised other is);
+  for_ordered = λ other is. place_others state.config _ request.need hart.cache request.line other now.cache_is (now.for_ordered other is);
+}
+
+served_each : (state : ModelState) (h : ℕ) (request : Request) → Bounded state → ordered_of state h ≡ Some request →
+    Each (Within state.config (length state.harts) (request_of (removed state.order request.hart))) (served state request)
+unfolding served
+served_each state h request now is =
+    let mine : ordered_of state request.hart ≡ Some request = ap (ordered_of state) (hart_of_request_of state.order h request is) ∙ is in
+    let hart = hart_of state request.hart in
+    let ordered = request_of (removed state.order request.hart) in
+    let other : (g : ℕ) → g ≢ request.hart → ordered g ≡ ordered_of state g =
+    λ g apart. request_of_removed_other state.order request.hart g (λ same. apart (sym same)) in
+    served_keeps (Within state.config (length state.harts) ordered) state request
+    (λ below.
+    let bounded = now.each request.hart below in
+    rw (request_of_removed_own state.order request.hart)
+    (claim_bounded state.config (others_have state request.hart request.line) hart.section request hart _ (bare (now.sound request.hart).one_request mine)
+    bounded.cache_is (bounded.for_ordered request mine) refl refl))
+    (λ g apart below. rw (other g apart) (bystander_bounded state request (hart_of state g) (ordered_of state g) (now.each g below)))
+    (λ g below. gone g (now.each g below) (cases_eq g request.hart))
+  where
+    bare : (raised_of state request.hart ≡ None) ⊎ (ordered_of state request.hart ≡ None) → ordered_of state request.hart ≡ Some request →
+        raised_of state request.hart ≡ None
+    bare (inl none) mine = none
+    bare (inr none) mine = some_none (sym mine ∙ none)
+
+    gone : (g : ℕ) → IsBounded state.config (cache_of state g) (raised_of state g) (ordered_of state g) → (g ≡ request.hart) ⊎ (g ≡ request.hart → ⊥) →
+        IsBounded state.config (cache_of state g) (raised_of state g) (request_of (removed state.order request.hart) g)
+    gone g bounded (inl same) =
+        record {
+          cache_is = bounded.cache_is;
+          for_raised = bounded.for_raised;
+          for_ordered = λ asked found.
+              none_some (sym (request_of_removed_own state.order request.hart) ∙ ap (request_of (removed state.order request.hart)) (sym same) ∙ found);
+        }
+    gone g bounded (inr apart) = rw (request_of_removed_other state.order request.hart g (λ same. apart (sym same))) bounded
+
+served_order : (state : ModelState) (request : Request) → (served state request).order ≡ removed state.order request.hart
+unfolding served
+served_order state request = refl
+
+past_each : (state : ModelState) (h : ℕ) (request : Request) (obstacle : Obstacle) → Bounded state → ordered_of state h ≡ Some request →
+    Each (Within state.config (length state.harts) (ordered_of (serve_past state request obstacle).state)) (serve_past state request obstacle).state
+past_each state h request (Blocks why by) now is = now.each
+past_each state h request Free now is =
+    let after = served state request in
+    let head = head_of after request.line in
+    rw (faced_order after head)
+    (faced_if_keeps (moves state.config (length state.harts) (ordered_of after) now.some) after head
+    (rw (served_order state request) (served_each state h request now is)))
+
+taken_each : (state : ModelState) (h : ℕ) (found : Option Request) → Bounded state → ordered_of state h ≡ found →
+    Each (Within state.config (length state.harts) (ordered_of (serve_ordered state found).state)) (serve_ordered state found).state
+taken_each state h None now is = now.each
+taken_each state h (Some request) now is = past_each state h request (obstacle_to state request) now is
+
+deliver_each : (state : ModelState) (h : ℕ) → Bounded state →
+    Each (Within state.config (length state.harts) (ordered_of (deliver_turn state h).state)) (deliver_turn state h).state
+unfolding deliver_turn
+deliver_each state h now =
+    rw (mail_order state h (hart_of state h).mail)
+    (deliver_keeps (moves state.config (length state.harts) (ordered_of state) now.some) state h now.each)
+
+kind_each : (state : ModelState) (h : ℕ) (kind : Kind) → Bounded state →
+    Each (Within state.config (length state.harts) (ordered_of (kind_turn state h kind).state)) (kind_turn state h kind).state
+unfolding order_turn serve_turn
+kind_each state h kinds.Step now = let step = step_deed state h in let each = step_each state h now in rw step.turn_is (rw step.turn_is at each)
+kind_each state h kinds.Order now = raised_each state h (raised_of state h) now refl
+kind_each state h kinds.Serve now = taken_each state h (ordered_of state h) now refl
+kind_each state h kinds.Deliver now = deliver_each state h now
+
+next_each : (state : ModelState) (event : Event) → Bounded state →
+    Each (Within state.config (length state.harts) (ordered_of (next state event).state)) (next state event).state
+unfolding next
+next_each state event now = kind_each state event.hart.number event.kind now
+
+-- an ordered request is of a hart of the machine
+below_kept : (count : ℕ) → KeptInOrder (λ order. (h : ℕ) (request : Request) → request_of order h ≡ Some request → h < count) count
+below_kept count = record {
+  placed_last = λ order request exists free now h found is.
+      elim (cases_eq h request.hart) [
+        | inl same ↦ rw same exists
+        | inr apart ↦ now h found (sym (request_of_appended_other order request h (λ same. apart (sym same))) ∙ is)
+      ];
+  placed_before = λ order request exists free now h found is.
+      elim (cases_eq h request.hart) [
+        | inl same ↦ rw same exists
+        | inr apart ↦ now h found (sym (request_of_in_front_of_other order request h (λ same. apart (sym same))) ∙ is)
+      ];
+  taken_out = λ order gone now h found is.
+      elim (cases_eq h gone) [
+        | inl same ↦ none_some (sym (request_of_removed_own order gone) ∙ ap (request_of (removed order gone)) (sym same) ∙ is)
+        | inr apart ↦ now h found (sym (request_of_removed_other order gone h (λ same. apart (sym same))) ∙ is)
+      ];
+}
+
+next_bounded : (state : ModelState) (event : Event) → Bounded state → Bounded (next state event).state
+next_bounded state event now =
+    let config = next_config state event in
+    let count = next_count state event in
+    record {
+      some = rw config now.some;
+      count = count ∙ now.count ∙ ap (λ c. c.harts) (sym config);
+      sound = next_sound state event now.sound;
+      bare = next_keeps inside.kept state event now.bare;
+      exists = rw count (order_keeps state event (below_kept (length state.harts)) now.sound now.exists);
+      each = rw config (rw count (next_each state event now));
+    }
+
+-- the start
+some_of : (config : Config) → IsInRange config → HasSome config
+some_of config range =
+    let in_range = ranges config range in
+    record {
+      sets = some_sets config.sets in_range.sets;
+      ways = at_least 1 8 config.ways in_range.ways;
+      lines = at_least 1 32 config.lines in_range.lines;
+    }
+  where
+    some_sets : (sets : ℕ) → allows Sets sets ≡ true → 1 ≤ sets
+    some_sets sets is = grind (arith, nat_tests)
+
+record IsNew (config : Config) (hart : Hart) : Type 0 where
+  cache_is : IsConfigured config hart.cache
+  not_raised : hart.raised ≡ None
+
+first_at : (config : Config) (count h : ℕ) → HasSome config → h < count → IsNew config (slice_index_or (replicate count (new_hart config.sets)) h (new_hart 0))
+first_at config zero h some below = absurd (omega (arith, below))
+first_at config (suc count) zero some below = record { cache_is = configured_empty config some; not_raised = refl }
+first_at config (suc count) (suc h) some below = first_at config count h some (omega (arith, below))
+
+first_bounded : (program : Program) (config : Config) → program.harts ≡ config.harts → IsInRange config → Bounded (begin program config)
+unfolding begin
+first_bounded program config same range =
+    let some = some_of config range in
+    let count : length (replicate program.harts (new_hart config.sets)) ≡ program.harts = length-replicate program.harts (new_hart config.sets) in
+    record {
+      some = some;
+      count = count ∙ same;
+      sound = always_sound program config [];
+      bare = first_each inside.kept program config;
+      exists = λ h request is. none_some is;
+      each = λ h below.
+          let new = first_at config program.harts h some (omega (arith, below, count)) in
+          free_bounded config _ _ None new.not_raised refl new.cache_is;
+    }
+
+pub always_bounded : (program : Program) (config : Config) (events : List Event) → program.harts ≡ config.harts → IsInRange config →
+    Bounded (after program config events)
+always_bounded program config events same range = kept_after Bounded next_bounded (begin program config) events (first_bounded program config same range)
+
+-- the laws
+first_config : (program : Program) (config : Config) → (begin program config).config ≡ config
+unfolding begin
+first_config program config = refl
+
+always_config : (program : Program) (config : Config) (events : List Event) → (after program config events).config ≡ config
+always_config program config events =
+    kept_after (λ state. state.config ≡ config) (λ state event now. next_config state event ∙ now) (begin program config) events
+    (first_config program config)
+
+-- of a hart of the machine, by the configuration that it began with
+bounded_at : (program : Program) (config : Config) (events : List Event) (h : ℕ) → program.harts ≡ config.harts → IsInRange config → h < config.harts →
+    IsBounded config (cache_of (after program config events) h) (raised_of (after program config events) h)
+    (ordered_of (after program config events) h)
+bounded_at program config events h same range below =
+    let state = after program config events in
+    let bounded = always_bounded program config events same range in
+    let is = always_config program config events in
+    let count = bounded.count ∙ ap (λ c. c.harts) is in
+    subst (λ c. IsBounded c (cache_of state h) (raised_of state h) (ordered_of state h)) is (bounded.each h (omega (arith, below, count)))
+
+pub caches_are_shaped : CachesAreShaped
+caches_are_shaped program config events same range h below = (bounded_at program config events h same range below).cache_is.shaped
+
+-- a hart that waits is one of the machine's
+waits_below : (program : Program) (config : Config) (events : List Event) (h : ℕ) (request : Request) → program.harts ≡ config.harts →
+    IsInRange config → WaitsWith (after program config events) h request → h < config.harts
+waits_below program config events h request same range waits =
+    let count = bounded.count ∙ ap (λ c. c.harts) (always_config program config events) in
+    let below = exists waits in
+    omega (arith, count, below)
+  where
+    state : ModelState
+    state = after program config events
+
+    bounded : Bounded state
+    bounded = always_bounded program config events same range
+
+    exists : WaitsWith state h request → h < length state.harts
+    exists (inl raised) = subst (λ n. n < length state.harts) ((bounded.sound h).own request raised) (raised_exists state h request bounded.sound raised)
+    exists (inr ordered) = bounded.exists h request ordered
+
+place_of : (program : Program) (config : Config) (events : List Event) (h : ℕ) (request : Request) → program.harts ≡ config.harts →
+    IsInRange config → WaitsWith (after program config events) h request → HasPlace config (cache_of (after program config events) h) request
+place_of program config events h request same range waits =
+    by waits (bounded_at program config events h same range (waits_below program config events h request same range waits))
+  where
+    state : ModelState
+    state = after program config events
+
+    by : WaitsWith state h request → IsBounded config (cache_of state h) (raised_of state h) (ordered_of state h) →
+        HasPlace config (cache_of state h) request
+    by (inl raised) bounded = bounded.for_raised request raised
+    by (inr ordered) bounded = bounded.for_ordered request ordered
+
+pub waiting_lines_have_room : WaitingLinesHaveRoom
+waiting_lines_have_room program config events same range h request waits = (place_of program config events h request same range waits).room
+
+pub waiting_writes_are_spared : WaitingWritesAreSpared
+waiting_writes_are_spared program config events same range h request waits write new =
+    (place_of program config events h request same range waits).spare write new
+
+pub written_lines_are_few : WrittenLinesAreFew
+written_lines_are_few program config events same range h = by (nat_lt h config.harts) refl
+  where
+    state : ModelState
+    state = after program config events
+
+    by : (below : Bool) → nat_lt h config.harts ≡ below → write_bits_of (cache_of state h) ≤ config.lines
+    by true below = (bounded_at program config events h same range (ltb-true h config.harts below)).cache_is.written
+    by false above =
+        let past = ltb-false h config.harts above in
+        let count = (always_bounded program config events same range).count ∙ ap (λ c. c.harts) (always_config program config events) in
+        let none = ap (λ hart. write_bits_of hart.cache) (hart_of-past state h (omega (arith, past, count))) in
+        omega (arith, none)

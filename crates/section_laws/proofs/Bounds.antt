@@ -8,7 +8,7 @@ use Rattle.std.specs.List.{count_by}
 use Rattle.std.proofs.lemmas.List.{length-replicate}
 use Rattle.std.proofs.lemmas.List.Sums.{sum_by-cons}
 use Rattle.bus_order.specs.Order.{Request, removed, request_of}
-use Rattle.bus_order.proofs.LookUps.{request_of_appended_other, request_of_appended_own, request_of_in_front_of_other, request_of_in_front_of_own}
+use Rattle.bus_order.proofs.LookUps.{request_of_appended_own, request_of_in_front_of_own}
 use Rattle.bus_order.proofs.LookUps.{request_of_removed_other, request_of_removed_own}
 use Rattle.bus_order.proofs.Queues.{hart_of_request_of}
 use Rattle.cache_sets.specs.Cache.{cleared, has_marks, write_bits_of}
@@ -44,8 +44,9 @@ use Rattle.section_laws.proofs.Bounded.{configured_touched, place_cleared, place
 use Rattle.section_laws.proofs.EachHart.{Each, each_but}
 use Rattle.section_laws.proofs.EachKept.{first_each, next_keeps}
 use Rattle.section_laws.proofs.Moves.{Moves, deliver_keeps, faced_if_keeps, placed_keeps, served_keeps}
-use Rattle.section_laws.proofs.Numbered.{KeptInOrder, next_count, order_keeps, raised_exists}
+use Rattle.section_laws.proofs.Numbered.{next_count, order_keeps, raised_exists}
 use Rattle.section_laws.proofs.OnlyInside as inside
+use Rattle.section_laws.proofs.OrderedHarts.{AreBelow, below_kept}
 use Rattle.section_laws.proofs.Rooms.{room_unmarked}
 use Rattle.section_laws.proofs.ServedCaches.{own_after}
 use Rattle.section_laws.proofs.Waiting.{Sound, always_sound, faced_order, free_of_order, is_rolled, mail_order, next_sound, no_request, order_at}
@@ -209,7 +210,7 @@ pub record Bounded (state : ModelState) : Type 0 where
   pub count : length state.harts ≡ state.config.harts
   pub sound : Sound state
   pub bare : Each (λ h hart. inside.Holds hart) state
-  pub exists : (h : ℕ) (request : Request) → ordered_of state h ≡ Some request → h < length state.harts
+  pub exists : AreBelow (length state.harts) state.order
   pub each : Each (Within state.config (length state.harts) (ordered_of state)) state
 
 past_end : {X : Type 0} (h count : ℕ) → count ≤ h → h < count → X
@@ -352,26 +353,7 @@ next_each : (state : ModelState) (event : Event) → Bounded state →
 unfolding next
 next_each state event now = kind_each state event.hart.number event.kind now
 
--- an ordered request is of a hart of the machine
-below_kept : (count : ℕ) → KeptInOrder (λ order. (h : ℕ) (request : Request) → request_of order h ≡ Some request → h < count) count
-below_kept count = record {
-  placed_last = λ order request exists free now h found is.
-      elim (cases_eq h request.hart) [
-        | inl same ↦ rw same exists
-        | inr apart ↦ now h found (sym (request_of_appended_other order request h (λ same. apart (sym same))) ∙ is)
-      ];
-  placed_before = λ order request exists free now h found is.
-      elim (cases_eq h request.hart) [
-        | inl same ↦ rw same exists
-        | inr apart ↦ now h found (sym (request_of_in_front_of_other order request h (λ same. apart (sym same))) ∙ is)
-      ];
-  taken_out = λ order gone now h found is.
-      elim (cases_eq h gone) [
-        | inl same ↦ none_some (sym (request_of_removed_own order gone) ∙ ap (request_of (removed order gone)) (sym same) ∙ is)
-        | inr apart ↦ now h found (sym (request_of_removed_other order gone h (λ same. apart (sym same))) ∙ is)
-      ];
-}
-
+-- what holds after each event
 next_bounded : (state : ModelState) (event : Event) → Bounded state → Bounded (next state event).state
 next_bounded state event now =
     let config = next_config state event in

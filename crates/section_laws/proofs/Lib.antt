@@ -4,6 +4,7 @@ pub mod EachKept
 pub mod Statuses
 pub mod Waiting
 pub mod Numbered
+pub mod OrderedHarts
 pub mod SectionSteps
 pub mod UnnamedLosers
 pub mod Lengths
@@ -21,3 +22,5 @@ pub mod Rooms
 pub mod ServedCaches
 pub mod Bounded
 pub mod Bounds
+pub mod Boxes
+pub mod Messages

@@ -16,6 +16,7 @@ ghost use Rattle.section_laws.specs.Laws.{
   WrittenLinesAreElsewhereInNoCache,
   WrittenLinesMayBeWritten,
 };
+ghost use Rattle.section_laws.specs.Messages.{MessagesAreFewerThanHarts, MessagesNameOthersOnce};
 ghost use Rattle.section_laws.specs.Sections.{
   BegunSectionsAreAccountedFor,
   NoneBeginsAfterRollback,
@@ -125,6 +126,19 @@ pub fn written_lines_are_few()
 /// than configured, so that it may write this one too.
 pub fn waiting_writes_are_spared()
     ensures { WaitingWritesAreSpared }
+{}
+
+/// In every state that can be reached, no mailbox has a message twice, no hart is listed twice among the origins that a
+/// hart was told of or among those before it, and each message and each listed hart is another hart of the machine.
+pub fn messages_name_others_once()
+    ensures { MessagesNameOthersOnce }
+{}
+
+/// In every state that can be reached, a hart has fewer markers in its mailbox than the machine has harts, fewer
+/// probes, fewer origins that it was told of, and fewer harts before it: at most seven of each, where the configuration
+/// is in range.
+pub fn messages_are_fewer_than_harts()
+    ensures { MessagesAreFewerThanHarts }
 {}
 
 /// The serial order of a history is no longer than the history: no more instructions take effect than there were

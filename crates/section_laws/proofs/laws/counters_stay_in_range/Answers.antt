@@ -1,6 +1,6 @@
 use Rattle.section_laws.proofs.Counters as counters
 use Rattle.section_laws.proofs.laws.counters_stay_in_range.Goals as goal
 
--- src/laws.rt:36:1
+-- src/laws.rt:42:1
 pub returns : goal.returns
 returns c = counters.counters_stay_in_range

@@ -24,3 +24,4 @@ pub mod Bounded
 pub mod Bounds
 pub mod Boxes
 pub mod Messages
+pub mod FullSet

@@ -8,3 +8,7 @@
 //! The ideas are those of R. Rajwar and J. R. Goodman, 'Transactional Lock-Free Execution of Lock-Based Programs',
 //! ASPLOS 2002; the rules are this project's profile.
 #![tactic(auto)]
+
+mod laws;
+
+pub use laws::{later_attempts_are_later, stamps_are_distinct, stamps_are_kept};

@@ -1,0 +1,50 @@
+-- the laws of lock removal
+use Rattle.std.specs.Prelude.{ℕ, ◌≡◌, ◌<◌, ◌==◌, ◌&&◌, ◌||◌, Bool, true, false, List, [], ◌∷◌, Option, Some}
+use Rattle.el_base.specs.declared.config.Config.{Config}
+use Rattle.el_base.specs.declared.config.Mode.TheVariants.{Tlr}
+use Rattle.el_base.specs.declared.events.Event.{Event}
+use Rattle.elf_image.specs.Program.{Program}
+use Rattle.el_model.specs.Next.{after, next, state_after}
+use Rattle.el_model.specs.State.{ModelState, hart_of}
+use Rattle.section_laws.specs.Sections.{is_committed, is_rolled_back}
+use Rattle.stamp.specs.Stamps.{Stamp}
+
+-- a hart's open attempt
+abbrev pub attempt_of : ModelState → ℕ → Option Stamp
+attempt_of state h = (hart_of state h).attempt
+
+-- whether this event closes a hart's attempt: its section commits, or the hart rolls it back itself
+abbrev pub closes : ModelState → Event → ℕ → Bool
+closes state event h =
+    (event.hart.number == h) && (is_committed (next state event).outcome || is_rolled_back (next state event).outcome)
+
+-- no two harts have the same stamp
+abbrev pub StampsAreDistinct : Type 0
+StampsAreDistinct =
+    (program : Program) (config : Config) (events : List Event) (g h : ℕ) (stamp : Stamp) →
+    attempt_of (after program config events) g ≡ Some stamp → attempt_of (after program config events) h ≡ Some stamp → g ≡ h
+
+-- none of these events closes the attempt of a hart
+abbrev pub NeverCloses : ModelState → ℕ → List Event → Type 0
+NeverCloses state h [] = Unit {0}
+NeverCloses state h (event ∷ events) = (closes state event h ≡ false) × NeverCloses (next state event).state h events
+
+-- a stamp is kept until its attempt closes, whatever sections are lost in between
+abbrev pub StampsAreKept : Type 0
+StampsAreKept =
+    (state : ModelState) (h : ℕ) (events : List Event) (stamp : Stamp) → NeverCloses state h events →
+    attempt_of state h ≡ Some stamp → attempt_of (state_after state events) h ≡ Some stamp
+
+-- once an attempt has closed, each later one of its hart has a greater clock than the hart had, and than it had seen,
+-- at any time before the close; an open attempt has the clock of its hart
+pub record IsLater (state : ModelState) (h : ℕ) (later : Stamp) : Type 0 where
+  pub than_earlier : (earlier : Stamp) → attempt_of state h ≡ Some earlier → earlier.clock < later.clock
+  pub than_clock : (hart_of state h).clock < later.clock
+  pub than_seen : (hart_of state h).seen < later.clock
+
+abbrev pub LaterAttemptsAreLater : Type 0
+LaterAttemptsAreLater =
+    (program : Program) (config : Config) (events between afterwards : List Event) (closing : Event) (h : ℕ) (later : Stamp) →
+    config.mode ≡ Tlr → closes (state_after (after program config events) between) closing h ≡ true →
+    attempt_of (state_after (next (state_after (after program config events) between) closing).state afterwards) h ≡ Some later →
+    IsLater (after program config events) h later

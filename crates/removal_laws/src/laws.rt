@@ -1,0 +1,22 @@
+ghost use Rattle.removal_laws.specs.Laws.{LaterAttemptsAreLater, StampsAreDistinct, StampsAreKept};
+
+/// In every state that can be reached, no two harts have open attempts with the same stamp.
+#[tactic(auto, using(crate::proofs::Attempts::stamps_are_distinct))]
+pub fn stamps_are_distinct()
+    ensures { StampsAreDistinct }
+{}
+
+/// A hart keeps the stamp of its attempt until that closes, by a commit or by a rollback of its own, over any
+/// number of sections that it loses. This is said of any state and any mode.
+#[tactic(auto, using(crate::proofs::Clocks::stamps_are_kept))]
+pub fn stamps_are_kept()
+    ensures { StampsAreKept }
+{}
+
+/// In lock removal, once an attempt of a hart has closed, each later one has a greater clock: greater than that of
+/// each earlier attempt, than the hart's own clock and than the greatest clock that it had seen, at any time before
+/// the close.
+#[tactic(auto, using(crate::proofs::Clocks::later_attempts_are_later))]
+pub fn later_attempts_are_later()
+    ensures { LaterAttemptsAreLater }
+{}

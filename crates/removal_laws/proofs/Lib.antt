@@ -3,3 +3,5 @@ pub mod Clocks
 pub mod Bits
 pub mod Posting
 pub mod Facing
+pub mod Kept
+pub mod Requests

@@ -47,7 +47,7 @@ pub record Moved (old new : ModelState) : Type 0 where
   pub upstream : (g before : ℕ) → has (hart_of new g).upstream before ≡ true → (has (hart_of old g).upstream before ≡ true) ⊎ Owed new g before
   pub told : (g origin : ℕ) → has (hart_of new g).told origin ≡ true → (has (hart_of old g).told origin ≡ true) ⊎ OwedOf new g origin
 
-on_before : (old new : ModelState) → new.order ≡ old.order → (h line : ℕ) (found : Option Request) → ordered_on new h line ≡ found →
+pub on_before : (old new : ModelState) → new.order ≡ old.order → (h line : ℕ) (found : Option Request) → ordered_on new h line ≡ found →
     ordered_on old h line ≡ found
 on_before old new order h line found is = subst (λ o. for_line line (request_of o h) ≡ found) order is
 
@@ -120,7 +120,8 @@ pub record Kept (old new : Hart) : Type 0 where
   pub seen : old.seen ≤ new.seen
 
 pub may_kept : (old new : ModelState) (g line : ℕ) → head_of new line ≡ head_of old line →
-    ((origin : ℕ) (request : Request) → ordered_on new origin line ≡ Some request → ordered_on old origin line ≡ Some request) →
+    ((origin : ℕ) (request : Request) → has (hart_of old g).told origin ≡ true → ordered_on new origin line ≡ Some request →
+    ordered_on old origin line ≡ Some request) →
     ((head : Request) → head_of old line ≡ Some head → IsLinked (hart_of old head.hart) g → IsLinked (hart_of new head.hart) g) →
     Kept (hart_of old g) (hart_of new g) → MayRetain old g line → MayRetain new g line
 may_kept old new g line heads orders links kept may = record {
@@ -131,7 +132,7 @@ may_kept old new g line heads orders links kept may = record {
       omega (arith, was, more);
   not_after_head = λ head is. rw kept.attempt (may.not_after_head head (sym heads ∙ is));
   not_after_told = λ origin request told is.
-      rw kept.attempt (may.not_after_told origin request (kept.told origin told) (orders origin request is));
+      rw kept.attempt (may.not_after_told origin request (kept.told origin told) (orders origin request (kept.told origin told) is));
 }
 
 -- a section that retains a line retained it before, by the same head
@@ -149,7 +150,7 @@ retaining_posted on old new posts now = record {
   may = λ g line is_on is.
       let post = posts.each_posted g in
       may_kept old new g line (ap (λ o. first_of o line) posts.order)
-      (λ origin request is. on_before old new posts.order origin line (Some request) is)
+      (λ origin request told is. on_before old new posts.order origin line (Some request) is)
       (λ head is_head link. (posts.each_posted head.hart).links g link)
       (record {
         attempt = post.attempt;

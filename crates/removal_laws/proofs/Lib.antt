@@ -5,3 +5,7 @@ pub mod Posting
 pub mod Facing
 pub mod Kept
 pub mod Requests
+pub mod Queues
+pub mod Grounds
+pub mod Ordering
+pub mod Placing

@@ -8,4 +8,5 @@ pub mod Requests
 pub mod Queues
 pub mod Grounds
 pub mod Ordering
+pub mod Faced
 pub mod Placing

@@ -20,7 +20,8 @@ use Rattle.el_model.proofs.Keeps.{keeps_faced}
 use Rattle.el_model.proofs.Tests.{by_test}
 use Rattle.removal_laws.specs.Facts.{Everywhere, IsChained, IsLinked, IsWaiting, MayPrecede, Messages, Retaining}
 use Rattle.removal_laws.proofs.Bits.{both, clash, fewer_bit, first_of_both, in_the_way, second_of_both, some_none, some_same}
-use Rattle.removal_laws.proofs.Facing.{Stayed, face_may, face_posts, faced_retains}
+use Rattle.removal_laws.proofs.Faced.{Facing, FirstOn, Other, all_faced, faced_stands}
+use Rattle.removal_laws.proofs.Facing.{faced_retains}
 use Rattle.removal_laws.proofs.Grounds.{Grounds, Standing}
 use Rattle.removal_laws.proofs.Kept.{AllPosted, chained_kept, messages_moved, moved_by_post, retaining_posted}
 use Rattle.removal_laws.proofs.Ordering.{Ordering, base, base_messages, base_retaining, bit_before, linked_still, live_before, mask, other_ordered, own_ordered, same_count, waits_still}
@@ -76,10 +77,6 @@ linked_to state h None found mode is exists = absurd (cc)
 linked_to state h (Some former) found mode is exists =
     subst (λ r. IsLinked (hart_of (marked_from state.config.mode state h former.hart) r.hart) h) (some_same is)
     (linked_one state.config.mode state h former.hart mode (subst (λ r. r.hart < length state.harts) (sym (some_same is)) exists))
-
--- the other lines
-abbrev pub Other : ℕ → ℕ → Type 0
-Other line other = other ≢ line
 
 -- what is said of the other lines and of one is said of all
 pub all_chained : (state : ModelState) (line : ℕ) → Messages (Other line) state → IsChained state (queue_of state.order line) → Messages Everywhere state
@@ -146,3 +143,51 @@ module _ (state : ModelState) (request : Request) (grounds : Grounds state) (ord
             (base_retaining state request Behind grounds ordering standing Everywhere (λ line on. behind_head has_head line)
             (λ on live bit. clash no_bit (both live bit)));
       }
+
+  -- alone on its line
+  alone_first : (first : Option Request) → first ≡ None → option_or first (Some request) ≡ Some request
+  alone_first None none = refl
+  alone_first (Some found) none = some_none none
+
+  alone_facing : head_of state request.line ≡ None → Facing (base state request Alone) request
+  alone_facing no_head = record {
+    mode = grounds.opened.mode;
+    below = below;
+    first = first_of_appended_own state.order request ∙ alone_first (head_of state request.line) no_head;
+    ordered = own_ordered state request Alone grounds ordering standing;
+    messages =
+        all_chained (base state request Alone) request.line
+        (base_messages state request Alone grounds ordering standing (Other request.line)
+        (λ line apart. queue_of_appended_other state.order request line (λ same. apart (sym same))))
+        (subst (IsChained (base state request Alone))
+        (sym (queue_of_appended_own state.order request ∙ ap (λ queue. queue ++ request ∷ []) (no_queue state.order request.line no_head))) tt);
+    retaining =
+        base_retaining state request Alone grounds ordering standing (Other request.line)
+        (λ line apart. first_of_appended_other state.order request line (λ same. apart (sym same)))
+        (λ on live bit. absurd (on refl));
+  }
+    where
+      below : AreBelow (length (base state request Alone).harts) (base state request Alone).order
+      below h found is = by (cases_eq h request.hart)
+        where
+          by : (h ≡ request.hart) ⊎ (h ≡ request.hart → ⊥) → h < length (base state request Alone).harts
+          by (inl same) = rw (same_count state request Alone grounds ordering standing) (rw same ordering.exists)
+          by (inr apart) =
+              rw (same_count state request Alone grounds ordering standing)
+              (grounds.below h found (sym (other_ordered state request Alone grounds ordering standing h apart) ∙ is))
+
+  pub alone_stands : head_of state request.line ≡ None → Standing (placed state request Alone)
+  unfolding placed
+  alone_stands no_head = faced_stands (base state request Alone) request (alone_facing no_head) first
+    where
+      first : FirstOn (base state request Alone) (faced (base state request Alone) request) request.line
+      first h found line is live bit = by (cases_eq h request.hart)
+        where
+          by : (h ≡ request.hart) ⊎ (h ≡ request.hart → ⊥) → head_of (base state request Alone) found.line ≡ Some found
+          by (inl same) =
+              let e : request ≡ found = some_same (sym (own_ordered state request Alone grounds ordering standing) ∙ ap (ordered_of (base state request Alone)) (sym same) ∙ is) in
+              subst (λ r. head_of (base state request Alone) r.line ≡ Some r) e
+              (first_of_appended_own state.order request ∙ alone_first (head_of state request.line) no_head)
+          by (inr apart) =
+              has_first state.order h found (sym (other_ordered state request Alone grounds ordering standing h apart) ∙ is)
+              (ap (head_of state) line ∙ no_head)

@@ -26,7 +26,7 @@ use Rattle.removal_laws.proofs.Grounds.{Grounds, Standing}
 use Rattle.removal_laws.proofs.Kept.{AllPosted, Kept, chained_kept, may_kept, messages_moved, moved_by_post, retained_before, retaining_posted, head_line}
 use Rattle.removal_laws.proofs.Posting.{Posted, is_marked, marked, unchanged}
 use Rattle.removal_laws.proofs.Queues.{chained_before, chained_more, has_first, head_is, no_queue, tail_is}
-use Rattle.removal_laws.proofs.Requests.{placed_own, raised_own}
+use Rattle.removal_laws.proofs.Requests.{AreBelow, placed_own, raised_own}
 use Rattle.section_laws.proofs.EachHart.{Each, each_with}
 use Rattle.section_laws.proofs.Numbered.{raised_exists}
 use Rattle.section_laws.proofs.Waiting.{free_of_order, order_at, order_other}
@@ -89,6 +89,13 @@ module _ (state : ModelState) (request : Request) (place : Place) (grounds : Gro
   pub same_count : length (base state request place).harts ≡ length state.harts
   same_count = length-set state.harts request.hart (masked (hart_of state request.hart))
 
+  pub base_below : AreBelow (length (base state request place).harts) (base state request place).order
+  base_below h found is = by (cases_eq h request.hart)
+    where
+      by : (h ≡ request.hart) ⊎ (h ≡ request.hart → ⊥) → h < length (base state request place).harts
+      by (inl same) = rw same_count (rw same ordering.exists)
+      by (inr apart) = rw same_count (grounds.below h found (sym (other_ordered h apart) ∙ is))
+
   -- what is ordered on a line was so before, but for the request itself
   on_still : (g line : ℕ) (found : Request) → IsWaiting state g → ordered_on (base state request place) g line ≡ Some found →
       ordered_on state g line ≡ Some found
@@ -120,7 +127,7 @@ module _ (state : ModelState) (request : Request) (place : Place) (grounds : Gro
         (on_still origin line found (standing.messages.known h origin (inr was_told)).waits waits));
   }
 
-  same_bits : (line : ℕ) (g : ℕ) → Fewer line (hart_of state g) (hart_of (base state request place) g)
+  pub same_bits : (line : ℕ) (g : ℕ) → Fewer line (hart_of state g) (hart_of (base state request place) g)
   same_bits line g =
       fewer_same line (hart_of state g) (hart_of (base state request place) g) (ap (λ hart. hart.section) (mask state request place g))
       (ap (λ hart. hart.cache) (mask state request place g))

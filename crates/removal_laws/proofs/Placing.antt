@@ -16,15 +16,15 @@ use Rattle.el_model.specs.Face.{faced}
 use Rattle.el_model.specs.Order.{Alone, Behind, InFront, Place, marked_by, marked_from, marking, order_raised, place_for, placed}
 use Rattle.el_model.specs.State.{Hart, ModelState, cache_of, hart_of, head_of, is_live, ordered_of, raised_of}
 use Rattle.el_model.proofs.Harts.{hart_of-with_hart_same}
-use Rattle.el_model.proofs.Keeps.{keeps_faced}
+use Rattle.el_model.proofs.Keeps.{keeps_marking}
 use Rattle.el_model.proofs.Tests.{by_test}
 use Rattle.removal_laws.specs.Facts.{Everywhere, IsChained, IsLinked, IsWaiting, MayPrecede, Messages, Retaining}
-use Rattle.removal_laws.proofs.Bits.{both, clash, fewer_bit, first_of_both, in_the_way, second_of_both, some_none, some_same}
+use Rattle.removal_laws.proofs.Bits.{Fewer, both, clash, fewer_bit, fewer_twice, first_of_both, in_the_way, second_of_both, some_none, some_same}
 use Rattle.removal_laws.proofs.Faced.{Facing, FirstOn, Other, all_faced, faced_stands}
 use Rattle.removal_laws.proofs.Facing.{faced_retains}
 use Rattle.removal_laws.proofs.Grounds.{Grounds, Standing}
 use Rattle.removal_laws.proofs.Kept.{AllPosted, chained_kept, messages_moved, moved_by_post, retaining_posted}
-use Rattle.removal_laws.proofs.Ordering.{Ordering, base, base_messages, base_retaining, bit_before, linked_still, live_before, mask, other_ordered, own_ordered, same_count, waits_still}
+use Rattle.removal_laws.proofs.Ordering.{Ordering, base, base_below, base_messages, base_retaining, bit_before, linked_still, live_before, mask, other_ordered, own_ordered, same_bits, same_count, waits_still}
 use Rattle.removal_laws.proofs.Posting.{Posted, is_marked, marked, unchanged}
 use Rattle.removal_laws.proofs.Queues.{chained_before, chained_more, has_first, head_is, no_queue, tail_is}
 use Rattle.removal_laws.proofs.Requests.{AreBelow, raised_own}
@@ -92,6 +92,15 @@ all_chained state line others own = record {
     by l (inl same) = rw same own
     by l (inr apart) = others.chained l apart
 
+-- of the attempts of two harts one is before the other
+no_tie : {X : Type 0} (a b : Option Stamp) (g h : ℕ) → g ≢ h → ((stamp : Stamp) → a ≡ Some stamp → stamp.hart ≡ g) →
+    ((stamp : Stamp) → b ≡ Some stamp → stamp.hart ≡ h) → is_some a ≡ true → is_some b ≡ true → is_before a b ≡ false → is_before b a ≡ false → X
+no_tie None b g h apart own_a own_b some_a some_b one other = absurd (cc)
+no_tie (Some a) None g h apart own_a own_b some_a some_b one other = absurd (cc)
+no_tie (Some a) (Some b) g h apart own_a own_b some_a some_b one other =
+    let same = less_strict.total a b one other in
+    absurd (apart (sym (own_a a refl) ∙ ap (λ s. s.hart) same ∙ own_b b refl))
+
 module _ (state : ModelState) (request : Request) (grounds : Grounds state) (ordering : Ordering state request) (standing : Standing state) where
   -- behind the other requests of its line
   behind_posts : AllPosted (base state request Behind) (marked_by (base state request Behind) (tail_of state.order request.line) request.hart)
@@ -152,7 +161,7 @@ module _ (state : ModelState) (request : Request) (grounds : Grounds state) (ord
   alone_facing : head_of state request.line ≡ None → Facing (base state request Alone) request
   alone_facing no_head = record {
     mode = grounds.opened.mode;
-    below = below;
+    below = base_below state request Alone grounds ordering standing;
     first = first_of_appended_own state.order request ∙ alone_first (head_of state request.line) no_head;
     ordered = own_ordered state request Alone grounds ordering standing;
     messages =
@@ -166,15 +175,6 @@ module _ (state : ModelState) (request : Request) (grounds : Grounds state) (ord
         (λ line apart. first_of_appended_other state.order request line (λ same. apart (sym same)))
         (λ on live bit. absurd (on refl));
   }
-    where
-      below : AreBelow (length (base state request Alone).harts) (base state request Alone).order
-      below h found is = by (cases_eq h request.hart)
-        where
-          by : (h ≡ request.hart) ⊎ (h ≡ request.hart → ⊥) → h < length (base state request Alone).harts
-          by (inl same) = rw (same_count state request Alone grounds ordering standing) (rw same ordering.exists)
-          by (inr apart) =
-              rw (same_count state request Alone grounds ordering standing)
-              (grounds.below h found (sym (other_ordered state request Alone grounds ordering standing h apart) ∙ is))
 
   pub alone_stands : head_of state request.line ≡ None → Standing (placed state request Alone)
   unfolding placed
@@ -191,3 +191,167 @@ module _ (state : ModelState) (request : Request) (grounds : Grounds state) (ord
           by (inr apart) =
               has_first state.order h found (sym (other_ordered state request Alone grounds ordering standing h apart) ∙ is)
               (ap (head_of state) line ∙ no_head)
+
+  -- in front of the other requests of its line, where its hart's section has a bit there
+  abbrev front : ModelState
+  front = marking (base state request InFront) request.hart (head_of state request.line)
+
+  former_is : (former : Request) → head_of state request.line ≡ Some former → ordered_of state former.hart ≡ Some former
+  former_is former is = request_of_first_of state.order request.line former grounds.once.once is
+
+  front_posts : AllPosted (base state request InFront) front
+  front_posts =
+      posted_to (base state request InFront) request.hart (head_of state request.line) grounds.opened.mode
+      (λ former is.
+      let found = former_is former is in
+      record {
+        waits = waits_still state request InFront grounds ordering standing former.hart (ap is_some found);
+        other = λ same. some_none (sym found ∙ ap (request_of state.order) (sym same) ∙ ordering.free);
+        exists = rw (same_count state request InFront grounds ordering standing) ordering.exists;
+      })
+
+  front_chained : IsChained front (request ∷ queue_of state.order request.line)
+  front_chained =
+      let posts = front_posts in
+      chained_before front (queue_of state.order request.line) request (head_of state request.line)
+      (chained_kept state front
+      (λ g before is. (posts.each_posted g).links before (linked_still state request InFront grounds ordering standing g before is))
+      (queue_of state.order request.line) (standing.messages.chained request.line tt))
+      (head_is state.order request.line)
+      (λ former is.
+      linked_to (base state request InFront) request.hart (head_of state request.line) former grounds.opened.mode is
+      (rw (same_count state request InFront grounds ordering standing) (grounds.below former.hart former (former_is former is))))
+
+  front_facing : Facing front request
+  front_facing =
+      let posts = front_posts in
+      record {
+        mode = ap (λ c. c.mode) (keeps_marking (base state request InFront) request.hart (head_of state request.line)).config ∙ grounds.opened.mode;
+        below = λ h found is.
+            rw posts.count
+            (base_below state request InFront grounds ordering standing h found (subst (λ o. request_of o h ≡ Some found) posts.order is));
+        first = subst (λ o. first_of o request.line ≡ Some request) (sym posts.order) (first_of_in_front_of_own state.order request);
+        ordered = subst (λ o. request_of o request.hart ≡ Some request) (sym posts.order) (own_ordered state request InFront grounds ordering standing);
+        messages =
+            all_chained front request.line
+            (messages_moved (Other request.line) (base state request InFront) front (moved_by_post (base state request InFront) front posts)
+            (base_messages state request InFront grounds ordering standing (Other request.line)
+            (λ line apart. queue_of_in_front_of_other state.order request line (λ same. apart (sym same)))))
+            (subst (λ o. IsChained front (queue_of o request.line)) (sym posts.order)
+            (subst (IsChained front) (sym (queue_of_in_front_of_own state.order request)) front_chained));
+        retaining =
+            retaining_posted (Other request.line) (base state request InFront) front posts
+            (base_retaining state request InFront grounds ordering standing (Other request.line)
+            (λ line apart. first_of_in_front_of_other state.order request line (λ same. apart (sym same)))
+            (λ on live bit. absurd (on refl)));
+      }
+
+  -- the section of the former head, if it has a bit there, has the greater stamp and loses
+  meets_write : (hart : Hart) (line : ℕ) (need : Need) → need ≡ Write → has_bit hart.cache line ≡ true → meets_bit hart line need ≡ true
+  meets_write hart line Write is bit = bit
+  meets_write hart line Read is bit = absurd (cc)
+
+  front_first : is_live state request.hart ≡ true → has_bit (cache_of state request.hart) request.line ≡ true →
+      FirstOn front (faced front request) request.line
+  front_first own_live own_bit h found line is live bit = by (cases_eq h request.hart)
+    where
+      posts : AllPosted (base state request InFront) front
+      posts = front_posts
+
+      faced_posts : AllPosted front (faced front request)
+      faced_posts = all_faced front request front_facing
+
+      fewer : Fewer found.line (hart_of state h) (hart_of (faced front request) h)
+      fewer =
+          fewer_twice found.line (hart_of state h) (hart_of front h) (hart_of (faced front request) h)
+          (fewer_twice found.line (hart_of state h) (hart_of (base state request InFront) h) (hart_of front h)
+          (same_bits state request InFront grounds ordering standing found.line h) ((posts.each_posted h).fewer found.line))
+          ((faced_posts.each_posted h).fewer found.line)
+
+      in_base : ordered_of (base state request InFront) h ≡ Some found
+      in_base = subst (λ o. request_of o h ≡ Some found) posts.order is
+
+      old_live : is_live state h ≡ true
+      old_live = fewer.live live
+
+      old_bit : has_bit (cache_of state h) found.line ≡ true
+      old_bit = fewer_bit found.line (hart_of state h) (hart_of (faced front request) h) fewer live bit
+
+      own_need : request.need ≡ Write
+      own_need = standing.retaining.raised request.hart request ordering.raised own_live own_bit
+
+      -- the section of the request's hart retained the line
+      retained : h ≢ request.hart → ordered_of state h ≡ Some found → head_of state found.line ≡ Some found → retains state request.hart found.line ≡ true
+      retained apart was first =
+          subst (λ head. conflicts_with head request.hart (hart_of state request.hart) ≡ true) (sym first)
+          (in_the_way found request.hart (hart_of state request.hart)
+          (record {
+            other = λ same. apart (sym (hart_of_request_of state.order h found was) ∙ same);
+            live = own_live;
+            bit =
+                meets_write (hart_of state request.hart) found.line found.need (standing.retaining.ordered h found was old_live old_bit)
+                (rw line own_bit);
+          }))
+
+      stayed : h ≢ request.hart → is_before request.stamp (hart_of front h).attempt ≡ false
+      stayed apart =
+          (faced_retains front request h front_facing.mode
+          (in_the_way request h (hart_of (faced front request) h)
+          (record {
+            other = λ same. apart (sym same);
+            live = live;
+            bit = meets_write (hart_of (faced front request) h) request.line request.need own_need
+                (subst (λ l. has_bit (cache_of (faced front request) h) l ≡ true) line bit);
+          }))).stayed.not_after
+
+      same_attempt : (hart_of front h).attempt ≡ (hart_of state h).attempt
+      same_attempt = (posts.each_posted h).attempt ∙ ap (λ hart. hart.attempt) (mask state request InFront h)
+
+      tie : {X : Type 0} → h ≢ request.hart → ordered_of state h ≡ Some found → X
+      tie apart was =
+          let first = standing.retaining.first h found tt was old_live old_bit in
+          let may = standing.retaining.may request.hart found.line tt (retained apart was first) in
+          let own_stamp = (grounds.stamped request.hart).raised_is request ordering.raised in
+          let its_stamp = (grounds.stamped h).ordered_is found was in
+          no_tie (hart_of state h).attempt (hart_of state request.hart).attempt h request.hart apart
+          (λ stamp is. (grounds.own h stamp is).hart) (λ stamp is. (grounds.own request.hart stamp is).hart)
+          (grounds.opened.open_each h old_live) (grounds.opened.open_each request.hart own_live)
+          (subst (λ s. is_before s (hart_of state request.hart).attempt ≡ false) its_stamp (may.not_after_head found first))
+          (subst (λ s. is_before s (hart_of state h).attempt ≡ false) own_stamp
+          (subst (λ s. is_before request.stamp s ≡ false) same_attempt (stayed apart)))
+
+      by : (h ≡ request.hart) ⊎ (h ≡ request.hart → ⊥) → head_of front found.line ≡ Some found
+      by (inl same) =
+          let e : request ≡ found = some_same (sym front_facing.ordered ∙ ap (ordered_of front) (sym same) ∙ is) in
+          subst (λ r. head_of front r.line ≡ Some r) e front_facing.first
+      by (inr apart) = tie apart (sym (other_ordered state request InFront grounds ordering standing h apart) ∙ in_base)
+
+  pub front_stands : is_live state request.hart ≡ true → has_bit (cache_of state request.hart) request.line ≡ true →
+      Standing (placed state request InFront)
+  unfolding placed
+  front_stands own_live own_bit = faced_stands front request front_facing (front_first own_live own_bit)
+
+  -- wherever it goes
+  pub placed_stands : Standing (placed state request (place_for state request))
+  placed_stands =
+      by_test (λ place. Standing (placed state request place)) (is_live state request.hart && has_bit (cache_of state request.hart) request.line)
+      InFront (if is_some (head_of state request.line) then Behind else Alone)
+      (λ bit. front_stands (first_of_both (is_live state request.hart) _ bit) (second_of_both (is_live state request.hart) _ bit))
+      (λ no_bit.
+      by_test (λ place. Standing (placed state request place)) (is_some (head_of state request.line)) Behind Alone
+      (λ has_head. behind_stands no_bit has_head)
+      (λ no_head. alone_stands (none_is (head_of state request.line) no_head)))
+    where
+      none_is : (found : Option Request) → is_some found ≡ false → found ≡ None
+      none_is None none = refl
+      none_is (Some found) none = absurd (cc)
+
+-- a hart orders the request that it has raised, if it has one
+pub ordered_stands : (state : ModelState) (h : ℕ) (raised : Option Request) → raised_of state h ≡ raised → Grounds state → Standing state →
+    Standing (order_raised state raised).state
+ordered_stands state h None is grounds standing = standing
+ordered_stands state h (Some request) is grounds standing =
+    let sound = grounds.once.sound in
+    let mine = raised_own state h request sound is in
+    placed_stands state request grounds
+    (record { raised = mine; exists = raised_exists state h request sound is; free = free_of_order state request.hart request sound mine }) standing

@@ -10,3 +10,4 @@ pub mod Grounds
 pub mod Ordering
 pub mod Faced
 pub mod Placing
+pub mod Leaving

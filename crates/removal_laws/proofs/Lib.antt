@@ -11,3 +11,4 @@ pub mod Ordering
 pub mod Faced
 pub mod Placing
 pub mod Leaving
+pub mod Serving

@@ -145,32 +145,72 @@ retained_before line g (Some request) old new lines fewer is =
 pub head_line : (state : ModelState) (line : ℕ) (request : Request) → head_of state line ≡ Some request → request.line ≡ line
 head_line state line request is = line_of_first_of state.order line request is
 
-pub retaining_posted : (on : ℕ → Type 0) (old new : ModelState) → AllPosted old new → Retaining on old → Retaining on new
-retaining_posted on old new posts now = record {
+-- where each section has no bit more, and each origin more that its hart was told of has no less stamp on a line that it retains
+pub record Trimmed (state : ModelState) (g : ℕ) (old new : Hart) : Type 0 where
+  pub raised : new.raised ≡ old.raised
+  pub attempt : new.attempt ≡ old.attempt
+  pub seen : old.seen ≤ new.seen
+  pub links : (before : ℕ) → IsLinked old before → IsLinked new before
+  pub told : (origin : ℕ) → has new.told origin ≡ true → (has old.told origin ≡ true)
+      ⊎ ((line : ℕ) (request : Request) → ordered_on state origin line ≡ Some request → conflicts_with (head_of state line) g new ≡ true →
+      is_before request.stamp old.attempt ≡ false)
+  pub fewer : (line : ℕ) → Fewer line old new
+
+pub retaining_trimmed : (on : ℕ → Type 0) (old new : ModelState) → new.order ≡ old.order → Each (λ g hart. Trimmed old g (hart_of old g) hart) new →
+    Retaining on old → Retaining on new
+retaining_trimmed on old new order trimmed now = record {
   may = λ g line is_on is.
-      let post = posts.each_posted g in
-      may_kept old new g line (ap (λ o. first_of o line) posts.order)
-      (λ origin request told is. on_before old new posts.order origin line (Some request) is)
-      (λ head is_head link. (posts.each_posted head.hart).links g link)
-      (record {
-        attempt = post.attempt;
-        told = λ origin told. subst (λ harts. has harts origin ≡ true) post.told told;
-        seen = post.seen;
-      })
+      let here = subst (λ o. conflicts_with (first_of o line) g (hart_of new g) ≡ true) order is in
+      may_by g line here
       (now.may g line is_on
-      (retained_before line g (head_of old line) (hart_of old g) (hart_of new g) (head_line old line) (post.fewer line)
-      (subst (λ o. conflicts_with (first_of o line) g (hart_of new g) ≡ true) posts.order is)));
+      (retained_before line g (head_of old line) (hart_of old g) (hart_of new g) (head_line old line) ((trimmed g).fewer line) here));
   raised = λ h request is live bit.
-      let post = posts.each_posted h in
-      now.raised h request (sym post.raised ∙ is) ((post.fewer request.line).live live)
-      (fewer_bit request.line (hart_of old h) (hart_of new h) (post.fewer request.line) live bit);
+      now.raised h request (sym (trimmed h).raised ∙ is) (((trimmed h).fewer request.line).live live) (bit_was h request live bit);
   ordered = λ h request is live bit.
-      let post = posts.each_posted h in
-      now.ordered h request (subst (λ o. request_of o h ≡ Some request) posts.order is) ((post.fewer request.line).live live)
-      (fewer_bit request.line (hart_of old h) (hart_of new h) (post.fewer request.line) live bit);
+      now.ordered h request (subst (λ o. request_of o h ≡ Some request) order is) (((trimmed h).fewer request.line).live live)
+      (bit_was h request live bit);
   first = λ h request is_on is live bit.
-      let post = posts.each_posted h in
-      ap (λ o. first_of o request.line) posts.order
-      ∙ now.first h request is_on (subst (λ o. request_of o h ≡ Some request) posts.order is) ((post.fewer request.line).live live)
-      (fewer_bit request.line (hart_of old h) (hart_of new h) (post.fewer request.line) live bit);
+      ap (λ o. first_of o request.line) order
+      ∙ now.first h request is_on (subst (λ o. request_of o h ≡ Some request) order is) (((trimmed h).fewer request.line).live live)
+      (bit_was h request live bit);
 }
+  where
+    bit_was : (h : ℕ) (request : Request) → is_live new h ≡ true → has_bit (cache_of new h) request.line ≡ true →
+        has_bit (cache_of old h) request.line ≡ true
+    bit_was h request live bit = fewer_bit request.line (hart_of old h) (hart_of new h) ((trimmed h).fewer request.line) live bit
+
+    not_after : (g line origin : ℕ) (request : Request) → conflicts_with (head_of old line) g (hart_of new g) ≡ true → MayRetain old g line →
+        ordered_on old origin line ≡ Some request → (has (hart_of old g).told origin ≡ true)
+        ⊎ ((line : ℕ) (request : Request) → ordered_on old origin line ≡ Some request → conflicts_with (head_of old line) g (hart_of new g) ≡ true →
+        is_before request.stamp (hart_of old g).attempt ≡ false) → is_before request.stamp (hart_of old g).attempt ≡ false
+    not_after g line origin request here may is (inl was) = may.not_after_told origin request was is
+    not_after g line origin request here may is (inr safe) = safe line request is here
+
+    may_by : (g line : ℕ) → conflicts_with (head_of old line) g (hart_of new g) ≡ true → MayRetain old g line → MayRetain new g line
+    may_by g line here may =
+        let heads = ap (λ o. first_of o line) order in
+        record {
+          link = λ head is. (trimmed head.hart).links g (may.link head (sym heads ∙ is));
+          seen = λ head stamp is stamp_is.
+              let was = may.seen head stamp (sym heads ∙ is) stamp_is in
+              let more = (trimmed g).seen in
+              omega (arith, was, more);
+          not_after_head = λ head is. rw (trimmed g).attempt (may.not_after_head head (sym heads ∙ is));
+          not_after_told = λ origin request told is.
+              rw (trimmed g).attempt
+              (not_after g line origin request here may (on_before old new order origin line (Some request) is) ((trimmed g).told origin told));
+        }
+
+posted_trims : (state : ModelState) (g : ℕ) (old new : Hart) → Posted state g old new → Trimmed state g old new
+posted_trims state g old new post = record {
+  raised = post.raised;
+  attempt = post.attempt;
+  seen = post.seen;
+  links = post.links;
+  told = λ origin told. inl (subst (λ harts. has harts origin ≡ true) post.told told);
+  fewer = post.fewer;
+}
+
+pub retaining_posted : (on : ℕ → Type 0) (old new : ModelState) → AllPosted old new → Retaining on old → Retaining on new
+retaining_posted on old new posts now =
+    retaining_trimmed on old new posts.order (λ g. posted_trims old g (hart_of old g) (hart_of new g) (posts.each_posted g)) now

@@ -12,3 +12,4 @@ pub mod Faced
 pub mod Placing
 pub mod Leaving
 pub mod Serving
+pub mod Probing

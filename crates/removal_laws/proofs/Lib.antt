@@ -13,3 +13,5 @@ pub mod Placing
 pub mod Leaving
 pub mod Serving
 pub mod Probing
+pub mod Delivering
+pub mod Telling

@@ -187,7 +187,7 @@ fewer_twice line one two three first second = record {
   bits = λ live. no_more_twice _ (way_of two.cache line) _ (first.bits (second.live live)) (second.bits live);
 }
 
-meets_no_more : (old new : Hart) (line : ℕ) (need : Need) → NoBitMore old.cache new.cache line → meets_bit new line need ≡ true →
+pub meets_no_more : (old new : Hart) (line : ℕ) (need : Need) → NoBitMore old.cache new.cache line → meets_bit new line need ≡ true →
     meets_bit old line need ≡ true
 meets_no_more old new line Write no_more is = no_more_any (way_of old.cache line) (way_of new.cache line) no_more is
 meets_no_more old new line Read no_more is = no_more.write is

@@ -15,3 +15,4 @@ pub mod Serving
 pub mod Probing
 pub mod Delivering
 pub mod Telling
+pub mod Stepping

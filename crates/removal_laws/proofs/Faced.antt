@@ -1,12 +1,12 @@
 -- what holds of all lines but one, whose new head is faced, holds of all lines after that
-use Rattle.std.proofs.Common.{◌≡◌, ◌≢◌, ◌∙◌, ◌<◌, ℕ, Bool, true, false, length, Option, None, Some, is_some, refl, ap, sym, inl, inr, ◌⊎◌, subst}
+use Rattle.std.proofs.Common.{◌≡◌, ◌≢◌, ◌∙◌, ℕ, true, Some, is_some, refl, ap, sym, inl, inr, ◌⊎◌, subst}
 use Rattle.std.proofs.lemmas.Bool.{cases_eq}
 use Rattle.bus_order.specs.Order.{Request, first_of, request_of}
 use Rattle.cache_sets.specs.Cache.{has_bit}
 use Rattle.el_base.specs.declared.config.Mode.TheVariants.{Tlr}
 use Rattle.el_model.specs.Conflicts.{retains}
 use Rattle.el_model.specs.Face.{faced}
-use Rattle.el_model.specs.State.{ModelState, cache_of, hart_of, head_of, is_live, ordered_of}
+use Rattle.el_model.specs.State.{ModelState, cache_of, head_of, is_live, ordered_of}
 use Rattle.el_model.proofs.Keeps.{keeps_faced}
 use Rattle.removal_laws.specs.Facts.{Everywhere, MayRetain, Messages, Retaining}
 use Rattle.removal_laws.proofs.Facing.{face_may, face_posts}

@@ -1,12 +1,11 @@
 -- a head is faced, in lock removal: what becomes of each section, and what may retain the line from then on
-use Rattle.std.proofs.Common.{◌≡◌, ◌≢◌, ◌∙◌, ◌<◌, ◌≤◌, ◌+◌, ◌==◌, ◌&&◌, ℕ, zero, suc, Bool, true, false, not, List, [], ◌∷◌, length, map, filter, Option, None, Some, is_some, refl, ap, sym, inl, inr, ◌⊎◌, arith, subst, if◌then◌else◌}
+use Rattle.std.proofs.Common.{◌≡◌, ◌∙◌, ◌<◌, ◌≤◌, ◌+◌, ◌==◌, ◌&&◌, ℕ, zero, suc, Bool, true, false, List, [], ◌∷◌, length, filter, Option, None, Some, is_some, refl, ap, sym, inl, inr, ◌⊎◌, arith, subst, if◌then◌else◌}
 use Rattle.std.specs.Prelude.{nat_lt}
 use Rattle.std.proofs.lemmas.Bool.{ltb-true, ltb-false}
 use Rattle.bus_order.specs.Order.{Request}
-use Rattle.bus_order.proofs.LookUps.{number_of_test, other_test, own_test}
+use Rattle.bus_order.proofs.LookUps.{number_of_test, own_test}
 use Rattle.defer_list.specs.HartSet.{has}
-use Rattle.el_base.specs.declared.config.Mode.{Mode}
-use Rattle.el_base.specs.declared.config.Mode.TheVariants.{Plain, Sle, Tlr}
+use Rattle.el_base.specs.declared.config.Mode.TheVariants.{Tlr}
 use Rattle.el_model.specs.Attempts.{see, seen_after}
 use Rattle.el_model.specs.Conflicts.{conflicts, conflicts_with, earlier, least_such, retains, stamp_in, told_winner, wins_over}
 use Rattle.el_model.specs.Face.{Fate, LosesTo, Stays, Unmet, after_fate, deferring, deferring_fate, faced, faced_hart, fate_at, fate_of, markers_for, stays, told_fate, winning_stamp}
@@ -15,7 +14,7 @@ use Rattle.el_model.specs.State.{Hart, ModelState, count_up, for_line, hart_of, 
 use Rattle.el_model.proofs.Harts.{hart_of-each_hart, hart_of-each_hart_past, hart_of-past}
 use Rattle.el_model.proofs.Tests.{by_test}
 use Rattle.removal_laws.specs.Facts.{IsLinked, IsWaiting, MayPrecede, MayRetain}
-use Rattle.removal_laws.proofs.Bits.{Meets, clash, meets, second_of_both, some_none, some_same}
+use Rattle.removal_laws.proofs.Bits.{clash, meets, some_none, some_same}
 use Rattle.removal_laws.proofs.Posting.{Posted, all_linked, all_marked, losing, posted_twice, seeing, unchanged}
 use Rattle.section_laws.proofs.EachHart.{Each, each_after}
 use Rattle.stamp.specs.Stamps.{Stamp, is_before}

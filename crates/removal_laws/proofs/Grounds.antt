@@ -1,15 +1,10 @@
 -- what holds of each hart by itself, and what stands on it: the messages and what retains a line
-use Rattle.std.proofs.Common.{◌≡◌, ◌∙◌, ℕ, Option, None, Some, is_some, ap, sym}
-use Rattle.el_base.specs.declared.config.Config.{Config}
-use Rattle.el_base.specs.declared.config.Mode.TheVariants.{Tlr}
 use Rattle.el_base.specs.declared.events.Event.{Event}
-use Rattle.elf_image.specs.Program.{Program}
 use Rattle.el_model.specs.Next.{next}
-use Rattle.el_model.specs.State.{Hart, ModelState, begin}
+use Rattle.el_model.specs.State.{ModelState}
 use Rattle.removal_laws.specs.Facts.{Everywhere, Facts, Messages, Retaining}
 use Rattle.removal_laws.proofs.Attempts.{AllOpen, Own, next_open, next_own}
 use Rattle.removal_laws.proofs.Requests.{AllBelow, AllStamped, next_below, next_stamped}
-use Rattle.section_laws.specs.EachHart.{HasBitsOnlyInside}
 use Rattle.section_laws.proofs.EachHart.{Each}
 use Rattle.section_laws.proofs.EachKept.{next_keeps}
 use Rattle.section_laws.proofs.Numbered.{Once, next_once}

@@ -1,17 +1,16 @@
 -- which changes keep what is in mailboxes and sets, and what sections have to do with requests
-use Rattle.std.proofs.Common.{◌≡◌, ◌≢◌, ◌∙◌, ◌<◌, ◌≤◌, ℕ, Bool, true, false, List, [], ◌∷◌, length, Option, None, Some, is_some, refl, ap, sym, inl, inr, ◌⊎◌, arith, subst}
+use Rattle.std.proofs.Common.{◌≡◌, ◌≢◌, ◌∙◌, ◌≤◌, ℕ, true, false, List, [], ◌∷◌, length, Option, None, Some, is_some, refl, ap, sym, inl, inr, ◌⊎◌, arith, subst}
 use Rattle.bus_order.specs.Order.{Request, first_of, queue_of, request_of}
 use Rattle.cache_sets.specs.Cache.{has_bit}
 use Rattle.defer_list.specs.HartSet.{has}
-use Rattle.el_base.specs.declared.outcomes.Need.TheVariants.{Write}
-use Rattle.el_model.specs.Conflicts.{conflicts, conflicts_with, retains}
-use Rattle.el_model.specs.State.{Hart, ModelState, cache_of, for_line, hart_of, head_of, is_live, ordered_of, ordered_on, raised_of}
+use Rattle.el_model.specs.Conflicts.{conflicts_with}
+use Rattle.el_model.specs.State.{Hart, ModelState, cache_of, for_line, hart_of, head_of, is_live, ordered_on}
 use Rattle.bus_order.proofs.Queues.{line_of_first_of}
 use Rattle.removal_laws.specs.Facts.{AreLinked, IsChained, IsLinked, IsWaiting, Knows, MayBeKnown, MayPrecede, MayRetain, Messages, Retaining}
-use Rattle.removal_laws.proofs.Bits.{Fewer, clash, fewer_bit, fewer_conflicts}
+use Rattle.removal_laws.proofs.Bits.{Fewer, fewer_bit, fewer_conflicts}
 use Rattle.removal_laws.proofs.Posting.{Posted}
 use Rattle.section_laws.proofs.EachHart.{Each}
-use Rattle.stamp.specs.Stamps.{Stamp, is_before}
+use Rattle.stamp.specs.Stamps.{is_before}
 
 -- chains
 pub linked_kept : (old new : ModelState) → ((h before : ℕ) → IsLinked (hart_of old h) before → IsLinked (hart_of new h) before) →

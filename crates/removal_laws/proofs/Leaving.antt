@@ -1,10 +1,10 @@
 -- a request is served: what is left of each hart, of its messages and of its bits
-use Rattle.std.proofs.Common.{◌≡◌, ◌≢◌, ◌∙◌, ◌<◌, ◌≤◌, ◌==◌, ℕ, Bool, true, false, List, [], ◌∷◌, length, Option, None, Some, is_some, refl, ap, sym, inl, inr, ◌⊎◌, arith, subst, if◌then◌else◌}
+use Rattle.std.proofs.Common.{◌≡◌, ◌≢◌, ◌∙◌, ◌==◌, ℕ, Bool, true, false, List, [], length, is_some, refl, ap, sym, inl, inr, ◌⊎◌, subst, if◌then◌else◌}
 use Rattle.std.specs.Prelude.{nat_lt}
 use Rattle.std.proofs.lemmas.Bool.{cases_eq, ltb-true, ltb-false}
 use Rattle.bus_order.specs.Order.{Request}
 use Rattle.bus_order.proofs.LookUps.{number_of_test, other_test, own_test}
-use Rattle.cache_sets.specs.Cache.{is_resident, marked, touched, way_of}
+use Rattle.cache_sets.specs.Cache.{is_resident, touched, way_of}
 use Rattle.defer_list.specs.HartSet.{excluded, has}
 use Rattle.defer_list.proofs.LookUps.{has_excluded_other, has_excluded_own}
 use Rattle.el_model.specs.Serve.{bystander, others_have, own_copy, served, served_hart, serving, with_claim}

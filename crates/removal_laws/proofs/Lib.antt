@@ -16,3 +16,4 @@ pub mod Probing
 pub mod Delivering
 pub mod Telling
 pub mod Stepping
+pub mod Throughout

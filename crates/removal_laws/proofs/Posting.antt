@@ -1,18 +1,16 @@
 -- a hart that is posted messages, sees a stamp or loses its section, and nothing else
-use Rattle.std.proofs.Common.{◌≡◌, ◌≢◌, ◌∙◌, ◌<◌, ◌≤◌, ◌==◌, ℕ, Bool, true, false, List, [], ◌∷◌, length, map, Option, None, Some, refl, ap, sym, inl, inr, ◌⊎◌, arith, subst, if◌then◌else◌}
-use Rattle.std.proofs.lemmas.Bool.{cases_eq}
-use Rattle.bus_order.specs.Order.{Request}
+use Rattle.std.proofs.Common.{◌≡◌, ◌∙◌, ◌≤◌, ◌==◌, ℕ, Bool, true, false, List, [], ◌∷◌, map, Option, refl, sym, inl, inr, ◌⊎◌, arith, subst, if◌then◌else◌}
 use Rattle.bus_order.proofs.LookUps.{number_of_test, own_test}
 use Rattle.defer_list.specs.HartSet.{has}
 use Rattle.el_model.specs.Attempts.{see}
 use Rattle.el_model.specs.RollBack.{out_of_section}
-use Rattle.el_model.specs.State.{Hart, ModelState, hart_of, ordered_of, post_all}
+use Rattle.el_model.specs.State.{Hart, ModelState, post_all}
 use Rattle.el_model.proofs.Tests.{by_test}
 use Rattle.mail.specs.Mailbox.{Marker, Message, Probe, has_message, posted, same_message}
 use Rattle.mail.proofs.LookUps.{has_posted_other, has_posted_own}
 use Rattle.mail.proofs.OnceEach.{same_is_one}
 use Rattle.removal_laws.specs.Facts.{IsLinked, Knows, MayPrecede}
-use Rattle.removal_laws.proofs.Bits.{Fewer, fewer_ended, fewer_same, fewer_twice, some_same}
+use Rattle.removal_laws.proofs.Bits.{Fewer, fewer_ended, fewer_same, fewer_twice}
 use Rattle.section_laws.proofs.Moves.{seen_grows}
 use Rattle.stamp.specs.Stamps.{Stamp}
 

@@ -1,5 +1,5 @@
 -- what a delivered message changes of each hart
-use Rattle.std.proofs.Common.{◌≡◌, ◌≢◌, ◌∙◌, ◌<◌, ◌≤◌, ◌==◌, ℕ, Bool, true, false, List, [], ◌∷◌, length, map, Option, None, Some, refl, ap, sym, inl, inr, ◌⊎◌, arith, subst, if◌then◌else◌}
+use Rattle.std.proofs.Common.{◌≡◌, ◌≤◌, ◌==◌, ℕ, Bool, true, false, List, [], ◌∷◌, length, map, Some, refl, ap, inl, inr, ◌⊎◌, arith, subst, if◌then◌else◌}
 use Rattle.bus_order.specs.Order.{Request}
 use Rattle.bus_order.proofs.LookUps.{number_of_test, own_test}
 use Rattle.defer_list.specs.HartSet.{has}
@@ -8,10 +8,10 @@ use Rattle.el_model.specs.State.{Hart, ModelState, hart_of, head_of, ordered_on,
 use Rattle.mail.specs.Mailbox.{Marker, Message, Probe, has_message, posted, same_message}
 use Rattle.mail.proofs.LookUps.{has_posted_own}
 use Rattle.mail.proofs.OnceEach.{same_as_itself, same_is_one}
-use Rattle.removal_laws.specs.Facts.{Everywhere, IsLinked, Knows, MayBeKnown, MayPrecede}
-use Rattle.removal_laws.proofs.Bits.{Fewer, clash, fewer_same, fewer_twice}
+use Rattle.removal_laws.specs.Facts.{Everywhere, IsLinked, Knows, MayBeKnown}
+use Rattle.removal_laws.proofs.Bits.{Fewer, fewer_same, fewer_twice}
 use Rattle.removal_laws.proofs.Grounds.{Standing}
-use Rattle.removal_laws.proofs.Kept.{Moved, Owed, OwedOf, Trimmed, messages_moved, retaining_trimmed}
+use Rattle.removal_laws.proofs.Kept.{Owed, OwedOf, messages_moved, retaining_trimmed}
 use Rattle.removal_laws.proofs.Posting.{still_there, there_or_new}
 use Rattle.section_laws.proofs.EachHart.{Each}
 use Rattle.stamp.specs.Stamps.{is_before}

@@ -1,5 +1,5 @@
 -- the queue of a line, its first and its last request
-use Rattle.std.proofs.Common.{◌≡◌, ◌≢◌, ◌∙◌, ◌==◌, ◌++◌, ℕ, Bool, true, false, List, [], ◌∷◌, Option, None, Some, refl, ap, sym, if◌then◌else◌}
+use Rattle.std.proofs.Common.{◌≡◌, ◌∙◌, ◌==◌, ◌++◌, ℕ, Bool, true, false, List, [], ◌∷◌, Option, None, Some, refl, ap, sym, if◌then◌else◌}
 use Rattle.std.specs.Option.{option_or}
 use Rattle.bus_order.specs.Order.{Request, first_of, queue_of, request_of, tail_of}
 use Rattle.bus_order.proofs.LookUps.{or_nothing, own_test}

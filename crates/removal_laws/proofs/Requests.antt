@@ -1,15 +1,13 @@
 -- a request has the stamp of its hart's attempt, and its hart is one of the machine's
-use Rattle.std.proofs.Common.{◌≡◌, ◌≢◌, ◌∙◌, ◌<◌, ◌≤◌, ℕ, Bool, true, false, List, [], ◌∷◌, length, Option, None, Some, is_some, refl, ap, sym, inl, inr, ◌⊎◌, arith, subst}
+use Rattle.std.proofs.Common.{◌≡◌, ◌≢◌, ◌∙◌, ◌<◌, ℕ, Bool, true, false, List, length, Option, None, Some, is_some, refl, ap, sym, inl, inr, ◌⊎◌, subst}
 use Rattle.std.proofs.lemmas.Bool.{cases_eq}
-use Rattle.bus_order.specs.Order.{Request, appended, in_front_of, removed, request_of}
+use Rattle.bus_order.specs.Order.{Request, removed, request_of}
 use Rattle.bus_order.proofs.LookUps.{request_of_appended_other, request_of_appended_own, request_of_in_front_of_other, request_of_in_front_of_own, request_of_removed_other, request_of_removed_own}
-use Rattle.bus_order.proofs.Queues.{hart_of_request_of}
 use Rattle.el_base.specs.declared.events.Event.{Event}
 use Rattle.el_base.specs.declared.events.Kind.{Kind}
 use Rattle.el_base.specs.declared.events.Kind.TheVariants as kinds
 use Rattle.el_model.specs.Deed.{Begins, Buffers, Commits, Deed, DoesWhere, Misses, Rests, RollsBack, Runs, Waits, hart_after}
 use Rattle.el_model.specs.Deliver.{deliver_turn}
-use Rattle.el_model.specs.Face.{faced_if}
 use Rattle.el_model.specs.Next.{kind_turn, next}
 use Rattle.el_model.specs.Order.{Alone, Behind, InFront, Place, order_raised, order_turn, place_for, placed}
 use Rattle.el_model.specs.Plain.{after_candidate, candidate_of}
@@ -21,7 +19,7 @@ use Rattle.el_model.proofs.Harts.{hart_of-past}
 use Rattle.removal_laws.proofs.Bits.{some_none, some_same}
 use Rattle.section_laws.proofs.EachHart.{Each, each_but}
 use Rattle.section_laws.proofs.Moves.{Moves, deliver_keeps, faced_if_keeps, placed_keeps, served_keeps, step_keeps}
-use Rattle.section_laws.proofs.Numbered.{KeptInOrder, Once, next_count, order_keeps}
+use Rattle.section_laws.proofs.Numbered.{KeptInOrder, next_count, order_keeps}
 use Rattle.section_laws.proofs.Waiting.{Sound, faced_order, free_of_order, is_rolled, mail_order, no_request, order_at, order_other, placed_order}
 use Rattle.stamp.specs.Stamps.{Stamp}
 

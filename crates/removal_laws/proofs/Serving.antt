@@ -1,24 +1,22 @@
 -- what holds still holds after a request is served, with the face of the next head
-use Rattle.std.proofs.Common.{◌≡◌, ◌≢◌, ◌∙◌, ◌<◌, ◌≤◌, ◌==◌, ℕ, Bool, true, false, List, [], ◌∷◌, length, Option, None, Some, is_some, refl, ap, sym, inl, inr, ◌⊎◌, arith, subst, if◌then◌else◌}
+use Rattle.std.proofs.Common.{◌≡◌, ◌≢◌, ◌∙◌, ◌==◌, ℕ, Bool, true, false, List, [], ◌∷◌, length, Option, None, Some, is_some, refl, ap, sym, inl, inr, ◌⊎◌, arith, subst, if◌then◌else◌}
 use Rattle.std.proofs.lemmas.Bool.{cases_eq}
 use Rattle.bus_order.specs.Order.{IsOneEach, Request, first_of, queue_of, removed, request_of}
 use Rattle.bus_order.proofs.LookUps.{number_of_test, own_test, request_of_removed_other, request_of_removed_own}
 use Rattle.bus_order.proofs.Orders.{one_each_removed}
 use Rattle.bus_order.proofs.Queues.{first_of_removed_other, hart_of_request_of, queue_of_removed, queue_of_removed_other, queue_of_removed_own, request_of_first_of}
 use Rattle.cache_sets.specs.Cache.{has_bit}
-use Rattle.defer_list.specs.HartSet.{has}
-use Rattle.el_base.specs.declared.outcomes.Need.TheVariants.{Write}
 use Rattle.el_base.specs.declared.outcomes.Why.TheVariants.{Behind}
 use Rattle.el_model.specs.Conflicts.{conflicts_with, retains}
 use Rattle.el_model.specs.Face.{faced, faced_if}
 use Rattle.el_model.specs.Serve.{Blocks, Free, Obstacle, obstacle_to, other_head, serve_ordered, serve_past, served}
-use Rattle.el_model.specs.State.{Hart, ModelState, cache_of, for_line, hart_of, head_of, is_live, ordered_of, ordered_on, raised_of}
+use Rattle.el_model.specs.State.{ModelState, cache_of, for_line, hart_of, head_of, is_live, ordered_of, ordered_on, raised_of}
 use Rattle.el_model.proofs.Keeps.{keeps_served}
-use Rattle.removal_laws.specs.Facts.{AreLinked, Everywhere, IsChained, IsLinked, IsWaiting, Knows, MayBeKnown, MayPrecede, MayRetain, Messages, Retaining}
-use Rattle.removal_laws.proofs.Bits.{Fewer, clash, fewer_bit, fewer_twice, some_none, some_same}
+use Rattle.removal_laws.specs.Facts.{AreLinked, Everywhere, IsChained, IsLinked, IsWaiting, MayRetain, Messages, Retaining}
+use Rattle.removal_laws.proofs.Bits.{clash, fewer_bit, some_none, some_same}
 use Rattle.removal_laws.proofs.Faced.{Facing, FirstOn, Other, all_faced, faced_stands}
 use Rattle.removal_laws.proofs.Grounds.{Grounds, Standing}
-use Rattle.removal_laws.proofs.Kept.{AllPosted, may_kept, retained_before, head_line}
+use Rattle.removal_laws.proofs.Kept.{may_kept, retained_before, head_line}
 use Rattle.removal_laws.proofs.Leaving.{Left, served_left}
 use Rattle.removal_laws.proofs.Queues.{IsHead, has_first, head_is}
 use Rattle.section_laws.proofs.FreeLines.{not_blocked}
@@ -111,8 +109,8 @@ module _ (state : ModelState) (request : Request) (grounds : Grounds state) (ser
       own (head ∷ others) is =
           let head_is_own : head ≡ request = same_head (subst (λ queue. IsHead queue (first_of state.order request.line)) is (head_is state.order request.line)) in
           let taken : removed (queue_of state.order request.line) request.hart ≡ others =
-              sym (queue_of_removed state.order request.hart request.line)
-              ∙ queue_of_removed_own state.order request.line request others grounds.once.once (is ∙ ap (λ r. r ∷ others) head_is_own) in
+          sym (queue_of_removed state.order request.hart request.line)
+          ∙ queue_of_removed_own state.order request.line request others grounds.once.once (is ∙ ap (λ r. r ∷ others) head_is_own) in
           subst (IsChained state) (sym taken)
           (chained_rest state head.hart others (subst (IsChained state) is (standing.messages.chained request.line tt)))
         where

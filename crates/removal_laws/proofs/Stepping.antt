@@ -1,9 +1,9 @@
 -- what holds still holds after a step: it posts nothing, and a section that retains no line does not begin to
-use Rattle.std.proofs.Common.{◌≡◌, ◌≢◌, ◌∙◌, ◌<◌, ◌≤◌, ◌+◌, ◌==◌, ◌&&◌, ◌||◌, ℕ, Bool, true, false, not, List, [], ◌∷◌, length, Option, None, Some, is_some, refl, ap, sym, inl, inr, ◌⊎◌, arith, subst, if◌then◌else◌}
+use Rattle.std.proofs.Common.{◌≡◌, ◌≢◌, ◌∙◌, ◌≤◌, ◌+◌, ◌==◌, ◌&&◌, ◌||◌, ℕ, Bool, true, false, not, List, [], ◌∷◌, length, Option, None, Some, is_some, refl, ap, sym, inl, inr, ◌⊎◌, arith, subst, if◌then◌else◌}
 use Rattle.std.proofs.Math.ListN.{length-set}
 use Rattle.std.proofs.lemmas.Bool.{cases_eq}
 use Rattle.bus_order.specs.Order.{Request, first_of}
-use Rattle.bus_order.proofs.LookUps.{other_test, own_test}
+use Rattle.bus_order.proofs.LookUps.{other_test}
 use Rattle.cache_sets.specs.Cache.{bit_in, has_bit, has_marks, marked, read_bit, touched, way_of, write_bit}
 use Rattle.cache_sets.specs.Residency.{Way}
 use Rattle.cache_sets.proofs.CacheLemmas.{way_of-touched}
@@ -12,24 +12,22 @@ use Rattle.defer_list.specs.HartSet.{has}
 use Rattle.el_base.specs.Line.{line_number}
 use Rattle.el_base.specs.declared.outcomes.Need.{Need}
 use Rattle.el_base.specs.declared.outcomes.Need.TheVariants.{Read, Write}
-use Rattle.el_model.specs.Conflicts.{conflicts, conflicts_with, is_asked, is_wanted, is_write, meets_bit}
-use Rattle.el_model.specs.Deed.{Begins, Buffers, Commits, Deed, DoesWhere, IsCoverable, Misses, Rests, RollsBack, Runs, Waits, committed_after, done, hart_after, permits}
+use Rattle.el_model.specs.Conflicts.{conflicts_with, is_asked, is_wanted, is_write, meets_bit}
+use Rattle.el_model.specs.Deed.{Begins, Buffers, Commits, Deed, DoesWhere, IsCoverable, Misses, Rests, RollsBack, Runs, Waits, done, hart_after, permits}
 use Rattle.el_model.specs.InSection.{covered, is_covered}
 use Rattle.el_model.specs.Next.{step_turn}
 use Rattle.el_model.specs.Plain.{after_candidate, candidate_of}
-use Rattle.el_model.specs.State.{Hart, ModelState, Section, has_request, hart_of, head_of, new_hart, ordered_of, raised_of, with_hart}
+use Rattle.el_model.specs.State.{Hart, ModelState, Section, has_request, hart_of, head_of, ordered_of, raised_of}
 use Rattle.el_model.specs.Upcoming.{Swap, Touch}
 use Rattle.el_model.proofs.Deeds.{step_deed}
 use Rattle.el_model.proofs.Harts.{hart_of-past, with_hart_kept}
-use Rattle.el_model.proofs.Tests.{by_test}
 use Rattle.mail.specs.Mailbox.{Marker, Message, Probe, has_message}
-use Rattle.removal_laws.specs.Facts.{Everywhere, IsLinked, Knows, Retaining}
-use Rattle.removal_laws.proofs.Bits.{Meets, NoBitMore, clash, either, in_the_way, meets, meets_no_more, no_more_marked, no_more_touched, no_more_twice, or_first, or_second, some_none, some_same, write_of_read_marked}
+use Rattle.removal_laws.specs.Facts.{Everywhere}
+use Rattle.removal_laws.proofs.Bits.{Meets, NoBitMore, clash, in_the_way, meets, meets_no_more, no_more_marked, no_more_touched, no_more_twice, some_none, some_same, write_of_read_marked}
 use Rattle.removal_laws.proofs.Grounds.{Grounds, Standing}
 use Rattle.removal_laws.proofs.Kept.{Moved, head_line, may_kept, messages_moved}
 use Rattle.section_laws.proofs.EachHart.{Each, each_but}
-use Rattle.section_laws.proofs.Waiting.{is_rolled, no_request}
-use Rattle.stamp.specs.Stamps.{Stamp}
+use Rattle.section_laws.proofs.Waiting.{no_request}
 
 -- a hart's mailbox and sets
 record Contents : Type 0 where
@@ -146,15 +144,15 @@ wanted_bit state h line need old new head unwanted cache is apart bit = by (case
     write_head : need ≡ Read → head.need ≡ Write → head.line ≡ line → meets_bit old head.line head.need ≡ true
     write_head reads writes same =
         let none = asked_not is_write state.order h line head (subst (λ n. is_wanted state h line n ≡ false) reads unwanted)
-            (subst (λ l. first_of state.order l ≡ Some head) same is) apart in
+        (subst (λ l. first_of state.order l ≡ Some head) same is) apart in
         clash none (ap (λ n. is_write (record head { need = n })) writes)
 
     read_head : need ≡ Read → head.line ≡ line → head.need ≡ Read → meets_bit old head.line head.need ≡ true
     read_head reads same read =
         let here : bit_in Write (way_of new.cache line) ≡ true =
-            subst (λ l. bit_in Write (way_of new.cache l) ≡ true) same (subst (λ n. meets_bit new head.line n ≡ true) read bit) in
+        subst (λ l. bit_in Write (way_of new.cache l) ≡ true) same (subst (λ n. meets_bit new head.line n ≡ true) read bit) in
         let there : bit_in Write (way_of (touched (marked old.cache line Read) line) line) ≡ true =
-            subst (λ c. bit_in Write (way_of c line) ≡ true) (cache ∙ ap (λ n. touched (marked old.cache line n) line) reads) here in
+        subst (λ c. bit_in Write (way_of c line) ≡ true) (cache ∙ ap (λ n. touched (marked old.cache line n) line) reads) here in
         let before = write_of_read_marked old.cache line (subst (λ way. bit_in Write way ≡ true) (way_of-touched (marked old.cache line Read) line line) there) in
         subst (λ n. meets_bit old head.line n ≡ true) (sym read) (subst (λ l. bit_in Write (way_of old.cache l) ≡ true) (sym same) before)
 
@@ -217,13 +215,14 @@ buffered_retains : (state : ModelState) (h line : ℕ) (section next : Section) 
     conflicts_with (head_of state line) h (record (hart_of state h) { section = Some next; cache = cache; held = None }) ≡ true →
     (conflicts_with (head_of state line) h (hart_of state h) ≡ true)
     × Retained (hart_of state h) (record (hart_of state h) { section = Some next; cache = cache; held = None })
-buffered_retains state h line section next cache live bits is =
-    (head_by state h line (record (hart_of state h) { section = Some next; cache = cache; held = None }) is
-    (λ head found own it.
-    subst (λ h0. conflicts_with h0 h (hart_of state h) ≡ true) (sym found)
-    (in_the_way head h (hart_of state h)
-    (record { other = it.other; live = ap is_some live; bit = bits head own it.other it.bit }))),
-    record { attempt = refl; seen = no_less (hart_of state h).seen })
+buffered_retains state h line section next cache live bits is = (
+  head_by state h line (record (hart_of state h) { section = Some next; cache = cache; held = None }) is
+      (λ head found own it.
+      subst (λ h0. conflicts_with h0 h (hart_of state h) ≡ true) (sym found)
+      (in_the_way head h (hart_of state h)
+      (record { other = it.other; live = ap is_some live; bit = bits head own it.other it.bit }))),
+  record { attempt = refl; seen = no_less (hart_of state h).seen },
+)
 
 touch_bits : (state : ModelState) (h : ℕ) (section next : Section) (touch : Option Touch) → IsCoverable state h section touch → (head : Request) →
     head_of state head.line ≡ Some head → head.hart ≢ h →
@@ -321,7 +320,7 @@ done_stands : (state : ModelState) (h : ℕ) (deed : Deed) → DoesWhere state h
 done_stands state h deed does grounds standing =
     let new = (done state h deed).state in
     let same : (g : ℕ) → contents (hart_of new g) ≡ contents (hart_of state g) =
-        with_hart_kept contents state h (hart_after state h deed (hart_of state h)) (deed_contents state h deed (hart_of state h)) in
+    with_hart_kept contents state h (hart_after state h deed (hart_of state h)) (deed_contents state h deed (hart_of state h)) in
     let moved = moved_aside state new refl (length-set state.harts h _) same in
     let stepped = done_stepped state h deed does grounds standing in
     record {

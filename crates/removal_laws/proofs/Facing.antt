@@ -80,6 +80,26 @@ none_least test stamp (first ∷ others) h none is = by (none_least test stamp o
     by rest true holds none = found (least_such test stamp others) none
     by rest false fails none = here rest fails none (first == h) refl is
 
+-- and the least one passes the test
+pub least_passes : (test : ℕ → Bool) (stamp : ℕ → Option Stamp) (harts : List ℕ) (h : ℕ) → least_such test stamp harts ≡ Some h → test h ≡ true
+least_passes test stamp [] h is = absurd (cc)
+least_passes test stamp (first ∷ others) h is = by (least_passes test stamp others h) (test first) refl is
+  where
+    one : (less : Bool) (other : ℕ) → (least_such test stamp others ≡ Some h → test h ≡ true) → least_such test stamp others ≡ Some other →
+        test first ≡ true → (if less then Some other else Some first) ≡ Some h → test h ≡ true
+    one true other rest found holds is = rest (found ∙ is)
+    one false other rest found holds is = subst (λ k. test k ≡ true) (some_same is) holds
+
+    taken : (least_such test stamp others ≡ Some h → test h ≡ true) → test first ≡ true → (other : Option ℕ) → least_such test stamp others ≡ other →
+        earlier stamp (Some first) other ≡ Some h → test h ≡ true
+    taken rest holds None found is = subst (λ k. test k ≡ true) (some_same is) holds
+    taken rest holds (Some other) found is = one (is_before (stamp other) (stamp first)) other rest found holds is
+
+    by : (least_such test stamp others ≡ Some h → test h ≡ true) → (chosen : Bool) → test first ≡ chosen →
+        (if chosen then earlier stamp (Some first) (least_such test stamp others) else least_such test stamp others) ≡ Some h → test h ≡ true
+    by rest true holds is = taken rest holds (least_such test stamp others) refl is
+    by rest false fails is = rest is
+
 -- what a fate says of a section
 pub record Stayed (state : ModelState) (head : Request) (g : ℕ) (hart : Hart) : Type 0 where
   pub meets_it : conflicts head g hart ≡ true
@@ -242,7 +262,7 @@ stays_if state head g mode stayed = by (fate_at state head g) (fate_is state hea
     by (LosesTo winner) says = told winner says.why
 
 -- what may retain the line
-saw_clock : (seen : ℕ) (stamp : Option Stamp) (at : Stamp) → stamp ≡ Some at → at.clock ≤ seen_after seen stamp
+pub saw_clock : (seen : ℕ) (stamp : Option Stamp) (at : Stamp) → stamp ≡ Some at → at.clock ≤ seen_after seen stamp
 saw_clock seen None at is = absurd (cc)
 saw_clock seen (Some stamp) at is = let e : stamp ≡ at = cc in rw (sym e) (omega arith)
 

@@ -18,3 +18,4 @@ pub mod Telling
 pub mod Stepping
 pub mod Throughout
 pub mod Climbing
+pub mod Beating

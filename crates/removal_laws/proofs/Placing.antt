@@ -158,7 +158,7 @@ module _ (state : ModelState) (request : Request) (grounds : Grounds state) (ord
   alone_first None none = refl
   alone_first (Some found) none = some_none none
 
-  alone_facing : head_of state request.line ≡ None → Facing (base state request Alone) request
+  pub alone_facing : head_of state request.line ≡ None → Facing (base state request Alone) request
   alone_facing no_head = record {
     mode = grounds.opened.mode;
     below = base_below state request Alone grounds ordering standing;
@@ -193,7 +193,7 @@ module _ (state : ModelState) (request : Request) (grounds : Grounds state) (ord
               (ap (head_of state) line ∙ no_head)
 
   -- in front of the other requests of its line, where its hart's section has a bit there
-  abbrev front : ModelState
+  abbrev pub front : ModelState
   front = marking (base state request InFront) request.hart (head_of state request.line)
 
   former_is : (former : Request) → head_of state request.line ≡ Some former → ordered_of state former.hart ≡ Some former
@@ -222,7 +222,7 @@ module _ (state : ModelState) (request : Request) (grounds : Grounds state) (ord
       linked_to (base state request InFront) request.hart (head_of state request.line) former grounds.opened.mode is
       (rw (same_count state request InFront grounds ordering standing) (grounds.below former.hart former (former_is former is))))
 
-  front_facing : Facing front request
+  pub front_facing : Facing front request
   front_facing =
       let posts = front_posts in
       record {

@@ -215,7 +215,7 @@ module _ (state : ModelState) (request : Request) (grounds : Grounds state) (ser
   once_after : IsOneEach after.order
   once_after = subst IsOneEach (sym order_is) (one_each_removed state.order request.hart grounds.once.once)
 
-  next_facing : (next : Request) → head_of after request.line ≡ Some next → Facing after next
+  pub next_facing : (next : Request) → head_of after request.line ≡ Some next → Facing after next
   next_facing next is =
       let line = head_line after request.line next is in
       record {
@@ -268,7 +268,7 @@ module _ (state : ModelState) (request : Request) (grounds : Grounds state) (ser
       by (Some next) is = faced_stands after next (next_facing next is) (next_first next is)
 
 -- nothing is in the way: the request is the head of its line
-is_first : (state : ModelState) (request : Request) → IsOneEach state.order → ordered_of state request.hart ≡ Some request →
+pub is_first : (state : ModelState) (request : Request) → IsOneEach state.order → ordered_of state request.hart ≡ Some request →
     other_head request.hart (head_of state request.line) ≡ None → head_of state request.line ≡ Some request
 is_first state request once ordered none = by (head_of state request.line) refl none
   where

@@ -239,9 +239,6 @@ message_beats state h (Marker sender) others mail grounds standing g winner lost
 message_beats state h (Probe origin) others mail grounds standing g winner lost =
     by (has (hart_of (taken state h others) h).told origin) lost
   where
-    first : ModelState
-    first = taken state h others
-
     by : (told : Bool) → beaten_by (if told then nobody else probe_losers (taken state h others) h origin (ordered_of (taken state h others) origin)) g ≡ Some winner →
         LosesToEarlier (if told then taken state h others
         else after_probe (taken state h others) h origin (ordered_of (taken state h others) origin)) g winner
@@ -254,7 +251,7 @@ mail_beats state h [] is grounds standing g winner lost = absurd (cc)
 mail_beats state h (message ∷ others) is grounds standing g winner lost = message_beats state h message others is grounds standing g winner lost
 
 -- a step names no losers
-step_names_none : {X : Type 0} (deed : Deed) (g winner : ℕ) → winner_over (outcome_of deed) g ≡ Some winner → X
+pub step_names_none : {X : Type 0} (deed : Deed) (g winner : ℕ) → winner_over (outcome_of deed) g ≡ Some winner → X
 step_names_none Rests g winner is = absurd (cc)
 step_names_none Waits g winner is = absurd (cc)
 step_names_none (Misses line need) g winner is = absurd (cc)

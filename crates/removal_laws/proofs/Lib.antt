@@ -19,3 +19,4 @@ pub mod Stepping
 pub mod Throughout
 pub mod Climbing
 pub mod Beating
+pub mod Promises

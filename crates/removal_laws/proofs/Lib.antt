@@ -20,3 +20,5 @@ pub mod Throughout
 pub mod Climbing
 pub mod Beating
 pub mod Promises
+pub mod LeastOfFour
+pub mod SecondAttempt

@@ -7,15 +7,12 @@ use Rattle.bus_order.proofs.Queues.{hart_of_request_of}
 use Rattle.cache_sets.specs.Cache.{has_bit}
 use Rattle.defer_list.specs.HartSet.{has}
 use Rattle.el_base.specs.Losers.{beaten_by, losers_of, winner_code}
-use Rattle.el_base.specs.declared.config.Mode.{Mode}
-use Rattle.el_base.specs.declared.config.Mode.TheVariants.{Tlr}
 use Rattle.el_base.specs.declared.events.Event.{Event}
 use Rattle.el_base.specs.declared.events.Kind.{Kind}
 use Rattle.el_base.specs.declared.events.Kind.TheVariants as kinds
-use Rattle.el_base.specs.declared.outcomes.Outcome.TheVariants.{Delivered, Ordered, Served}
 use Rattle.el_base.specs.declared.outcomes.Why.TheVariants.{Behind}
 use Rattle.el_base.proofs.MadeLosers.{beaten_by-beyond}
-use Rattle.el_model.specs.Conflicts.{least_such, stamp_in, told_winner}
+use Rattle.el_model.specs.Conflicts.{stamp_in, told_winner}
 use Rattle.el_model.specs.Deed.{Begins, Buffers, Commits, Deed, Misses, Rests, RollsBack, Runs, Waits, outcome_of}
 use Rattle.el_model.specs.Deliver.{after_probe, deliver_next, deliver_turn, delivered, losers_by, loses_to_origin, nobody, one_lost, probe_losers, taken}
 use Rattle.el_model.specs.Face.{Fate, LosesTo, Stays, Unmet, after_fate, face_losers, face_losers_if, faced, faced_hart, faced_if, fate_at, markers_for, winner_in}
@@ -23,25 +20,25 @@ use Rattle.el_model.specs.Losses.{winner_over}
 use Rattle.el_model.specs.Next.{after, kind_turn, next}
 use Rattle.el_model.specs.Order.{Alone, Behind as Back, InFront, Place, losers_at, order_raised, order_turn, place_for, placed}
 use Rattle.el_model.specs.RollBack.{beaten}
-use Rattle.el_model.specs.Serve.{Blocks, Free, Obstacle, obstacle_to, other_head, serve_losers, serve_ordered, serve_past, serve_turn, served}
-use Rattle.el_model.specs.State.{Hart, ModelState, cache_of, for_line, hart_of, head_of, is_live, numbers_of, ordered_of, ordered_on, post_all, raised_of}
+use Rattle.el_model.specs.Serve.{Blocks, Free, Obstacle, obstacle_to, serve_ordered, serve_past, serve_turn, served}
+use Rattle.el_model.specs.State.{ModelState, cache_of, for_line, hart_of, head_of, is_live, numbers_of, ordered_of, ordered_on, post_all, raised_of}
 use Rattle.el_model.proofs.Deeds.{step_deed}
 use Rattle.el_model.proofs.Tests.{by_test}
 use Rattle.el_model.proofs.Harts.{hart_of-each_hart}
 use Rattle.mail.specs.Mailbox.{Marker, Message, Probe}
-use Rattle.removal_laws.specs.Laws.{LosersLoseToEarlier, LosesToEarlier, attempt_of}
-use Rattle.removal_laws.proofs.Bits.{clash, first_of_both, meets, second_of_both, some_none, some_same}
+use Rattle.removal_laws.specs.Laws.{LosersLoseToEarlier, LosesToEarlier}
+use Rattle.removal_laws.proofs.Bits.{meets, second_of_both, some_none, some_same}
 use Rattle.removal_laws.proofs.Delivering.{own_line}
 use Rattle.removal_laws.proofs.Faced.{Facing, all_faced}
 use Rattle.removal_laws.proofs.Facing.{FateIs, Lost, fate_is, least_passes, live_below, saw_clock}
 use Rattle.removal_laws.proofs.Grounds.{Grounds, Standing}
 use Rattle.removal_laws.proofs.Ordering.{Ordering, base}
-use Rattle.removal_laws.proofs.Placing.{alone_facing, front, front_facing}
+use Rattle.removal_laws.proofs.Placing.{alone_facing, front, front_facing, none_is}
 use Rattle.removal_laws.proofs.Requests.{raised_own}
-use Rattle.removal_laws.proofs.Serving.{Serving, is_first, next_facing}
+use Rattle.removal_laws.proofs.Serving.{next_facing}
 use Rattle.removal_laws.proofs.Telling.{probe_beats}
 use Rattle.removal_laws.proofs.Throughout.{always_holds}
-use Rattle.section_laws.proofs.FreeLines.{not_blocked}
+use Rattle.section_laws.proofs.FreeLines.{head_is, not_blocked}
 use Rattle.section_laws.proofs.Numbered.{raised_exists}
 use Rattle.section_laws.proofs.Waiting.{free_of_order}
 use Rattle.stamp.specs.Stamps.{Stamp, is_before}
@@ -152,32 +149,28 @@ face_beats_if state (Some head) g winner facing is = face_beats state head g win
 
 -- a request is ordered
 module _ (state : ModelState) (request : Request) (grounds : Grounds state) (ordering : Ordering state request) (standing : Standing state) (g winner : ℕ)
-    where
-  abbrev Beats : Place → Type 0
-  Beats place = beaten_by (losers_at state request place) g ≡ Some winner → LosesToEarlier (placed state request place) g winner
+  where
+    abbrev Beats : Place → Type 0
+    Beats place = beaten_by (losers_at state request place) g ≡ Some winner → LosesToEarlier (placed state request place) g winner
 
-  front_beats : Beats InFront
-  unfolding placed
-  front_beats is = face_beats (front state request grounds ordering standing) request g winner (front_facing state request grounds ordering standing) is
+    front_beats : Beats InFront
+    unfolding placed
+    front_beats is = face_beats (front state request grounds ordering standing) request g winner (front_facing state request grounds ordering standing) is
 
-  behind_beats : Beats Back
-  behind_beats is = nobody_named g winner is
+    behind_beats : Beats Back
+    behind_beats is = nobody_named g winner is
 
-  alone_beats : head_of state request.line ≡ None → Beats Alone
-  unfolding placed
-  alone_beats none is = face_beats (base state request Alone) request g winner (alone_facing state request grounds ordering standing none) is
+    alone_beats : head_of state request.line ≡ None → Beats Alone
+    unfolding placed
+    alone_beats none is = face_beats (base state request Alone) request g winner (alone_facing state request grounds ordering standing none) is
 
-  place_beats : Beats (place_for state request)
-  place_beats =
-      by_test Beats (is_live state request.hart && has_bit (cache_of state request.hart) request.line) InFront
-      (if is_some (head_of state request.line) then Back else Alone) (λ bit. front_beats)
-      (λ no_bit.
-      by_test Beats (is_some (head_of state request.line)) Back Alone (λ has_head. behind_beats)
-      (λ no_head. alone_beats (none_is (head_of state request.line) no_head)))
-    where
-      none_is : (found : Option Request) → is_some found ≡ false → found ≡ None
-      none_is None none = refl
-      none_is (Some found) none = absurd (cc)
+    place_beats : Beats (place_for state request)
+    place_beats =
+        by_test Beats (is_live state request.hart && has_bit (cache_of state request.hart) request.line) InFront
+        (if is_some (head_of state request.line) then Back else Alone) (λ bit. front_beats)
+        (λ no_bit.
+        by_test Beats (is_some (head_of state request.line)) Back Alone (λ has_head. behind_beats)
+        (λ no_head. alone_beats (none_is (head_of state request.line) no_head)))
 
 order_beats : (state : ModelState) (h : ℕ) (raised : Option Request) → raised_of state h ≡ raised → Grounds state → Standing state → (g winner : ℕ) →
     winner_over (order_raised state raised).outcome g ≡ Some winner → LosesToEarlier (order_raised state raised).state g winner
@@ -201,7 +194,7 @@ past_beats state request Free is grounds ordered standing g winner lost =
     next_facing state request grounds
     (record {
       ordered = ordered;
-      first = is_first state request grounds.once.once ordered (not_blocked Behind (other_head request.hart (head_of state request.line)) _ is);
+      first = head_is state request.hart request (head_of state request.line) grounds.once.once ordered refl (not_blocked Behind _ _ is);
     }) standing found first) lost
 
 serve_beats : (state : ModelState) (h : ℕ) (request : Option Request) → ordered_of state h ≡ request → Grounds state → Standing state → (g winner : ℕ) →

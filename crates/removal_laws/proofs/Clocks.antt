@@ -24,6 +24,7 @@ use Rattle.el_model.proofs.FromStart.{kept_after}
 use Rattle.el_model.proofs.Harts.{hart_of-past}
 use Rattle.removal_laws.specs.Laws.{IsLater, LaterAttemptsAreLater, StampsAreKept, attempt_of, closes}
 use Rattle.removal_laws.proofs.Attempts.{AllOpen, Own, always_open, always_own, attempts_kept, candidate_keeps, next_open, next_own}
+use Rattle.removal_laws.proofs.Bits.{no_less}
 use Rattle.section_laws.specs.Sections.{is_committed, is_rolled_back}
 use Rattle.section_laws.proofs.EachHart.{Each, each_but, each_with}
 use Rattle.section_laws.proofs.EachKept.{BusKept, bus_keeps}
@@ -31,7 +32,7 @@ use Rattle.section_laws.proofs.Moves.{step_keeps}
 use Rattle.stamp.specs.Stamps.{Stamp, next_clock_of}
 
 -- whether this outcome closes the attempt of its hart
-abbrev closes_it : Outcome → Bool
+abbrev pub closes_it : Outcome → Bool
 closes_it outcome = is_committed outcome || is_rolled_back outcome
 
 -- a stamp is kept by the deeds that close no attempt
@@ -123,9 +124,6 @@ bus_grows state = record {
 closed_grows : (hart : Hart) (attempt : Option Stamp) → hart.clock ≤ closed_clock hart attempt
 closed_grows hart None = omega arith
 closed_grows hart (Some stamp) = omega arith
-
-no_less : (n : ℕ) → n ≤ n
-no_less n = omega arith
 
 ungrown : (hart : Hart) → Grown hart hart
 ungrown hart = record { clock = no_less hart.clock; seen = no_less hart.seen }

@@ -1,6 +1,6 @@
 -- The laws at worked values: four harts, of which hart 1 has written line B in its section and harts 2, 3 and 0 wait for B in this
 -- order. Hart 0 has the least stamp. Beside each law stands a wrong statement that these values refute.
-use Rattle.std.proofs.Common.{◌≡◌, ◌≢◌, ℕ, zero, suc, Bool, true, false, List, [], ◌∷◌, ◌++◌, ◌∙◌, ◌≤◌, ◌==◌, not, Option, None, Some, refl, ap, sym, arith}
+use Rattle.std.proofs.Common.{◌≡◌, ◌≢◌, ℕ, zero, suc, Bool, true, false, List, [], ◌∷◌, ◌∙◌, ◌≤◌, ◌==◌, not, None, Some, refl, ap, sym, arith}
 use Rattle.bus_order.specs.Order.{Request}
 use Rattle.el_base.specs.declared.events.Event.{Event}
 use Rattle.el_base.specs.declared.events.Kind.TheVariants.{Deliver, Serve}
@@ -12,7 +12,7 @@ use Rattle.el_model.proofs.Rows.ChainOfFour.{first, ordering}
 use Rattle.el_model.specs.Conflicts.{retains}
 use Rattle.el_model.specs.Losses.{winner_over}
 use Rattle.el_model.specs.Next.{next, state_after}
-use Rattle.el_model.specs.State.{ModelState, hart_of, is_live, ordered_of, ordered_on}
+use Rattle.el_model.specs.State.{ModelState, hart_of, is_live}
 use Rattle.mail.specs.Mailbox.{Marker, Probe, has_message}
 use Rattle.removal_laws.specs.Laws.{IsDelivered, LosesToEarlier, WaitsWithLeast, attempt_of}
 use Rattle.removal_laws.proofs.Bits.{some_none}

@@ -22,3 +22,4 @@ pub mod Beating
 pub mod Promises
 pub mod LeastOfFour
 pub mod SecondAttempt
+pub mod Endings

@@ -1,6 +1,6 @@
 -- what comes of the facts: the least stamp never loses, later attempts are later than all that their hart waited for, and
 -- a head that nothing is in the way of is served
-use Rattle.std.proofs.Common.{◌≡◌, ◌≢◌, ◌∙◌, ◌<◌, ◌≤◌, ◌==◌, ◌&&◌, ℕ, Bool, true, false, not, List, [], ◌∷◌, Option, None, Some, is_some, refl, ap, sym, inl, inr, ◌⊎◌, arith, subst, if◌then◌else◌}
+use Rattle.std.proofs.Common.{◌≡◌, ◌∙◌, ◌==◌, ◌&&◌, ℕ, Bool, true, false, not, List, [], ◌∷◌, Option, None, Some, refl, ap, sym, inl, inr, ◌⊎◌, arith, subst, if◌then◌else◌}
 use Rattle.std.proofs.lemmas.Bool.{cases_eq}
 use Rattle.bus_order.specs.Order.{Request}
 use Rattle.bus_order.proofs.LookUps.{number_of_test, own_test}
@@ -12,19 +12,19 @@ use Rattle.el_base.specs.declared.outcomes.Why.TheVariants.{Behind, Locked, Reta
 use Rattle.el_model.specs.Conflicts.{first_such, holder_of, retainer_of, retains}
 use Rattle.el_model.specs.Losses.{winner_over}
 use Rattle.el_model.specs.Next.{after, kind_turn, next}
-use Rattle.el_model.specs.Serve.{Blocks, Free, Obstacle, blocks_if, obstacle_to, other_head, serve_ordered, serve_past, serve_turn}
-use Rattle.el_model.specs.State.{Hart, ModelState, hart_of, head_of, is_held, numbers_of, ordered_of, section_of}
+use Rattle.el_model.specs.Serve.{Free, Obstacle, blocks_if, obstacle_to, other_head, serve_ordered, serve_past, serve_turn}
+use Rattle.el_model.specs.State.{ModelState, hart_of, head_of, is_held, numbers_of, ordered_of, section_of}
 use Rattle.el_model.proofs.Deeds.{step_deed}
 use Rattle.removal_laws.specs.Facts.{Everywhere, Facts}
 use Rattle.removal_laws.specs.Laws.{HasLeast, HeadIsServed, IsLocked, LaterThanDeferredHeads, LaterThanWinners, LeastStampNeverLoses, LosesToEarlier, attempt_of, is_served}
 use Rattle.removal_laws.proofs.Attempts.{attempts_kept}
 use Rattle.removal_laws.proofs.Beating.{next_beats, step_names_none}
-use Rattle.removal_laws.proofs.Bits.{clash, first_of_both, second_of_both, some_none, some_same}
+use Rattle.removal_laws.proofs.Bits.{clash, second_of_both, some_none, some_same}
 use Rattle.removal_laws.proofs.Climbing.{least_stamp_is_not_retained}
 use Rattle.removal_laws.proofs.Clocks.{later_from}
 use Rattle.removal_laws.proofs.Grounds.{Grounds, facts_of}
 use Rattle.removal_laws.proofs.Kept.{head_line}
-use Rattle.removal_laws.proofs.Throughout.{always_holds, facts_hold_throughout, next_holds}
+use Rattle.removal_laws.proofs.Throughout.{always_holds, next_holds}
 use Rattle.section_laws.specs.Waiting.{OnlyHolds}
 use Rattle.section_laws.proofs.EachKept.{BusKept, bus_keeps}
 use Rattle.section_laws.proofs.Waiting.{Sound}

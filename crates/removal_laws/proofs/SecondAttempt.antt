@@ -1,14 +1,11 @@
 -- The laws at worked values: a hart commits a section and begins another one.
-use Rattle.std.proofs.Common.{◌≡◌, ℕ, zero, suc, Bool, true, false, List, [], ◌∷◌, Option, None, Some, refl, arith}
-use Rattle.el_base.specs.LineAddr.{line_addr}
+use Rattle.std.proofs.Common.{◌≡◌, zero, suc, true, List, [], ◌∷◌, Some, refl}
 use Rattle.el_base.specs.declared.config.Mode.TheVariants.{Tlr}
 use Rattle.el_base.specs.declared.events.Event.{Event}
 use Rattle.el_base.specs.declared.events.Kind.TheVariants.{Order, Serve, Step}
-use Rattle.el_base.specs.declared.outcomes.Need.TheVariants.{Read}
-use Rattle.el_base.specs.declared.outcomes.Outcome.{Outcome}
-use Rattle.el_base.specs.declared.outcomes.Outcome.TheVariants.{Began, Committed, Missed, Ordered, Served}
+use Rattle.el_base.specs.declared.outcomes.Outcome.TheVariants.{Began, Committed}
 use Rattle.el_model.proofs.Computing.{computing}
-use Rattle.el_model.proofs.Given.{event, lost, stamp}
+use Rattle.el_model.proofs.Given.{event, stamp}
 use Rattle.el_model.proofs.Rows.Given.{machine_of, settings, store_word, swap, usual}
 use Rattle.el_model.specs.Next.{outcomes_from, state_after}
 use Rattle.el_model.specs.State.{ModelState}

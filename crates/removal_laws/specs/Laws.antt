@@ -1,6 +1,7 @@
 -- the laws of lock removal
 use Rattle.std.specs.Prelude.{ℕ, ◌≡◌, ◌≢◌, ◌<◌, ◌≤◌, ◌==◌, ◌&&◌, ◌||◌, ◌⊎◌, Bool, true, false, List, [], ◌∷◌, Option, None, Some}
 use Rattle.bus_order.specs.Order.{Request}
+use Rattle.el_base.specs.Config.{IsInRange}
 use Rattle.el_base.specs.HartId.{hart_id}
 use Rattle.el_base.specs.declared.config.Config.{Config}
 use Rattle.el_base.specs.declared.config.Mode.TheVariants.{Tlr}
@@ -148,3 +149,11 @@ HeadIsServed =
     head_of (after program config events) line ≡ Some head → event.kind ≡ kinds.Serve → event.hart.number ≡ head.hart →
     (is_served (next (after program config events) event).outcome ≡ true)
     ⊎ IsLocked (after program config events) line (next (after program config events) event).outcome
+
+-- what ends the section of such a hart is its own commit or its own rollback
+abbrev pub LeastEndsItsOwnSection : Type 0
+LeastEndsItsOwnSection =
+    (program : Program) (config : Config) (events : List Event) (event : Event) (h : ℕ) (stamp : Stamp) → config.mode ≡ Tlr →
+    program.harts ≡ config.harts → IsInRange config → HasLeast (after program config events) h stamp →
+    is_live (after program config events) h ≡ true → is_live (next (after program config events) event).state h ≡ false →
+    closes (after program config events) event h ≡ true

@@ -4,6 +4,7 @@ ghost use Rattle.removal_laws.specs.Laws.{
   LaterAttemptsAreLater,
   LaterThanDeferredHeads,
   LaterThanWinners,
+  LeastEndsItsOwnSection,
   LeastStampIsNotRetained,
   LeastStampNeverLoses,
   LosersLoseToEarlier,
@@ -64,6 +65,13 @@ pub fn losers_lose_to_earlier()
 #[tactic(auto, using(crate::proofs::Promises::least_stamp_never_loses))]
 pub fn least_stamp_never_loses()
     ensures { LeastStampNeverLoses }
+{}
+
+/// In lock removal, from a program with as many harts as its configuration has, where that is in range: an event that
+/// ends the section of a hart whose open attempt has the least stamp of all is that hart's own step, by which the
+/// section commits or the hart rolls it back.
+pub fn least_ends_its_own_section()
+    ensures { LeastEndsItsOwnSection }
 {}
 
 /// In lock removal, let a hart wait for a line with a stamp less than that of each other hart's live section. Where no

@@ -25,7 +25,7 @@ first_not : (a b : Bool) → (a || b) ≡ false → a ≡ false
 first_not true b is = is
 first_not false b is = refl
 
-second_not : (a b : Bool) → (a || b) ≡ false → b ≡ false
+pub second_not : (a b : Bool) → (a || b) ≡ false → b ≡ false
 second_not true b is = absurd (cc)
 second_not false b is = is
 
@@ -75,7 +75,7 @@ none_such test from number (suc k) (hart ∷ harts) none below is =
     rest false some = some
 
 -- a request in order has a head on its line
-has_head : (order : List Request) (h : ℕ) (request : Request) → request_of order h ≡ Some request → first_of order request.line ≡ None → ⊥
+pub has_head : (order : List Request) (h : ℕ) (request : Request) → request_of order h ≡ Some request → first_of order request.line ≡ None → ⊥
 has_head [] h request is none = absurd (cc)
 has_head (first ∷ order) h request is none =
     by (first.hart == h) (first.line == request.line) refl (λ found absent. has_head order h request found absent) is none
@@ -93,7 +93,7 @@ has_head (first ∷ order) h request is none =
     by true false test rest is none = differs first.line request.line (ap (λ r. r.line) (same_request first request is)) test
     by false false test rest is none = rest is none
 
-head_is : (state : ModelState) (h : ℕ) (request : Request) (head : Option Request) → IsOneEach state.order → ordered_of state h ≡ Some request →
+pub head_is : (state : ModelState) (h : ℕ) (request : Request) (head : Option Request) → IsOneEach state.order → ordered_of state h ≡ Some request →
     head_of state request.line ≡ head → other_head request.hart head ≡ None → head ≡ Some request
 head_is state h request None once is found own = absurd (has_head state.order h request is found)
 head_is state h request (Some head) once is found own =

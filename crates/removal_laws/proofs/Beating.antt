@@ -232,7 +232,8 @@ message_beats state h (Marker sender) others mail grounds standing g winner lost
 message_beats state h (Probe origin) others mail grounds standing g winner lost =
     by (has (hart_of (taken state h others) h).told origin) lost
   where
-    by : (told : Bool) → beaten_by (if told then nobody else probe_losers (taken state h others) h origin (ordered_of (taken state h others) origin)) g ≡ Some winner →
+    by : (told : Bool) →
+        beaten_by (if told then nobody else probe_losers (taken state h others) h origin (ordered_of (taken state h others) origin)) g ≡ Some winner →
         LosesToEarlier (if told then taken state h others
         else after_probe (taken state h others) h origin (ordered_of (taken state h others) origin)) g winner
     by true is = nobody_named g winner is

@@ -39,7 +39,9 @@ ordered_behind first order line (request ∷ others) none ((found, on), rest) = 
 queue_ordered : (order : List Request) (line : ℕ) → IsOneEach order → AreOrdered order line (queue_of order line)
 queue_ordered [] line once = tt
 queue_ordered (request ∷ order) line once =
-    by (ordered_behind request order line (queue_of order line) (alone_in_front request order once) (queue_ordered order line (one_each_rest request order once)))
+    by
+    (ordered_behind request order line (queue_of order line) (alone_in_front request order once)
+    (queue_ordered order line (one_each_rest request order once)))
     (request.line == line) refl
   where
     by : AreOrdered (request ∷ order) line (queue_of order line) → (here : Bool) → (request.line == line) ≡ here →

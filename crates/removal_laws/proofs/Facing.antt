@@ -40,7 +40,8 @@ passed test (first ∷ others) h is = by (passed test others h) (test first) ref
     here rest holds true same is = rw (sym (number_of_test first h same)) holds
     here rest holds false apart is = rest is
 
-    by : (has (filter test others) h ≡ true → test h ≡ true) → (taken : Bool) → test first ≡ taken → has (if taken then first ∷ filter test others else filter test others) h ≡ true → test h ≡ true
+    by : (has (filter test others) h ≡ true → test h ≡ true) → (taken : Bool) → test first ≡ taken →
+        has (if taken then first ∷ filter test others else filter test others) h ≡ true → test h ≡ true
     by rest true holds is = here rest holds (first == h) refl is
     by rest false fails is = rest is
 
@@ -48,7 +49,8 @@ pub passes : (test : ℕ → Bool) (harts : List ℕ) (h : ℕ) → has harts h 
 passes test [] h is holds = absurd (cc)
 passes test (first ∷ others) h is holds = by (λ later. passes test others h later holds) (test first) refl (first == h) refl is
   where
-    by : (has others h ≡ true → has (filter test others) h ≡ true) → (taken : Bool) → test first ≡ taken → (same : Bool) → (first == h) ≡ same → (if same then true else has others h) ≡ true →
+    by : (has others h ≡ true → has (filter test others) h ≡ true) → (taken : Bool) → test first ≡ taken → (same : Bool) → (first == h) ≡ same →
+        (if same then true else has others h) ≡ true →
         has (if taken then first ∷ filter test others else filter test others) h ≡ true
     by rest true first_holds true same is = rw same refl
     by rest false fails true same is = clash (ap test (sym (number_of_test first h same)) ∙ fails) holds

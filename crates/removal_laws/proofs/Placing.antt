@@ -190,7 +190,8 @@ module _ (state : ModelState) (request : Request) (grounds : Grounds state) (ord
         where
           by : (h ≡ request.hart) ⊎ (h ≡ request.hart → ⊥) → head_of (base state request Alone) found.line ≡ Some found
           by (inl same) =
-              let e : request ≡ found = some_same (sym (own_ordered state request Alone grounds ordering standing) ∙ ap (ordered_of (base state request Alone)) (sym same) ∙ is) in
+              let mine = own_ordered state request Alone grounds ordering standing in
+              let e : request ≡ found = some_same (sym mine ∙ ap (ordered_of (base state request Alone)) (sym same) ∙ is) in
               subst (λ r. head_of (base state request Alone) r.line ≡ Some r) e
               (first_of_appended_own state.order request ∙ alone_first (head_of state request.line) no_head)
           by (inr apart) =

@@ -169,7 +169,10 @@ all_linked (first ∷ senders) hart sender is = all_linked senders (record hart 
   where
     here : (same : Bool) → (first == sender) ≡ same → (if same then true else has senders sender) ≡ true →
         has senders sender ≡ true ⊎ IsLinked (record hart { mail = posted hart.mail (Marker first) }) sender
-    here true same is = inr (subst (IsLinked (record hart { mail = posted hart.mail (Marker first) })) (number_of_test first sender same) (is_marked hart first))
+    here true same is =
+        inr
+        (subst (IsLinked (record hart { mail = posted hart.mail (Marker first) })) (number_of_test first sender same)
+        (is_marked hart first))
     here false apart is = inl is
 
     next : has (first ∷ senders) sender ≡ true ⊎ IsLinked hart sender →

@@ -105,7 +105,8 @@ all_probed Up Told state g (origin ∷ origins) old hart may now =
         by true = refl
         by false = is
 
-pub all_known : (origins : List ℕ) (hart : Hart) (origin : ℕ) → (has origins origin ≡ true) ⊎ Knows hart origin → Knows (post_all hart (map Probe origins)) origin
+pub all_known : (origins : List ℕ) (hart : Hart) (origin : ℕ) → (has origins origin ≡ true) ⊎ Knows hart origin →
+    Knows (post_all hart (map Probe origins)) origin
 all_known [] hart origin (inl is) = absurd (cc)
 all_known [] hart origin (inr known) = known
 all_known (first ∷ origins) hart origin is = all_known origins (record hart { mail = posted hart.mail (Probe first) }) origin (next is)
@@ -115,7 +116,10 @@ all_known (first ∷ origins) hart origin is = all_known origins (record hart { 
 
     here : (same : Bool) → (first == origin) ≡ same → (if same then true else has origins origin) ≡ true → (has origins origin ≡ true) ⊎ Knows new origin
     here true same is =
-        inr (inl (subst (λ o. has_message (posted hart.mail (Probe first)) (Probe o) ≡ true) (number_of_test first origin same) (has_posted_own hart.mail (Probe first))))
+        inr
+        (inl
+        (subst (λ o. has_message (posted hart.mail (Probe first)) (Probe o) ≡ true) (number_of_test first origin same)
+        (has_posted_own hart.mail (Probe first))))
     here false apart is = inl is
 
     next : (has (first ∷ origins) origin ≡ true) ⊎ Knows hart origin → (has origins origin ≡ true) ⊎ Knows new origin

@@ -107,7 +107,8 @@ module _ (state : ModelState) (request : Request) (grounds : Grounds state) (ser
       own : (queue : List Request) → queue_of state.order request.line ≡ queue → IsChained state (removed (queue_of state.order request.line) request.hart)
       own [] none = subst (IsChained state) (sym (ap (λ queue. removed queue request.hart) none)) tt
       own (head ∷ others) is =
-          let head_is_own : head ≡ request = same_head (subst (λ queue. IsHead queue (first_of state.order request.line)) is (head_is state.order request.line)) in
+          let found = subst (λ queue. IsHead queue (first_of state.order request.line)) is (head_is state.order request.line) in
+          let head_is_own : head ≡ request = same_head found in
           let taken : removed (queue_of state.order request.line) request.hart ≡ others =
           sym (queue_of_removed state.order request.hart request.line)
           ∙ queue_of_removed_own state.order request.line request others grounds.once.once (is ∙ ap (λ r. r ∷ others) head_is_own) in

@@ -39,7 +39,8 @@ record Contents : Type 0 where
 abbrev contents : Hart → Contents
 contents hart = record { mail = hart.mail; told = hart.told; upstream = hart.upstream }
 
-candidate_contents : (pc : ℕ) (had_watch : Bool) (candidate : Option Swap) (hart : Hart) → contents (after_candidate pc had_watch candidate hart) ≡ contents hart
+candidate_contents : (pc : ℕ) (had_watch : Bool) (candidate : Option Swap) (hart : Hart) →
+    contents (after_candidate pc had_watch candidate hart) ≡ contents hart
 candidate_contents pc had_watch None hart = refl
 candidate_contents pc had_watch (Some swap) hart = refl
 
@@ -151,7 +152,8 @@ wanted_bit state h line need old new head unwanted cache is apart bit = by (case
         subst (λ l. bit_in Write (way_of new.cache l) ≡ true) same (subst (λ n. meets_bit new head.line n ≡ true) read bit) in
         let there : bit_in Write (way_of (touched (marked old.cache line Read) line) line) ≡ true =
         subst (λ c. bit_in Write (way_of c line) ≡ true) (cache ∙ ap (λ n. touched (marked old.cache line n) line) reads) here in
-        let before = write_of_read_marked old.cache line (subst (λ way. bit_in Write way ≡ true) (way_of-touched (marked old.cache line Read) line line) there) in
+        let untouched = way_of-touched (marked old.cache line Read) line line in
+        let before = write_of_read_marked old.cache line (subst (λ way. bit_in Write way ≡ true) untouched there) in
         subst (λ n. meets_bit old head.line n ≡ true) (sym read) (subst (λ l. bit_in Write (way_of old.cache l) ≡ true) (sym same) before)
 
     by_head : need ≡ Read → head.line ≡ line → (wanted : Need) → head.need ≡ wanted → meets_bit old head.line head.need ≡ true
@@ -257,7 +259,8 @@ candidate_section : (pc : ℕ) (had_watch : Bool) (candidate : Option Swap) (har
 candidate_section pc had_watch None hart none = none
 candidate_section pc had_watch (Some swap) hart none = none
 
-missed_aside : (head : Option Request) (g : ℕ) (hart : Hart) (raised : Option Request) → conflicts_with head g (record hart { held = None; raised = raised }) ≡ true →
+missed_aside : (head : Option Request) (g : ℕ) (hart : Hart) (raised : Option Request) →
+    conflicts_with head g (record hart { held = None; raised = raised }) ≡ true →
     conflicts_with head g hart ≡ true
 missed_aside None g hart raised is = is
 missed_aside (Some request) g hart raised is = is

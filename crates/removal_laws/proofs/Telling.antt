@@ -20,7 +20,7 @@ use Rattle.mail.proofs.LookUps.{has_posted_own}
 use Rattle.removal_laws.specs.Facts.{IsLinked, Knows, MayBeKnown}
 use Rattle.removal_laws.specs.Laws.{LosesToEarlier}
 use Rattle.removal_laws.proofs.Facing.{saw_clock}
-use Rattle.removal_laws.proofs.Bits.{both, clash, fewer_ended, fewer_same, first_of_both, second_of_both, some_same, some_none}
+use Rattle.removal_laws.proofs.Bits.{both, clash, fewer_ended, fewer_same, first_of_both, meets, second_of_both, some_same, some_none}
 use Rattle.removal_laws.proofs.Delivering.{Entry, NoEntry, mail_exists, marker_stands, more_has, new_or_had, own_line}
 use Rattle.removal_laws.proofs.Grounds.{Grounds, Standing}
 use Rattle.removal_laws.proofs.Kept.{OwedOf, head_line, retained_before}
@@ -289,7 +289,7 @@ module _ (state : ModelState) (h origin : ℕ) (others : List Message) (mail : (
 
   no_section_meets : {X : Type 0} (head : Option Request) (g : ℕ) (hart : Hart) → hart.section ≡ None → conflicts_with head g hart ≡ true → X
   no_section_meets None g hart none is = absurd (cc)
-  no_section_meets (Some asked) g hart none is = clash (ap is_some none) (second_of_both (not (asked.hart == g)) _ (first_of_both (not (asked.hart == g) && is_some hart.section) _ is))
+  no_section_meets (Some asked) g hart none is = clash (ap is_some none) (meets asked g hart is).live
 
   mail_aside : (head : Option Request) → conflicts_with head h (hart_of state h) ≡ true →
       conflicts_with head h (record (hart_of state h) { mail = others }) ≡ true
@@ -313,7 +313,8 @@ module _ (state : ModelState) (h origin : ℕ) (others : List Message) (mail : (
       second_is true b is none = none
       second_is false b is none = absurd (cc)
 
-  probe_safe : (line : ℕ) (waiting : Request) → ordered_on state origin line ≡ Some waiting → conflicts_with (head_of state line) h (hart_of probe_final h) ≡ true →
+  probe_safe : (line : ℕ) (waiting : Request) → ordered_on state origin line ≡ Some waiting →
+      conflicts_with (head_of state line) h (hart_of probe_final h) ≡ true →
       is_before waiting.stamp (hart_of state h).attempt ≡ false
   probe_safe line waiting waits meets = by loses refl
     where

@@ -23,3 +23,4 @@ pub mod Promises
 pub mod LeastOfFour
 pub mod SecondAttempt
 pub mod Endings
+pub mod Releasing

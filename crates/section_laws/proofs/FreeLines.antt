@@ -75,7 +75,7 @@ none_such test from number (suc k) (hart ∷ harts) none below is =
     rest false some = some
 
 -- a request in order has a head on its line
-has_head : (order : List Request) (h : ℕ) (request : Request) → request_of order h ≡ Some request → first_of order request.line ≡ None → ⊥
+pub has_head : (order : List Request) (h : ℕ) (request : Request) → request_of order h ≡ Some request → first_of order request.line ≡ None → ⊥
 has_head [] h request is none = absurd (cc)
 has_head (first ∷ order) h request is none =
     by (first.hart == h) (first.line == request.line) refl (λ found absent. has_head order h request found absent) is none
@@ -105,7 +105,7 @@ head_is state h request (Some head) once is found own =
     mine true none = refl
     mine false none = absurd (cc)
 
-not_met : (other live meets : Bool) → ((other && live) && meets) ≡ false → other ≡ true → live ≡ true → meets ≡ false
+pub not_met : (other live meets : Bool) → ((other && live) && meets) ≡ false → other ≡ true → live ≡ true → meets ≡ false
 not_met true true meets none is lives = none
 not_met false live meets none is lives = absurd (cc)
 not_met true false meets none is lives = absurd (cc)

@@ -1,0 +1,9 @@
+pub mod Ready
+pub mod GettingOn
+pub mod Fewer
+pub mod Faced
+pub mod NewBits
+pub mod Over
+pub mod Worked
+pub mod AllWait
+pub mod WithoutStamps

@@ -1,5 +1,5 @@
 -- what holds in lock removal between the harts of a queue, their mailboxes and their sections
-use Rattle.std.specs.Prelude.{ℕ, ◌≡◌, ◌≢◌, ◌<◌, ◌⊎◌, true, false, List, [], ◌∷◌, length, Some, is_some}
+use Rattle.std.specs.Prelude.{ℕ, ◌≡◌, ◌≢◌, ◌<◌, ◌≤◌, ◌⊎◌, true, false, List, [], ◌∷◌, length, Some, is_some}
 use Rattle.bus_order.specs.Order.{Request, queue_of}
 use Rattle.cache_sets.specs.Cache.{has_bit}
 use Rattle.defer_list.specs.HartSet.{has}
@@ -62,10 +62,12 @@ pub record Stamped (state : ModelState) : Type 0 where
   pub own : (h : ℕ) (stamp : Stamp) → (hart_of state h).attempt ≡ Some stamp → stamp.hart ≡ h
   pub opened : (h : ℕ) → is_live state h ≡ true → is_some (hart_of state h).attempt ≡ true
 
--- a section that retains a line has a link to the hart of its head, and neither the head nor an origin that its hart
--- was told of and that waits for the line has a less stamp
+-- a section that retains a line has a link to the hart of its head, its hart has seen the clock of the head, and neither
+-- the head nor an origin that its hart was told of and that waits for the line has a less stamp
 pub record MayRetain (state : ModelState) (g line : ℕ) : Type 0 where
   pub link : (head : Request) → head_of state line ≡ Some head → IsLinked (hart_of state head.hart) g
+  pub seen : (head : Request) (stamp : Stamp) → head_of state line ≡ Some head → head.stamp ≡ Some stamp →
+      stamp.clock ≤ (hart_of state g).seen
   pub not_after_head : (head : Request) → head_of state line ≡ Some head → is_before head.stamp (hart_of state g).attempt ≡ false
   pub not_after_told : (origin : ℕ) (request : Request) → has (hart_of state g).told origin ≡ true →
       ordered_on state origin line ≡ Some request → is_before request.stamp (hart_of state g).attempt ≡ false

@@ -6,6 +6,7 @@ use Rattle.el_base.specs.declared.events.Event.{Event}
 use Rattle.elf_image.specs.Program.{Program}
 use Rattle.el_model.specs.Next.{after, next, state_after}
 use Rattle.el_model.specs.State.{ModelState, hart_of}
+use Rattle.removal_laws.specs.Facts.{Everywhere, Facts}
 use Rattle.section_laws.specs.Sections.{is_committed, is_rolled_back}
 use Rattle.stamp.specs.Stamps.{Stamp}
 
@@ -48,3 +49,8 @@ LaterAttemptsAreLater =
     config.mode ≡ Tlr → closes (state_after (after program config events) between) closing h ≡ true →
     attempt_of (state_after (next (state_after (after program config events) between) closing).state afterwards) h ≡ Some later →
     IsLater (after program config events) h later
+
+-- the facts of lock removal hold of every state that can be reached
+abbrev pub FactsHoldThroughout : Type 0
+FactsHoldThroughout =
+    (program : Program) (config : Config) (events : List Event) → config.mode ≡ Tlr → Facts Everywhere (after program config events)

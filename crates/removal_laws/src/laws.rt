@@ -1,4 +1,4 @@
-ghost use Rattle.removal_laws.specs.Laws.{LaterAttemptsAreLater, StampsAreDistinct, StampsAreKept};
+ghost use Rattle.removal_laws.specs.Laws.{FactsHoldThroughout, LaterAttemptsAreLater, StampsAreDistinct, StampsAreKept};
 
 /// In every state that can be reached, no two harts have open attempts with the same stamp.
 #[tactic(auto, using(crate::proofs::Attempts::stamps_are_distinct))]
@@ -19,4 +19,12 @@ pub fn stamps_are_kept()
 #[tactic(auto, using(crate::proofs::Clocks::later_attempts_are_later))]
 pub fn later_attempts_are_later()
     ensures { LaterAttemptsAreLater }
+{}
+
+/// In lock removal, in every state that can be reached, the facts of lock removal hold of each line: queues are chained
+/// by markers, what a hart was told goes up its chain, and no section that retains a line has a greater stamp than the
+/// head or than an origin that its hart was told of.
+#[tactic(auto, using(crate::proofs::Throughout::facts_hold_throughout))]
+pub fn facts_hold_throughout()
+    ensures { FactsHoldThroughout }
 {}

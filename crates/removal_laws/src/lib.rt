@@ -11,4 +11,6 @@
 
 mod laws;
 
-pub use laws::{later_attempts_are_later, stamps_are_distinct, stamps_are_kept};
+pub use laws::{
+    facts_hold_throughout, later_attempts_are_later, stamps_are_distinct, stamps_are_kept,
+};

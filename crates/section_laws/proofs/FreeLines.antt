@@ -48,15 +48,15 @@ unwritten_way None none = tt
 unwritten_way (Some way) none = none
 
 -- nothing is in the way
-not_blocked : (why : Why) (by : Option ℕ) (other : Obstacle) → blocks_if why by other ≡ Free → by ≡ None
+pub not_blocked : (why : Why) (by : Option ℕ) (other : Obstacle) → blocks_if why by other ≡ Free → by ≡ None
 not_blocked why None other free = refl
 not_blocked why (Some by) other free = absurd (cc)
 
-blocked_else : (why : Why) (by : Option ℕ) (other : Obstacle) → blocks_if why by other ≡ Free → other ≡ Free
+pub blocked_else : (why : Why) (by : Option ℕ) (other : Obstacle) → blocks_if why by other ≡ Free → other ≡ Free
 blocked_else why None other free = free
 blocked_else why (Some by) other free = absurd (cc)
 
-none_such : (test : ℕ → Bool) (from number k : ℕ) (harts : List Hart) → first_such test (count_up from harts) ≡ None → k < length harts →
+pub none_such : (test : ℕ → Bool) (from number k : ℕ) (harts : List Hart) → first_such test (count_up from harts) ≡ None → k < length harts →
     number ≡ from + k → test number ≡ false
 none_such test from number k [] none below is = absurd (omega arith)
 none_such test from number zero (hart ∷ harts) none below is =

@@ -1,22 +1,17 @@
 -- where nothing gets on at once, each mailbox is empty and each hart that runs has an ordered request
 use Rattle.std.proofs.Common.{◌≡◌, ◌≢◌, ◌∙◌, ℕ, zero, suc, ◌<◌, ◌≤◌, Bool, true, false, List, []}
-use Rattle.std.proofs.Common.{◌∷◌, Option, None, Some, is_some, length, refl, ap, sym, subst, inl, inr, ◌⊎◌, arith}
+use Rattle.std.proofs.Common.{◌∷◌, Option, None, Some, length, refl, ap, sym, subst, inl, inr, ◌⊎◌, arith}
 use Rattle.std.specs.Prelude.{nat_lt}
 use Rattle.std.proofs.lemmas.Bool.{cases_eq, ltb-true, ltb-false}
 use Rattle.bus_order.specs.Order.{Request}
-use Rattle.el_model.specs.Conflicts.{retainer_of, retains}
-use Rattle.el_model.specs.Next.{after}
-use Rattle.el_model.specs.State.{ModelState, hart_of, numbers_of, ordered_of, raised_of}
+use Rattle.el_model.specs.State.{ModelState, hart_of, ordered_of, raised_of}
 use Rattle.el_model.proofs.Harts.{hart_of-past}
 use Rattle.mail.specs.Mailbox.{Message}
-use Rattle.progress_laws.proofs.GettingOn.{GetsOn, Orderly, always_orderly, first_passes}
-use Rattle.progress_laws.proofs.GettingOn.{free_gets_on, mail_gets_on, raised_gets_on, runs_exists, unretained_gets_on}
-use Rattle.progress_laws.proofs.Over.{ready_where_gets_on}
-use Rattle.progress_laws.specs.Laws.{NoneIsReadyOnlyWhereAllWait}
+use Rattle.progress_laws.proofs.GettingOn.{GetsOn, Orderly}
+use Rattle.progress_laws.proofs.GettingOn.{free_gets_on, mail_gets_on, raised_gets_on, runs_exists}
 use Rattle.rv_alu.specs.declared.view.HartStatus.{HartStatus}
 use Rattle.rv_alu.specs.declared.view.HartStatus.TheVariants.{Exited, Running, Trapped}
 use Rattle.rv_flat.specs.FlatState.{status_of}
-use Rattle.section_laws.proofs.Numbered.{requests_are_numbered}
 
 -- of each number below a limit, or else there is something else
 pub each_or : {G : Type 0} (P : ℕ → Type 0) (n : ℕ) → ((k : ℕ) → k < n → G ⊎ P k) → G ⊎ ((k : ℕ) → k < n → P k)
@@ -76,41 +71,3 @@ gets_on_or_waits state orderly = by (each_or (OnlyWaits state) (length state.har
     by : GetsOn state ⊎ ((h : ℕ) → h < length state.harts → OnlyWaits state h) → GetsOn state ⊎ ((h : ℕ) → OnlyWaits state h)
     by (inl on) = inl on
     by (inr each) = inr (λ h. any_waits state orderly each h (nat_lt h (length state.harts)) refl)
-
--- where no event is progress, the line of each ordered request is retained
-waits_all : (state : ModelState) → Orderly state → (GetsOn state → ⊥) → (h : ℕ) → OnlyWaits state h
-waits_all state orderly never = by (gets_on_or_waits state orderly)
-  where
-    by : GetsOn state ⊎ ((h : ℕ) → OnlyWaits state h) → (h : ℕ) → OnlyWaits state h
-    by (inl on) = absurd (never on)
-    by (inr waits) = waits
-
-some_ordered : (state : ModelState) (h : ℕ) → (request : Request) × (ordered_of state h ≡ Some request) → is_some (ordered_of state h) ≡ true
-some_ordered state h (request, ordered) = ap is_some ordered
-
-retained_line : (state : ModelState) (h : ℕ) (request : Request) → Orderly state → (GetsOn state → ⊥) → ordered_of state h ≡ Some request →
-    (g : ℕ) × (retains state g request.line ≡ true)
-retained_line state h request orderly never ordered = by (retainer_of state request.line) refl
-  where
-    by : (retainer : Option ℕ) → retainer_of state request.line ≡ retainer → (g : ℕ) × (retains state g request.line ≡ true)
-    by None none = absurd (never (unretained_gets_on state h request orderly ordered none))
-    by (Some g) is = (g, first_passes (λ g. retains state g request.line) (numbers_of state) g is)
-
-pub none_ready_only_where_all_wait : NoneIsReadyOnlyWhereAllWait
-none_ready_only_where_all_wait program config events same range none = record {
-  mail = λ h. (waits h).mail;
-  waits = λ h running. some_ordered state h ((waits h).waits running);
-  retained = λ h request ordered. retained_line state h request orderly never ordered;
-}
-  where
-    state : ModelState
-    state = after program config events
-
-    orderly : Orderly (after program config events)
-    orderly = always_orderly program config events
-
-    never : GetsOn (after program config events) → ⊥
-    never on = ready_where_gets_on (after program config events) (requests_are_numbered program config events same range).few on none
-
-    waits : (h : ℕ) → OnlyWaits (after program config events) h
-    waits = waits_all (after program config events) orderly never

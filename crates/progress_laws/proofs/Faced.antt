@@ -21,15 +21,14 @@ use Rattle.el_model.specs.State.{Hart, ModelState, hart_of, head_of, new_hart, o
 use Rattle.el_model.proofs.Harts.{hart_of-each_hart, hart_of-each_hart_past}
 use Rattle.el_model.proofs.Keeps.{keeps_marking, keeps_served}
 use Rattle.el_model.proofs.Tests.{by_test}
-use Rattle.progress_laws.proofs.Fewer.{Fewer, OtherThan, bystander_fewer, fewer_moves, fewer_unmet_by, served_fewer, still_fewer}
+use Rattle.progress_laws.proofs.Fewer.{bystander_fewer, fewer_moves, fewer_unmet, served_fewer}
+use Rattle.removal_laws.proofs.Bits.{Fewer, fewer_same}
 use Rattle.policy.specs.Winners.{wins_of}
 use Rattle.section_laws.proofs.EachHart.{each_with}
 use Rattle.section_laws.proofs.Moves.{faced_if_keeps, placed_keeps, served_keeps}
 use Rattle.section_laws.proofs.Waiting.{faced_order, order_at, placed_order}
 use Rattle.stamp.specs.Stamps.{Stamp}
-
-false_true : {X : Type 0} → false ≡ true → X
-false_true wrong = absurd (cc)
+use Rattle.progress_laws.proofs.Cases.{false_true}
 
 -- without stamps each request wins
 each_wins : (mode : Mode) (request section : Option Stamp) → has_stamps mode ≡ false → wins_of mode request section ≡ true
@@ -100,24 +99,22 @@ abbrev pub NoneRetains : ModelState → Type 0
 NoneRetains state = (h line : ℕ) → retains state h line ≡ false
 
 -- a request is placed
-abbrev All : ℕ → Type 0
-All line = Unit {0}
-
 own_line : (state : ModelState) (line : ℕ) (r : Request) → head_of state line ≡ Some r → r.line ≡ line
 own_line state line r is = line_of_first_of state.order line r is
 
 -- the same heads, and fewer sections with bits
-same_head : (on : ℕ → Type 0) (state new : ModelState) (h line : ℕ) → on line → Fewer on (hart_of state h) (hart_of new h) →
+same_head : (state new : ModelState) (h line : ℕ) → Fewer line (hart_of state h) (hart_of new h) →
     head_of new line ≡ head_of state line → retains state h line ≡ false → retains new h line ≡ false
-same_head on state new h line counts fewer same unmet =
+same_head state new h line fewer same unmet =
     ap (λ head. conflicts_with head h (hart_of new h)) same
-    ∙ fewer_unmet_by on (head_of state line) h line (hart_of state h) (hart_of new h) (own_line state line) counts fewer unmet
+    ∙ fewer_unmet (head_of state line) h line (hart_of state h) (hart_of new h) (own_line state line) fewer unmet
 
-placed_fewer : (state : ModelState) (request : Request) (place : Place) (h : ℕ) → Fewer All (hart_of state h) (hart_of (placed state request place) h)
-placed_fewer state request place =
-    placed_keeps (fewer_moves All (hart_of state)) state request place
-    (each_with (λ h hart. Fewer All (hart_of state h) hart) state request.hart (record (hart_of state request.hart) { raised = None })
-    (still_fewer All (hart_of state request.hart) _ refl refl) (λ h. still_fewer All (hart_of state h) (hart_of state h) refl refl))
+placed_fewer : (state : ModelState) (request : Request) (place : Place) (line h : ℕ) →
+    Fewer line (hart_of state h) (hart_of (placed state request place) h)
+placed_fewer state request place line =
+    placed_keeps (fewer_moves line (hart_of state)) state request place
+    (each_with (λ h hart. Fewer line (hart_of state h) hart) state request.hart (record (hart_of state request.hart) { raised = None })
+    (fewer_same line (hart_of state request.hart) _ refl refl) (λ h. fewer_same line (hart_of state h) (hart_of state h) refl refl))
 
 -- a place is right for a request
 abbrev Fits : ModelState → Request → Place → Type 0
@@ -163,7 +160,7 @@ alone_unmet state request h stampless = faced_unmet (placed_last state request) 
 own_placed : (state : ModelState) (request : Request) (place : Place) (h : ℕ) → has_stamps state.config.mode ≡ false → Fits state request place →
     retains state h request.line ≡ false → retains (placed state request place) h request.line ≡ false
 own_placed state request Behind h stampless fit unmet =
-    same_head All state (placed state request Behind) h request.line tt (placed_fewer state request Behind h)
+    same_head state (placed state request Behind) h request.line (placed_fewer state request Behind request.line h)
     (ap (λ order. first_of order request.line) (placed_order state request Behind)
     ∙ first_of_appended_own state.order request
     ∙ first_stays (head_of state request.line) (Some request) fit)
@@ -191,7 +188,7 @@ placed_unretained state request stampless none h line = by (cases_eq line reques
         ap (retains new h) same
         ∙ own_placed state request (place_for state request) h stampless (fits state request) (none h request.line)
     by (inr other) =
-        same_head All state new h line tt (placed_fewer state request (place_for state request) h)
+        same_head state new h line (placed_fewer state request (place_for state request) line h)
         (ap (λ order. first_of order line) (placed_order state request (place_for state request))
         ∙ other_heads state request (place_for state request) line other)
         (none h line)
@@ -228,12 +225,13 @@ past_unretained state h request Free stampless once is none g line = by (cases_e
     mine : ordered_of state request.hart ≡ Some request
     mine = ap (ordered_of state) (hart_of_request_of state.order h request is) ∙ is
 
-    fewer : (g : ℕ) → Fewer (OtherThan request.line) (hart_of state g) (hart_of new g)
-    fewer =
-        faced_if_keeps (fewer_moves (OtherThan request.line) (hart_of state)) after (head_of after request.line)
-        (served_keeps (λ g hart. Fewer (OtherThan request.line) (hart_of state g) hart) state request
-        (served_fewer state request (hart_of state request.hart)) (λ g other. bystander_fewer state request (hart_of state g))
-        (λ g. still_fewer (OtherThan request.line) (hart_of state g) (hart_of state g) refl refl))
+    fewer : line ≢ request.line → (g : ℕ) → Fewer line (hart_of state g) (hart_of new g)
+    fewer other =
+        faced_if_keeps (fewer_moves line (hart_of state)) after (head_of after request.line)
+        (served_keeps (λ g hart. Fewer line (hart_of state g) hart) state request
+        (served_fewer state request (hart_of state request.hart) line other)
+        (λ g apart. bystander_fewer state request (hart_of state g) line)
+        (λ g. fewer_same line (hart_of state g) (hart_of state g) refl refl))
 
     by : (line ≡ request.line) ⊎ (line ≡ request.line → ⊥) → retains new g line ≡ false
     by (inl same) =
@@ -242,7 +240,7 @@ past_unretained state h request Free stampless once is none g line = by (cases_e
         ∙ next_unmet after (head_of after request.line) g request.line
         (ap (λ config. has_stamps config.mode) (keeps_served state request).config ∙ stampless) refl
     by (inr other) =
-        same_head (OtherThan request.line) state new g line other (fewer g)
+        same_head state new g line (fewer other g)
         (ap (λ order. first_of order line) (new_order ∙ served_order state request)
         ∙ first_of_removed_other state.order request.hart line request once mine (λ same. other (sym same)))
         (none g line)

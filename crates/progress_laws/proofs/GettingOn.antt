@@ -1,6 +1,6 @@
 -- how a state gets on: by a hart that waits for nothing, by a request or a message, or by the head of a line that no section retains
 use Rattle.std.proofs.Common.{◌≡◌, ◌≢◌, ◌∙◌, ℕ, zero, suc, ◌<◌, ◌≤◌, ◌==◌, Bool, true, false, ◌&&◌, not}
-use Rattle.std.proofs.Common.{List, [], ◌∷◌, Option, None, Some, length, refl, ap, sym, inl, inr, ◌⊎◌, arith, if◌then◌else◌}
+use Rattle.std.proofs.Common.{List, [], ◌∷◌, Option, None, Some, is_some, length, refl, ap, sym, inl, inr, ◌⊎◌, arith, if◌then◌else◌}
 use Rattle.std.specs.Prelude.{nat_lt, slice_index_or}
 use Rattle.std.proofs.lemmas.Bool.{ltb-true, ltb-false}
 use Rattle.bus_order.specs.Order.{IsOneEach, Request}
@@ -18,7 +18,7 @@ use Rattle.el_model.specs.Deliver.{deliver_next, deliver_turn}
 use Rattle.el_model.specs.Next.{after, kind_turn}
 use Rattle.el_model.specs.Order.{order_raised, order_turn}
 use Rattle.el_model.specs.Serve.{Free, Obstacle, blocks_if, obstacle_to, other_head, serve_ordered, serve_past, serve_turn}
-use Rattle.el_model.specs.State.{ModelState, begin, has_request, hart_of, head_of, is_held, numbers_of, ordered_of, raised_of}
+use Rattle.el_model.specs.State.{ModelState, begin, has_request, hart_of, head_of, is_held, is_live, numbers_of, ordered_of, raised_of}
 use Rattle.el_model.proofs.Deeds.{step_deed}
 use Rattle.el_model.proofs.FromStart.{kept_after}
 use Rattle.mail.specs.Mailbox.{Message}
@@ -32,6 +32,8 @@ use Rattle.section_laws.proofs.FreeLines.{has_head}
 use Rattle.section_laws.proofs.Lengths.{AsMany, first_as_many, next_as_many}
 use Rattle.section_laws.proofs.Numbered.{one_ordered_request_each}
 use Rattle.section_laws.proofs.Waiting.{Sound, always_sound}
+use Rattle.progress_laws.proofs.Cases.{some_none, true_false}
+use Rattle.removal_laws.proofs.Bits.{second_of_both}
 
 -- an event of one of the machine's harts is progress
 pub record GetsOn (state : ModelState) : Type 0 where
@@ -52,12 +54,6 @@ always_orderly program config events = record {
   once = one_ordered_request_each program config events;
   as_many = kept_after AsMany next_as_many (begin program config) events (first_as_many program config);
 }
-
-some_none : {A X : Type 0} {x : A} → Some x ≡ None → X
-some_none wrong = absurd (cc)
-
-true_false : {X : Type 0} → true ≡ false → X
-true_false wrong = absurd (cc)
 
 -- a hart that runs is one of the machine's
 view_past : (harts : List HartView) (h : ℕ) → length harts ≤ h → slice_index_or harts h no_hart ≡ no_hart
@@ -96,6 +92,11 @@ pub raised_runs : (state : ModelState) (h : ℕ) (request : Request) → Sound s
     status_of state.committed h ≡ Running
 raised_runs state h request sound is =
     running_or (status_of state.committed h) (λ ended. some_none (sym is ∙ ((sound h).stopped ended).not_raised))
+
+pub live_runs : (state : ModelState) (h : ℕ) → Sound state → is_live state h ≡ true → status_of state.committed h ≡ Running
+live_runs state h sound live =
+    running_or (status_of state.committed h)
+    (λ ended. true_false (sym live ∙ ap is_some ((sound h).stopped ended).no_section))
 
 held_runs : (state : ModelState) (h line : ℕ) → Sound state → (hart_of state h).held ≡ Some line → status_of state.committed h ≡ Running
 held_runs state h line sound is =
@@ -164,10 +165,6 @@ held_line : (held : Option ℕ) (line : ℕ) → is_held held line ≡ true → 
 held_line None line is = absurd (cc)
 held_line (Some l) line is = (l, refl)
 
-both_second : (a b : Bool) → (a && b) ≡ true → b ≡ true
-both_second true b is = is
-both_second false b is = absurd (cc)
-
 holds_only : (state : ModelState) (h line : ℕ) → Sound state → (hart_of state h).held ≡ Some line → has_request state h ≡ false
 holds_only state h line sound is = only (sound h).only_holds
   where
@@ -178,7 +175,7 @@ holds_only state h line sound is = only (sound h).only_holds
 holder_gets_on : (state : ModelState) (h k line : ℕ) → Sound state → AsMany state → holder_of state h line ≡ Some k → GetsOn state
 holder_gets_on state h k line sound same is =
     let test = first_passes (λ other. not (other == h) && is_held (hart_of state other).held line) (numbers_of state) k is in
-    let held = held_line (hart_of state k).held line (both_second _ _ test) in
+    let held = held_line (hart_of state k).held line (second_of_both _ _ test) in
     free_gets_on state k same (held_runs state k held.0 sound held.1) (holds_only state k held.0 sound held.1)
 
 -- the head of a line that no section retains is served, unless a hart holds the line, which then steps

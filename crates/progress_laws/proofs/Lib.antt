@@ -1,3 +1,4 @@
+pub mod Cases
 pub mod Ready
 pub mod GettingOn
 pub mod Fewer
@@ -7,3 +8,7 @@ pub mod Over
 pub mod Worked
 pub mod AllWait
 pub mod WithoutStamps
+pub mod LeastStamp
+pub mod Told
+pub mod LockRemoval
+pub mod EveryMode

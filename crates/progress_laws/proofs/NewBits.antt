@@ -21,16 +21,12 @@ use Rattle.el_model.specs.State.{Hart, ModelState, Section, cache_of, hart_of, h
 use Rattle.el_model.specs.Upcoming.{Swap, Touch}
 use Rattle.el_model.proofs.Deeds.{step_deed}
 use Rattle.progress_laws.proofs.Faced.{NoneRetains, dead_unmet}
-use Rattle.progress_laws.proofs.Fewer.{Fewer, fewer_unmet_by, same_bits, still_fewer}
+use Rattle.progress_laws.proofs.Fewer.{fewer_unmet}
+use Rattle.removal_laws.proofs.Bits.{Fewer, NoMore, fewer_same, no_more_marked, no_more_same, no_more_touched, no_more_twice}
 use Rattle.section_laws.specs.EachHart.{HasBitsOnlyInside}
-use Rattle.section_laws.proofs.FreeLines.{not_met}
+use Rattle.section_laws.proofs.FreeLines.{first_not, not_met, second_not}
 use Rattle.section_laws.proofs.EachHart.{each_but}
-
-false_true : {X : Type 0} → false ≡ true → X
-false_true wrong = absurd (cc)
-
-true_false : {X : Type 0} → true ≡ false → X
-true_false wrong = absurd (cc)
+use Rattle.progress_laws.proofs.Cases.{false_true, true_false}
 
 -- what nobody else asks of a line, its head does not ask
 asked_first : (counts : Request → Bool) (order : List Request) (h line : ℕ) (head : Request) → is_asked counts order h line ≡ false →
@@ -112,17 +108,6 @@ out_unmet state h hart dead line = by (head_of state line)
     by (Some head) = dead_unmet head h hart dead
 
 -- a section begins: its hart had no bit
-abbrev Everywhere : ℕ → Type 0
-Everywhere line = Unit {0}
-
-first_not : (a b : Bool) → (a || b) ≡ false → a ≡ false
-first_not true b is = is
-first_not false b is = refl
-
-second_not : (a b : Bool) → (a || b) ≡ false → b ≡ false
-second_not true b is = true_false is
-second_not false b is = is
-
 bare_bit : (cache : List (List Way)) (line : ℕ) (need : Need) → has_marks cache ≡ false → bit_in need (way_of cache line) ≡ false
 bare_bit cache line Read bare = first_not _ _ (no_marks cache line bare)
 bare_bit cache line Write bare = second_not (bit_in Read (way_of cache line)) _ (no_marks cache line bare)
@@ -179,10 +164,10 @@ begins_unmet state h swap may outside =
 own_line : (state : ModelState) (line : ℕ) (r : Request) → head_of state line ≡ Some r → r.line ≡ line
 own_line state line r is = line_of_first_of state.order line r is
 
-fewer_bits_unmet : (on : ℕ → Type 0) (state : ModelState) (h line : ℕ) (new : Hart) → on line → Fewer on (hart_of state h) new →
+fewer_bits_unmet : (state : ModelState) (h line : ℕ) (new : Hart) → Fewer line (hart_of state h) new →
     Unmet state h (hart_of state h) → conflicts_with (head_of state line) h new ≡ false
-fewer_bits_unmet on state h line new counts fewer unmet =
-    fewer_unmet_by on (head_of state line) h line (hart_of state h) new (own_line state line) counts fewer (unmet line)
+fewer_bits_unmet state h line new fewer unmet =
+    fewer_unmet (head_of state line) h line (hart_of state h) new (own_line state line) fewer (unmet line)
 
 new_bit : (state : ModelState) (h : ℕ) (section : Section) (touch : Touch) → MayBuffer state h section (Some touch) →
     Unmet state h (hart_of state h) → is_wanted state h touch.line touch.need ≡ false → (new : Hart) →
@@ -190,11 +175,13 @@ new_bit : (state : ModelState) (h : ℕ) (section : Section) (touch : Touch) →
 new_bit state h section touch may unmet unwanted new cache =
     marked_unmet state h touch.line touch.need new unwanted unwritten
     (λ l other.
-    fewer_bits_unmet (λ k. k ≢ touch.line) state h l new other
+    fewer_bits_unmet state h l new
     (record {
       live = λ lives. live;
-      bits = λ lives k apart need bit.
-          sym (touched_other (cache_of state h) touch.line k touch.need need apart) ∙ sym (ap (λ c. bit_in need (way_of c k)) cache) ∙ bit;
+      bits = λ lives.
+          subst (λ c. NoMore (way_of (cache_of state h) l) (way_of c l)) (sym cache)
+          (no_more_twice (way_of (cache_of state h) l) _ _ (no_more_marked (cache_of state h) touch.line l touch.need other)
+          (no_more_touched (marked (cache_of state h) touch.line touch.need) touch.line l));
     })
     unmet)
   where
@@ -235,11 +222,8 @@ touch_unmet state h section touch may unmet = by (is_covered (cache_of state h) 
     by : (had : Bool) → is_covered (cache_of state h) touch.line touch.need ≡ had → IsCoverable state h section (Some touch) →
         Unmet state h (new had)
     by true is coverable line =
-        fewer_bits_unmet Everywhere state h line (new true) tt
-        (record {
-          live = λ lives. live;
-          bits = λ lives l counts. same_bits (way_of (cache_of state h) l) _ (way_of-touched (cache_of state h) touch.line l);
-        })
+        fewer_bits_unmet state h line (new true)
+        (record { live = λ lives. live; bits = λ lives. no_more_touched (cache_of state h) touch.line line })
         unmet
     by false is (inl covers) line = false_true (sym is ∙ covers)
     by false is (inr (room, fine)) line =
@@ -248,10 +232,10 @@ touch_unmet state h section touch may unmet = by (is_covered (cache_of state h) 
 buffers_unmet : (state : ModelState) (h : ℕ) (section : Section) (touch : Option Touch) → MayBuffer state h section touch →
     Unmet state h (hart_of state h) → Unmet state h (buffered_hart section touch (hart_of state h))
 buffers_unmet state h section None may unmet line =
-    fewer_bits_unmet Everywhere state h line (buffered_hart section None (hart_of state h)) tt
+    fewer_bits_unmet state h line (buffered_hart section None (hart_of state h))
     (record {
       live = λ lives. ap is_some may.goes.goes_on.is_short.inside.live;
-      bits = λ lives l counts. same_bits (way_of (cache_of state h) l) _ refl;
+      bits = λ lives. no_more_same (way_of (cache_of state h) line);
     })
     unmet
 buffers_unmet state h section (Some touch) may unmet line = touch_unmet state h section touch may unmet line
@@ -267,8 +251,7 @@ deed_unmet : (state : ModelState) (h : ℕ) (deed : Deed) → DoesWhere state h 
 deed_unmet state h Rests does outside unmet l = unmet l
 deed_unmet state h Waits does outside unmet l = unmet l
 deed_unmet state h (Misses line need) does outside unmet l =
-    fewer_bits_unmet Everywhere state h l (hart_after state h (Misses line need) (hart_of state h)) tt
-    (still_fewer Everywhere (hart_of state h) _ refl refl) unmet
+    fewer_bits_unmet state h l (hart_after state h (Misses line need) (hart_of state h)) (fewer_same l (hart_of state h) _ refl refl) unmet
 deed_unmet state h (Runs touch) runs outside unmet l =
     out_unmet state h (hart_after state h (Runs touch) (hart_of state h))
     (candidate_section _ _ (candidate_of state h) _ ∙ runs.outside.no_section) l

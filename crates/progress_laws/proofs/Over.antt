@@ -1,5 +1,5 @@
 -- a machine that is over gets on by no event, and one that is not has a hart that runs
-use Rattle.std.proofs.Common.{◌≡◌, ◌≢◌, ◌∙◌, ℕ, zero, suc, ◌<◌, ◌≤◌, Bool, true, false, ◌&&◌, List, [], ◌∷◌, None, length, refl, ap, sym, arith}
+use Rattle.std.proofs.Common.{◌≡◌, ◌↔◌, ◌≢◌, ◌∙◌, ℕ, zero, suc, ◌<◌, ◌≤◌, Bool, true, false, ◌&&◌, List, [], ◌∷◌, None, length, refl, ap, sym, arith}
 use Rattle.std.specs.Prelude.{slice_index_or}
 use Rattle.el_base.specs.declared.events.Kind.{Kind}
 use Rattle.el_base.specs.declared.events.Kind.TheVariants.{Step, Order, Serve, Deliver}
@@ -8,7 +8,7 @@ use Rattle.el_model.specs.Next.{all_stopped, has_stopped, is_over, kind_turn, ne
 use Rattle.el_model.specs.Order.{order_raised, order_turn}
 use Rattle.el_model.specs.Serve.{serve_ordered, serve_turn}
 use Rattle.el_model.specs.State.{ModelState, hart_of}
-use Rattle.progress_laws.proofs.GettingOn.{GetsOn}
+use Rattle.progress_laws.proofs.GettingOn.{GetsOn, Orderly}
 use Rattle.progress_laws.proofs.Ready.{gets_on_by_number, none_is_ready_where_none_gets_on, number_kept, of_kind}
 use Rattle.progress_laws.specs.Ready.{gets_on, is_progress, ready_event}
 use Rattle.rv_alu.specs.declared.view.HartStatus.{HartStatus}
@@ -16,17 +16,8 @@ use Rattle.rv_alu.specs.declared.view.HartStatus.TheVariants.{Exited, Running, T
 use Rattle.rv_alu.specs.declared.view.HartView.{HartView}
 use Rattle.rv_flat.specs.FlatState.{no_hart, status_of}
 use Rattle.section_laws.proofs.Waiting.{Sound}
-
-true_false : {X : Type 0} → true ≡ false → X
-true_false wrong = absurd (cc)
-
-both_first : (a b : Bool) → (a && b) ≡ true → a ≡ true
-both_first true b is = refl
-both_first false b is = absurd (cc)
-
-both_second : (a b : Bool) → (a && b) ≡ true → b ≡ true
-both_second true b is = is
-both_second false b is = absurd (cc)
+use Rattle.progress_laws.proofs.Cases.{true_false}
+use Rattle.removal_laws.proofs.Bits.{first_of_both, second_of_both}
 
 -- where all have stopped, no hart runs
 stopped_not_running : (status : HartStatus) → has_stopped status ≡ true → status ≢ Running
@@ -36,8 +27,8 @@ stopped_not_running (Trapped cause pc) stopped is = absurd (cc)
 
 stopped_at : (views : List HartView) (h : ℕ) → all_stopped views ≡ true → has_stopped (slice_index_or views h no_hart).status ≡ true
 stopped_at [] h all = refl
-stopped_at (view ∷ views) zero all = both_first (has_stopped view.status) _ all
-stopped_at (view ∷ views) (suc h) all = stopped_at views h (both_second (has_stopped view.status) _ all)
+stopped_at (view ∷ views) zero all = first_of_both (has_stopped view.status) _ all
+stopped_at (view ∷ views) (suc h) all = stopped_at views h (second_of_both (has_stopped view.status) _ all)
 
 pub over_stopped : (state : ModelState) (h : ℕ) → is_over state ≡ true → status_of state.committed h ≢ Running
 unfolding is_over
@@ -111,3 +102,9 @@ none_ready_over state few on none = by (is_over state) refl
     by false is =
         let runs = runs_unless_over state is in
         absurd (ready_where_gets_on state few (on runs.0 runs.1) none)
+
+pub not_stuck : (state : ModelState) → Orderly state → length state.harts ≤ 8 →
+    ((h : ℕ) → status_of state.committed h ≡ Running → GetsOn state) → (is_over state ≡ true → (h : ℕ) → (hart_of state h).mail ≡ []) →
+    (ready_event state ≡ None) ↔ (is_over state ≡ true)
+not_stuck state orderly few on empty =
+    (none_ready_over state few on, λ over. none_ready_where_over state orderly.sound few over (empty over))

@@ -1,13 +1,12 @@
--- in the modes without stamps no section retains a line, and no state is stuck
-use Rattle.std.proofs.Common.{◌≡◌, ◌∙◌, ℕ, false, List, [], Option, None, Some, refl, ap}
+-- in the modes without stamps no section retains a line, so no state is stuck
+use Rattle.std.proofs.Common.{◌≡◌, ◌∙◌, ◌↔◌, ℕ, ◌≤◌, false, true, List, [], None, length, refl, ap, inl, inr, ◌⊎◌}
 use Rattle.el_base.specs.declared.config.Config.{Config}
 use Rattle.el_base.specs.declared.events.Event.{Event}
 use Rattle.el_base.specs.declared.events.Kind.{Kind}
 use Rattle.el_base.specs.declared.events.Kind.TheVariants as kinds
 use Rattle.elf_image.specs.Program.{Program}
-use Rattle.bus_order.specs.Order.{Request}
 use Rattle.el_model.specs.Deliver.{deliver_turn}
-use Rattle.el_model.specs.Next.{after, kind_turn, next}
+use Rattle.el_model.specs.Next.{after, is_over, kind_turn, next}
 use Rattle.el_model.specs.Order.{order_turn}
 use Rattle.el_model.specs.Quiet.{IsSilent, has_stamps}
 use Rattle.el_model.specs.Serve.{serve_turn}
@@ -16,15 +15,17 @@ use Rattle.el_model.proofs.AllHarts.{All}
 use Rattle.el_model.proofs.FromStart.{kept_after, next_config, stampless_silent}
 use Rattle.el_model.proofs.Silent.{next_silent}
 use Rattle.progress_laws.proofs.Faced.{NoneRetains, ordered_unretained, raised_unretained}
-use Rattle.progress_laws.proofs.GettingOn.{GetsOn, Orderly, always_orderly, free_gets_on, line_gets_on, raised_gets_on, runs_exists}
+use Rattle.progress_laws.proofs.AllWait.{OnlyWaits, gets_on_or_waits}
+use Rattle.progress_laws.proofs.GettingOn.{GetsOn, Orderly, always_orderly, line_gets_on}
 use Rattle.progress_laws.proofs.NewBits.{step_unretained}
-use Rattle.progress_laws.proofs.Over.{none_ready_over, none_ready_where_over}
-use Rattle.progress_laws.specs.Laws.{NoSectionRetainsWithoutStamps, NoStateIsStuckWithoutStamps}
+use Rattle.progress_laws.proofs.Over.{not_stuck}
+use Rattle.progress_laws.specs.Laws.{NoSectionRetainsWithoutStamps}
+use Rattle.progress_laws.specs.Ready.{ready_event}
 use Rattle.rv_alu.specs.declared.view.HartStatus.TheVariants.{Running}
 use Rattle.rv_flat.specs.FlatState.{status_of}
 use Rattle.section_laws.proofs.EachHart.{Each}
 use Rattle.section_laws.proofs.EachKept.{first_each, next_keeps}
-use Rattle.section_laws.proofs.Numbered.{Once, first_once, next_once, requests_are_numbered}
+use Rattle.section_laws.proofs.Numbered.{Once, first_once, next_once}
 use Rattle.section_laws.proofs.OnlyInside as only_inside
 use Rattle.section_laws.proofs.OnlyInside.{Holds}
 
@@ -79,21 +80,22 @@ always_stampless program config events mode =
 pub no_section_retains : NoSectionRetainsWithoutStamps
 no_section_retains program config events mode = (always_stampless program config events mode).unretained
 
--- a hart that runs steps, or has a request that is ordered, or whose line gets on
-pub hart_gets_on : (state : ModelState) (h : ℕ) → Orderly state → NoneRetains state → status_of state.committed h ≡ Running → GetsOn state
-hart_gets_on state h orderly none running = by (raised_of state h) refl (ordered_of state h) refl
+-- so a hart that runs is enough to get on
+hart_gets_on : (state : ModelState) → Orderly state → NoneRetains state → (h : ℕ) → status_of state.committed h ≡ Running → GetsOn state
+hart_gets_on state orderly none h running = by (gets_on_or_waits state orderly)
   where
-    by : (raised : Option Request) → raised_of state h ≡ raised → (ordered : Option Request) → ordered_of state h ≡ ordered → GetsOn state
-    by (Some request) is ordered is_ordered = raised_gets_on state h request (runs_exists state h orderly.as_many running) is
-    by None is (Some request) is_ordered = line_gets_on state h request orderly is_ordered (λ g. none g request.line)
-    by None is None is_ordered = free_gets_on state h orderly.as_many running (rw (is, is_ordered) refl)
+    by : GetsOn state ⊎ ((k : ℕ) → OnlyWaits state k) → GetsOn state
+    by (inl on) = on
+    by (inr waits) =
+        let found = (waits h).waits running in
+        line_gets_on state h found.0 orderly found.1 (λ g. none g found.0.line)
 
-pub no_state_is_stuck : NoStateIsStuckWithoutStamps
-no_state_is_stuck program config events same range mode =
+-- and where all have stopped no message is left
+pub stampless_not_stuck : (program : Program) (config : Config) (events : List Event) → has_stamps config.mode ≡ false →
+    length (after program config events).harts ≤ 8 →
+    (ready_event (after program config events) ≡ None) ↔ (is_over (after program config events) ≡ true)
+stampless_not_stuck program config events mode few =
     let state = after program config events in
     let now = always_stampless program config events mode in
-    let few = (requests_are_numbered program config events same range).few in
-    let orderly = always_orderly program config events in (
-      (λ none. none_ready_over state few (λ h running. hart_gets_on state h orderly now.unretained running) none),
-      (λ over. none_ready_where_over state orderly.sound few over (λ h. (now.silent h).mail)),
-    )
+    not_stuck state (always_orderly program config events) few
+    (hart_gets_on state (always_orderly program config events) now.unretained) (λ over h. (now.silent h).mail)

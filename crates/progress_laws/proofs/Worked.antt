@@ -16,6 +16,7 @@ use Rattle.el_model.proofs.Rows.Given.{machine_of, settings, store_word, usual}
 use Rattle.mail.specs.Mailbox.{Marker, Probe}
 use Rattle.progress_laws.specs.Ready.{gets_on, is_progress, ready_event}
 use Rattle.rv_flat.specs.FlatState.{status_of}
+use Rattle.progress_laws.proofs.Cases.{true_false}
 
 -- four harts in lock removal: hart 1 has written a line in its section, and harts 2, 3 and 0 wait for it in this order, each with a
 -- marker of the one before it
@@ -48,9 +49,6 @@ head_waits = refl
 abbrev HeadsAreServed : Type 0
 HeadsAreServed =
     (state : ModelState) (h : ℕ) → option_map (λ head. head.hart) (head_of state 1025) ≡ Some h → gets_on state (event Serve h) ≡ true
-
-true_false : {X : Type 0} → true ≡ false → X
-true_false wrong = absurd (cc)
 
 head_is_2 : option_map (λ head. head.hart) (head_of waiting 1025) ≡ Some 2
 unfolding computing

@@ -1,7 +1,6 @@
 ghost use Rattle.progress_laws.specs.Laws.{
   NoSectionRetainsWithoutStamps,
-  NoStateIsStuckWithoutStamps,
-  NoneIsReadyOnlyWhereAllWait,
+  NoStateIsStuck,
   NoneIsReadyWhereNoneGetsOn,
   ReadyEventGetsOn,
 };
@@ -17,22 +16,14 @@ pub fn none_is_ready_where_none_gets_on()
     ensures { NoneIsReadyWhereNoneGetsOn }
 {}
 
-/// In every mode, from a program with as many harts as its configuration has, where that is in range: in a state
-/// that can be reached and has no ready event, no message is under way, each hart that runs has an ordered request, and
-/// the line of each ordered request is retained by a section.
-#[tactic(auto, using(crate::proofs::AllWait::none_ready_only_where_all_wait))]
-pub fn none_is_ready_only_where_all_wait()
-    ensures { NoneIsReadyOnlyWhereAllWait }
-{}
-
 /// In every state that can be reached in the plain mode or in lock elision, no section retains a line.
 #[tactic(auto, using(crate::proofs::WithoutStamps::no_section_retains))]
 pub fn no_section_retains_without_stamps()
     ensures { NoSectionRetainsWithoutStamps }
 {}
 
-/// In every state that can be reached in the plain mode or in lock elision, from a program with as many harts as its
-/// configuration has, where that is in range, there is a ready event exactly where a hart runs.
-pub fn no_state_is_stuck_without_stamps()
-    ensures { NoStateIsStuckWithoutStamps }
+/// In every mode, from a program with as many harts as its configuration has, where that is in range, in every state
+/// that can be reached there is a ready event exactly where a hart runs.
+pub fn no_state_is_stuck()
+    ensures { NoStateIsStuck }
 {}

@@ -9,6 +9,6 @@
 mod laws;
 
 pub use laws::{
-    no_section_retains_without_stamps, no_state_is_stuck_without_stamps,
-    none_is_ready_only_where_all_wait, none_is_ready_where_none_gets_on, ready_event_gets_on,
+    no_section_retains_without_stamps, no_state_is_stuck, none_is_ready_where_none_gets_on,
+    ready_event_gets_on,
 };

@@ -21,11 +21,11 @@ abbrev pub NotWritten : Option Way → Type 0
 NotWritten None = Unit {0}
 NotWritten (Some way) = way.write ≡ false
 
-first_not : (a b : Bool) → (a || b) ≡ false → a ≡ false
+pub first_not : (a b : Bool) → (a || b) ≡ false → a ≡ false
 first_not true b is = is
 first_not false b is = refl
 
-second_not : (a b : Bool) → (a || b) ≡ false → b ≡ false
+pub second_not : (a b : Bool) → (a || b) ≡ false → b ≡ false
 second_not true b is = absurd (cc)
 second_not false b is = is
 

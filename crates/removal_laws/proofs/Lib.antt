@@ -17,3 +17,4 @@ pub mod Delivering
 pub mod Telling
 pub mod Stepping
 pub mod Throughout
+pub mod Climbing

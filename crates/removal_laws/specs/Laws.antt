@@ -1,14 +1,17 @@
 -- the laws of lock removal
-use Rattle.std.specs.Prelude.{ℕ, ◌≡◌, ◌<◌, ◌==◌, ◌&&◌, ◌||◌, Bool, true, false, List, [], ◌∷◌, Option, Some}
+use Rattle.std.specs.Prelude.{ℕ, ◌≡◌, ◌≢◌, ◌<◌, ◌==◌, ◌&&◌, ◌||◌, Bool, true, false, List, [], ◌∷◌, Option, Some}
 use Rattle.el_base.specs.declared.config.Config.{Config}
 use Rattle.el_base.specs.declared.config.Mode.TheVariants.{Tlr}
 use Rattle.el_base.specs.declared.events.Event.{Event}
 use Rattle.elf_image.specs.Program.{Program}
+use Rattle.bus_order.specs.Order.{Request}
+use Rattle.el_model.specs.Conflicts.{retains}
 use Rattle.el_model.specs.Next.{after, next, state_after}
-use Rattle.el_model.specs.State.{ModelState, hart_of}
+use Rattle.el_model.specs.State.{ModelState, hart_of, is_live, ordered_on}
+use Rattle.mail.specs.Mailbox.{Marker, Probe, has_message}
 use Rattle.removal_laws.specs.Facts.{Everywhere, Facts}
 use Rattle.section_laws.specs.Sections.{is_committed, is_rolled_back}
-use Rattle.stamp.specs.Stamps.{Stamp}
+use Rattle.stamp.specs.Stamps.{Stamp, is_before}
 
 -- a hart's open attempt
 abbrev pub attempt_of : ModelState → ℕ → Option Stamp
@@ -54,3 +57,22 @@ LaterAttemptsAreLater =
 abbrev pub FactsHoldThroughout : Type 0
 FactsHoldThroughout =
     (program : Program) (config : Config) (events : List Event) → config.mode ≡ Tlr → Facts Everywhere (after program config events)
+
+-- a hart whose request waits for a line with a stamp less than that of each other hart's live section
+pub record WaitsWithLeast (state : ModelState) (h line : ℕ) (request : Request) : Type 0 where
+  pub waits : ordered_on state h line ≡ Some request
+  pub least : (g : ℕ) → g ≢ h → is_live state g ≡ true → is_before request.stamp (attempt_of state g) ≡ true
+
+-- no mailbox of a hart that waits for a line has a marker, and none the probe of an origin that waits for it
+pub record IsDelivered (state : ModelState) (line : ℕ) : Type 0 where
+  pub no_marker : (h sender : ℕ) (request : Request) → ordered_on state h line ≡ Some request →
+      has_message (hart_of state h).mail (Marker sender) ≡ false
+  pub no_probe : (h origin : ℕ) (request : Request) → ordered_on state origin line ≡ Some request →
+      has_message (hart_of state h).mail (Probe origin) ≡ false
+
+-- once the messages of a line are delivered, no section retains it from a hart that waits for it with the least stamp
+abbrev pub LeastStampIsNotRetained : Type 0
+LeastStampIsNotRetained =
+    (program : Program) (config : Config) (events : List Event) (h g line : ℕ) (request : Request) → config.mode ≡ Tlr →
+    WaitsWithLeast (after program config events) h line request → IsDelivered (after program config events) line →
+    retains (after program config events) g line ≡ false

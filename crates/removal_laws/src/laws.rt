@@ -1,4 +1,4 @@
-ghost use Rattle.removal_laws.specs.Laws.{FactsHoldThroughout, LaterAttemptsAreLater, StampsAreDistinct, StampsAreKept};
+ghost use Rattle.removal_laws.specs.Laws.{FactsHoldThroughout, LaterAttemptsAreLater, LeastStampIsNotRetained, StampsAreDistinct, StampsAreKept};
 
 /// In every state that can be reached, no two harts have open attempts with the same stamp.
 #[tactic(auto, using(crate::proofs::Attempts::stamps_are_distinct))]
@@ -27,4 +27,12 @@ pub fn later_attempts_are_later()
 #[tactic(auto, using(crate::proofs::Throughout::facts_hold_throughout))]
 pub fn facts_hold_throughout()
     ensures { FactsHoldThroughout }
+{}
+
+/// In lock removal, let a hart wait for a line with a stamp less than that of each other hart's live section. Where no
+/// mailbox of a hart that waits for the line has a marker, and none the probe of an origin that waits for it, no live
+/// section retains the line.
+#[tactic(auto, using(crate::proofs::Climbing::least_stamp_is_not_retained))]
+pub fn least_stamp_is_not_retained()
+    ensures { LeastStampIsNotRetained }
 {}

@@ -12,5 +12,6 @@
 mod laws;
 
 pub use laws::{
-    facts_hold_throughout, later_attempts_are_later, stamps_are_distinct, stamps_are_kept,
+    facts_hold_throughout, later_attempts_are_later, least_stamp_is_not_retained,
+    stamps_are_distinct, stamps_are_kept,
 };

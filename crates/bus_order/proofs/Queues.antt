@@ -10,14 +10,14 @@ use Rattle.bus_order.proofs.Orders.{count_of_absent, count_of_queue_of, absent_b
 use Rattle.bus_order.proofs.Words.{first_of_find, tail_of_find, request_of_find, queue_of_filter, removed_filter}
 
 -- a hart's request that stands in front, or behind another hart's
-pub found_in_front : (request : Request) (order : List Request) (found : Request) → request ≡ found
+found_in_front : (request : Request) (order : List Request) (found : Request) → request ≡ found
     → request_of (request ∷ order) found.hart ≡ Some found
 found_in_front request order found same =
     ap (λ test. cond test (Some request) (request_of order found.hart))
     (ap (λ r. request.hart == r.hart) (sym same) ∙ own_test request.hart)
     ∙ ap (λ r. Some r) same
 
-pub found_behind : (request : Request) (order : List Request) (found : Request) → request_of order request.hart ≡ None
+found_behind : (request : Request) (order : List Request) (found : Request) → request_of order request.hart ≡ None
     → request_of order found.hart ≡ Some found → request_of (request ∷ order) found.hart ≡ Some found
 found_behind request order found alone is =
     ap (λ test. cond test (Some request) (request_of order found.hart))

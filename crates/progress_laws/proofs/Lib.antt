@@ -9,6 +9,5 @@ pub mod Worked
 pub mod AllWait
 pub mod WithoutStamps
 pub mod LeastStamp
-pub mod Told
 pub mod LockRemoval
 pub mod EveryMode

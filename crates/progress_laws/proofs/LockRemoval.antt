@@ -1,5 +1,6 @@
 -- in lock removal, where every hart that runs waits and no message is under way, no section retains the line of the least stamp
-use Rattle.std.proofs.Common.{◌≡◌, ◌≢◌, ◌∙◌, ◌≤◌, ◌↔◌, ℕ, Bool, true, false, List, [], ◌∷◌, Option, None, Some, is_some, length, refl, ap, sym, inl, inr, ◌⊎◌, if◌then◌else◌}
+use Rattle.std.proofs.Common.{◌≡◌, ◌≢◌, ◌∙◌, ◌≤◌, ◌↔◌, ℕ, Bool, true, false, List, [], ◌∷◌}
+use Rattle.std.proofs.Common.{Option, None, Some, is_some, length, refl, ap, sym, inl, inr, ◌⊎◌, if◌then◌else◌}
 use Rattle.bus_order.specs.Order.{Request}
 use Rattle.bus_order.proofs.LookUps.{own_test}
 use Rattle.el_model.specs.Conflicts.{conflicts_with, retains, stamp_in}

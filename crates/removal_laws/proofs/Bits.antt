@@ -1,5 +1,5 @@
 -- which sections meet a request, and how a change of a cache leaves no bit more
-use Rattle.std.proofs.Common.{◌≡◌, ◌≢◌, ◌∙◌, ◌==◌, ◌&&◌, ◌||◌, ℕ, Bool, true, false, not, List, [], ◌∷◌, Option, None, Some, is_some, option_map, refl, ap, sym, inl, inr, ◌⊎◌, arith}
+use Rattle.std.proofs.Common.{◌≡◌, ◌≢◌, ◌∙◌, ◌≤◌, ◌==◌, ◌&&◌, ◌||◌, ℕ, Bool, true, false, not, List, [], ◌∷◌, Option, None, Some, is_some, option_map, refl, ap, sym, inl, inr, ◌⊎◌, arith}
 use Rattle.std.proofs.lemmas.Bool.{cases_eq}
 use Rattle.bus_order.specs.Order.{Request}
 use Rattle.bus_order.proofs.LookUps.{other_test, own_test}
@@ -44,6 +44,9 @@ clash without with_it = never (sym without ∙ with_it)
   where
     never : {X : Type 0} → false ≡ true → X
     never is = absurd (cc)
+
+pub no_less : (n : ℕ) → n ≤ n
+no_less n = omega arith
 
 pub some_none : {A X : Type 0} {x : A} → Some x ≡ None → X
 some_none wrong = absurd (cc)

@@ -1,7 +1,7 @@
 -- a request with the least stamp is told of up the queue of its line, and to each section that would retain the line
-use Rattle.std.proofs.Common.{◌≡◌, ◌≢◌, ◌∙◌, ◌==◌, ◌&&◌, ◌||◌, ℕ, Bool, true, false, not, List, [], ◌∷◌, Option, None, Some, is_some, refl, ap, sym, inl, inr, ◌⊎◌, subst, if◌then◌else◌}
+use Rattle.std.proofs.Common.{◌≡◌, ◌≢◌, ◌∙◌, ◌==◌, ℕ, Bool, true, false, List, [], ◌∷◌, Option, None, Some, refl, ap, sym, inl, inr, ◌⊎◌, subst, if◌then◌else◌}
 use Rattle.std.proofs.lemmas.Bool.{cases_eq}
-use Rattle.bus_order.specs.Order.{IsOneEach, Request, first_of, queue_of, request_of}
+use Rattle.bus_order.specs.Order.{IsOneEach, Request, queue_of, request_of}
 use Rattle.bus_order.proofs.LookUps.{number_of_test, other_test, own_test}
 use Rattle.bus_order.proofs.Orders.{alone_in_front, one_each_rest}
 use Rattle.bus_order.proofs.Queues.{hart_of_request_of}
@@ -12,7 +12,6 @@ use Rattle.el_base.specs.declared.outcomes.Need.TheVariants.{Read, Write}
 use Rattle.el_model.specs.Conflicts.{conflicts_with, meets_bit, retains}
 use Rattle.el_model.specs.Next.{after}
 use Rattle.el_model.specs.State.{Hart, ModelState, cache_of, for_line, hart_of, head_of, ordered_of, ordered_on}
-use Rattle.mail.specs.Mailbox.{Marker, Probe, has_message}
 use Rattle.removal_laws.specs.Facts.{AreLinked, Everywhere, Facts, IsChained, IsLinked, Knows}
 use Rattle.removal_laws.specs.Laws.{IsDelivered, LeastStampIsNotRetained, WaitsWithLeast}
 use Rattle.removal_laws.proofs.Bits.{Meets, clash, meets, or_second, some_none, some_same}
@@ -20,7 +19,6 @@ use Rattle.removal_laws.proofs.Delivering.{own_line}
 use Rattle.removal_laws.proofs.Kept.{head_line}
 use Rattle.removal_laws.proofs.Queues.{IsHead, head_is}
 use Rattle.removal_laws.proofs.Throughout.{always_holds, facts_hold_throughout}
-use Rattle.stamp.specs.Stamps.{is_before}
 
 -- each of these requests of a line is its hart's in the order
 abbrev AreOrdered : List Request → ℕ → List Request → Type 0
@@ -41,7 +39,9 @@ ordered_behind first order line (request ∷ others) none ((found, on), rest) = 
 queue_ordered : (order : List Request) (line : ℕ) → IsOneEach order → AreOrdered order line (queue_of order line)
 queue_ordered [] line once = tt
 queue_ordered (request ∷ order) line once =
-    by (ordered_behind request order line (queue_of order line) (alone_in_front request order once) (queue_ordered order line (one_each_rest request order once)))
+    by
+    (ordered_behind request order line (queue_of order line) (alone_in_front request order once)
+    (queue_ordered order line (one_each_rest request order once)))
     (request.line == line) refl
   where
     by : AreOrdered (request ∷ order) line (queue_of order line) → (here : Bool) → (request.line == line) ≡ here →

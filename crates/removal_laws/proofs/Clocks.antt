@@ -22,8 +22,9 @@ use Rattle.el_model.specs.State.{Hart, ModelState, Section, hart_of, new_hart, o
 use Rattle.el_model.proofs.Deeds.{step_deed}
 use Rattle.el_model.proofs.FromStart.{kept_after}
 use Rattle.el_model.proofs.Harts.{hart_of-past}
-use Rattle.removal_laws.specs.Laws.{LaterAttemptsAreLater, StampsAreKept, attempt_of, closes}
+use Rattle.removal_laws.specs.Laws.{IsLater, LaterAttemptsAreLater, StampsAreKept, attempt_of, closes}
 use Rattle.removal_laws.proofs.Attempts.{AllOpen, Own, always_open, always_own, attempts_kept, candidate_keeps, next_open, next_own}
+use Rattle.removal_laws.proofs.Bits.{no_less}
 use Rattle.section_laws.specs.Sections.{is_committed, is_rolled_back}
 use Rattle.section_laws.proofs.EachHart.{Each, each_but, each_with}
 use Rattle.section_laws.proofs.EachKept.{BusKept, bus_keeps}
@@ -31,7 +32,7 @@ use Rattle.section_laws.proofs.Moves.{step_keeps}
 use Rattle.stamp.specs.Stamps.{Stamp, next_clock_of}
 
 -- whether this outcome closes the attempt of its hart
-abbrev closes_it : Outcome → Bool
+abbrev pub closes_it : Outcome → Bool
 closes_it outcome = is_committed outcome || is_rolled_back outcome
 
 -- a stamp is kept by the deeds that close no attempt
@@ -123,9 +124,6 @@ bus_grows state = record {
 closed_grows : (hart : Hart) (attempt : Option Stamp) → hart.clock ≤ closed_clock hart attempt
 closed_grows hart None = omega arith
 closed_grows hart (Some stamp) = omega arith
-
-no_less : (n : ℕ) → n ≤ n
-no_less n = omega arith
 
 ungrown : (hart : Hart) → Grown hart hart
 ungrown hart = record { clock = no_less hart.clock; seen = no_less hart.seen }
@@ -272,15 +270,15 @@ next_closes : (state : ModelState) (event : Event) (g : ℕ) → AllOpen state �
 unfolding next
 next_closes state event g now closing = kind_closes state event.hart.number event.kind g now closing
 
-pub later_attempts_are_later : LaterAttemptsAreLater
-later_attempts_are_later program config events between afterwards closing h later mode closed is =
-    let first = after program config events in
+pub later_from : (first : ModelState) (between afterwards : List Event) (closing : Event) (h : ℕ) (later : Stamp) → Each Own first → AllOpen first →
+    closes (state_after first between) closing h ≡ true →
+    attempt_of (state_after (next (state_after first between) closing).state afterwards) h ≡ Some later → IsLater first h later
+later_from first between afterwards closing h later own open_first closed is =
     let before = state_after first between in
     let after_it = (next before closing).state in
-    let own = always_own program config events in
     let own_before = kept_after (Each Own) next_own first between own in
     let own_last = kept_after (Each Own) next_own after_it afterwards (next_own before closing own_before) in
-    let open_before = kept_after AllOpen next_open first between (always_open program config events mode) in
+    let open_before = kept_after AllOpen next_open first between open_first in
     let grew = all_grow first between h in
     let close = next_closes before closing h open_before closed in
     let rest = all_grow after_it afterwards h in
@@ -297,3 +295,8 @@ later_attempts_are_later program config events between afterwards closing h late
       than_clock = omega (arith, grew_clock, close_clock, rest_clock, own_clock);
       than_seen = omega (arith, grew_seen, close_seen, rest_clock, own_clock);
     }
+
+pub later_attempts_are_later : LaterAttemptsAreLater
+later_attempts_are_later program config events between afterwards closing h later mode closed is =
+    later_from (after program config events) between afterwards closing h later (always_own program config events)
+    (always_open program config events mode) closed is

@@ -210,7 +210,10 @@ module _ (state : ModelState) (h sender : ℕ) (others : List Message) (mail : (
 
   marker_owed : Owed marker_final h sender
   marker_owed = record {
-    own = rw at_sender (all_known origins (hart_of preceded sender) h (inl (ap (λ b. if b then true else has (told_on first h sender (ordered_of first h)) h) (own_test h))));
+    own =
+        rw at_sender
+        (all_known origins (hart_of preceded sender) h
+        (inl (ap (λ b. if b then true else has (told_on first h sender (ordered_of first h)) h) (own_test h))));
     others = λ origin line own request told apart on waits. owed origin line own request ((final_took h).told origin told) apart on waits;
   }
     where

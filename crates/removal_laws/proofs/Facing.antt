@@ -40,7 +40,8 @@ passed test (first ∷ others) h is = by (passed test others h) (test first) ref
     here rest holds true same is = rw (sym (number_of_test first h same)) holds
     here rest holds false apart is = rest is
 
-    by : (has (filter test others) h ≡ true → test h ≡ true) → (taken : Bool) → test first ≡ taken → has (if taken then first ∷ filter test others else filter test others) h ≡ true → test h ≡ true
+    by : (has (filter test others) h ≡ true → test h ≡ true) → (taken : Bool) → test first ≡ taken →
+        has (if taken then first ∷ filter test others else filter test others) h ≡ true → test h ≡ true
     by rest true holds is = here rest holds (first == h) refl is
     by rest false fails is = rest is
 
@@ -48,7 +49,8 @@ pub passes : (test : ℕ → Bool) (harts : List ℕ) (h : ℕ) → has harts h 
 passes test [] h is holds = absurd (cc)
 passes test (first ∷ others) h is holds = by (λ later. passes test others h later holds) (test first) refl (first == h) refl is
   where
-    by : (has others h ≡ true → has (filter test others) h ≡ true) → (taken : Bool) → test first ≡ taken → (same : Bool) → (first == h) ≡ same → (if same then true else has others h) ≡ true →
+    by : (has others h ≡ true → has (filter test others) h ≡ true) → (taken : Bool) → test first ≡ taken → (same : Bool) → (first == h) ≡ same →
+        (if same then true else has others h) ≡ true →
         has (if taken then first ∷ filter test others else filter test others) h ≡ true
     by rest true first_holds true same is = rw same refl
     by rest false fails true same is = clash (ap test (sym (number_of_test first h same)) ∙ fails) holds
@@ -79,6 +81,26 @@ none_least test stamp (first ∷ others) h none is = by (none_least test stamp o
         (if taken then earlier stamp (Some first) (least_such test stamp others) else least_such test stamp others) ≡ None → test h ≡ false
     by rest true holds none = found (least_such test stamp others) none
     by rest false fails none = here rest fails none (first == h) refl is
+
+-- and the least one passes the test
+pub least_passes : (test : ℕ → Bool) (stamp : ℕ → Option Stamp) (harts : List ℕ) (h : ℕ) → least_such test stamp harts ≡ Some h → test h ≡ true
+least_passes test stamp [] h is = absurd (cc)
+least_passes test stamp (first ∷ others) h is = by (least_passes test stamp others h) (test first) refl is
+  where
+    one : (less : Bool) (other : ℕ) → (least_such test stamp others ≡ Some h → test h ≡ true) → least_such test stamp others ≡ Some other →
+        test first ≡ true → (if less then Some other else Some first) ≡ Some h → test h ≡ true
+    one true other rest found holds is = rest (found ∙ is)
+    one false other rest found holds is = subst (λ k. test k ≡ true) (some_same is) holds
+
+    taken : (least_such test stamp others ≡ Some h → test h ≡ true) → test first ≡ true → (other : Option ℕ) → least_such test stamp others ≡ other →
+        earlier stamp (Some first) other ≡ Some h → test h ≡ true
+    taken rest holds None found is = subst (λ k. test k ≡ true) (some_same is) holds
+    taken rest holds (Some other) found is = one (is_before (stamp other) (stamp first)) other rest found holds is
+
+    by : (least_such test stamp others ≡ Some h → test h ≡ true) → (chosen : Bool) → test first ≡ chosen →
+        (if chosen then earlier stamp (Some first) (least_such test stamp others) else least_such test stamp others) ≡ Some h → test h ≡ true
+    by rest true holds is = taken rest holds (least_such test stamp others) refl is
+    by rest false fails is = rest is
 
 -- what a fate says of a section
 pub record Stayed (state : ModelState) (head : Request) (g : ℕ) (hart : Hart) : Type 0 where
@@ -242,7 +264,7 @@ stays_if state head g mode stayed = by (fate_at state head g) (fate_is state hea
     by (LosesTo winner) says = told winner says.why
 
 -- what may retain the line
-saw_clock : (seen : ℕ) (stamp : Option Stamp) (at : Stamp) → stamp ≡ Some at → at.clock ≤ seen_after seen stamp
+pub saw_clock : (seen : ℕ) (stamp : Option Stamp) (at : Stamp) → stamp ≡ Some at → at.clock ≤ seen_after seen stamp
 saw_clock seen None at is = absurd (cc)
 saw_clock seen (Some stamp) at is = let e : stamp ≡ at = cc in rw (sym e) (omega arith)
 

@@ -18,3 +18,8 @@ pub mod Telling
 pub mod Stepping
 pub mod Throughout
 pub mod Climbing
+pub mod Beating
+pub mod Promises
+pub mod LeastOfFour
+pub mod SecondAttempt
+pub mod Endings

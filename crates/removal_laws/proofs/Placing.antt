@@ -26,9 +26,10 @@ use Rattle.removal_laws.proofs.Grounds.{Grounds, Standing}
 use Rattle.removal_laws.proofs.Kept.{AllPosted, chained_kept, messages_moved, moved_by_post, retaining_posted}
 use Rattle.removal_laws.proofs.Ordering.{Ordering, base, base_below, base_messages, base_retaining, linked_still, mask, other_ordered, own_ordered, same_bits, same_count, waits_still}
 use Rattle.removal_laws.proofs.Posting.{Posted, is_marked, marked, unchanged}
-use Rattle.removal_laws.proofs.Queues.{chained_before, chained_more, has_first, head_is, no_queue, tail_is}
+use Rattle.removal_laws.proofs.Queues.{chained_before, chained_more, head_is, no_queue, tail_is}
 use Rattle.removal_laws.proofs.Requests.{raised_own}
 use Rattle.section_laws.proofs.EachHart.{each_with}
+use Rattle.section_laws.proofs.FreeLines.{has_head}
 use Rattle.section_laws.proofs.Numbered.{raised_exists}
 use Rattle.section_laws.proofs.Waiting.{free_of_order}
 use Rattle.stamp.specs.Stamps.{Stamp, is_before}
@@ -91,6 +92,10 @@ all_chained state line others own = record {
     by : (l : ℕ) → (l ≡ line) ⊎ (l ≡ line → ⊥) → IsChained state (queue_of state.order l)
     by l (inl same) = rw same own
     by l (inr apart) = others.chained l apart
+
+pub none_is : (found : Option Request) → is_some found ≡ false → found ≡ None
+none_is None none = refl
+none_is (Some found) none = absurd (cc)
 
 -- of the attempts of two harts one is before the other
 no_tie : {X : Type 0} (a b : Option Stamp) (g h : ℕ) → g ≢ h → ((stamp : Stamp) → a ≡ Some stamp → stamp.hart ≡ g) →
@@ -158,7 +163,7 @@ module _ (state : ModelState) (request : Request) (grounds : Grounds state) (ord
   alone_first None none = refl
   alone_first (Some found) none = some_none none
 
-  alone_facing : head_of state request.line ≡ None → Facing (base state request Alone) request
+  pub alone_facing : head_of state request.line ≡ None → Facing (base state request Alone) request
   alone_facing no_head = record {
     mode = grounds.opened.mode;
     below = base_below state request Alone grounds ordering standing;
@@ -185,15 +190,17 @@ module _ (state : ModelState) (request : Request) (grounds : Grounds state) (ord
         where
           by : (h ≡ request.hart) ⊎ (h ≡ request.hart → ⊥) → head_of (base state request Alone) found.line ≡ Some found
           by (inl same) =
-              let e : request ≡ found = some_same (sym (own_ordered state request Alone grounds ordering standing) ∙ ap (ordered_of (base state request Alone)) (sym same) ∙ is) in
+              let mine = own_ordered state request Alone grounds ordering standing in
+              let e : request ≡ found = some_same (sym mine ∙ ap (ordered_of (base state request Alone)) (sym same) ∙ is) in
               subst (λ r. head_of (base state request Alone) r.line ≡ Some r) e
               (first_of_appended_own state.order request ∙ alone_first (head_of state request.line) no_head)
           by (inr apart) =
-              has_first state.order h found (sym (other_ordered state request Alone grounds ordering standing h apart) ∙ is)
-              (ap (head_of state) line ∙ no_head)
+              absurd
+              (has_head state.order h found (sym (other_ordered state request Alone grounds ordering standing h apart) ∙ is)
+              (ap (head_of state) line ∙ no_head))
 
   -- in front of the other requests of its line, where its hart's section has a bit there
-  abbrev front : ModelState
+  abbrev pub front : ModelState
   front = marking (base state request InFront) request.hart (head_of state request.line)
 
   former_is : (former : Request) → head_of state request.line ≡ Some former → ordered_of state former.hart ≡ Some former
@@ -222,7 +229,7 @@ module _ (state : ModelState) (request : Request) (grounds : Grounds state) (ord
       linked_to (base state request InFront) request.hart (head_of state request.line) former grounds.opened.mode is
       (rw (same_count state request InFront grounds ordering standing) (grounds.below former.hart former (former_is former is))))
 
-  front_facing : Facing front request
+  pub front_facing : Facing front request
   front_facing =
       let posts = front_posts in
       record {
@@ -341,10 +348,6 @@ module _ (state : ModelState) (request : Request) (grounds : Grounds state) (ord
       by_test (λ place. Standing (placed state request place)) (is_some (head_of state request.line)) Behind Alone
       (λ has_head. behind_stands no_bit has_head)
       (λ no_head. alone_stands (none_is (head_of state request.line) no_head)))
-    where
-      none_is : (found : Option Request) → is_some found ≡ false → found ≡ None
-      none_is None none = refl
-      none_is (Some found) none = absurd (cc)
 
 -- a hart orders the request that it has raised, if it has one
 pub ordered_stands : (state : ModelState) (h : ℕ) (raised : Option Request) → raised_of state h ≡ raised → Grounds state → Standing state →

@@ -10,7 +10,7 @@ use Rattle.mail.specs.Mailbox.{Marker, Message, Probe, has_message, posted, same
 use Rattle.mail.proofs.LookUps.{has_posted_other, has_posted_own}
 use Rattle.mail.proofs.OnceEach.{same_is_one}
 use Rattle.removal_laws.specs.Facts.{IsLinked, Knows, MayPrecede}
-use Rattle.removal_laws.proofs.Bits.{Fewer, fewer_ended, fewer_same, fewer_twice}
+use Rattle.removal_laws.proofs.Bits.{Fewer, fewer_ended, fewer_same, fewer_twice, no_less}
 use Rattle.section_laws.proofs.Moves.{seen_grows}
 use Rattle.stamp.specs.Stamps.{Stamp}
 
@@ -62,9 +62,6 @@ posted_twice state g one two three first second = record {
     from : (before : ℕ) → IsLinked two before ⊎ MayPrecede state g before → IsLinked one before ⊎ MayPrecede state g before
     from before (inl was) = first.fresh before was
     from before (inr new) = inr new
-
-no_less : (n : ℕ) → n ≤ n
-no_less n = omega arith
 
 -- the same messages and sets
 pub posted_same : (state : ModelState) (g : ℕ) (old new : Hart) → new.raised ≡ old.raised → new.mail ≡ old.mail → new.told ≡ old.told →
@@ -172,7 +169,10 @@ all_linked (first ∷ senders) hart sender is = all_linked senders (record hart 
   where
     here : (same : Bool) → (first == sender) ≡ same → (if same then true else has senders sender) ≡ true →
         has senders sender ≡ true ⊎ IsLinked (record hart { mail = posted hart.mail (Marker first) }) sender
-    here true same is = inr (subst (IsLinked (record hart { mail = posted hart.mail (Marker first) })) (number_of_test first sender same) (is_marked hart first))
+    here true same is =
+        inr
+        (subst (IsLinked (record hart { mail = posted hart.mail (Marker first) })) (number_of_test first sender same)
+        (is_marked hart first))
     here false apart is = inl is
 
     next : has (first ∷ senders) sender ≡ true ⊎ IsLinked hart sender →

@@ -1,5 +1,5 @@
 -- what a delivered message changes of each hart
-use Rattle.std.proofs.Common.{◌≡◌, ◌≤◌, ◌==◌, ℕ, Bool, true, false, List, [], ◌∷◌, length, map, Some, refl, ap, inl, inr, ◌⊎◌, arith, subst, if◌then◌else◌}
+use Rattle.std.proofs.Common.{◌≡◌, ◌≤◌, ◌==◌, ℕ, Bool, true, false, List, [], ◌∷◌, length, map, Some, refl, ap, inl, inr, ◌⊎◌, subst, if◌then◌else◌}
 use Rattle.bus_order.specs.Order.{Request}
 use Rattle.bus_order.proofs.LookUps.{number_of_test, own_test}
 use Rattle.defer_list.specs.HartSet.{has}
@@ -9,7 +9,7 @@ use Rattle.mail.specs.Mailbox.{Marker, Message, Probe, has_message, posted, same
 use Rattle.mail.proofs.LookUps.{has_posted_own}
 use Rattle.mail.proofs.OnceEach.{same_as_itself, same_is_one}
 use Rattle.removal_laws.specs.Facts.{Everywhere, IsLinked, Knows, MayBeKnown}
-use Rattle.removal_laws.proofs.Bits.{Fewer, fewer_same, fewer_twice}
+use Rattle.removal_laws.proofs.Bits.{Fewer, fewer_same, fewer_twice, no_less}
 use Rattle.removal_laws.proofs.Grounds.{Standing}
 use Rattle.removal_laws.proofs.Kept.{Owed, OwedOf, messages_moved, retaining_trimmed}
 use Rattle.removal_laws.proofs.Posting.{still_there, there_or_new}
@@ -29,9 +29,6 @@ pub record Took (Up Told : ℕ → ℕ → Type 0) (state : ModelState) (g : ℕ
   pub upstream : (before : ℕ) → has new.upstream before ≡ true → (has old.upstream before ≡ true) ⊎ Up g before
   pub told : (origin : ℕ) → has new.told origin ≡ true → (has old.told origin ≡ true) ⊎ Told g origin
   pub fewer : (line : ℕ) → Fewer line old new
-
-no_less : (n : ℕ) → n ≤ n
-no_less n = omega arith
 
 pub took_nothing : (Up Told : ℕ → ℕ → Type 0) (state : ModelState) (g : ℕ) (hart : Hart) → Took Up Told state g hart hart
 took_nothing Up Told state g hart = record {
@@ -108,7 +105,8 @@ all_probed Up Told state g (origin ∷ origins) old hart may now =
         by true = refl
         by false = is
 
-pub all_known : (origins : List ℕ) (hart : Hart) (origin : ℕ) → (has origins origin ≡ true) ⊎ Knows hart origin → Knows (post_all hart (map Probe origins)) origin
+pub all_known : (origins : List ℕ) (hart : Hart) (origin : ℕ) → (has origins origin ≡ true) ⊎ Knows hart origin →
+    Knows (post_all hart (map Probe origins)) origin
 all_known [] hart origin (inl is) = absurd (cc)
 all_known [] hart origin (inr known) = known
 all_known (first ∷ origins) hart origin is = all_known origins (record hart { mail = posted hart.mail (Probe first) }) origin (next is)
@@ -118,7 +116,10 @@ all_known (first ∷ origins) hart origin is = all_known origins (record hart { 
 
     here : (same : Bool) → (first == origin) ≡ same → (if same then true else has origins origin) ≡ true → (has origins origin ≡ true) ⊎ Knows new origin
     here true same is =
-        inr (inl (subst (λ o. has_message (posted hart.mail (Probe first)) (Probe o) ≡ true) (number_of_test first origin same) (has_posted_own hart.mail (Probe first))))
+        inr
+        (inl
+        (subst (λ o. has_message (posted hart.mail (Probe first)) (Probe o) ≡ true) (number_of_test first origin same)
+        (has_posted_own hart.mail (Probe first))))
     here false apart is = inl is
 
     next : (has (first ∷ origins) origin ≡ true) ⊎ Knows hart origin → (has origins origin ≡ true) ⊎ Knows new origin

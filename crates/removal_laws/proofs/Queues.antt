@@ -1,11 +1,11 @@
 -- the queue of a line, its first and its last request
 use Rattle.std.proofs.Common.{◌≡◌, ◌∙◌, ◌==◌, ◌++◌, ℕ, Bool, true, false, List, [], ◌∷◌, Option, None, Some, refl, ap, sym, if◌then◌else◌}
 use Rattle.std.specs.Option.{option_or}
-use Rattle.bus_order.specs.Order.{Request, first_of, queue_of, request_of, tail_of}
-use Rattle.bus_order.proofs.LookUps.{or_nothing, own_test}
+use Rattle.bus_order.specs.Order.{Request, first_of, queue_of, tail_of}
+use Rattle.bus_order.proofs.LookUps.{or_nothing}
 use Rattle.el_model.specs.State.{ModelState, hart_of}
 use Rattle.removal_laws.specs.Facts.{AreLinked, IsChained, IsLinked}
-use Rattle.removal_laws.proofs.Bits.{clash, some_none, some_same}
+use Rattle.removal_laws.proofs.Bits.{some_none}
 
 -- the hart of the last of these requests, or of the one before them
 abbrev pub last_hart : ℕ → List Request → ℕ
@@ -69,20 +69,7 @@ pub chained_before : (state : ModelState) (queue : List Request) (new : Request)
 chained_before state [] new first now begins link = tt
 chained_before state (head ∷ others) new first now begins link = (link head begins, now)
 
--- a line has a first request where it has any
-pub has_first : {X : Type 0} (order : List Request) (h : ℕ) (found : Request) → request_of order h ≡ Some found → first_of order found.line ≡ None → X
-has_first [] h found is none = absurd (cc)
-has_first (request ∷ order) h found is none = by (λ rest. has_first order h found rest) (request.hart == h) (request.line == found.line) refl is none
-  where
-    by : {X : Type 0} → (request_of order h ≡ Some found → first_of order found.line ≡ None → X) → (own here : Bool) →
-        (request.line == found.line) ≡ here → (if own then Some request else request_of order h) ≡ Some found →
-        (if here then Some request else first_of order found.line) ≡ None → X
-    by rest true true same is none = some_none none
-    by rest true false apart is none =
-        clash apart (ap (λ r. request.line == r.line) (sym (some_same is)) ∙ own_test request.line)
-    by rest false true same is none = some_none none
-    by rest false false apart is none = rest is none
-
+-- a line without a first request has none
 pub no_queue : (order : List Request) (line : ℕ) → first_of order line ≡ None → queue_of order line ≡ []
 no_queue order line none = by (queue_of order line) (head_is order line)
   where

@@ -2,14 +2,14 @@
 use Rattle.std.proofs.Common.{◌≡◌, ◌≢◌, ◌∙◌, ◌==◌, ℕ, Bool, true, false, List, [], ◌∷◌, length, Option, None, Some, is_some, refl, ap, sym, inl, inr, ◌⊎◌, arith, subst, if◌then◌else◌}
 use Rattle.std.proofs.lemmas.Bool.{cases_eq}
 use Rattle.bus_order.specs.Order.{IsOneEach, Request, first_of, queue_of, removed, request_of}
-use Rattle.bus_order.proofs.LookUps.{number_of_test, own_test, request_of_removed_other, request_of_removed_own}
+use Rattle.bus_order.proofs.LookUps.{own_test, request_of_removed_other, request_of_removed_own}
 use Rattle.bus_order.proofs.Orders.{one_each_removed}
 use Rattle.bus_order.proofs.Queues.{first_of_removed_other, hart_of_request_of, queue_of_removed, queue_of_removed_other, queue_of_removed_own, request_of_first_of}
 use Rattle.cache_sets.specs.Cache.{has_bit}
 use Rattle.el_base.specs.declared.outcomes.Why.TheVariants.{Behind}
 use Rattle.el_model.specs.Conflicts.{conflicts_with, retains}
 use Rattle.el_model.specs.Face.{faced, faced_if}
-use Rattle.el_model.specs.Serve.{Blocks, Free, Obstacle, obstacle_to, other_head, serve_ordered, serve_past, served}
+use Rattle.el_model.specs.Serve.{Blocks, Free, Obstacle, obstacle_to, serve_ordered, serve_past, served}
 use Rattle.el_model.specs.State.{ModelState, cache_of, for_line, hart_of, head_of, is_live, ordered_of, ordered_on, raised_of}
 use Rattle.el_model.proofs.Keeps.{keeps_served}
 use Rattle.removal_laws.specs.Facts.{AreLinked, Everywhere, IsChained, IsLinked, IsWaiting, MayRetain, Messages, Retaining}
@@ -18,8 +18,8 @@ use Rattle.removal_laws.proofs.Faced.{Facing, FirstOn, Other, all_faced, faced_s
 use Rattle.removal_laws.proofs.Grounds.{Grounds, Standing}
 use Rattle.removal_laws.proofs.Kept.{may_kept, retained_before, head_line}
 use Rattle.removal_laws.proofs.Leaving.{Left, served_left}
-use Rattle.removal_laws.proofs.Queues.{IsHead, has_first, head_is}
-use Rattle.section_laws.proofs.FreeLines.{not_blocked}
+use Rattle.removal_laws.proofs.Queues.{IsHead, head_is}
+use Rattle.section_laws.proofs.FreeLines.{has_head, head_is as first_is, not_blocked}
 
 -- the request that is served, as the head of its line
 pub record Serving (state : ModelState) (request : Request) : Type 0 where
@@ -107,7 +107,8 @@ module _ (state : ModelState) (request : Request) (grounds : Grounds state) (ser
       own : (queue : List Request) → queue_of state.order request.line ≡ queue → IsChained state (removed (queue_of state.order request.line) request.hart)
       own [] none = subst (IsChained state) (sym (ap (λ queue. removed queue request.hart) none)) tt
       own (head ∷ others) is =
-          let head_is_own : head ≡ request = same_head (subst (λ queue. IsHead queue (first_of state.order request.line)) is (head_is state.order request.line)) in
+          let found = subst (λ queue. IsHead queue (first_of state.order request.line)) is (head_is state.order request.line) in
+          let head_is_own : head ≡ request = same_head found in
           let taken : removed (queue_of state.order request.line) request.hart ≡ others =
           sym (queue_of_removed state.order request.hart request.line)
           ∙ queue_of_removed_own state.order request.line request others grounds.once.once (is ∙ ap (λ r. r ∷ others) head_is_own) in
@@ -215,7 +216,7 @@ module _ (state : ModelState) (request : Request) (grounds : Grounds state) (ser
   once_after : IsOneEach after.order
   once_after = subst IsOneEach (sym order_is) (one_each_removed state.order request.hart grounds.once.once)
 
-  next_facing : (next : Request) → head_of after request.line ≡ Some next → Facing after next
+  pub next_facing : (next : Request) → head_of after request.line ≡ Some next → Facing after next
   next_facing next is =
       let line = head_line after request.line next is in
       record {
@@ -257,7 +258,7 @@ module _ (state : ModelState) (request : Request) (grounds : Grounds state) (ser
       first_by : (h : ℕ) (found : Request) → ordered_of after h ≡ Some found → is_live after h ≡ true →
           has_bit (cache_of after h) found.line ≡ true → (found.line ≡ request.line) ⊎ (found.line ≡ request.line → ⊥) →
           head_of after found.line ≡ Some found
-      first_by h found is live bit (inl same) = has_first after.order h found is (ap (head_of after) same ∙ none)
+      first_by h found is live bit (inl same) = absurd (has_head after.order h found is (ap (head_of after) same ∙ none))
       first_by h found is live bit (inr apart) = served_retaining.first h found apart is live bit
 
   pub served_stands : Standing (faced_if after (head_of after request.line))
@@ -267,22 +268,6 @@ module _ (state : ModelState) (request : Request) (grounds : Grounds state) (ser
       by None none = no_next none
       by (Some next) is = faced_stands after next (next_facing next is) (next_first next is)
 
--- nothing is in the way: the request is the head of its line
-is_first : (state : ModelState) (request : Request) → IsOneEach state.order → ordered_of state request.hart ≡ Some request →
-    other_head request.hart (head_of state request.line) ≡ None → head_of state request.line ≡ Some request
-is_first state request once ordered none = by (head_of state request.line) refl none
-  where
-    own : (head : Request) → head_of state request.line ≡ Some head → (same : Bool) → (head.hart == request.hart) ≡ same →
-        (if same then None else Some head.hart) ≡ None → head_of state request.line ≡ Some request
-    own head is true same none =
-        let found = request_of_first_of state.order request.line head once is in
-        is ∙ sym found ∙ ap (request_of state.order) (number_of_test head.hart request.hart same) ∙ ordered
-    own head is false apart none = some_none none
-
-    by : (head : Option Request) → head_of state request.line ≡ head → other_head request.hart head ≡ None → head_of state request.line ≡ Some request
-    by None is none = has_first state.order request.hart request ordered is
-    by (Some head) is none = own head is (head.hart == request.hart) refl none
-
 past_stands : (state : ModelState) (request : Request) (obstacle : Obstacle) → obstacle_to state request ≡ obstacle → Grounds state →
     ordered_of state request.hart ≡ Some request → Standing state → Standing (serve_past state request obstacle).state
 past_stands state request (Blocks why by) is grounds ordered standing = standing
@@ -290,7 +275,7 @@ past_stands state request Free is grounds ordered standing =
     served_stands state request grounds
     (record {
       ordered = ordered;
-      first = is_first state request grounds.once.once ordered (not_blocked Behind (other_head request.hart (head_of state request.line)) _ is);
+      first = first_is state request.hart request (head_of state request.line) grounds.once.once ordered refl (not_blocked Behind _ _ is);
     }) standing
 
 -- a hart's ordered request, if it has one

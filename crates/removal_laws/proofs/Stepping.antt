@@ -1,5 +1,5 @@
 -- what holds still holds after a step: it posts nothing, and a section that retains no line does not begin to
-use Rattle.std.proofs.Common.{◌≡◌, ◌≢◌, ◌∙◌, ◌≤◌, ◌+◌, ◌==◌, ◌&&◌, ◌||◌, ℕ, Bool, true, false, not, List, [], ◌∷◌, length, Option, None, Some, is_some, refl, ap, sym, inl, inr, ◌⊎◌, arith, subst, if◌then◌else◌}
+use Rattle.std.proofs.Common.{◌≡◌, ◌≢◌, ◌∙◌, ◌≤◌, ◌+◌, ◌==◌, ◌&&◌, ◌||◌, ℕ, Bool, true, false, not, List, [], ◌∷◌, length, Option, None, Some, is_some, refl, ap, sym, inl, inr, ◌⊎◌, subst, if◌then◌else◌}
 use Rattle.std.proofs.Math.ListN.{length-set}
 use Rattle.std.proofs.lemmas.Bool.{cases_eq}
 use Rattle.bus_order.specs.Order.{Request, first_of}
@@ -23,10 +23,11 @@ use Rattle.el_model.proofs.Deeds.{step_deed}
 use Rattle.el_model.proofs.Harts.{hart_of-past, with_hart_kept}
 use Rattle.mail.specs.Mailbox.{Marker, Message, Probe, has_message}
 use Rattle.removal_laws.specs.Facts.{Everywhere}
-use Rattle.removal_laws.proofs.Bits.{Meets, NoBitMore, clash, in_the_way, meets, meets_no_more, no_more_marked, no_more_touched, no_more_twice, some_none, some_same, write_of_read_marked}
+use Rattle.removal_laws.proofs.Bits.{Meets, NoBitMore, clash, in_the_way, meets, meets_no_more, no_more_marked, no_more_touched, no_more_twice, some_none, some_same, write_of_read_marked, no_less}
 use Rattle.removal_laws.proofs.Grounds.{Grounds, Standing}
 use Rattle.removal_laws.proofs.Kept.{Moved, head_line, may_kept, messages_moved}
 use Rattle.section_laws.proofs.EachHart.{Each, each_but}
+use Rattle.section_laws.proofs.FreeLines.{second_not}
 use Rattle.section_laws.proofs.Waiting.{no_request}
 
 -- a hart's mailbox and sets
@@ -38,7 +39,8 @@ record Contents : Type 0 where
 abbrev contents : Hart → Contents
 contents hart = record { mail = hart.mail; told = hart.told; upstream = hart.upstream }
 
-candidate_contents : (pc : ℕ) (had_watch : Bool) (candidate : Option Swap) (hart : Hart) → contents (after_candidate pc had_watch candidate hart) ≡ contents hart
+candidate_contents : (pc : ℕ) (had_watch : Bool) (candidate : Option Swap) (hart : Hart) →
+    contents (after_candidate pc had_watch candidate hart) ≡ contents hart
 candidate_contents pc had_watch None hart = refl
 candidate_contents pc had_watch (Some swap) hart = refl
 
@@ -82,9 +84,6 @@ record Stepped (state : ModelState) (g : ℕ) (new : Hart) : Type 0 where
   raised : (request : Request) → new.raised ≡ Some request → is_some new.section ≡ true → has_bit new.cache request.line ≡ true → request.need ≡ Write
   ordered : (request : Request) → ordered_of state g ≡ Some request → is_some new.section ≡ true → has_bit new.cache request.line ≡ true →
       (request.need ≡ Write) × (head_of state request.line ≡ Some request)
-
-no_less : (n : ℕ) → n ≤ n
-no_less n = omega arith
 
 retained_same : (hart : Hart) → Retained hart hart
 retained_same hart = record { attempt = refl; seen = no_less hart.seen }
@@ -153,7 +152,8 @@ wanted_bit state h line need old new head unwanted cache is apart bit = by (case
         subst (λ l. bit_in Write (way_of new.cache l) ≡ true) same (subst (λ n. meets_bit new head.line n ≡ true) read bit) in
         let there : bit_in Write (way_of (touched (marked old.cache line Read) line) line) ≡ true =
         subst (λ c. bit_in Write (way_of c line) ≡ true) (cache ∙ ap (λ n. touched (marked old.cache line n) line) reads) here in
-        let before = write_of_read_marked old.cache line (subst (λ way. bit_in Write way ≡ true) (way_of-touched (marked old.cache line Read) line line) there) in
+        let untouched = way_of-touched (marked old.cache line Read) line line in
+        let before = write_of_read_marked old.cache line (subst (λ way. bit_in Write way ≡ true) untouched there) in
         subst (λ n. meets_bit old head.line n ≡ true) (sym read) (subst (λ l. bit_in Write (way_of old.cache l) ≡ true) (sym same) before)
 
     by_head : need ≡ Read → head.line ≡ line → (wanted : Need) → head.need ≡ wanted → meets_bit old head.line head.need ≡ true
@@ -180,11 +180,7 @@ wanted_bit state h line need old new head unwanted cache is apart bit = by (case
 -- without marks no request is met
 bare : (hart : Hart) (line : ℕ) (need : Need) → has_marks hart.cache ≡ false → meets_bit hart line need ≡ false
 bare hart line Write none = no_marks hart.cache line none
-bare hart line Read none = second (read_bit hart.cache line) (write_bit hart.cache line) (no_marks hart.cache line none)
-  where
-    second : (a b : Bool) → (a || b) ≡ false → b ≡ false
-    second true b is = absurd (cc)
-    second false b is = is
+bare hart line Read none = second_not (read_bit hart.cache line) (write_bit hart.cache line) (no_marks hart.cache line none)
 
 head_by : {X : Type 0} (state : ModelState) (g line : ℕ) (hart : Hart) → conflicts_with (head_of state line) g hart ≡ true →
     ((head : Request) → head_of state line ≡ Some head → head_of state head.line ≡ Some head → Meets head g hart → X) → X
@@ -252,10 +248,6 @@ touch_bits state h section next (Some touch) (inr (room, granted)) head is apart
       cache = touched (if b then cache else marked cache touch.line touch.need) touch.line;
       held = None;
     }) head.line head.need ≡ true) room.wants.uncovered bit)
-  where
-    second_not : (a b : Bool) → (a || b) ≡ false → b ≡ false
-    second_not true b is = absurd (cc)
-    second_not false b is = is
 
 -- what is missed on a line with a bit is missed to write
 missed_write : (cache : List (List Way)) (line : ℕ) (need : Need) → is_covered cache line need ≡ false → has_bit cache line ≡ true → need ≡ Write
@@ -267,7 +259,8 @@ candidate_section : (pc : ℕ) (had_watch : Bool) (candidate : Option Swap) (har
 candidate_section pc had_watch None hart none = none
 candidate_section pc had_watch (Some swap) hart none = none
 
-missed_aside : (head : Option Request) (g : ℕ) (hart : Hart) (raised : Option Request) → conflicts_with head g (record hart { held = None; raised = raised }) ≡ true →
+missed_aside : (head : Option Request) (g : ℕ) (hart : Hart) (raised : Option Request) →
+    conflicts_with head g (record hart { held = None; raised = raised }) ≡ true →
     conflicts_with head g hart ≡ true
 missed_aside None g hart raised is = is
 missed_aside (Some request) g hart raised is = is

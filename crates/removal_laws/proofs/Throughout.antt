@@ -59,25 +59,16 @@ fresh program config h =
     all_first IsFresh program.harts (new_hart config.sets) (new_hart 0)
     (record { mail = refl; told = refl; upstream = refl; raised = refl }) (record { mail = refl; told = refl; upstream = refl; raised = refl }) h
 
+nothing : {X : Type 0} → false ≡ true → X
+nothing wrong = absurd (cc)
+
 unlinked : {X : Type 0} (hart : Hart) (before : ℕ) → IsFresh hart → IsLinked hart before → X
 unlinked hart before fresh (inl sent) = nothing (subst (λ box. has_message box (Marker before) ≡ true) fresh.mail sent)
-  where
-    nothing : {X : Type 0} → false ≡ true → X
-    nothing wrong = absurd (cc)
 unlinked hart before fresh (inr is) = nothing (subst (λ harts. has harts before ≡ true) fresh.upstream is)
-  where
-    nothing : {X : Type 0} → false ≡ true → X
-    nothing wrong = absurd (cc)
 
 unknown : {X : Type 0} (hart : Hart) (origin : ℕ) → IsFresh hart → Knows hart origin → X
 unknown hart origin fresh (inl sent) = nothing (subst (λ box. has_message box (Probe origin) ≡ true) fresh.mail sent)
-  where
-    nothing : {X : Type 0} → false ≡ true → X
-    nothing wrong = absurd (cc)
 unknown hart origin fresh (inr is) = nothing (subst (λ harts. has harts origin ≡ true) fresh.told is)
-  where
-    nothing : {X : Type 0} → false ≡ true → X
-    nothing wrong = absurd (cc)
 
 first_holds : (program : Program) (config : Config) → config.mode ≡ Tlr → Holding (begin program config)
 unfolding begin

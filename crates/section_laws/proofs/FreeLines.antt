@@ -93,7 +93,7 @@ has_head (first ∷ order) h request is none =
     by true false test rest is none = differs first.line request.line (ap (λ r. r.line) (same_request first request is)) test
     by false false test rest is none = rest is none
 
-head_is : (state : ModelState) (h : ℕ) (request : Request) (head : Option Request) → IsOneEach state.order → ordered_of state h ≡ Some request →
+pub head_is : (state : ModelState) (h : ℕ) (request : Request) (head : Option Request) → IsOneEach state.order → ordered_of state h ≡ Some request →
     head_of state request.line ≡ head → other_head request.hart head ≡ None → head ≡ Some request
 head_is state h request None once is found own = absurd (has_head state.order h request is found)
 head_is state h request (Some head) once is found own =

@@ -24,7 +24,7 @@ first =
     record { words = swap 7 5 10 ∷ store_word 6 11 ∷ store_word 0 10 ∷ []; registers = usual } ∷
     record { words = swap 7 5 10 ∷ store_word 6 11 ∷ store_word 0 10 ∷ []; registers = usual } ∷ [])
 
-abbrev events : List Event
+abbrev pub events : List Event
 events =
     event Step 0 ∷ event Order 0 ∷ event Serve 0 ∷ event Step 0 ∷ event Step 1 ∷ event Order 1 ∷ event Serve 1 ∷
     event Step 1 ∷ event Step 2 ∷ event Order 2 ∷ event Serve 2 ∷ event Step 2 ∷ event Step 3 ∷ event Order 3 ∷

@@ -21,11 +21,11 @@ abbrev pub NotWritten : Option Way → Type 0
 NotWritten None = Unit {0}
 NotWritten (Some way) = way.write ≡ false
 
-first_not : (a b : Bool) → (a || b) ≡ false → a ≡ false
+pub first_not : (a b : Bool) → (a || b) ≡ false → a ≡ false
 first_not true b is = is
 first_not false b is = refl
 
-second_not : (a b : Bool) → (a || b) ≡ false → b ≡ false
+pub second_not : (a b : Bool) → (a || b) ≡ false → b ≡ false
 second_not true b is = absurd (cc)
 second_not false b is = is
 
@@ -48,15 +48,15 @@ unwritten_way None none = tt
 unwritten_way (Some way) none = none
 
 -- nothing is in the way
-not_blocked : (why : Why) (by : Option ℕ) (other : Obstacle) → blocks_if why by other ≡ Free → by ≡ None
+pub not_blocked : (why : Why) (by : Option ℕ) (other : Obstacle) → blocks_if why by other ≡ Free → by ≡ None
 not_blocked why None other free = refl
 not_blocked why (Some by) other free = absurd (cc)
 
-blocked_else : (why : Why) (by : Option ℕ) (other : Obstacle) → blocks_if why by other ≡ Free → other ≡ Free
+pub blocked_else : (why : Why) (by : Option ℕ) (other : Obstacle) → blocks_if why by other ≡ Free → other ≡ Free
 blocked_else why None other free = free
 blocked_else why (Some by) other free = absurd (cc)
 
-none_such : (test : ℕ → Bool) (from number k : ℕ) (harts : List Hart) → first_such test (count_up from harts) ≡ None → k < length harts →
+pub none_such : (test : ℕ → Bool) (from number k : ℕ) (harts : List Hart) → first_such test (count_up from harts) ≡ None → k < length harts →
     number ≡ from + k → test number ≡ false
 none_such test from number k [] none below is = absurd (omega arith)
 none_such test from number zero (hart ∷ harts) none below is =
@@ -75,7 +75,7 @@ none_such test from number (suc k) (hart ∷ harts) none below is =
     rest false some = some
 
 -- a request in order has a head on its line
-has_head : (order : List Request) (h : ℕ) (request : Request) → request_of order h ≡ Some request → first_of order request.line ≡ None → ⊥
+pub has_head : (order : List Request) (h : ℕ) (request : Request) → request_of order h ≡ Some request → first_of order request.line ≡ None → ⊥
 has_head [] h request is none = absurd (cc)
 has_head (first ∷ order) h request is none =
     by (first.hart == h) (first.line == request.line) refl (λ found absent. has_head order h request found absent) is none
@@ -93,7 +93,7 @@ has_head (first ∷ order) h request is none =
     by true false test rest is none = differs first.line request.line (ap (λ r. r.line) (same_request first request is)) test
     by false false test rest is none = rest is none
 
-head_is : (state : ModelState) (h : ℕ) (request : Request) (head : Option Request) → IsOneEach state.order → ordered_of state h ≡ Some request →
+pub head_is : (state : ModelState) (h : ℕ) (request : Request) (head : Option Request) → IsOneEach state.order → ordered_of state h ≡ Some request →
     head_of state request.line ≡ head → other_head request.hart head ≡ None → head ≡ Some request
 head_is state h request None once is found own = absurd (has_head state.order h request is found)
 head_is state h request (Some head) once is found own =
@@ -105,7 +105,7 @@ head_is state h request (Some head) once is found own =
     mine true none = refl
     mine false none = absurd (cc)
 
-not_met : (other live meets : Bool) → ((other && live) && meets) ≡ false → other ≡ true → live ≡ true → meets ≡ false
+pub not_met : (other live meets : Bool) → ((other && live) && meets) ≡ false → other ≡ true → live ≡ true → meets ≡ false
 not_met true true meets none is lives = none
 not_met false live meets none is lives = absurd (cc)
 not_met true false meets none is lives = absurd (cc)

@@ -1,6 +1,6 @@
 -- what an event of the bus does to each hart, told once: it is posted messages, is told of origins, has harts before it, sees stamps
 -- or loses its section; the hart of the request is placed or served besides
-use Rattle.std.proofs.Common.{◌≡◌, ◌≢◌, ℕ, Bool, true, false, List, [], ◌∷◌, Option, None, Some, map, refl, ap, sym, ◌∙◌, if◌then◌else◌, ◌==◌, ◌+◌}
+use Rattle.std.proofs.Common.{◌≡◌, ◌≢◌, ◌≤◌, ℕ, Bool, true, false, List, [], ◌∷◌, Option, None, Some, map, refl, ap, sym, ◌∙◌, if◌then◌else◌, ◌==◌, ◌+◌, arith}
 use Rattle.bus_order.specs.Order.{Request, tail_of}
 use Rattle.bus_order.proofs.LookUps.{number_of_test, own_test}
 use Rattle.defer_list.specs.HartSet.{has, included}
@@ -26,10 +26,15 @@ pub record Moves (P : ℕ → Hart → Type 0) : Type 0 where
   pub posted_to : (h : ℕ) (hart : Hart) (mail : List Message) → P h hart → P h (record hart { mail = mail })
   pub told : (h : ℕ) (hart : Hart) (told : List ℕ) → P h hart → P h (record hart { told = told })
   pub preceded : (h : ℕ) (hart : Hart) (upstream : List ℕ) → P h hart → P h (record hart { upstream = upstream })
-  pub saw : (h : ℕ) (hart : Hart) (seen : ℕ) → P h hart → P h (record hart { seen = seen })
+  pub saw : (h : ℕ) (hart : Hart) (seen : ℕ) → hart.seen ≤ seen → P h hart → P h (record hart { seen = seen })
   pub lost : (h : ℕ) (hart : Hart) → P h hart → P h (out_of_section hart)
   pub gave_up : (h : ℕ) (hart : Hart) → P h hart → P h (record hart { tries = 0; fallback = true })
   pub tried : (h : ℕ) (hart : Hart) → (hart.tries + 1 == most_tries) ≡ false → P h hart → P h (record hart { tries = hart.tries + 1 })
+
+-- a hart that sees a stamp has seen no less than before
+pub seen_grows : (seen : ℕ) (stamp : Option Stamp) → seen ≤ seen_after seen stamp
+seen_grows seen None = omega arith
+seen_grows seen (Some stamp) = omega arith
 
 module _ {P : ℕ → Hart → Type 0} (moves : Moves P) where
   pub post_keeps : (h : ℕ) (hart : Hart) (messages : List Message) → P h hart → P h (post_all hart messages)
@@ -44,12 +49,12 @@ module _ {P : ℕ → Hart → Type 0} (moves : Moves P) where
 
   beaten_keeps : (mode : Mode) (winner : Option Stamp) (h : ℕ) (hart : Hart) → P h hart → P h (beaten mode winner hart)
   beaten_keeps Tlr winner h hart now =
-      moves.saw h (out_of_section hart) (seen_after hart.seen winner) (moves.lost h hart now)
+      moves.saw h (out_of_section hart) (seen_after hart.seen winner) (seen_grows hart.seen winner) (moves.lost h hart now)
   beaten_keeps Sle winner h hart now = try_keeps h (out_of_section hart) (hart.tries + 1 == most_tries) refl (moves.lost h hart now)
   beaten_keeps Plain winner h hart now = try_keeps h (out_of_section hart) (hart.tries + 1 == most_tries) refl (moves.lost h hart now)
 
   deferring_keeps : (mode : Mode) (stamp : Option Stamp) (h : ℕ) (hart : Hart) → P h hart → P h (deferring mode stamp hart)
-  deferring_keeps Tlr stamp h hart now = moves.saw h hart (seen_after hart.seen stamp) now
+  deferring_keeps Tlr stamp h hart now = moves.saw h hart (seen_after hart.seen stamp) (seen_grows hart.seen stamp) now
   deferring_keeps Sle stamp h hart now = now
   deferring_keeps Plain stamp h hart now = now
 

@@ -40,12 +40,12 @@ unfolding next
 next_count state event = kind_count state event.hart.number event.kind
 
 -- what is kept of the order: by a request of a hart that has none, and as one is served
-record KeptInOrder (P : List Request → Type 0) (count : ℕ) : Type 0 where
-  placed_last : (order : List Request) (request : Request) → request.hart < count → request_of order request.hart ≡ None → P order →
+pub record KeptInOrder (P : List Request → Type 0) (count : ℕ) : Type 0 where
+  pub placed_last : (order : List Request) (request : Request) → request.hart < count → request_of order request.hart ≡ None → P order →
       P (appended order request)
-  placed_before : (order : List Request) (request : Request) → request.hart < count → request_of order request.hart ≡ None → P order →
+  pub placed_before : (order : List Request) (request : Request) → request.hart < count → request_of order request.hart ≡ None → P order →
       P (in_front_of order request)
-  taken_out : (order : List Request) (h : ℕ) → P order → P (removed order h)
+  pub taken_out : (order : List Request) (h : ℕ) → P order → P (removed order h)
 
 some_none : {A X : Type 0} {x : A} → Some x ≡ None → X
 some_none wrong = absurd (cc)
@@ -99,7 +99,7 @@ module _ {P : List Request → Type 0} where
   kind_keeps state h kinds.Serve kept sound now = ordered_keeps state (ordered_of state h) kept now
   kind_keeps state h kinds.Deliver kept sound now = rw (mail_order state h (hart_of state h).mail) now
 
-  order_keeps : (state : ModelState) (event : Event) → KeptInOrder P (length state.harts) → Sound state → P state.order →
+  pub order_keeps : (state : ModelState) (event : Event) → KeptInOrder P (length state.harts) → Sound state → P state.order →
       P (next state event).state.order
   unfolding next
   order_keeps state event kept sound now = kind_keeps state event.hart.number event.kind kept sound now

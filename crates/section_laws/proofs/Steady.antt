@@ -94,41 +94,51 @@ steady_without_line cache line l = at (cases_eq l line)
     at (inl same) = rw same (rw (way_of-without_line_same cache line) tt)
     at (inr other) = rw (way_of-without_line_other cache line l other) (same_way (way_of cache l))
 
--- what a fill does to the other lines
+-- what a fill does to the other lines: a way stays as it is, or leaves
 none_some : {A X : Type 0} {x : A} → None ≡ Some x → X
 none_some wrong = absurd (cc)
 
 same_some : {A : Type 0} (x y : A) → Some x ≡ Some y → x ≡ y
 same_some x y same = cc
 
+abbrev pub StaysOrLeaves : Option Way → Option Way → Type 0
+StaysOrLeaves old new = (new ≡ old) ⊎ (new ≡ None)
+
 filled_by : (ways : ℕ) (cache : List (List Way)) (line l : ℕ) (letter : Letter) → 0 < length cache → l ≢ line → (gone : Option Way) →
-    evicted_by ways cache line ≡ gone → SteadyWay (way_of cache l) (way_of (filled_with ways cache line letter) l)
+    evicted_by ways cache line ≡ gone → StaysOrLeaves (way_of cache l) (way_of (filled_with ways cache line letter) l)
 filled_by ways cache line l letter some other None none =
-    rw (way_of-filled_with_other ways cache line l letter other (λ gone is. none_some (sym none ∙ is))) (same_way (way_of cache l))
+    inl (way_of-filled_with_other ways cache line l letter other (λ gone is. none_some (sym none ∙ is)))
 filled_by ways cache line l letter some other (Some gone) is = by_line (cases_eq l gone.line)
   where
     by_set : l ≡ gone.line → (set_number cache l ≡ set_number cache line) ⊎ (set_number cache l ≡ set_number cache line → ⊥) →
-        SteadyWay (way_of cache l) (way_of (filled_with ways cache line letter) l)
+        StaysOrLeaves (way_of cache l) (way_of (filled_with ways cache line letter) l)
     by_set same (inl home) =
         let left = way_of-filled_with_evicted ways cache line letter gone some is (λ own. other (same ∙ own)) (ap (set_number cache) (sym same) ∙ home) in
-        rw same (rw left tt)
+        inr (ap (way_of (filled_with ways cache line letter)) same ∙ left)
     by_set same (inr away) =
         let way : Way = record { line = line; letter = letter; read = false; write = false } in
-        rw (ap (λ set. way_in set l) (set_of-with_set_other cache line l (filled_in ways (set_of cache line) way) away))
-        (same_way (way_of cache l))
+        inl (ap (λ set. way_in set l) (set_of-with_set_other cache line l (filled_in ways (set_of cache line) way) away))
 
-    by_line : (l ≡ gone.line) ⊎ (l ≡ gone.line → ⊥) → SteadyWay (way_of cache l) (way_of (filled_with ways cache line letter) l)
+    by_line : (l ≡ gone.line) ⊎ (l ≡ gone.line → ⊥) → StaysOrLeaves (way_of cache l) (way_of (filled_with ways cache line letter) l)
     by_line (inl same) = by_set same (cases_eq (set_number cache l) (set_number cache line))
     by_line (inr apart) =
-        rw (way_of-filled_with_other ways cache line l letter other
+        inl (way_of-filled_with_other ways cache line l letter other
         (λ found here same. apart (same ∙ ap (λ way. way.line) (same_some found gone (sym here ∙ is)))))
-        (same_way (way_of cache l))
+
+pub other_filled : (ways : ℕ) (cache : List (List Way)) (line l : ℕ) (letter : Letter) → l ≢ line →
+    StaysOrLeaves (way_of cache l) (way_of (filled_with ways cache line letter) l)
+other_filled ways [] line l letter other = inl refl
+other_filled ways (first ∷ sets) line l letter other =
+    filled_by ways (first ∷ sets) line l letter (omega arith) other (evicted_by ways (first ∷ sets) line) refl
 
 pub steady_filled : (ways : ℕ) (cache : List (List Way)) (line l : ℕ) (letter : Letter) → l ≢ line →
     SteadyWay (way_of cache l) (way_of (filled_with ways cache line letter) l)
-steady_filled ways [] line l letter other = tt
-steady_filled ways (first ∷ sets) line l letter other =
-    filled_by ways (first ∷ sets) line l letter (omega arith) other (evicted_by ways (first ∷ sets) line) refl
+steady_filled ways cache line l letter other = by (other_filled ways cache line l letter other)
+  where
+    by : StaysOrLeaves (way_of cache l) (way_of (filled_with ways cache line letter) l) →
+        SteadyWay (way_of cache l) (way_of (filled_with ways cache line letter) l)
+    by (inl same) = rw same (same_way (way_of cache l))
+    by (inr left) = rw left tt
 
 -- two copies that may be together still may
 pub together_kept : (a b : Option Way) (c d : Option Way) → SteadyWay a c → SteadyWay b d → MayBeTogether a b → MayBeTogether c d

@@ -97,7 +97,7 @@ moves status ordered = record {
   posted_to = λ h hart mail now. now;
   told = λ h hart told now. now;
   preceded = λ h hart upstream now. now;
-  saw = λ h hart seen now. now;
+  saw = λ h hart seen later now. now;
   lost = λ h hart now. lost_waits h (status h) (ordered h) hart.section hart.raised hart.held now;
   gave_up = λ h hart now. now;
   tried = λ h hart more now. now;
@@ -171,7 +171,7 @@ free_of_order state h request sound raised = other (sound h).one_request
     other (inl none) = some_none (sym raised ∙ none)
     other (inr none) = none
 
-order_other : (state : ModelState) (request : Request) (place : Place) (g : ℕ) → g ≢ request.hart →
+pub order_other : (state : ModelState) (request : Request) (place : Place) (g : ℕ) → g ≢ request.hart →
     request_of (order_at state request place) g ≡ request_of state.order g
 order_other state request InFront g apart = request_of_in_front_of_other state.order request g (λ same. apart (sym same))
 order_other state request Behind g apart = request_of_appended_other state.order request g (λ same. apart (sym same))

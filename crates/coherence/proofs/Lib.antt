@@ -8,4 +8,5 @@ pub mod KeptLaws
 pub mod ServedLaws
 pub mod ChangedLaws
 pub mod RoomLaws
+pub mod GivenBackLaws
 pub mod AtFirst

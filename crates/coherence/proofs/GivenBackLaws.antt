@@ -108,12 +108,18 @@ pub tells_same_copies : (copies : Copies) (h : ℕ) (cache : Cached) (bytes : �
 tells_same_copies copies h cache bytes tells same = coherent_same_copies h copies.first copies.lines bytes copies.caches cache same tells
 
 -- a line whose letter may be written is there
-writable_there : (cached : Cached) (line : ℕ) → may_write (letter_of cached.residency line) ≡ true → is_resident cached.residency line ≡ true
+pub writable_there : (cached : Cached) (line : ℕ) → may_write (letter_of cached.residency line) ≡ true → is_resident cached.residency line ≡ true
 writable_there cached line may = by (way_of cached.residency line) may
   where
     by : (way : Option Way) → may_write (letter_in way) ≡ true → is_some way ≡ true
     by None is = absurd (cc)
     by (Some way) is = refl
+
+-- a copy has its line's bytes
+pub copy_tells : (copies : Copies) (h line : ℕ) (bytes : ℕ → List ℕ) → TellsOf copies bytes →
+    is_resident (cache_at copies.caches h).residency line ≡ true → bytes_of (cache_at copies.caches h) line ≡ bytes line
+copy_tells copies h line bytes tells resident =
+    (tells.each line (tells.inside h line resident)).same h _ (copy_is (cache_at copies.caches h) line resident)
 
 -- one line that was written is a way to give a cache back
 pub stored_back : (old new : Cached) (line : ℕ) (bytes : List ℕ) → IsStoredIn old new line bytes → IsGivenBack old new

@@ -9,4 +9,5 @@ pub mod ServedLaws
 pub mod ChangedLaws
 pub mod RoomLaws
 pub mod GivenBackLaws
+pub mod LoanSteps
 pub mod AtFirst

@@ -21,7 +21,7 @@ use Rattle.moesi.specs.Letters.{may_write}
 use Rattle.moesi.specs.declared.letter.Letter.TheVariants.{M}
 
 -- the bytes of a line whose copy was kept are those that it had
-kept_bytes : (bytes : List ℕ) (copies : ℕ → Option Copy) (behind : List ℕ) (h : ℕ) (copy : Option Copy) → Coherent bytes copies behind →
+pub kept_bytes : (bytes : List ℕ) (copies : ℕ → Option Copy) (behind : List ℕ) (h : ℕ) (copy : Option Copy) → Coherent bytes copies behind →
     copy ≡ copies h → option_map_or (λ c. c.bytes) copy bytes ≡ bytes
 kept_bytes bytes copies behind h None coherent is = refl
 kept_bytes bytes copies behind h (Some copy) coherent is = coherent.same h copy (sym is)

@@ -1,11 +1,13 @@
 -- what is done to a lent cache in turn, as one change
-use Rattle.std.proofs.Common.{◌≡◌, ◌∙◌, ℕ, Bool, true, false, List, Option, Some, option_map, ap, refl, sym}
+use Rattle.std.proofs.Common.{◌≡◌, ◌∙◌, ℕ, Bool, true, false, List, Option, Some, option_map, ap, refl, sym, if◌then◌else◌}
 use Rattle.cache_sets.specs.Cache.{letter_of, write_bit}
 use Rattle.cache_sets.specs.Cached.{Cached, Copy, bytes_of, copy_in, copy_with_bytes, copy_with_letter}
 use Rattle.cache_sets.specs.Calls.{IsCommitted, IsLettered, IsTouched, IsWritten}
-use Rattle.coherence.specs.GivenBack.{IsCopyBack, IsGivenBack, IsStoredIn, Kept, Stored}
+use Rattle.coherence.specs.Caches.{behind_of, cache_at, copies_of}
+use Rattle.coherence.specs.GivenBack.{IsCopyBack, IsGivenBack, IsStoredIn, Kept, Stored, WroteLines, bytes_back, bytes_put, copies_with}
+use Rattle.coherence.specs.Served.{Copies, HasLine, TellsOf}
 use Rattle.coherence.proofs.Fetched.{copy_resident}
-use Rattle.coherence.proofs.GivenBackLaws.{writable_there}
+use Rattle.coherence.proofs.GivenBackLaws.{kept_bytes, tells_after, writable_there}
 use Rattle.coherence.proofs.Owners.{copy_is, letter_is}
 use Rattle.moesi.specs.Letters.{may_write}
 use Rattle.moesi.specs.declared.letter.Letter.TheVariants.{M}
@@ -96,20 +98,15 @@ bytes_by_calls old touched modified line may touch lettered =
     bytes_is modified line _
     (lettered.here ∙ ap (option_map (copy_with_letter M)) (touch.copies line ∙ copy_is old line (writable_there old line may)))
 
--- a section commits: the lines that it wrote, which may be written, got these bytes and then the letter M
-pub record WroteBytes (old mid : Cached) (put : ℕ → List ℕ) : Type 0 where
-  pub may : (l : ℕ) → write_bit mid.residency l ≡ true → may_write (letter_of old.residency l) ≡ true
-  pub written : (l : ℕ) → write_bit mid.residency l ≡ true → copy_in mid l ≡ option_map (copy_with_bytes (put l)) (copy_in old l)
-  pub others : (l : ℕ) → write_bit mid.residency l ≡ false → copy_in mid l ≡ copy_in old l
-
-pub committed_copy : (old mid new : Cached) (put : ℕ → List ℕ) (l : ℕ) → WroteBytes old mid put → IsCommitted mid new →
+-- a section commits: the lines that it wrote get the letter M
+pub committed_copy : (old mid new : Cached) (put : ℕ → List ℕ) (l : ℕ) → WroteLines old mid put → IsCommitted mid new →
     write_bit mid.residency l ≡ true → copy_in new l ≡ Some (record { letter = M; bytes = put l })
 committed_copy old mid new put l wrote commits bit =
     commits.written l bit
     ∙ ap (option_map (copy_with_letter M))
     (wrote.written l bit ∙ ap (option_map (copy_with_bytes (put l))) (copy_is old l (writable_there old l (wrote.may l bit))))
 
-pub committed_back : (old mid new : Cached) (put : ℕ → List ℕ) → WroteBytes old mid put → IsCommitted mid new → IsGivenBack old new
+pub committed_back : (old mid new : Cached) (put : ℕ → List ℕ) → WroteLines old mid put → IsCommitted mid new → IsGivenBack old new
 committed_back old mid new put wrote commits = record { each = λ l. by l (write_bit mid.residency l) refl }
   where
     by : (l : ℕ) (bit : Bool) → write_bit mid.residency l ≡ bit → IsCopyBack (copy_in old l) (copy_in new l)
@@ -117,3 +114,22 @@ committed_back old mid new put wrote commits = record { each = λ l. by l (write
         Stored (record { letter = letter_of old.residency l; bytes = bytes_of old l }) (record { letter = M; bytes = put l })
         (copy_is old l (writable_there old l (wrote.may l is))) (wrote.may l is) (committed_copy old mid new put l wrote commits is) refl
     by l false is = Kept (commits.others l is ∙ wrote.others l is)
+
+-- and these bytes are told of them then
+pub tells_committed : (copies : Copies) (h : ℕ) (mid new : Cached) (bytes put : ℕ → List ℕ) → TellsOf copies bytes →
+    WroteLines (cache_at copies.caches h) mid put → IsCommitted mid new →
+    TellsOf (copies_with copies h new) (bytes_put (write_bit mid.residency) put bytes)
+tells_committed copies h mid new bytes put tells wrote commits =
+    tells_after copies h new bytes (bytes_put (write_bit mid.residency) put bytes) tells
+    (record {
+      given_back = committed_back (cache_at copies.caches h) mid new put wrote commits;
+      exact = λ l there. by l there (write_bit mid.residency l) refl;
+    })
+  where
+    by : (l : ℕ) → HasLine copies l → (bit : Bool) → write_bit mid.residency l ≡ bit →
+        (if bit then put l else bytes l) ≡ bytes_back bytes new l
+    by l there true is = sym (rw (committed_copy (cache_at copies.caches h) mid new put l wrote commits is) refl)
+    by l there false is =
+        sym
+        (kept_bytes (bytes l) (copies_of copies.caches l) (behind_of copies.first copies.lines l) h (copy_in new l) (tells.each l there)
+        (commits.others l is ∙ wrote.others l is))

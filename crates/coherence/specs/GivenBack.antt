@@ -1,8 +1,8 @@
 -- what a caller gives back of a cache that was lent to it, and what caches and main memory tell then
-use Rattle.std.specs.Prelude.{ℕ, ◌≡◌, ◌≢◌, ◌==◌, true, List, Option, Some, if◌then◌else◌, slice_set}
+use Rattle.std.specs.Prelude.{ℕ, ◌≡◌, ◌≢◌, ◌==◌, Bool, true, false, List, Option, Some, option_map, if◌then◌else◌, slice_set}
 use Rattle.std.specs.Option.{option_map_or}
-use Rattle.cache_sets.specs.Cache.{letter_of}
-use Rattle.cache_sets.specs.Cached.{Cached, Copy, copy_in}
+use Rattle.cache_sets.specs.Cache.{letter_of, write_bit}
+use Rattle.cache_sets.specs.Cached.{Cached, Copy, copy_in, copy_with_bytes}
 use Rattle.coherence.specs.Caches.{cache_at}
 use Rattle.coherence.specs.Served.{Copies, HasLine}
 use Rattle.moesi.specs.Letters.{may_write}
@@ -39,3 +39,13 @@ pub record IsStoredIn (old new : Cached) (line : ℕ) (bytes : List ℕ) : Type 
   pub may : may_write (letter_of old.residency line) ≡ true
   pub here : copy_in new line ≡ Some (record { letter = M; bytes = bytes })
   pub others : (l : ℕ) → l ≢ line → copy_in new l ≡ copy_in old l
+
+-- the lines with the write bit, whose copies may be written, got these bytes; each other copy is as it was
+pub record WroteLines (old new : Cached) (bytes : ℕ → List ℕ) : Type 0 where
+  pub may : (l : ℕ) → write_bit new.residency l ≡ true → may_write (letter_of old.residency l) ≡ true
+  pub written : (l : ℕ) → write_bit new.residency l ≡ true → copy_in new l ≡ option_map (copy_with_bytes (bytes l)) (copy_in old l)
+  pub others : (l : ℕ) → write_bit new.residency l ≡ false → copy_in new l ≡ copy_in old l
+
+-- the bytes of each line, with other ones for some lines
+abbrev pub bytes_put : (ℕ → Bool) → (ℕ → List ℕ) → (ℕ → List ℕ) → ℕ → List ℕ
+bytes_put written new bytes line = if written line then new line else bytes line

@@ -66,7 +66,9 @@ pub tells_back : (copies : Copies) (h : ℕ) (cache : Cached) (bytes : ℕ → L
 tells_back copies h cache bytes tells back = record {
   each = λ line there. line_back h line (bytes line) (behind_of copies.first copies.lines line) copies.caches cache (back.each line) (tells.each line there);
   inside = λ g line resident. elim (cases_eq g h) [
-    | inl own ↦ tells.inside h line (mine line (subst (λ k. is_resident (cache_at (slice_set copies.caches h cache) k).residency line ≡ true) own resident))
+    | inl own ↦
+        tells.inside h line
+        (mine line (subst (λ k. is_resident (cache_at (slice_set copies.caches h cache) k).residency line ≡ true) own resident))
     | inr other ↦
         tells.inside g line
         (subst (λ c. is_resident c.residency line ≡ true) (other_new h g copies.caches cache other) resident)
@@ -93,7 +95,9 @@ tells_back copies h cache bytes tells back = record {
 pub tells_same_bytes : (copies : Copies) (bytes told : ℕ → List ℕ) → TellsOf copies bytes →
     ((line : ℕ) → HasLine copies line → told line ≡ bytes line) → TellsOf copies told
 tells_same_bytes copies bytes told tells same = record {
-  each = λ line there. subst (λ b. Coherent b (copies_of copies.caches line) (behind_of copies.first copies.lines line)) (sym (same line there)) (tells.each line there);
+  each = λ line there.
+      subst (λ b. Coherent b (copies_of copies.caches line) (behind_of copies.first copies.lines line)) (sym (same line there))
+      (tells.each line there);
   inside = tells.inside;
 }
 

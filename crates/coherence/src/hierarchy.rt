@@ -72,7 +72,8 @@ impl Hierarchy {
 
     /// The cache of a hart, to be changed. What is left there is the hart's cache from then on; main memory
     /// and the other caches are as they were. Later calls need caches and main memory that tell one thing
-    /// of each line, so what may be done to a copy is the caller's concern.
+    /// of each line: they do where each copy is as it was, or was one that may be written and is modified
+    /// (`IsGivenBack` in `specs/GivenBack.antt`).
     #[tactic(auto, using(crate::proofs::Fetched::indexed))]
     pub fn cache_mut(&mut self, hart: HartId) -> &mut Sets
         requires { hart.number < length (shown self.old).caches }

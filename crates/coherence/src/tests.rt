@@ -79,7 +79,8 @@ fn write(bytes: &mut [u8; 64], at: u8, byte: u8)
 /// modified.
 fn put(hierarchy: &mut Hierarchy, hart: HartId, line: LineAddr, at: u8, byte: u8)
     requires hart_exists { hart.number < length (shown hierarchy.old).caches }
-    requires may { may_write (letter_of (cache_at (shown hierarchy.old).caches hart.number).residency line.number) ≡ true }
+    requires may { may_write
+        (letter_of (cache_at (shown hierarchy.old).caches hart.number).residency line.number) ≡ true }
     requires within { at < 64 }
     ensures tells { (bytes : ℕ → List ℕ) → TellsOf (shown hierarchy.old) bytes →
         TellsOf (shown hierarchy.new) (bytes_with bytes line.number (slice_set (bytes line.number) at byte)) }
@@ -96,7 +97,8 @@ fn put(hierarchy: &mut Hierarchy, hart: HartId, line: LineAddr, at: u8, byte: u8
 /// Stores a byte at an address of a line that the hart may write, and tells which byte is there then.
 fn store(hierarchy: &mut Hierarchy, hart: HartId, address: u32, byte: u8) -> Option<u8>
     requires hart_exists { hart.number < length (shown hierarchy.old).caches }
-    requires may { may_write (letter_of (cache_at (shown hierarchy.old).caches hart.number).residency (line_number address)) ≡ true }
+    requires may { may_write
+        (letter_of (cache_at (shown hierarchy.old).caches hart.number).residency (line_number address)) ≡ true }
     requires coherent { IsCoherent (shown hierarchy.old) }
     ensures there { result ≡ Some byte }
     ensures coherent { IsCoherent (shown hierarchy.new) }

@@ -5,5 +5,5 @@ use Rattle.coherence.proofs.hierarchy.Hierarchy.mark.Goals as goal
 pub returns : goal.returns
 returns c =
     let self = c.args.self.now in
-    changed_at (GetsBit c.args.line.number c.args.need) c.args.hart.number self.first self.lines.items self.caches.items c.mark.new.caches.items c.requires.hart_exists c.mark.ensures
-    c.mark.ensures.becomes.copies
+    changed_at (GetsBit c.args.line.number c.args.need) c.args.hart.number self.first self.lines.items self.caches.items
+    c.mark.new.caches.items c.requires.hart_exists c.mark.ensures c.mark.ensures.becomes.copies

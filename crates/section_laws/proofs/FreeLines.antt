@@ -21,7 +21,7 @@ abbrev pub NotWritten : Option Way → Type 0
 NotWritten None = Unit {0}
 NotWritten (Some way) = way.write ≡ false
 
-first_not : (a b : Bool) → (a || b) ≡ false → a ≡ false
+pub first_not : (a b : Bool) → (a || b) ≡ false → a ≡ false
 first_not true b is = is
 first_not false b is = refl
 
@@ -105,13 +105,27 @@ head_is state h request (Some head) once is found own =
     mine true none = refl
     mine false none = absurd (cc)
 
-not_met : (other live meets : Bool) → ((other && live) && meets) ≡ false → other ≡ true → live ≡ true → meets ≡ false
+pub not_met : (other live meets : Bool) → ((other && live) && meets) ≡ false → other ≡ true → live ≡ true → meets ≡ false
 not_met true true meets none is lives = none
 not_met false live meets none is lives = absurd (cc)
 not_met true false meets none is lives = absurd (cc)
 
 from_none : (g : ℕ) → g ≡ 0 + g
 from_none g = omega arith
+
+-- another hart's section does not meet it
+pub unmet : (state : ModelState) (h g : ℕ) (request : Request) (section : Section) → IsOneEach state.order → ordered_of state h ≡ Some request →
+    obstacle_to state request ≡ Free → g ≢ request.hart → section_of state g ≡ Some section →
+    meets_bit (hart_of state g) request.line request.need ≡ false
+unmet state h g request section once is free apart live =
+    let own = not_blocked _ (other_head request.hart (head_of state request.line)) _ free in
+    let head = head_is state h request (head_of state request.line) once is refl own in
+    let retained : retainer_of state request.line ≡ None = not_blocked _ (retainer_of state request.line) _ (blocked_else _ _ _ free) in
+    let kept = none_such (λ k. retains state k request.line) 0 g g state.harts retained (live_exists state g section live) (from_none g) in
+    let apart_test = ap not (other_test request.hart g (λ same. apart (sym same))) in
+    let unmet = sym (ap (λ found. conflicts_with found g (hart_of state g)) head) ∙ kept in
+    not_met (not (request.hart == g)) (is_some (section_of state g)) (meets_bit (hart_of state g) request.line request.need) unmet apart_test
+    (ap is_some live)
 
 pub free_line : (state : ModelState) (h g : ℕ) (request : Request) → IsOneEach state.order →
     ((k : ℕ) → HasBitsOnlyInside (section_of state k) (cache_of state k)) → ordered_of state h ≡ Some request →
@@ -121,12 +135,5 @@ free_line state h g request once outside is free apart read = by_section (sectio
     by_section : (section : Option Section) → section_of state g ≡ section → NotWritten (way_of (cache_of state g) request.line)
     by_section None none = unmarked_way (cache_of state g) request.line (outside g none)
     by_section (Some section) live =
-        let own = not_blocked _ (other_head request.hart (head_of state request.line)) _ free in
-        let head = head_is state h request (head_of state request.line) once is refl own in
-        let retained : retainer_of state request.line ≡ None = not_blocked _ (retainer_of state request.line) _ (blocked_else _ _ _ free) in
-        let kept = none_such (λ k. retains state k request.line) 0 g g state.harts retained (live_exists state g section live) (from_none g) in
-        let apart_test = ap not (other_test request.hart g (λ same. apart (sym same))) in
-        let unmet = sym (ap (λ found. conflicts_with found g (hart_of state g)) head) ∙ kept in
-        let bit = not_met (not (request.hart == g)) (is_some (section_of state g)) (meets_bit (hart_of state g) request.line request.need) unmet apart_test
-        (ap is_some live) in
+        let bit = unmet state h g request section once is free apart live in
         unwritten_way (way_of (cache_of state g) request.line) (sym (ap (meets_bit (hart_of state g) request.line) read) ∙ bit)

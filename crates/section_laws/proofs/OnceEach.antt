@@ -102,7 +102,7 @@ once_left set None once = once
 once_left set (Some gone) once = once_dropped set gone.line once
 
 -- a cache
-once_at : (cache : List (List Way)) (place : ℕ) → AreOnce cache → IsOnce (slice_index_or cache place [])
+pub once_at : (cache : List (List Way)) (place : ℕ) → AreOnce cache → IsOnce (slice_index_or cache place [])
 once_at [] place once = tt
 once_at (set ∷ sets) zero (here, others) = here
 once_at (set ∷ sets) (suc place) (here, others) = once_at sets place others

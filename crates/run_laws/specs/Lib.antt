@@ -1,0 +1,2 @@
+pub mod PrivateRun
+pub mod Laws

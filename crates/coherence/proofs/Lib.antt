@@ -6,4 +6,8 @@ pub mod FetchLaws
 pub mod Fetched
 pub mod KeptLaws
 pub mod ServedLaws
+pub mod ChangedLaws
+pub mod RoomLaws
+pub mod GivenBackLaws
+pub mod LoanSteps
 pub mod AtFirst

@@ -4,3 +4,6 @@ pub mod Served
 pub mod Writing
 pub mod Kept
 pub mod Beginning
+pub mod Changed
+pub mod Lending
+pub mod GivenBack

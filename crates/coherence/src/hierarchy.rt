@@ -2,17 +2,20 @@
 
 ghost use Rattle.std.specs.Prelude.{◌≡◌, ◌<◌, ◌*◌, ◌%◌, ◌↔◌, ℕ, List, IfOk, IfSome, IsNone, true, length, replicate, slice_index};
 ghost use Rattle.std.specs.Bool.{MatchBool};
+ghost use Rattle.std.specs.Borrow.{sem};
 ghost use Rattle.cache_sets.specs.Cache.{is_resident};
 ghost use Rattle.cache_sets.specs.Cached.{empty_cached};
+ghost use Rattle.cache_sets.specs.Calls.{IsCleared};
 ghost use Rattle.coherence.specs.Beginning.{bytes_at_first};
 ghost use Rattle.coherence.specs.Caches.{behind_of, cache_at};
-ghost use Rattle.coherence.specs.Kept.{IsTouchedAt};
+ghost use Rattle.coherence.specs.Changed.{GetsBit, IsChangedAt};
 ghost use Rattle.coherence.specs.Served.{HasLine, IsCoherent, IsServed, Moves, TellsOf, has_room, shown};
 ghost use Rattle.el_base.specs.Config.{IsInRange};
 ghost use Rattle.el_base.specs.Line.{line_number};
 ghost use Rattle.el_base.specs.declared.line.TheConstants.{LINE_BYTES};
 
 use crate::beginning::{empty_caches, lines_of};
+use crate::changing;
 use crate::fetching::fetch;
 use crate::found::current;
 use crate::keeping::keep;
@@ -31,6 +34,8 @@ pub struct Hierarchy {
 }
 
 impl Hierarchy {
+    ghost use Rattle.coherence.specs.Lending.{LendsCache};
+
     /// Main memory as the image has it, and for each of the image's harts a cache without lines. It
     /// takes all memory of both.
     pub fn make(alloc: Global, image: &Image, config: &Config) -> Result<Hierarchy, NoMemory>
@@ -63,6 +68,19 @@ impl Hierarchy {
         ensures { result.now ≡ cache_at (shown self.now).caches hart.number }
     {
         &self.caches[usize::from(hart.number)]
+    }
+
+    /// The cache of a hart, to be changed. What is left there is the hart's cache from then on; main memory
+    /// and the other caches are as they were. Later calls need caches and main memory that tell one thing
+    /// of each line: they do where each copy is as it was, or was one that may be written and is modified
+    /// (`IsGivenBack` in `specs/GivenBack.antt`).
+    #[tactic(auto, using(crate::proofs::Fetched::indexed))]
+    pub fn cache_mut(&mut self, hart: HartId) -> &mut Sets
+        requires { hart.number < length (shown self.old).caches }
+        ensures* lends { sem 𝓛 (LendsCache self.entry hart.number result) }
+        ensures value { result.now ≡ cache_at (shown self.old).caches hart.number }
+    {
+        &mut self.caches[hart.number as usize]
     }
 
     /// The byte at an address that caches and main memory tell, or none outside memory.
@@ -115,7 +133,25 @@ impl Hierarchy {
         ensures coherent { IsCoherent (shown self.new) }
     {
         self.bring(hart, line, need);
-        touch(&mut self.caches, hart, line);
+        changing::touch(&mut self.caches, hart, line);
+    }
+
+    /// A line of a hart's cache gets the bit of a need: the hart's section has done that to it. No copy
+    /// changes.
+    pub fn mark(&mut self, hart: HartId, line: LineAddr, need: Need)
+        requires hart_exists { hart.number < length (shown self.old).caches }
+        requires resident { is_resident (cache_at (shown self.old).caches hart.number).residency line.number ≡ true }
+        ensures { IsChangedAt (GetsBit line.number need) hart.number (shown self.old) (shown self.new) }
+    {
+        changing::mark(&mut self.caches, hart, line, need);
+    }
+
+    /// No line of a hart's cache has a bit any more. No copy changes.
+    pub fn clear(&mut self, hart: HartId)
+        requires { hart.number < length (shown self.old).caches }
+        ensures { IsChangedAt IsCleared hart.number (shown self.old) (shown self.new) }
+    {
+        changing::clear(&mut self.caches, hart);
     }
 
     /// The hart's copy and the others' are as after the request, but for the order of its lines.
@@ -147,14 +183,4 @@ impl Hierarchy {
     {
         self.caches[usize::from(hart.number)].letter(line) != Letter::I
     }
-}
-
-/// A line of a hart's cache becomes the most recent one of its set.
-fn touch(caches: &mut Vec<Sets>, hart: HartId, line: LineAddr)
-    requires hart_exists { hart.number < length caches.old.items }
-    requires resident { is_resident (cache_at caches.old.items hart.number).residency line.number ≡ true }
-    ensures { IsTouchedAt hart.number line.number caches.old.items caches.new.items }
-{
-    let cache = &mut caches[usize::from(hart.number)];
-    cache.touch(line);
 }

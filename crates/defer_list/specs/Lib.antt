@@ -1,1 +1,2 @@
 pub mod HartSet
+pub mod Kept

@@ -1,5 +1,5 @@
-ghost use Rattle.std.specs.Prelude.{◌≡◌, [], not, ◌==◌};
-ghost use Rattle.std.specs.List.{position};
+ghost use Rattle.std.specs.Prelude.{◌≡◌, ◌<◌, ◌∷◌, [], filter, length, not, ◌==◌};
+ghost use Rattle.std.specs.List.{list_any};
 
 use arrayvec::ArrayVec;
 use el_base::HartId;
@@ -31,13 +31,14 @@ pub struct Told {
 
 impl Model for Told {
     ghost use Rattle.std.specs.Prelude.{ℕ, List};
-    ghost use Rattle.defer_list.specs.HartSet.{IsOnceEach, numbers};
+    ghost use Rattle.defer_list.specs.HartSet.{numbers};
+    ghost use Rattle.defer_list.specs.Kept.{IsKept};
 
     ghost Value = { List ℕ };
 
     ghost view = { λ told. numbers told.origins.items };
 
-    ghost invariant = { λ told. IsOnceEach (numbers told.origins.items) };
+    ghost invariant = { λ told. IsKept told.origins.items };
 }
 
 impl Told {
@@ -53,40 +54,54 @@ impl Told {
     }
 
     /// Adds an origin, and answers whether it was not in the set before.
-    #[tactic(auto, using(crate::proofs::OnceEach::added_included, crate::proofs::OnceEach::known_included))]
+    #[tactic(auto, using(crate::proofs::OnceEach::adding))]
     pub fn add(&mut self, origin: HartId) -> bool
         ensures origins { self.new ≡ included self.old origin.number }
         ensures was_new { result ≡ not (has self.old origin.number) }
     {
-        let is_new = !self.told(origin);
+        let is_new = !is_among(&self.origins, origin);
         if is_new {
-            self.origins.insert(0, Origin { hart: origin });
+            put_in_front(&mut self.origins, origin);
         }
         is_new
     }
 
     /// Whether an origin is in the set.
+    #[tactic(auto, using(crate::proofs::OnceEach::has_any))]
     pub fn told(&self, origin: HartId) -> bool
         ensures { result ≡ has self.now origin.number }
     {
-        place_of(&self.origins, origin).is_some()
+        is_among(&self.origins, origin)
     }
 
     /// Takes an origin out of the set, if it is there.
-    #[tactic(auto, using(crate::proofs::OnceEach::taken_excluded))]
     pub fn purge(&mut self, origin: HartId)
         ensures { self.new ≡ excluded self.old origin.number }
     {
-        if let Some(place) = place_of(&self.origins, origin) {
-            self.origins.remove(place);
-        }
+        take_out(&mut self.origins, origin);
     }
 }
 
-fn place_of(origins: &[Origin], origin: HartId) -> Option<usize>
-    ensures { result ≡ position (λ other. other.hart.number == origin.number) origins.now }
+/// Whether an origin is among these.
+fn is_among(origins: &ArrayVec<Origin, PLACES>, origin: HartId) -> bool
+    ensures { result ≡ list_any (λ other. other.hart.number == origin.number) origins.now.items }
 {
     origins
         .iter()
-        .position(|other| other.hart.number == origin.number)
+        .any(|other| other.hart.number == origin.number)
+}
+
+/// Puts an origin before these.
+fn put_in_front(origins: &mut ArrayVec<Origin, PLACES>, origin: HartId)
+    requires { length origins.old.items < 8 }
+    ensures { origins.new.items ≡ record { hart = origin } ∷ origins.old.items }
+{
+    origins.insert(0, Origin { hart: origin });
+}
+
+/// Takes an origin out, and leaves the others in their order.
+fn take_out(origins: &mut ArrayVec<Origin, PLACES>, origin: HartId)
+    ensures { origins.new.items ≡ filter (λ other. not (other.hart.number == origin.number)) origins.old.items }
+{
+    origins.retain(|other| other.hart.number != origin.number);
 }

@@ -1,4 +1,4 @@
-ghost use Rattle.std.specs.Prelude.{◌≡◌, ◌<◌, ◌≤◌, All, length};
+ghost use Rattle.std.specs.Prelude.{◌≡◌, ◌<◌, ◌≤◌, ◌∷◌, [], All, length};
 ghost use Rattle.machine.specs.Story.{continued, left_of};
 
 use el_base::Event;
@@ -12,6 +12,15 @@ pub fn follow(machine: &mut Machine, events: &[Event])
     ensures { machine.new ≡ continued machine.old events.now }
 {
     for event in events {
-        machine.step(*event);
+        make(machine, *event);
     }
+}
+
+/// Makes one event.
+fn make(machine: &mut Machine, event: Event)
+    requires hart_exists { event.hart.number < machine.old.config.harts }
+    requires step_left { 1 ≤ left_of machine.old }
+    ensures { machine.new ≡ continued machine.old (event ∷ []) }
+{
+    machine.step(event);
 }

@@ -1,15 +1,17 @@
--- The definitions, computed on a file of 122 bytes and on changes of it. The file has one segment, which
--- is the whole file and begins at 0x10000; it prints 'A' and a newline.
+-- The definitions, computed on a file of 122 bytes and on changes of it, and the code's limits beside them. The
+-- file has one segment, which is the whole file and begins at 0x10000; it prints 'A' and a newline.
 use Rattle.std.proofs.Common.{◌≡◌, ℕ, ◌+◌, List, [], ◌∷◌, ◌++◌, take, drop, length, map, Option, Some, None, refl}
 use Rattle.std.specs.Prelude.{flat_map}
 use Rattle.byteorder.specs.Endian.{big_bytes}
 use Rattle.el_base.specs.declared.file_fault.FileFault.{FileFault}
+use Rattle.elf_image.specs.declared.limits.TheConstants as code
 use Rattle.elf_image.specs.declared.program_header.ProgramHeader.{ProgramHeader}
 use Rattle.elf_image.specs.declared.fault.FaultKind.TheVariants.{Short, Magic, Class, ByteOrder, Version, FileKind, Machine, Flags, Table, Dynamic, Segment, TooHigh, Entry, Empty}
 use Rattle.elf_image.specs.Header.{file_header, program_header, headers_at, program_headers}
 use Rattle.elf_image.specs.Layout.{segments_of, first_overlap, memory_base, memory_end}
 use Rattle.elf_image.specs.FaultKinds.{fault_of}
 use Rattle.elf_image.specs.Faults.{fault, ident_fault, header_fault, headers_fault, memory_fault}
+use Rattle.elf_image.specs.Limits.{built_end_limit, built_limit, end_limit, file_limit, header_limit, memory_limit, page_size, stack_size}
 use Rattle.elf_image.specs.Loaded.{loaded_byte}
 
 -- the file, in groups of four bytes as they stand
@@ -123,3 +125,12 @@ behind_the_last_byte = refl
 not_filled : loaded_byte (changed 68 (0x79 ∷ []) file) (segments_of (changed 68 (0x79 ∷ []) file)) 0x10079 ≡ 0
 unfolding loaded_byte program_header headers_at program_headers segments_of file_header
 not_filled = refl
+
+-- the limits that the crates above take from the code are those of the definitions
+abbrev in_code : List ℕ
+in_code =
+    code.IMAGE_FILE_LIMIT ∷ code.PROGRAM_HEADER_LIMIT ∷ code.STACK_BYTES ∷ code.MEMORY_LIMIT ∷ code.MEMORY_END_LIMIT
+    ∷ code.PAGE_BYTES ∷ code.BUILT_LIMIT ∷ code.BUILT_END_LIMIT ∷ []
+
+limits_in_code : in_code ≡ file_limit ∷ header_limit ∷ stack_size ∷ memory_limit ∷ end_limit ∷ page_size ∷ built_limit ∷ built_end_limit ∷ []
+limits_in_code = refl

@@ -46,7 +46,7 @@ pub enum FaultKind {
 
 impl FaultKind {
     /// All kinds, in the order of their numbers.
-    pub const ALL: [FaultKind; 16] = [
+    const ALL: [FaultKind; 16] = [
         FaultKind::Short,
         FaultKind::Magic,
         FaultKind::Class,

@@ -112,6 +112,24 @@ fn each_number_has_its_name(rt: HostRuntime) {
     }
 }
 
+/// The text of an error.
+#[test]
+fn an_error_says_the_number_and_the_place(rt: HostRuntime) -> Result<(), Fail> {
+    for (fault, text) in [
+        (
+            ImageFault::Bad {
+                number: 13,
+                place: 28,
+            },
+            "image fault 13 at byte 28",
+        ),
+        (ImageFault::NoMemory, "no memory for the image"),
+    ] {
+        assert_eq!(rt; format!(in rt.alloc(); "{fault}")?.as_str(), text);
+    }
+    Ok(())
+}
+
 #[test]
 fn cut_files_are_refused(rt: HostRuntime) -> Result<(), Fail> {
     for len in 0..FILE.len() {

@@ -39,7 +39,7 @@ module _ (box new : Buffer messages.Message) (message : messages.Message) where
       → IsBox box → has_message (map numbered box.items) (numbered message) ≡ false → new.items ≡ box.items ++ message ∷ []
   pushed_items pushed is none = ap (λ b. b.items) pushed ∙ nothing_lost is none
 
-  pub pushed_box : new ≡ buffer (keep_last box.capacity (box.items ++ message ∷ [])) box.capacity
+  pushed_box : new ≡ buffer (keep_last box.capacity (box.items ++ message ∷ [])) box.capacity
       → IsBox box → has_message (map numbered box.items) (numbered message) ≡ false → IsBox new
   pushed_box pushed is none =
       let as_numbers = ap (map numbered) (pushed_items pushed is none) ∙ sym (append_of_map numbered box.items (message ∷ [])) in
@@ -48,6 +48,12 @@ module _ (box new : Buffer messages.Message) (message : messages.Message) where
         places = ap (λ b. b.capacity) pushed ∙ is.places;
         once = subst P (sym as_numbers) (once_each_behind (map numbered box.items) (numbered message) is.once none);
       }
+
+  -- where none of the messages was the same
+  pub pushed_unless : (there : Bool) → new ≡ buffer (keep_last box.capacity (box.items ++ message ∷ [])) box.capacity
+      → IsBox box → there ≡ list_any (λ other. same_message (numbered other) (numbered message)) box.items → not there ≡ true → IsBox new
+  pushed_unless true pushed is asked none = absurd cc
+  pushed_unless false pushed is asked none = pushed_box pushed is (has_any box.items message ∙ sym asked)
 
   pub post_new : new ≡ buffer (keep_last box.capacity (box.items ++ message ∷ [])) box.capacity
       → IsBox box → has_message (map numbered box.items) (numbered message) ≡ false

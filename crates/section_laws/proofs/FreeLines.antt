@@ -21,7 +21,7 @@ abbrev pub NotWritten : Option Way → Type 0
 NotWritten None = Unit {0}
 NotWritten (Some way) = way.write ≡ false
 
-first_not : (a b : Bool) → (a || b) ≡ false → a ≡ false
+pub first_not : (a b : Bool) → (a || b) ≡ false → a ≡ false
 first_not true b is = is
 first_not false b is = refl
 
@@ -105,7 +105,7 @@ head_is state h request (Some head) once is found own =
     mine true none = refl
     mine false none = absurd (cc)
 
-not_met : (other live meets : Bool) → ((other && live) && meets) ≡ false → other ≡ true → live ≡ true → meets ≡ false
+pub not_met : (other live meets : Bool) → ((other && live) && meets) ≡ false → other ≡ true → live ≡ true → meets ≡ false
 not_met true true meets none is lives = none
 not_met false live meets none is lives = absurd (cc)
 not_met true false meets none is lives = absurd (cc)

@@ -16,7 +16,7 @@ use Rattle.el_model.specs.Next.{outcomes_from, state_after}
 use Rattle.el_model.specs.State.{ModelState, hart_of}
 use Rattle.mail.specs.Mailbox.{Marker}
 
-abbrev first : ModelState
+abbrev pub first : ModelState
 first =
     machine_of (settings 4 Tlr 16 4 16 2000) 128 (
     record { words = swap 7 5 10 ∷ store_word 6 11 ∷ store_word 0 10 ∷ []; registers = usual } ∷
@@ -24,7 +24,7 @@ first =
     record { words = swap 7 5 10 ∷ store_word 6 11 ∷ store_word 0 10 ∷ []; registers = usual } ∷
     record { words = swap 7 5 10 ∷ store_word 6 11 ∷ store_word 0 10 ∷ []; registers = usual } ∷ [])
 
-abbrev events : List Event
+abbrev pub events : List Event
 events =
     event Step 0 ∷ event Order 0 ∷ event Serve 0 ∷ event Step 0 ∷ event Step 1 ∷ event Order 1 ∷ event Serve 1 ∷
     event Step 1 ∷ event Step 2 ∷ event Order 2 ∷ event Serve 2 ∷ event Step 2 ∷ event Step 3 ∷ event Order 3 ∷
@@ -50,7 +50,7 @@ unfolding computing
 outcomes = refl
 
 -- who is sent markers as the requests are ordered
-abbrev ordering : List Event
+abbrev pub ordering : List Event
 ordering =
     event Step 0 ∷ event Order 0 ∷ event Serve 0 ∷ event Step 0 ∷ event Step 1 ∷ event Order 1 ∷ event Serve 1 ∷
     event Step 1 ∷ event Step 2 ∷ event Order 2 ∷ event Serve 2 ∷ event Step 2 ∷ event Step 3 ∷ event Order 3 ∷

@@ -1,13 +1,9 @@
-use Rattle.std.proofs.Common.{sym, ◌∙◌}
-use Rattle.defer_list.proofs.OnceEach.{taken_once, nothing_excluded}
+use Rattle.std.proofs.Common.{rules}
+use Rattle.defer_list.proofs.OnceEach.{others_excluded, others_kept}
 use Rattle.defer_list.proofs.told.Told.purge.Goals as goal
 
 pub invariant_of-self : goal.invariant_of-self
-invariant_of-self c =
-    let found = rw c.deref.ensures.0 at (sym c.place_of.ensures ∙ c.in-Some.is) in
-    rw c.remove.ensures.items (taken_once c.self.inside.origins.items c.args.origin.number c.in-Some.place c.self.invariant found)
+invariant_of-self c = search (rules, others_kept c.self.inside.origins.items c.args.origin.number)
 
-pub returns-in_default : goal.returns-in_default
-returns-in_default c =
-    let none = rw c.deref.ensures.0 at (sym c.place_of.ensures ∙ c.in_default.is) in
-    rw (← c.self.view_is) (nothing_excluded c.self.inside.origins.items c.args.origin.number none)
+pub returns : goal.returns
+returns c = search (rules, others_excluded c.self.inside.origins.items c.args.origin.number)

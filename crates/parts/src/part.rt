@@ -1,0 +1,70 @@
+//! The parts whose calls are made.
+
+/// An instruction of a hart.
+#[derive(Clone, Copy, Debug, PartialEq, Eq)]
+pub enum Insn {
+    /// `addi x7, x7, 3`
+    Add,
+    /// `lw x7, -64(x2)`
+    Load,
+    /// `sw x7, -64(x2)`
+    Store,
+}
+
+/// What is called.
+#[derive(Clone, Copy, Debug, PartialEq, Eq)]
+pub enum Part {
+    /// Whether a cache has a line.
+    Has,
+    /// The letter of a line that a cache has.
+    Letter,
+    /// `Has`, and then a touch of the line, which is the least recent one of its set.
+    Touch,
+    /// Whether a cache has a line, and whether there is room for one that it has not.
+    Room,
+    /// `Room`, and then a fill of the line, for which another leaves.
+    Fill,
+    /// A step on plain shared memory.
+    Flat(Insn),
+    /// The same instruction over a port: the word at the pc, and the instruction.
+    Port(Insn),
+}
+
+impl Part {
+    /// All parts.
+    pub const ALL: [Part; 11] = [
+        Part::Has,
+        Part::Letter,
+        Part::Touch,
+        Part::Room,
+        Part::Fill,
+        Part::Flat(Insn::Add),
+        Part::Port(Insn::Add),
+        Part::Flat(Insn::Load),
+        Part::Port(Insn::Load),
+        Part::Flat(Insn::Store),
+        Part::Port(Insn::Store),
+    ];
+
+    /// The word for a part.
+    pub fn name(self) -> &'static str {
+        match self {
+            Part::Has => "has",
+            Part::Letter => "letter",
+            Part::Touch => "touch",
+            Part::Room => "room",
+            Part::Fill => "fill",
+            Part::Flat(Insn::Add) => "flat-addi",
+            Part::Port(Insn::Add) => "port-addi",
+            Part::Flat(Insn::Load) => "flat-lw",
+            Part::Port(Insn::Load) => "port-lw",
+            Part::Flat(Insn::Store) => "flat-sw",
+            Part::Port(Insn::Store) => "port-sw",
+        }
+    }
+
+    /// The part of a word, or none.
+    pub fn with_name(name: &str) -> Option<Part> {
+        Part::ALL.iter().find(|part| part.name() == name).copied()
+    }
+}

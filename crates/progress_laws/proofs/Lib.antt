@@ -1,0 +1,13 @@
+pub mod Cases
+pub mod Ready
+pub mod GettingOn
+pub mod Fewer
+pub mod Faced
+pub mod NewBits
+pub mod Over
+pub mod Worked
+pub mod AllWait
+pub mod WithoutStamps
+pub mod LeastStamp
+pub mod LockRemoval
+pub mod EveryMode

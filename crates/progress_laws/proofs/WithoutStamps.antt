@@ -1,0 +1,101 @@
+-- in the modes without stamps no section retains a line, so no state is stuck
+use Rattle.std.proofs.Common.{◌≡◌, ◌∙◌, ◌↔◌, ℕ, ◌≤◌, false, true, List, [], None, length, refl, ap, inl, inr, ◌⊎◌}
+use Rattle.el_base.specs.declared.config.Config.{Config}
+use Rattle.el_base.specs.declared.events.Event.{Event}
+use Rattle.el_base.specs.declared.events.Kind.{Kind}
+use Rattle.el_base.specs.declared.events.Kind.TheVariants as kinds
+use Rattle.elf_image.specs.Program.{Program}
+use Rattle.el_model.specs.Deliver.{deliver_turn}
+use Rattle.el_model.specs.Next.{after, is_over, kind_turn, next}
+use Rattle.el_model.specs.Order.{order_turn}
+use Rattle.el_model.specs.Quiet.{IsSilent, has_stamps}
+use Rattle.el_model.specs.Serve.{serve_turn}
+use Rattle.el_model.specs.State.{ModelState, begin, ordered_of, raised_of}
+use Rattle.el_model.proofs.AllHarts.{All}
+use Rattle.el_model.proofs.FromStart.{kept_after, next_config, stampless_silent}
+use Rattle.el_model.proofs.Silent.{next_silent}
+use Rattle.progress_laws.proofs.Faced.{NoneRetains, ordered_unretained, raised_unretained}
+use Rattle.progress_laws.proofs.AllWait.{OnlyWaits, gets_on_or_waits}
+use Rattle.progress_laws.proofs.GettingOn.{GetsOn, Orderly, always_orderly, line_gets_on}
+use Rattle.progress_laws.proofs.NewBits.{step_unretained}
+use Rattle.progress_laws.proofs.Over.{not_stuck}
+use Rattle.progress_laws.specs.Laws.{NoSectionRetainsWithoutStamps}
+use Rattle.progress_laws.specs.Ready.{ready_event}
+use Rattle.rv_alu.specs.declared.view.HartStatus.TheVariants.{Running}
+use Rattle.rv_flat.specs.FlatState.{status_of}
+use Rattle.section_laws.proofs.EachHart.{Each}
+use Rattle.section_laws.proofs.EachKept.{first_each, next_keeps}
+use Rattle.section_laws.proofs.Numbered.{Once, first_once, next_once}
+use Rattle.section_laws.proofs.OnlyInside as only_inside
+use Rattle.section_laws.proofs.OnlyInside.{Holds}
+
+-- what holds in these modes
+record Stampless (state : ModelState) : Type 0 where
+  mode : has_stamps state.config.mode ≡ false
+  silent : All IsSilent state
+  once : Once state
+  outside : Each (λ h hart. Holds hart) state
+  unretained : NoneRetains state
+
+kind_unretained : (state : ModelState) (h : ℕ) (kind : Kind) → Stampless state → NoneRetains (kind_turn state h kind).state
+unfolding order_turn serve_turn deliver_turn
+kind_unretained state h kinds.Step now = step_unretained state h now.outside now.unretained
+kind_unretained state h kinds.Order now = raised_unretained state (raised_of state h) now.mode now.unretained
+kind_unretained state h kinds.Serve now = ordered_unretained state h (ordered_of state h) refl now.mode now.once.once now.unretained
+kind_unretained state h kinds.Deliver now = rw (now.silent h).mail now.unretained
+
+next_unretained : (state : ModelState) (event : Event) → Stampless state → NoneRetains (next state event).state
+unfolding next
+next_unretained state event now = kind_unretained state event.hart.number event.kind now
+
+next_stampless : (state : ModelState) (event : Event) → Stampless state → Stampless (next state event).state
+next_stampless state event now = record {
+  mode = ap (λ config. has_stamps config.mode) (next_config state event) ∙ now.mode;
+  silent = next_silent state event now.mode now.silent;
+  once = next_once state event now.once;
+  outside = next_keeps only_inside.kept state event now.outside;
+  unretained = next_unretained state event now;
+}
+
+begin_mode : (program : Program) (config : Config) → has_stamps config.mode ≡ false → has_stamps (begin program config).config.mode ≡ false
+unfolding begin
+begin_mode program config stampless = stampless
+
+first_unretained : (program : Program) (config : Config) → NoneRetains (begin program config)
+unfolding begin
+first_unretained program config h line = refl
+
+always_stampless : (program : Program) (config : Config) (events : List Event) → has_stamps config.mode ≡ false →
+    Stampless (after program config events)
+always_stampless program config events mode =
+    kept_after Stampless next_stampless (begin program config) events
+    (record {
+      mode = begin_mode program config mode;
+      silent = stampless_silent program config [] mode;
+      once = first_once program config;
+      outside = first_each only_inside.kept program config;
+      unretained = first_unretained program config;
+    })
+
+pub no_section_retains : NoSectionRetainsWithoutStamps
+no_section_retains program config events mode = (always_stampless program config events mode).unretained
+
+-- so a hart that runs is enough to get on
+hart_gets_on : (state : ModelState) → Orderly state → NoneRetains state → (h : ℕ) → status_of state.committed h ≡ Running → GetsOn state
+hart_gets_on state orderly none h running = by (gets_on_or_waits state orderly)
+  where
+    by : GetsOn state ⊎ ((k : ℕ) → OnlyWaits state k) → GetsOn state
+    by (inl on) = on
+    by (inr waits) =
+        let found = (waits h).waits running in
+        line_gets_on state h found.0 orderly found.1 (λ g. none g found.0.line)
+
+-- and where all have stopped no message is left
+pub stampless_not_stuck : (program : Program) (config : Config) (events : List Event) → has_stamps config.mode ≡ false →
+    length (after program config events).harts ≤ 8 →
+    (ready_event (after program config events) ≡ None) ↔ (is_over (after program config events) ≡ true)
+stampless_not_stuck program config events mode few =
+    let state = after program config events in
+    let now = always_stampless program config events mode in
+    not_stuck state (always_orderly program config events) few
+    (hart_gets_on state (always_orderly program config events) now.unretained) (λ over h. (now.silent h).mail)

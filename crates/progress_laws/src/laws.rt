@@ -1,0 +1,29 @@
+ghost use Rattle.progress_laws.specs.Laws.{
+  NoSectionRetainsWithoutStamps,
+  NoStateIsStuck,
+  NoneIsReadyWhereNoneGetsOn,
+  ReadyEventGetsOn,
+};
+
+/// The ready event of a state is progress.
+#[tactic(auto, using(crate::proofs::Ready::ready_event_gets_on))]
+pub fn ready_event_gets_on()
+    ensures { ReadyEventGetsOn }
+{}
+
+/// With at most eight harts there is no ready event exactly where no event of these harts is progress.
+pub fn none_is_ready_where_none_gets_on()
+    ensures { NoneIsReadyWhereNoneGetsOn }
+{}
+
+/// In every state that can be reached in the plain mode or in lock elision, no section retains a line.
+#[tactic(auto, using(crate::proofs::WithoutStamps::no_section_retains))]
+pub fn no_section_retains_without_stamps()
+    ensures { NoSectionRetainsWithoutStamps }
+{}
+
+/// In every mode, from a program with as many harts as its configuration has, where that is in range, in every state
+/// that can be reached there is a ready event exactly where a hart runs.
+pub fn no_state_is_stuck()
+    ensures { NoStateIsStuck }
+{}

@@ -17,7 +17,7 @@ use Rattle.el_model.specs.State.{Hart, ModelState, Section, begin, hart_of, new_
 use Rattle.el_model.specs.Upcoming.{Swap}
 use Rattle.el_model.proofs.AllHarts.{all_first}
 use Rattle.el_model.proofs.FromStart.{kept_after, next_config}
-use Rattle.removal_laws.specs.Laws.{StampsAreDistinct}
+use Rattle.removal_laws.specs.Laws.{AttemptsAreCurrent, StampsAreDistinct}
 use Rattle.section_laws.proofs.EachHart.{Each}
 use Rattle.section_laws.proofs.EachKept.{BusKept, bus_keeps}
 use Rattle.section_laws.proofs.Moves.{step_keeps}
@@ -119,6 +119,10 @@ first_own program config h stamp is = none_some (sym (fresh program config h).no
 
 pub always_own : (program : Program) (config : Config) (events : List Event) → Each Own (after program config events)
 always_own program config events = kept_after (Each Own) next_own (begin program config) events (first_own program config)
+
+pub attempts_are_current : AttemptsAreCurrent
+attempts_are_current program config events h stamp is =
+    let own = always_own program config events h stamp is in record { own = own.hart; clock_is = own.clock_is }
 
 pub stamps_are_distinct : StampsAreDistinct
 stamps_are_distinct program config events g h stamp is_g is_h =

@@ -1,21 +1,17 @@
 -- a section whose release comes next commits
-use Rattle.std.proofs.Common.{◌≡◌, ◌≢◌, ◌∙◌, ◌<◌, ◌+◌, ◌==◌, ◌&&◌, ◌||◌, ℕ, Bool, true, false, List, Option, None, Some, refl, ap, sym, inl, inr, ◌⊎◌, arith, subst, if◌then◌else◌}
+use Rattle.std.proofs.Common.{◌≡◌, ◌≢◌, ◌∙◌, ◌<◌, ◌+◌, ◌==◌, ◌||◌, ℕ, true, false, Option, None, Some, refl, ap, sym, inl, inr, ◌⊎◌, arith, if◌then◌else◌}
 use Rattle.std.proofs.lemmas.Bool.Decides.{nat_tests}
-use Rattle.el_base.specs.declared.config.Config.{Config}
-use Rattle.el_base.specs.declared.events.Event.{Event}
 use Rattle.el_base.specs.declared.events.Kind.{Kind}
 use Rattle.el_base.specs.declared.events.Kind.TheVariants as kinds
-use Rattle.el_base.specs.declared.outcomes.Cause.TheVariants.{Call, Long, Mixed}
 use Rattle.el_base.specs.declared.outcomes.Outcome.{Outcome}
 use Rattle.el_base.specs.declared.outcomes.Outcome.TheVariants.{Committed}
-use Rattle.elf_image.specs.Program.{Program}
-use Rattle.el_model.specs.InSection.{Commits, SectionRule, by_section_rule, section_rule, section_turn, shown_in}
+use Rattle.el_model.specs.InSection.{Commits, by_section_rule, section_rule, section_turn, shown_in}
 use Rattle.el_model.specs.Next.{after, going_turn, kind_turn, next, running_turn, stalled, status_turn, step_turn}
 use Rattle.el_model.specs.State.{ModelState, Section, has_request, section_of}
 use Rattle.el_model.specs.Upcoming.{calls, calls_or_stops, gives_back, is_release, is_swap, is_word_store, next_execution, next_store, stops}
 use Rattle.removal_laws.specs.Laws.{ReleasesCommit}
 use Rattle.removal_laws.proofs.Bits.{either, first_of_both, second_of_both, some_none}
-use Rattle.rv_alu.specs.Execution.{Execution, Goes, Stops, Store, store_in}
+use Rattle.rv_alu.specs.Execution.{Execution, Goes, Stops, store_in}
 use Rattle.rv_alu.specs.declared.view.HartStatus.{HartStatus}
 use Rattle.rv_alu.specs.declared.view.HartStatus.TheVariants.{Exited, Running, Trapped}
 use Rattle.rv_flat.specs.FlatState.{FlatState, status_of}

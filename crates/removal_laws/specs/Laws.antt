@@ -31,6 +31,16 @@ abbrev pub closes : ModelState → Event → ℕ → Bool
 closes state event h =
     (event.hart.number == h) && (is_committed (next state event).outcome || is_rolled_back (next state event).outcome)
 
+-- an open attempt is its hart's own, with the clock that the hart has now
+pub record IsCurrent (state : ModelState) (h : ℕ) (stamp : Stamp) : Type 0 where
+  pub own : stamp.hart ≡ h
+  pub clock_is : stamp.clock ≡ (hart_of state h).clock
+
+abbrev pub AttemptsAreCurrent : Type 0
+AttemptsAreCurrent =
+    (program : Program) (config : Config) (events : List Event) (h : ℕ) (stamp : Stamp) →
+    attempt_of (after program config events) h ≡ Some stamp → IsCurrent (after program config events) h stamp
+
 -- no two harts have the same stamp
 abbrev pub StampsAreDistinct : Type 0
 StampsAreDistinct =

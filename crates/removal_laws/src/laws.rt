@@ -1,4 +1,5 @@
 ghost use Rattle.removal_laws.specs.Laws.{
+  AttemptsAreCurrent,
   FactsHoldThroughout,
   HeadIsServed,
   LaterAttemptsAreLater,
@@ -12,6 +13,11 @@ ghost use Rattle.removal_laws.specs.Laws.{
   StampsAreDistinct,
   StampsAreKept,
 };
+
+/// In every state that can be reached, an open attempt is its hart's own, and its clock is the one that the hart has now.
+pub fn attempts_are_current()
+    ensures { AttemptsAreCurrent }
+{}
 
 /// In every state that can be reached, no two harts have open attempts with the same stamp.
 #[tactic(auto, using(crate::proofs::Attempts::stamps_are_distinct))]

@@ -1,6 +1,7 @@
-ghost use Rattle.std.specs.Prelude.{◌≡◌, ◌≤◌, ◌<◌, ◌+◌, ◌==◌, ◌&&◌, ℕ, nat_le, nat_lt, length, None, slice_index};
+ghost use Rattle.std.specs.Prelude.{◌≡◌, ◌≤◌, ◌<◌, ◌+◌, ◌==◌, ◌&&◌, ℕ, nat_le, nat_lt, length, None, Some, slice_index};
 ghost use Rattle.std.specs.Int.{bit_at};
 ghost use Rattle.rv_alu.specs.Loaded.{loaded};
+ghost use Rattle.write_hold.specs.Held.{laid};
 
 use el_base::LineAddr;
 
@@ -35,8 +36,7 @@ impl Entry {
         requires inside { offset + length bytes.now ≤ 64 }
         ensures { IsStored self.old self.new offset bytes.now }
     {
-        let start = usize::from(offset);
-        self.bytes[start..start + bytes.len()].copy_from_slice(bytes);
+        write_at(&mut self.bytes, offset, bytes);
         self.mask |= places(offset, bytes.len());
     }
 
@@ -82,6 +82,16 @@ impl Entry {
             target[place as usize] = self.byte_over(target, place);
         }
     }
+}
+
+/// Writes bytes from a place of a line on.
+#[tactic(auto, using(crate::proofs::Stores::written_over))]
+fn write_at(line: &mut [u8; 64], offset: u8, bytes: &[u8])
+    requires { offset + length bytes.now ≤ 64 }
+    ensures { (place : ℕ) → Some (slice_index line.new place) ≡ laid offset bytes.now place (Some (slice_index line.old place)) }
+{
+    let start = usize::from(offset);
+    line[start..start + bytes.len()].copy_from_slice(bytes);
 }
 
 /// The mask of so many places from one on.

@@ -1,4 +1,4 @@
-ghost use Rattle.std.specs.Prelude.{◌≡◌, ◌≤◌, ◌<◌, ◌+◌, ◌==◌, ◌↔◌, ℕ, [], length, position, slice_index, true, IfErr, IfOk, IfSome, IsErr, IsNone, OnOk};
+ghost use Rattle.std.specs.Prelude.{◌≡◌, ◌≤◌, ◌<◌, ◌+◌, ◌==◌, ◌↔◌, ℕ, [], length, nat_lt, position, slice_index, true, IfErr, IfOk, IfSome, IsErr, IsNone, OnOk};
 ghost use Rattle.rv_alu.specs.Loaded.{loaded};
 
 use crate::entry::Entry;
@@ -55,7 +55,7 @@ impl Hold {
                 self.entries[place].store(offset, bytes);
                 Ok(())
             }
-            None if self.entries.len() < usize::from(self.limit) => {
+            None if has_room(&self.entries, self.limit) => {
                 let mut entry = Entry::new(line);
                 entry.store(offset, bytes);
                 self.entries.push_reserved(entry);
@@ -88,7 +88,8 @@ impl Hold {
         let Some(place) = place_of(&self.entries, line) else {
             unreachable!()
         };
-        self.entries.remove(place).merge_into(target);
+        let entry = self.entries.remove(place);
+        entry.merge_into(target);
     }
 
     /// A line that is held; `None` exactly where nothing is.
@@ -130,6 +131,13 @@ fn place_of(entries: &[Entry], line: LineAddr) -> Option<usize>
     entries
         .iter()
         .position(|entry| entry.line.number == line.number)
+}
+
+/// Whether there may be one line more.
+fn has_room(entries: &Vec<Entry>, limit: u8) -> bool
+    ensures { result ≡ nat_lt (length entries.now.items) limit }
+{
+    entries.len() < usize::from(limit)
 }
 
 /// The little-endian word at a place of a line.

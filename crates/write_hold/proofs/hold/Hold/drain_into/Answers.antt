@@ -22,9 +22,9 @@ invariant_of-self c =
     let entries = c.self.inside.entries.items in
     let line = c.args.line.number in
     let at = place_told entries _ line (Some c.in-Some.place) c.place_of.result c.deref.ensures.value c.place_of.ensures c.in-Some.is in
-    subst (Stands c.self.inside.limit c.remove.new.self.cap) (sym c.remove.ensures.items)
-    (stands_removed entries line c.in-Some.place c.remove.result at c.remove.ensures.value c.self.inside.limit c.self.inside.entries.cap
-    c.remove.new.self.cap (omega (arith, c.remove.ensures.capacity)) c.self.invariant)
+    subst (Stands c.self.inside.limit c.remove-entry.new.self.cap) (sym c.remove-entry.ensures.items)
+    (stands_removed entries line c.in-Some.place c.remove-entry.result at c.remove-entry.ensures.value c.self.inside.limit c.self.inside.entries.cap
+    c.remove-entry.new.self.cap (omega (arith, c.remove-entry.ensures.capacity)) c.self.invariant)
 
 pub returns : goal.returns
 returns c =
@@ -35,8 +35,8 @@ returns c =
     let after = c.merge_into.new.target in
     let place = c.in-Some.place in
     let at = place_told entries _ line (Some place) c.place_of.result c.deref.ensures.value c.place_of.ensures c.in-Some.is in
-    subst (λ hold. IsDrained hold (hold_of limit c.remove.new.self.items) line before after) c.self.view_is
-    (subst (λ new. IsDrained (hold_of limit entries) (hold_of limit new) line before after) (sym c.remove.ensures.items)
-    (shown_drained limit line entries (remove entries place) c.remove.result before after
-    (finds_removed entries line place c.remove.result at c.remove.ensures.value (c.self.invariant.once line)) c.merge_into.ensures
+    subst (λ hold. IsDrained hold (hold_of limit c.remove-entry.new.self.items) line before after) c.self.view_is
+    (subst (λ new. IsDrained (hold_of limit entries) (hold_of limit new) line before after) (sym c.remove-entry.ensures.items)
+    (shown_drained limit line entries (remove entries place) c.remove-entry.result before after
+    (finds_removed entries line place c.remove-entry.result at c.remove-entry.ensures.value (c.self.invariant.once line)) c.merge_into.ensures
     (length-remove entries place (place_by_position (is_of line) entries place at).1)))

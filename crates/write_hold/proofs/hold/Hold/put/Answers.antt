@@ -1,4 +1,5 @@
-use Rattle.std.proofs.Common.{◌∷◌, [], ◌++◌, None, Some, ap, refl, set, subst, sym, ◌∙◌, arith}
+use Rattle.std.proofs.Common.{◌∷◌, [], ◌++◌, None, Some, ap, length, refl, set, subst, sym, ◌∙◌, arith}
+use Rattle.std.proofs.lemmas.Bool.{ltb-false, ltb-true}
 use Rattle.std.proofs.lemmas.List.{length-append, length-set}
 use Rattle.el_base.proofs.ListLaws.{find_by_no_position}
 use Rattle.write_hold.specs.Calls.{IsFull, IsPut}
@@ -17,8 +18,8 @@ invariant_of-self c =
     stands_set entries line c.in-Some.place c.index_mut.result.now c.store.new.self at c.index_mut.ensures.value c.store.ensures.line c.self.inside.limit
     c.self.inside.entries.cap c.self.invariant
 
-pub invariant_of-self-then-len-from : goal.invariant_of-self-then-len-from
-invariant_of-self-then-len-from c =
+pub invariant_of-self-then-has_room : goal.invariant_of-self-then-has_room
+invariant_of-self-then-has_room c =
     let entries = c.self.inside.entries.items in
     let line = c.args.line.number in
     let limit = c.self.inside.limit in
@@ -27,7 +28,7 @@ invariant_of-self-then-len-from c =
     let its = ap (λ l. l.number) (c.store-in-None.ensures.line ∙ c.new-entry.ensures.line) in
     subst (Stands limit c.push_reserved.new.self.cap) (sym c.push_reserved.ensures.items)
     (stands_pushed entries line entry at its limit c.self.inside.entries.cap c.push_reserved.new.self.cap
-    (omega (arith, c.self.inside.entries.ok.0)) (omega (arith, c.push_reserved.ensures.capacity)) c.self.invariant)
+    (ltb-true (length entries) limit (sym c.has_room.ensures ∙ c.if-has_room.true)) (omega (arith, c.push_reserved.ensures.capacity)) c.self.invariant)
 
 pub returns-in-Some-clause-put : goal.returns-in-Some-clause-put
 returns-in-Some-clause-put c =
@@ -80,6 +81,6 @@ returns-in-None-2-clause-refused_exactly c =
       λ refused.
           subst (λ hold. IsFull hold line) c.self.view_is
           (full_shown limit line entries (find_by_no_position (is_of line) entries at)
-          (omega (arith, c.self.inside.entries.ok.0, c.self.invariant.few))),
+          (omega (arith, ltb-false (length entries) limit (sym c.has_room.ensures ∙ c.if-has_room.false), c.self.invariant.few))),
       λ full. refl,
     )

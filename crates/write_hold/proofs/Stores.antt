@@ -35,7 +35,8 @@ written_over offset place bytes old now inside is =
     (slice_index bytes (place - offset)) (λ within. ap (λ l. slice_index l place) is ∙ there within)
     (λ beyond. ap (λ l. slice_index l place) is ∙ elsewhere beyond)
   where
-    there : (nat_le offset place && nat_lt place (offset + length bytes)) ≡ true → slice_index (put_at offset bytes old) place ≡ slice_index bytes (place - offset)
+    there : (nat_le offset place && nat_lt place (offset + length bytes)) ≡ true
+        → slice_index (put_at offset bytes old) place ≡ slice_index bytes (place - offset)
     there within = put_inside offset bytes old inside place (grind (arith, nat_tests)) (grind (arith, nat_tests))
 
     elsewhere : (nat_le offset place && nat_lt place (offset + length bytes)) ≡ false → slice_index (put_at offset bytes old) place ≡ slice_index old place

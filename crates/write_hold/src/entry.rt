@@ -88,7 +88,8 @@ impl Entry {
 #[tactic(auto, using(crate::proofs::Stores::written_over))]
 fn write_at(line: &mut [u8; 64], offset: u8, bytes: &[u8])
     requires { offset + length bytes.now ≤ 64 }
-    ensures { (place : ℕ) → Some (slice_index line.new place) ≡ laid offset bytes.now place (Some (slice_index line.old place)) }
+    ensures { (place : ℕ) →
+        Some (slice_index line.new place) ≡ laid offset bytes.now place (Some (slice_index line.old place)) }
 {
     let start = usize::from(offset);
     line[start..start + bytes.len()].copy_from_slice(bytes);

@@ -1,3 +1,4 @@
 mod Showing
 mod Rooms
 mod Ready
+mod Conflicts

@@ -1,7 +1,7 @@
 -- what a call leaves is ready for the next one
 use Rattle.std.proofs.Common.{◌≡◌, ◌≢◌, ◌∙◌, ℕ, ◌<◌, ◌≤◌, Bool, true, List, length, Option, Some, None, refl, ap, sym, inl, inr, arith, subst}
 use Rattle.std.proofs.lemmas.Bool.{cases_eq, cases_lt}
-use Rattle.bus_order.specs.Order.{Request, request_of}
+use Rattle.bus_order.specs.Order.{IsOneEach, Request, request_of}
 use Rattle.cache_sets.specs.WellFormed.{IsWellFormed}
 use Rattle.coherence.specs.Caches.{cache_at}
 use Rattle.coherence.specs.Served.{Copies, HasLine, IsCoherent, has_room}
@@ -21,6 +21,7 @@ pub record AsksNoMore (bus new : Kept) : Type 0 where
   pub cache_each : length new.copies.caches ≡ length bus.copies.caches
   pub well_formed : (h : ℕ) → h < length new.copies.caches → IsWellFormed (cache_at new.copies.caches h).ways (cache_at new.copies.caches h).residency
   pub inside : (line : ℕ) → HasLine bus.copies line → HasLine new.copies line
+  pub once : IsOneEach new.order
   pub raised : (h : ℕ) (request : Request) → (agent_at new.agents h).raised ≡ Some request → Stood bus new h (agent_at bus.agents h).raised request
   pub ordered : (h : ℕ) (request : Request) → request_of new.order h ≡ Some request → Stood bus new h (request_of bus.order h) request
 
@@ -44,12 +45,13 @@ ready_after bus new ready after = record {
       served_yet bus new h request after.agent_each (after.inside request.line) stood.room (ready.raised h request stood.is);
   ordered = λ h request is. let stood = after.ordered h request is in
       served_yet bus new h request after.agent_each (after.inside request.line) stood.room (ready.ordered h request stood.is);
-  one_request = λ h request is. none (request_of new.order h) refl (ready.one_request h request (after.raised h request is).is);
+  once = after.once;
+  one_request = λ h request is. none h (request_of new.order h) refl (ready.one_request h request (after.raised h request is).is);
 }
   where
-    none : {h : ℕ} (found : Option Request) → request_of new.order h ≡ found → request_of bus.order h ≡ None → request_of new.order h ≡ None
-    none None is before = is
-    none {h} (Some other) is before = absurd (both (request_of bus.order h) before (after.ordered h other is).is)
+    none : (h : ℕ) (found : Option Request) → request_of new.order h ≡ found → request_of bus.order h ≡ None → request_of new.order h ≡ None
+    none h None is before = is
+    none h (Some other) is before = absurd (both (request_of bus.order h) before (after.ordered h other is).is)
       where
         both : (found : Option Request) → found ≡ None → found ≡ Some other → ⊥
         both None first second = absurd (cc)
@@ -65,6 +67,7 @@ asks_agent bus h agent ready raises = record {
   cache_each = refl;
   well_formed = ready.well_formed;
   inside = λ line has. has;
+  once = ready.once;
   raised = λ g request is. record { is = before g request is; room = λ room. room };
   ordered = λ g request is. record { is = is; room = λ room. room };
 }

@@ -1,2 +1,3 @@
 pub mod Agent
 pub mod Shows
+pub mod Meets

@@ -15,5 +15,7 @@ mod agent;
 mod agents;
 mod bus;
 mod meeting;
+mod obstacle;
+mod serving;
 
 pub use bus::Bus;

@@ -5,7 +5,7 @@ use Rattle.std.proofs.lemmas.Bool.{cases_eq, cases_lt}
 use Rattle.std.proofs.lemmas.List.{get_or-set_same, length-set}
 use Rattle.cache_sets.specs.Cache.{is_resident, letter_of}
 use Rattle.cache_sets.specs.Cached.{Cached, bytes_of, copy_in, copy_with_letter}
-use Rattle.cache_sets.specs.Calls.{IsLettered, IsTouched, IsWithout}
+use Rattle.cache_sets.specs.Calls.{IsLettered, IsWithout}
 use Rattle.coherence.specs.Caches.{AreCoherent, IsInMemory, OthersGiveUp, behind_of, cache_at, copies_of, no_cache}
 use Rattle.coherence.specs.Kept.{IsKept, LeavesTo}
 use Rattle.coherence.specs.Line.{Coherent}
@@ -95,10 +95,11 @@ coherent_kept need h line first lines told old new kept resident coherent =
     one_line told first line lines old new coherent (λ l g other. kept_other need h line l g old new kept other) there
     (line_kept need h line (told line) (behind_of first lines line) old new kept resident (coherent.each line there))
 
--- a line that is touched is as it was
-pub coherent_touched : (h line first : ℕ) (lines : List (List ℕ)) (told : ℕ → List ℕ) (old : List Cached) (cache : Cached) →
-    IsTouched (cache_at old h) cache line → AreCoherent told first lines old → AreCoherent told first lines (slice_set old h cache)
-coherent_touched h line first lines told old cache touch coherent = record {
+-- where one cache is replaced by one with the same copies, caches and main memory tell what they told
+pub coherent_same_copies : (h first : ℕ) (lines : List (List ℕ)) (told : ℕ → List ℕ) (old : List Cached) (cache : Cached) →
+    ((l : ℕ) → copy_in cache l ≡ copy_in (cache_at old h) l) → AreCoherent told first lines old →
+    AreCoherent told first lines (slice_set old h cache)
+coherent_same_copies h first lines told old cache copies coherent = record {
   each = λ l in_memory. same_line (told l) (copies_of old l) (copies_of (slice_set old h cache) l) _ _ (coherent.each l in_memory) (same l) refl;
   inside = λ g l resident.
       coherent.inside g l (copy_resident (cache_at old g) l _ (sym (same l g) ∙ copy_is (cache_at (slice_set old h cache) g) l resident));
@@ -112,7 +113,7 @@ coherent_touched h line first lines told old cache touch coherent = record {
         ]
       where
         here : (h < length old) ⊎ (length old ≤ h) → copies_of (slice_set old h cache) l h ≡ copies_of old l h
-        here (inl inside) = ap (λ c. copy_in c l) (get_or-set_same old h cache no_cache inside) ∙ touch.copies l
+        here (inl inside) = ap (λ c. copy_in c l) (get_or-set_same old h cache no_cache inside) ∙ copies l
         here (inr outside) =
             ap (λ c. copy_in c l)
             (beyond (slice_set old h cache) h (subst (λ n. n ≤ h) (sym (length-set old h cache)) outside) ∙ sym (beyond old h outside))

@@ -6,4 +6,5 @@ pub mod FetchLaws
 pub mod Fetched
 pub mod KeptLaws
 pub mod ServedLaws
+pub mod ChangedLaws
 pub mod AtFirst

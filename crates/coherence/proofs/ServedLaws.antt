@@ -11,7 +11,7 @@ use Rattle.coherence.specs.Caches.{cache_at, no_cache}
 use Rattle.coherence.specs.Kept.{IsKept, LeavesTo}
 use Rattle.coherence.specs.Served.{Copies, IsFetched, IsServed, Moves}
 use Rattle.coherence.proofs.FetchLaws.{other_new}
-use Rattle.coherence.proofs.KeptLaws.{coherent_kept, coherent_touched, own_kept}
+use Rattle.coherence.proofs.KeptLaws.{coherent_kept, coherent_same_copies, own_kept}
 use Rattle.coherence.proofs.Fetched.{copy_resident}
 use Rattle.coherence.proofs.Owners.{copy_is}
 use Rattle.el_base.specs.declared.outcomes.Need.{Need}
@@ -96,7 +96,7 @@ served_by_touch need h line place old mid before cache same inside moved was tou
         lines = moved.stays.lines;
         caches = length-set mid.caches h cache ∙ moved.stays.caches;
         coherent = λ told coherent.
-            coherent_touched h line mid.first mid.lines told mid.caches cache touch (moved.stays.coherent told coherent);
+            coherent_same_copies h mid.first mid.lines told mid.caches cache touch.copies (moved.stays.coherent told coherent);
       };
       here =
           copy_resident (cache_at (slice_set mid.caches h cache) h) line _

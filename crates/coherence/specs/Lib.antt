@@ -4,3 +4,4 @@ pub mod Served
 pub mod Writing
 pub mod Kept
 pub mod Beginning
+pub mod Changed

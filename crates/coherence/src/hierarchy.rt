@@ -4,8 +4,10 @@ ghost use Rattle.std.specs.Prelude.{◌≡◌, ◌<◌, ◌*◌, ◌%◌, ◌↔
 ghost use Rattle.std.specs.Bool.{MatchBool};
 ghost use Rattle.cache_sets.specs.Cache.{is_resident};
 ghost use Rattle.cache_sets.specs.Cached.{empty_cached};
+ghost use Rattle.cache_sets.specs.Calls.{IsCleared};
 ghost use Rattle.coherence.specs.Beginning.{bytes_at_first};
 ghost use Rattle.coherence.specs.Caches.{behind_of, cache_at};
+ghost use Rattle.coherence.specs.Changed.{GetsBit, IsChangedAt};
 ghost use Rattle.coherence.specs.Kept.{IsTouchedAt};
 ghost use Rattle.coherence.specs.Served.{HasLine, IsCoherent, IsServed, Moves, TellsOf, has_room, shown};
 ghost use Rattle.el_base.specs.Config.{IsInRange};
@@ -116,6 +118,26 @@ impl Hierarchy {
     {
         self.bring(hart, line, need);
         touch(&mut self.caches, hart, line);
+    }
+
+    /// A line of a hart's cache gets the bit of a need: the hart's section has done that to it. No copy
+    /// changes.
+    pub fn mark(&mut self, hart: HartId, line: LineAddr, need: Need)
+        requires hart_exists { hart.number < length (shown self.old).caches }
+        requires resident { is_resident (cache_at (shown self.old).caches hart.number).residency line.number ≡ true }
+        ensures { IsChangedAt (GetsBit line.number need) hart.number (shown self.old) (shown self.new) }
+    {
+        let cache = &mut self.caches[usize::from(hart.number)];
+        cache.set_bit(line, need);
+    }
+
+    /// No line of a hart's cache has a bit any more. No copy changes.
+    pub fn clear(&mut self, hart: HartId)
+        requires { hart.number < length (shown self.old).caches }
+        ensures { IsChangedAt IsCleared hart.number (shown self.old) (shown self.new) }
+    {
+        let cache = &mut self.caches[usize::from(hart.number)];
+        cache.clear_bits();
     }
 
     /// The hart's copy and the others' are as after the request, but for the order of its lines.

@@ -1,2 +1,3 @@
 pub mod Agent
+pub mod Fates
 pub mod Shows

@@ -14,5 +14,6 @@
 mod agent;
 mod agents;
 mod bus;
+mod fates;
 
 pub use bus::Bus;

@@ -7,4 +7,5 @@ pub mod Fetched
 pub mod KeptLaws
 pub mod ServedLaws
 pub mod ChangedLaws
+pub mod RoomLaws
 pub mod AtFirst

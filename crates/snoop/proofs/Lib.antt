@@ -1,1 +1,4 @@
+mod Showing
+mod Rooms
+mod Ready
 pub mod Facing

@@ -1,7 +1,8 @@
 -- what the bus keeps, and the state of the machine's definition that it shows
-use Rattle.std.specs.Prelude.{ℕ, ◌≡◌, ◌<◌, ◌≤◌, ◌-◌, ◌/◌, true, List, None, Some, length}
+use Rattle.std.specs.Prelude.{ℕ, ◌≡◌, ◌<◌, ◌≤◌, ◌-◌, ◌/◌, true, List, Option, None, Some, length}
 use Rattle.bus_order.specs.Order.{Request, request_of}
 use Rattle.cache_sets.specs.Cache.{has_marks}
+use Rattle.cache_sets.specs.WellFormed.{IsWellFormed}
 use Rattle.coherence.specs.Beginning.{line_in}
 use Rattle.coherence.specs.Caches.{cache_at}
 use Rattle.coherence.specs.Served.{Copies, HasLine, IsCoherent, TellsOf, has_room, shown}
@@ -53,6 +54,7 @@ pub record IsReady (bus : Kept) : Type 0 where
   pub coherent : IsCoherent bus.copies
   pub few : length bus.agents ≤ 8
   pub each : length bus.copies.caches ≡ length bus.agents
+  pub well_formed : (h : ℕ) → h < length bus.copies.caches → IsWellFormed (cache_at bus.copies.caches h).ways (cache_at bus.copies.caches h).residency
   pub raised : (h : ℕ) (request : Request) → (agent_at bus.agents h).raised ≡ Some request → CanBeServed bus h request
   pub ordered : (h : ℕ) (request : Request) → request_of bus.order h ≡ Some request → CanBeServed bus h request
   pub one_request : (h : ℕ) (request : Request) → (agent_at bus.agents h).raised ≡ Some request → request_of bus.order h ≡ None

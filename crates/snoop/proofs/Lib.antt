@@ -1,4 +1,6 @@
 mod Showing
 mod Rooms
 mod Ready
-pub mod Facing
+mod Facing
+mod Settles
+mod LosersBelow

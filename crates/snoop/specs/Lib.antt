@@ -1,3 +1,4 @@
 pub mod Agent
 pub mod Fates
+pub mod Settled
 pub mod Shows

@@ -15,5 +15,6 @@ mod agent;
 mod agents;
 mod bus;
 mod fates;
+mod settling;
 
 pub use bus::Bus;

@@ -4,3 +4,4 @@ mod Ready
 mod Facing
 mod Settles
 mod LosersBelow
+mod AfterFate

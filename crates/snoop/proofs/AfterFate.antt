@@ -10,7 +10,7 @@ use Rattle.el_base.specs.declared.config.Mode.TheVariants.{Plain, Sle, Tlr}
 use Rattle.el_model.specs.Conflicts.{meets_bit, wins_over}
 use Rattle.el_model.specs.Face.{Fate, LosesTo, Stays, Unmet, after_fate, deferring, deferring_fate, fate_at, fate_of, winning_stamp}
 use Rattle.el_model.specs.RollBack.{beaten, most_tries, out_of_section}
-use Rattle.el_model.specs.State.{Hart, ModelState, hart_of, new_hart, post_all}
+use Rattle.el_model.specs.State.{Hart, ModelState, new_hart, post_all}
 use Rattle.el_model.proofs.Harts.{hart_of-past}
 use Rattle.el_model.proofs.Losing.{no_section_meets}
 use Rattle.mail.specs.Mailbox.{Message, posted}

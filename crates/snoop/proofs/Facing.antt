@@ -1,41 +1,18 @@
 -- the fates of sections, as the code finds them and as the definition has them
-use Rattle.std.proofs.Common.{◌≡◌, ◌∙◌, ℕ, suc, ◌+◌, ◌<◌, Bool, true, false, ◌||◌, cond, List, [], ◌∷◌, ◌++◌, length, length-append, drop, Option, None, refl, ap, sym, arith, inl, inr}
+use Rattle.std.proofs.Common.{◌≡◌, ◌∙◌, ℕ, suc, ◌+◌, ◌<◌, List, [], ◌∷◌, ◌++◌, length, length-append, drop, Option, None, refl, ap, sym, arith, inl, inr}
 use Rattle.std.specs.Prelude.{slice_index_or}
 use Rattle.std.proofs.Math.ListN.{drop_of_length-le, get_or-append}
 use Rattle.std.proofs.Math.Seq.{drop-cons, get_or-append_seam}
 use Rattle.std.proofs.lemmas.Bool.{cases_eq}
-use Rattle.cache_sets.specs.Bits.{bits_of, bits_of_number, has_need}
-use Rattle.cache_sets.specs.Cache.{bit_in, way_of}
-use Rattle.el_base.specs.declared.outcomes.Need.{Need}
-use Rattle.el_base.specs.declared.outcomes.Need.TheVariants.{Read, Write}
-use Rattle.el_model.specs.Conflicts.{least_such, meets_bit, told_winner}
+use Rattle.el_model.specs.Conflicts.{least_such, told_winner}
 use Rattle.bus_order.specs.Order.{Request}
 use Rattle.el_model.specs.State.{Hart, ModelState, count_up, hart_of}
 use Rattle.snoop.specs.Agent.{Agent, agent_at, agent_of, new_agent}
 use Rattle.el_model.specs.Face.{fate_at}
 use Rattle.snoop.specs.declared.fates.Fate as fates
 use Rattle.snoop.specs.declared.fates.Fate.TheVariants as declared
-use Rattle.snoop.specs.Fates.{earlier_told, fate_in, numbered_fate, is_earlier_told, meets_bits, stamp_on, told_from}
+use Rattle.snoop.specs.Fates.{earlier_told, fate_in, numbered_fate, is_earlier_told, stamp_on, told_from}
 use Rattle.snoop.specs.Shows.{Kept, Shows}
-
--- the bits of a line tell what a request meets
-written : (read write : Bool) → has_need Write (bits_of_number (cond read 1 0 + cond write 2 0)) ≡ write
-written true true = refl
-written true false = refl
-written false true = refl
-written false false = refl
-
-touched : (read write : Bool) →
-    (has_need Read (bits_of_number (cond read 1 0 + cond write 2 0)) || has_need Write (bits_of_number (cond read 1 0 + cond write 2 0)))
-    ≡ (read || write)
-touched true true = refl
-touched true false = refl
-touched false true = refl
-touched false false = refl
-
-pub bits_meet : (hart : Hart) (line : ℕ) (need : Need) → meets_bits (bits_of (way_of hart.cache line)) need ≡ meets_bit hart line need
-bits_meet hart line Read = written (bit_in Read (way_of hart.cache line)) (bit_in Write (way_of hart.cache line))
-bits_meet hart line Write = touched (bit_in Read (way_of hart.cache line)) (bit_in Write (way_of hart.cache line))
 
 -- past the last hart no origin was told
 pub none_told : (agent : Agent) (order : List Request) (line from : ℕ) (agents : List Agent) → from ≡ length agents →

@@ -5,3 +5,4 @@ mod Facing
 mod Settles
 mod LosersBelow
 mod AfterFate
+mod Conflicts

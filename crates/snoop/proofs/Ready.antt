@@ -1,7 +1,7 @@
 -- what a call leaves is ready for the next one
 use Rattle.std.proofs.Common.{◌≡◌, ◌∙◌, ℕ, ◌<◌, true, length, Option, Some, None, refl, ap, sym, inl, inr, arith}
 use Rattle.std.proofs.lemmas.Bool.{cases_eq, cases_lt}
-use Rattle.bus_order.specs.Order.{Request, request_of}
+use Rattle.bus_order.specs.Order.{IsOneEach, Request, request_of}
 use Rattle.cache_sets.specs.WellFormed.{IsWellFormed}
 use Rattle.coherence.specs.Caches.{cache_at}
 use Rattle.coherence.specs.Served.{HasLine, IsCoherent, has_room}
@@ -21,6 +21,7 @@ pub record AsksNoMore (bus new : Kept) : Type 0 where
   pub cache_each : length new.copies.caches ≡ length bus.copies.caches
   pub well_formed : (h : ℕ) → h < length new.copies.caches → IsWellFormed (cache_at new.copies.caches h).ways (cache_at new.copies.caches h).residency
   pub inside : (line : ℕ) → HasLine bus.copies line → HasLine new.copies line
+  pub once : IsOneEach new.order
   pub raised : (h : ℕ) (request : Request) → (agent_at new.agents h).raised ≡ Some request → Stood bus new h (agent_at bus.agents h).raised request
   pub ordered : (h : ℕ) (request : Request) → request_of new.order h ≡ Some request → Stood bus new h (request_of bus.order h) request
 
@@ -44,6 +45,7 @@ ready_after bus new ready after = record {
       served_yet bus new h request after.agent_each (after.inside request.line) stood.room (ready.raised h request stood.is);
   ordered = λ h request is. let stood = after.ordered h request is in
       served_yet bus new h request after.agent_each (after.inside request.line) stood.room (ready.ordered h request stood.is);
+  once = after.once;
   one_request = λ h request is. none h (request_of new.order h) refl (ready.one_request h request (after.raised h request is).is);
 }
   where
@@ -65,6 +67,7 @@ asks_agent bus h agent ready raises = record {
   cache_each = refl;
   well_formed = ready.well_formed;
   inside = λ line has. has;
+  once = ready.once;
   raised = λ g request is. record { is = before g request is; room = λ room. room };
   ordered = λ g request is. record { is = is; room = λ room. room };
 }
@@ -76,10 +79,8 @@ asks_agent bus h agent ready raises = record {
             | inl below ↦ ap (λ k. (agent_at bus.agents k).raised) own
                 ∙ raises request (sym (ap (λ a. a.raised) (ap (agent_at (with_agent bus.agents h agent)) own ∙ agent_same bus.agents h agent below)) ∙ is)
             | inr past ↦ ap (λ a. a.raised) (agent_past bus.agents g (omega (arith, past, own))
-                ∙ sym (agent_past (with_agent bus.agents h agent) g (omega (arith, past, own, count_with_agent bus.agents h agent)))) ∙ is
-          ]
-          | inr other ↦ ap (λ a. a.raised) (sym (agent_other bus.agents h g agent other)) ∙ is
-        ]
+                ∙ sym (agent_past (with_agent bus.agents h agent) g (omega (arith, past, own, count_with_agent bus.agents h agent)))) ∙ is ]
+          | inr other ↦ ap (λ a. a.raised) (sym (agent_other bus.agents h g agent other)) ∙ is ]
 
 pub ready_agent : (bus : Kept) (h : ℕ) (agent : Agent) → IsReady bus →
     ((request : Request) → agent.raised ≡ Some request → (agent_at bus.agents h).raised ≡ Some request) →

@@ -1,11 +1,10 @@
--- a line that has room in a cache still has, after a line has left it or changed its letter, and after all bits are gone
-use Rattle.std.proofs.Common.{◌≡◌, ◌∙◌, ℕ, suc, ◌<◌, ◌≤◌, ◌==◌, ◌||◌, ◌⊎◌, Bool, true, false, cond, List, [], ◌∷◌, length, map, Option, Some, is_some, refl, ap, sym, inl, inr, arith}
+-- a line that has room in a cache still has, after a line has left it or changed its letter
+use Rattle.std.proofs.Common.{◌≡◌, ◌∙◌, ℕ, suc, ◌<◌, ◌≤◌, ◌==◌, ◌||◌, ◌⊎◌, Bool, true, false, cond, List, [], ◌∷◌, length, Option, Some, is_some, refl, ap, sym, inl, inr, arith}
 use Rattle.std.specs.Prelude.{nat_lt, slice_index_or}
 use Rattle.std.proofs.lemmas.Bool.{cases_eq}
 use Rattle.std.proofs.lemmas.Bool.Decides.{nat_tests}
-use Rattle.std.proofs.lemmas.List.{get_or-map, length-map}
-use Rattle.cache_sets.specs.Cache.{cleared, lettered, room_of, set_number, set_of, with_set, without_line}
-use Rattle.cache_sets.specs.Residency.{Way, changed_in, dropped, has_unmarked, is_marked, room_in, way_in, with_letter, without_bits}
+use Rattle.cache_sets.specs.Cache.{lettered, room_of, set_number, set_of, with_set, without_line}
+use Rattle.cache_sets.specs.Residency.{Way, changed_in, dropped, has_unmarked, is_marked, room_in, way_in, with_letter}
 use Rattle.cache_sets.specs.WellFormed.{IsWellFormed}
 use Rattle.cache_sets.proofs.CacheLemmas.{set_of-with_set_other, set_of-with_set_same}
 use Rattle.el_model.proofs.Tests.{by_test}
@@ -46,8 +45,7 @@ room_dropped : (ways : ℕ) (set : List Way) (line l : ℕ) → length set ≤ w
 room_dropped ways set line l within room =
     elim (shorter set line) [
       | inl same ↦ ap (λ left. room_in ways left l) same ∙ room
-      | inr fewer ↦ fewer_room ways (dropped set line) l (omega (arith, fewer, within))
-    ]
+      | inr fewer ↦ fewer_room ways (dropped set line) l (omega (arith, fewer, within)) ]
 
 -- a change that keeps each line and each bit
 letter_length : (letter : Letter) (set : List Way) (line : ℕ) → length (changed_in (with_letter letter) set line) ≡ length set
@@ -84,23 +82,6 @@ room_letter letter ways set line l room =
     room_by _ _ _ _ _ _ (letter_here letter set line l) (λ fewer. ap (λ n. nat_lt n ways) (letter_length letter set line) ∙ fewer)
     (letter_free letter set line) room
 
-bare_here : (set : List Way) (l : ℕ) → is_some (way_in set l) ≡ true → is_some (way_in (map without_bits set) l) ≡ true
-bare_here [] l here = here
-bare_here (way ∷ ways) l here = found (way.line == l) (way_in (map without_bits ways) l) (way_in ways l) (bare_here ways l) here
-  where
-    found : (test : Bool) (x y : Option Way) → (is_some y ≡ true → is_some x ≡ true) → is_some (cond test (Some way) y) ≡ true →
-        is_some (cond test (Some (without_bits way)) x) ≡ true
-    found true x y rest is = refl
-    found false x y rest is = rest is
-
-bare_free : (set : List Way) → has_unmarked set ≡ true → has_unmarked (map without_bits set) ≡ true
-bare_free [] free = free
-bare_free (way ∷ ways) free = refl
-
-room_bare : (ways : ℕ) (set : List Way) (l : ℕ) → room_in ways set l ≡ true → room_in ways (map without_bits set) l ≡ true
-room_bare ways set l room =
-    room_by _ _ _ _ _ _ (bare_here set l) (λ fewer. ap (λ n. nat_lt n ways) (length-map set without_bits) ∙ fewer) (bare_free set) room
-
 -- the same of a cache
 in_set : (ways : ℕ) (cache : List (List Way)) (line l : ℕ) (set : List Way) → 0 < length cache → (room_in ways (set_of cache line) l ≡ true → room_in ways set l ≡ true) →
     room_of ways cache l ≡ true → room_in ways (set_of (with_set cache line set) l) l ≡ true
@@ -108,8 +89,7 @@ in_set ways cache line l set some kept room =
     elim (cases_eq (set_number cache l) (set_number cache line)) [
       | inl same ↦ ap (λ s. room_in ways s l) (set_of-with_set_same cache line l set some same)
           ∙ kept (ap (λ n. room_in ways (slice_index_or cache n []) l) (sym same) ∙ room)
-      | inr other ↦ ap (λ s. room_in ways s l) (set_of-with_set_other cache line l set other) ∙ room
-    ]
+      | inr other ↦ ap (λ s. room_in ways s l) (set_of-with_set_other cache line l set other) ∙ room ]
 
 pub room_without_line : (ways : ℕ) (cache : List (List Way)) (line l : ℕ) → IsWellFormed ways cache → room_of ways cache l ≡ true →
     room_of ways (without_line cache line) l ≡ true
@@ -120,12 +100,3 @@ pub room_lettered : (ways : ℕ) (cache : List (List Way)) (line l : ℕ) (lette
     room_of ways (lettered cache line letter) l ≡ true
 room_lettered ways cache line l letter well room =
     in_set ways cache line l _ well.some_set (room_letter letter ways (set_of cache line) line l) room
-
-cleared_set : (cache : List (List Way)) (l : ℕ) → set_of (cleared cache) l ≡ map without_bits (set_of cache l)
-cleared_set [] l = refl
-cleared_set (first ∷ cache) l =
-    let whole = first ∷ cache in
-    rw (length-map whole (map without_bits)) (get_or-map (map without_bits) whole (set_number whole l) [] [] (omega arith))
-
-pub room_cleared : (ways : ℕ) (cache : List (List Way)) (l : ℕ) → room_of ways cache l ≡ true → room_of ways (cleared cache) l ≡ true
-room_cleared ways cache l room = ap (λ s. room_in ways s l) (cleared_set cache l) ∙ room_bare ways (set_of cache l) l room

@@ -1,12 +1,8 @@
 -- the fates of sections as the code has them
-use Rattle.std.specs.Prelude.{ℕ, suc, Bool, ◌&&◌, ◌||◌, List, [], ◌∷◌, Option, None, Some, option_map, slice_index_or, if◌then◌else◌}
+use Rattle.std.specs.Prelude.{ℕ, suc, Bool, ◌&&◌, List, [], ◌∷◌, Option, None, Some, option_map, slice_index_or, if◌then◌else◌}
 use Rattle.bus_order.specs.Order.{Request, request_of}
-use Rattle.cache_sets.specs.Bits.{has_need}
-use Rattle.cache_sets.specs.declared.bits.Bits.{Bits}
 use Rattle.defer_list.specs.HartSet.{has}
 use Rattle.el_base.specs.declared.hart_id.HartId.{HartId}
-use Rattle.el_base.specs.declared.outcomes.Need.{Need}
-use Rattle.el_base.specs.declared.outcomes.Need.TheVariants.{Read, Write}
 use Rattle.el_model.specs.Conflicts.{earlier, stamp_in}
 use Rattle.el_model.specs.Face.{Fate, LosesTo, Stays, Unmet}
 use Rattle.el_model.specs.State.{for_line}
@@ -28,11 +24,6 @@ fate_in fates h = numbered_fate (slice_index_or fates h declared.Unmet)
 -- the number of a hart that may be there
 abbrev pub number_of : Option HartId → Option ℕ
 number_of hart = option_map (λ h. h.number) hart
-
--- whether a request of this need conflicts with these bits
-abbrev pub meets_bits : Bits → Need → Bool
-meets_bits bits Read = has_need Write bits
-meets_bits bits Write = has_need Read bits || has_need Write bits
 
 -- the stamp of the request that a hart has ordered on a line
 abbrev pub stamp_on : List Request → ℕ → ℕ → Option Stamp

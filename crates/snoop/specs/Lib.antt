@@ -2,3 +2,4 @@ pub mod Agent
 pub mod Fates
 pub mod Settled
 pub mod Shows
+pub mod Meets

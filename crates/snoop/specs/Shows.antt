@@ -1,6 +1,6 @@
 -- what the bus keeps, and the state of the machine's definition that it shows
 use Rattle.std.specs.Prelude.{ℕ, ◌≡◌, ◌<◌, ◌≤◌, ◌-◌, ◌/◌, true, List, None, Some, length}
-use Rattle.bus_order.specs.Order.{Request, request_of}
+use Rattle.bus_order.specs.Order.{IsOneEach, Request, request_of}
 use Rattle.cache_sets.specs.Cache.{has_marks}
 use Rattle.cache_sets.specs.WellFormed.{IsWellFormed}
 use Rattle.coherence.specs.Beginning.{line_in}
@@ -48,8 +48,8 @@ pub record CanBeServed (bus : Kept) (h : ℕ) (request : Request) : Type 0 where
   pub in_memory : HasLine bus.copies request.line
   pub room : has_room bus.copies h request.line ≡ true
 
--- what each call of the bus needs, and leaves: copies and main memory tell one thing, each request can be served, and a hart has no
--- raised request beside an ordered one
+-- what each call of the bus needs, and leaves: copies and main memory tell one thing, each request can be served, and a hart has at
+-- most one
 pub record IsReady (bus : Kept) : Type 0 where
   pub coherent : IsCoherent bus.copies
   pub few : length bus.agents ≤ 8
@@ -57,4 +57,5 @@ pub record IsReady (bus : Kept) : Type 0 where
   pub well_formed : (h : ℕ) → h < length bus.copies.caches → IsWellFormed (cache_at bus.copies.caches h).ways (cache_at bus.copies.caches h).residency
   pub raised : (h : ℕ) (request : Request) → (agent_at bus.agents h).raised ≡ Some request → CanBeServed bus h request
   pub ordered : (h : ℕ) (request : Request) → request_of bus.order h ≡ Some request → CanBeServed bus h request
+  pub once : IsOneEach bus.order
   pub one_request : (h : ℕ) (request : Request) → (agent_at bus.agents h).raised ≡ Some request → request_of bus.order h ≡ None

@@ -2,12 +2,12 @@
 
 ghost use Rattle.std.specs.Prelude.{◌≡◌, ◌<◌, ℕ, Option, Some, length};
 ghost use Rattle.bus_order.specs.Order.{numbered};
-ghost use Rattle.el_model.specs.Conflicts.{conflicts, earlier, told_winner};
+ghost use Rattle.el_model.specs.Conflicts.{earlier, told_winner};
 ghost use Rattle.el_model.specs.Face.{deferring_fate, fate_at, told_fate};
 ghost use Rattle.el_model.specs.State.{ModelState, hart_of};
 ghost use Rattle.policy.specs.Winners.{wins_of};
 ghost use Rattle.snoop.specs.Agent.{agent_at};
-ghost use Rattle.snoop.specs.Fates.{earlier_told, fate_in, meets_bits, number_of, numbered_fate, stamp_on};
+ghost use Rattle.snoop.specs.Fates.{earlier_told, fate_in, number_of, numbered_fate, stamp_on};
 ghost use Rattle.snoop.specs.Shows.{IsReady, Shows, kept};
 ghost use Rattle.stamp.specs.Stamps as stamps;
 ghost use Rattle.std.specs.Option.{option_map};
@@ -15,10 +15,8 @@ ghost use Rattle.std.specs.Option.{option_map};
 use crate::agent::Agent;
 use crate::bus::Bus;
 use arrayvec::ArrayVec;
-use bitflags::Flags;
 use bus_order::Request;
-use cache_sets::Bits;
-use el_base::{HartId, LineAddr, Mode, Need};
+use el_base::{HartId, LineAddr, Mode};
 use policy::Policy;
 use stamp::{Stamp, less};
 
@@ -50,16 +48,6 @@ pub fn hart_at(number: usize) -> HartId
     }
 }
 
-/// Whether a request of this need conflicts with a section that has these bits on its line.
-fn meets(bits: Bits, need: Need) -> bool
-    ensures { result ≡ meets_bits bits need }
-{
-    match need {
-        Need::Read => bits.contains(Bits::WRITE),
-        Need::Write => bits.contains(Bits::READ) || bits.contains(Bits::WRITE),
-    }
-}
-
 /// In lock removal a section that does not lose to the head may lose to an origin.
 fn told_fate(winner: Option<HartId>) -> Fate
     ensures { numbered_fate result ≡ told_fate (number_of winner) }
@@ -88,19 +76,6 @@ impl Bus {
         ensures { result.now ≡ agent_at (kept self.now).agents hart.number }
     {
         &self.agents[usize::from(hart.number)]
-    }
-
-    /// Whether a request conflicts with the live section of a hart.
-    #[tactic(auto, using(crate::proofs::Facing::bits_meet))]
-    pub(crate) fn conflicts(&self, request: Request, hart: HartId) -> bool
-        requires { hart.number < length (kept self.now).copies.caches }
-        ensures { (state : ModelState) → Shows (kept self.now) state →
-            result ≡ conflicts (numbered request) hart.number (hart_of state hart.number) }
-    {
-        let cache = self.hierarchy.cache(hart);
-        request.hart.number != hart.number
-            && cache.marked()
-            && meets(cache.bits(request.line), request.need)
     }
 
     /// The stamp of the request that a hart has ordered on a line, if it has one there, and that has one.

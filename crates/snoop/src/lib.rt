@@ -15,6 +15,7 @@ mod agent;
 mod agents;
 mod bus;
 mod fates;
+mod meeting;
 mod settling;
 
 pub use bus::Bus;

@@ -3,10 +3,12 @@ use Rattle.std.proofs.Common.{◌≡◌, ◌∙◌, ℕ, suc, ◌+◌, ◌<◌, 
 use Rattle.std.specs.Prelude.{slice_index_or}
 use Rattle.std.proofs.Math.ListN.{drop_of_length-le, get_or-append}
 use Rattle.std.proofs.Math.Seq.{drop-cons, get_or-append_seam}
-use Rattle.std.proofs.lemmas.Bool.{cases_eq}
+use Rattle.std.proofs.lemmas.Bool.{cases_eq, cases_lt}
 use Rattle.el_model.specs.Conflicts.{least_such, told_winner}
 use Rattle.bus_order.specs.Order.{Request}
 use Rattle.el_model.specs.State.{Hart, ModelState, count_up, hart_of}
+use Rattle.snoop.proofs.AfterFate.{past_unmet}
+use Rattle.snoop.proofs.LosersBelow.{past_fates}
 use Rattle.snoop.specs.Agent.{Agent, agent_at, agent_of, new_agent}
 use Rattle.el_model.specs.Face.{fate_at}
 use Rattle.snoop.specs.declared.fates.Fate as fates
@@ -66,3 +68,13 @@ one_fate_more bus head number h known fate below same is = record {
         ∙ below.each state shows g (omega (arith, before, under))
   ];
 }
+
+-- past the last hart there is nothing to meet
+pub all_fates : (bus : Kept) (head : Request) (number : ℕ) (known : List fates.Fate) → FatesBelow bus head number known →
+    number ≡ length bus.agents → (state : ModelState) → Shows bus state → (h : ℕ) → fate_in known h ≡ fate_at state head h
+all_fates bus head number known below all state shows h = elim (cases_lt h number) [
+  | inl under ↦ below.each state shows h under
+  | inr past ↦
+      past_fates known h (omega (arith, past, below.count))
+      ∙ sym (past_unmet state head h (omega (arith, past, all, shows.agent_each)))
+]

@@ -6,3 +6,5 @@ mod Settles
 mod LosersBelow
 mod AfterFate
 mod Conflicts
+mod Sent
+mod Faced

@@ -79,8 +79,10 @@ asks_agent bus h agent ready raises = record {
             | inl below ↦ ap (λ k. (agent_at bus.agents k).raised) own
                 ∙ raises request (sym (ap (λ a. a.raised) (ap (agent_at (with_agent bus.agents h agent)) own ∙ agent_same bus.agents h agent below)) ∙ is)
             | inr past ↦ ap (λ a. a.raised) (agent_past bus.agents g (omega (arith, past, own))
-                ∙ sym (agent_past (with_agent bus.agents h agent) g (omega (arith, past, own, count_with_agent bus.agents h agent)))) ∙ is ]
-          | inr other ↦ ap (λ a. a.raised) (sym (agent_other bus.agents h g agent other)) ∙ is ]
+                ∙ sym (agent_past (with_agent bus.agents h agent) g (omega (arith, past, own, count_with_agent bus.agents h agent)))) ∙ is
+          ]
+          | inr other ↦ ap (λ a. a.raised) (sym (agent_other bus.agents h g agent other)) ∙ is
+        ]
 
 pub ready_agent : (bus : Kept) (h : ℕ) (agent : Agent) → IsReady bus →
     ((request : Request) → agent.raised ≡ Some request → (agent_at bus.agents h).raised ≡ Some request) →

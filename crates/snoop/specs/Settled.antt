@@ -73,3 +73,9 @@ abbrev pub markers_sent : ℕ → List fates.Fate → ℕ → List Agent → Lis
 markers_sent from [] to agents = agents
 markers_sent from (fate ∷ others) to agents =
     markers_sent (suc from) others to (marker_sent (numbered_fate fate) from to agents)
+
+-- markers are sent in lock removal alone
+abbrev pub sent_in : Mode → List fates.Fate → ℕ → List Agent → List Agent
+sent_in Tlr known to agents = markers_sent 0 known to agents
+sent_in Sle known to agents = agents
+sent_in Plain known to agents = agents

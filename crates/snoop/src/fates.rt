@@ -178,7 +178,7 @@ impl Bus {
             P.beats policy.now request holder ≡ wins_of (kept self.now).mode request holder }
         ensures count { length result.items ≡ length (kept self.now).agents }
         ensures each { (state : ModelState) → Shows (kept self.now) state →
-            (h : ℕ) → h < length (kept self.now).agents → fate_in result.items h ≡ fate_at state (numbered head) h }
+            (h : ℕ) → fate_in result.items h ≡ fate_at state (numbered head) h }
     {
         let mut fates = ArrayVec::new();
         for number in 0..self.agents.len() {

@@ -14,6 +14,7 @@
 mod agent;
 mod agents;
 mod bus;
+mod face;
 mod fates;
 mod meeting;
 mod settling;

@@ -11,8 +11,8 @@ ghost use Rattle.snoop.specs.Meets.{meets_in};
 ghost use Rattle.snoop.specs.Shows.{Shows, kept};
 
 use crate::bus::Bus;
-use bus_order::Request;
 use bitflags::Flags;
+use bus_order::Request;
 use cache_sets::{Bits, Sets};
 use el_base::{HartId, LineAddr, Need};
 
@@ -24,7 +24,8 @@ impl Bus {
         ensures { (state : ModelState) → Shows (kept self.now) state →
             result ≡ model.conflicts (numbered request) hart.number (hart_of state hart.number) }
     {
-        request.hart != hart && meets_section(self.hierarchy.cache(hart), request.line, request.need)
+        request.hart != hart
+            && meets_section(self.hierarchy.cache(hart), request.line, request.need)
     }
 }
 

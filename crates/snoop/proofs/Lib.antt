@@ -8,3 +8,4 @@ mod AfterFate
 mod Conflicts
 mod Sent
 mod Faced
+mod Placing

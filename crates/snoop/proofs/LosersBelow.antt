@@ -1,5 +1,5 @@
 -- the losers of a list of fates, one hart after another
-use Rattle.std.proofs.Common.{◌≡◌, ◌≢◌, ◌∙◌, ℕ, ◌+◌, ◌<◌, ◌≤◌, ◌==◌, cond, List, length, None, ap, sym, arith, inl, inr, if◌then◌else◌}
+use Rattle.std.proofs.Common.{◌≡◌, ◌≢◌, ◌∙◌, ℕ, ◌+◌, ◌<◌, ◌≤◌, ◌==◌, cond, List, [], length, None, refl, ap, sym, arith, inl, inr, if◌then◌else◌}
 use Rattle.std.specs.Prelude.{IfSome, slice_index_or}
 use Rattle.std.proofs.lemmas.Bool.{cases_eq, cases_lt}
 use Rattle.std.proofs.lemmas.List.{get_or_default, get_or_past}
@@ -69,3 +69,7 @@ all_losers known number losers all few below =
 pub fate_read : (known : List fates.Fate) (h : ℕ) (fate : fates.Fate) → h < length known → fate ≡ slice_index_or known h fate →
     numbered_fate fate ≡ fate_in known h
 fate_read known h fate inside is = ap numbered_fate (is ∙ get_or_default known h fate declared.Unmet inside)
+
+-- where no hart has lost
+pub nobody_lost : (losers : Losers) → ((h : ℕ) → beaten_by losers h ≡ None) → losers ≡ losers_of (λ h. None)
+nobody_lost losers none = all_losers [] 0 losers refl (omega arith) (no_losers (fate_in []) losers none)

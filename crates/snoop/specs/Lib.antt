@@ -3,3 +3,4 @@ pub mod Fates
 pub mod Settled
 pub mod Shows
 pub mod Meets
+pub mod Places

@@ -17,6 +17,7 @@ mod bus;
 mod face;
 mod fates;
 mod meeting;
+mod ordering;
 mod settling;
 
 pub use bus::Bus;

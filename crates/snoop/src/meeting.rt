@@ -30,7 +30,7 @@ impl Bus {
 }
 
 /// Whether some line of a cache has a bit, and the line has one that a request of this need conflicts with.
-fn meets_section(cache: &Sets, line: LineAddr, need: Need) -> bool
+pub fn meets_section(cache: &Sets, line: LineAddr, need: Need) -> bool
     ensures { result ≡ (has_marks cache.now.residency && meets_in cache.now.residency line.number need) }
 {
     cache.marked() && meets(cache, line, need)

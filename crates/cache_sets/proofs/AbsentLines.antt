@@ -3,7 +3,7 @@ use Rattle.std.proofs.Common.{◌≡◌, ◌∙◌, ℕ, Bool, true, false, List
 use Rattle.std.proofs.lemmas.List.{set-get_or}
 use Rattle.moesi.specs.declared.letter.Letter.{Letter}
 use Rattle.cache_sets.specs.Cache.{is_resident, lettered, set_number, set_of, way_of, without_line}
-use Rattle.cache_sets.specs.Cached.{Cached, Copy, bytes_of, copy_in, copy_with_letter}
+use Rattle.cache_sets.specs.Cached.{Cached, bytes_of, copy_in, copy_with_letter}
 use Rattle.cache_sets.specs.Calls.{IsLettered, IsWithout}
 use Rattle.cache_sets.specs.Residency.{Way, changed_in, dropped, way_in, with_letter}
 

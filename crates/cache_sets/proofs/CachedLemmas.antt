@@ -1,5 +1,5 @@
 -- What holds of a cache as contracts see it, by what its fields keep.
-use Rattle.std.proofs.Common.{◌≡◌, ℕ, ◌+◌, ◌*◌, ◌%◌, ◌<◌, true, ltb, List, [], length, get_or, Option, None, Some, option_map, is_some, refl, ap, sym, subst}
+use Rattle.std.proofs.Common.{◌≡◌, ℕ, ◌+◌, ◌*◌, ◌%◌, ◌<◌, true, ltb, List, [], ◌∷◌, length, map, get_or, Option, None, Some, option_map, is_some, refl, ap, sym, subst}
 use Rattle.std.proofs.Common.{◌∙◌, arith}
 use Rattle.std.specs.Option.{option_map_or}
 use Rattle.std.proofs.lemmas.Bool.Decides.{nat_tests}
@@ -42,6 +42,15 @@ some_marks ways sets rows marks writes cached stands is =
     let here : ltb 0 marks ≡ has_marks (residency_of sets) = grind (arith, nat_tests, stands.marked, counted) in
     here ∙ ap (λ v. has_marks v.residency) is
 
+-- each way of each set has its bytes
+bytes_of_each : (bytes : code.Way → List ℕ) (sets : List Set) →
+    map length (map (λ set. map bytes set.ways.items) sets) ≡ map length (residency_of sets)
+bytes_of_each bytes [] = refl
+bytes_of_each bytes (set ∷ sets) =
+    ap (λ n. n ∷ map length (map (λ s. map bytes s.ways.items) sets))
+    (length-map set.ways.items bytes ∙ sym (length-map set.ways.items shown_way))
+    ∙ ap (λ sizes. length (shown_set set) ∷ sizes) (bytes_of_each bytes sets)
+
 pub cached_kept : (ways : ℕ) (sets : List Set) (rows : List (List ℕ)) (marks writes : ℕ) (cached : Cached) →
     Stands ways sets rows marks writes → shown_cache ways sets rows ≡ cached → IsCached cached
 cached_kept ways sets rows marks writes cached stands is =
@@ -50,6 +59,7 @@ cached_kept ways sets rows marks writes cached stands is =
       some_way = stands.some_way;
       ways_fit = stands.ways_fit;
       sets_fit = omega (arith, stands.sets_fit, length-map sets shown_set);
+      each_has_bytes = bytes_of_each (bytes_of_way (length sets) ways rows) sets;
     })
 
 -- a line that is there has a way

@@ -20,4 +20,5 @@ pub mod AbsentLetters
 pub mod AbsentLines
 pub mod ListSteps
 pub mod LendSteps
+pub mod WrittenLines
 pub mod EmptySteps

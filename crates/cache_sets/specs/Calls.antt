@@ -1,11 +1,11 @@
 -- what each call of a cache makes of it
-use Rattle.std.specs.Prelude.{◌≡◌, ◌≢◌, ◌≤◌, ℕ, true, false, List, Option, None, Some, option_map, length}
+use Rattle.std.specs.Prelude.{◌≡◌, ◌≢◌, ◌≤◌, ℕ, true, false, List, Option, None, Some, option_map, length, map}
 use Rattle.el_base.specs.declared.outcomes.Need.{Need}
 use Rattle.moesi.specs.declared.letter.Letter.{Letter}
 use Rattle.moesi.specs.declared.letter.Letter.TheVariants.{M}
 use Rattle.cache_sets.specs.declared.evicted.Evicted.{Evicted}
 use Rattle.cache_sets.specs.Cache.{cleared, committed, evicted_by, filled_with, lettered, marked, touched, without_line, write_bit}
-use Rattle.cache_sets.specs.Cached.{Cached, copy_in, copy_with_letter}
+use Rattle.cache_sets.specs.Cached.{Cached, copy_in, copy_with_bytes, copy_with_letter}
 use Rattle.cache_sets.specs.WellFormed.{IsWellFormed}
 
 -- what holds of every cache with its bytes
@@ -14,6 +14,8 @@ pub record IsCached (cached : Cached) : Type 0 where
   pub some_way : 1 ≤ cached.ways
   pub ways_fit : cached.ways ≤ 8
   pub sets_fit : length cached.residency ≤ 64
+  -- each line has its bytes
+  pub each_has_bytes : map length cached.bytes ≡ map length cached.residency
 
 -- a line became the most recent one of its set
 pub record IsTouched (old new : Cached) (line : ℕ) : Type 0 where
@@ -33,6 +35,13 @@ pub record IsMarked (old new : Cached) (line : ℕ) (need : Need) : Type 0 where
   pub ways : new.ways ≡ old.ways
   pub residency : new.residency ≡ marked old.residency line need
   pub copies : (l : ℕ) → copy_in new l ≡ copy_in old l
+
+-- a line got these bytes
+pub record IsWritten (old new : Cached) (line : ℕ) (bytes : List ℕ) : Type 0 where
+  pub ways : new.ways ≡ old.ways
+  pub residency : new.residency ≡ old.residency
+  pub here : copy_in new line ≡ option_map (copy_with_bytes bytes) (copy_in old line)
+  pub others : (l : ℕ) → l ≢ line → copy_in new l ≡ copy_in old l
 
 -- a line left
 pub record IsWithout (old new : Cached) (line : ℕ) : Type 0 where

@@ -1,11 +1,11 @@
-ghost use Rattle.std.specs.Prelude.{◌≡◌, ◌≢◌, ◌<◌, ◌≤◌, ◌+◌, ◌*◌, ◌%◌, ◌↔◌, ℕ, true, false, IfOk, IsNone, Some, is_some, length};
+ghost use Rattle.std.specs.Prelude.{◌≡◌, ◌≢◌, ◌<◌, ◌≤◌, ◌+◌, ◌*◌, ◌%◌, ◌↔◌, ℕ, true, false, IfOk, IsNone, List, Some, is_some, length};
 ghost use Rattle.el_base.specs.Config.{IsInRange};
 ghost use Rattle.el_base.specs.declared.config.Config.{Config};
 ghost use Rattle.moesi.specs.declared.letter.Letter.TheVariants.{I};
 ghost use Rattle.cache_sets.specs.Bits.{bits_of};
 ghost use Rattle.cache_sets.specs.Cache.{has_marks, is_resident, letter_of, room_of, set_of, way_of, write_bits_of};
-ghost use Rattle.cache_sets.specs.Cached.{bytes_of, copy_in, empty_cached};
-ghost use Rattle.cache_sets.specs.Calls.{IsCached, IsCleared, IsCommitted, IsFilledWith, IsLettered, IsMarked, IsTouched, IsWithout};
+ghost use Rattle.cache_sets.specs.Cached.{bytes_of, copy_in, empty_cached, with_bytes};
+ghost use Rattle.cache_sets.specs.Calls.{IsCached, IsCleared, IsCommitted, IsFilledWith, IsLettered, IsMarked, IsTouched, IsWithout, IsWritten};
 ghost use Rattle.cache_sets.specs.declared.way.Way as code;
 ghost use Rattle.cache_sets.specs.Kept.{AreChanged, AreEmpty, cleared_way, committed_way, evicted_of, row_of, set_at, way_at};
 ghost use Rattle.std.specs.Borrow.{sem};
@@ -222,6 +222,7 @@ impl Sets {
         requires { is_resident self.old.residency line.number ≡ true }
         ensures* lends { sem 𝓛 (LendsBytes self.entry line.number result) }
         ensures value { result.now ≡ bytes_of self.old line.number }
+        ensures written { (bytes : List ℕ) → IsWritten self.old (with_bytes self.old line.number bytes) line.number bytes }
     {
         let row = row_at(self.sets.as_slice(), self.ways, line);
         &mut self.rows[row]

@@ -5,3 +5,4 @@ pub mod Writing
 pub mod Kept
 pub mod Beginning
 pub mod Changed
+pub mod Lending

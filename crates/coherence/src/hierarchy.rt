@@ -2,6 +2,7 @@
 
 ghost use Rattle.std.specs.Prelude.{◌≡◌, ◌<◌, ◌*◌, ◌%◌, ◌↔◌, ℕ, List, IfOk, IfSome, IsNone, true, length, replicate, slice_index};
 ghost use Rattle.std.specs.Bool.{MatchBool};
+ghost use Rattle.std.specs.Borrow.{sem};
 ghost use Rattle.cache_sets.specs.Cache.{is_resident};
 ghost use Rattle.cache_sets.specs.Cached.{empty_cached};
 ghost use Rattle.cache_sets.specs.Calls.{IsCleared};
@@ -33,6 +34,8 @@ pub struct Hierarchy {
 }
 
 impl Hierarchy {
+    ghost use Rattle.coherence.specs.Lending.{LendsCache};
+
     /// Main memory as the image has it, and for each of the image's harts a cache without lines. It
     /// takes all memory of both.
     pub fn make(alloc: Global, image: &Image, config: &Config) -> Result<Hierarchy, NoMemory>
@@ -65,6 +68,17 @@ impl Hierarchy {
         ensures { result.now ≡ cache_at (shown self.now).caches hart.number }
     {
         &self.caches[usize::from(hart.number)]
+    }
+
+    /// The cache of a hart, to be changed. What is left there is the hart's cache from then on; main memory
+    /// and the other caches are as they were. Later calls need caches and main memory that tell one thing
+    /// of each line, so what may be done to a copy is the caller's concern.
+    pub fn cache_mut(&mut self, hart: HartId) -> &mut Sets
+        requires { hart.number < length (shown self.old).caches }
+        ensures* lends { sem 𝓛 (LendsCache self.entry hart.number result) }
+        ensures value { result.now ≡ cache_at (shown self.old).caches hart.number }
+    {
+        &mut self.caches[usize::from(hart.number)]
     }
 
     /// The byte at an address that caches and main memory tell, or none outside memory.

@@ -1,5 +1,5 @@
 -- where a request meets a section, as the bus tells it
-use Rattle.std.proofs.Common.{◌≡◌, ◌∙◌, ℕ, ◌==◌, ◌&&◌, Bool, true, false, not, List, Option, Some, None, is_some, refl, ap, sym}
+use Rattle.std.proofs.Common.{◌≡◌, ◌∙◌, ℕ, ◌==◌, ◌&&◌, Bool, true, false, not, Option, Some, None, is_some, refl, ap, sym}
 use Rattle.bus_order.specs.Order.{Request}
 use Rattle.cache_sets.specs.Bits.{bits_of, has_need}
 use Rattle.cache_sets.specs.Cache.{bit_in, has_marks}

@@ -2,7 +2,14 @@ mod Showing
 mod Rooms
 mod EachAgent
 mod Ready
+mod Facing
+mod Settles
+mod LosersBelow
+mod AfterFate
 mod Conflicts
 mod Firsts
 mod ServedCaches
 mod Serves
+mod Sent
+mod Faced
+mod Placing

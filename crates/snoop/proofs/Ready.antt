@@ -1,11 +1,11 @@
 -- what a call leaves is ready for the next one
-use Rattle.std.proofs.Common.{◌≡◌, ◌≢◌, ◌∙◌, ℕ, ◌<◌, ◌≤◌, Bool, true, List, length, Option, Some, None, refl, ap, sym, inl, inr, arith, subst}
+use Rattle.std.proofs.Common.{◌≡◌, ◌∙◌, ℕ, ◌<◌, true, length, Option, Some, None, refl, ap, sym, inl, inr, arith}
 use Rattle.std.proofs.lemmas.Bool.{cases_eq, cases_lt}
 use Rattle.bus_order.specs.Order.{IsOneEach, Request, request_of}
 use Rattle.cache_sets.specs.WellFormed.{IsWellFormed}
 use Rattle.coherence.specs.Caches.{cache_at}
-use Rattle.coherence.specs.Served.{Copies, HasLine, IsCoherent, has_room}
-use Rattle.snoop.specs.Agent.{Agent, agent_at, new_agent, with_agent}
+use Rattle.coherence.specs.Served.{HasLine, IsCoherent, has_room}
+use Rattle.snoop.specs.Agent.{Agent, agent_at, with_agent}
 use Rattle.snoop.specs.Shows.{CanBeServed, IsReady, Kept}
 use Rattle.snoop.proofs.Showing.{agent_other, agent_past, agent_same, count_with_agent}
 
@@ -79,8 +79,10 @@ asks_agent bus h agent ready raises = record {
             | inl below ↦ ap (λ k. (agent_at bus.agents k).raised) own
                 ∙ raises request (sym (ap (λ a. a.raised) (ap (agent_at (with_agent bus.agents h agent)) own ∙ agent_same bus.agents h agent below)) ∙ is)
             | inr past ↦ ap (λ a. a.raised) (agent_past bus.agents g (omega (arith, past, own))
-                ∙ sym (agent_past (with_agent bus.agents h agent) g (omega (arith, past, own, count_with_agent bus.agents h agent)))) ∙ is ]
-          | inr other ↦ ap (λ a. a.raised) (sym (agent_other bus.agents h g agent other)) ∙ is ]
+                ∙ sym (agent_past (with_agent bus.agents h agent) g (omega (arith, past, own, count_with_agent bus.agents h agent)))) ∙ is
+          ]
+          | inr other ↦ ap (λ a. a.raised) (sym (agent_other bus.agents h g agent other)) ∙ is
+        ]
 
 pub ready_agent : (bus : Kept) (h : ℕ) (agent : Agent) → IsReady bus →
     ((request : Request) → agent.raised ≡ Some request → (agent_at bus.agents h).raised ≡ Some request) →

@@ -1,5 +1,5 @@
 -- a line that has room in a cache still has, after a line has left it or changed its letter
-use Rattle.std.proofs.Common.{◌≡◌, ◌∙◌, ℕ, suc, ◌+◌, ◌<◌, ◌≤◌, ◌==◌, ◌||◌, ◌⊎◌, Bool, true, false, cond, List, [], ◌∷◌, length, Option, Some, None, is_some, refl, ap, sym, inl, inr, arith, subst}
+use Rattle.std.proofs.Common.{◌≡◌, ◌∙◌, ℕ, suc, ◌<◌, ◌≤◌, ◌==◌, ◌||◌, ◌⊎◌, Bool, true, false, cond, List, [], ◌∷◌, length, Option, Some, is_some, refl, ap, sym, inl, inr, arith}
 use Rattle.std.specs.Prelude.{nat_lt, slice_index_or}
 use Rattle.std.proofs.lemmas.Bool.{cases_eq}
 use Rattle.std.proofs.lemmas.Bool.Decides.{nat_tests}
@@ -45,7 +45,8 @@ room_dropped : (ways : ℕ) (set : List Way) (line l : ℕ) → length set ≤ w
 room_dropped ways set line l within room =
     elim (shorter set line) [
       | inl same ↦ ap (λ left. room_in ways left l) same ∙ room
-      | inr fewer ↦ fewer_room ways (dropped set line) l (omega (arith, fewer, within)) ]
+      | inr fewer ↦ fewer_room ways (dropped set line) l (omega (arith, fewer, within))
+    ]
 
 -- a change that keeps each line and each bit
 letter_length : (letter : Letter) (set : List Way) (line : ℕ) → length (changed_in (with_letter letter) set line) ≡ length set
@@ -89,7 +90,8 @@ in_set ways cache line l set some kept room =
     elim (cases_eq (set_number cache l) (set_number cache line)) [
       | inl same ↦ ap (λ s. room_in ways s l) (set_of-with_set_same cache line l set some same)
           ∙ kept (ap (λ n. room_in ways (slice_index_or cache n []) l) (sym same) ∙ room)
-      | inr other ↦ ap (λ s. room_in ways s l) (set_of-with_set_other cache line l set other) ∙ room ]
+      | inr other ↦ ap (λ s. room_in ways s l) (set_of-with_set_other cache line l set other) ∙ room
+    ]
 
 pub room_without_line : (ways : ℕ) (cache : List (List Way)) (line l : ℕ) → IsWellFormed ways cache → room_of ways cache l ≡ true →
     room_of ways (without_line cache line) l ≡ true

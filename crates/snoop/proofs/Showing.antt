@@ -1,14 +1,13 @@
 -- what the bus shows after one hart has changed, and after each has
-use Rattle.std.proofs.Common.{◌≡◌, ◌≢◌, ◌∙◌, ℕ, zero, suc, ◌<◌, ◌≤◌, ◌+◌, List, [], ◌∷◌, length, Option, Some, None, is_some, refl, ap, sym, inl, inr, arith}
-use Rattle.std.specs.Prelude.{slice_index_or, slice_set}
+use Rattle.std.proofs.Common.{◌≡◌, ◌≢◌, ◌∙◌, ℕ, zero, suc, ◌<◌, ◌≤◌, List, [], ◌∷◌, length, is_some, refl, ap, sym, inl, inr, arith}
+use Rattle.std.specs.Prelude.{slice_set}
 use Rattle.std.proofs.lemmas.Bool.{cases_eq, cases_lt}
 use Rattle.std.proofs.lemmas.List.{get_or-set_same, get_or-set_other, length-set}
-use Rattle.bus_order.specs.Order.{Request}
 use Rattle.cache_sets.specs.Cache.{has_marks}
 use Rattle.coherence.specs.Caches.{cache_at}
 use Rattle.coherence.proofs.GivenUp.{beyond}
 use Rattle.coherence.specs.Served.{Copies, TellsOf}
-use Rattle.el_model.specs.State.{Hart, ModelState, cache_of, each_from, each_hart, hart_of, is_live, new_hart, section_of, with_hart}
+use Rattle.el_model.specs.State.{Hart, ModelState, cache_of, each_from, each_hart, hart_of, new_hart, section_of, with_hart}
 use Rattle.el_model.proofs.Harts.{hart_of-each_hart, hart_of-each_hart_past, hart_of-past, hart_of-with_hart_same, hart_of-with_hart_other, with_hart_kept}
 use Rattle.el_model.proofs.Keeps.{length-each_from}
 use Rattle.snoop.specs.Agent.{Agent, agent_at, agent_of, new_agent, with_agent}
@@ -45,8 +44,10 @@ shows_agent bus state h agent hart shows is section cache = record {
           ∙ ap agent_of (sym (hart_of-with_hart_same state h hart (omega (arith, below, shows.agent_each))) ∙ ap (hart_of (with_hart state h hart)) (sym own))
       | inr past ↦
           agent_past (with_agent bus.agents h agent) g (omega (arith, past, own, count_with_agent bus.agents h agent))
-          ∙ ap agent_of (sym (hart_of-past (with_hart state h hart) g (omega (arith, past, own, shows.agent_each, same_harts)))) ]
-    | inr other ↦ agent_other bus.agents h g agent other ∙ shows.agents g ∙ ap agent_of (sym (hart_of-with_hart_other state h g hart other)) ];
+          ∙ ap agent_of (sym (hart_of-past (with_hart state h hart) g (omega (arith, past, own, shows.agent_each, same_harts))))
+    ]
+    | inr other ↦ agent_other bus.agents h g agent other ∙ shows.agents g ∙ ap agent_of (sym (hart_of-with_hart_other state h g hart other))
+  ];
   caches = λ g. shows.caches g ∙ sym (kept_cache g);
   live = λ g. ap is_some (with_hart_kept (λ k. k.section) state h hart section g) ∙ shows.live g ∙ ap has_marks (sym (kept_cache g));
   order = shows.order;
@@ -79,13 +80,16 @@ shows_each bus new state becomes shows each = record {
   cache_each = each.cache_each ∙ shows.cache_each ∙ sym same_harts;
   agents = λ h. elim (cases_lt h (length bus.agents)) [
     | inl below ↦ each.agents h below ∙ ap agent_of (sym (became h below))
-    | inr past ↦ agent_past new.agents h (omega (arith, past, each.agent_each)) ∙ ap agent_of (sym (gone h past)) ];
+    | inr past ↦ agent_past new.agents h (omega (arith, past, each.agent_each)) ∙ ap agent_of (sym (gone h past))
+  ];
   caches = λ h. elim (cases_lt h (length bus.agents)) [
     | inl below ↦ each.caches h below ∙ ap (λ hart. hart.cache) (sym (became h below))
-    | inr past ↦ ap (λ cache. cache.residency) (beyond new.copies.caches h (omega (arith, past, each.cache_each, shows.agent_each, shows.cache_each))) ∙ ap (λ hart. hart.cache) (sym (gone h past)) ];
+    | inr past ↦ ap (λ cache. cache.residency) (beyond new.copies.caches h (omega (arith, past, each.cache_each, shows.agent_each, shows.cache_each))) ∙ ap (λ hart. hart.cache) (sym (gone h past))
+  ];
   live = λ h. elim (cases_lt h (length bus.agents)) [
     | inl below ↦ ap (λ hart. is_some hart.section) (became h below) ∙ each.live h below ∙ ap (λ hart. has_marks hart.cache) (sym (became h below))
-    | inr past ↦ ap (λ hart. is_some hart.section) (gone h past) ∙ ap (λ hart. has_marks hart.cache) (sym (gone h past)) ];
+    | inr past ↦ ap (λ hart. is_some hart.section) (gone h past) ∙ ap (λ hart. has_marks hart.cache) (sym (gone h past))
+  ];
   order = refl;
   bytes = each.bytes;
 }

@@ -1,7 +1,6 @@
 //! One of the agents of all harts is changed, or each of them. A hart that is not there changes none.
 
-ghost use Rattle.std.specs.Prelude.{◌≡◌, ◌<◌, ◌==◌, ℕ, length, if◌then◌else◌};
-ghost use Rattle.bus_order.specs.Order as order;
+ghost use Rattle.std.specs.Prelude.{◌≡◌, ◌<◌, ℕ, None, length};
 ghost use Rattle.mail.specs.Mailbox.{numbered};
 ghost use Rattle.snoop.specs.Agent.{agent_at, agent_forgetting, agent_posted, agent_served, with_agent};
 ghost use Rattle.snoop.specs.Serving.{agent_claiming};
@@ -45,5 +44,15 @@ pub fn claim(agents: &mut Vec<Agent>, request: Request, live: bool)
     agent.be_served();
     if !live {
         agent.hold(request.line);
+    }
+}
+
+/// A hart has no raised request any more.
+pub fn unraise(agents: &mut Vec<Agent>, hart: HartId)
+    ensures { agents.new.items ≡
+        with_agent agents.old.items hart.number (record (agent_at agents.old.items hart.number) { raised = None }) }
+{
+    if let Some(agent) = agents.get_mut(usize::from(hart.number)) {
+        agent.take_raised();
     }
 }

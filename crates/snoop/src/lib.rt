@@ -14,8 +14,12 @@
 mod agent;
 mod agents;
 mod bus;
+mod face;
+mod fates;
 mod meeting;
 mod obstacle;
+mod ordering;
 mod serving;
+mod settling;
 
 pub use bus::Bus;

@@ -11,8 +11,8 @@ ghost use Rattle.snoop.specs.Meets.{meets_in};
 ghost use Rattle.snoop.specs.Shows.{Shows, kept};
 
 use crate::bus::Bus;
-use bus_order::Request;
 use bitflags::Flags;
+use bus_order::Request;
 use cache_sets::{Bits, Sets};
 use el_base::{HartId, LineAddr, Need};
 
@@ -24,12 +24,13 @@ impl Bus {
         ensures { (state : ModelState) → Shows (kept self.now) state →
             result ≡ model.conflicts (numbered request) hart.number (hart_of state hart.number) }
     {
-        request.hart != hart && meets_section(self.hierarchy.cache(hart), request.line, request.need)
+        request.hart != hart
+            && meets_section(self.hierarchy.cache(hart), request.line, request.need)
     }
 }
 
 /// Whether some line of a cache has a bit, and the line has one that a request of this need conflicts with.
-fn meets_section(cache: &Sets, line: LineAddr, need: Need) -> bool
+pub fn meets_section(cache: &Sets, line: LineAddr, need: Need) -> bool
     ensures { result ≡ (has_marks cache.now.residency && meets_in cache.now.residency line.number need) }
 {
     cache.marked() && meets(cache, line, need)

@@ -1,5 +1,7 @@
 use Rattle.std.proofs.Common.{arith, refl}
 use Rattle.cache_sets.proofs.LendSteps.{lent_row, lent_shown, lent_stands, lent_value, resident_there}
+use Rattle.cache_sets.proofs.CachedLemmas.{cached_kept}
+use Rattle.cache_sets.proofs.WrittenLines.{is_written}
 use Rattle.cache_sets.proofs.sets.Sets.bytes_mut.Goals as goal
 
 pub row_at-row-requires-clause-there : goal.row_at-row-requires-clause-there
@@ -36,5 +38,8 @@ returns c =
         lends = tt;
         value = lent_value i.ways i.sets.items c.as_slice.result.now i.rows.items i.marked i.written c.args.line.number c.row_at-row.result c.args.self.now
             c.index_mut.result.now c.self.invariant c.self.view_is c.requires c.as_slice.ensures.value c.row_at-row.ensures c.index_mut.ensures.value;
+        written = λ bytes.
+            is_written c.args.self.now c.args.line.number bytes
+            (cached_kept i.ways i.sets.items i.rows.items i.marked i.written c.args.self.now c.self.invariant c.self.view_is);
       },
     )

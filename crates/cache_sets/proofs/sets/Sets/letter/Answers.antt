@@ -1,4 +1,4 @@
-use Rattle.std.proofs.Common.{None, Option, Some, ap, sym}
+use Rattle.std.proofs.Common.{None, Some, ap, sym}
 use Rattle.moesi.specs.declared.letter.Letter.TheVariants.{I}
 use Rattle.cache_sets.specs.Cache.{letter_in}
 use Rattle.cache_sets.proofs.AbsentLetters.{absent_letter}

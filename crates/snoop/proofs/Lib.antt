@@ -1,11 +1,15 @@
 mod Showing
 mod Rooms
+mod EachAgent
 mod Ready
 mod Facing
 mod Settles
 mod LosersBelow
 mod AfterFate
 mod Conflicts
+mod Firsts
+mod ServedCaches
+mod Serves
 mod Sent
 mod Faced
 mod Placing

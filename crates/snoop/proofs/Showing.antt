@@ -5,6 +5,7 @@ use Rattle.std.proofs.lemmas.Bool.{cases_eq, cases_lt}
 use Rattle.std.proofs.lemmas.List.{get_or-set_same, get_or-set_other, length-set}
 use Rattle.cache_sets.specs.Cache.{has_marks}
 use Rattle.coherence.specs.Caches.{cache_at}
+use Rattle.coherence.proofs.GivenUp.{beyond}
 use Rattle.coherence.specs.Served.{Copies, TellsOf}
 use Rattle.el_model.specs.State.{Hart, ModelState, cache_of, each_from, each_hart, hart_of, new_hart, section_of, with_hart}
 use Rattle.el_model.proofs.Harts.{hart_of-each_hart, hart_of-each_hart_past, hart_of-past, hart_of-with_hart_same, hart_of-with_hart_other, with_hart_kept}
@@ -70,14 +71,6 @@ pub record ShowsEach (bus new : Kept) (state : ModelState) (becomes : ℕ → Ha
   pub live : (h : ℕ) → h < length bus.agents → is_some (becomes h (hart_of state h)).section ≡ has_marks (becomes h (hart_of state h)).cache
   pub bytes : TellsOf new.copies (line_of state.committed)
 
-cache_past : (copies : Copies) (h : ℕ) → length copies.caches ≤ h → (cache_at copies.caches h).residency ≡ []
-cache_past copies h past = at copies.caches h past
-  where
-    at : (caches : List _) (k : ℕ) → length caches ≤ k → (cache_at caches k).residency ≡ []
-    at [] k over = refl
-    at (cache ∷ caches) zero over = absurd (omega arith)
-    at (cache ∷ caches) (suc k) over = at caches k (omega arith)
-
 pub shows_each : (bus new : Kept) (state : ModelState) (becomes : ℕ → Hart → Hart) → Shows bus state → ShowsEach bus new state becomes →
     Shows new (record (each_hart state becomes) { order = new.order })
 shows_each bus new state becomes shows each = record {
@@ -91,7 +84,7 @@ shows_each bus new state becomes shows each = record {
   ];
   caches = λ h. elim (cases_lt h (length bus.agents)) [
     | inl below ↦ each.caches h below ∙ ap (λ hart. hart.cache) (sym (became h below))
-    | inr past ↦ cache_past new.copies h (omega (arith, past, each.cache_each, shows.agent_each, shows.cache_each)) ∙ ap (λ hart. hart.cache) (sym (gone h past))
+    | inr past ↦ ap (λ cache. cache.residency) (beyond new.copies.caches h (omega (arith, past, each.cache_each, shows.agent_each, shows.cache_each))) ∙ ap (λ hart. hart.cache) (sym (gone h past))
   ];
   live = λ h. elim (cases_lt h (length bus.agents)) [
     | inl below ↦ ap (λ hart. is_some hart.section) (became h below) ∙ each.live h below ∙ ap (λ hart. has_marks hart.cache) (sym (became h below))

@@ -4,6 +4,7 @@ ghost use Rattle.std.specs.Prelude.{◌≡◌, ◌<◌, IfOk, None, Some};
 ghost use Rattle.std.specs.Option.{option_map};
 ghost use Rattle.bus_order.specs.Order as order;
 ghost use Rattle.defer_list.specs.HartSet.{has};
+ghost use Rattle.el_model.specs.State.{is_held};
 ghost use Rattle.mail.specs.Mailbox as mailbox;
 ghost use Rattle.stamp.specs.Stamps.{numbered_stamp};
 ghost use Rattle.snoop.specs.Agent.{
@@ -85,11 +86,14 @@ impl Agent {
         self.raised
     }
 
-    /// The line that the hart holds until its next step.
-    pub fn held(&self) -> Option<LineAddr>
-        ensures { option_map (λ line. line.number) result ≡ self.now.held }
+    /// Whether the hart holds a line until its next step.
+    pub fn holds(&self, line: LineAddr) -> bool
+        ensures { result ≡ is_held self.now.held line.number }
     {
-        self.held
+        match self.held {
+            Some(held) => held == line,
+            None => false,
+        }
     }
 
     /// The stamp of the hart's open attempt.

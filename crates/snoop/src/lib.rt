@@ -17,7 +17,9 @@ mod bus;
 mod face;
 mod fates;
 mod meeting;
+mod obstacle;
 mod ordering;
+mod serving;
 mod settling;
 
 pub use bus::Bus;

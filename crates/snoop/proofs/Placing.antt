@@ -8,8 +8,14 @@ use Rattle.mail.specs.Mailbox.{Marker}
 use Rattle.snoop.proofs.Ready.{ready_agent, served_yet}
 use Rattle.snoop.proofs.Showing.{agent_other, agent_past, agent_same, count_with_agent}
 use Rattle.snoop.specs.Agent.{Agent, agent_at, agent_posted, with_agent}
-use Rattle.snoop.specs.Places.{ordered_as}
 use Rattle.snoop.specs.Shows.{CanBeServed, IsReady, Kept}
+
+-- a request is no more a raised one, and this is the order
+abbrev pub ordered_as : Kept → Request → List Request → Kept
+ordered_as bus request order = record bus {
+  agents = with_agent bus.agents request.hart (record (agent_at bus.agents request.hart) { raised = None });
+  order = order;
+}
 
 -- the order has a hart's new request beside those that it had
 pub record HasPlaced (old new : List Request) (request : Request) : Type 0 where

@@ -12,7 +12,6 @@ ghost use Rattle.snoop.specs.Shows.{IsReady, Shows, kept};
 ghost use Rattle.stamp.specs.Stamps as stamps;
 ghost use Rattle.std.specs.Option.{option_map};
 
-use crate::agent::Agent;
 use crate::bus::Bus;
 use arrayvec::ArrayVec;
 use bus_order::Request;
@@ -70,14 +69,6 @@ fn is_before(first: Option<Stamp>, second: Option<Stamp>) -> bool
 }
 
 impl Bus {
-    /// A hart's agent.
-    pub(crate) fn agent(&self, hart: HartId) -> &Agent
-        requires { hart.number < length (kept self.now).agents }
-        ensures { result.now ≡ agent_at (kept self.now).agents hart.number }
-    {
-        &self.agents[usize::from(hart.number)]
-    }
-
     /// The stamp of the request that a hart has ordered on a line, if it has one there, and that has one.
     pub(crate) fn stamp_on(&self, line: LineAddr, hart: HartId) -> Option<Stamp>
         ensures { option_map stamps.numbered_stamp result ≡ stamp_on (kept self.now).order line.number hart.number }

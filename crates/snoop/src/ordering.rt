@@ -1,16 +1,13 @@
 //! A raised request takes its place in the order.
 
 ghost use Rattle.std.specs.Prelude.{◌≡◌, ◌<◌, None, Option, Some, length};
-ghost use Rattle.bus_order.specs.Order.{appended, in_front_of, numbered};
-ghost use Rattle.el_base.specs.Losers.{losers_of};
+ghost use Rattle.bus_order.specs.Order.{numbered};
 ghost use Rattle.el_model.specs.Order.{
   Alone,
   Behind,
   InFront,
   before_face,
-  marked_by,
   marked_from,
-  marking,
   order_losers,
   order_turn,
   place_for,
@@ -20,11 +17,10 @@ ghost use Rattle.el_model.specs.Order.{
 };
 ghost use Rattle.el_model.specs.State.{ModelState};
 ghost use Rattle.policy.specs.Winners.{wins_of};
-ghost use Rattle.snoop.specs.Agent.{agent_at, with_agent};
-ghost use Rattle.snoop.specs.Places.{definition_place, ordered_as};
+ghost use Rattle.snoop.specs.Agent.{agent_at};
+ghost use Rattle.snoop.specs.Places.{definition_place};
 ghost use Rattle.snoop.specs.Shows.{IsReady, Shows, kept};
 ghost use Rattle.stamp.specs.Stamps as stamps;
-ghost use Rattle.std.specs.Option.{option_map};
 
 use crate::agents::{post, unraise};
 use crate::bus::Bus;
@@ -171,7 +167,7 @@ impl Bus {
     /// and the outcome tells which sections lost. It is `Idle` exactly where the hart has raised no request.
     ///
     /// In lock removal a request that goes in front sends the hart of the former first one a marker, and the
-    /// hart of the former last one sends a marker to a request that goes behind (Rajwar and Goodman 2002).
+    /// hart of the former last one sends one to the hart of a request that goes behind.
     #[tactic(auto, unfolding(el_model::specs::Order::order_turn))]
     pub fn order<P: Policy>(&mut self, hart: HartId, policy: &P) -> Outcome
         requires hart_exists { hart.number < length (kept self.old).agents }

@@ -25,18 +25,18 @@ try_kept f hart same true = same hart 0 true
 try_kept f hart same false = same hart (hart.tries + 1) hart.fallback
 
 -- a loser, as the bus sees it
-beaten_agent : (mode : Mode) (stamp : Option Stamp) (hart : Hart) →
+pub beaten_agent : (mode : Mode) (stamp : Option Stamp) (hart : Hart) →
     agent_of (beaten mode stamp hart) ≡ agent_seeing (in_removal mode stamp) (agent_of hart)
 beaten_agent Tlr stamp hart = refl
 beaten_agent Sle stamp hart = try_kept agent_of (out_of_section hart) (λ h tries fallback. refl) (hart.tries + 1 == most_tries)
 beaten_agent Plain stamp hart = try_kept agent_of (out_of_section hart) (λ h tries fallback. refl) (hart.tries + 1 == most_tries)
 
-beaten_cache : (mode : Mode) (stamp : Option Stamp) (hart : Hart) → (beaten mode stamp hart).cache ≡ cleared hart.cache
+pub beaten_cache : (mode : Mode) (stamp : Option Stamp) (hart : Hart) → (beaten mode stamp hart).cache ≡ cleared hart.cache
 beaten_cache Tlr stamp hart = refl
 beaten_cache Sle stamp hart = try_kept (λ h. h.cache) (out_of_section hart) (λ h tries fallback. refl) (hart.tries + 1 == most_tries)
 beaten_cache Plain stamp hart = try_kept (λ h. h.cache) (out_of_section hart) (λ h tries fallback. refl) (hart.tries + 1 == most_tries)
 
-beaten_live : (mode : Mode) (stamp : Option Stamp) (hart : Hart) → is_some (beaten mode stamp hart).section ≡ false
+pub beaten_live : (mode : Mode) (stamp : Option Stamp) (hart : Hart) → is_some (beaten mode stamp hart).section ≡ false
 beaten_live Tlr stamp hart = refl
 beaten_live Sle stamp hart = try_kept (λ h. is_some h.section) (out_of_section hart) (λ h tries fallback. refl) (hart.tries + 1 == most_tries)
 beaten_live Plain stamp hart = try_kept (λ h. is_some h.section) (out_of_section hart) (λ h tries fallback. refl) (hart.tries + 1 == most_tries)

@@ -13,3 +13,6 @@ mod Serves
 mod Sent
 mod Faced
 mod Placing
+mod Delivers
+mod Forwarding
+mod Hears

@@ -5,4 +5,5 @@ pub mod Shows
 pub mod Meets
 pub mod Obstacles
 pub mod Serving
+pub mod Delivering
 pub mod Places

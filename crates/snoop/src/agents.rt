@@ -1,14 +1,26 @@
 //! One of the agents of all harts is changed, or each of them. A hart that is not there changes none.
 
 ghost use Rattle.std.specs.Prelude.{◌≡◌, ◌<◌, ℕ, None, length};
-ghost use Rattle.mail.specs.Mailbox.{numbered};
-ghost use Rattle.snoop.specs.Agent.{agent_at, agent_forgetting, agent_posted, agent_served, with_agent};
+ghost use Rattle.std.specs.Option.{option_map};
+ghost use Rattle.mail.specs.Mailbox.{numbered, oldest};
+ghost use Rattle.snoop.specs.Agent.{
+  agent_at,
+  agent_behind,
+  agent_forgetting,
+  agent_posted,
+  agent_served,
+  agent_taken,
+  with_agent,
+};
+ghost use Rattle.snoop.specs.Delivering.{agent_heard};
 ghost use Rattle.snoop.specs.Serving.{agent_claiming};
+ghost use Rattle.stamp.specs.Stamps.{numbered_stamp};
 
 use crate::agent::Agent;
 use bus_order::Request;
 use el_base::HartId;
 use mail::Message;
+use stamp::Stamp;
 
 /// A message comes into the mailbox of a hart.
 pub fn post(agents: &mut Vec<Agent>, to: HartId, message: Message)
@@ -55,4 +67,36 @@ pub fn unraise(agents: &mut Vec<Agent>, hart: HartId)
     if let Some(agent) = agents.get_mut(usize::from(hart.number)) {
         agent.take_raised();
     }
+}
+
+/// The oldest message is taken out of the mailbox of a hart.
+pub fn take_message(agents: &mut Vec<Agent>, hart: HartId) -> Option<Message>
+    requires { hart.number < length agents.old.items }
+    ensures oldest { option_map numbered result ≡ oldest (agent_at agents.old.items hart.number).mail }
+    ensures rest { agents.new.items ≡
+        with_agent agents.old.items hart.number (agent_taken (agent_at agents.old.items hart.number)) }
+{
+    let agent = &mut agents[usize::from(hart.number)];
+    agent.next()
+}
+
+/// A hart knows from now on that another is before it.
+pub fn come_behind(agents: &mut Vec<Agent>, hart: HartId, other: HartId)
+    requires { hart.number < length agents.old.items }
+    ensures { agents.new.items ≡
+        with_agent agents.old.items hart.number (agent_behind other.number (agent_at agents.old.items hart.number)) }
+{
+    let agent = &mut agents[usize::from(hart.number)];
+    agent.come_behind(other);
+}
+
+/// A hart is told of an origin, and sees a stamp, if there is one.
+pub fn hear(agents: &mut Vec<Agent>, hart: HartId, origin: HartId, stamp: Option<Stamp>)
+    requires { hart.number < length agents.old.items }
+    ensures { agents.new.items ≡ with_agent agents.old.items hart.number
+        (agent_heard origin.number (option_map numbered_stamp stamp) (agent_at agents.old.items hart.number)) }
+{
+    let agent = &mut agents[usize::from(hart.number)];
+    agent.tell(origin);
+    agent.see(stamp);
 }

@@ -58,7 +58,7 @@ fn told_fate(winner: Option<HartId>) -> Fate
 }
 
 /// Whether both stamps are there, and the first comes before the second.
-fn is_before(first: Option<Stamp>, second: Option<Stamp>) -> bool
+pub fn is_before(first: Option<Stamp>, second: Option<Stamp>) -> bool
     ensures { result ≡
         stamps.is_before (option_map stamps.numbered_stamp first) (option_map stamps.numbered_stamp second) }
 {

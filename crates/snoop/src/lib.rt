@@ -14,6 +14,7 @@
 mod agent;
 mod agents;
 mod bus;
+mod delivering;
 mod face;
 mod fates;
 mod meeting;

@@ -1,17 +1,17 @@
 -- the bus shows what the definition makes of a marker
-use Rattle.std.proofs.Common.{◌≡◌, ◌≢◌, ◌∙◌, ℕ, zero, suc, ◌+◌, ◌-◌, ◌<◌, ◌≤◌, ◌==◌, ◌&&◌, not, Bool, true, false, List, [], ◌∷◌, length, map, Option, Some, None, is_some, refl, ap, sym, subst, inl, inr, arith, if◌then◌else◌}
+use Rattle.std.proofs.Common.{◌≡◌, ◌∙◌, ℕ, suc, ◌-◌, ◌<◌, Bool, true, false, List, [], ◌∷◌, length, map, Option, Some, None, refl, ap, sym, subst, inl, inr, arith, if◌then◌else◌}
 use Rattle.std.specs.List.{filter}
 use Rattle.std.specs.Prelude.{slice_index_or, slice_set}
 use Rattle.std.proofs.lemmas.Bool.{cases_lt}
-use Rattle.std.proofs.lemmas.List.{set-get_or, set-set, set_past, get_or-set_same}
+use Rattle.std.proofs.lemmas.List.{set-get_or, set-set, set_past}
 use Rattle.bus_order.specs.Order.{Request, request_of}
-use Rattle.defer_list.specs.HartSet.{has, included}
+use Rattle.defer_list.specs.HartSet.{included}
 use Rattle.el_base.specs.declared.outcomes.Outcome.TheVariants.{Delivered, Idle}
 use Rattle.el_model.specs.Deliver.{after_marker, deliver_next, deliver_turn, delivered, losers_by, post_to, taken, told_on}
-use Rattle.el_model.specs.State.{Hart, ModelState, count_up, hart_of, new_hart, numbers_of, ordered_of, ordered_on, post_all, with_hart}
+use Rattle.el_model.specs.State.{Hart, ModelState, count_up, hart_of, new_hart, post_all, with_hart}
 use Rattle.el_model.proofs.Harts.{hart_of-with_hart_same}
 use Rattle.mail.specs.Mailbox.{Message, Probe, oldest, posted, without_oldest}
-use Rattle.snoop.specs.Agent.{Agent, agent_at, agent_behind, agent_of, agent_posted, agent_taken, with_agent}
+use Rattle.snoop.specs.Agent.{Agent, agent_at, agent_behind, agent_posted, agent_taken, with_agent}
 use Rattle.snoop.specs.Delivering.{marker_taken, numbers_from, passed_on, passes, posts_sent, probe_sent, probes_sent}
 use Rattle.snoop.specs.Shows.{IsReady, Kept, Shows}
 use Rattle.snoop.proofs.Ready.{ready_agent}
@@ -37,7 +37,8 @@ twice_there state h first then_ =
       | inr past ↦ let gone = set_past state.harts h first past in
           ap (λ harts. record state { harts = slice_set harts h (then_ (slice_index_or harts h (new_hart 0))) }) gone
           ∙ ap (λ harts. record state { harts = harts })
-          (set_past state.harts h (then_ (hart_of state h)) past ∙ sym (set_past state.harts h (then_ first) past)) ]
+          (set_past state.harts h (then_ (hart_of state h)) past ∙ sym (set_past state.harts h (then_ first) past))
+    ]
 
 -- messages that are posted, one after another
 pub shows_posts : (messages : List Message) (bus : Kept) (state : ModelState) (to : ℕ) → Shows bus state →
@@ -173,16 +174,16 @@ first_answer agents h sender =
 pub marker_answered : (bus : Kept) (h sender : ℕ) (own : Request) → request_of bus.order h ≡ Some own →
     record bus {
       agents = probes_sent (passes (agent_at (first_answer bus.agents h sender) h).told bus.order sender own.line)
-        (numbers_from 0 (length (first_answer bus.agents h sender))) sender (first_answer bus.agents h sender);
+          (numbers_from 0 (length (first_answer bus.agents h sender))) sender (first_answer bus.agents h sender);
     }
     ≡ record bus { agents = marker_taken bus h sender }
 marker_answered bus h sender own is =
     let behind = with_agent bus.agents h (agent_behind sender (agent_at bus.agents h)) in
     ap (λ agents. record bus { agents = agents })
     (ap (λ told. probes_sent (passes told bus.order sender own.line) (numbers_from 0 (length (first_answer bus.agents h sender))) sender (first_answer bus.agents h sender))
-      (told_behind bus.agents h sender)
+    (told_behind bus.agents h sender)
     ∙ ap (λ count. probes_sent (passes (agent_at bus.agents h).told bus.order sender own.line) (numbers_from 0 count) sender (first_answer bus.agents h sender))
-      (count_with_agent behind sender _ ∙ count_with_agent bus.agents h _)
+    (count_with_agent behind sender _ ∙ count_with_agent bus.agents h _)
     ∙ probes_posted (passes (agent_at bus.agents h).told bus.order sender own.line) (numbers_from 0 (length bus.agents)) sender (first_answer bus.agents h sender)
     ∙ ap (λ found. posts_sent (passed_on bus h sender found) sender (first_answer bus.agents h sender)) (sym is))
 

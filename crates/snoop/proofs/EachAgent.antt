@@ -1,5 +1,5 @@
 -- one agent after another becomes what is said of its number
-use Rattle.std.proofs.Common.{◌≡◌, ◌≢◌, ◌∙◌, ◌<◌, ◌≤◌, ℕ, suc, List, length, arith, refl, sym, ap, inl, inr}
+use Rattle.std.proofs.Common.{◌≡◌, ◌∙◌, ◌<◌, ◌≤◌, ℕ, suc, List, length, arith, refl, sym, ap, inl, inr}
 use Rattle.std.proofs.lemmas.Bool.{cases_eq}
 use Rattle.snoop.specs.Agent.{Agent, agent_at, with_agent}
 use Rattle.snoop.proofs.Showing.{agent_other, agent_same, count_with_agent}
@@ -21,6 +21,7 @@ one_changed becomes number old new agent inside is below = record {
   done = λ g under. elim (cases_eq g number) [
     | inl same ↦ ap (agent_at (with_agent new number agent)) same ∙ agent_same new number agent inside ∙ is
         ∙ ap (becomes number) (below.rest number (omega arith)) ∙ ap (λ k. becomes k (agent_at old k)) (sym same)
-    | inr before ↦ agent_other new number g agent before ∙ below.done g (omega (arith, before, under)) ];
+    | inr before ↦ agent_other new number g agent before ∙ below.done g (omega (arith, before, under))
+  ];
   rest = λ g from. agent_other new number g agent (omega arith) ∙ below.rest g (omega arith);
 }

@@ -1,4 +1,4 @@
-use Rattle.std.proofs.Common.{◌∙◌, rules, sym}
+use Rattle.std.proofs.Common.{rules, sym}
 use Rattle.bus_order.specs.Order.{numbered}
 use Rattle.snoop.specs.Shows.{kept}
 use Rattle.snoop.proofs.Delivers.{marker_answered}

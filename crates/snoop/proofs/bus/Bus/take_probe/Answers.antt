@@ -2,7 +2,7 @@ use Rattle.std.proofs.Common.{◌∙◌, ap, subst, sym, if◌then◌else◌, op
 use Rattle.bus_order.specs.Order.{numbered, request_of}
 use Rattle.defer_list.specs.HartSet.{has}
 use Rattle.el_model.specs.Deliver.{after_probe, nobody, probe_losers}
-use Rattle.el_model.specs.State.{hart_of, ordered_of}
+use Rattle.el_model.specs.State.{ordered_of}
 use Rattle.snoop.specs.Shows.{Shows, kept}
 use Rattle.snoop.proofs.Hears.{forward_ready, probe_shows}
 use Rattle.snoop.proofs.LosersBelow.{nobody_lost}

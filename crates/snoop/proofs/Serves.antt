@@ -21,10 +21,12 @@ use Rattle.el_base.specs.declared.outcomes.Why.TheVariants.{Behind, Retained}
 use Rattle.el_base.specs.declared.outcomes.Why.{Why}
 use Rattle.el_model.specs.Conflicts.{conflicts_with, first_such, meets_bit, retainer_of, retains}
 use Rattle.el_model.specs.Serve.{Free, Obstacle, blocks_if, bystander, obstacle_to, other_head, others_cache, others_have, own_copy, served, served_hart, serving, with_claim}
-use Rattle.el_model.specs.State.{Hart, ModelState, cache_of, count_up, each_hart, hart_of, head_of, is_live}
+use Rattle.el_model.specs.State.{Hart, ModelState, Section, cache_of, count_up, each_hart, hart_of, head_of, is_live, section_of}
 use Rattle.snoop.specs.Agent.{Agent, agent_at, agent_forgetting, agent_of, agent_served}
 use Rattle.snoop.specs.Serving.{CopiesClaim, CopiesServe, Serves, agent_after_serve, agent_claiming}
 use Rattle.snoop.specs.Shows.{CanBeServed, IsReady, Kept, Shows, line_of}
+use Rattle.section_laws.proofs.FreeLines.{unmet as section_unmet}
+use Rattle.snoop.proofs.Settles.{stays_twice}
 use Rattle.snoop.proofs.Ready.{ready_after}
 use Rattle.snoop.proofs.ServedCaches.{others_marks, others_room, others_well_formed, own_after, own_after_marks, own_after_well_formed, own_marked, own_marked_well_formed}
 use Rattle.snoop.proofs.Showing.{ShowsEach, agent_past, shows_each}
@@ -64,14 +66,6 @@ claim_stays : (live : Bool) (request : Request) (old new : Copies) → CopiesCla
 claim_stays true request old new claim = claim.stays
 claim_stays false request old new claim =
     subst (λ copies. StaysCoherent old copies) (sym claim) (record { first = refl; lines = refl; caches = refl; coherent = λ bytes was. was })
-
-stays_twice : (old mid new : Copies) → StaysCoherent old mid → StaysCoherent mid new → StaysCoherent old new
-stays_twice old mid new first second = record {
-  first = second.first ∙ first.first;
-  lines = second.lines ∙ first.lines;
-  caches = second.caches ∙ first.caches;
-  coherent = λ bytes was. second.coherent bytes (first.coherent bytes was);
-}
 
 pub serve_stays : (live : Bool) (request : Request) (old new : Copies) → CopiesServe live request old new → StaysCoherent old new
 serve_stays live request old new serve =
@@ -129,93 +123,17 @@ claim_agent : (live : Bool) (request : Request) (hart : Hart) → agent_of (with
 claim_agent true request hart = refl
 claim_agent false request hart = refl
 
--- nothing is in the way
-not_blocked : (why : Why) (by : Option ℕ) (other : Obstacle) → blocks_if why by other ≡ Free → by ≡ None
-not_blocked why None other free = refl
-not_blocked why (Some by) other free = absurd (cc)
-
-blocked_else : (why : Why) (by : Option ℕ) (other : Obstacle) → blocks_if why by other ≡ Free → other ≡ Free
-blocked_else why None other free = free
-blocked_else why (Some by) other free = absurd (cc)
-
-none_such : (test : ℕ → Bool) (from number k : ℕ) (harts : List Hart) → first_such test (count_up from harts) ≡ None → k < length harts →
-    number ≡ from + k → test number ≡ false
-none_such test from number k [] none below is = absurd (omega (arith, below))
-none_such test from number zero (hart ∷ harts) none below is =
-    let same : number ≡ from = omega (arith, is) in rw same (by (test from) none)
-  where
-    by : (found : Bool) → (if found then Some from else first_such test (count_up (suc from) harts)) ≡ None → found ≡ false
-    by true some = absurd (cc)
-    by false some = refl
-none_such test from number (suc k) (hart ∷ harts) none below is =
-    none_such test (suc from) number k harts (rest (test from) none) (omega (arith, below)) (omega (arith, is))
-  where
-    rest : (found : Bool) → (if found then Some from else first_such test (count_up (suc from) harts)) ≡ None →
-        first_such test (count_up (suc from) harts) ≡ None
-    rest true some = absurd (cc)
-    rest false some = some
-
-some_is : (a b : Request) → Some a ≡ Some b → a ≡ b
-some_is a b same = cc
-
--- a request in order has a head on its line
-has_head : (order : List Request) (h : ℕ) (request : Request) → request_of order h ≡ Some request → first_of order request.line ≡ None → ⊥
-has_head [] h request is none = absurd (cc)
-has_head (first ∷ order) h request is none =
-    by (first.hart == h) (first.line == request.line) refl (λ found absent. has_head order h request found absent) is none
-  where
-    differs : (a b : ℕ) → a ≡ b → (a == b) ≡ false → ⊥
-    differs a b same test = both (a == b) (ap (λ k. a == k) (sym same) ∙ own_test a) test
-      where
-        both : (t : Bool) → t ≡ true → t ≡ false → ⊥
-        both true yes_ no_ = absurd (cc)
-        both false yes_ no_ = absurd (cc)
-
-    by : (own on_line : Bool) → (first.line == request.line) ≡ on_line →
-        (request_of order h ≡ Some request → first_of order request.line ≡ None → ⊥) →
-        (if own then Some first else request_of order h) ≡ Some request → (if on_line then Some first else first_of order request.line) ≡ None → ⊥
-    by own true test rest is none = absurd (cc)
-    by true false test rest is none = differs first.line request.line (ap (λ r. r.line) (some_is first request is)) test
-    by false false test rest is none = rest is none
-
-head_is : (order : List Request) (h : ℕ) (request : Request) (head : Option Request) → IsOneEach order → request_of order h ≡ Some request →
-    first_of order request.line ≡ head → other_head request.hart head ≡ None → head ≡ Some request
-head_is order h request None once is found own = absurd (has_head order h request is found)
-head_is order h request (Some head) once is found own =
-    let same = number_of_test head.hart request.hart (mine (head.hart == request.hart) own) in
-    let ordered = request_of_first_of order request.line head once found in
-    sym ordered ∙ ap (request_of order) (same ∙ hart_of_request_of order h request is) ∙ is
-  where
-    mine : (own : Bool) → (if own then None else Some head.hart) ≡ None → own ≡ true
-    mine true none = refl
-    mine false none = absurd (cc)
-
--- a request that nothing is in the way of is the head of its line
-free_head : (bus : Kept) (state : ModelState) (request : Request) → IsReady bus → Shows bus state → request_of bus.order request.hart ≡ Some request →
-    obstacle_to state request ≡ Free → head_of state request.line ≡ Some request
-free_head bus state request ready shows ordered free =
-    ap (λ order. first_of order request.line) (sym shows.order)
-    ∙ head_is bus.order request.hart request (first_of bus.order request.line) ready.once ordered refl
-    (ap (λ order. other_head request.hart (first_of order request.line)) shows.order
-    ∙ not_blocked Behind (other_head request.hart (head_of state request.line)) _ free)
-
 -- where it is to write, no other hart has a bit on its line
-unmet_by : (apart live meets : Bool) → ((apart && live) && meets) ≡ false → apart ≡ true → (live ≡ false → meets ≡ false) → meets ≡ false
-unmet_by true true meets none is dead = none
-unmet_by true false meets none is dead = dead refl
-unmet_by false live meets none is dead = absurd (cc)
-
 unmet : (bus : Kept) (state : ModelState) (request : Request) (g : ℕ) → IsReady bus → Shows bus state → request_of bus.order request.hart ≡ Some request →
-    obstacle_to state request ≡ Free → g < length bus.agents → g ≢ request.hart → request.need ≡ Write → has_bit (cache_of state g) request.line ≡ false
-unmet bus state request g ready shows ordered free below apart write =
-    let retained : retainer_of state request.line ≡ None =
-    not_blocked Retained (retainer_of state request.line) _ (blocked_else Behind (other_head request.hart (head_of state request.line)) _ free) in
-    let kept = none_such (λ k. retains state k request.line) 0 g g state.harts retained (omega (arith, below, shows.agent_each)) (omega arith) in
-    let none = ap (λ head. conflicts_with head g (hart_of state g)) (sym (free_head bus state request ready shows ordered free)) ∙ kept in
-    let test = ap not (other_test request.hart g (λ same. apart (sym same))) in
-    ap (meets_bit (hart_of state g) request.line) (sym write)
-    ∙ unmet_by (not (request.hart == g)) (is_live state g) (meets_bit (hart_of state g) request.line request.need) none test
-    (λ dead. ap (meets_bit (hart_of state g) request.line) write ∙ no_marks (cache_of state g) request.line (sym (shows.live g) ∙ dead))
+    obstacle_to state request ≡ Free → g ≢ request.hart → request.need ≡ Write → has_bit (cache_of state g) request.line ≡ false
+unmet bus state request g ready shows ordered free apart write = by (section_of state g) refl
+  where
+    by : (section : Option Section) → section_of state g ≡ section → has_bit (cache_of state g) request.line ≡ false
+    by None none = no_marks (cache_of state g) request.line (sym (shows.live g) ∙ ap is_some none)
+    by (Some section) live =
+        ap (meets_bit (hart_of state g) request.line) (sym write)
+        ∙ section_unmet state request.hart g request section (subst IsOneEach shows.order ready.once)
+        (ap (λ order. request_of order request.hart) (sym shows.order) ∙ ordered) free apart live
 
 -- the part of the bus that a served request changes, hart by hart
 served_agent : (state : ModelState) (request : Request) (g : ℕ) (hart : Hart) → (g ≡ request.hart → hart ≡ hart_of state g) →
@@ -283,7 +201,7 @@ served_marks bus new state request ready shows ordered free serves g below =
       | inr other ↦ ap has_marks (serve_others _ request bus.copies new.copies serves.copies g other)
           ∙ others_marks (cache_at bus.copies.caches g).ways _ request.need (cache_at bus.copies.caches g).residency request.line
           (ready.well_formed g (omega (arith, below, ready.each)))
-          (λ write. ap (λ cache. has_bit cache request.line) (shows.caches g) ∙ unmet bus state request g ready shows ordered free below other write)
+          (λ write. ap (λ cache. has_bit cache request.line) (shows.caches g) ∙ unmet bus state request g ready shows ordered free other write)
     ]
   where
     can : CanBeServed bus request.hart request

@@ -13,7 +13,7 @@ use Rattle.snoop.specs.Shows.{Kept}
 stays_same : (old new : Copies) → new ≡ old → StaysCoherent old new
 stays_same old new same = rw same (record { first = refl; lines = refl; caches = refl; coherent = λ bytes tells. tells })
 
-stays_twice : (old mid new : Copies) → StaysCoherent old mid → StaysCoherent mid new → StaysCoherent old new
+pub stays_twice : (old mid new : Copies) → StaysCoherent old mid → StaysCoherent mid new → StaysCoherent old new
 stays_twice old mid new first second = record {
   first = second.first ∙ first.first;
   lines = second.lines ∙ first.lines;

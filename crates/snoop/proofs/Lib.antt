@@ -13,3 +13,4 @@ mod Serves
 mod Sent
 mod Faced
 mod Placing
+mod Standing

@@ -55,7 +55,10 @@ ready_raised bus request ready none can = record {
   each = ready.each ∙ sym count;
   well_formed = ready.well_formed;
   raised = λ h other is. elim (cases_eq h request.hart) [
-    | inl own ↦ rw own (subst (CanBeServed (record bus { agents = with_raised bus.agents request }) request.hart) (same other (own_request h other own is)) (still request.hart request can))
+    | inl own ↦
+        rw own
+        (subst (CanBeServed (record bus { agents = with_raised bus.agents request }) request.hart) (same other (own_request h other own is))
+        (still request.hart request can))
     | inr apart ↦ still h other (ready.raised h other (other_request h other apart is))
   ];
   ordered = λ h other is. still h other (ready.ordered h other is);

@@ -115,7 +115,8 @@ fn agent(alloc: Global, mode: Mode, hart: HartId, told: bool) -> Result<Agent, F
 fn well_formed(hierarchy: &Hierarchy)
     requires { length (shown hierarchy.now).caches ≤ 8 }
     ensures { (h : ℕ) → h < length (shown hierarchy.now).caches →
-        IsWellFormed (cache_at (shown hierarchy.now).caches h).ways (cache_at (shown hierarchy.now).caches h).residency }
+        IsWellFormed (cache_at (shown hierarchy.now).caches h).ways
+        (cache_at (shown hierarchy.now).caches h).residency }
 {
     for number in 0..hierarchy.harts() {
         hierarchy.cache(hart_at(number)).room(line());

@@ -75,8 +75,8 @@ fn a_request_in_front_meets_two_sections(rt: HostRuntime) -> Result<(), Fail> {
     assert_eq!(rt; message(&mut bus, hart(0)?), None);
     assert_eq!(rt; message(&mut bus, hart(2)?), None);
 
-    // in lock removal hart 1 does not lose to hart 2, but to hart 0, of which it was told; hart 2 sends the former head's hart a
-    // marker
+    // in lock removal hart 1 does not lose to hart 2, but to hart 0, of which it was told; hart 2 sends hart 0,
+    // whose request was the first one of the line, a marker
     let (mut bus, outcome) = in_front(rt.alloc(), Mode::Tlr, true)?;
     assert_eq!(rt; outcome, ordered(&[(1, 0), (3, 2)])?);
     assert_eq!(rt; marked(&bus)?, [false, false, true, false]);

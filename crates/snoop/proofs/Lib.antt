@@ -16,3 +16,4 @@ mod Placing
 mod Delivers
 mod Forwarding
 mod Hears
+mod Standing

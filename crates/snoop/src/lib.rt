@@ -24,3 +24,6 @@ mod serving;
 mod settling;
 
 pub use bus::Bus;
+
+#[cfg(test)]
+mod tests;

@@ -23,4 +23,3 @@ pub mod Promises
 pub mod LeastOfFour
 pub mod SecondAttempt
 pub mod Endings
-pub mod Releasing

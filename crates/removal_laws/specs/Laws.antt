@@ -8,15 +8,13 @@ use Rattle.el_base.specs.declared.config.Mode.TheVariants.{Tlr}
 use Rattle.el_base.specs.declared.events.Event.{Event}
 use Rattle.el_base.specs.declared.events.Kind.TheVariants as kinds
 use Rattle.el_base.specs.declared.outcomes.Outcome.{Outcome}
-use Rattle.el_base.specs.declared.outcomes.Outcome.TheVariants.{Blocked, Committed, Served}
+use Rattle.el_base.specs.declared.outcomes.Outcome.TheVariants.{Blocked, Served}
 use Rattle.el_base.specs.declared.outcomes.Why.TheVariants.{Locked}
 use Rattle.elf_image.specs.Program.{Program}
 use Rattle.el_model.specs.Conflicts.{retains}
-use Rattle.el_model.specs.InSection.{shown_in}
 use Rattle.el_model.specs.Losses.{winner_over}
 use Rattle.el_model.specs.Next.{after, next, state_after}
-use Rattle.el_model.specs.State.{ModelState, Section, has_request, hart_of, head_of, is_live, ordered_of, ordered_on, section_of}
-use Rattle.el_model.specs.Upcoming.{is_release}
+use Rattle.el_model.specs.State.{ModelState, hart_of, head_of, is_live, ordered_of, ordered_on, section_of}
 use Rattle.mail.specs.Mailbox.{Marker, Probe, has_message}
 use Rattle.removal_laws.specs.Facts.{Everywhere, Facts}
 use Rattle.section_laws.specs.Sections.{is_committed, is_rolled_back}
@@ -169,12 +167,3 @@ LeastEndsItsOwnSection =
     program.harts ≡ config.harts → IsInRange config → HasLeast (after program config events) h stamp →
     is_live (after program config events) h ≡ true → is_live (next (after program config events) event).state h ≡ false →
     closes (after program config events) event h ≡ true
-
--- a hart whose section may go on and has its release next commits it in its next step
-abbrev pub ReleasesCommit : Type 0
-ReleasesCommit =
-    (program : Program) (config : Config) (events : List Event) (event : Event) (section : Section) → event.kind ≡ kinds.Step →
-    section_of (after program config events) event.hart.number ≡ Some section →
-    has_request (after program config events) event.hart.number ≡ false → section.count < (after program config events).config.long →
-    is_release (shown_in (after program config events) event.hart.number section) event.hart.number section.word section.old ≡ true →
-    (next (after program config events) event).outcome ≡ Committed (section.count + 1)

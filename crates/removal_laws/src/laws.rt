@@ -9,7 +9,6 @@ ghost use Rattle.removal_laws.specs.Laws.{
   LeastStampIsNotRetained,
   LeastStampNeverLoses,
   LosersLoseToEarlier,
-  ReleasesCommit,
   StampsAreDistinct,
   StampsAreKept,
 };
@@ -94,12 +93,4 @@ pub fn least_stamp_is_not_retained()
 #[tactic(auto, using(crate::proofs::Promises::head_is_served))]
 pub fn head_is_served()
     ensures { HeadIsServed }
-{}
-
-/// In every state that can be reached, in every mode: where a hart has a live section and no request, its section has
-/// run fewer instructions than the configured number, and its next instruction is the release, a step of the hart
-/// commits the section.
-#[tactic(auto, using(crate::proofs::Releasing::releases_commit))]
-pub fn releases_commit()
-    ensures { ReleasesCommit }
 {}

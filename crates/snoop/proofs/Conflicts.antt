@@ -1,0 +1,53 @@
+-- where a request meets a section, as the bus tells it
+use Rattle.std.proofs.Common.{◌≡◌, ◌∙◌, ℕ, ◌==◌, ◌&&◌, Bool, true, false, not, Option, Some, None, is_some, refl, ap, sym}
+use Rattle.bus_order.specs.Order.{Request}
+use Rattle.cache_sets.specs.Bits.{bits_of, has_need}
+use Rattle.cache_sets.specs.Cache.{bit_in, has_marks}
+use Rattle.cache_sets.specs.Residency.{Way}
+use Rattle.coherence.specs.Caches.{cache_at}
+use Rattle.el_base.specs.declared.outcomes.Need.{Need}
+use Rattle.el_base.specs.declared.outcomes.Need.TheVariants.{Read, Write}
+use Rattle.el_model.specs.Conflicts.{conflicts, meets_bit}
+use Rattle.el_model.specs.State.{Hart, ModelState, hart_of}
+use Rattle.snoop.specs.Meets.{meets_in}
+use Rattle.snoop.specs.Shows.{Kept, Shows}
+
+read_by : (read write : Bool) (line : ℕ) (letter : _) → has_need Read (bits_of (Some (record { line = line; letter = letter; read = read; write = write }))) ≡ read
+read_by true true line letter = refl
+read_by true false line letter = refl
+read_by false true line letter = refl
+read_by false false line letter = refl
+
+write_by : (read write : Bool) (line : ℕ) (letter : _) → has_need Write (bits_of (Some (record { line = line; letter = letter; read = read; write = write }))) ≡ write
+write_by true true line letter = refl
+write_by true false line letter = refl
+write_by false true line letter = refl
+write_by false false line letter = refl
+
+-- the bits that a cache tells are those of the way
+pub read_need : (way : Option Way) → has_need Read (bits_of way) ≡ bit_in Read way
+read_need None = refl
+read_need (Some way) = read_by way.read way.write way.line way.letter
+
+pub write_need : (way : Option Way) → has_need Write (bits_of way) ≡ bit_in Write way
+write_need None = refl
+write_need (Some way) = write_by way.read way.write way.line way.letter
+
+pub meets_same : (hart : Hart) (line : ℕ) (need : Need) → meets_in hart.cache line need ≡ meets_bit hart line need
+meets_same hart line Read = refl
+meets_same hart line Write = refl
+
+and_twice : (a b c : Bool) → (a && (b && c)) ≡ ((a && b) && c)
+and_twice true b c = refl
+and_twice false b c = refl
+
+-- the test that the bus makes is the definition's
+pub conflicts_shown : (bus : Kept) (state : ModelState) (request : Request) (h : ℕ) → Shows bus state →
+    (not (request.hart == h)
+    && (has_marks (cache_at bus.copies.caches h).residency && meets_in (cache_at bus.copies.caches h).residency request.line request.need))
+    ≡ conflicts request h (hart_of state h)
+conflicts_shown bus state request h shows =
+    ap (λ cache. not (request.hart == h) && (has_marks cache && meets_in cache request.line request.need)) (shows.caches h)
+    ∙ ap (λ live. not (request.hart == h) && (live && meets_in (hart_of state h).cache request.line request.need)) (sym (shows.live h))
+    ∙ ap (λ meets. not (request.hart == h) && (is_some (hart_of state h).section && meets)) (meets_same (hart_of state h) request.line request.need)
+    ∙ and_twice (not (request.hart == h)) (is_some (hart_of state h).section) (meets_bit (hart_of state h) request.line request.need)

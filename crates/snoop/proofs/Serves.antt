@@ -1,0 +1,346 @@
+-- the bus shows what the definition makes of a served request, and is ready for what comes next
+use Rattle.std.proofs.Common.{◌≡◌, ◌≢◌, ◌∙◌, ℕ, zero, suc, ◌+◌, ◌<◌, ◌==◌, ◌&&◌, ◌||◌, not, Bool, true, false, List, [], ◌∷◌, length, Option, Some, None, is_some, refl, ap, sym, subst, inl, inr, arith, if◌then◌else◌}
+use Rattle.std.specs.List.{list_any}
+use Rattle.std.proofs.lemmas.Bool.{cases_eq, cases_lt}
+use Rattle.bus_order.specs.Order.{IsOneEach, Request, first_of, removed, request_of}
+use Rattle.bus_order.proofs.LookUps.{number_of_test, other_test, own_test, request_of_removed_other, request_of_removed_own}
+use Rattle.bus_order.proofs.Orders.{one_each_removed}
+use Rattle.bus_order.proofs.Queues.{hart_of_request_of, request_of_first_of}
+use Rattle.cache_sets.specs.Cache.{has_bit, has_marks, is_resident, marked, room_of, touched}
+use Rattle.cache_sets.specs.Cached.{Cached}
+use Rattle.cache_sets.specs.Residency.{Way}
+use Rattle.cache_sets.specs.WellFormed.{IsWellFormed}
+use Rattle.cache_sets.proofs.MarkLemmas.{no_marks}
+use Rattle.coherence.specs.Caches.{cache_at, others_from}
+use Rattle.coherence.specs.Caches as copies
+use Rattle.coherence.proofs.GivenUp.{beyond}
+use Rattle.coherence.specs.Served.{Copies, StaysCoherent, has_room}
+use Rattle.el_base.specs.declared.outcomes.Need.{Need}
+use Rattle.el_base.specs.declared.outcomes.Need.TheVariants.{Write}
+use Rattle.el_base.specs.declared.outcomes.Why.TheVariants.{Behind, Retained}
+use Rattle.el_base.specs.declared.outcomes.Why.{Why}
+use Rattle.el_model.specs.Conflicts.{conflicts_with, first_such, meets_bit, retainer_of, retains}
+use Rattle.el_model.specs.Serve.{Free, Obstacle, blocks_if, bystander, obstacle_to, other_head, others_cache, others_have, own_copy, served, served_hart, serving, with_claim}
+use Rattle.el_model.specs.State.{Hart, ModelState, Section, cache_of, count_up, each_hart, hart_of, head_of, is_live, section_of}
+use Rattle.snoop.specs.Agent.{Agent, agent_at, agent_forgetting, agent_of, agent_served}
+use Rattle.snoop.specs.Serving.{CopiesClaim, CopiesServe, Serves, agent_after_serve, agent_claiming}
+use Rattle.snoop.specs.Shows.{CanBeServed, IsReady, Kept, Shows, line_of}
+use Rattle.section_laws.proofs.FreeLines.{unmet as section_unmet}
+use Rattle.snoop.proofs.Settles.{stays_twice}
+use Rattle.snoop.proofs.Ready.{ready_after}
+use Rattle.snoop.proofs.ServedCaches.{others_marks, others_room, others_well_formed, own_after, own_after_marks, own_after_well_formed, own_marked, own_marked_well_formed}
+use Rattle.snoop.proofs.Showing.{ShowsEach, agent_past, shows_each}
+
+-- a hart that the test takes for another, and one that it takes for itself
+at_own : {A : Type 0} (g h : ℕ) (x y : A) → g ≡ h → (if g == h then x else y) ≡ x
+at_own g h x y same = ap (λ test. if test then x else y) (ap (λ k. g == k) (sym same) ∙ own_test g)
+
+at_other : {A : Type 0} (g h : ℕ) (x y : A) → g ≢ h → (if g == h then x else y) ≡ y
+at_other g h x y other = ap (λ test. if test then x else y) (other_test g h other)
+
+-- the copies after the line was claimed
+abbrev claimed_cache : Bool → ℕ → Need → List (List Way) → List (List Way)
+claimed_cache true line need cache = marked cache line need
+claimed_cache false line need cache = cache
+
+claim_ways : (live : Bool) (request : Request) (old new : Copies) → CopiesClaim live request old new → (g : ℕ) →
+    (cache_at new.caches g).ways ≡ (cache_at old.caches g).ways
+claim_ways true request old new claim g =
+    elim (cases_eq g request.hart) [
+      | inl same ↦ ap (λ k. (cache_at new.caches k).ways) same ∙ claim.own.ways ∙ ap (λ k. (cache_at old.caches k).ways) (sym same)
+      | inr other ↦ ap (λ cache. cache.ways) (claim.others g other)
+    ]
+claim_ways false request old new claim g = ap (λ copies. (cache_at copies.caches g).ways) claim
+
+claim_others : (live : Bool) (request : Request) (old new : Copies) → CopiesClaim live request old new → (g : ℕ) → g ≢ request.hart →
+    cache_at new.caches g ≡ cache_at old.caches g
+claim_others true request old new claim g other = claim.others g other
+claim_others false request old new claim g other = ap (λ copies. cache_at copies.caches g) claim
+
+claim_own : (live : Bool) (request : Request) (old new : Copies) → CopiesClaim live request old new →
+    (cache_at new.caches request.hart).residency ≡ claimed_cache live request.line request.need (cache_at old.caches request.hart).residency
+claim_own true request old new claim = claim.own.residency
+claim_own false request old new claim = ap (λ copies. (cache_at copies.caches request.hart).residency) claim
+
+claim_stays : (live : Bool) (request : Request) (old new : Copies) → CopiesClaim live request old new → StaysCoherent old new
+claim_stays true request old new claim = claim.stays
+claim_stays false request old new claim =
+    subst (λ copies. StaysCoherent old copies) (sym claim) (record { first = refl; lines = refl; caches = refl; coherent = λ bytes was. was })
+
+pub serve_stays : (live : Bool) (request : Request) (old new : Copies) → CopiesServe live request old new → StaysCoherent old new
+serve_stays live request old new serve =
+    stays_twice old serve.filled new serve.served.stays (claim_stays live request serve.filled new serve.claimed)
+
+serve_ways : (live : Bool) (request : Request) (old new : Copies) → CopiesServe live request old new → (g : ℕ) →
+    (cache_at new.caches g).ways ≡ (cache_at old.caches g).ways
+serve_ways live request old new serve g = claim_ways live request serve.filled new serve.claimed g ∙ serve.served.ways g
+
+serve_others : (live : Bool) (request : Request) (old new : Copies) → CopiesServe live request old new → (g : ℕ) → g ≢ request.hart →
+    (cache_at new.caches g).residency
+    ≡ others_cache (is_resident (cache_at old.caches request.hart).residency request.line) request.need (cache_at old.caches g).residency request.line
+serve_others live request old new serve g other =
+    ap (λ cache. cache.residency) (claim_others live request serve.filled new serve.claimed g other) ∙ serve.served.others g other
+
+-- the cache of the served hart before it is claimed
+abbrev own_filled : Copies → Request → List (List Way)
+own_filled old request =
+    own_after (cache_at old.caches request.hart).ways (copies.others_have old.caches request.hart request.line) request.need
+    (cache_at old.caches request.hart).residency request.line
+
+serve_own : (live : Bool) (request : Request) (old new : Copies) → CopiesServe live request old new →
+    (cache_at new.caches request.hart).residency ≡ claimed_cache live request.line request.need (own_filled old request)
+serve_own live request old new serve =
+    claim_own live request serve.filled new serve.claimed ∙ ap (claimed_cache live request.line request.need) serve.served.own
+
+-- whether another hart has a copy, as the caches tell it and as the definition does
+others_all : (test : ℕ → Bool) (h line from : ℕ) (caches : List Cached) (harts : List Hart) → length caches ≡ length harts →
+    ((k number : ℕ) → number ≡ from + k → (not (number == h) && is_resident (cache_at caches k).residency line) ≡ test number) →
+    others_from from caches h line ≡ list_any test (count_up from harts)
+others_all test h line from [] [] same each = refl
+others_all test h line from [] (hart ∷ harts) same each = absurd (omega (arith, same))
+others_all test h line from (cache ∷ caches) [] same each = absurd (omega (arith, same))
+others_all test h line from (cache ∷ caches) (hart ∷ harts) same each =
+    ap (λ first. first || others_from (suc from) caches h line) (each 0 from (omega arith))
+    ∙ ap (λ rest. test from || rest)
+    (others_all test h line (suc from) caches harts (omega (arith, same)) (λ k number is. each (suc k) number (omega (arith, is))))
+
+others_same : (bus : Kept) (state : ModelState) (h line : ℕ) → Shows bus state → copies.others_have bus.copies.caches h line ≡ others_have state h line
+others_same bus state h line shows =
+    others_all (λ other. not (other == h) && is_resident (cache_of state other) line) h line 0 bus.copies.caches state.harts shows.cache_each
+    (λ k number is. let same : k ≡ number = omega (arith, is) in
+    ap (λ cache. not (number == h) && is_resident cache line) (ap (λ n. (cache_at bus.copies.caches n).residency) same ∙ shows.caches number))
+
+-- the definition's hart after its request was served
+claim_cache : (live : Bool) (request : Request) (hart : Hart) → (with_claim live request hart).cache ≡ claimed_cache live request.line request.need hart.cache
+claim_cache true request hart = refl
+claim_cache false request hart = refl
+
+claim_section : (live : Bool) (request : Request) (hart : Hart) → (with_claim live request hart).section ≡ hart.section
+claim_section true request hart = refl
+claim_section false request hart = refl
+
+claim_agent : (live : Bool) (request : Request) (hart : Hart) → agent_of (with_claim live request hart) ≡ agent_claiming live request.line (agent_of hart)
+claim_agent true request hart = refl
+claim_agent false request hart = refl
+
+-- where it is to write, no other hart has a bit on its line
+unmet : (bus : Kept) (state : ModelState) (request : Request) (g : ℕ) → IsReady bus → Shows bus state → request_of bus.order request.hart ≡ Some request →
+    obstacle_to state request ≡ Free → g ≢ request.hart → request.need ≡ Write → has_bit (cache_of state g) request.line ≡ false
+unmet bus state request g ready shows ordered free apart write = by (section_of state g) refl
+  where
+    by : (section : Option Section) → section_of state g ≡ section → has_bit (cache_of state g) request.line ≡ false
+    by None none = no_marks (cache_of state g) request.line (sym (shows.live g) ∙ ap is_some none)
+    by (Some section) live =
+        ap (meets_bit (hart_of state g) request.line) (sym write)
+        ∙ section_unmet state request.hart g request section (subst IsOneEach shows.order ready.once)
+        (ap (λ order. request_of order request.hart) (sym shows.order) ∙ ordered) free apart live
+
+-- the part of the bus that a served request changes, hart by hart
+served_agent : (state : ModelState) (request : Request) (g : ℕ) (hart : Hart) → (g ≡ request.hart → hart ≡ hart_of state g) →
+    agent_after_serve (is_live state request.hart) request g (agent_of hart) ≡ agent_of (serving state request g hart)
+served_agent state request g hart is =
+    elim (cases_eq g request.hart) [
+      | inl same ↦ let live : is_live state request.hart ≡ is_some hart.section = ap (is_live state) (sym same) ∙ ap (λ k. is_some k.section) (sym (is same)) in
+          at_own g request.hart _ _ same
+          ∙ ap (λ lives. agent_claiming lives request.line (agent_served (agent_forgetting request.hart (agent_of hart)))) live
+          ∙ sym (claim_agent (is_some hart.section) request _)
+          ∙ ap agent_of (sym (at_own g request.hart (served_hart state request hart) (bystander state request hart) same))
+      | inr other ↦ at_other g request.hart _ _ other
+          ∙ ap agent_of (sym (at_other g request.hart (served_hart state request hart) (bystander state request hart) other))
+    ]
+
+serving_section : (state : ModelState) (request : Request) (g : ℕ) (hart : Hart) → (serving state request g hart).section ≡ hart.section
+serving_section state request g hart =
+    elim (cases_eq g request.hart) [
+      | inl same ↦ ap (λ k. k.section) (at_own g request.hart (served_hart state request hart) (bystander state request hart) same)
+          ∙ claim_section (is_some hart.section) request _
+      | inr other ↦ ap (λ k. k.section) (at_other g request.hart (served_hart state request hart) (bystander state request hart) other)
+    ]
+
+lives : (bus : Kept) (state : ModelState) (h : ℕ) → Shows bus state → has_marks (cache_at bus.copies.caches h).residency ≡ is_live state h
+lives bus state h shows = ap has_marks (shows.caches h) ∙ sym (shows.live h)
+
+-- the residency of each cache is the definition's
+served_cache : (bus new : Kept) (state : ModelState) (request : Request) → IsReady bus → Shows bus state → request.hart < length bus.agents →
+    Serves request bus new → (g : ℕ) → g < length bus.agents →
+    (cache_at new.copies.caches g).residency ≡ (serving state request g (hart_of state g)).cache
+served_cache bus new state request ready shows exists serves g below =
+    elim (cases_eq g request.hart) [
+      | inl same ↦ ap (λ k. (cache_at new.copies.caches k).residency) same
+          ∙ serve_own _ request bus.copies new.copies serves.copies
+          ∙ ap (λ live. claimed_cache live request.line request.need (own_filled bus.copies request)) (lives bus state request.hart shows)
+          ∙ ap (claimed_cache (is_live state request.hart) request.line request.need) filled
+          ∙ sym (claim_cache (is_live state request.hart) request _)
+          ∙ sym (ap (λ k. k.cache) (at_own request.hart request.hart (served_hart state request (hart_of state request.hart)) (bystander state request (hart_of state request.hart)) refl))
+          ∙ ap (λ k. (serving state request k (hart_of state k)).cache) (sym same)
+      | inr other ↦ serve_others _ request bus.copies new.copies serves.copies g other
+          ∙ ap (λ cache. others_cache (is_resident (cache_at bus.copies.caches request.hart).residency request.line) request.need cache request.line) (shows.caches g)
+          ∙ ap (λ cache. others_cache (is_resident cache request.line) request.need (cache_of state g) request.line) (shows.caches request.hart)
+          ∙ ap (λ k. k.cache) (sym (at_other g request.hart (served_hart state request (hart_of state g)) (bystander state request (hart_of state g)) other))
+    ]
+  where
+    filled : own_filled bus.copies request
+        ≡ touched (own_copy state.config.ways (others_have state request.hart request.line) request.need (cache_of state request.hart) request.line) request.line
+    filled =
+        ap (λ ways. own_after ways (copies.others_have bus.copies.caches request.hart request.line) request.need
+        (cache_at bus.copies.caches request.hart).residency request.line) (shows.ways request.hart (omega (arith, exists, shows.agent_each)))
+        ∙ ap (λ others. own_after state.config.ways others request.need (cache_at bus.copies.caches request.hart).residency request.line)
+        (others_same bus state request.hart request.line shows)
+        ∙ ap (λ cache. own_after state.config.ways (others_have state request.hart request.line) request.need cache request.line) (shows.caches request.hart)
+
+-- a cache of the state after has a bit where it had one
+served_marks : (bus new : Kept) (state : ModelState) (request : Request) → IsReady bus → Shows bus state → request_of bus.order request.hart ≡ Some request →
+    obstacle_to state request ≡ Free → Serves request bus new → (g : ℕ) → g < length bus.agents →
+    has_marks (cache_at new.copies.caches g).residency ≡ has_marks (cache_at bus.copies.caches g).residency
+served_marks bus new state request ready shows ordered free serves g below =
+    elim (cases_eq g request.hart) [
+      | inl same ↦ ap (λ k. has_marks (cache_at new.copies.caches k).residency) same
+          ∙ ap has_marks (serve_own _ request bus.copies new.copies serves.copies)
+          ∙ claimed (has_marks (cache_at bus.copies.caches request.hart).residency) refl
+          ∙ ap (λ k. has_marks (cache_at bus.copies.caches k).residency) (sym same)
+      | inr other ↦ ap has_marks (serve_others _ request bus.copies new.copies serves.copies g other)
+          ∙ others_marks (cache_at bus.copies.caches g).ways _ request.need (cache_at bus.copies.caches g).residency request.line
+          (ready.well_formed g (omega (arith, below, ready.each)))
+          (λ write. ap (λ cache. has_bit cache request.line) (shows.caches g) ∙ unmet bus state request g ready shows ordered free other write)
+    ]
+  where
+    can : CanBeServed bus request.hart request
+    can = ready.ordered request.hart request ordered
+
+    well : IsWellFormed (cache_at bus.copies.caches request.hart).ways (cache_at bus.copies.caches request.hart).residency
+    well = ready.well_formed request.hart (omega (arith, can.hart_exists, ready.each))
+
+    claimed : (live : Bool) → has_marks (cache_at bus.copies.caches request.hart).residency ≡ live →
+        has_marks (claimed_cache live request.line request.need (own_filled bus.copies request)) ≡ live
+    claimed true is =
+        own_marked (cache_at bus.copies.caches request.hart).ways (own_filled bus.copies request) request.line request.need
+        (own_after_well_formed (cache_at bus.copies.caches request.hart).ways _ request.need (cache_at bus.copies.caches request.hart).residency request.line well can.room)
+        (ap (λ cache. is_resident cache request.line) (sym serves.copies.served.own) ∙ serves.copies.served.here)
+    claimed false is =
+        own_after_marks (cache_at bus.copies.caches request.hart).ways _ request.need (cache_at bus.copies.caches request.hart).residency request.line well can.room ∙ is
+
+-- the state that is shown
+pub serve_shows : (bus new : Kept) (state : ModelState) (request : Request) → IsReady bus → Shows bus state →
+    request_of bus.order request.hart ≡ Some request → obstacle_to state request ≡ Free → Serves request bus new → Shows new (served state request)
+unfolding served
+serve_shows bus new state request ready shows ordered free serves =
+    subst (λ order. Shows new (record (each_hart state (serving state request)) { order = order }))
+    (serves.order ∙ ap (λ order. removed order request.hart) shows.order)
+    (shows_each bus new state (serving state request) shows each)
+  where
+    can : CanBeServed bus request.hart request
+    can = ready.ordered request.hart request ordered
+
+    each : ShowsEach bus new state (serving state request)
+    each = record {
+      mode = serves.mode;
+      agent_each = serves.agents.count;
+      cache_each = (serve_stays _ request bus.copies new.copies serves.copies).caches;
+      ways = serve_ways _ request bus.copies new.copies serves.copies;
+      agents = λ g below.
+          serves.agents.each g below
+          ∙ ap (λ live. agent_after_serve live request g (agent_at bus.agents g)) (lives bus state request.hart shows)
+          ∙ ap (agent_after_serve (is_live state request.hart) request g) (shows.agents g)
+          ∙ served_agent state request g (hart_of state g) (λ same. refl);
+      caches = served_cache bus new state request ready shows can.hart_exists serves;
+      live = λ g below.
+          ap is_some (serving_section state request g (hart_of state g)) ∙ shows.live g ∙ ap has_marks (sym (shows.caches g))
+          ∙ sym (served_marks bus new state request ready shows ordered free serves g below)
+          ∙ ap has_marks (served_cache bus new state request ready shows can.hart_exists serves g below);
+      bytes = (serve_stays _ request bus.copies new.copies serves.copies).coherent (line_of state.committed) shows.bytes;
+    }
+
+-- every cache is as it must be
+served_well_formed : (bus new : Kept) (request : Request) → IsReady bus → request_of bus.order request.hart ≡ Some request →
+    Serves request bus new → (g : ℕ) → g < length bus.agents → IsWellFormed (cache_at bus.copies.caches g).ways (cache_at new.copies.caches g).residency
+served_well_formed bus new request ready ordered serves g below =
+    elim (cases_eq g request.hart) [
+      | inl same ↦ subst (λ k. IsWellFormed (cache_at bus.copies.caches k).ways (cache_at new.copies.caches k).residency) (sym same)
+          (subst (λ cache. IsWellFormed ways cache) (sym (serve_own _ request bus.copies new.copies serves.copies))
+          (claimed (has_marks (cache_at bus.copies.caches request.hart).residency)))
+      | inr other ↦ subst (λ cache. IsWellFormed (cache_at bus.copies.caches g).ways cache) (sym (serve_others _ request bus.copies new.copies serves.copies g other))
+          (others_well_formed (cache_at bus.copies.caches g).ways _ request.need (cache_at bus.copies.caches g).residency request.line
+          (ready.well_formed g (omega (arith, below, ready.each))))
+    ]
+  where
+    can : CanBeServed bus request.hart request
+    can = ready.ordered request.hart request ordered
+
+    ways : ℕ
+    ways = (cache_at bus.copies.caches request.hart).ways
+
+    filled : IsWellFormed (cache_at bus.copies.caches request.hart).ways (own_filled bus.copies request)
+    filled =
+        own_after_well_formed (cache_at bus.copies.caches request.hart).ways _ request.need (cache_at bus.copies.caches request.hart).residency request.line
+        (ready.well_formed request.hart (omega (arith, can.hart_exists, ready.each))) can.room
+
+    claimed : (live : Bool) → IsWellFormed (cache_at bus.copies.caches request.hart).ways (claimed_cache live request.line request.need (own_filled bus.copies request))
+    claimed true = own_marked_well_formed _ (own_filled bus.copies request) request.line request.need filled
+    claimed false = filled
+
+-- an agent has raised what it had raised
+raised_claimed : (live : Bool) (line : ℕ) (agent : Agent) → (agent_claiming live line agent).raised ≡ agent.raised
+raised_claimed true line agent = refl
+raised_claimed false line agent = refl
+
+raised_after : (live : Bool) (request : Request) (g : ℕ) (agent : Agent) → (agent_after_serve live request g agent).raised ≡ agent.raised
+raised_after live request g agent =
+    elim (cases_eq g request.hart) [
+      | inl same ↦ ap (λ (a : Agent). a.raised) (at_own g request.hart _ _ same) ∙ raised_claimed live request.line (agent_served (agent_forgetting request.hart agent))
+      | inr other ↦ ap (λ (a : Agent). a.raised) (at_other g request.hart _ _ other)
+    ]
+
+none_some : {X : Type 0} (found : Option Request) (request : Request) → found ≡ None → found ≡ Some request → X
+none_some None request none some = absurd (cc)
+none_some (Some other) request none some = absurd (cc)
+
+no_room : false ≡ true → ⊥
+no_room is = absurd (cc)
+
+pub serve_ready : (bus new : Kept) (request : Request) → IsReady bus → request_of bus.order request.hart ≡ Some request →
+    Serves request bus new → IsReady new
+serve_ready bus new request ready ordered serves = ready_after bus new ready (record {
+  coherent = record { bytes = ready.coherent.bytes; tells = stays.coherent ready.coherent.bytes ready.coherent.tells };
+  agent_each = serves.agents.count;
+  cache_each = stays.caches;
+  well_formed = λ g below.
+      subst (λ ways. IsWellFormed ways (cache_at new.copies.caches g).residency) (sym (serve_ways _ request bus.copies new.copies serves.copies g))
+      (served_well_formed bus new request ready ordered serves g (omega (arith, below, stays.caches, ready.each)));
+  inside = λ line has. record {
+    from = let e = stays.first in rw e has.from;
+    below = let e = stays.first in let f = stays.lines in rw (e, f) has.below;
+  };
+  once = subst (λ order. IsOneEach order) (sym serves.order) (one_each_removed bus.order request.hart ready.once);
+  raised = λ g other is. let was = raised_before g other is in record {
+    is = was;
+    room = room g other.line (λ same. none_some (request_of bus.order g) request (ready.one_request g other was) (ap (request_of bus.order) same ∙ ordered));
+  };
+  ordered = λ g other is. let found = ap (λ order. request_of order g) (sym serves.order) ∙ is in
+      elim (cases_eq g request.hart) [
+        | inl same ↦ none_some (request_of (removed bus.order request.hart) g) other
+            (ap (request_of (removed bus.order request.hart)) same ∙ request_of_removed_own bus.order request.hart) found
+        | inr apart ↦ record {
+          is = sym (request_of_removed_other bus.order request.hart g (λ same. apart (sym same))) ∙ found;
+          room = room g other.line apart;
+        }
+      ];
+})
+  where
+    stays : StaysCoherent bus.copies new.copies
+    stays = serve_stays _ request bus.copies new.copies serves.copies
+
+    raised_before : (g : ℕ) (other : Request) → (agent_at new.agents g).raised ≡ Some other → (agent_at bus.agents g).raised ≡ Some other
+    raised_before g other is =
+        elim (cases_lt g (length bus.agents)) [
+          | inl below ↦ sym (raised_after _ request g (agent_at bus.agents g)) ∙ ap (λ a. a.raised) (sym (serves.agents.each g below)) ∙ is
+          | inr past ↦ none_some (agent_at new.agents g).raised other (ap (λ a. a.raised) (agent_past new.agents g (omega (arith, past, serves.agents.count)))) is
+        ]
+
+    room : (g line : ℕ) → g ≢ request.hart → has_room bus.copies g line ≡ true → has_room new.copies g line ≡ true
+    room g line apart had =
+        ap (λ ways. room_of ways (cache_at new.copies.caches g).residency line) (serve_ways _ request bus.copies new.copies serves.copies g)
+        ∙ ap (λ cache. room_of (cache_at bus.copies.caches g).ways cache line) (serve_others _ request bus.copies new.copies serves.copies g apart)
+        ∙ elim (cases_lt g (length bus.copies.caches)) [
+          | inl below ↦ others_room (cache_at bus.copies.caches g).ways _ request.need (cache_at bus.copies.caches g).residency request.line line (ready.well_formed g below) had
+          | inr past ↦ absurd (no_room (ap (λ cache. room_of cache.ways cache.residency line) (sym (beyond bus.copies.caches g past)) ∙ had))
+        ]

@@ -1,0 +1,104 @@
+-- what the bus shows after one hart has changed, and after each has
+use Rattle.std.proofs.Common.{◌≡◌, ◌≢◌, ◌∙◌, ℕ, zero, suc, ◌<◌, ◌≤◌, List, [], ◌∷◌, length, is_some, refl, ap, sym, inl, inr, arith}
+use Rattle.std.specs.Prelude.{slice_set}
+use Rattle.std.proofs.lemmas.Bool.{cases_eq, cases_lt}
+use Rattle.std.proofs.lemmas.List.{get_or-set_same, get_or-set_other, length-set}
+use Rattle.cache_sets.specs.Cache.{has_marks}
+use Rattle.coherence.specs.Caches.{cache_at}
+use Rattle.coherence.proofs.GivenUp.{beyond}
+use Rattle.coherence.specs.Served.{TellsOf}
+use Rattle.el_model.specs.State.{Hart, ModelState, cache_of, each_from, each_hart, hart_of, new_hart, section_of, with_hart}
+use Rattle.el_model.proofs.Harts.{hart_of-each_hart, hart_of-each_hart_past, hart_of-past, hart_of-with_hart_same, hart_of-with_hart_other, with_hart_kept}
+use Rattle.el_model.proofs.Keeps.{length-each_from}
+use Rattle.snoop.specs.Agent.{Agent, agent_at, agent_of, new_agent, with_agent}
+use Rattle.snoop.specs.Shows.{Kept, Shows, line_of}
+
+-- an agent past the last one
+pub agent_past : (agents : List Agent) (h : ℕ) → length agents ≤ h → agent_at agents h ≡ new_agent
+agent_past [] h past = refl
+agent_past (agent ∷ agents) zero past = absurd (omega arith)
+agent_past (agent ∷ agents) (suc h) past = agent_past agents h (omega arith)
+
+-- an agent after one has become another
+pub agent_same : (agents : List Agent) (h : ℕ) (agent : Agent) → h < length agents → agent_at (with_agent agents h agent) h ≡ agent
+agent_same agents h agent below = get_or-set_same agents h agent new_agent below
+
+pub agent_other : (agents : List Agent) (h g : ℕ) (agent : Agent) → g ≢ h → agent_at (with_agent agents h agent) g ≡ agent_at agents g
+agent_other agents h g agent differs = get_or-set_other agents h g agent new_agent differs
+
+pub count_with_agent : (agents : List Agent) (h : ℕ) (agent : Agent) → length (with_agent agents h agent) ≡ length agents
+count_with_agent agents h agent = length-set agents h agent
+
+-- one hart has changed at the bus alone
+pub shows_agent : (bus : Kept) (state : ModelState) (h : ℕ) (agent : Agent) (hart : Hart) → Shows bus state → agent ≡ agent_of hart →
+    hart.section ≡ section_of state h → hart.cache ≡ cache_of state h →
+    Shows (record bus { agents = with_agent bus.agents h agent }) (with_hart state h hart)
+shows_agent bus state h agent hart shows is section cache = record {
+  mode = shows.mode;
+  ways = λ g below. shows.ways g (omega (arith, below, same_harts));
+  agent_each = count_with_agent bus.agents h agent ∙ shows.agent_each ∙ sym same_harts;
+  cache_each = shows.cache_each ∙ sym same_harts;
+  agents = λ g. elim (cases_eq g h) [
+    | inl own ↦ elim (cases_lt h (length bus.agents)) [
+      | inl below ↦ ap (agent_at (with_agent bus.agents h agent)) own ∙ agent_same bus.agents h agent below ∙ is
+          ∙ ap agent_of (sym (hart_of-with_hart_same state h hart (omega (arith, below, shows.agent_each))) ∙ ap (hart_of (with_hart state h hart)) (sym own))
+      | inr past ↦
+          agent_past (with_agent bus.agents h agent) g (omega (arith, past, own, count_with_agent bus.agents h agent))
+          ∙ ap agent_of (sym (hart_of-past (with_hart state h hart) g (omega (arith, past, own, shows.agent_each, same_harts))))
+    ]
+    | inr other ↦ agent_other bus.agents h g agent other ∙ shows.agents g ∙ ap agent_of (sym (hart_of-with_hart_other state h g hart other))
+  ];
+  caches = λ g. shows.caches g ∙ sym (kept_cache g);
+  live = λ g. ap is_some (with_hart_kept (λ k. k.section) state h hart section g) ∙ shows.live g ∙ ap has_marks (sym (kept_cache g));
+  order = shows.order;
+  bytes = shows.bytes;
+}
+  where
+    same_harts : length (slice_set state.harts h hart) ≡ length state.harts
+    same_harts = length-set state.harts h hart
+
+    kept_cache : (g : ℕ) → cache_of (with_hart state h hart) g ≡ cache_of state g
+    kept_cache g = with_hart_kept (λ k. k.cache) state h hart cache g
+
+-- what each hart has become, as the bus shows it
+pub record ShowsEach (bus new : Kept) (state : ModelState) (becomes : ℕ → Hart → Hart) : Type 0 where
+  pub mode : new.mode ≡ bus.mode
+  pub agent_each : length new.agents ≡ length bus.agents
+  pub cache_each : length new.copies.caches ≡ length bus.copies.caches
+  pub ways : (h : ℕ) → (cache_at new.copies.caches h).ways ≡ (cache_at bus.copies.caches h).ways
+  pub agents : (h : ℕ) → h < length bus.agents → agent_at new.agents h ≡ agent_of (becomes h (hart_of state h))
+  pub caches : (h : ℕ) → h < length bus.agents → (cache_at new.copies.caches h).residency ≡ (becomes h (hart_of state h)).cache
+  pub live : (h : ℕ) → h < length bus.agents → is_some (becomes h (hart_of state h)).section ≡ has_marks (becomes h (hart_of state h)).cache
+  pub bytes : TellsOf new.copies (line_of state.committed)
+
+pub shows_each : (bus new : Kept) (state : ModelState) (becomes : ℕ → Hart → Hart) → Shows bus state → ShowsEach bus new state becomes →
+    Shows new (record (each_hart state becomes) { order = new.order })
+shows_each bus new state becomes shows each = record {
+  mode = each.mode ∙ shows.mode;
+  ways = λ h below. each.ways h ∙ shows.ways h (omega (arith, below, same_harts));
+  agent_each = each.agent_each ∙ shows.agent_each ∙ sym same_harts;
+  cache_each = each.cache_each ∙ shows.cache_each ∙ sym same_harts;
+  agents = λ h. elim (cases_lt h (length bus.agents)) [
+    | inl below ↦ each.agents h below ∙ ap agent_of (sym (became h below))
+    | inr past ↦ agent_past new.agents h (omega (arith, past, each.agent_each)) ∙ ap agent_of (sym (gone h past))
+  ];
+  caches = λ h. elim (cases_lt h (length bus.agents)) [
+    | inl below ↦ each.caches h below ∙ ap (λ hart. hart.cache) (sym (became h below))
+    | inr past ↦ ap (λ cache. cache.residency) (beyond new.copies.caches h (omega (arith, past, each.cache_each, shows.agent_each, shows.cache_each))) ∙ ap (λ hart. hart.cache) (sym (gone h past))
+  ];
+  live = λ h. elim (cases_lt h (length bus.agents)) [
+    | inl below ↦ ap (λ hart. is_some hart.section) (became h below) ∙ each.live h below ∙ ap (λ hart. has_marks hart.cache) (sym (became h below))
+    | inr past ↦ ap (λ hart. is_some hart.section) (gone h past) ∙ ap (λ hart. has_marks hart.cache) (sym (gone h past))
+  ];
+  order = refl;
+  bytes = each.bytes;
+}
+  where
+    same_harts : length (each_from 0 becomes state.harts) ≡ length state.harts
+    same_harts = length-each_from 0 becomes state.harts
+
+    became : (h : ℕ) → h < length bus.agents → hart_of (each_hart state becomes) h ≡ becomes h (hart_of state h)
+    became h below = hart_of-each_hart state becomes h (omega (arith, below, shows.agent_each))
+
+    gone : (h : ℕ) → length bus.agents ≤ h → hart_of (each_hart state becomes) h ≡ new_hart 0
+    gone h past = hart_of-each_hart_past state becomes h (omega (arith, past, shows.agent_each))

@@ -1,0 +1,14 @@
+-- the request is ordered, behind all others
+use Rattle.bus_order.specs.Order.{appended, numbered}
+use Rattle.snoop.proofs.Placing.{placed_last, ready_ordered}
+use Rattle.snoop.proofs.bus.Bus.put_last.Goals as goal
+use Rattle.snoop.specs.Shows.{kept}
+
+pub returns-clause-ready : goal.returns-clause-ready
+returns-clause-ready c =
+    let bus = kept c.args.self.now in
+    let request = numbered c.args.request in
+    let ready = c.requires.ready in
+    rw (c.unraise.ensures, c.append.ensures)
+    (ready_ordered bus request (appended bus.order request) ready c.requires.raised
+    (placed_last bus.order request ready.once (ready.one_request request.hart request c.requires.raised)))

@@ -1,0 +1,12 @@
+-- the request that a hart has in the order is its own
+use Rattle.std.proofs.Common.{◌∙◌, ap, sym}
+use Rattle.bus_order.specs.Order.{numbered, request_of}
+use Rattle.bus_order.proofs.Queues.{hart_of_request_of}
+use Rattle.snoop.specs.Shows.{kept}
+use Rattle.snoop.proofs.bus.Bus.serve.Goals as goal
+
+pub serve_past-requires-clause-ordered : goal.serve_past-requires-clause-ordered
+serve_past-requires-clause-ordered g c =
+    let order = (kept c.args.self.now).order in
+    ap (request_of order) (hart_of_request_of order c.args.hart.number (numbered c.in-Some.request) (sym c.in-Some.ensures))
+    ∙ sym c.in-Some.ensures

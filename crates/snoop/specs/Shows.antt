@@ -1,0 +1,61 @@
+-- what the bus keeps, and the state of the machine's definition that it shows
+use Rattle.std.specs.Prelude.{ℕ, ◌≡◌, ◌<◌, ◌≤◌, ◌-◌, ◌/◌, true, List, None, Some, length}
+use Rattle.bus_order.specs.Order.{IsOneEach, Request, request_of}
+use Rattle.cache_sets.specs.Cache.{has_marks}
+use Rattle.cache_sets.specs.WellFormed.{IsWellFormed}
+use Rattle.coherence.specs.Beginning.{line_in}
+use Rattle.coherence.specs.Caches.{cache_at}
+use Rattle.coherence.specs.Served.{Copies, HasLine, IsCoherent, TellsOf, has_room, shown}
+use Rattle.el_base.specs.declared.config.Mode.{Mode}
+use Rattle.el_base.specs.declared.line.TheConstants.{LINE_BYTES}
+use Rattle.el_model.specs.State.{ModelState, cache_of, hart_of, is_live}
+use Rattle.rv_flat.specs.FlatState.{FlatState}
+use Rattle.snoop.specs.Agent.{Agent, agent_at, agent_of}
+use Rattle.snoop.specs.declared.bus.Bus as buses
+
+-- what the bus keeps
+pub record Kept : Type 0 where
+  pub mode : Mode
+  pub copies : Copies  -- main memory and the caches
+  pub agents : List Agent
+  pub order : List Request
+
+abbrev pub kept : buses.Bus → Kept
+kept bus = record { mode = bus.mode; copies = shown bus.hierarchy; agents = bus.agents.items; order = bus.order }
+
+-- the bytes of a line of committed memory
+abbrev pub line_of : FlatState → ℕ → List ℕ
+line_of flat line = line_in flat.bytes (line - flat.base / LINE_BYTES)
+
+-- each part is the definition's, and the copies and main memory tell the committed bytes; a hart has a live section exactly where
+-- some line of its cache has a bit
+pub record Shows (bus : Kept) (state : ModelState) : Type 0 where
+  pub mode : bus.mode ≡ state.config.mode
+  pub ways : (h : ℕ) → h < length state.harts → (cache_at bus.copies.caches h).ways ≡ state.config.ways
+  pub agent_each : length bus.agents ≡ length state.harts
+  pub cache_each : length bus.copies.caches ≡ length state.harts
+  pub agents : (h : ℕ) → agent_at bus.agents h ≡ agent_of (hart_of state h)
+  pub caches : (h : ℕ) → (cache_at bus.copies.caches h).residency ≡ cache_of state h
+  pub live : (h : ℕ) → is_live state h ≡ has_marks (cache_of state h)
+  pub order : bus.order ≡ state.order
+  pub bytes : TellsOf bus.copies (line_of state.committed)
+
+-- a request can be served once it is the head of its line and nothing is in its way: its hart is there, its line lies in
+-- memory, and the hart's cache has room for it
+pub record CanBeServed (bus : Kept) (h : ℕ) (request : Request) : Type 0 where
+  pub own : request.hart ≡ h
+  pub hart_exists : h < length bus.agents
+  pub in_memory : HasLine bus.copies request.line
+  pub room : has_room bus.copies h request.line ≡ true
+
+-- what each call of the bus needs, and leaves: copies and main memory tell one thing, each request can be served, and a hart has at
+-- most one
+pub record IsReady (bus : Kept) : Type 0 where
+  pub coherent : IsCoherent bus.copies
+  pub few : length bus.agents ≤ 8
+  pub each : length bus.copies.caches ≡ length bus.agents
+  pub well_formed : (h : ℕ) → h < length bus.copies.caches → IsWellFormed (cache_at bus.copies.caches h).ways (cache_at bus.copies.caches h).residency
+  pub raised : (h : ℕ) (request : Request) → (agent_at bus.agents h).raised ≡ Some request → CanBeServed bus h request
+  pub ordered : (h : ℕ) (request : Request) → request_of bus.order h ≡ Some request → CanBeServed bus h request
+  pub once : IsOneEach bus.order
+  pub one_request : (h : ℕ) (request : Request) → (agent_at bus.agents h).raised ≡ Some request → request_of bus.order h ≡ None

@@ -1,0 +1,102 @@
+//! One of the agents of all harts is changed, or each of them. A hart that is not there changes none.
+
+ghost use Rattle.std.specs.Prelude.{◌≡◌, ◌<◌, ℕ, None, length};
+ghost use Rattle.std.specs.Option.{option_map};
+ghost use Rattle.mail.specs.Mailbox.{numbered, oldest};
+ghost use Rattle.snoop.specs.Agent.{
+  agent_at,
+  agent_behind,
+  agent_forgetting,
+  agent_posted,
+  agent_served,
+  agent_taken,
+  with_agent,
+};
+ghost use Rattle.snoop.specs.Delivering.{agent_heard};
+ghost use Rattle.snoop.specs.Serving.{agent_claiming};
+ghost use Rattle.stamp.specs.Stamps.{numbered_stamp};
+
+use crate::agent::Agent;
+use bus_order::Request;
+use el_base::HartId;
+use mail::Message;
+use stamp::Stamp;
+
+/// A message comes into the mailbox of a hart.
+pub fn post(agents: &mut Vec<Agent>, to: HartId, message: Message)
+    ensures { agents.new.items ≡
+        with_agent agents.old.items to.number (agent_posted (numbered message) (agent_at agents.old.items to.number)) }
+{
+    if let Some(agent) = agents.get_mut(usize::from(to.number)) {
+        agent.post(message);
+    }
+}
+
+/// All harts forget what came with an origin's request.
+#[tactic(auto, using(crate::proofs::EachAgent::none_changed, crate::proofs::EachAgent::one_changed))]
+pub fn forget(agents: &mut Vec<Agent>, origin: HartId)
+    ensures count { length agents.new.items ≡ length agents.old.items }
+    ensures each { (g : ℕ) → g < length agents.old.items →
+        agent_at agents.new.items g ≡ agent_forgetting origin.number (agent_at agents.old.items g) }
+{
+    for number in 0..agents.len() {
+        let agent = &mut agents[number];
+        agent.forget(origin);
+    }
+}
+
+/// The hart of a request that is served is behind none any more, and holds its line where it has no live section.
+pub fn claim(agents: &mut Vec<Agent>, request: Request, live: bool)
+    requires { request.hart.number < length agents.old.items }
+    ensures { agents.new.items ≡
+        with_agent agents.old.items request.hart.number
+        (agent_claiming live request.line.number (agent_served (agent_at agents.old.items request.hart.number))) }
+{
+    let agent = &mut agents[usize::from(request.hart.number)];
+    agent.be_served();
+    if !live {
+        agent.hold(request.line);
+    }
+}
+
+/// A hart has no raised request any more.
+pub fn unraise(agents: &mut Vec<Agent>, hart: HartId)
+    ensures { agents.new.items ≡
+        with_agent agents.old.items hart.number (record (agent_at agents.old.items hart.number) { raised = None }) }
+{
+    if let Some(agent) = agents.get_mut(usize::from(hart.number)) {
+        agent.take_raised();
+    }
+}
+
+/// The oldest message is taken out of the mailbox of a hart.
+pub fn take_message(agents: &mut Vec<Agent>, hart: HartId) -> Option<Message>
+    requires { hart.number < length agents.old.items }
+    ensures oldest { option_map numbered result ≡ oldest (agent_at agents.old.items hart.number).mail }
+    ensures rest { agents.new.items ≡
+        with_agent agents.old.items hart.number (agent_taken (agent_at agents.old.items hart.number)) }
+{
+    let agent = &mut agents[usize::from(hart.number)];
+    agent.next()
+}
+
+/// A hart knows from now on that another is before it.
+pub fn come_behind(agents: &mut Vec<Agent>, hart: HartId, other: HartId)
+    requires { hart.number < length agents.old.items }
+    ensures { agents.new.items ≡
+        with_agent agents.old.items hart.number (agent_behind other.number (agent_at agents.old.items hart.number)) }
+{
+    let agent = &mut agents[usize::from(hart.number)];
+    agent.come_behind(other);
+}
+
+/// A hart is told of an origin, and sees a stamp, if there is one.
+pub fn hear(agents: &mut Vec<Agent>, hart: HartId, origin: HartId, stamp: Option<Stamp>)
+    requires { hart.number < length agents.old.items }
+    ensures { agents.new.items ≡ with_agent agents.old.items hart.number
+        (agent_heard origin.number (option_map numbered_stamp stamp) (agent_at agents.old.items hart.number)) }
+{
+    let agent = &mut agents[usize::from(hart.number)];
+    agent.tell(origin);
+    agent.see(stamp);
+}

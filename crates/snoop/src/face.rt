@@ -1,0 +1,52 @@
+//! The head of a line meets the sections of other harts.
+
+ghost use Rattle.std.specs.Prelude.{◌≡◌, ◌≤◌, Option, length};
+ghost use Rattle.bus_order.specs.Order.{numbered};
+ghost use Rattle.el_model.specs.Face.{face_losers, faced};
+ghost use Rattle.el_model.specs.State.{ModelState};
+ghost use Rattle.policy.specs.Winners.{wins_of};
+ghost use Rattle.snoop.specs.Settled.{sent_in};
+ghost use Rattle.snoop.specs.Shows.{IsReady, Shows, kept};
+ghost use Rattle.stamp.specs.Stamps as stamps;
+
+use crate::bus::Bus;
+use crate::fates::Fate;
+use crate::settling::{losers_by, send_markers};
+use bus_order::Request;
+use el_base::{HartId, Losers, Mode};
+use policy::Policy;
+
+impl Bus {
+    /// In lock removal the harts that stay send a marker each to the head's.
+    fn answer_head(&mut self, head: HartId, fates: &[Fate])
+        requires { length fates.now ≤ 8 }
+        ensures { kept self.new ≡ record (kept self.old) {
+          agents = sent_in (kept self.old).mode fates.now head.number (kept self.old).agents;
+        } }
+    {
+        match self.mode {
+            Mode::Tlr => send_markers(&mut self.agents, head, fates),
+            Mode::Sle | Mode::Plain => (),
+        }
+    }
+
+    /// The head of a line meets the sections that conflict with it: each loses to it where the head wins. Else in
+    /// lock removal it loses to the earliest of the origins that its hart was told of, that are ordered on the line
+    /// and that are before it; and where there is none such, it stays, and sends the head's hart a marker. Who wins
+    /// is settled by what stands before any section is lost.
+    pub(crate) fn face<P: Policy>(&mut self, head: Request, policy: &P) -> Losers
+        requires ready { IsReady (kept self.old) }
+        requires policy { (request holder : Option stamps.Stamp) →
+            P.beats policy.now request holder ≡ wins_of (kept self.old).mode request holder }
+        ensures ready { IsReady (kept self.new) }
+        ensures shows { (state : ModelState) → Shows (kept self.old) state →
+            Shows (kept self.new) (faced state (numbered head)) }
+        ensures losers { (state : ModelState) → Shows (kept self.old) state →
+            result ≡ face_losers state (numbered head) }
+    {
+        let fates = self.fates(head, policy);
+        self.settle_all(head, &fates);
+        self.answer_head(head.hart, &fates);
+        losers_by(&fates)
+    }
+}

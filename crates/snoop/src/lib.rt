@@ -1,0 +1,29 @@
+//! The bus: the order of requests, what is served, and the messages of lock removal.
+//!
+//! It stands on `coherence` (main memory and the copies of lines in the caches), on the small parts `bus_order`,
+//! `mail`, `defer_list` and `policy`, and on the words of `el_model`. The bus has no state of its own in
+//! contracts: each of its three events makes it show the state that the machine's definition gives, whatever
+//! state it shows before (`Shows` in `specs/Shows.antt`), with the definition's outcome. It is built for all
+//! three modes at once. What a call needs of the bus and leaves is one word, `IsReady`. Only `make` takes memory.
+//!
+//! The ideas are those of R. Rajwar and J. R. Goodman, 'Speculative Lock Elision', MICRO 2001, and
+//! 'Transactional Lock-Free Execution of Lock-Based Programs', ASPLOS 2002; where a doc comment names no
+//! other source, its rule is this project's profile.
+#![tactic(auto)]
+
+mod agent;
+mod agents;
+mod bus;
+mod delivering;
+mod face;
+mod fates;
+mod meeting;
+mod obstacle;
+mod ordering;
+mod serving;
+mod settling;
+
+pub use bus::Bus;
+
+#[cfg(test)]
+mod tests;

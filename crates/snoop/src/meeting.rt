@@ -1,0 +1,56 @@
+//! Where a request meets the sections of other harts.
+
+ghost use Rattle.std.specs.Prelude.{◌≡◌, ◌<◌, ◌==◌, ◌&&◌, not, length};
+ghost use Rattle.bus_order.specs.Order.{numbered};
+ghost use Rattle.cache_sets.specs.Bits.{has_need};
+ghost use Rattle.cache_sets.specs.Cache.{has_marks};
+ghost use Rattle.coherence.specs.Caches.{cache_at};
+ghost use Rattle.el_model.specs.Conflicts as model;
+ghost use Rattle.el_model.specs.State.{ModelState, hart_of};
+ghost use Rattle.snoop.specs.Meets.{meets_in};
+ghost use Rattle.snoop.specs.Shows.{Shows, kept};
+
+use crate::bus::Bus;
+use bitflags::Flags;
+use bus_order::Request;
+use cache_sets::{Bits, Sets};
+use el_base::{HartId, LineAddr, Need};
+
+impl Bus {
+    /// Whether a request conflicts with the live section of a hart.
+    #[tactic(auto, using(crate::proofs::Conflicts::conflicts_shown))]
+    pub(crate) fn conflicts(&self, request: Request, hart: HartId) -> bool
+        requires { hart.number < length (kept self.now).copies.caches }
+        ensures { (state : ModelState) → Shows (kept self.now) state →
+            result ≡ model.conflicts (numbered request) hart.number (hart_of state hart.number) }
+    {
+        request.hart != hart
+            && meets_section(self.hierarchy.cache(hart), request.line, request.need)
+    }
+}
+
+/// Whether some line of a cache has a bit, and the line has one that a request of this need conflicts with.
+pub fn meets_section(cache: &Sets, line: LineAddr, need: Need) -> bool
+    ensures { result ≡ (has_marks cache.now.residency && meets_in cache.now.residency line.number need) }
+{
+    cache.marked() && meets(cache, line, need)
+}
+
+/// Whether a line has a bit that a request of this need conflicts with.
+#[tactic(auto, using(crate::proofs::Conflicts::read_need, crate::proofs::Conflicts::write_need))]
+fn meets(cache: &Sets, line: LineAddr, need: Need) -> bool
+    ensures { result ≡ meets_in cache.now.residency line.number need }
+{
+    let bits = cache.bits(line);
+    match need {
+        Need::Read => has(bits, Need::Write),
+        Need::Write => has(bits, Need::Read) || has(bits, Need::Write),
+    }
+}
+
+/// Whether the bit of a need is among these bits.
+fn has(bits: Bits, need: Need) -> bool
+    ensures { result ≡ has_need need bits }
+{
+    bits.contains(Bits::of(need))
+}

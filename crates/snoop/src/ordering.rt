@@ -1,0 +1,190 @@
+//! A raised request takes its place in the order.
+
+ghost use Rattle.std.specs.Prelude.{◌≡◌, ◌<◌, None, Option, Some, length};
+ghost use Rattle.bus_order.specs.Order.{numbered};
+ghost use Rattle.el_model.specs.Order.{
+  Alone,
+  Behind,
+  InFront,
+  before_face,
+  marked_from,
+  order_losers,
+  order_turn,
+  place_for,
+  placed,
+  placed_in_front,
+  placed_last,
+};
+ghost use Rattle.el_model.specs.State.{ModelState};
+ghost use Rattle.policy.specs.Winners.{wins_of};
+ghost use Rattle.snoop.specs.Agent.{agent_at};
+ghost use Rattle.snoop.specs.Places.{definition_place};
+ghost use Rattle.snoop.specs.Shows.{IsReady, Shows, kept};
+ghost use Rattle.stamp.specs.Stamps as stamps;
+
+use crate::agents::{post, unraise};
+use crate::bus::Bus;
+use crate::meeting::meets_section;
+use bus_order::Request;
+use el_base::{HartId, Losers, Mode, Need, Outcome};
+use mail::Message;
+use policy::Policy;
+
+/// Where a request goes among the requests of its line.
+#[derive(Clone, Copy, Debug, PartialEq, Eq)]
+enum Place {
+    /// Before all of them: a section of its own hart has a bit there.
+    InFront,
+    /// Behind all of them.
+    Behind,
+    /// The line has no other one.
+    Alone,
+}
+
+impl Bus {
+    /// Where a request goes.
+    fn place_for(&self, request: Request) -> Place
+        requires { request.hart.number < length (kept self.now).copies.caches }
+        ensures { (state : ModelState) → Shows (kept self.now) state →
+            definition_place result ≡ place_for state (numbered request) }
+    {
+        if meets_section(
+            self.hierarchy.cache(request.hart),
+            request.line,
+            Need::Write,
+        ) {
+            return Place::InFront;
+        }
+        match self.order.first_of(request.line) {
+            Some(_) => Place::Behind,
+            None => Place::Alone,
+        }
+    }
+
+    /// In lock removal a hart sends another a marker.
+    fn send_marker(&mut self, from: HartId, to: HartId)
+        requires { IsReady (kept self.old) }
+        ensures ready { IsReady (kept self.new) }
+        ensures mode { (kept self.new).mode ≡ (kept self.old).mode }
+        ensures shows { (state : ModelState) → Shows (kept self.old) state →
+            Shows (kept self.new) (marked_from state.config.mode state from.number to.number) }
+    {
+        match self.mode {
+            Mode::Tlr => post(&mut self.agents, to, Message::Marker { from }),
+            Mode::Sle | Mode::Plain => (),
+        }
+    }
+
+    /// The request goes before all requests of its line, or last where there are none.
+    fn put_in_front(&mut self, request: Request)
+        requires ready { IsReady (kept self.old) }
+        requires raised { (agent_at (kept self.old).agents request.hart.number).raised ≡ Some (numbered request) }
+        ensures ready { IsReady (kept self.new) }
+        ensures mode { (kept self.new).mode ≡ (kept self.old).mode }
+        ensures shows { (state : ModelState) → Shows (kept self.old) state →
+            Shows (kept self.new) (placed_in_front state (numbered request)) }
+    {
+        unraise(&mut self.agents, request.hart);
+        self.order.in_front(request);
+    }
+
+    /// The request goes behind all others.
+    fn put_last(&mut self, request: Request)
+        requires ready { IsReady (kept self.old) }
+        requires raised { (agent_at (kept self.old).agents request.hart.number).raised ≡ Some (numbered request) }
+        ensures ready { IsReady (kept self.new) }
+        ensures mode { (kept self.new).mode ≡ (kept self.old).mode }
+        ensures shows { (state : ModelState) → Shows (kept self.old) state →
+            Shows (kept self.new) (placed_last state (numbered request)) }
+    {
+        unraise(&mut self.agents, request.hart);
+        self.order.append(request);
+    }
+
+    /// The request goes before all requests of its line, of which the first one's hart is sent a marker.
+    fn go_in_front(&mut self, request: Request)
+        requires ready { IsReady (kept self.old) }
+        requires raised { (agent_at (kept self.old).agents request.hart.number).raised ≡ Some (numbered request) }
+        ensures ready { IsReady (kept self.new) }
+        ensures mode { (kept self.new).mode ≡ (kept self.old).mode }
+        ensures shows { (state : ModelState) → Shows (kept self.old) state →
+            Shows (kept self.new) (before_face state (numbered request) InFront) }
+    {
+        let former = self.order.first_of(request.line);
+        self.put_in_front(request);
+        if let Some(former) = former {
+            self.send_marker(request.hart, former.hart);
+        }
+    }
+
+    /// The request goes behind all others, and the hart of the last one of its line sends it a marker.
+    fn go_behind(&mut self, request: Request)
+        requires ready { IsReady (kept self.old) }
+        requires raised { (agent_at (kept self.old).agents request.hart.number).raised ≡ Some (numbered request) }
+        ensures ready { IsReady (kept self.new) }
+        ensures mode { (kept self.new).mode ≡ (kept self.old).mode }
+        ensures shows { (state : ModelState) → Shows (kept self.old) state →
+            Shows (kept self.new) (before_face state (numbered request) Behind) }
+    {
+        let last = self.order.tail_of(request.line);
+        self.put_last(request);
+        if let Some(last) = last {
+            self.send_marker(last.hart, request.hart);
+        }
+    }
+
+    /// The request takes its place, and is faced where it is the first of its line.
+    #[tactic(auto, unfolding(el_model::specs::Order::placed))]
+    fn place<P: Policy>(&mut self, request: Request, policy: &P) -> Losers
+        requires ready { IsReady (kept self.old) }
+        requires raised { (agent_at (kept self.old).agents request.hart.number).raised ≡ Some (numbered request) }
+        requires policy { (request holder : Option stamps.Stamp) →
+            P.beats policy.now request holder ≡ wins_of (kept self.old).mode request holder }
+        ensures ready { IsReady (kept self.new) }
+        ensures shows { (state : ModelState) → Shows (kept self.old) state →
+            Shows (kept self.new) (placed state (numbered request) (place_for state (numbered request))) }
+        ensures losers { (state : ModelState) → Shows (kept self.old) state →
+            result ≡ order_losers state (numbered request) }
+    {
+        match self.place_for(request) {
+            Place::InFront => {
+                self.go_in_front(request);
+                self.face(request, policy)
+            }
+            Place::Behind => {
+                self.go_behind(request);
+                Losers::none()
+            }
+            Place::Alone => {
+                self.put_last(request);
+                self.face(request, policy)
+            }
+        }
+    }
+
+    /// The request that a hart has raised takes its place in the order: before all requests of its line where the
+    /// hart's own section has a bit there, else behind them. Where it is the first of its line then, it is faced,
+    /// and the outcome tells which sections lost. It is `Idle` exactly where the hart has raised no request.
+    ///
+    /// In lock removal a request that goes in front sends the hart of the former first one a marker, and the
+    /// hart of the former last one sends one to the hart of a request that goes behind.
+    #[tactic(auto, unfolding(el_model::specs::Order::order_turn))]
+    pub fn order<P: Policy>(&mut self, hart: HartId, policy: &P) -> Outcome
+        requires hart_exists { hart.number < length (kept self.old).agents }
+        requires ready { IsReady (kept self.old) }
+        requires policy { (request holder : Option stamps.Stamp) →
+            P.beats policy.now request holder ≡ wins_of (kept self.old).mode request holder }
+        ensures ready { IsReady (kept self.new) }
+        ensures state { (state : ModelState) → Shows (kept self.old) state →
+            Shows (kept self.new) (order_turn state hart.number).state }
+        ensures outcome { (state : ModelState) → Shows (kept self.old) state →
+            result ≡ (order_turn state hart.number).outcome }
+    {
+        match self.agent(hart).raised() {
+            Some(request) => Outcome::Ordered {
+                losers: self.place(request, policy),
+            },
+            None => Outcome::Idle,
+        }
+    }
+}

@@ -1,0 +1,146 @@
+//! An ordered request is served, or something is in its way.
+
+ghost use Rattle.std.specs.Prelude.{◌≡◌, ◌<◌, Option, Some, length, true};
+ghost use Rattle.std.specs.Option.{option_map};
+ghost use Rattle.bus_order.specs.Order.{numbered, removed, request_of};
+ghost use Rattle.cache_sets.specs.Cache.{has_marks};
+ghost use Rattle.coherence.specs.Caches.{cache_at};
+ghost use Rattle.coherence.specs.Served.{HasLine, IsCoherent, IsServed, has_room, shown};
+ghost use Rattle.el_model.specs.Serve as serving;
+ghost use Rattle.el_model.specs.Serve.{Free};
+ghost use Rattle.el_model.specs.Face.{face_losers_if, faced_if};
+ghost use Rattle.el_model.specs.State.{ModelState, head_of};
+ghost use Rattle.policy.specs.Winners.{wins_of};
+ghost use Rattle.snoop.specs.Serving.{AgentsServe, CopiesClaim, CopiesServe, Serves};
+ghost use Rattle.snoop.specs.Shows.{IsReady, Shows, kept};
+ghost use Rattle.stamp.specs.Stamps as stamps;
+
+use crate::agents::{claim, forget};
+use crate::bus::Bus;
+use crate::obstacle::Obstacle;
+use bus_order::Request;
+use coherence::Hierarchy;
+use el_base::{HartId, LineAddr, Losers, Outcome};
+use policy::Policy;
+
+impl Bus {
+    /// The request that the hart has ordered is served, where it is the head of its line, no section retains the line
+    /// and no other hart holds it: the line comes into the hart's cache with the letter that its need gives, the
+    /// other copies give it up, and a line that leaves for it is written back where main memory is behind. A live
+    /// section gets its bit on the line, and a hart without one holds the line until its next step. The next request of
+    /// the line, if there is one, is faced, and the outcome tells which sections lost. `Blocked` tells the first thing that
+    /// is in the way, with its hart, and then nothing changes. It is `Idle` exactly where the hart has nothing in
+    /// the order.
+    #[tactic(auto, unfolding(el_model::specs::Serve::serve_turn))]
+    pub fn serve<P: Policy>(&mut self, hart: HartId, policy: &P) -> Outcome
+        requires hart_exists { hart.number < length (kept self.old).agents }
+        requires ready { IsReady (kept self.old) }
+        requires policy { (request holder : Option stamps.Stamp) →
+            P.beats policy.now request holder ≡ wins_of (kept self.old).mode request holder }
+        ensures ready { IsReady (kept self.new) }
+        ensures state { (state : ModelState) → Shows (kept self.old) state →
+            Shows (kept self.new) (serving.serve_turn state hart.number).state }
+        ensures outcome { (state : ModelState) → Shows (kept self.old) state →
+            result ≡ (serving.serve_turn state hart.number).outcome }
+    {
+        match self.order.of(hart) {
+            Some(request) => self.serve_past(request, policy),
+            None => Outcome::Idle,
+        }
+    }
+
+    /// A request is served where nothing is in its way.
+    fn serve_past<P: Policy>(&mut self, request: Request, policy: &P) -> Outcome
+        requires ready { IsReady (kept self.old) }
+        requires ordered { request_of (kept self.old).order request.hart.number ≡ Some (numbered request) }
+        requires policy { (request holder : Option stamps.Stamp) →
+            P.beats policy.now request holder ≡ wins_of (kept self.old).mode request holder }
+        ensures ready { IsReady (kept self.new) }
+        ensures state { (state : ModelState) → Shows (kept self.old) state → Shows (kept self.new)
+            (serving.serve_past state (numbered request) (serving.obstacle_to state (numbered request))).state }
+        ensures outcome { (state : ModelState) → Shows (kept self.old) state → result
+            ≡ (serving.serve_past state (numbered request) (serving.obstacle_to state (numbered request))).outcome }
+    {
+        match self.obstacle_to(request) {
+            Obstacle::Free => Outcome::Served {
+                losers: self.serve_free(request, policy),
+            },
+            Obstacle::Blocks { why, by } => Outcome::Blocked { why, by },
+        }
+    }
+
+    /// A request that nothing is in the way of is served, and the next one of its line is faced.
+    fn serve_free<P: Policy>(&mut self, request: Request, policy: &P) -> Losers
+        requires ready { IsReady (kept self.old) }
+        requires ordered { request_of (kept self.old).order request.hart.number ≡ Some (numbered request) }
+        requires free { (state : ModelState) → Shows (kept self.old) state → serving.obstacle_to state (numbered request) ≡ Free }
+        requires policy { (request holder : Option stamps.Stamp) →
+            P.beats policy.now request holder ≡ wins_of (kept self.old).mode request holder }
+        ensures ready { IsReady (kept self.new) }
+        ensures state { (state : ModelState) → Shows (kept self.old) state →
+            Shows (kept self.new) (serving.served_turn state (numbered request)).state }
+        ensures losers { (state : ModelState) → Shows (kept self.old) state →
+            result ≡ serving.serve_losers state (numbered request) }
+    {
+        self.give_line(request);
+        self.face_head(request.line, policy)
+    }
+
+    /// The head of a line is faced, if there is one.
+    fn face_head<P: Policy>(&mut self, line: LineAddr, policy: &P) -> Losers
+        requires ready { IsReady (kept self.old) }
+        requires policy { (request holder : Option stamps.Stamp) →
+            P.beats policy.now request holder ≡ wins_of (kept self.old).mode request holder }
+        ensures ready { IsReady (kept self.new) }
+        ensures state { (state : ModelState) → Shows (kept self.old) state →
+            Shows (kept self.new) (faced_if state (head_of state line.number)) }
+        ensures losers { (state : ModelState) → Shows (kept self.old) state →
+            result ≡ face_losers_if state (head_of state line.number) }
+    {
+        match self.order.first_of(line) {
+            Some(head) => self.face(head, policy),
+            None => Losers::none(),
+        }
+    }
+
+    /// The line of a request comes to its hart, and what came with the request is forgotten. The request is the
+    /// head of its line, and nothing is in its way.
+    fn give_line(&mut self, request: Request)
+        requires ready { IsReady (kept self.old) }
+        requires ordered { request_of (kept self.old).order request.hart.number ≡ Some (numbered request) }
+        requires free { (state : ModelState) → Shows (kept self.old) state → serving.obstacle_to state (numbered request) ≡ Free }
+        ensures ready { IsReady (kept self.new) }
+        ensures mode { (kept self.new).mode ≡ (kept self.old).mode }
+        ensures shows { (state : ModelState) → Shows (kept self.old) state →
+            Shows (kept self.new) (serving.served state (numbered request)) }
+    {
+        self.serve_parts(request);
+    }
+
+    /// The same, part by part.
+    fn serve_parts(&mut self, request: Request)
+        requires ready { IsReady (kept self.old) }
+        requires ordered { request_of (kept self.old).order request.hart.number ≡ Some (numbered request) }
+        ensures { Serves (numbered request) (kept self.old) (kept self.new) }
+    {
+        let live = self.hierarchy.cache(request.hart).marked();
+        fill(&mut self.hierarchy, request, live);
+        forget(&mut self.agents, request.hart);
+        claim(&mut self.agents, request, live);
+        self.order.remove(request.hart);
+    }
+}
+
+/// The line of a request comes into its hart's cache, with a bit where the hart has a live section.
+fn fill(hierarchy: &mut Hierarchy, request: Request, live: bool)
+    requires hart_exists { request.hart.number < length (shown hierarchy.old).caches }
+    requires in_memory { HasLine (shown hierarchy.old) request.line.number }
+    requires room { has_room (shown hierarchy.old) request.hart.number request.line.number ≡ true }
+    requires coherent { IsCoherent (shown hierarchy.old) }
+    ensures { CopiesServe live (numbered request) (shown hierarchy.old) (shown hierarchy.new) }
+{
+    hierarchy.serve(request.hart, request.line, request.need);
+    if live {
+        hierarchy.mark(request.hart, request.line, request.need);
+    }
+}

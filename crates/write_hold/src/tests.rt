@@ -1,0 +1,218 @@
+//! A few holds, worked by hand. The lines under them have at each place the number of the place.
+
+use super::*;
+use el_base::{Config, line_of};
+use std::alloc::Global;
+use std::test::Fail;
+
+fn line(number: u8) -> LineAddr {
+    line_of(u32::from(number) * 64)
+}
+
+/// A hold of at most so many lines.
+fn hold(alloc: Global, lines: u8) -> Result<Hold, Fail> {
+    let config = Config {
+        lines,
+        ..Config::usual()
+    };
+    Ok(Hold::make(alloc, &config)?)
+}
+
+/// Puts bytes into a line. Tells how many lines are held where one more is too many.
+fn put(hold: &mut Hold, number: u8, offset: u8, bytes: &[u8]) -> Result<Option<u8>, Fail> {
+    if bytes.is_empty() || bytes.len() > 64 || usize::from(offset) + bytes.len() > 64 {
+        return Err("no such place".into());
+    }
+    match hold.put(line(number), offset, bytes) {
+        Ok(()) => Ok(None),
+        Err(lines) => Ok(Some(lines.have)),
+    }
+}
+
+/// The line under a hold: at each place the number of the place.
+fn under() -> [u8; 64] {
+    let mut bytes = [0; 64];
+    for place in 0..64 {
+        bytes[place as usize] = place;
+    }
+    bytes
+}
+
+/// The word at a place of a line, over the line under it.
+fn read(hold: &Hold, number: u8, offset: u8) -> u32 {
+    hold.read_over(line(number), &under(), offset % 61)
+}
+
+/// Drains a line, if it is held, over the line under it.
+fn drained(hold: &mut Hold, number: u8) -> Option<[u8; 64]> {
+    let line = line(number);
+    if !hold.has(line) {
+        return None;
+    }
+    let mut target = under();
+    hold.drain_into(line, &mut target);
+    Some(target)
+}
+
+#[test]
+fn a_word_takes_each_byte_from_the_hold_or_from_under_it(rt: HostRuntime) -> Result<(), Fail> {
+    let mut hold = hold(rt.alloc(), 4)?;
+    assert_eq!(rt; put(&mut hold, 3, 4, &[0xaa, 0xbb])?, None);
+    for (number, offset, word) in [
+        (3, 0, 0x0302_0100),
+        (3, 2, 0xbbaa_0302),
+        (3, 3, 0x06bb_aa03),
+        (3, 4, 0x0706_bbaa),
+        (3, 5, 0x0807_06bb),
+        (3, 6, 0x0908_0706),
+        (2, 4, 0x0706_0504),
+    ] {
+        assert_eq!(rt; read(&hold, number, offset), word, "{number} {offset}");
+    }
+    Ok(())
+}
+
+#[test]
+fn the_first_bytes_the_last_and_all_of_a_line(rt: HostRuntime) -> Result<(), Fail> {
+    let mut hold = hold(rt.alloc(), 4)?;
+    assert_eq!(rt; put(&mut hold, 0, 0, &[0xa0, 0xa1, 0xa2, 0xa3])?, None);
+    assert_eq!(rt; put(&mut hold, 0, 62, &[0xb0, 0xb1])?, None);
+    for (offset, word) in [
+        (0, 0xa3a2_a1a0),
+        (1, 0x04a3_a2a1),
+        (59, 0xb03d_3c3b),
+        (60, 0xb1b0_3d3c),
+    ] {
+        assert_eq!(rt; read(&hold, 0, offset), word, "{offset}");
+    }
+    assert_eq!(rt; put(&mut hold, 0, 0, &[0xcc; 64])?, None);
+    for offset in [0, 31, 60] {
+        assert_eq!(rt; read(&hold, 0, offset), 0xcccc_cccc, "{offset}");
+    }
+    assert_eq!(rt; hold.len(), 1);
+    Ok(())
+}
+
+#[test]
+fn the_last_store_to_a_byte_is_the_one_that_is_held(rt: HostRuntime) -> Result<(), Fail> {
+    // three stores, each a place and how many bytes of 0x11 0x22 0x33 0x44, and the word after each
+    for (stores, words) in [
+        (
+            [(16, 4), (18, 2), (18, 1)],
+            [0x4433_2211, 0x2211_2211, 0x2211_2211],
+        ),
+        (
+            [(18, 1), (18, 2), (16, 4)],
+            [0x1311_1110, 0x2211_1110, 0x4433_2211],
+        ),
+        (
+            [(17, 2), (16, 4), (19, 1)],
+            [0x1322_1110, 0x4433_2211, 0x1133_2211],
+        ),
+        (
+            [(16, 4), (16, 4), (17, 1)],
+            [0x4433_2211, 0x4433_2211, 0x4433_1111],
+        ),
+    ] {
+        let mut hold = hold(rt.alloc(), 1)?;
+        for place in 0..3 {
+            let (offset, len) = stores[place];
+            let bytes = [0x11, 0x22, 0x33, 0x44];
+            assert_eq!(rt; put(&mut hold, 7, offset, &bytes[..len])?, None);
+            assert_eq!(rt; read(&hold, 7, 16), words[place], "{stores:?} {place}");
+        }
+        assert_eq!(rt; hold.len(), 1);
+    }
+    Ok(())
+}
+
+#[test]
+fn the_same_word_twice(rt: HostRuntime) -> Result<(), Fail> {
+    let mut hold = hold(rt.alloc(), 1)?;
+    assert_eq!(rt; put(&mut hold, 9, 8, &[1, 2, 3, 4])?, None);
+    assert_eq!(rt; put(&mut hold, 9, 8, &[5, 6, 7, 8])?, None);
+    assert_eq!(rt; read(&hold, 9, 8), 0x0807_0605);
+    assert_eq!(rt; read(&hold, 9, 12), 0x0f0e_0d0c);
+    assert_eq!(rt; hold.len(), 1);
+    Ok(())
+}
+
+#[test]
+fn a_new_line_is_refused_at_the_limit_and_an_old_one_is_not(rt: HostRuntime) -> Result<(), Fail> {
+    let mut hold = hold(rt.alloc(), 2)?;
+    for (number, refused, held) in [
+        (1, None, 1),
+        (2, None, 2),
+        (3, Some(2), 2),
+        (1, None, 2),
+        (2, None, 2),
+        (3, Some(2), 2),
+    ] {
+        assert_eq!(rt;
+            put(&mut hold, number, number, &[0xff])?,
+            refused,
+            "{number}"
+        );
+        assert_eq!(rt; hold.len(), held, "{number}");
+    }
+    assert!(rt; !hold.has(line(3)));
+    assert_eq!(rt; read(&hold, 3, 3), 0x0605_0403);
+    assert!(rt; drained(&mut hold, 1).is_some());
+    assert_eq!(rt; put(&mut hold, 3, 3, &[0xff])?, None);
+    assert_eq!(rt; read(&hold, 3, 3), 0x0605_04ff);
+    Ok(())
+}
+
+#[test]
+fn a_drain_merges_one_line_and_removes_it(rt: HostRuntime) -> Result<(), Fail> {
+    let mut hold = hold(rt.alloc(), 3)?;
+    for (number, offset, byte) in [(5, 0, 0x70), (5, 62, 0x90), (6, 1, 0x10), (5, 63, 0x80)] {
+        assert_eq!(rt; put(&mut hold, number, offset, &[byte])?, None);
+    }
+    match drained(&mut hold, 5) {
+        Some(bytes) => {
+            for (place, byte) in [
+                (0, 0x70),
+                (1, 1),
+                (31, 31),
+                (61, 61),
+                (62, 0x90),
+                (63, 0x80),
+            ] {
+                assert_eq!(rt; bytes[place], byte, "{place}");
+            }
+        }
+        None => return Err("line 5 is not held".into()),
+    }
+    assert!(rt; !hold.has(line(5)));
+    assert_eq!(rt; drained(&mut hold, 5), None);
+    assert_eq!(rt; read(&hold, 5, 60), 0x3f3e_3d3c);
+    assert_eq!(rt; read(&hold, 6, 0), 0x0302_1000);
+    assert_eq!(rt; hold.first(), Some(line(6)));
+    assert_eq!(rt; hold.len(), 1);
+    assert!(rt; drained(&mut hold, 6).is_some());
+    assert_eq!(rt; hold.first(), None);
+    Ok(())
+}
+
+#[test]
+fn a_hold_forgets_all_that_it_holds_and_goes_on(rt: HostRuntime) -> Result<(), Fail> {
+    let mut hold = hold(rt.alloc(), 2)?;
+    assert_eq!(rt; hold.first(), None);
+    for number in [1, 2] {
+        assert_eq!(rt; put(&mut hold, number, 0, &[0xff; 4])?, None);
+    }
+    assert!(rt; hold.first().is_some());
+    hold.forget();
+    assert_eq!(rt; hold.first(), None);
+    assert_eq!(rt; hold.len(), 0);
+    for number in [1, 2] {
+        assert!(rt; !hold.has(line(number)));
+        assert_eq!(rt; read(&hold, number, 0), 0x0302_0100);
+    }
+    for (number, refused) in [(3, None), (4, None), (1, Some(2))] {
+        assert_eq!(rt; put(&mut hold, number, 0, &[0xee])?, refused, "{number}");
+    }
+    assert_eq!(rt; read(&hold, 3, 0), 0x0302_01ee);
+    Ok(())
+}

@@ -1,8 +1,8 @@
 -- a hart's view with at most one checkpoint of it
-use Rattle.std.specs.Prelude.{ℕ, ◌==◌, Option, None, Some, if◌then◌else◌}
-use Rattle.el_base.specs.Line.{line_number}
+use Rattle.std.specs.Prelude.{ℕ, Option, None, Some}
 use Rattle.reg_mark.specs.declared.marked.Marked.{Marked}
 use Rattle.rv_alu.specs.declared.view.HartView.{HartView}
+use Rattle.rv_alu.specs.Reservations.{unreserved}
 
 -- the view without a checkpoint
 abbrev pub unmarked : HartView → Marked
@@ -29,19 +29,11 @@ back_of marks = unmarked (committed_of marks)
 abbrev pub kept_of : Marked → Marked
 kept_of marks = unmarked marks.present
 
--- a reservation, unless it is of a word on the line
-abbrev pub reserved_off : ℕ → Option ℕ → Option ℕ
-reserved_off line None = None
-reserved_off line (Some word) = if line_number word == line then None else Some word
-
--- a view without its reservation of a word on the line
-abbrev pub view_off : ℕ → HartView → HartView
-view_off line view = record view { reserved = reserved_off line view.reserved }
-
 -- the views after the committed one lost its reservation of a word on the line; beside a checkpoint the present view keeps its own
-abbrev pub views_off : ℕ → Option HartView → HartView → Marked
-views_off line None present = unmarked (view_off line present)
-views_off line (Some mark) present = record { present = present; mark = Some (view_off line mark) }
+abbrev pub views_unreserved : ℕ → Option HartView → HartView → Marked
+views_unreserved line None present = unmarked (unreserved line present)
+views_unreserved line (Some mark) present = record { present = present; mark = Some (unreserved line mark) }
 
-abbrev pub unreserved : ℕ → Marked → Marked
-unreserved line marks = views_off line marks.mark marks.present
+-- the same, of the two together
+abbrev pub marks_unreserved : ℕ → Marked → Marked
+marks_unreserved line marks = views_unreserved line marks.mark marks.present

@@ -1,6 +1,7 @@
 ghost use Rattle.std.specs.Prelude.{◌≡◌, None, IsSome};
 ghost use Rattle.std.specs.Borrow.{sem};
-ghost use Rattle.reg_mark.specs.Marks.{back_of, committed_of, kept_of, marked, reserved_off, unmarked, unreserved};
+ghost use Rattle.rv_alu.specs.Reservations.{reserved_off};
+ghost use Rattle.reg_mark.specs.Marks.{back_of, committed_of, kept_of, marked, marks_unreserved, unmarked};
 
 use el_base::{LineAddr, line_of};
 use rv_alu::HartView;
@@ -81,7 +82,7 @@ impl Marked {
     /// Ends the committed view's reservation where it is of a word on this line. Where a checkpoint
     /// stands, the present view keeps its own.
     pub fn unreserve(&mut self, line: LineAddr)
-        ensures { self.new ≡ unreserved line.number self.old }
+        ensures { self.new ≡ marks_unreserved line.number self.old }
     {
         match &mut self.mark {
             Some(mark) => mark.reserved = off_line(mark.reserved, line),

@@ -7,3 +7,4 @@ pub mod Action
 pub mod Footprint
 pub mod Loaded
 pub mod Execution
+pub mod Reservations

@@ -1,5 +1,5 @@
 -- one step of a hart on plain shared memory
-use Rattle.std.specs.Prelude.{ℕ, ◌-◌, ◌==◌, ◌++◌, List, map, Option, None, Some, if◌then◌else◌, slice_set}
+use Rattle.std.specs.Prelude.{ℕ, ◌-◌, ◌++◌, List, map, Option, None, Some, slice_set}
 use Rattle.elf_image.specs.Program.{code_word}
 use Rattle.el_base.specs.Line.{line_number}
 use Rattle.rv_alu.specs.declared.action.Action.{Action}
@@ -8,21 +8,13 @@ use Rattle.rv_alu.specs.declared.view.HartStatus.TheVariants.{Running, Exited, T
 use Rattle.rv_alu.specs.declared.view.HartView.{HartView}
 use Rattle.rv_alu.specs.Action.{action_at}
 use Rattle.rv_alu.specs.Execution.{Append, Execution, Store, append_in, executed, store_in, view_after}
+pub use Rattle.rv_alu.specs.Reservations.{unreserved}
 use Rattle.rv_flat.specs.FlatState.{FlatState, room_of, span_of, status_of, view_of}
 use Rattle.rv_flat.specs.Memory.{byte_in, piece_of, put_bytes}
 
 -- a hart's view is another one
 abbrev pub with_view : FlatState → ℕ → HartView → FlatState
 with_view state hart view = record state { harts = slice_set state.harts hart view }
-
--- a reservation, unless it is of a word on the line
-abbrev pub kept_of : ℕ → Option ℕ → Option ℕ
-kept_of line None = None
-kept_of line (Some word) = if line_number word == line then None else Some word
-
--- a hart after a store to a line
-abbrev pub unreserved : ℕ → HartView → HartView
-unreserved line view = record view { reserved = kept_of line view.reserved }
 
 -- harts after another's store, if there is one
 abbrev pub unreserved_by : Option Store → List HartView → List HartView

@@ -1,12 +1,12 @@
 ghost use Rattle.std.specs.Prelude.{◌≡◌, map};
-ghost use Rattle.rv_flat.specs.Step.{kept_of, unreserved};
+ghost use Rattle.rv_alu.specs.Reservations.{reserved_off, unreserved};
 
 use el_base::{LineAddr, line_of};
 use rv_alu::HartView;
 
 /// The reservation that is left after a store to a line.
 fn kept(reserved: Option<u32>, line: LineAddr) -> Option<u32>
-    ensures { result ≡ kept_of line.number reserved }
+    ensures { result ≡ reserved_off line.number reserved }
 {
     reserved.filter(|word| line_of(*word) != line)
 }

@@ -95,25 +95,31 @@ coherent_kept need h line first lines told old new kept resident coherent =
     one_line told first line lines old new coherent (λ l g other. kept_other need h line l g old new kept other) there
     (line_kept need h line (told line) (behind_of first lines line) old new kept resident (coherent.each line there))
 
--- where one cache is replaced by one with the same copies, caches and main memory tell what they told
+-- where one cache is replaced by one with the same copy of a line, the copies of that line are as they were
+pub same_copies_at : (h line g : ℕ) (old : List Cached) (cache : Cached) → copy_in cache line ≡ copy_in (cache_at old h) line →
+    copies_of (slice_set old h cache) line g ≡ copies_of old line g
+same_copies_at h line g old cache same =
+    elim (cases_eq g h) [
+      | inl own ↦ rw own (here (cases_lt h (length old)))
+      | inr apart ↦ ap (λ c. copy_in c line) (other_new h g old cache apart)
+    ]
+  where
+    here : (h < length old) ⊎ (length old ≤ h) → copies_of (slice_set old h cache) line h ≡ copies_of old line h
+    here (inl inside) = ap (λ c. copy_in c line) (get_or-set_same old h cache no_cache inside) ∙ same
+    here (inr outside) =
+        ap (λ c. copy_in c line)
+        (beyond (slice_set old h cache) h (subst (λ n. n ≤ h) (sym (length-set old h cache)) outside) ∙ sym (beyond old h outside))
+
+-- where it has the same copies of all lines, caches and main memory tell what they told
 pub coherent_same_copies : (h first : ℕ) (lines : List (List ℕ)) (told : ℕ → List ℕ) (old : List Cached) (cache : Cached) →
     ((l : ℕ) → copy_in cache l ≡ copy_in (cache_at old h) l) → AreCoherent told first lines old →
     AreCoherent told first lines (slice_set old h cache)
 coherent_same_copies h first lines told old cache copies coherent = record {
-  each = λ l in_memory. same_line (told l) (copies_of old l) (copies_of (slice_set old h cache) l) _ _ (coherent.each l in_memory) (same l) refl;
+  each = λ l in_memory.
+      same_line (told l) (copies_of old l) (copies_of (slice_set old h cache) l) _ _ (coherent.each l in_memory)
+      (λ g. same_copies_at h l g old cache (copies l)) refl;
   inside = λ g l resident.
-      coherent.inside g l (copy_resident (cache_at old g) l _ (sym (same l g) ∙ copy_is (cache_at (slice_set old h cache) g) l resident));
+      coherent.inside g l
+      (copy_resident (cache_at old g) l _
+      (sym (same_copies_at h l g old cache (copies l)) ∙ copy_is (cache_at (slice_set old h cache) g) l resident));
 }
-  where
-    same : (l g : ℕ) → copies_of (slice_set old h cache) l g ≡ copies_of old l g
-    same l g =
-        elim (cases_eq g h) [
-          | inl own ↦ rw own (here (cases_lt h (length old)))
-          | inr apart ↦ ap (λ c. copy_in c l) (other_new h g old cache apart)
-        ]
-      where
-        here : (h < length old) ⊎ (length old ≤ h) → copies_of (slice_set old h cache) l h ≡ copies_of old l h
-        here (inl inside) = ap (λ c. copy_in c l) (get_or-set_same old h cache no_cache inside) ∙ copies l
-        here (inr outside) =
-            ap (λ c. copy_in c l)
-            (beyond (slice_set old h cache) h (subst (λ n. n ≤ h) (sym (length-set old h cache)) outside) ∙ sym (beyond old h outside))

@@ -8,4 +8,6 @@ pub mod KeptLaws
 pub mod ServedLaws
 pub mod ChangedLaws
 pub mod RoomLaws
+pub mod GivenBackLaws
+pub mod LoanSteps
 pub mod AtFirst

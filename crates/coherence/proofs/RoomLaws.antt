@@ -1,5 +1,6 @@
 -- what the bits of a cache leave of its room for a line
-use Rattle.std.proofs.Common.{◌≡◌, ◌≢◌, ◌∙◌, ◌<◌, ◌≤◌, ◌||◌, arith, ℕ, suc, Bool, true, false, List, [], ◌∷◌, length, map, Option, None, Some, is_some, option_map, ap, refl, sym, inl, inr, if◌then◌else◌, ◌==◌}
+use Rattle.std.proofs.Common.{◌≡◌, ◌≢◌, ◌∙◌, ◌<◌, ◌≤◌, ◌||◌, ◌==◌, if◌then◌else◌, arith, ap, refl, sym, inl, inr}
+use Rattle.std.proofs.Common.{ℕ, suc, Bool, true, false, List, [], ◌∷◌, length, map, Option, None, Some, is_some, option_map}
 use Rattle.std.specs.Prelude.{nat_lt, slice_index_or}
 use Rattle.std.proofs.lemmas.Bool.{cases_eq}
 use Rattle.std.proofs.lemmas.Bool.Decides.{nat_tests}

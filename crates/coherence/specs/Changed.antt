@@ -1,5 +1,5 @@
 -- one cache changed, and no copy of any line
-use Rattle.std.specs.Prelude.{ℕ, ◌≡◌, ◌≢◌}
+use Rattle.std.specs.Prelude.{ℕ, ◌≡◌, ◌≢◌, List, slice_set}
 use Rattle.cache_sets.specs.Cached.{Cached}
 use Rattle.cache_sets.specs.Calls.{IsMarked}
 use Rattle.coherence.specs.Caches.{cache_at}
@@ -12,6 +12,12 @@ pub record IsChangedAt (Becomes : Cached → Cached → Type 0) (h : ℕ) (old n
   pub others : (g : ℕ) → g ≢ h → cache_at new.caches g ≡ cache_at old.caches g
   pub lines : new.lines ≡ old.lines
   pub stays : StaysCoherent old new
+
+-- one of the caches changed so
+pub record IsReplacedAt (Becomes : Cached → Cached → Type 0) (h : ℕ) (old new : List Cached) : Type 0 where
+  pub cache : Cached
+  pub becomes : Becomes (cache_at old h) cache
+  pub new_is : new ≡ slice_set old h cache
 
 -- a line of a cache got the bit of a need
 abbrev pub GetsBit : ℕ → Need → Cached → Cached → Type 0

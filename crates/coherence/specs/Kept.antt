@@ -1,8 +1,8 @@
 -- a request for a line that the hart has already
-use Rattle.std.specs.Prelude.{ℕ, ◌≡◌, ◌≢◌, List, length, slice_set}
+use Rattle.std.specs.Prelude.{ℕ, ◌≡◌, ◌≢◌, List, length}
 use Rattle.cache_sets.specs.Cache.{letter_of}
 use Rattle.cache_sets.specs.Cached.{Cached}
-use Rattle.cache_sets.specs.Calls.{IsLettered, IsTouched, IsWithout}
+use Rattle.cache_sets.specs.Calls.{IsLettered, IsWithout}
 use Rattle.coherence.specs.Caches.{cache_at}
 use Rattle.el_base.specs.declared.outcomes.Need.{Need}
 use Rattle.el_base.specs.declared.outcomes.Need.TheVariants.{Read, Write}
@@ -17,9 +17,3 @@ pub record IsKept (need : Need) (h line : ℕ) (old new : List Cached) : Type 0 
   pub count : length new ≡ length old
   pub own : IsLettered (cache_at old h) (cache_at new h) line (kept_letter need (letter_of (cache_at old h).residency line))
   pub others : (g : ℕ) → g ≢ h → LeavesTo need (cache_at old g) (cache_at new g) line
-
--- the line of one cache was touched
-pub record IsTouchedAt (h line : ℕ) (old new : List Cached) : Type 0 where
-  pub cache : Cached
-  pub touch : IsTouched (cache_at old h) cache line
-  pub new_is : new ≡ slice_set old h cache

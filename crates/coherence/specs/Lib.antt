@@ -6,3 +6,4 @@ pub mod Kept
 pub mod Beginning
 pub mod Changed
 pub mod Lending
+pub mod GivenBack

@@ -9,13 +9,13 @@ ghost use Rattle.cache_sets.specs.Calls.{IsCleared};
 ghost use Rattle.coherence.specs.Beginning.{bytes_at_first};
 ghost use Rattle.coherence.specs.Caches.{behind_of, cache_at};
 ghost use Rattle.coherence.specs.Changed.{GetsBit, IsChangedAt};
-ghost use Rattle.coherence.specs.Kept.{IsTouchedAt};
 ghost use Rattle.coherence.specs.Served.{HasLine, IsCoherent, IsServed, Moves, TellsOf, has_room, shown};
 ghost use Rattle.el_base.specs.Config.{IsInRange};
 ghost use Rattle.el_base.specs.Line.{line_number};
 ghost use Rattle.el_base.specs.declared.line.TheConstants.{LINE_BYTES};
 
 use crate::beginning::{empty_caches, lines_of};
+use crate::changing;
 use crate::fetching::fetch;
 use crate::found::current;
 use crate::keeping::keep;
@@ -72,13 +72,15 @@ impl Hierarchy {
 
     /// The cache of a hart, to be changed. What is left there is the hart's cache from then on; main memory
     /// and the other caches are as they were. Later calls need caches and main memory that tell one thing
-    /// of each line, so what may be done to a copy is the caller's concern.
+    /// of each line: they do where each copy is as it was, or was one that may be written and is modified
+    /// (`IsGivenBack` in `specs/GivenBack.antt`).
+    #[tactic(auto, using(crate::proofs::Fetched::indexed))]
     pub fn cache_mut(&mut self, hart: HartId) -> &mut Sets
         requires { hart.number < length (shown self.old).caches }
         ensures* lends { sem 𝓛 (LendsCache self.entry hart.number result) }
         ensures value { result.now ≡ cache_at (shown self.old).caches hart.number }
     {
-        &mut self.caches[usize::from(hart.number)]
+        &mut self.caches[hart.number as usize]
     }
 
     /// The byte at an address that caches and main memory tell, or none outside memory.
@@ -131,7 +133,7 @@ impl Hierarchy {
         ensures coherent { IsCoherent (shown self.new) }
     {
         self.bring(hart, line, need);
-        touch(&mut self.caches, hart, line);
+        changing::touch(&mut self.caches, hart, line);
     }
 
     /// A line of a hart's cache gets the bit of a need: the hart's section has done that to it. No copy
@@ -141,8 +143,7 @@ impl Hierarchy {
         requires resident { is_resident (cache_at (shown self.old).caches hart.number).residency line.number ≡ true }
         ensures { IsChangedAt (GetsBit line.number need) hart.number (shown self.old) (shown self.new) }
     {
-        let cache = &mut self.caches[usize::from(hart.number)];
-        cache.set_bit(line, need);
+        changing::mark(&mut self.caches, hart, line, need);
     }
 
     /// No line of a hart's cache has a bit any more. No copy changes.
@@ -150,8 +151,7 @@ impl Hierarchy {
         requires { hart.number < length (shown self.old).caches }
         ensures { IsChangedAt IsCleared hart.number (shown self.old) (shown self.new) }
     {
-        let cache = &mut self.caches[usize::from(hart.number)];
-        cache.clear_bits();
+        changing::clear(&mut self.caches, hart);
     }
 
     /// The hart's copy and the others' are as after the request, but for the order of its lines.
@@ -183,14 +183,4 @@ impl Hierarchy {
     {
         self.caches[usize::from(hart.number)].letter(line) != Letter::I
     }
-}
-
-/// A line of a hart's cache becomes the most recent one of its set.
-fn touch(caches: &mut Vec<Sets>, hart: HartId, line: LineAddr)
-    requires hart_exists { hart.number < length caches.old.items }
-    requires resident { is_resident (cache_at caches.old.items hart.number).residency line.number ≡ true }
-    ensures { IsTouchedAt hart.number line.number caches.old.items caches.new.items }
-{
-    let cache = &mut caches[usize::from(hart.number)];
-    cache.touch(line);
 }

@@ -13,6 +13,7 @@
 #![tactic(auto)]
 
 mod beginning;
+mod changing;
 mod fetching;
 mod found;
 mod hierarchy;

@@ -12,7 +12,7 @@ returns-clause-served c =
     let inside : h < length mid.caches = subst (λ n. h < n) (sym c.bring.ensures.stays.caches) c.requires.hart_exists in
     rw c.touch.ensures.new_is
     (served_by_touch c.args.need h c.args.line.number h old mid (cache_at mid.caches h) c.touch.ensures.cache refl inside c.bring.ensures refl
-    c.touch.ensures.touch)
+    c.touch.ensures.becomes)
 
 pub returns-clause-coherent : goal.returns-clause-coherent
 returns-clause-coherent c =

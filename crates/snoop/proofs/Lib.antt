@@ -13,6 +13,8 @@ mod Serves
 mod Sent
 mod Faced
 mod Placing
+mod AtFirst
+mod Raising
 mod Delivers
 mod Forwarding
 mod Hears

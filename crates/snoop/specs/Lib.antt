@@ -7,3 +7,4 @@ pub mod Obstacles
 pub mod Serving
 pub mod Delivering
 pub mod Places
+pub mod Asking

@@ -22,7 +22,7 @@ use Rattle.snoop.specs.Agent.{agent_at, agent_of, new_agent}
 use Rattle.snoop.specs.Shows.{IsReady, Kept, Shows}
 
 -- a hart of those that are new, and what has its number elsewhere
-hart_in : ℕ → ℕ → ℕ → Hart
+abbrev hart_in : ℕ → ℕ → ℕ → Hart
 hart_in harts sets h = slice_index_or (replicate harts (new_hart sets)) h (new_hart 0)
 
 agents_new : (harts sets h : ℕ) → agent_at (replicate harts new_agent) h ≡ agent_of (slice_index_or (replicate harts (new_hart sets)) h (new_hart 0))
@@ -65,26 +65,26 @@ count_agents program config bus new = ap length new.agents ∙ length-replicate 
 count_caches : (program : Program) (config : Config) (bus : Kept) → IsNew program config bus → length bus.copies.caches ≡ config.harts
 count_caches program config bus new = ap length new.caches ∙ length-replicate config.harts (empty_cached config.ways config.sets)
 
-unfolding (begin, start)
-  pub shows_first : (program : Program) (config : Config) (bus : Kept) → program.harts ≡ config.harts → IsNew program config bus →
-      Shows bus (begin program config)
-  shows_first program config bus one_each new = record {
-    mode = new.mode;
-    ways = λ h below. ap (λ caches. (cache_at caches h).ways) new.caches
-        ∙ ways_new config.harts config.ways config.sets h (omega (arith, below, one_each, harts));
-    agent_each = count_agents program config bus new ∙ sym one_each ∙ sym harts;
-    cache_each = count_caches program config bus new ∙ sym one_each ∙ sym harts;
-    agents = λ h. ap (λ agents. agent_at agents h) new.agents ∙ agents_new config.harts config.sets h
-        ∙ ap (λ n. agent_of (hart_in n config.sets h)) (sym one_each);
-    caches = λ h. ap (λ caches. (cache_at caches h).residency) new.caches ∙ caches_new config.harts config.ways config.sets h
-        ∙ ap (λ n. (hart_in n config.sets h).cache) (sym one_each);
-    live = λ h. none_live program.harts config.sets h;
-    order = new.order;
-    bytes = new.bytes;
-  }
-    where
-      harts : length (replicate program.harts (new_hart config.sets)) ≡ program.harts
-      harts = length-replicate program.harts (new_hart config.sets)
+pub shows_first : (program : Program) (config : Config) (bus : Kept) → program.harts ≡ config.harts → IsNew program config bus →
+    Shows bus (begin program config)
+unfolding begin start
+shows_first program config bus one_each new = record {
+  mode = new.mode;
+  ways = λ h below. ap (λ caches. (cache_at caches h).ways) new.caches
+      ∙ ways_new config.harts config.ways config.sets h (omega (arith, below, one_each, harts));
+  agent_each = count_agents program config bus new ∙ sym one_each ∙ sym harts;
+  cache_each = count_caches program config bus new ∙ sym one_each ∙ sym harts;
+  agents = λ h. ap (λ agents. agent_at agents h) new.agents ∙ agents_new config.harts config.sets h
+      ∙ ap (λ n. agent_of (hart_in n config.sets h)) (sym one_each);
+  caches = λ h. ap (λ caches. (cache_at caches h).residency) new.caches ∙ caches_new config.harts config.ways config.sets h
+      ∙ ap (λ n. (hart_in n config.sets h).cache) (sym one_each);
+  live = λ h. none_live program.harts config.sets h;
+  order = new.order;
+  bytes = new.bytes;
+}
+  where
+    harts : length (replicate program.harts (new_hart config.sets)) ≡ program.harts
+    harts = length-replicate program.harts (new_hart config.sets)
 
 some_sets : (sets : ℕ) → allows Sets sets ≡ true → 0 < sets
 some_sets zero is = absurd (cc)

@@ -21,6 +21,7 @@ one_changed becomes number old new agent inside is below = record {
   done = λ g under. elim (cases_eq g number) [
     | inl same ↦ ap (agent_at (with_agent new number agent)) same ∙ agent_same new number agent inside ∙ is
         ∙ ap (becomes number) (below.rest number (omega arith)) ∙ ap (λ k. becomes k (agent_at old k)) (sym same)
-    | inr before ↦ agent_other new number g agent before ∙ below.done g (omega (arith, before, under)) ];
+    | inr before ↦ agent_other new number g agent before ∙ below.done g (omega (arith, before, under))
+  ];
   rest = λ g from. agent_other new number g agent (omega arith) ∙ below.rest g (omega arith);
 }

@@ -83,7 +83,7 @@ pub marks_without_line : (ways : ℕ) (cache : List (List Way)) (line : ℕ) →
 marks_without_line ways cache line well none =
     has_marks-counted (without_line cache line)
     ∙ ap (λ n. not (eqb n 0)) (let same : marks_of (without_line cache line) ≡ marks_of cache =
-      omega (arith, total-without_line mark_of ways cache line well, no_mark (way_of cache line) none) in same)
+    omega (arith, total-without_line mark_of ways cache line well, no_mark (way_of cache line) none) in same)
     ∙ sym (has_marks-counted cache)
 
 pub others_marks : (ways : ℕ) (had : Bool) (need : Need) (cache : List (List Way)) (line : ℕ) → IsWellFormed ways cache →

@@ -47,7 +47,8 @@ claim_ways : (live : Bool) (request : Request) (old new : Copies) → CopiesClai
 claim_ways true request old new claim g =
     elim (cases_eq g request.hart) [
       | inl same ↦ ap (λ k. (cache_at new.caches k).ways) same ∙ claim.own.ways ∙ ap (λ k. (cache_at old.caches k).ways) (sym same)
-      | inr other ↦ ap (λ cache. cache.ways) (claim.others g other) ]
+      | inr other ↦ ap (λ cache. cache.ways) (claim.others g other)
+    ]
 claim_ways false request old new claim g = ap (λ copies. (cache_at copies.caches g).ways) claim
 
 claim_others : (live : Bool) (request : Request) (old new : Copies) → CopiesClaim live request old new → (g : ℕ) → g ≢ request.hart →
@@ -114,7 +115,7 @@ others_same : (bus : Kept) (state : ModelState) (h line : ℕ) → Shows bus sta
 others_same bus state h line shows =
     others_all (λ other. not (other == h) && is_resident (cache_of state other) line) h line 0 bus.copies.caches state.harts shows.cache_each
     (λ k number is. let same : k ≡ number = omega (arith, is) in
-      ap (λ cache. not (number == h) && is_resident cache line) (ap (λ n. (cache_at bus.copies.caches n).residency) same ∙ shows.caches number))
+    ap (λ cache. not (number == h) && is_resident cache line) (ap (λ n. (cache_at bus.copies.caches n).residency) same ∙ shows.caches number))
 
 -- the definition's hart after its request was served
 claim_cache : (live : Bool) (request : Request) (hart : Hart) → (with_claim live request hart).cache ≡ claimed_cache live request.line request.need hart.cache
@@ -209,7 +210,7 @@ unmet : (bus : Kept) (state : ModelState) (request : Request) (g : ℕ) → IsRe
     obstacle_to state request ≡ Free → g < length bus.agents → g ≢ request.hart → request.need ≡ Write → has_bit (cache_of state g) request.line ≡ false
 unmet bus state request g ready shows ordered free below apart write =
     let retained : retainer_of state request.line ≡ None =
-      not_blocked Retained (retainer_of state request.line) _ (blocked_else Behind (other_head request.hart (head_of state request.line)) _ free) in
+    not_blocked Retained (retainer_of state request.line) _ (blocked_else Behind (other_head request.hart (head_of state request.line)) _ free) in
     let kept = none_such (λ k. retains state k request.line) 0 g g state.harts retained (omega (arith, below, shows.agent_each)) (omega arith) in
     let none = ap (λ head. conflicts_with head g (hart_of state g)) (sym (free_head bus state request ready shows ordered free)) ∙ kept in
     let test = ap not (other_test request.hart g (λ same. apart (sym same))) in
@@ -228,14 +229,16 @@ served_agent state request g hart is =
           ∙ sym (claim_agent (is_some hart.section) request _)
           ∙ ap agent_of (sym (at_own g request.hart (served_hart state request hart) (bystander state request hart) same))
       | inr other ↦ at_other g request.hart _ _ other
-          ∙ ap agent_of (sym (at_other g request.hart (served_hart state request hart) (bystander state request hart) other)) ]
+          ∙ ap agent_of (sym (at_other g request.hart (served_hart state request hart) (bystander state request hart) other))
+    ]
 
 serving_section : (state : ModelState) (request : Request) (g : ℕ) (hart : Hart) → (serving state request g hart).section ≡ hart.section
 serving_section state request g hart =
     elim (cases_eq g request.hart) [
       | inl same ↦ ap (λ k. k.section) (at_own g request.hart (served_hart state request hart) (bystander state request hart) same)
           ∙ claim_section (is_some hart.section) request _
-      | inr other ↦ ap (λ k. k.section) (at_other g request.hart (served_hart state request hart) (bystander state request hart) other) ]
+      | inr other ↦ ap (λ k. k.section) (at_other g request.hart (served_hart state request hart) (bystander state request hart) other)
+    ]
 
 lives : (bus : Kept) (state : ModelState) (h : ℕ) → Shows bus state → has_marks (cache_at bus.copies.caches h).residency ≡ is_live state h
 lives bus state h shows = ap has_marks (shows.caches h) ∙ sym (shows.live h)
@@ -256,15 +259,16 @@ served_cache bus new state request ready shows exists serves g below =
       | inr other ↦ serve_others _ request bus.copies new.copies serves.copies g other
           ∙ ap (λ cache. others_cache (is_resident (cache_at bus.copies.caches request.hart).residency request.line) request.need cache request.line) (shows.caches g)
           ∙ ap (λ cache. others_cache (is_resident cache request.line) request.need (cache_of state g) request.line) (shows.caches request.hart)
-          ∙ ap (λ k. k.cache) (sym (at_other g request.hart (served_hart state request (hart_of state g)) (bystander state request (hart_of state g)) other)) ]
+          ∙ ap (λ k. k.cache) (sym (at_other g request.hart (served_hart state request (hart_of state g)) (bystander state request (hart_of state g)) other))
+    ]
   where
     filled : own_filled bus.copies request
         ≡ touched (own_copy state.config.ways (others_have state request.hart request.line) request.need (cache_of state request.hart) request.line) request.line
     filled =
         ap (λ ways. own_after ways (copies.others_have bus.copies.caches request.hart request.line) request.need
-          (cache_at bus.copies.caches request.hart).residency request.line) (shows.ways request.hart (omega (arith, exists, shows.agent_each)))
+        (cache_at bus.copies.caches request.hart).residency request.line) (shows.ways request.hart (omega (arith, exists, shows.agent_each)))
         ∙ ap (λ others. own_after state.config.ways others request.need (cache_at bus.copies.caches request.hart).residency request.line)
-          (others_same bus state request.hart request.line shows)
+        (others_same bus state request.hart request.line shows)
         ∙ ap (λ cache. own_after state.config.ways (others_have state request.hart request.line) request.need cache request.line) (shows.caches request.hart)
 
 -- a cache of the state after has a bit where it had one
@@ -280,7 +284,8 @@ served_marks bus new state request ready shows ordered free serves g below =
       | inr other ↦ ap has_marks (serve_others _ request bus.copies new.copies serves.copies g other)
           ∙ others_marks (cache_at bus.copies.caches g).ways _ request.need (cache_at bus.copies.caches g).residency request.line
           (ready.well_formed g (omega (arith, below, ready.each)))
-          (λ write. ap (λ cache. has_bit cache request.line) (shows.caches g) ∙ unmet bus state request g ready shows ordered free below other write) ]
+          (λ write. ap (λ cache. has_bit cache request.line) (shows.caches g) ∙ unmet bus state request g ready shows ordered free below other write)
+    ]
   where
     can : CanBeServed bus request.hart request
     can = ready.ordered request.hart request ordered
@@ -338,7 +343,8 @@ served_well_formed bus new request ready ordered serves g below =
           (claimed (has_marks (cache_at bus.copies.caches request.hart).residency)))
       | inr other ↦ subst (λ cache. IsWellFormed (cache_at bus.copies.caches g).ways cache) (sym (serve_others _ request bus.copies new.copies serves.copies g other))
           (others_well_formed (cache_at bus.copies.caches g).ways _ request.need (cache_at bus.copies.caches g).residency request.line
-          (ready.well_formed g (omega (arith, below, ready.each)))) ]
+          (ready.well_formed g (omega (arith, below, ready.each))))
+    ]
   where
     can : CanBeServed bus request.hart request
     can = ready.ordered request.hart request ordered
@@ -364,7 +370,8 @@ raised_after : (live : Bool) (request : Request) (g : ℕ) (agent : Agent) → (
 raised_after live request g agent =
     elim (cases_eq g request.hart) [
       | inl same ↦ ap (λ (a : Agent). a.raised) (at_own g request.hart _ _ same) ∙ raised_claimed live request.line (agent_served (agent_forgetting request.hart agent))
-      | inr other ↦ ap (λ (a : Agent). a.raised) (at_other g request.hart _ _ other) ]
+      | inr other ↦ ap (λ (a : Agent). a.raised) (at_other g request.hart _ _ other)
+    ]
 
 none_some : {X : Type 0} (found : Option Request) (request : Request) → found ≡ None → found ≡ Some request → X
 none_some None request none some = absurd (cc)
@@ -398,7 +405,8 @@ serve_ready bus new request ready ordered serves = ready_after bus new ready (re
         | inr apart ↦ record {
           is = sym (request_of_removed_other bus.order request.hart g (λ same. apart (sym same))) ∙ found;
           room = room g other.line apart;
-        } ];
+        }
+      ];
 })
   where
     stays : StaysCoherent bus.copies new.copies
@@ -408,7 +416,8 @@ serve_ready bus new request ready ordered serves = ready_after bus new ready (re
     raised_before g other is =
         elim (cases_lt g (length bus.agents)) [
           | inl below ↦ sym (raised_after _ request g (agent_at bus.agents g)) ∙ ap (λ a. a.raised) (sym (serves.agents.each g below)) ∙ is
-          | inr past ↦ none_some (agent_at new.agents g).raised other (ap (λ a. a.raised) (agent_past new.agents g (omega (arith, past, serves.agents.count)))) is ]
+          | inr past ↦ none_some (agent_at new.agents g).raised other (ap (λ a. a.raised) (agent_past new.agents g (omega (arith, past, serves.agents.count)))) is
+        ]
 
     room : (g line : ℕ) → g ≢ request.hart → has_room bus.copies g line ≡ true → has_room new.copies g line ≡ true
     room g line apart had =
@@ -416,4 +425,5 @@ serve_ready bus new request ready ordered serves = ready_after bus new ready (re
         ∙ ap (λ cache. room_of (cache_at bus.copies.caches g).ways cache line) (serve_others _ request bus.copies new.copies serves.copies g apart)
         ∙ elim (cases_lt g (length bus.copies.caches)) [
           | inl below ↦ others_room (cache_at bus.copies.caches g).ways _ request.need (cache_at bus.copies.caches g).residency request.line line (ready.well_formed g below) had
-          | inr past ↦ absurd (no_room (ap (λ cache. room_of cache.ways cache.residency line) (sym (beyond bus.copies.caches g past)) ∙ had)) ]
+          | inr past ↦ absurd (no_room (ap (λ cache. room_of cache.ways cache.residency line) (sym (beyond bus.copies.caches g past)) ∙ had))
+        ]

@@ -29,13 +29,22 @@ impl Bus {
             numbered_obstacle result ≡ serving.obstacle_to state (numbered request) }
     {
         if let Some(by) = self.other_head(request) {
-            return Obstacle::Blocks { why: Why::Behind, by };
+            return Obstacle::Blocks {
+                why: Why::Behind,
+                by,
+            };
         }
         if let Some(by) = self.retainer(request.line) {
-            return Obstacle::Blocks { why: Why::Retained, by };
+            return Obstacle::Blocks {
+                why: Why::Retained,
+                by,
+            };
         }
         match self.holder(request) {
-            Some(by) => Obstacle::Blocks { why: Why::Locked, by },
+            Some(by) => Obstacle::Blocks {
+                why: Why::Locked,
+                by,
+            },
             None => Obstacle::Free,
         }
     }
@@ -46,7 +55,11 @@ impl Bus {
             option_map number_of result ≡ serving.other_head request.hart.number (head_of state request.line.number) }
     {
         let head = self.order.first_of(request.line)?;
-        if head.hart == request.hart { None } else { Some(head.hart) }
+        if head.hart == request.hart {
+            None
+        } else {
+            Some(head.hart)
+        }
     }
 
     /// The least hart whose section conflicts with the head of a line, and so retains the line.
@@ -73,19 +86,34 @@ impl Bus {
         let mut number = self.agents.len();
         while number > 0 {
             number -= 1;
-            found = self.conflicting_or(request, HartId { number: number as u8 }, found);
+            found = self.conflicting_or(
+                request,
+                HartId {
+                    number: number as u8,
+                },
+                found,
+            );
         }
         found
     }
 
     /// This hart where its section conflicts with a request, and else the other one.
-    fn conflicting_or(&self, request: Request, hart: HartId, other: Option<HartId>) -> Option<HartId>
+    fn conflicting_or(
+        &self,
+        request: Request,
+        hart: HartId,
+        other: Option<HartId>,
+    ) -> Option<HartId>
         requires { hart.number < length (kept self.now).copies.caches }
         ensures { (state : ModelState) → Shows (kept self.now) state →
             option_map number_of result
             ≡ (if model.conflicts (numbered request) hart.number (hart_of state hart.number) then Some hart.number else option_map number_of other) }
     {
-        if self.conflicts(request, hart) { Some(hart) } else { other }
+        if self.conflicts(request, hart) {
+            Some(hart)
+        } else {
+            other
+        }
     }
 
     /// The least other hart that holds the line of a request.
@@ -99,7 +127,13 @@ impl Bus {
         let mut number = self.agents.len();
         while number > 0 {
             number -= 1;
-            found = self.holding_or(request, HartId { number: number as u8 }, found);
+            found = self.holding_or(
+                request,
+                HartId {
+                    number: number as u8,
+                },
+                found,
+            );
         }
         found
     }
@@ -110,7 +144,7 @@ impl Bus {
         ensures { (state : ModelState) → Shows (kept self.now) state →
             option_map number_of result
             ≡ (if not (hart.number == request.hart.number) && is_held (hart_of state hart.number).held request.line.number
-              then Some hart.number else option_map number_of other) }
+            then Some hart.number else option_map number_of other) }
     {
         if hart != request.hart && self.agents[usize::from(hart.number)].holds(request.line) {
             Some(hart)

@@ -11,7 +11,7 @@ abbrev pub invariant-loop-number : goal.invariant-loop-number
 invariant-loop-number l =
     (l.number ≤ length (kept l.self).agents)
     × ((state : ModelState) → Shows (kept l.self) state →
-      option_map number_of l.found ≡ first_such (λ h. conflicts (numbered l.request) h (hart_of state h)) (drop l.number (numbers_of state)))
+    option_map number_of l.found ≡ first_such (λ h. conflicts (numbered l.request) h (hart_of state h)) (drop l.number (numbers_of state)))
 
 abbrev pub decreases-loop-number : goal.decreases-loop-number
 decreases-loop-number l = l.number

@@ -36,8 +36,7 @@ twice_there state h first then_ =
       | inr past ↦ let gone = set_past state.harts h first past in
           ap (λ harts. record state { harts = slice_set harts h (then_ (slice_index_or harts h (new_hart 0))) }) gone
           ∙ ap (λ harts. record state { harts = harts })
-          (set_past state.harts h (then_ (hart_of state h)) past ∙ sym (set_past state.harts h (then_ first) past))
-    ]
+          (set_past state.harts h (then_ (hart_of state h)) past ∙ sym (set_past state.harts h (then_ first) past)) ]
 
 -- messages that are posted, one after another
 pub shows_posts : (messages : List Message) (bus : Kept) (state : ModelState) (to : ℕ) → Shows bus state →

@@ -27,8 +27,7 @@ pub changed_kept : {A : Type 0} (f : Agent → A) (upstream : List ℕ) (origin 
 changed_kept f upstream origin number h old now changed keeps =
     elim (cases_lt h number) [
       | inl below ↦ ap f (changed.done h below) ∙ forwarded_kept f upstream origin h (agent_at old h) keeps
-      | inr past ↦ ap f (changed.rest h past)
-    ]
+      | inr past ↦ ap f (changed.rest h past) ]
 
 -- to know who is before it, the hart is asked again and again; that stays
 pub one_forwarded : (upstream : List ℕ) (origin h number : ℕ) (old now : List Agent) → upstream ≡ (agent_at old h).upstream → number < length now →

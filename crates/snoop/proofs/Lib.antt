@@ -15,6 +15,7 @@ mod Faced
 mod Placing
 mod AtFirst
 mod Raising
+pub mod Returning
 mod Delivers
 mod Forwarding
 mod Hears

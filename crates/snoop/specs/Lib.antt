@@ -8,3 +8,5 @@ pub mod Serving
 pub mod Delivering
 pub mod Places
 pub mod Asking
+pub mod Lending
+pub mod Returned

@@ -1,6 +1,7 @@
 //! The bus, and its calls that are no event of it.
 
 ghost use Rattle.std.specs.Prelude.{◌≡◌, ◌<◌, ◌%◌, ◌↔◌, IfOk, IfSome, IsNone, None, length, slice_index, true};
+ghost use Rattle.std.specs.Borrow.{sem};
 ghost use Rattle.bus_order.specs.Order.{request_of};
 ghost use Rattle.coherence.specs.Caches.{behind_of, cache_at};
 ghost use Rattle.coherence.specs.Served.{HasLine, has_room};
@@ -35,6 +36,8 @@ pub struct Bus {
 }
 
 impl Bus {
+    ghost use Rattle.snoop.specs.Lending.{LendsSets};
+
     /// The bus before the first event: main memory as the image has it, and for each of the image's harts a
     /// cache without lines and no request. It takes all memory of the bus.
     pub fn make(alloc: Global, image: &Image, config: &Config) -> Result<Bus, NoMemory>
@@ -154,6 +157,17 @@ impl Bus {
             result.now.residency ≡ cache_of state hart.number }
     {
         self.hierarchy.cache(hart)
+    }
+
+    /// The cache of a hart, to be changed. What is left there is the hart's cache from then on; the rest of the bus
+    /// is as it was. Later calls need a bus that is ready: what the caller owes for that is `IsReturned`, in
+    /// `specs/Returned.antt`.
+    pub fn sets_mut(&mut self, hart: HartId) -> &mut Sets
+        requires { hart.number < length (kept self.old).copies.caches }
+        ensures* lends { sem 𝓛 (LendsSets self.entry hart.number result) }
+        ensures value { result.now ≡ cache_at (kept self.old).copies.caches hart.number }
+    {
+        self.hierarchy.cache_mut(hart)
     }
 
     /// The byte at an address of committed memory: that of the copy which main memory may be behind, and where

@@ -113,8 +113,8 @@ impl Bus {
         requires few { length (kept self.old).agents ≤ 8 }
         ensures { kept self.new ≡ record (kept self.old) {
           agents = probes_sent
-              (passes (agent_at (kept self.old).agents hart.number).told (kept self.old).order to.number line.number)
-              (numbers_from 0 (length (kept self.old).agents)) to.number (kept self.old).agents;
+            (passes (agent_at (kept self.old).agents hart.number).told (kept self.old).order to.number line.number)
+            (numbers_from 0 (length (kept self.old).agents)) to.number (kept self.old).agents;
         } }
     {
         for number in 0..self.agents.len() {
@@ -127,8 +127,8 @@ impl Bus {
         requires { hart.number < length (kept self.old).agents }
         ensures { kept self.new ≡ record (kept self.old) {
           agents = probe_sent
-              (passes (agent_at (kept self.old).agents hart.number).told (kept self.old).order to.number line.number origin.number)
-              origin.number to.number (kept self.old).agents;
+            (passes (agent_at (kept self.old).agents hart.number).told (kept self.old).order to.number line.number origin.number)
+            origin.number to.number (kept self.old).agents;
         } }
     {
         if origin != to && self.agent(hart).knows(origin) && self.is_ordered_on(line, origin) {

@@ -83,12 +83,12 @@ shows_returned bus state h cache hart committed inside shows back = record {
     | inr other ↦ ap agent_of (sym (hart_of-with_hart_other state h g hart other))
   ];
   caches = λ g. elim (cases_eq g h) [
-    | inl own ↦ ap (λ c. c.residency) (own_cache g own) ∙ sym back.cache ∙ ap (λ k. k.cache) (sym (own_hart g own))
+    | inl own ↦ ap (λ c. c.residency) (own_cache g own) ∙ sym back.residency ∙ ap (λ k. k.cache) (sym (own_hart g own))
     | inr other ↦ ap (λ c. c.residency) (returned_other bus h g cache other) ∙ shows.caches g
         ∙ ap (λ k. k.cache) (sym (hart_of-with_hart_other state h g hart other))
   ];
   live = λ g. elim (cases_eq g h) [
-    | inl own ↦ ap (λ k. is_some k.section) (own_hart g own) ∙ back.live ∙ ap has_marks (sym back.cache)
+    | inl own ↦ ap (λ k. is_some k.section) (own_hart g own) ∙ back.live ∙ ap has_marks (sym back.residency)
         ∙ ap (λ k. has_marks k.cache) (sym (own_hart g own))
     | inr other ↦ ap (λ k. is_some k.section) (hart_of-with_hart_other state h g hart other) ∙ shows.live g
         ∙ ap (λ k. has_marks k.cache) (sym (hart_of-with_hart_other state h g hart other))

@@ -33,7 +33,7 @@ pub record IsReturned (bus : Kept) (h : ℕ) (cache : Cached) : Type 0 where
 pub record IsReturnedAs (bus : Kept) (state : ModelState) (h : ℕ) (cache : Cached) (hart : Hart) (committed : FlatState) : Type 0 where
   pub agent : agent_of hart ≡ agent_of (hart_of state h)
   pub ways : cache.ways ≡ (cache_at bus.copies.caches h).ways
-  pub cache : hart.cache ≡ cache.residency
+  pub residency : hart.cache ≡ cache.residency
   pub live : is_some hart.section ≡ has_marks cache.residency
   pub bytes : TellsOf (copies_with bus.copies h cache) (line_of committed)
 

@@ -1,16 +1,17 @@
 -- the bus shows what the definition makes of a marker
-use Rattle.std.proofs.Common.{◌≡◌, ◌≢◌, ◌∙◌, ℕ, zero, suc, ◌+◌, ◌-◌, ◌<◌, ◌≤◌, ◌==◌, ◌&&◌, not, Bool, true, false, List, [], ◌∷◌, length, map, Option, Some, None, is_some, refl, ap, sym, subst, inl, inr, arith, if◌then◌else◌}
+use Rattle.std.proofs.Common.{◌≡◌, ◌∙◌, ℕ, suc, ◌-◌, ◌<◌, Bool, true, false, List, [], ◌∷◌, length, map, Option, Some, None, refl, ap, sym, subst, inl, inr, arith, if◌then◌else◌}
 use Rattle.std.specs.List.{filter}
 use Rattle.std.specs.Prelude.{slice_index_or, slice_set}
 use Rattle.std.proofs.lemmas.Bool.{cases_lt}
-use Rattle.std.proofs.lemmas.List.{set-get_or, set-set, set_past, get_or-set_same}
+use Rattle.std.proofs.lemmas.List.{set-get_or, set-set, set_past}
 use Rattle.bus_order.specs.Order.{Request, request_of}
-use Rattle.defer_list.specs.HartSet.{has, included}
-use Rattle.el_model.specs.Deliver.{after_marker, post_to, told_on}
-use Rattle.el_model.specs.State.{Hart, ModelState, count_up, hart_of, new_hart, numbers_of, ordered_of, ordered_on, post_all, with_hart}
+use Rattle.defer_list.specs.HartSet.{included}
+use Rattle.el_base.specs.declared.outcomes.Outcome.TheVariants.{Delivered, Idle}
+use Rattle.el_model.specs.Deliver.{after_marker, deliver_next, deliver_turn, delivered, losers_by, post_to, taken, told_on}
+use Rattle.el_model.specs.State.{Hart, ModelState, count_up, hart_of, new_hart, post_all, with_hart}
 use Rattle.el_model.proofs.Harts.{hart_of-with_hart_same}
-use Rattle.mail.specs.Mailbox.{Message, Probe, posted}
-use Rattle.snoop.specs.Agent.{Agent, agent_at, agent_behind, agent_of, agent_posted, with_agent}
+use Rattle.mail.specs.Mailbox.{Message, Probe, oldest, posted, without_oldest}
+use Rattle.snoop.specs.Agent.{Agent, agent_at, agent_behind, agent_posted, agent_taken, with_agent}
 use Rattle.snoop.specs.Delivering.{marker_taken, numbers_from, passed_on, passes, posts_sent, probe_sent, probes_sent}
 use Rattle.snoop.specs.Shows.{IsReady, Kept, Shows}
 use Rattle.snoop.proofs.Ready.{ready_agent}
@@ -36,7 +37,8 @@ twice_there state h first then_ =
       | inr past ↦ let gone = set_past state.harts h first past in
           ap (λ harts. record state { harts = slice_set harts h (then_ (slice_index_or harts h (new_hart 0))) }) gone
           ∙ ap (λ harts. record state { harts = harts })
-          (set_past state.harts h (then_ (hart_of state h)) past ∙ sym (set_past state.harts h (then_ first) past)) ]
+          (set_past state.harts h (then_ (hart_of state h)) past ∙ sym (set_past state.harts h (then_ first) past))
+    ]
 
 -- messages that are posted, one after another
 pub shows_posts : (messages : List Message) (bus : Kept) (state : ModelState) (to : ℕ) → Shows bus state →
@@ -60,12 +62,12 @@ ready_posts (message ∷ messages) bus to ready =
 pub probes_posted : (test : ℕ → Bool) (numbers : List ℕ) (to : ℕ) (agents : List Agent) →
     probes_sent test numbers to agents ≡ posts_sent (map Probe (filter test numbers)) to agents
 probes_posted test [] to agents = refl
-probes_posted test (origin ∷ others) to agents = by (test origin)
+probes_posted test (origin ∷ others) to agents = by (test origin) (λ now. probes_posted test others to now)
   where
-    by : (taken : Bool) → probes_sent test others to (probe_sent taken origin to agents)
+    by : (taken : Bool) → ((now : List Agent) → probes_sent test others to now ≡ posts_sent (map Probe (filter test others)) to now) → probes_sent test others to (probe_sent taken origin to agents)
         ≡ posts_sent (map Probe (if taken then origin ∷ filter test others else filter test others)) to agents
-    by true = probes_posted test others to (with_agent agents to (agent_posted (Probe origin) (agent_at agents to)))
-    by false = probes_posted test others to agents
+    by true rest = rest (with_agent agents to (agent_posted (Probe origin) (agent_at agents to)))
+    by false rest = rest agents
 
 -- the loop: what is left to be sent, after some origins were looked at
 pub all_probes : (test : ℕ → Bool) (count to : ℕ) (agents : List Agent) →
@@ -162,3 +164,63 @@ pub told_behind : (agents : List Agent) (h sender : ℕ) → let behind = with_a
 told_behind agents h sender =
     let behind = with_agent agents h (agent_behind sender (agent_at agents h)) in
     agent_kept (λ a. a.told) behind sender h _ refl ∙ agent_kept (λ a. a.told) agents h h _ refl
+
+-- the agents after the sender is before the hart, and was sent a probe of it
+abbrev pub first_answer : List Agent → ℕ → ℕ → List Agent
+first_answer agents h sender =
+    let behind = with_agent agents h (agent_behind sender (agent_at agents h)) in
+    with_agent behind sender (agent_posted (Probe h) (agent_at behind sender))
+
+pub marker_answered : (bus : Kept) (h sender : ℕ) (own : Request) → request_of bus.order h ≡ Some own →
+    record bus {
+      agents = probes_sent (passes (agent_at (first_answer bus.agents h sender) h).told bus.order sender own.line)
+          (numbers_from 0 (length (first_answer bus.agents h sender))) sender (first_answer bus.agents h sender);
+    }
+    ≡ record bus { agents = marker_taken bus h sender }
+marker_answered bus h sender own is =
+    let behind = with_agent bus.agents h (agent_behind sender (agent_at bus.agents h)) in
+    ap (λ agents. record bus { agents = agents })
+    (ap (λ told. probes_sent (passes told bus.order sender own.line) (numbers_from 0 (length (first_answer bus.agents h sender))) sender (first_answer bus.agents h sender))
+    (told_behind bus.agents h sender)
+    ∙ ap (λ count. probes_sent (passes (agent_at bus.agents h).told bus.order sender own.line) (numbers_from 0 count) sender (first_answer bus.agents h sender))
+    (count_with_agent behind sender _ ∙ count_with_agent bus.agents h _)
+    ∙ probes_posted (passes (agent_at bus.agents h).told bus.order sender own.line) (numbers_from 0 (length bus.agents)) sender (first_answer bus.agents h sender)
+    ∙ ap (λ found. posts_sent (passed_on bus h sender found) sender (first_answer bus.agents h sender)) (sym is))
+
+-- the oldest message is taken out of a mailbox
+pub taken_shows : (bus : Kept) (state : ModelState) (h : ℕ) → Shows bus state →
+    Shows (record bus { agents = with_agent bus.agents h (agent_taken (agent_at bus.agents h)) }) (taken state h (without_oldest (hart_of state h).mail))
+taken_shows bus state h shows =
+    shows_agent bus state h (agent_taken (agent_at bus.agents h)) (record (hart_of state h) { mail = without_oldest (hart_of state h).mail }) shows
+    (ap agent_taken (shows.agents h)) refl refl
+
+pub taken_ready : (bus : Kept) (h : ℕ) → IsReady bus → IsReady (record bus { agents = with_agent bus.agents h (agent_taken (agent_at bus.agents h)) })
+taken_ready bus h ready = ready_agent bus h (agent_taken (agent_at bus.agents h)) ready (λ request is. is)
+
+-- an event with a message, and one without
+pub delivers : (state : ModelState) (h : ℕ) (message : Message) → oldest (hart_of state h).mail ≡ Some message →
+    let left = taken state h (without_oldest (hart_of state h).mail) in
+    ((deliver_turn state h).state ≡ delivered left h message) × ((deliver_turn state h).outcome ≡ Delivered (losers_by left h message))
+unfolding deliver_turn
+delivers state h message is = by (hart_of state h).mail is
+  where
+    some_message : (a b : Message) → Some a ≡ Some b → a ≡ b
+    some_message a b same = cc
+
+    by : (mail : List Message) → oldest mail ≡ Some message →
+        ((deliver_next state h mail).state ≡ delivered (taken state h (without_oldest mail)) h message)
+        × ((deliver_next state h mail).outcome ≡ Delivered (losers_by (taken state h (without_oldest mail)) h message))
+    by [] none = absurd (cc)
+    by (first ∷ others) some = let same = some_message first message some in
+        (ap (delivered (taken state h others) h) same, ap (λ m. Delivered (losers_by (taken state h others) h m)) same)
+
+pub delivers_nothing : (state : ModelState) (h : ℕ) → oldest (hart_of state h).mail ≡ None →
+    ((deliver_turn state h).state ≡ taken state h (without_oldest (hart_of state h).mail)) × ((deliver_turn state h).outcome ≡ Idle)
+unfolding deliver_turn
+delivers_nothing state h none = by (hart_of state h).mail refl none
+  where
+    by : (mail : List Message) → (hart_of state h).mail ≡ mail → oldest mail ≡ None →
+        ((deliver_next state h mail).state ≡ taken state h (without_oldest mail)) × ((deliver_next state h mail).outcome ≡ Idle)
+    by [] is nothing =
+        (sym (ap (λ mail. with_hart state h (record (hart_of state h) { mail = mail })) (sym is) ∙ same_hart_there state h), refl)
+    by (first ∷ others) is nothing = absurd (cc)

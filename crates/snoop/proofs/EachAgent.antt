@@ -1,5 +1,5 @@
 -- one agent after another becomes what is said of its number
-use Rattle.std.proofs.Common.{◌≡◌, ◌≢◌, ◌∙◌, ◌<◌, ◌≤◌, ℕ, suc, List, length, arith, refl, sym, ap, inl, inr}
+use Rattle.std.proofs.Common.{◌≡◌, ◌∙◌, ◌<◌, ◌≤◌, ℕ, suc, List, length, arith, refl, sym, ap, inl, inr}
 use Rattle.std.proofs.lemmas.Bool.{cases_eq}
 use Rattle.snoop.specs.Agent.{Agent, agent_at, with_agent}
 use Rattle.snoop.proofs.Showing.{agent_other, agent_same, count_with_agent}

@@ -1,5 +1,5 @@
 -- a probe is forwarded to one hart after another
-use Rattle.std.proofs.Common.{◌≡◌, ◌∙◌, ◌<◌, ◌==◌, ◌&&◌, not, ℕ, suc, Bool, true, false, List, length, arith, refl, sym, ap, inl, inr, if◌then◌else◌}
+use Rattle.std.proofs.Common.{◌≡◌, ◌∙◌, ◌<◌, ◌==◌, ◌&&◌, not, ℕ, suc, false, List, length, arith, refl, sym, ap, inl, inr, if◌then◌else◌}
 use Rattle.std.proofs.lemmas.Bool.{cases_lt}
 use Rattle.std.proofs.lemmas.List.{set-get_or}
 use Rattle.defer_list.specs.HartSet.{has}
@@ -27,7 +27,8 @@ pub changed_kept : {A : Type 0} (f : Agent → A) (upstream : List ℕ) (origin 
 changed_kept f upstream origin number h old now changed keeps =
     elim (cases_lt h number) [
       | inl below ↦ ap f (changed.done h below) ∙ forwarded_kept f upstream origin h (agent_at old h) keeps
-      | inr past ↦ ap f (changed.rest h past) ]
+      | inr past ↦ ap f (changed.rest h past)
+    ]
 
 -- to know who is before it, the hart is asked again and again; that stays
 pub one_forwarded : (upstream : List ℕ) (origin h number : ℕ) (old now : List Agent) → upstream ≡ (agent_at old h).upstream → number < length now →

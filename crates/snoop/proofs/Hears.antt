@@ -1,10 +1,9 @@
 -- the bus shows what the definition makes of a probe
-use Rattle.std.proofs.Common.{◌≡◌, ◌≢◌, ◌∙◌, ℕ, ◌<◌, ◌≤◌, ◌==◌, ◌&&◌, not, Bool, true, false, List, length, Option, Some, None, is_some, refl, ap, sym, subst, inl, inr, arith, if◌then◌else◌}
+use Rattle.std.proofs.Common.{◌≡◌, ◌≢◌, ◌∙◌, ℕ, ◌<◌, ◌==◌, ◌&&◌, not, Bool, true, false, List, length, Option, Some, None, is_some, refl, ap, sym, subst, inl, inr, arith, if◌then◌else◌}
 use Rattle.std.proofs.lemmas.Bool.{cases_eq, cases_lt}
 use Rattle.std.proofs.lemmas.List.{length-set}
-use Rattle.std.specs.Prelude.{IfSome, slice_set}
+use Rattle.std.specs.Prelude.{IfSome}
 use Rattle.bus_order.specs.Order.{IsOneEach, Request, request_of}
-use Rattle.bus_order.proofs.LookUps.{other_test, own_test}
 use Rattle.cache_sets.specs.Cache.{cleared, has_marks, room_of}
 use Rattle.cache_sets.specs.WellFormed.{IsWellFormed}
 use Rattle.cache_sets.proofs.MarkLemmas.{has_marks-cleared}
@@ -13,24 +12,24 @@ use Rattle.coherence.specs.Caches.{cache_at}
 use Rattle.coherence.specs.Served.{HasLine, IsCoherent, TellsOf, has_room}
 use Rattle.coherence.proofs.RoomLaws.{room_after_clear}
 use Rattle.defer_list.specs.HartSet.{has, included}
-use Rattle.el_base.specs.Losers.{beaten_by, losers_of}
+use Rattle.el_base.specs.Losers.{beaten_by}
 use Rattle.el_base.specs.declared.losers.Losers.{Losers}
 use Rattle.el_base.proofs.MadeLosers.{beaten_by-beyond, beaten_by-losers_of}
 use Rattle.el_base.proofs.SameLosers.{same_losers}
 use Rattle.el_model.specs.Conflicts.{stamp_in}
 use Rattle.el_model.specs.Deliver.{after_probe, forwarded, forwards_on, loses_to_origin, one_lost, told_of}
 use Rattle.el_model.specs.RollBack.{beaten}
-use Rattle.el_model.specs.State.{Hart, ModelState, cache_of, each_hart, for_line, hart_of, is_live, ordered_of, ordered_on, section_of, with_hart}
-use Rattle.el_model.proofs.Harts.{hart_of-past, hart_of-with_hart_other, hart_of-with_hart_same}
+use Rattle.el_model.specs.State.{Hart, ModelState, cache_of, each_hart, hart_of, with_hart}
+use Rattle.el_model.proofs.Harts.{hart_of-with_hart_other, hart_of-with_hart_same, with_hart_kept}
 use Rattle.el_model.proofs.Tests.{by_test}
 use Rattle.mail.specs.Mailbox.{Probe, posted}
-use Rattle.snoop.specs.Agent.{Agent, agent_at, agent_of, agent_posted, agent_seeing, agent_told, new_agent, with_agent}
-use Rattle.snoop.specs.Delivering.{AreForwarded, Forwards, IsForwarded, IsLostTo, agent_forwarded, agent_heard, asks_on}
+use Rattle.snoop.specs.Agent.{Agent, agent_at, agent_of, agent_posted, with_agent}
+use Rattle.snoop.specs.Delivering.{Forwards, IsForwarded, IsLostTo, agent_heard, asks_on}
 use Rattle.snoop.specs.Settled.{in_removal}
-use Rattle.snoop.specs.Shows.{CanBeServed, IsReady, Kept, Shows, line_of}
+use Rattle.snoop.specs.Shows.{IsReady, Kept, Shows, line_of}
 use Rattle.snoop.proofs.AfterFate.{beaten_agent, beaten_cache, beaten_live}
-use Rattle.snoop.proofs.Ready.{AsksNoMore, Stood, asks_agent, ready_after}
-use Rattle.snoop.proofs.Showing.{ShowsEach, agent_other, agent_past, agent_same, count_with_agent, shows_agent, shows_each}
+use Rattle.snoop.proofs.Ready.{asks_agent, ready_after}
+use Rattle.snoop.proofs.Showing.{agent_other, agent_past, agent_same, count_with_agent, shows_agent, shows_each}
 
 -- a hart that does not lose
 pub heard_shows : (bus : Kept) (state : ModelState) (h origin : ℕ) (request : Option Request) → Shows bus state → loses_to_origin state h request ≡ false →
@@ -42,59 +41,82 @@ heard_shows bus state h origin request shows stays =
     (shows_agent bus state h (agent_heard origin None (agent_at bus.agents h)) told shows (ap (agent_heard origin None) (shows.agents h)) refl refl)
 
 -- a hart that loses
+abbrev lost_hart : ModelState → ℕ → ℕ → Option Request → Hart
+lost_hart state h origin request =
+    beaten state.config.mode (stamp_in request) (record (hart_of state h) { told = included (hart_of state h).told origin })
+
+lost_here : (bus : Kept) (state : ModelState) (h origin : ℕ) (request : Option Request) → Shows bus state → h < length bus.agents → (g : ℕ) → g ≡ h →
+    hart_of (with_hart state h (lost_hart state h origin request)) g ≡ lost_hart state h origin request
+lost_here bus state h origin request shows inside g same =
+    ap (hart_of (with_hart state h (lost_hart state h origin request))) same
+    ∙ hart_of-with_hart_same state h (lost_hart state h origin request) (omega (arith, inside, shows.agent_each))
+
+lost_there : (state : ModelState) (h origin : ℕ) (request : Option Request) (g : ℕ) → g ≢ h →
+    hart_of (with_hart state h (lost_hart state h origin request)) g ≡ hart_of state g
+lost_there state h origin request g other = hart_of-with_hart_other state h g (lost_hart state h origin request) other
+
+lost_agent : (bus : Kept) (state : ModelState) (h origin : ℕ) (request : Option Request) → Shows bus state →
+    agent_heard origin (in_removal bus.mode (stamp_in request)) (agent_at bus.agents h) ≡ agent_of (lost_hart state h origin request)
+lost_agent bus state h origin request shows =
+    ap (λ mode. agent_heard origin (in_removal mode (stamp_in request)) (agent_at bus.agents h)) shows.mode
+    ∙ ap (agent_heard origin (in_removal state.config.mode (stamp_in request))) (shows.agents h)
+    ∙ sym (beaten_agent state.config.mode (stamp_in request) (record (hart_of state h) { told = included (hart_of state h).told origin }))
+
+lost_cache : (state : ModelState) (h origin : ℕ) (request : Option Request) → (lost_hart state h origin request).cache ≡ cleared (cache_of state h)
+lost_cache state h origin request =
+    beaten_cache state.config.mode (stamp_in request) (record (hart_of state h) { told = included (hart_of state h).told origin })
+
+lost_live : (state : ModelState) (h origin : ℕ) (request : Option Request) →
+    is_some (lost_hart state h origin request).section ≡ has_marks (lost_hart state h origin request).cache
+lost_live state h origin request =
+    beaten_live state.config.mode (stamp_in request) (record (hart_of state h) { told = included (hart_of state h).told origin })
+    ∙ sym (has_marks-cleared (cache_of state h)) ∙ ap has_marks (sym (lost_cache state h origin request))
+
+lost_is_shown : (bus new : Kept) (state : ModelState) (h origin : ℕ) (request : Option Request) → Shows bus state → h < length bus.agents →
+    IsLostTo h origin request bus new → Shows new (with_hart state h (lost_hart state h origin request))
+lost_is_shown bus new state h origin request shows inside lost =
+    let same_harts = length-set state.harts h (lost_hart state h origin request) in
+    record {
+      mode = lost.mode ∙ shows.mode;
+      ways = λ g below. elim (cases_eq g h) [
+        | inl same ↦ ap (λ k. (cache_at new.copies.caches k).ways) same ∙ lost.copies.own.ways ∙ shows.ways h (omega (arith, inside, shows.agent_each))
+        | inr other ↦ ap (λ cache. cache.ways) (lost.copies.others g other) ∙ shows.ways g (omega (arith, below, same_harts))
+      ];
+      agent_each = ap length lost.agents
+          ∙ count_with_agent bus.agents h (agent_heard origin (in_removal bus.mode (stamp_in request)) (agent_at bus.agents h))
+          ∙ shows.agent_each ∙ sym same_harts;
+      cache_each = lost.copies.stays.caches ∙ shows.cache_each ∙ sym same_harts;
+      agents = λ g. ap (λ agents. agent_at agents g) lost.agents ∙ elim (cases_eq g h) [
+        | inl same ↦ ap (agent_at (with_agent bus.agents h (agent_heard origin (in_removal bus.mode (stamp_in request)) (agent_at bus.agents h)))) same
+            ∙ agent_same bus.agents h (agent_heard origin (in_removal bus.mode (stamp_in request)) (agent_at bus.agents h)) inside
+            ∙ lost_agent bus state h origin request shows
+            ∙ ap agent_of (sym (lost_here bus state h origin request shows inside g same))
+        | inr other ↦ agent_other bus.agents h g (agent_heard origin (in_removal bus.mode (stamp_in request)) (agent_at bus.agents h)) other ∙ shows.agents g
+            ∙ ap agent_of (sym (lost_there state h origin request g other))
+      ];
+      caches = λ g. elim (cases_eq g h) [
+        | inl same ↦ ap (λ k. (cache_at new.copies.caches k).residency) same ∙ lost.copies.own.residency ∙ ap cleared (shows.caches h)
+            ∙ sym (lost_cache state h origin request)
+            ∙ ap (λ hart. hart.cache) (sym (lost_here bus state h origin request shows inside g same))
+        | inr other ↦ ap (λ cache. cache.residency) (lost.copies.others g other) ∙ shows.caches g
+            ∙ ap (λ hart. hart.cache) (sym (lost_there state h origin request g other))
+      ];
+      live = λ g. elim (cases_eq g h) [
+        | inl same ↦ let here = lost_here bus state h origin request shows inside g same in
+            ap (λ hart. is_some hart.section) here ∙ lost_live state h origin request ∙ ap (λ hart. has_marks hart.cache) (sym here)
+        | inr other ↦ let there = lost_there state h origin request g other in
+            ap (λ hart. is_some hart.section) there ∙ shows.live g ∙ ap (λ hart. has_marks hart.cache) (sym there)
+      ];
+      order = lost.order ∙ shows.order;
+      bytes = lost.copies.stays.coherent (line_of state.committed) shows.bytes;
+    }
+
 pub lost_shows : (bus new : Kept) (state : ModelState) (h origin : ℕ) (request : Option Request) → Shows bus state → h < length bus.agents →
     loses_to_origin state h request ≡ true → IsLostTo h origin request bus new → Shows new (with_hart state h (told_of state h origin request))
 lost_shows bus new state h origin request shows inside loses lost =
     subst (λ hart. Shows new (with_hart state h hart))
-    (sym (ap (λ test. if test then beaten state.config.mode (stamp_in request) told else told) loses)) shown
-  where
-    told : Hart
-    told = record (hart_of state h) { told = included (hart_of state h).told origin }
-
-    loser : Hart
-    loser = beaten state.config.mode (stamp_in request) (record (hart_of state h) { told = included (hart_of state h).told origin })
-
-    same_harts : length (slice_set state.harts h (beaten state.config.mode (stamp_in request) (record (hart_of state h) { told = included (hart_of state h).told origin })))
-        ≡ length state.harts
-    same_harts = length-set state.harts h _
-
-    heard : agent_heard origin (in_removal bus.mode (stamp_in request)) (agent_at bus.agents h)
-        ≡ agent_of (beaten state.config.mode (stamp_in request) (record (hart_of state h) { told = included (hart_of state h).told origin }))
-    heard =
-        ap (λ mode. agent_heard origin (in_removal mode (stamp_in request)) (agent_at bus.agents h)) shows.mode
-        ∙ ap (agent_heard origin (in_removal state.config.mode (stamp_in request))) (shows.agents h)
-        ∙ sym (beaten_agent state.config.mode (stamp_in request) (record (hart_of state h) { told = included (hart_of state h).told origin }))
-
-    shown : Shows new (with_hart state h (beaten state.config.mode (stamp_in request) (record (hart_of state h) { told = included (hart_of state h).told origin })))
-    shown = record {
-      mode = lost.mode ∙ shows.mode;
-      ways = λ g below. elim (cases_eq g h) [
-        | inl same ↦ ap (λ k. (cache_at new.copies.caches k).ways) same ∙ lost.copies.own.ways
-            ∙ shows.ways h (omega (arith, inside, shows.agent_each))
-        | inr other ↦ ap (λ cache. cache.ways) (lost.copies.others g other) ∙ shows.ways g (omega (arith, below, same_harts)) ];
-      agent_each = ap length lost.agents ∙ count_with_agent bus.agents h _ ∙ shows.agent_each ∙ sym same_harts;
-      cache_each = lost.copies.stays.caches ∙ shows.cache_each ∙ sym same_harts;
-      agents = λ g. ap (λ agents. agent_at agents g) lost.agents ∙ elim (cases_eq g h) [
-        | inl same ↦ ap (agent_at (with_agent bus.agents h _)) same ∙ agent_same bus.agents h _ inside ∙ heard
-            ∙ ap agent_of (sym (hart_of-with_hart_same state h _ (omega (arith, inside, shows.agent_each))) ∙ ap (hart_of (with_hart state h _)) (sym same))
-        | inr other ↦ agent_other bus.agents h g _ other ∙ shows.agents g ∙ ap agent_of (sym (hart_of-with_hart_other state h g _ other)) ];
-      caches = λ g. elim (cases_eq g h) [
-        | inl same ↦ ap (λ k. (cache_at new.copies.caches k).residency) same ∙ lost.copies.own.residency ∙ ap cleared (shows.caches h)
-            ∙ sym (beaten_cache state.config.mode (stamp_in request) _)
-            ∙ ap (λ hart. hart.cache) (sym (hart_of-with_hart_same state h _ (omega (arith, inside, shows.agent_each))) ∙ ap (hart_of (with_hart state h _)) (sym same))
-        | inr other ↦ ap (λ cache. cache.residency) (lost.copies.others g other) ∙ shows.caches g
-            ∙ ap (λ hart. hart.cache) (sym (hart_of-with_hart_other state h g _ other)) ];
-      live = λ g. elim (cases_eq g h) [
-        | inl same ↦ ap (λ hart. is_some hart.section) (ap (hart_of (with_hart state h _)) same ∙ hart_of-with_hart_same state h _ (omega (arith, inside, shows.agent_each)))
-            ∙ beaten_live state.config.mode (stamp_in request) _
-            ∙ sym (has_marks-cleared (hart_of state h).cache)
-            ∙ ap has_marks (sym (beaten_cache state.config.mode (stamp_in request) _))
-            ∙ ap (λ hart. has_marks hart.cache) (sym (hart_of-with_hart_same state h _ (omega (arith, inside, shows.agent_each))) ∙ ap (hart_of (with_hart state h _)) (sym same))
-        | inr other ↦ ap (λ hart. is_some hart.section) (hart_of-with_hart_other state h g _ other) ∙ shows.live g
-            ∙ ap (λ hart. has_marks hart.cache) (sym (hart_of-with_hart_other state h g _ other)) ];
-      order = lost.order ∙ shows.order;
-      bytes = lost.copies.stays.coherent (line_of state.committed) shows.bytes;
-    }
+    (sym (ap (λ test. if test then lost_hart state h origin request else record (hart_of state h) { told = included (hart_of state h).told origin }) loses))
+    (lost_is_shown bus new state h origin request shows inside lost)
 
 pub lost_ready : (bus new : Kept) (h origin : ℕ) (request : Option Request) → IsReady bus → h < length bus.agents → IsLostTo h origin request bus new → IsReady new
 lost_ready bus new h origin request ready inside lost = ready_after bus new ready (record {
@@ -105,13 +127,18 @@ lost_ready bus new h origin request ready inside lost = ready_after bus new read
     | inl same ↦ subst (λ k. IsWellFormed (cache_at new.copies.caches k).ways (cache_at new.copies.caches k).residency) (sym same)
         (rw (lost.copies.own.ways, lost.copies.own.residency) (well_formed-cleared _ _ (ready.well_formed h (omega (arith, inside, ready.each)))))
     | inr other ↦ subst (λ cache. IsWellFormed cache.ways cache.residency) (sym (lost.copies.others g other))
-        (ready.well_formed g (omega (arith, below, lost.copies.stays.caches))) ];
+        (ready.well_formed g (omega (arith, below, lost.copies.stays.caches)))
+  ];
   inside = λ line has. record {
     from = let e = lost.copies.stays.first in rw e has.from;
     below = let e = lost.copies.stays.first in let f = lost.copies.stays.lines in rw (e, f) has.below;
   };
   once = subst IsOneEach (sym lost.order) ready.once;
-  raised = λ g asked is. record { is = (asks_agent bus h _ ready (λ r was. was)).raised g asked (ap (λ agents. (agent_at agents g).raised) (sym lost.agents) ∙ is) .is; room = room g asked.line };
+  raised = λ g asked is. record {
+    is = ((asks_agent bus h (agent_heard origin (in_removal bus.mode (stamp_in request)) (agent_at bus.agents h)) ready (λ r was. was)).raised g asked
+        (ap (λ agents. (agent_at agents g).raised) (sym lost.agents) ∙ is)).is;
+    room = room g asked.line;
+  };
   ordered = λ g asked is. record { is = ap (λ order. request_of order g) (sym lost.order) ∙ is; room = room g asked.line };
 })
   where
@@ -122,7 +149,8 @@ lost_ready bus new h origin request ready inside lost = ready_after bus new read
           ∙ ap (λ cache. room_of (cache_at bus.copies.caches h).ways cache line) lost.copies.own.residency
           ∙ room_after_clear (cache_at bus.copies.caches h).ways (cache_at bus.copies.caches h).residency line
           (ap (λ k. room_of (cache_at bus.copies.caches k).ways (cache_at bus.copies.caches k).residency line) (sym same) ∙ had)
-      | inr other ↦ ap (λ cache. room_of cache.ways cache.residency line) (lost.copies.others g other) ∙ had ]
+      | inr other ↦ ap (λ cache. room_of cache.ways cache.residency line) (lost.copies.others g other) ∙ had
+    ]
 
 -- one loser
 pub one_loser : (losers : Losers) (h origin : ℕ) → origin < 8 → ((k : ℕ) → beaten_by losers k ≡ (if k == h then Some origin else None)) →
@@ -131,7 +159,8 @@ one_loser losers h origin low is =
     same_losers losers (one_lost h origin)
     (λ k. elim (cases_lt k 8) [
       | inl below ↦ is k ∙ sym (beaten_by-losers_of (λ g. if g == h then Some origin else None) k below (small (k == h)))
-      | inr past ↦ beaten_by-beyond losers k past ∙ sym (beaten_by-beyond (one_lost h origin) k past) ])
+      | inr past ↦ beaten_by-beyond losers k past ∙ sym (beaten_by-beyond (one_lost h origin) k past)
+    ])
   where
     small : (test : Bool) → IfSome (if test then Some origin else None) (λ w. w < 8)
     small true = low
@@ -150,17 +179,21 @@ forward_test state h origin (Some request) g = refl
 forwarded_agents : (asks : Bool) (upstream : List ℕ) (origin : ℕ) (old new : List Agent) → Forwards asks upstream origin old new →
     (length new ≡ length old)
     × ((g : ℕ) → g < length old → agent_at new g
-      ≡ (if (not (g == origin) && has upstream g) && asks then agent_posted (Probe origin) (agent_at old g) else agent_at old g))
-forwarded_agents true upstream origin old new each =
-    (each.count, λ g below. each.each g below ∙ ap (λ test. if test then agent_posted (Probe origin) (agent_at old g) else agent_at old g)
-    (sym (and_true (not (g == origin) && has upstream g))))
+    ≡ (if (not (g == origin) && has upstream g) && asks then agent_posted (Probe origin) (agent_at old g) else agent_at old g))
+forwarded_agents true upstream origin old new each = (
+  each.count,
+  λ g below. each.each g below ∙ ap (λ test. if test then agent_posted (Probe origin) (agent_at old g) else agent_at old g)
+      (sym (and_true (not (g == origin) && has upstream g))),
+)
   where
     and_true : (b : Bool) → (b && true) ≡ b
     and_true true = refl
     and_true false = refl
-forwarded_agents false upstream origin old new same =
-    (ap length same, λ g below. ap (λ agents. agent_at agents g) same
-    ∙ ap (λ test. if test then agent_posted (Probe origin) (agent_at old g) else agent_at old g) (sym (and_none (not (g == origin) && has upstream g))))
+forwarded_agents false upstream origin old new same = (
+  ap length same,
+  λ g below. ap (λ agents. agent_at agents g) same
+      ∙ ap (λ test. if test then agent_posted (Probe origin) (agent_at old g) else agent_at old g) (sym (and_none (not (g == origin) && has upstream g))),
+)
   where
     and_none : (b : Bool) → (b && false) ≡ false
     and_none true = refl
@@ -231,4 +264,25 @@ forward_ready bus new h origin request ready forward = ready_after bus new ready
     before : (g : ℕ) (asked : Request) → (agent_at new.agents g).raised ≡ Some asked → (agent_at bus.agents g).raised ≡ Some asked
     before g asked is = elim (cases_lt g (length bus.agents)) [
       | inl below ↦ sym (ap (λ (a : Agent). a.raised) ((forwarded_agents _ _ origin bus.agents new.agents forward.agents).1 g below) ∙ kept_raised _ (agent_at bus.agents g)) ∙ is
-      | inr past ↦ ap (λ (a : Agent). a.raised) (agent_past bus.agents g past ∙ sym (agent_past new.agents g (omega (arith, past, count)))) ∙ is ]
+      | inr past ↦ ap (λ (a : Agent). a.raised) (agent_past bus.agents g past ∙ sym (agent_past new.agents g (omega (arith, past, count)))) ∙ is
+    ]
+
+-- a hart that hears of an origin, and does not lose
+pub heard_ready : (bus : Kept) (h origin : ℕ) → IsReady bus →
+    IsReady (record bus { agents = with_agent bus.agents h (agent_heard origin None (agent_at bus.agents h)) })
+heard_ready bus h origin ready = ready_after bus _ ready (asks_agent bus h (agent_heard origin None (agent_at bus.agents h)) ready (λ r was. was))
+
+-- the hart has heard of the origin, and the probe was forwarded
+pub probe_shows : (mid new : Kept) (state : ModelState) (h origin : ℕ) (request : Option Request) →
+    Shows mid (with_hart state h (told_of state h origin request)) → IsForwarded h origin request mid new →
+    Shows new (after_probe state h origin request)
+probe_shows mid new state h origin request shows forward =
+    forward_shows mid new state (with_hart state h (told_of state h origin request)) h origin request shows refl
+    (with_hart_kept (λ hart. hart.upstream) state h (told_of state h origin request) told_upstream h) forward
+  where
+    told_upstream : (told_of state h origin request).upstream ≡ (hart_of state h).upstream
+    told_upstream =
+        by_test (λ hart. hart.upstream ≡ (hart_of state h).upstream) (loses_to_origin state h request) (lost_hart state h origin request)
+        (record (hart_of state h) { told = included (hart_of state h).told origin })
+        (λ loses. ap (λ agent. agent.upstream) (beaten_agent state.config.mode (stamp_in request) (record (hart_of state h) { told = included (hart_of state h).told origin })))
+        (λ stays. refl)

@@ -1,18 +1,16 @@
 -- a cache after a request was served: what holds of every cache still does, it has a bit where it had one, and room
-use Rattle.std.proofs.Common.{◌≡◌, ◌≢◌, ◌∙◌, ℕ, ◌+◌, ◌<◌, ◌||◌, Bool, true, false, not, eqb, List, Option, Some, None, is_some, refl, ap, sym, arith, if◌then◌else◌}
+use Rattle.std.proofs.Common.{◌≡◌, ◌≢◌, ◌∙◌, ℕ, ◌||◌, Bool, true, false, not, eqb, List, Option, Some, None, is_some, refl, ap, sym, arith, if◌then◌else◌}
 use Rattle.std.specs.Option.{option_map_or}
-use Rattle.std.proofs.lemmas.Bool.Decides.{nat_tests}
 use Rattle.cache_sets.specs.Cache.{bit_in, filled_with, has_bit, has_marks, is_resident, letter_in, letter_of, lettered, marked, room_of, touched, way_of, without_line}
 use Rattle.cache_sets.specs.Kept.{marks_of}
-use Rattle.cache_sets.specs.Residency.{Way, is_marked}
+use Rattle.cache_sets.specs.Residency.{Way}
 use Rattle.cache_sets.specs.WellFormed.{IsWellFormed}
 use Rattle.cache_sets.proofs.AbsentLines.{lettered_absent}
-use Rattle.cache_sets.proofs.CacheLemmas.{way_of-filled_with_same, way_of-lettered_same, way_of-touched}
 use Rattle.cache_sets.proofs.MarkLemmas.{has_marks-counted, has_marks-filled_with, has_marks-lettered, has_marks-marked, has_marks-touched, mark_of, total-without_line}
 use Rattle.cache_sets.proofs.WellFormedLemmas.{well_formed-filled_with, well_formed-lettered, well_formed-marked, well_formed-touched, well_formed-without_line}
 use Rattle.el_base.specs.declared.outcomes.Need.{Need}
 use Rattle.el_base.specs.declared.outcomes.Need.TheVariants.{Read, Write}
-use Rattle.el_model.specs.Serve.{given_up, kept_letter, others_cache, own_copy}
+use Rattle.el_model.specs.Serve.{kept_letter, others_cache, own_copy}
 use Rattle.el_model.proofs.Tests.{by_test}
 use Rattle.moesi.specs.Letters.{filled_of, on_read_of}
 use Rattle.moesi.specs.declared.letter.Letter.{Letter}

@@ -1,5 +1,5 @@
 -- the bus shows what the definition makes of a served request, and is ready for what comes next
-use Rattle.std.proofs.Common.{◌≡◌, ◌≢◌, ◌∙◌, ℕ, zero, suc, ◌+◌, ◌<◌, ◌≤◌, ◌==◌, ◌&&◌, ◌||◌, not, Bool, true, false, List, [], ◌∷◌, length, Option, Some, None, is_some, refl, ap, sym, subst, inl, inr, arith, if◌then◌else◌}
+use Rattle.std.proofs.Common.{◌≡◌, ◌≢◌, ◌∙◌, ℕ, zero, suc, ◌+◌, ◌<◌, ◌==◌, ◌&&◌, ◌||◌, not, Bool, true, false, List, [], ◌∷◌, length, Option, Some, None, is_some, refl, ap, sym, subst, inl, inr, arith, if◌then◌else◌}
 use Rattle.std.specs.List.{list_any}
 use Rattle.std.proofs.lemmas.Bool.{cases_eq, cases_lt}
 use Rattle.bus_order.specs.Order.{IsOneEach, Request, first_of, removed, request_of}
@@ -10,23 +10,22 @@ use Rattle.cache_sets.specs.Cache.{has_bit, has_marks, is_resident, marked, room
 use Rattle.cache_sets.specs.Cached.{Cached}
 use Rattle.cache_sets.specs.Residency.{Way}
 use Rattle.cache_sets.specs.WellFormed.{IsWellFormed}
-use Rattle.cache_sets.proofs.MarkLemmas.{has_marks-bit, no_marks}
+use Rattle.cache_sets.proofs.MarkLemmas.{no_marks}
 use Rattle.coherence.specs.Caches.{cache_at, others_from}
 use Rattle.coherence.specs.Caches as copies
 use Rattle.coherence.proofs.GivenUp.{beyond}
-use Rattle.coherence.specs.Served.{Copies, HasLine, IsServed, StaysCoherent, has_room}
+use Rattle.coherence.specs.Served.{Copies, StaysCoherent, has_room}
 use Rattle.el_base.specs.declared.outcomes.Need.{Need}
-use Rattle.el_base.specs.declared.outcomes.Need.TheVariants.{Read, Write}
-use Rattle.el_base.specs.declared.outcomes.Why.TheVariants.{Behind, Retained, Locked}
+use Rattle.el_base.specs.declared.outcomes.Need.TheVariants.{Write}
+use Rattle.el_base.specs.declared.outcomes.Why.TheVariants.{Behind, Retained}
 use Rattle.el_base.specs.declared.outcomes.Why.{Why}
-use Rattle.el_model.specs.Conflicts.{conflicts, conflicts_with, first_such, holder_of, meets_bit, retainer_of, retains}
-use Rattle.el_model.specs.Serve.{Blocks, Free, Obstacle, blocks_if, bystander, obstacle_to, other_head, others_cache, others_have, own_copy, served, served_hart, serving, with_claim}
-use Rattle.el_model.specs.State.{Hart, ModelState, cache_of, count_up, each_hart, hart_of, head_of, is_live, numbers_of}
-use Rattle.snoop.specs.Agent.{Agent, agent_at, agent_forgetting, agent_of, agent_served, new_agent}
-use Rattle.snoop.specs.Serving.{AgentsServe, CopiesClaim, CopiesServe, Serves, agent_after_serve, agent_claiming}
+use Rattle.el_model.specs.Conflicts.{conflicts_with, first_such, meets_bit, retainer_of, retains}
+use Rattle.el_model.specs.Serve.{Free, Obstacle, blocks_if, bystander, obstacle_to, other_head, others_cache, others_have, own_copy, served, served_hart, serving, with_claim}
+use Rattle.el_model.specs.State.{Hart, ModelState, cache_of, count_up, each_hart, hart_of, head_of, is_live}
+use Rattle.snoop.specs.Agent.{Agent, agent_at, agent_forgetting, agent_of, agent_served}
+use Rattle.snoop.specs.Serving.{CopiesClaim, CopiesServe, Serves, agent_after_serve, agent_claiming}
 use Rattle.snoop.specs.Shows.{CanBeServed, IsReady, Kept, Shows, line_of}
-use Rattle.snoop.proofs.Firsts.{drop_one}
-use Rattle.snoop.proofs.Ready.{AsksNoMore, Stood, ready_after}
+use Rattle.snoop.proofs.Ready.{ready_after}
 use Rattle.snoop.proofs.ServedCaches.{others_marks, others_room, others_well_formed, own_after, own_after_marks, own_after_well_formed, own_marked, own_marked_well_formed}
 use Rattle.snoop.proofs.Showing.{ShowsEach, agent_past, shows_each}
 

@@ -6,7 +6,7 @@ use Rattle.std.proofs.lemmas.List.{get_or-set_same, get_or-set_other, length-set
 use Rattle.cache_sets.specs.Cache.{has_marks}
 use Rattle.coherence.specs.Caches.{cache_at}
 use Rattle.coherence.proofs.GivenUp.{beyond}
-use Rattle.coherence.specs.Served.{Copies, TellsOf}
+use Rattle.coherence.specs.Served.{TellsOf}
 use Rattle.el_model.specs.State.{Hart, ModelState, cache_of, each_from, each_hart, hart_of, new_hart, section_of, with_hart}
 use Rattle.el_model.proofs.Harts.{hart_of-each_hart, hart_of-each_hart_past, hart_of-past, hart_of-with_hart_same, hart_of-with_hart_other, with_hart_kept}
 use Rattle.el_model.proofs.Keeps.{length-each_from}

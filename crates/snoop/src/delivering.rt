@@ -45,7 +45,6 @@ impl Bus {
     ///
     /// The idea of markers and probes is that of R. Rajwar and J. R. Goodman, 'Transactional Lock-Free Execution of
     /// Lock-Based Programs', ASPLOS 2002.
-    #[tactic(auto, unfolding(el_model::specs::Deliver::deliver_turn))]
     pub fn deliver(&mut self, hart: HartId) -> Outcome
         requires hart_exists { hart.number < length (kept self.old).agents }
         requires ready { IsReady (kept self.old) }
@@ -55,12 +54,26 @@ impl Bus {
         ensures outcome { (state : ModelState) → Shows (kept self.old) state →
             result ≡ (delivery.deliver_turn state hart.number).outcome }
     {
-        match take_message(&mut self.agents, hart) {
+        match self.take_message(hart) {
             Some(message) => Outcome::Delivered {
                 losers: self.take_effect(hart, message),
             },
             None => Outcome::Idle,
         }
+    }
+
+    /// The oldest message is taken out of the hart's mailbox.
+    fn take_message(&mut self, hart: HartId) -> Option<Message>
+        requires hart_exists { hart.number < length (kept self.old).agents }
+        requires ready { IsReady (kept self.old) }
+        ensures ready { IsReady (kept self.new) }
+        ensures hart_exists { hart.number < length (kept self.new).agents }
+        ensures message { (state : ModelState) → Shows (kept self.old) state →
+            option_map mailbox.numbered result ≡ mailbox.oldest (hart_of state hart.number).mail }
+        ensures shows { (state : ModelState) → Shows (kept self.old) state → Shows (kept self.new)
+            (delivery.taken state hart.number (mailbox.without_oldest (hart_of state hart.number).mail)) }
+    {
+        take_message(&mut self.agents, hart)
     }
 
     /// A message that was taken takes effect.
@@ -108,13 +121,14 @@ impl Bus {
     }
 
     /// A hart passes on to another what it was told of a line, one origin after another.
+    #[tactic(auto, using(crate::proofs::Delivers::none_passed, crate::proofs::Delivers::one_passed, crate::proofs::Delivers::all_passed))]
     fn pass_on(&mut self, hart: HartId, to: HartId, line: LineAddr)
         requires hart_exists { hart.number < length (kept self.old).agents }
         requires few { length (kept self.old).agents ≤ 8 }
         ensures { kept self.new ≡ record (kept self.old) {
           agents = probes_sent
-            (passes (agent_at (kept self.old).agents hart.number).told (kept self.old).order to.number line.number)
-            (numbers_from 0 (length (kept self.old).agents)) to.number (kept self.old).agents;
+              (passes (agent_at (kept self.old).agents hart.number).told (kept self.old).order to.number line.number)
+              (numbers_from 0 (length (kept self.old).agents)) to.number (kept self.old).agents;
         } }
     {
         for number in 0..self.agents.len() {
@@ -127,8 +141,8 @@ impl Bus {
         requires { hart.number < length (kept self.old).agents }
         ensures { kept self.new ≡ record (kept self.old) {
           agents = probe_sent
-            (passes (agent_at (kept self.old).agents hart.number).told (kept self.old).order to.number line.number origin.number)
-            origin.number to.number (kept self.old).agents;
+              (passes (agent_at (kept self.old).agents hart.number).told (kept self.old).order to.number line.number origin.number)
+              origin.number to.number (kept self.old).agents;
         } }
     {
         if origin != to && self.agent(hart).knows(origin) && self.is_ordered_on(line, origin) {
@@ -162,6 +176,7 @@ impl Bus {
         requires hart_exists { hart.number < length (kept self.old).agents }
         requires ready { IsReady (kept self.old) }
         ensures ready { IsReady (kept self.new) }
+        ensures hart_exists { hart.number < length (kept self.new).agents }
         ensures shows { (state : ModelState) → Shows (kept self.old) state → Shows (kept self.new)
             (with_hart state hart.number (delivery.told_of state hart.number origin.number (option_map numbered request))) }
         ensures losers { (state : ModelState) → Shows (kept self.old) state →

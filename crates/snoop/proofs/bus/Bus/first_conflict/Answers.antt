@@ -1,7 +1,7 @@
-use Rattle.std.proofs.Common.{◌≡◌, ◌≤◌, ◌==◌, ◌&&◌, not, arith}
+use Rattle.std.proofs.Common.{arith}
 use Rattle.bus_order.specs.Order.{numbered}
 use Rattle.el_model.specs.Conflicts.{conflicts}
-use Rattle.el_model.specs.State.{hart_of, is_held}
+use Rattle.el_model.specs.State.{hart_of}
 use Rattle.snoop.proofs.Firsts.{next_first}
 use Rattle.snoop.proofs.bus.Bus.first_conflict.Goals as goal
 

@@ -1,5 +1,5 @@
 -- the least one of the harts from a number on
-use Rattle.std.proofs.Common.{◌≡◌, ◌≤◌, Option, option_map, drop, length}
+use Rattle.std.proofs.Common.{◌≡◌, ◌≤◌, option_map, drop, length}
 use Rattle.el_model.specs.Conflicts.{conflicts, first_such}
 use Rattle.el_model.specs.State.{ModelState, hart_of, numbers_of}
 use Rattle.bus_order.specs.Order.{numbered}

@@ -1,6 +1,4 @@
-use Rattle.std.proofs.Common.{◌≡◌, ◌≤◌, ◌==◌, ◌&&◌, not, arith}
-use Rattle.bus_order.specs.Order.{numbered}
-use Rattle.el_model.specs.Conflicts.{conflicts}
+use Rattle.std.proofs.Common.{◌==◌, ◌&&◌, not, arith}
 use Rattle.el_model.specs.State.{hart_of, is_held}
 use Rattle.snoop.proofs.Firsts.{next_first}
 use Rattle.snoop.proofs.bus.Bus.holder.Goals as goal

@@ -1,5 +1,5 @@
 -- the least one of the harts from a number on
-use Rattle.std.proofs.Common.{◌≡◌, ◌≤◌, ◌==◌, ◌&&◌, not, Option, option_map, drop, length}
+use Rattle.std.proofs.Common.{◌≡◌, ◌≤◌, ◌==◌, ◌&&◌, not, option_map, drop, length}
 use Rattle.el_model.specs.Conflicts.{first_such}
 use Rattle.el_model.specs.State.{ModelState, hart_of, is_held, numbers_of}
 use Rattle.snoop.specs.Obstacles.{number_of}

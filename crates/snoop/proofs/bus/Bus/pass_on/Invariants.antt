@@ -1,7 +1,4 @@
 -- what is left to be passed on; a probe changes nothing else
-use Rattle.std.proofs.Common.{◌≡◌, ◌-◌, length}
-use Rattle.snoop.specs.Agent.{agent_at}
-use Rattle.snoop.specs.Delivering.{numbers_from, passes, probes_sent}
 use Rattle.snoop.specs.Shows.{kept}
 use Rattle.snoop.proofs.Delivers.{PassesOn}
 use Rattle.snoop.proofs.bus.Bus.pass_on.Given as goal

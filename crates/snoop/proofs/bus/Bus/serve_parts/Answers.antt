@@ -1,4 +1,4 @@
-use Rattle.std.proofs.Common.{◌<◌, arith}
+use Rattle.std.proofs.Common.{arith}
 use Rattle.bus_order.specs.Order.{numbered}
 use Rattle.snoop.proofs.bus.Bus.serve_parts.Goals as goal
 

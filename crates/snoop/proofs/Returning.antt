@@ -1,7 +1,7 @@
 -- a lent cache is given back: the bus is ready again, and shows what was done
-use Rattle.std.proofs.Common.{◌≡◌, ◌≢◌, ◌∙◌, ℕ, ◌<◌, ◌≤◌, true, length, is_some, refl, ap, sym, subst, inl, inr, arith}
+use Rattle.std.proofs.Common.{◌≡◌, ◌≢◌, ◌∙◌, ℕ, ◌<◌, true, length, is_some, ap, sym, subst, inl, inr, arith}
 use Rattle.std.specs.Prelude.{slice_set}
-use Rattle.std.proofs.lemmas.Bool.{cases_eq, cases_lt}
+use Rattle.std.proofs.lemmas.Bool.{cases_eq}
 use Rattle.std.proofs.lemmas.List.{get_or-set_other, get_or-set_same, length-set}
 use Rattle.bus_order.specs.Order.{Request, request_of}
 use Rattle.cache_sets.specs.Cache.{has_marks, room_of}
@@ -9,7 +9,7 @@ use Rattle.cache_sets.specs.Cached.{Cached}
 use Rattle.cache_sets.specs.WellFormed.{IsWellFormed}
 use Rattle.coherence.specs.Caches.{cache_at, no_cache}
 use Rattle.coherence.specs.Served.{has_room}
-use Rattle.el_model.specs.State.{Hart, ModelState, cache_of, hart_of, is_live}
+use Rattle.el_model.specs.State.{Hart, ModelState, hart_of}
 use Rattle.el_model.proofs.Harts.{hart_of-with_hart_other, hart_of-with_hart_same}
 use Rattle.rv_flat.specs.FlatState.{FlatState}
 use Rattle.snoop.specs.Agent.{agent_at, agent_of}

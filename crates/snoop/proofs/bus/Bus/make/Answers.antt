@@ -1,6 +1,6 @@
 -- the bus of new parts
 use Rattle.std.proofs.Common.{refl}
-use Rattle.snoop.proofs.AtFirst.{IsNew, ready_first, shows_first}
+use Rattle.snoop.proofs.AtFirst.{ready_first, shows_first}
 use Rattle.snoop.proofs.bus.Bus.make.Goals as goal
 
 pub returns-clause-ready : goal.returns-clause-ready

@@ -1,11 +1,9 @@
 -- an attempt is open
 use Rattle.snoop.proofs.Ready.{ready_agent}
 use Rattle.snoop.proofs.bus.Bus.open_attempt.Goals as goal
-use Rattle.snoop.specs.Agent.{agent_opened, agent_at}
 use Rattle.snoop.specs.Shows.{kept}
 
 pub returns-clause-ready : goal.returns-clause-ready
 returns-clause-ready c =
-    let bus = kept c.args.self.now in
-    let agent = agent_at bus.agents c.args.hart.number in
-    rw c.open_attempt.ensures (ready_agent bus c.args.hart.number (agent_opened bus.mode c.args.hart.number agent) c.requires.ready (λ request is. is))
+    rw c.open_attempt.ensures
+    (ready_agent (kept c.args.self.now) c.args.hart.number _ c.requires.ready (λ request is. is))

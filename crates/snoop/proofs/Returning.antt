@@ -42,11 +42,15 @@ ready_returned bus h cache inside ready back = record {
         (ready.well_formed g (omega (arith, below, count_returned bus h cache)))
   ];
   raised = λ g request is. elim (cases_eq g h) [
-    | inl own ↦ still g request (ready.raised g request is) (own_room g request own (back.raised request (ap (λ k. (agent_at bus.agents k).raised) (sym own) ∙ is)))
+    | inl own ↦
+        still g request (ready.raised g request is)
+        (own_room g request own (back.raised request (ap (λ k. (agent_at bus.agents k).raised) (sym own) ∙ is)))
     | inr other ↦ still g request (ready.raised g request is) (other_room g request other (ready.raised g request is).room)
   ];
   ordered = λ g request is. elim (cases_eq g h) [
-    | inl own ↦ still g request (ready.ordered g request is) (own_room g request own (back.ordered request (ap (request_of bus.order) (sym own) ∙ is)))
+    | inl own ↦
+        still g request (ready.ordered g request is)
+        (own_room g request own (back.ordered request (ap (request_of bus.order) (sym own) ∙ is)))
     | inr other ↦ still g request (ready.ordered g request is) (other_room g request other (ready.ordered g request is).room)
   ];
   once = ready.once;

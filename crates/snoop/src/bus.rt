@@ -72,8 +72,8 @@ impl Bus {
     /// What a hart has asked: the request that it has raised, or else the one that it has in the order.
     pub fn request(&self, hart: HartId) -> Asked
         requires { hart.number < length (kept self.now).agents }
-        ensures exact { numbered_asked result
-            ≡ asking (agent_at (kept self.now).agents hart.number).raised (request_of (kept self.now).order hart.number) }
+        ensures exact { numbered_asked result ≡ asking (agent_at (kept self.now).agents hart.number).raised
+            (request_of (kept self.now).order hart.number) }
         ensures shown { (state : ModelState) → Shows (kept self.now) state →
             numbered_asked result ≡ asking (raised_of state hart.number) (ordered_of state hart.number) }
     {

@@ -13,6 +13,9 @@ mod Serves
 mod Sent
 mod Faced
 mod Placing
+mod AtFirst
+mod Raising
+pub mod Returning
 mod Delivers
 mod Forwarding
 mod Hears

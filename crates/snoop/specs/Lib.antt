@@ -7,3 +7,6 @@ pub mod Obstacles
 pub mod Serving
 pub mod Delivering
 pub mod Places
+pub mod Asking
+pub mod Lending
+pub mod Returned

@@ -1,15 +1,19 @@
 //! One of the agents of all harts is changed, or each of them. A hart that is not there changes none.
 
-ghost use Rattle.std.specs.Prelude.{◌≡◌, ◌<◌, ℕ, None, length};
+ghost use Rattle.std.specs.Prelude.{◌≡◌, ◌<◌, ℕ, IfOk, None, Some, length, replicate};
 ghost use Rattle.std.specs.Option.{option_map};
+ghost use Rattle.bus_order.specs.Order as order;
 ghost use Rattle.mail.specs.Mailbox.{numbered, oldest};
 ghost use Rattle.snoop.specs.Agent.{
   agent_at,
   agent_behind,
+  agent_closed,
   agent_forgetting,
+  agent_opened,
   agent_posted,
   agent_served,
   agent_taken,
+  new_agent,
   with_agent,
 };
 ghost use Rattle.snoop.specs.Delivering.{agent_heard};
@@ -18,9 +22,63 @@ ghost use Rattle.stamp.specs.Stamps.{numbered_stamp};
 
 use crate::agent::Agent;
 use bus_order::Request;
-use el_base::HartId;
+use el_base::{HartId, Mode, NoMemory};
 use mail::Message;
 use stamp::Stamp;
+use std::alloc::Global;
+
+/// The agents of so many harts that have asked for nothing yet.
+pub fn new_agents(alloc: Global, harts: u8) -> Result<Vec<Agent>, NoMemory>
+    ensures { IfOk result (λ agents. agents.items ≡ replicate harts new_agent) }
+{
+    let mut agents = Vec::with_capacity(alloc, usize::from(harts))?;
+    for _hart in 0..harts {
+        agents.push(Agent::make(alloc)?)?;
+    }
+    Ok(agents)
+}
+
+/// The hart of a request raises it.
+pub fn raise(agents: &mut Vec<Agent>, request: Request)
+    requires { request.hart.number < length agents.old.items }
+    ensures { agents.new.items ≡ with_agent agents.old.items request.hart.number
+        (record (agent_at agents.old.items request.hart.number) { raised = Some (order.numbered request) }) }
+{
+    let agent = &mut agents[usize::from(request.hart.number)];
+    agent.raise(request);
+}
+
+/// A hart holds no line any more.
+pub fn give_up(agents: &mut Vec<Agent>, hart: HartId)
+    requires { hart.number < length agents.old.items }
+    ensures { agents.new.items ≡
+        with_agent agents.old.items hart.number (record (agent_at agents.old.items hart.number) { held = None }) }
+{
+    let agent = &mut agents[usize::from(hart.number)];
+    agent.give_up();
+}
+
+/// In lock removal an attempt of a hart opens, where none is open.
+pub fn open_attempt(agents: &mut Vec<Agent>, mode: Mode, hart: HartId)
+    requires { hart.number < length agents.old.items }
+    ensures { agents.new.items ≡ with_agent agents.old.items hart.number
+        (agent_opened mode hart.number (agent_at agents.old.items hart.number)) }
+{
+    let agent = &mut agents[usize::from(hart.number)];
+    agent.open_attempt(mode, hart);
+}
+
+/// The open attempt of a hart closes, where one is open.
+pub fn close_attempt(agents: &mut Vec<Agent>, hart: HartId)
+    requires hart_exists { hart.number < length agents.old.items }
+    requires clock_below_the_last { (agent_at agents.old.items hart.number).clock < u64.MAX }
+    requires seen_below_the_last { (agent_at agents.old.items hart.number).seen < u64.MAX }
+    ensures { agents.new.items ≡
+        with_agent agents.old.items hart.number (agent_closed (agent_at agents.old.items hart.number)) }
+{
+    let agent = &mut agents[usize::from(hart.number)];
+    agent.close_attempt();
+}
 
 /// A message comes into the mailbox of a hart.
 pub fn post(agents: &mut Vec<Agent>, to: HartId, message: Message)

@@ -1,13 +1,29 @@
 //! The bus, and its calls that are no event of it.
 
-ghost use Rattle.std.specs.Prelude.{◌≡◌, ◌<◌, length};
+ghost use Rattle.std.specs.Prelude.{◌≡◌, ◌<◌, ◌%◌, ◌↔◌, IfOk, IfSome, IsNone, None, length, slice_index, true};
+ghost use Rattle.std.specs.Borrow.{sem};
+ghost use Rattle.bus_order.specs.Order.{request_of};
+ghost use Rattle.coherence.specs.Caches.{behind_of, cache_at};
+ghost use Rattle.coherence.specs.Served.{HasLine, has_room};
+ghost use Rattle.el_base.specs.Config.{IsInRange};
+ghost use Rattle.el_base.specs.Line.{line_number};
+ghost use Rattle.el_base.specs.declared.line.TheConstants.{LINE_BYTES};
+ghost use Rattle.el_model.specs.Attempts as attempts;
+ghost use Rattle.el_model.specs.Plain.{missed_hart};
+ghost use Rattle.el_model.specs.State.{ModelState, begin, cache_of, hart_of, ordered_of, raised_of, with_hart};
 ghost use Rattle.snoop.specs.Agent.{agent_at};
-ghost use Rattle.snoop.specs.Shows.{IsReady, Shows, kept};
+ghost use Rattle.snoop.specs.Asking.{HasNoRequest, asking, numbered_asked};
+ghost use Rattle.snoop.specs.Shows.{IsReady, Shows, kept, line_of};
 
 use crate::agent::Agent;
-use bus_order::Order;
+use crate::agents::{close_attempt, give_up, new_agents, open_attempt, raise};
+use crate::asked::Asked;
+use bus_order::{Order, Request};
+use cache_sets::Sets;
 use coherence::Hierarchy;
-use el_base::{HartId, Mode};
+use el_base::{Config, HartId, LineAddr, Mode, Need, NoMemory};
+use elf_image::Image;
+use std::alloc::Global;
 
 /// Main memory, and of all harts the caches, the requests and their order, the mailboxes, and what lock removal
 /// keeps of them.
@@ -20,6 +36,24 @@ pub struct Bus {
 }
 
 impl Bus {
+    ghost use Rattle.snoop.specs.Lending.{LendsSets};
+
+    /// The bus before the first event: main memory as the image has it, and for each of the image's harts a
+    /// cache without lines and no request. It takes all memory of the bus.
+    pub fn make(alloc: Global, image: &Image, config: &Config) -> Result<Bus, NoMemory>
+        requires in_range { IsInRange config.now }
+        requires one_hart_each { image.now.harts ≡ config.now.harts }
+        ensures ready { IfOk result (λ bus. IsReady (kept bus)) }
+        ensures shows { IfOk result (λ bus. Shows (kept bus) (begin image.now config.now)) }
+    {
+        Ok(Bus {
+            mode: config.mode,
+            hierarchy: Hierarchy::make(alloc, image, config)?,
+            agents: new_agents(alloc, config.harts)?,
+            order: Order::new(),
+        })
+    }
+
     /// How many harts there are.
     pub fn harts(&self) -> usize
         ensures { result ≡ length (kept self.now).agents }
@@ -33,5 +67,127 @@ impl Bus {
         ensures { result.now ≡ agent_at (kept self.now).agents hart.number }
     {
         &self.agents[usize::from(hart.number)]
+    }
+
+    /// What a hart has asked: the request that it has raised, or else the one that it has in the order.
+    pub fn request(&self, hart: HartId) -> Asked
+        requires { hart.number < length (kept self.now).agents }
+        ensures exact { numbered_asked result ≡ asking (agent_at (kept self.now).agents hart.number).raised
+            (request_of (kept self.now).order hart.number) }
+        ensures shown { (state : ModelState) → Shows (kept self.now) state →
+            numbered_asked result ≡ asking (raised_of state hart.number) (ordered_of state hart.number) }
+    {
+        match (self.agent(hart).raised(), self.order.of(hart)) {
+            (Some(request), _) => Asked::Raised { request },
+            (None, Some(request)) => Asked::Placed { request },
+            (None, None) => Asked::Nothing,
+        }
+    }
+
+    /// A hart raises a request for a line, with the stamp of its open attempt, if one is open. The hart has no
+    /// request and holds no line, the line lies in memory, and the hart's cache has room for it.
+    pub fn raise(&mut self, hart: HartId, line: LineAddr, need: Need)
+        requires hart_exists { hart.number < length (kept self.old).agents }
+        requires ready { IsReady (kept self.old) }
+        requires no_request { HasNoRequest (kept self.old) hart.number }
+        requires holds_nothing { (agent_at (kept self.old).agents hart.number).held ≡ None }
+        requires in_memory { HasLine (kept self.old).copies line.number }
+        requires room { has_room (kept self.old).copies hart.number line.number ≡ true }
+        ensures ready { IsReady (kept self.new) }
+        ensures shows { (state : ModelState) → Shows (kept self.old) state → Shows (kept self.new)
+            (with_hart state hart.number (missed_hart hart.number line.number need (hart_of state hart.number))) }
+    {
+        let stamp = self.agent(hart).attempt();
+        raise(
+            &mut self.agents,
+            Request {
+                hart,
+                line,
+                need,
+                stamp,
+            },
+        );
+    }
+
+    /// A hart holds no line any more, if it held one.
+    pub fn give_up(&mut self, hart: HartId)
+        requires hart_exists { hart.number < length (kept self.old).agents }
+        requires ready { IsReady (kept self.old) }
+        ensures ready { IsReady (kept self.new) }
+        ensures shows { (state : ModelState) → Shows (kept self.old) state → Shows (kept self.new)
+            (with_hart state hart.number (record (hart_of state hart.number) { held = None })) }
+    {
+        give_up(&mut self.agents, hart);
+    }
+
+    /// In lock removal an attempt of a hart opens, with the hart's clock as its stamp, where none is open; in
+    /// the other modes nothing changes. The hart has no request.
+    pub fn open_attempt(&mut self, hart: HartId)
+        requires hart_exists { hart.number < length (kept self.old).agents }
+        requires ready { IsReady (kept self.old) }
+        requires no_request { HasNoRequest (kept self.old) hart.number }
+        ensures ready { IsReady (kept self.new) }
+        ensures shows { (state : ModelState) → Shows (kept self.old) state → Shows (kept self.new)
+            (with_hart state hart.number
+            (attempts.open_attempt state.config.mode hart.number (hart_of state hart.number))) }
+    {
+        open_attempt(&mut self.agents, self.mode, hart);
+    }
+
+    /// The open attempt of a hart closes, where one is open, and the hart's clock becomes one more than the
+    /// greater of itself and the clock that the hart has seen. The hart has no request.
+    pub fn close_attempt(&mut self, hart: HartId)
+        requires hart_exists { hart.number < length (kept self.old).agents }
+        requires ready { IsReady (kept self.old) }
+        requires no_request { HasNoRequest (kept self.old) hart.number }
+        requires clock_below_the_last { (agent_at (kept self.old).agents hart.number).clock < u64.MAX }
+        requires seen_below_the_last { (agent_at (kept self.old).agents hart.number).seen < u64.MAX }
+        ensures ready { IsReady (kept self.new) }
+        ensures shows { (state : ModelState) → Shows (kept self.old) state → Shows (kept self.new)
+            (with_hart state hart.number (attempts.close_attempt (hart_of state hart.number))) }
+    {
+        close_attempt(&mut self.agents, hart);
+    }
+
+    /// The cache of a hart.
+    pub fn sets(&self, hart: HartId) -> &Sets
+        requires { hart.number < length (kept self.now).copies.caches }
+        ensures exact { result.now ≡ cache_at (kept self.now).copies.caches hart.number }
+        ensures shown { (state : ModelState) → Shows (kept self.now) state →
+            result.now.residency ≡ cache_of state hart.number }
+    {
+        self.hierarchy.cache(hart)
+    }
+
+    /// The cache of a hart, to be changed. What is left there is the hart's cache from then on; the rest of the bus
+    /// is as it was. Later calls need a bus that is ready: what the caller owes for that is `IsReturned`, in
+    /// `specs/Returned.antt`.
+    pub fn sets_mut(&mut self, hart: HartId) -> &mut Sets
+        requires { hart.number < length (kept self.old).copies.caches }
+        ensures* lends { sem 𝓛 (LendsSets self.entry hart.number result) }
+        ensures value { result.now ≡ cache_at (kept self.old).copies.caches hart.number }
+    {
+        self.hierarchy.cache_mut(hart)
+    }
+
+    /// The byte at an address of committed memory: that of the copy which main memory may be behind, and where
+    /// there is none such, main memory's. `None` comes exactly outside memory.
+    pub fn byte(&self, address: u32) -> Option<u8>
+        requires { IsReady (kept self.now) }
+        ensures none_exactly_outside { IsNone result ↔ ¬ (HasLine (kept self.now).copies (line_number address)) }
+        ensures committed { (state : ModelState) → Shows (kept self.now) state → IfSome result (λ byte.
+            byte ≡ slice_index (line_of state.committed (line_number address)) (address % LINE_BYTES)) }
+    {
+        self.hierarchy.byte(address)
+    }
+
+    /// The byte at an address of memory in main memory, whatever copies there are.
+    pub fn main_byte(&self, address: u32) -> u8
+        requires { HasLine (kept self.now).copies (line_number address) }
+        ensures { result ≡ slice_index
+            (behind_of (kept self.now).copies.first (kept self.now).copies.lines (line_number address))
+            (address % LINE_BYTES) }
+    {
+        self.hierarchy.main_byte(address)
     }
 }

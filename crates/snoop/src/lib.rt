@@ -13,6 +13,7 @@
 
 mod agent;
 mod agents;
+mod asked;
 mod bus;
 mod delivering;
 mod face;
@@ -23,6 +24,7 @@ mod ordering;
 mod serving;
 mod settling;
 
+pub use asked::Asked;
 pub use bus::Bus;
 
 #[cfg(test)]

@@ -1,0 +1,59 @@
+-- a hart that has no request raises one
+use Rattle.std.proofs.Common.{◌≡◌, ◌≢◌, ◌∙◌, ℕ, ◌<◌, true, length, Some, refl, ap, sym, arith, inl, inr}
+use Rattle.std.proofs.lemmas.Bool.{cases_eq}
+use Rattle.bus_order.specs.Order.{Request, request_of}
+use Rattle.coherence.specs.Served.{HasLine, has_room}
+use Rattle.snoop.proofs.Ready.{served_yet}
+use Rattle.snoop.proofs.Showing.{agent_other, agent_same, count_with_agent}
+use Rattle.snoop.specs.Agent.{Agent, agent_at, with_agent}
+use Rattle.snoop.specs.Asking.{HasNoRequest}
+use Rattle.snoop.specs.Shows.{CanBeServed, IsReady, Kept}
+
+-- an agent that has raised a request
+abbrev pub raising : Kept → Request → Agent
+raising bus request = record (agent_at bus.agents request.hart) { raised = Some request }
+
+abbrev pub raised_in : Kept → Request → Kept
+raised_in bus request = record bus { agents = with_agent bus.agents request.hart (raising bus request) }
+
+pub ready_raised : (bus : Kept) (request : Request) → IsReady bus → request.hart < length bus.agents → HasNoRequest bus request.hart →
+    HasLine bus.copies request.line → has_room bus.copies request.hart request.line ≡ true → IsReady (raised_in bus request)
+ready_raised bus request ready inside none in_memory room = record {
+  coherent = ready.coherent;
+  few = omega (arith, count, ready.few);
+  each = ready.each ∙ sym count;
+  well_formed = ready.well_formed;
+  raised = λ h other is. elim (cases_eq h request.hart) [
+    | inl own ↦ rw own (rw (← the_one h other own is) (still request.hart request new))
+    | inr apart ↦ still h other (ready.raised h other (before h other apart is))
+  ];
+  ordered = λ h other is. still h other (ready.ordered h other is);
+  once = ready.once;
+  one_request = λ h other is. elim (cases_eq h request.hart) [
+    | inl own ↦ ap (request_of bus.order) own ∙ none.none_ordered
+    | inr apart ↦ ready.one_request h other (before h other apart is)
+  ];
+}
+  where
+    count : length (with_agent bus.agents request.hart (raising bus request)) ≡ length bus.agents
+    count = count_with_agent bus.agents request.hart _
+
+    new : CanBeServed bus request.hart request
+    new = record { own = refl; hart_exists = inside; in_memory = in_memory; room = room }
+
+    still : (h : ℕ) (other : Request) → CanBeServed bus h other → CanBeServed (raised_in bus request) h other
+    still h other can = served_yet bus (raised_in bus request) h other count (λ inside. inside) (λ room. room) can
+
+    before : (h : ℕ) (other : Request) → h ≢ request.hart → (agent_at (with_agent bus.agents request.hart (raising bus request)) h).raised ≡ Some other →
+        (agent_at bus.agents h).raised ≡ Some other
+    before h other apart is = ap (λ a. a.raised) (sym (agent_other bus.agents request.hart h (raising bus request) apart)) ∙ is
+
+    same : (one other : Request) → Some one ≡ Some other → one ≡ other
+    same one other is = cc
+
+    the_one : (h : ℕ) (other : Request) → h ≡ request.hart → (agent_at (with_agent bus.agents request.hart (raising bus request)) h).raised ≡ Some other →
+        request ≡ other
+    the_one h other own is =
+        same request other
+        (sym (ap (λ a. a.raised) (ap (agent_at (with_agent bus.agents request.hart (raising bus request))) own
+        ∙ agent_same bus.agents request.hart (raising bus request) inside)) ∙ is)

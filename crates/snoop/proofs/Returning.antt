@@ -1,0 +1,113 @@
+-- a lent cache is given back: the bus is ready again, and shows what was done
+use Rattle.std.proofs.Common.{◌≡◌, ◌≢◌, ◌∙◌, ℕ, ◌<◌, true, length, is_some, ap, sym, subst, inl, inr, arith}
+use Rattle.std.specs.Prelude.{slice_set}
+use Rattle.std.proofs.lemmas.Bool.{cases_eq}
+use Rattle.std.proofs.lemmas.List.{get_or-set_other, get_or-set_same, length-set}
+use Rattle.bus_order.specs.Order.{Request, request_of}
+use Rattle.cache_sets.specs.Cache.{has_marks, room_of}
+use Rattle.cache_sets.specs.Cached.{Cached}
+use Rattle.cache_sets.specs.WellFormed.{IsWellFormed}
+use Rattle.coherence.specs.Caches.{cache_at, no_cache}
+use Rattle.coherence.specs.Served.{has_room}
+use Rattle.el_model.specs.State.{Hart, ModelState, hart_of}
+use Rattle.el_model.proofs.Harts.{hart_of-with_hart_other, hart_of-with_hart_same}
+use Rattle.rv_flat.specs.FlatState.{FlatState}
+use Rattle.snoop.specs.Agent.{agent_at, agent_of}
+use Rattle.snoop.specs.Returned.{IsReturned, IsReturnedAs, returned, state_with}
+use Rattle.snoop.specs.Shows.{CanBeServed, IsReady, Kept, Shows}
+
+-- the caches after one was given back
+returned_same : (bus : Kept) (h : ℕ) (cache : Cached) → h < length bus.copies.caches → cache_at (returned bus h cache).copies.caches h ≡ cache
+returned_same bus h cache inside = get_or-set_same bus.copies.caches h cache no_cache inside
+
+returned_other : (bus : Kept) (h g : ℕ) (cache : Cached) → g ≢ h →
+    cache_at (returned bus h cache).copies.caches g ≡ cache_at bus.copies.caches g
+returned_other bus h g cache other = get_or-set_other bus.copies.caches h g cache no_cache other
+
+count_returned : (bus : Kept) (h : ℕ) (cache : Cached) → length (returned bus h cache).copies.caches ≡ length bus.copies.caches
+count_returned bus h cache = length-set bus.copies.caches h cache
+
+pub ready_returned : (bus : Kept) (h : ℕ) (cache : Cached) → h < length bus.copies.caches → IsReady bus → IsReturned bus h cache →
+    IsReady (returned bus h cache)
+ready_returned bus h cache inside ready back = record {
+  coherent = back.coherent;
+  few = ready.few;
+  each = count_returned bus h cache ∙ ready.each;
+  well_formed = λ g below. elim (cases_eq g h) [
+    | inl own ↦
+        subst (λ c. IsWellFormed c.ways c.residency)
+        (sym (ap (cache_at (returned bus h cache).copies.caches) own ∙ returned_same bus h cache inside)) back.well_formed
+    | inr other ↦
+        subst (λ c. IsWellFormed c.ways c.residency) (sym (returned_other bus h g cache other))
+        (ready.well_formed g (omega (arith, below, count_returned bus h cache)))
+  ];
+  raised = λ g request is. elim (cases_eq g h) [
+    | inl own ↦
+        still g request (ready.raised g request is)
+        (own_room g request own (back.raised request (ap (λ k. (agent_at bus.agents k).raised) (sym own) ∙ is)))
+    | inr other ↦ still g request (ready.raised g request is) (other_room g request other (ready.raised g request is).room)
+  ];
+  ordered = λ g request is. elim (cases_eq g h) [
+    | inl own ↦
+        still g request (ready.ordered g request is)
+        (own_room g request own (back.ordered request (ap (request_of bus.order) (sym own) ∙ is)))
+    | inr other ↦ still g request (ready.ordered g request is) (other_room g request other (ready.ordered g request is).room)
+  ];
+  once = ready.once;
+  one_request = ready.one_request;
+}
+  where
+    still : (g : ℕ) (request : Request) → CanBeServed bus g request → has_room (returned bus h cache).copies g request.line ≡ true →
+        CanBeServed (returned bus h cache) g request
+    still g request can room = record { own = can.own; hart_exists = can.hart_exists; in_memory = can.in_memory; room = room }
+
+    own_room : (g : ℕ) (request : Request) → g ≡ h → room_of cache.ways cache.residency request.line ≡ true →
+        has_room (returned bus h cache).copies g request.line ≡ true
+    own_room g request own room =
+        ap (λ c. room_of c.ways c.residency request.line)
+        (ap (cache_at (returned bus h cache).copies.caches) own ∙ returned_same bus h cache inside) ∙ room
+
+    other_room : (g : ℕ) (request : Request) → g ≢ h → has_room bus.copies g request.line ≡ true →
+        has_room (returned bus h cache).copies g request.line ≡ true
+    other_room g request other room = ap (λ c. room_of c.ways c.residency request.line) (returned_other bus h g cache other) ∙ room
+
+pub shows_returned : (bus : Kept) (state : ModelState) (h : ℕ) (cache : Cached) (hart : Hart) (committed : FlatState) →
+    h < length bus.copies.caches → Shows bus state → IsReturnedAs bus state h cache hart committed →
+    Shows (returned bus h cache) (state_with state h hart committed)
+shows_returned bus state h cache hart committed inside shows back = record {
+  mode = shows.mode;
+  ways = λ g below. elim (cases_eq g h) [
+    | inl own ↦ ap (λ c. c.ways) (own_cache g own) ∙ back.ways ∙ shows.ways h (omega (arith, inside, shows.cache_each))
+    | inr other ↦ ap (λ c. c.ways) (returned_other bus h g cache other) ∙ shows.ways g (omega (arith, below, same_harts))
+  ];
+  agent_each = shows.agent_each ∙ sym same_harts;
+  cache_each = count_returned bus h cache ∙ shows.cache_each ∙ sym same_harts;
+  agents = λ g. shows.agents g ∙ elim (cases_eq g h) [
+    | inl own ↦ ap (λ k. agent_of (hart_of state k)) own ∙ sym back.agent ∙ ap agent_of (sym (own_hart g own))
+    | inr other ↦ ap agent_of (sym (hart_of-with_hart_other state h g hart other))
+  ];
+  caches = λ g. elim (cases_eq g h) [
+    | inl own ↦ ap (λ c. c.residency) (own_cache g own) ∙ sym back.residency ∙ ap (λ k. k.cache) (sym (own_hart g own))
+    | inr other ↦ ap (λ c. c.residency) (returned_other bus h g cache other) ∙ shows.caches g
+        ∙ ap (λ k. k.cache) (sym (hart_of-with_hart_other state h g hart other))
+  ];
+  live = λ g. elim (cases_eq g h) [
+    | inl own ↦ ap (λ k. is_some k.section) (own_hart g own) ∙ back.live ∙ ap has_marks (sym back.residency)
+        ∙ ap (λ k. has_marks k.cache) (sym (own_hart g own))
+    | inr other ↦ ap (λ k. is_some k.section) (hart_of-with_hart_other state h g hart other) ∙ shows.live g
+        ∙ ap (λ k. has_marks k.cache) (sym (hart_of-with_hart_other state h g hart other))
+  ];
+  order = shows.order;
+  bytes = back.bytes;
+}
+  where
+    same_harts : length (slice_set state.harts h hart) ≡ length state.harts
+    same_harts = length-set state.harts h hart
+
+    own_cache : (g : ℕ) → g ≡ h → cache_at (returned bus h cache).copies.caches g ≡ cache
+    own_cache g own = ap (cache_at (returned bus h cache).copies.caches) own ∙ returned_same bus h cache inside
+
+    own_hart : (g : ℕ) → g ≡ h → hart_of (state_with state h hart committed) g ≡ hart
+    own_hart g own =
+        ap (hart_of (state_with state h hart committed)) own
+        ∙ hart_of-with_hart_same state h hart (omega (arith, inside, shows.cache_each))

@@ -1,0 +1,15 @@
+-- a hart has raised a request
+use Rattle.bus_order.specs.Order.{Request}
+use Rattle.snoop.proofs.Raising.{ready_raised}
+use Rattle.snoop.proofs.bus.Bus.raise.Goals as goal
+use Rattle.snoop.specs.Agent.{agent_at}
+use Rattle.snoop.specs.Shows.{kept}
+
+pub returns-clause-ready : goal.returns-clause-ready
+returns-clause-ready c =
+    let bus = kept c.args.self.now in
+    let h = c.args.hart.number in
+    let request : Request =
+    record { hart = h; line = c.args.line.number; need = c.args.need; stamp = (agent_at bus.agents h).attempt } in
+    rw (c.raise.ensures, c.attempt-stamp.ensures, c.agent.ensures)
+    (ready_raised bus request c.requires.ready c.requires.hart_exists c.requires.no_request c.requires.in_memory c.requires.room)

@@ -131,7 +131,7 @@ own_by P ways others need cache line kept filled =
     by_test P (is_resident cache line) (lettered cache line (kept_letter need (letter_of cache line))) (filled_with ways cache line (filled_of need others))
     kept filled
 
-own_well_formed : (ways : ℕ) (others : Bool) (need : Need) (cache : List (List Way)) (line : ℕ) → IsWellFormed ways cache →
+pub own_well_formed : (ways : ℕ) (others : Bool) (need : Need) (cache : List (List Way)) (line : ℕ) → IsWellFormed ways cache →
     room_of ways cache line ≡ true → IsWellFormed ways (own_copy ways others need cache line)
 own_well_formed ways others need cache line well room =
     own_by (IsWellFormed ways) ways others need cache line

@@ -1,5 +1,4 @@
 mod Showing
-mod Rooms
 mod EachAgent
 mod Ready
 mod Facing
@@ -8,7 +7,7 @@ mod LosersBelow
 mod AfterFate
 mod Conflicts
 mod Firsts
-mod ServedCaches
+mod ServedMarks
 mod Serves
 mod Sent
 mod Faced

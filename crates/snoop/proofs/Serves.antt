@@ -10,7 +10,8 @@ use Rattle.cache_sets.specs.Cache.{has_bit, has_marks, is_resident, marked, room
 use Rattle.cache_sets.specs.Cached.{Cached}
 use Rattle.cache_sets.specs.Residency.{Way}
 use Rattle.cache_sets.specs.WellFormed.{IsWellFormed}
-use Rattle.cache_sets.proofs.MarkLemmas.{no_marks}
+use Rattle.cache_sets.proofs.MarkLemmas.{has_marks-marked, no_marks}
+use Rattle.cache_sets.proofs.WellFormedLemmas.{well_formed-marked}
 use Rattle.coherence.specs.Caches.{cache_at, others_from}
 use Rattle.coherence.specs.Caches as copies
 use Rattle.coherence.proofs.GivenUp.{beyond}
@@ -28,7 +29,8 @@ use Rattle.snoop.specs.Shows.{CanBeServed, IsReady, Kept, Shows, line_of}
 use Rattle.section_laws.proofs.FreeLines.{unmet as section_unmet}
 use Rattle.snoop.proofs.Settles.{stays_twice}
 use Rattle.snoop.proofs.Ready.{ready_after}
-use Rattle.snoop.proofs.ServedCaches.{others_marks, others_room, others_well_formed, own_after, own_after_marks, own_after_well_formed, own_marked, own_marked_well_formed}
+use Rattle.section_laws.proofs.ServedCaches.{others_room, others_well_formed, own_after, own_after_well_formed}
+use Rattle.snoop.proofs.ServedMarks.{others_marks, own_after_marks}
 use Rattle.snoop.proofs.Showing.{ShowsEach, agent_past, shows_each}
 
 -- a hart that the test takes for another, and one that it takes for itself
@@ -213,7 +215,7 @@ served_marks bus new state request ready shows ordered free serves g below =
     claimed : (live : Bool) → has_marks (cache_at bus.copies.caches request.hart).residency ≡ live →
         has_marks (claimed_cache live request.line request.need (own_filled bus.copies request)) ≡ live
     claimed true is =
-        own_marked (cache_at bus.copies.caches request.hart).ways (own_filled bus.copies request) request.line request.need
+        has_marks-marked (cache_at bus.copies.caches request.hart).ways (own_filled bus.copies request) request.line request.need
         (own_after_well_formed (cache_at bus.copies.caches request.hart).ways _ request.need (cache_at bus.copies.caches request.hart).residency request.line well can.room)
         (ap (λ cache. is_resident cache request.line) (sym serves.copies.served.own) ∙ serves.copies.served.here)
     claimed false is =
@@ -275,7 +277,7 @@ served_well_formed bus new request ready ordered serves g below =
         (ready.well_formed request.hart (omega (arith, can.hart_exists, ready.each))) can.room
 
     claimed : (live : Bool) → IsWellFormed (cache_at bus.copies.caches request.hart).ways (claimed_cache live request.line request.need (own_filled bus.copies request))
-    claimed true = own_marked_well_formed _ (own_filled bus.copies request) request.line request.need filled
+    claimed true = well_formed-marked _ (own_filled bus.copies request) request.line request.need filled
     claimed false = filled
 
 -- an agent has raised what it had raised

@@ -1,53 +1,43 @@
 -- Looking for a victim from the least recent line on.
-use Rattle.std.proofs.Common.{◌≡◌, ℕ, zero, suc, ◌+◌, ◌≤◌, ◌<◌, true, false, cond, List, [], ◌∷◌, length, map, drop, get_or, Option, None, Some, is_some, ap}
-use Rattle.std.proofs.Common.{sym, ◌∙◌, arith}
+use Rattle.std.proofs.Common.{◌≡◌, ℕ, zero, suc, ◌+◌, ◌≤◌, ◌<◌, true, false, cond, List, [], ◌∷◌, length, map, get_or, Option, None, Some, is_some, ap}
+use Rattle.std.proofs.Common.{refl, sym, ◌∙◌, arith}
 use Rattle.std.specs.Option.{option_or}
-use Rattle.std.proofs.lemmas.List.{drop_more, drop_all}
 use Rattle.cache_sets.specs.declared.way.Way as code
 use Rattle.cache_sets.specs.Kept.{IsVictimPlace, shown_way}
-use Rattle.cache_sets.specs.Residency.{Way, has_unmarked, is_marked, victim_in}
+use Rattle.cache_sets.specs.Residency.{has_unmarked, is_marked, victim_in}
 use Rattle.cache_sets.proofs.ResidencyLemmas.{victim_in-some}
 
--- one line further to the front
-victim_one_more : (ways : List code.Way) (i : ℕ) (d : code.Way) → i < length ways →
-    victim_in (map shown_way (drop i ways))
-    ≡ option_or (victim_in (map shown_way (drop (i + 1) ways))) (cond (is_marked (shown_way (get_or ways i d))) None (Some (shown_way (get_or ways i d))))
-victim_one_more ways i d within = ap (λ rest. victim_in (map shown_way rest)) (drop_more ways i d within)
+-- lines of which each has a bit have no victim
+pub no_victim_among : (ways : List code.Way) → ((k : ℕ) → k < length ways → (d : code.Way) → is_marked (shown_way (get_or ways k d)) ≡ true) →
+    victim_in (map shown_way ways) ≡ None
+no_victim_among [] marked = refl
+no_victim_among (first ∷ ways) marked =
+    ap (λ later. option_or later (cond (is_marked (shown_way first)) None (Some (shown_way first))))
+    (no_victim_among ways (λ k within. marked (suc k) (omega arith)))
+    ∙ ap (λ b. cond b None (Some (shown_way first))) (marked 0 (omega arith) first)
 
--- no line is a victim at the end
-pub no_victim_behind : (ways : List code.Way) (n : ℕ) → n ≡ length ways → victim_in (map shown_way (drop n ways)) ≡ None
-no_victim_behind ways n is = ap (λ rest. victim_in (map shown_way rest)) (drop_all n ways (omega (arith, is)))
+-- the last line without bits is the victim
+pub victim_at : (ways : List code.Way) (i : ℕ) → i < length ways → ((d : code.Way) → is_marked (shown_way (get_or ways i d)) ≡ false) →
+    ((k : ℕ) → i + 1 ≤ k → k < length ways → (d : code.Way) → is_marked (shown_way (get_or ways k d)) ≡ true) →
+    (d : code.Way) → victim_in (map shown_way ways) ≡ Some (shown_way (get_or ways i d))
+victim_at [] i within unmarked marked d = absurd (omega arith)
+victim_at (first ∷ ways) zero within unmarked marked d =
+    ap (λ later. option_or later (cond (is_marked (shown_way first)) None (Some (shown_way first))))
+    (no_victim_among ways (λ k within. marked (suc k) (omega arith) (omega arith)))
+    ∙ ap (λ b. cond b None (Some (shown_way first))) (unmarked first)
+victim_at (first ∷ ways) (suc i) within unmarked marked d =
+    ap (λ later. option_or later (cond (is_marked (shown_way first)) None (Some (shown_way first))))
+    (victim_at ways i (omega arith) unmarked (λ k after within. marked (suc k) (omega arith) (omega arith)) d)
 
--- nor is a line with a bit
-pub no_victim_more : (ways : List code.Way) (i n : ℕ) (d : code.Way) → i + 1 ≡ n → n ≤ length ways → is_marked (shown_way (get_or ways i d)) ≡ true →
-    victim_in (map shown_way (drop n ways)) ≡ None → victim_in (map shown_way (drop i ways)) ≡ None
-no_victim_more ways i n d next within marked none =
-    victim_one_more ways i d (omega arith)
-    ∙ ap (λ later. option_or later (cond (is_marked (shown_way (get_or ways i d))) None (Some (shown_way (get_or ways i d)))))
-    (ap (λ m. victim_in (map shown_way (drop m ways))) next ∙ none)
-    ∙ ap (λ b. cond b None (Some (shown_way (get_or ways i d)))) marked
-
--- what is a victim among the last lines is one of all
-further_front : (ways : List code.Way) (i : ℕ) (way : Way) → victim_in (map shown_way (drop i ways)) ≡ Some way → victim_in (map shown_way ways) ≡ Some way
-further_front ways zero way is = is
-further_front [] (suc i) way is = is
-further_front (first ∷ ways) (suc i) way is =
-    ap (λ later. option_or later (cond (is_marked (shown_way first)) None (Some (shown_way first)))) (further_front ways i way is)
-
-pub victim_here : (ways : List code.Way) (i n : ℕ) (d : code.Way) → i + 1 ≡ n → n ≤ length ways → is_marked (shown_way (get_or ways i d)) ≡ false →
-    victim_in (map shown_way (drop n ways)) ≡ None → victim_in (map shown_way ways) ≡ Some (shown_way (get_or ways i d))
-victim_here ways i n d next within marked none =
-    further_front ways i (shown_way (get_or ways i d))
-    (victim_one_more ways i d (omega arith)
-    ∙ ap (λ later. option_or later (cond (is_marked (shown_way (get_or ways i d))) None (Some (shown_way (get_or ways i d)))))
-    (ap (λ m. victim_in (map shown_way (drop m ways))) next ∙ none)
-    ∙ ap (λ b. cond b None (Some (shown_way (get_or ways i d)))) marked)
-
--- the same of what is known of the place alone
-pub no_victim_from : (ways : List code.Way) (i n : ℕ) → i + 1 ≡ n → n ≤ length ways → ((d : code.Way) → is_marked (shown_way (get_or ways i d)) ≡ true) →
-    victim_in (map shown_way (drop n ways)) ≡ None → victim_in (map shown_way (drop i ways)) ≡ None
-no_victim_from [] i n next within marked none = absurd (omega arith)
-no_victim_from (first ∷ ways) i n next within marked none = no_victim_more (first ∷ ways) i n first next within (marked first) none
+-- so is the one that a search from the least recent line on finds
+pub victim_from_behind : (ways : List code.Way) (place : Option ℕ) →
+    (place ≡ None → (k : ℕ) → k < length ways → (d : code.Way) → is_marked (shown_way (get_or ways k d)) ≡ true) →
+    ((i : ℕ) → place ≡ Some i → i < length ways) →
+    ((i : ℕ) → place ≡ Some i → (d : code.Way) → is_marked (shown_way (get_or ways i d)) ≡ false) →
+    ((i : ℕ) → place ≡ Some i → (k : ℕ) → i + 1 ≤ k → k < length ways → (d : code.Way) → is_marked (shown_way (get_or ways k d)) ≡ true) →
+    IsVictimPlace ways place
+victim_from_behind ways None none within here after = no_victim_among ways (none refl)
+victim_from_behind ways (Some i) none within here after = (within i refl, victim_at ways i (within i refl) (here i refl) (after i refl))
 
 -- a set has a line without bits exactly where it has a victim
 pub some_victim : (ways : List code.Way) (place : Option ℕ) → IsVictimPlace ways place → is_some place ≡ has_unmarked (map shown_way ways)

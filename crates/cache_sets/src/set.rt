@@ -2,8 +2,8 @@ ghost use Rattle.std.specs.Prelude.{◌≡◌, ◌⊎◌, ℕ, ◌≤◌, ◌<�
 ghost use Rattle.std.specs.List.{remove};
 ghost use Rattle.cache_sets.specs.declared.way.Way as code;
 ghost use Rattle.cache_sets.specs.Keyed.{changed, count_of, found, fronted, without};
-ghost use Rattle.cache_sets.specs.Kept.{IsDropped, IsEmpty, IsFilled, IsSet, IsVictimPlace, MakesRoom, changed_set, cleared_way, committed_way, lettered_way, marked_way, new_way, number_of, shown_set, shown_way};
-ghost use Rattle.cache_sets.specs.Residency.{has_unmarked, is_marked, room_in, way_in};
+ghost use Rattle.cache_sets.specs.Kept.{IsDropped, IsEmpty, IsFilled, IsSet, IsVictimPlace, MakesRoom, changed_set, cleared_way, committed_way, lettered_way, marked_way, new_way, number_of, shown_set};
+ghost use Rattle.cache_sets.specs.Residency.{has_unmarked, room_in, way_in};
 
 use crate::bits::Bits;
 use crate::way::Way;
@@ -164,27 +164,12 @@ impl Set {
         commit(self.ways.as_mut_slice());
     }
 
-    /// Whether the line at a place has a bit.
-    fn is_marked_at(&self, place: usize) -> bool
-        requires { place < length self.now.ways.items }
-        ensures { (d : code.Way) → result ≡ is_marked (shown_way (slice_index_or self.now.ways.items place d)) }
-    {
-        let bits = self.ways[place].bits;
-        bits.contains(Bits::READ) || bits.contains(Bits::WRITE)
-    }
-
     /// Where the least recent line without bits stands.
+    #[tactic(auto, using(crate::proofs::VictimPlaces::victim_from_behind))]
     fn victim_place(&self) -> Option<usize>
         ensures { IsVictimPlace self.now.ways.items result }
     {
-        let mut place = self.ways.len();
-        while place > 0 {
-            place -= 1;
-            if !self.is_marked_at(place) {
-                return Some(place);
-            }
-        }
-        None
+        self.ways.iter().rposition(|way| !way.is_marked())
     }
 
     /// A row for another line, whose way is to be put in front: a spare one where the set has fewer

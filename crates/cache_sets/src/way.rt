@@ -16,7 +16,15 @@ pub struct Way {
 }
 
 impl Way {
-    ghost use Rattle.cache_sets.specs.Kept.{cleared_way, committed_way};
+    ghost use Rattle.cache_sets.specs.Kept.{cleared_way, committed_way, shown_way};
+    ghost use Rattle.cache_sets.specs.Residency.{is_marked};
+
+    /// Whether the way has a bit.
+    pub fn is_marked(&self) -> bool
+        ensures { result ≡ is_marked (shown_way self.now) }
+    {
+        self.bits.contains(Bits::READ) || self.bits.contains(Bits::WRITE)
+    }
 
     /// The way without bits.
     pub fn cleared(self) -> Way

@@ -118,13 +118,16 @@ faced_each head known old mid state count settled shows is = record {
 }
   where
     had_fate : (h : ℕ) → h < length known →
-        agent_at mid.agents h ≡ settled_agent (record old { mode = state.config.mode; order = state.order }) head (fate_at state head h) (agent_of (hart_of state h))
+        agent_at mid.agents h
+        ≡ settled_agent (record old { mode = state.config.mode; order = state.order }) head (fate_at state head h) (agent_of (hart_of state h))
     had_fate h below =
         settled.agents h below
         ∙ ap (settled_agent old head (fate_in known h)) (shows.agents h)
         ∙ ap (λ fate. settled_agent old head fate (agent_of (hart_of state h))) (is h)
         ∙ ap (λ mode. settled_agent (record old { mode = mode }) head (fate_at state head h) (agent_of (hart_of state h))) shows.mode
-        ∙ ap (λ order. settled_agent (record old { mode = state.config.mode; order = order }) head (fate_at state head h) (agent_of (hart_of state h))) shows.order
+        ∙ ap
+        (λ order. settled_agent (record old { mode = state.config.mode; order = order }) head (fate_at state head h) (agent_of (hart_of state h)))
+        shows.order
 
     has_cache : (h : ℕ) → h < length known →
         (cache_at mid.copies.caches h).residency ≡ cache_left (fate_at state head h) (cache_of state h)

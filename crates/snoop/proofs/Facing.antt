@@ -61,7 +61,9 @@ one_fate_more bus head number h known fate below same is = record {
   count = length-append known (fate ∷ []) ∙ ap (λ n. n + 1) below.count;
   each = λ state shows g under. elim (cases_eq g number) [
     | inl last ↦
-        ap numbered_fate (ap (λ n. slice_index_or (known ++ fate ∷ []) n declared.Unmet) (last ∙ sym below.count) ∙ get_or-append_seam known fate [] declared.Unmet)
+        ap numbered_fate
+        (ap (λ n. slice_index_or (known ++ fate ∷ []) n declared.Unmet) (last ∙ sym below.count)
+        ∙ get_or-append_seam known fate [] declared.Unmet)
         ∙ is state shows ∙ ap (fate_at state head) (same ∙ sym last)
     | inr before ↦
         ap numbered_fate (get_or-append known (fate ∷ []) declared.Unmet g (omega (arith, before, under, below.count)))

@@ -19,3 +19,4 @@ pub mod Returning
 mod Delivers
 mod Forwarding
 mod Hears
+mod Standing

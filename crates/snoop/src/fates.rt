@@ -102,7 +102,8 @@ impl Bus {
     ) -> Option<HartId>
         requires { hart.number < length (kept self.now).agents }
         ensures { number_of result ≡ earlier_told
-            (agent_at (kept self.now).agents hart.number) (kept self.now).order line.number origin.number (number_of later) }
+            (agent_at (kept self.now).agents hart.number) (kept self.now).order
+            line.number origin.number (number_of later) }
     {
         let agent = self.agent(hart);
         if agent.knows(origin) && is_before(self.stamp_on(line, origin), agent.attempt()) {

@@ -26,3 +26,6 @@ mod settling;
 
 pub use asked::Asked;
 pub use bus::Bus;
+
+#[cfg(test)]
+mod tests;

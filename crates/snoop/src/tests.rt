@@ -1,0 +1,209 @@
+//! Four harts at one bus, worked by hand. Each hart's cache has one set of two ways; in lock removal each hart has an
+//! open attempt with the clock 0, so a hart of a less number comes before one of a greater.
+
+ghost use Rattle.std.specs.Prelude.{◌≡◌, ◌<◌, ◌≤◌, ℕ, IfOk, None, Some, length};
+ghost use Rattle.bus_order.specs.Order.{numbered};
+ghost use Rattle.cache_sets.specs.WellFormed.{IsWellFormed};
+ghost use Rattle.coherence.specs.Caches.{cache_at};
+ghost use Rattle.coherence.specs.Served.{IsCoherent, has_room, shown};
+ghost use Rattle.snoop.specs.Agent.{agent_at, with_agent};
+ghost use Rattle.snoop.specs.Shows.{IsReady, kept};
+
+mod ordering;
+
+use crate::agent::Agent;
+use crate::bus::Bus;
+use crate::fates::hart_at;
+use bus_order::{Order, Request};
+use coherence::Hierarchy;
+use el_base::{Config, HartId, LineAddr, Mode, Need, Outcome, line_of};
+use elf_image::load;
+use mail::Message;
+use policy::{SlePolicy, TlrPolicy};
+use std::alloc::Global;
+use std::test::Fail;
+
+/// An image of one segment of 256 bytes at 0x10000, of which the first 128 stand in the file: byte 84 of
+/// the file, where the code begins, is at 0x10054.
+const HEADER: [u8; 88] = [
+    0x7f, 0x45, 0x4c, 0x46, 0x01, 0x01, 0x01, 0x00, 0x00, 0x00, 0x00, 0x00, 0x00, 0x00, 0x00, 0x00,
+    0x02, 0x00, 0xf3, 0x00, 0x01, 0x00, 0x00, 0x00, 0x54, 0x00, 0x01, 0x00, 0x34, 0x00, 0x00, 0x00,
+    0x00, 0x00, 0x00, 0x00, 0x00, 0x00, 0x00, 0x00, 0x34, 0x00, 0x20, 0x00, 0x01, 0x00, 0x00, 0x00,
+    0x00, 0x00, 0x00, 0x00, 0x01, 0x00, 0x00, 0x00, 0x00, 0x00, 0x00, 0x00, 0x00, 0x00, 0x01, 0x00,
+    0x00, 0x00, 0x01, 0x00, 0x58, 0x00, 0x00, 0x00, 0x00, 0x01, 0x00, 0x00, 0x05, 0x00, 0x00, 0x00,
+    0x00, 0x10, 0x00, 0x00, 0x73, 0x00, 0x00, 0x00,
+];
+
+fn hart(number: u8) -> Result<HartId, Fail> {
+    Ok(HartId::new(number).ok_or("no such hart")?)
+}
+
+/// The line that the harts ask for: the first one of memory.
+fn line() -> LineAddr {
+    line_of(0x10000)
+}
+
+/// Main memory and four caches, of which those of these harts have read the line in a section.
+fn hierarchy(alloc: Global, mode: Mode, readers: &[u8]) -> Result<Hierarchy, Fail>
+    ensures { IfOk result (λ hierarchy. IsCoherent (shown hierarchy)) }
+{
+    let config = Config {
+        harts: 4,
+        mode,
+        sets: 1,
+        ways: 2,
+        ..Config::usual()
+    };
+    if config.check().is_err() {
+        return Err("no such caches".into());
+    }
+    let image = load(alloc, &HEADER, config.harts).map_err(|_| "no image")?;
+    if image.harts() != config.harts {
+        return Err("an image for other harts".into());
+    }
+    let mut hierarchy = Hierarchy::make(alloc, &image, &config)?;
+    for reader in readers {
+        if !read_in_section(&mut hierarchy, hart(*reader)?) {
+            return Err("a line that is not there".into());
+        }
+    }
+    Ok(hierarchy)
+}
+
+/// A hart reads the line in its section, where that may be.
+fn read_in_section(hierarchy: &mut Hierarchy, hart: HartId) -> bool
+    requires { IsCoherent (shown hierarchy.old) }
+    ensures { IsCoherent (shown hierarchy.new) }
+{
+    let line = line();
+    if usize::from(hart.number) >= hierarchy.harts() || !hierarchy.has_in_memory(line) {
+        return false;
+    }
+    if !hierarchy.cache(hart).room(line) {
+        return false;
+    }
+    hierarchy.serve(hart, line, Need::Read);
+    hierarchy.mark(hart, line, Need::Read);
+    true
+}
+
+/// Four agents, of which that of hart 1 was told of hart 0 where this says so.
+#[tactic(auto, using(crate::proofs::Standing::none_raised_more))]
+fn agents(alloc: Global, mode: Mode, told: bool) -> Result<Vec<Agent>, Fail>
+    ensures { IfOk result (λ agents. (h : ℕ) → (agent_at agents.items h).raised ≡ None) }
+{
+    let mut agents = Vec::with_capacity(alloc, 4)?;
+    for number in 0..4 {
+        agents.push(agent(alloc, mode, hart_at(number), told && number == 1)?)?;
+    }
+    Ok(agents)
+}
+
+/// A hart's agent, told of hart 0 where this says so.
+fn agent(alloc: Global, mode: Mode, hart: HartId, told: bool) -> Result<Agent, Fail>
+    ensures { IfOk result (λ agent. agent.raised ≡ None) }
+{
+    let mut agent = Agent::make(alloc)?;
+    agent.open_attempt(mode, hart);
+    if told {
+        agent.tell(hart_at(0));
+    }
+    Ok(agent)
+}
+
+/// No cache has a line twice, as its type says.
+fn well_formed(hierarchy: &Hierarchy)
+    requires { length (shown hierarchy.now).caches ≤ 8 }
+    ensures { (h : ℕ) → h < length (shown hierarchy.now).caches →
+        IsWellFormed (cache_at (shown hierarchy.now).caches h).ways
+        (cache_at (shown hierarchy.now).caches h).residency }
+{
+    for number in 0..hierarchy.harts() {
+        hierarchy.cache(hart_at(number)).room(line());
+    }
+}
+
+/// The bus of four harts that have asked for nothing yet.
+fn made(alloc: Global, mode: Mode, readers: &[u8], told: bool) -> Result<Bus, Fail>
+    ensures { IfOk result (λ bus. IsReady (kept bus)) }
+{
+    let hierarchy = hierarchy(alloc, mode, readers)?;
+    let agents = agents(alloc, mode, told)?;
+    if hierarchy.harts() != 4 || agents.len() != 4 {
+        return Err("harts without a cache".into());
+    }
+    well_formed(&hierarchy);
+    Ok(Bus {
+        mode,
+        hierarchy,
+        agents,
+        order: Order::new(),
+    })
+}
+
+/// A hart asks for the line, where it may.
+fn ask(bus: &mut Bus, hart: HartId, need: Need) -> bool
+    requires { IsReady (kept bus.old) }
+    ensures { IsReady (kept bus.new) }
+{
+    let line = line();
+    if usize::from(hart.number) >= bus.agents.len() || bus.order.of(hart).is_some() {
+        return false;
+    }
+    if !bus.hierarchy.has_in_memory(line) || !has_room(bus, hart, line) {
+        return false;
+    }
+    let stamp = bus.agent(hart).attempt();
+    let request = Request {
+        hart,
+        line,
+        need,
+        stamp,
+    };
+    raise(&mut bus.agents, request);
+    true
+}
+
+/// Whether a hart's cache has room for a line.
+fn has_room(bus: &Bus, hart: HartId, line: LineAddr) -> bool
+    requires ready { IsReady (kept bus.now) }
+    requires hart_exists { hart.number < length (kept bus.now).agents }
+    ensures { result ≡ has_room (kept bus.now).copies hart.number line.number }
+{
+    bus.hierarchy.cache(hart).room(line)
+}
+
+/// A hart has raised a request.
+fn raise(agents: &mut Vec<Agent>, request: Request)
+    ensures { agents.new.items ≡ with_agent agents.old.items request.hart.number
+        (record (agent_at agents.old.items request.hart.number) { raised = Some (numbered request) }) }
+{
+    if let Some(agent) = agents.get_mut(usize::from(request.hart.number)) {
+        agent.raise(request);
+    }
+}
+
+/// What Order says, under the policy of the mode, or nothing where the hart is not there.
+fn order(bus: &mut Bus, hart: HartId) -> Option<Outcome>
+    requires { IsReady (kept bus.old) }
+    ensures { IsReady (kept bus.new) }
+{
+    if usize::from(hart.number) >= bus.agents.len() {
+        return None;
+    }
+    match bus.mode {
+        Mode::Plain => Some(bus.order(hart, &SlePolicy)),
+        Mode::Sle => Some(bus.order(hart, &SlePolicy)),
+        Mode::Tlr => Some(bus.order(hart, &TlrPolicy)),
+    }
+}
+
+/// Whether a hart's cache has a bit.
+fn is_marked(bus: &Bus, hart: HartId) -> bool {
+    usize::from(hart.number) < bus.hierarchy.harts() && bus.hierarchy.cache(hart).marked()
+}
+
+/// Takes the oldest message of a hart.
+fn message(bus: &mut Bus, hart: HartId) -> Option<Message> {
+    bus.agents.get_mut(usize::from(hart.number))?.next()
+}

@@ -20,3 +20,4 @@ mod Delivers
 mod Forwarding
 mod Hears
 mod Standing
+mod Ending

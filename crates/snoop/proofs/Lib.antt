@@ -19,3 +19,4 @@ mod Delivers
 mod Forwarding
 mod Hears
 mod Standing
+mod Ending

@@ -9,7 +9,10 @@ ghost use Rattle.coherence.specs.Served.{IsCoherent, has_room, shown};
 ghost use Rattle.snoop.specs.Agent.{agent_at, with_agent};
 ghost use Rattle.snoop.specs.Shows.{IsReady, kept};
 
+mod delivering;
+mod events;
 mod ordering;
+mod serving;
 
 use crate::agent::Agent;
 use crate::bus::Bus;

@@ -1,0 +1,7 @@
+-- one agent holds no line any more
+use Rattle.snoop.proofs.Ready.{ready_agent}
+use Rattle.snoop.proofs.tests.events.give_up.Goals as goal
+use Rattle.snoop.specs.Shows.{kept}
+
+pub returns : goal.returns
+returns c = rw c.let_go.ensures (ready_agent (kept c.args.bus.now) c.args.hart.number _ c.requires (λ request is. is))

@@ -1,0 +1,195 @@
+//! Markers and probes of lock removal. In the chain of four all harts have live sections, hart 1 has written the
+//! next line, and harts 2, 3 and 0 wait to write it, in this order; hart 0 is the earliest.
+
+ghost use Rattle.std.specs.Prelude.{IfOk};
+ghost use Rattle.snoop.specs.Shows.{IsReady, kept};
+
+use super::events::*;
+use super::*;
+use el_base::Why;
+
+fn marker(from: u8) -> Result<Message, Fail> {
+    Ok(Message::Marker { from: hart(from)? })
+}
+
+fn probe(origin: u8) -> Result<Message, Fail> {
+    Ok(Message::Probe {
+        origin: hart(origin)?,
+    })
+}
+
+/// A hart waits for the line behind the others.
+fn wait(bus: &mut Bus, hart: HartId, line: LineAddr) -> Result<(), Fail>
+    requires { IsReady (kept bus.old) }
+    ensures { IsReady (kept bus.new) }
+{
+    let asked = ask_for(bus, hart, line, Need::Write);
+    let outcome = order(bus, hart);
+    if !asked || outcome != ordered(&[])? {
+        return Err("the request is not in order".into());
+    }
+    Ok(())
+}
+
+/// The chain, as the requests are in order and no message was delivered.
+fn chain(alloc: Global) -> Result<Bus, Fail>
+    ensures { IfOk result (λ bus. IsReady (kept bus)) }
+{
+    let mut bus = made(alloc, Mode::Tlr, &[0, 1, 2, 3], false)?;
+    if get(&mut bus, hart(1)?, next_line(), Need::Write) != served(&[])? {
+        return Err("the section did not get its line".into());
+    }
+    wait(&mut bus, hart(2)?, next_line())?;
+    wait(&mut bus, hart(3)?, next_line())?;
+    wait(&mut bus, hart(0)?, next_line())?;
+    Ok(bus)
+}
+
+/// These harts take one message each, in this order, of which none has a loser.
+fn take(bus: &mut Bus, harts: &[u8]) -> Result<(), Fail>
+    requires { IsReady (kept bus.old) }
+    ensures { IsReady (kept bus.new) }
+{
+    for number in harts {
+        if deliver(bus, hart(*number)?) != delivered(&[])? {
+            return Err("a message with a loser, or none".into());
+        }
+    }
+    Ok(())
+}
+
+/// What lies in the mailbox of a hart after these harts took one message each.
+fn mail_after(alloc: Global, harts: &[u8], of: u8) -> Result<[Option<Message>; 4], Fail> {
+    let mut bus = chain(alloc)?;
+    take(&mut bus, harts)?;
+    let of = hart(of)?;
+    Ok([
+        message(&mut bus, of),
+        message(&mut bus, of),
+        message(&mut bus, of),
+        message(&mut bus, of),
+    ])
+}
+
+#[test]
+fn each_waiting_hart_has_a_marker_of_the_one_before_it(rt: HostRuntime) -> Result<(), Fail> {
+    for (of, from) in [(2, 1), (3, 2), (0, 3)] {
+        let wanted = [Some(marker(from)?), None, None, None];
+        assert_eq!(rt; mail_after(rt.alloc(), &[], of)?, wanted);
+    }
+    assert_eq!(rt; mail_after(rt.alloc(), &[], 1)?, [None; 4]);
+    Ok(())
+}
+
+#[test]
+fn probes_go_up_the_chain(rt: HostRuntime) -> Result<(), Fail> {
+    let [after, two] = [Some(marker(2)?), Some(probe(0)?)];
+    assert_eq!(rt; mail_after(rt.alloc(), &[0], 3)?, [after, two, None, None]);
+    let [after, two] = [Some(marker(1)?), Some(probe(3)?)];
+    assert_eq!(rt;
+        mail_after(rt.alloc(), &[0, 3], 2)?,
+        [after, two, None, None]
+    );
+    let three = Some(probe(0)?);
+    assert_eq!(rt;
+        mail_after(rt.alloc(), &[0, 3, 3], 2)?,
+        [after, two, three, None]
+    );
+    let all = [Some(probe(2)?), Some(probe(3)?), Some(probe(0)?), None];
+    assert_eq!(rt; mail_after(rt.alloc(), &[0, 3, 3, 2, 2, 2], 1)?, all);
+    assert_eq!(rt; mail_after(rt.alloc(), &[0, 3, 3, 2, 2, 2], 0)?, [None; 4]);
+    Ok(())
+}
+
+#[test]
+fn a_chain_of_four_loses_to_its_earliest(rt: HostRuntime) -> Result<(), Fail> {
+    let (one, two) = (hart(1)?, hart(2)?);
+    let mut bus = chain(rt.alloc())?;
+    // the probes of harts 2 and 3 come first, and cost hart 1 nothing
+    take(&mut bus, &[0, 3, 3, 2, 2, 2, 1, 1])?;
+    assert!(rt; is_marked(&bus, one));
+    assert_eq!(rt;
+        serve(&mut bus, two),
+        Some(Outcome::Blocked {
+            why: Why::Retained,
+            by: one
+        })
+    );
+    assert_eq!(rt; deliver(&mut bus, one), delivered(&[(1, 0)])?);
+    assert!(rt; !is_marked(&bus, one));
+    assert_eq!(rt; deliver(&mut bus, one), Some(Outcome::Idle));
+    // each of the next two was told of hart 0, and loses as the next head is faced
+    assert_eq!(rt; serve(&mut bus, two), served(&[(2, 0)])?);
+    assert_eq!(rt; serve(&mut bus, hart(3)?), served(&[(3, 0)])?);
+    assert_eq!(rt; serve(&mut bus, hart(0)?), served(&[])?);
+    assert!(rt; is_marked(&bus, hart(0)?));
+    Ok(())
+}
+
+#[test]
+fn a_probe_that_comes_after_the_commit_costs_nobody(rt: HostRuntime) -> Result<(), Fail> {
+    let one = hart(1)?;
+    let mut bus = chain(rt.alloc())?;
+    take(&mut bus, &[0, 3, 3, 2, 2, 2, 1, 1])?;
+    end_section(&mut bus, one);
+    assert_eq!(rt; deliver(&mut bus, one), delivered(&[])?);
+    assert_eq!(rt; serve(&mut bus, hart(2)?), served(&[(2, 0)])?);
+    Ok(())
+}
+
+#[test]
+fn a_probe_goes_as_its_origin_is_served(rt: HostRuntime) -> Result<(), Fail> {
+    let one = hart(1)?;
+    let mut bus = chain(rt.alloc())?;
+    take(&mut bus, &[0, 3, 3, 2, 2, 2, 1, 1])?;
+    end_section(&mut bus, one);
+    assert_eq!(rt; serve(&mut bus, hart(2)?), served(&[(2, 0)])?);
+    assert_eq!(rt; serve(&mut bus, hart(3)?), served(&[(3, 0)])?);
+    assert_eq!(rt; serve(&mut bus, hart(0)?), served(&[])?);
+    assert_eq!(rt; deliver(&mut bus, one), Some(Outcome::Idle));
+    Ok(())
+}
+
+#[test]
+fn a_late_probe_costs_the_next_hart_its_section(rt: HostRuntime) -> Result<(), Fail> {
+    let two = hart(2)?;
+    let mut bus = chain(rt.alloc())?;
+    take(&mut bus, &[0, 3, 3])?;
+    end_section(&mut bus, hart(1)?);
+    // hart 2 was told of nobody yet, and defers hart 3
+    assert_eq!(rt; serve(&mut bus, two), served(&[])?);
+    assert_eq!(rt; deliver(&mut bus, two), delivered(&[])?);
+    assert_eq!(rt; deliver(&mut bus, two), delivered(&[(2, 0)])?);
+    assert_eq!(rt; serve(&mut bus, hart(3)?), served(&[(3, 0)])?);
+    Ok(())
+}
+
+/// What lies in the mailbox of a hart as hart 1, which was told of hart 0, waits for the line behind these and
+/// has taken its marker.
+fn answer(alloc: Global, before: &[u8], of: u8) -> Result<[Option<Message>; 4], Fail> {
+    let mut bus = made(alloc, Mode::Tlr, &[], true)?;
+    for number in before {
+        wait(&mut bus, hart(*number)?, line())?;
+    }
+    wait(&mut bus, hart(1)?, line())?;
+    take(&mut bus, &[1])?;
+    let of = hart(of)?;
+    Ok([
+        message(&mut bus, of),
+        message(&mut bus, of),
+        message(&mut bus, of),
+        message(&mut bus, of),
+    ])
+}
+
+#[test]
+fn a_marker_is_answered_with_what_the_hart_was_told(rt: HostRuntime) -> Result<(), Fail> {
+    // hart 0 is not told of itself
+    let own = Some(probe(1)?);
+    assert_eq!(rt; answer(rt.alloc(), &[0], 0)?, [own, None, None, None]);
+    // nor is anyone told of a hart that is not ordered on the line
+    assert_eq!(rt; answer(rt.alloc(), &[2], 2)?, [own, None, None, None]);
+    let all = [Some(marker(0)?), own, Some(probe(0)?), None];
+    assert_eq!(rt; answer(rt.alloc(), &[0, 2], 2)?, all);
+    Ok(())
+}

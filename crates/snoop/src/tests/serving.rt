@@ -1,0 +1,175 @@
+//! Requests that are served, or that something is in the way of.
+
+ghost use Rattle.std.specs.Prelude.{IfOk};
+ghost use Rattle.snoop.specs.Shows.{IsReady, kept};
+
+use super::events::*;
+use super::*;
+use cache_sets::Letter;
+use el_base::Why;
+
+/// What Serve says where a hart is in the way.
+fn blocked(why: Why, by: u8) -> Result<Option<Outcome>, Fail> {
+    Ok(Some(Outcome::Blocked { why, by: hart(by)? }))
+}
+
+/// The letters of two harts' copies of the line.
+fn letters(bus: &Bus) -> Result<(Letter, Letter), Fail> {
+    Ok((letter(bus, hart(0)?, line()), letter(bus, hart(1)?, line())))
+}
+
+/// A hart without a section gets the line and does its step, so that it holds the line no more.
+fn get_and_step(bus: &mut Bus, hart: HartId, need: Need) -> Option<Outcome>
+    requires { IsReady (kept bus.old) }
+    ensures { IsReady (kept bus.new) }
+{
+    let outcome = get(bus, hart, line(), need);
+    give_up(bus, hart);
+    outcome
+}
+
+#[test]
+fn two_harts_read_and_one_writes(rt: HostRuntime) -> Result<(), Fail> {
+    let (zero, one) = (hart(0)?, hart(1)?);
+    let mut bus = made(rt.alloc(), Mode::Plain, &[], false)?;
+    assert_eq!(rt; letters(&bus)?, (Letter::I, Letter::I));
+    // who asks, for what, and the letters of both then
+    for (who, need, wanted) in [
+        (zero, Need::Read, (Letter::E, Letter::I)),
+        (one, Need::Read, (Letter::S, Letter::S)),
+        (one, Need::Write, (Letter::I, Letter::M)),
+        (zero, Need::Read, (Letter::S, Letter::O)),
+        (zero, Need::Write, (Letter::M, Letter::I)),
+    ] {
+        assert_eq!(rt; get_and_step(&mut bus, who, need), served(&[])?);
+        assert_eq!(rt; letters(&bus)?, wanted, "{who:?} {need:?}");
+        // nothing was stored, so main memory tells what the copies do
+        assert_eq!(rt; bytes(&bus, 0x10001), (Some(0x45), Some(0x45)));
+    }
+    assert_eq!(rt; bytes(&bus, 0xffff), (None, None));
+    Ok(())
+}
+
+#[test]
+fn the_first_thing_in_the_way_is_told(rt: HostRuntime) -> Result<(), Fail> {
+    let (one, two, three) = (hart(1)?, hart(2)?, hart(3)?);
+    // hart 0 has read the line in its section, and hart 3 holds it; hart 2 comes to write it, and hart 1 behind
+    let mut bus = made(rt.alloc(), Mode::Tlr, &[0], false)?;
+    assert_eq!(rt; get(&mut bus, three, line(), Need::Read), served(&[])?);
+    assert!(rt; ask_for(&mut bus, two, line(), Need::Write));
+    assert_eq!(rt; order(&mut bus, two), ordered(&[])?);
+    assert!(rt; ask_for(&mut bus, one, line(), Need::Read));
+    assert_eq!(rt; order(&mut bus, one), ordered(&[])?);
+    // the head's hart is told though the line is retained and held
+    assert_eq!(rt; serve(&mut bus, one), blocked(Why::Behind, 2)?);
+    // the section's hart is told though the line is held
+    assert_eq!(rt; serve(&mut bus, two), blocked(Why::Retained, 0)?);
+    end_section(&mut bus, hart(0)?);
+    assert_eq!(rt; serve(&mut bus, two), blocked(Why::Locked, 3)?);
+    assert_eq!(rt; letter(&bus, two, line()), Letter::I);
+    give_up(&mut bus, three);
+    assert_eq!(rt; serve(&mut bus, two), served(&[])?);
+    assert_eq!(rt; letter(&bus, two, line()), Letter::M);
+    assert_eq!(rt; serve(&mut bus, two), Some(Outcome::Idle));
+    // hart 2 has no section, so it holds the line now
+    assert_eq!(rt; serve(&mut bus, one), blocked(Why::Locked, 2)?);
+    give_up(&mut bus, two);
+    assert_eq!(rt; serve(&mut bus, one), served(&[])?);
+    Ok(())
+}
+
+#[test]
+fn the_least_hart_that_retains_is_told(rt: HostRuntime) -> Result<(), Fail> {
+    let three = hart(3)?;
+    let mut bus = made(rt.alloc(), Mode::Tlr, &[0, 1, 2], false)?;
+    assert!(rt; ask_for(&mut bus, three, line(), Need::Write));
+    assert_eq!(rt; order(&mut bus, three), ordered(&[])?);
+    assert_eq!(rt; serve(&mut bus, three), blocked(Why::Retained, 0)?);
+    end_section(&mut bus, hart(1)?);
+    assert_eq!(rt; serve(&mut bus, three), blocked(Why::Retained, 0)?);
+    end_section(&mut bus, hart(0)?);
+    assert_eq!(rt; serve(&mut bus, three), blocked(Why::Retained, 2)?);
+    end_section(&mut bus, hart(2)?);
+    assert_eq!(rt; serve(&mut bus, three), served(&[])?);
+    Ok(())
+}
+
+/// Hart 0 gets the next line in its section, with this need; and then what Order and Serve say of a request of
+/// hart 1, which has none, to read it.
+fn after_section(alloc: Global, need: Need) -> Result<(Option<Outcome>, Option<Outcome>), Fail> {
+    let mut bus = made(alloc, Mode::Sle, &[0], false)?;
+    if get(&mut bus, hart(0)?, next_line(), need) != served(&[])? {
+        return Err("the section did not get its line".into());
+    }
+    if !ask_for(&mut bus, hart(1)?, next_line(), Need::Read) {
+        return Err("no second request".into());
+    }
+    let faced = order(&mut bus, hart(1)?);
+    Ok((faced, serve(&mut bus, hart(1)?)))
+}
+
+#[test]
+fn a_section_gets_a_bit_and_holds_no_line(rt: HostRuntime) -> Result<(), Fail> {
+    // a read meets the write bit alone, and in elision it wins; the section holds no line, so nothing is in the way
+    let written = (ordered(&[(0, 1)])?, served(&[])?);
+    assert_eq!(rt; after_section(rt.alloc(), Need::Write)?, written);
+    let read = (ordered(&[])?, served(&[])?);
+    assert_eq!(rt; after_section(rt.alloc(), Need::Read)?, read);
+    Ok(())
+}
+
+/// Harts 0 and 1 have sections, and hart 0 has read the next line. Hart 1 comes to write it, and what Order says.
+fn met(alloc: Global, mode: Mode) -> Result<(Bus, Option<Outcome>), Fail>
+    ensures { IfOk result (λ met. IsReady (kept met.0)) }
+{
+    let mut bus = made(alloc, mode, &[0, 1], false)?;
+    if get(&mut bus, hart(0)?, next_line(), Need::Read) != served(&[])? {
+        return Err("the section did not get its line".into());
+    }
+    if !ask_for(&mut bus, hart(1)?, next_line(), Need::Write) {
+        return Err("no second request".into());
+    }
+    let outcome = order(&mut bus, hart(1)?);
+    Ok((bus, outcome))
+}
+
+#[test]
+fn a_chain_of_two_waits_in_lock_removal(rt: HostRuntime) -> Result<(), Fail> {
+    let (zero, one) = (hart(0)?, hart(1)?);
+    let (_, outcome) = met(rt.alloc(), Mode::Sle)?;
+    assert_eq!(rt; outcome, ordered(&[(0, 1)])?);
+
+    let (mut bus, outcome) = met(rt.alloc(), Mode::Tlr)?;
+    assert_eq!(rt; outcome, ordered(&[])?);
+    assert_eq!(rt; letter(&bus, zero, next_line()), Letter::E);
+    assert_eq!(rt; serve(&mut bus, one), blocked(Why::Retained, 0)?);
+    // its own request goes in front, and is served
+    assert!(rt; ask_for(&mut bus, zero, next_line(), Need::Write));
+    assert_eq!(rt; order(&mut bus, zero), ordered(&[])?);
+    assert_eq!(rt; serve(&mut bus, one), blocked(Why::Behind, 0)?);
+    assert_eq!(rt; serve(&mut bus, zero), served(&[])?);
+    assert_eq!(rt; serve(&mut bus, one), blocked(Why::Retained, 0)?);
+    // the section commits
+    end_section(&mut bus, zero);
+    assert_eq!(rt; serve(&mut bus, one), served(&[])?);
+    assert_eq!(rt; letter(&bus, zero, next_line()), Letter::I);
+    assert_eq!(rt; letter(&bus, one, next_line()), Letter::M);
+    Ok(())
+}
+
+#[test]
+fn an_event_that_has_nothing_to_do_is_idle(rt: HostRuntime) -> Result<(), Fail> {
+    let zero = hart(0)?;
+    let mut bus = made(rt.alloc(), Mode::Tlr, &[], false)?;
+    assert_eq!(rt; order(&mut bus, zero), Some(Outcome::Idle));
+    assert_eq!(rt; serve(&mut bus, zero), Some(Outcome::Idle));
+    assert_eq!(rt; deliver(&mut bus, zero), Some(Outcome::Idle));
+    // a raised request is nothing to serve, and an ordered one nothing to order
+    assert!(rt; ask_for(&mut bus, zero, line(), Need::Read));
+    assert_eq!(rt; serve(&mut bus, zero), Some(Outcome::Idle));
+    assert_eq!(rt; order(&mut bus, zero), ordered(&[])?);
+    assert_eq!(rt; order(&mut bus, zero), Some(Outcome::Idle));
+    assert_eq!(rt; serve(&mut bus, zero), served(&[])?);
+    assert_eq!(rt; serve(&mut bus, zero), Some(Outcome::Idle));
+    Ok(())
+}

@@ -6,6 +6,8 @@ pub mod Faced
 pub mod NewBits
 pub mod Over
 pub mod Worked
+pub mod AtTheChain
+pub mod AttemptsAtTheChain
 pub mod AllWait
 pub mod WithoutStamps
 pub mod LeastStamp

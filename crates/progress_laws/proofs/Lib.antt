@@ -8,6 +8,7 @@ pub mod Over
 pub mod Worked
 pub mod AtTheChain
 pub mod AttemptsAtTheChain
+pub mod AfterRollbacks
 pub mod AllWait
 pub mod WithoutStamps
 pub mod LeastStamp

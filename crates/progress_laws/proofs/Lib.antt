@@ -9,6 +9,7 @@ pub mod Worked
 pub mod AtTheChain
 pub mod AttemptsAtTheChain
 pub mod AfterRollbacks
+pub mod LaterAttempts
 pub mod AllWait
 pub mod WithoutStamps
 pub mod LeastStamp

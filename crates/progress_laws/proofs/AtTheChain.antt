@@ -1,8 +1,9 @@
 -- what the laws of sections say, computed at one worked state: four harts in lock removal, of which hart 1 has written line B, number
 -- 1025, in its section, and harts 2, 3 and 0 wait for B in this order. Line A, number 1024, has the lock word. Lists are by ascending
 -- hart: what stands at place h is said of hart h
-use Rattle.std.specs.Prelude.{count_by, is_some, nat_lt}
+use Rattle.std.specs.Prelude.{count_by, is_some, nat_lt, slice_index}
 use Rattle.std.specs.List.{list_all}
+use Rattle.std.specs.Option.{option_map}
 use Rattle.std.proofs.Common.{◌≡◌, ◌++◌, ◌==◌, ℕ, Bool, true, false, List, [], ◌∷◌, length, map, replicate, None, Some, refl, if◌then◌else◌}
 use Rattle.cache_sets.specs.Cache.{has_marks, letter_of, room_of, way_of, write_bit, write_bits_of}
 use Rattle.chronicle.specs.Serial.{serial}
@@ -11,14 +12,18 @@ use Rattle.el_base.specs.declared.events.Event.{Event}
 use Rattle.el_base.specs.declared.events.Kind.TheVariants.{Step, Order, Serve, Deliver}
 use Rattle.el_base.specs.declared.outcomes.Outcome.TheVariants.{Committed, Stalled}
 use Rattle.el_model.proofs.Computing.{computing}
-use Rattle.el_model.proofs.Given.{event, section}
+use Rattle.el_model.proofs.Given.{ascending, event, patched, section}
 use Rattle.el_model.proofs.Rows.ChainOfFour as chain
+use Rattle.el_model.proofs.Rows.Given.{usual}
 use Rattle.el_model.specs.InSection.{shown_in}
-use Rattle.el_model.specs.Next.{entries_from, next, state_after}
+use Rattle.el_model.specs.Next.{entries_from, next, shown_of, state_after}
 use Rattle.el_model.specs.State.{Hart, ModelState, cache_of, hart_of, is_live, raised_of, section_of}
 use Rattle.el_model.specs.Upcoming.{is_release}
 use Rattle.mail.specs.Mailbox.{Marker, Probe}
 use Rattle.moesi.specs.declared.letter.Letter.TheVariants.{I, M, S}
+use Rattle.rv_alu.specs.declared.view.HartStatus.TheVariants.{Running}
+use Rattle.rv_alu.specs.declared.view.HartView.{HartView}
+use Rattle.rv_flat.specs.FlatState.{view_of}
 use Rattle.section_laws.specs.Messages.{origins, senders}
 use Rattle.section_laws.specs.Sections.{begins, commits, count_of, loses, rolls_back}
 
@@ -82,6 +87,11 @@ raised_first : waits_of (state_after chain.first (event Step 0 ∷ [])) ≡ (tru
 unfolding computing
 raised_first = refl
 
+-- the raised request is its own
+raised_is_own : option_map (λ request. request.hart) (raised_of (state_after chain.first (event Step 0 ∷ [])) 0) ≡ Some 0
+unfolding computing
+raised_is_own = refl
+
 then_ordered : waits_of (state_after chain.first (event Step 0 ∷ event Order 0 ∷ [])) ≡ (false, 1, false)
 unfolding computing
 then_ordered = refl
@@ -108,6 +118,7 @@ written : map (λ hart. write_bit hart.cache 1025) waiting.harts ≡ false ∷ t
 unfolding computing
 written = refl
 
+-- and line B is in no other cache
 elsewhere_in_no_cache : map (λ hart. is_some (way_of hart.cache 1025)) waiting.harts ≡ false ∷ true ∷ false ∷ false ∷ []
 unfolding computing
 elsewhere_in_no_cache = refl
@@ -147,7 +158,12 @@ before_each : map (λ hart. hart.upstream) probed.harts ≡ (3 ∷ []) ∷ [] �
 unfolding computing
 before_each = refl
 
--- once all is delivered, each hart was told of others alone, and of each once
+-- once all is delivered, hart 1 was told of harts 0, 2 and 3, hart 2 of 0 and 3, and hart 3 of 0
+told_harts : map (λ hart. ascending hart.told) delivered.harts ≡ [] ∷ (0 ∷ 2 ∷ 3 ∷ []) ∷ (0 ∷ 3 ∷ []) ∷ (0 ∷ []) ∷ []
+unfolding computing
+told_harts = refl
+
+-- and of each once, as the lists are no longer
 told_of : map (λ hart. length hart.told) delivered.harts ≡ 0 ∷ 3 ∷ 2 ∷ 1 ∷ []
 unfolding computing
 told_of = refl
@@ -161,7 +177,8 @@ probes : map (λ hart. length (origins hart.mail)) probed.harts ≡ 0 ∷ 0 ∷ 
 unfolding computing
 probes = refl
 
--- a step of a hart that waits is stalled, and that of hart 1 commits
+-- a step of a hart that waits is stalled, and that of hart 1 commits. `ChainOfFour` has steps that miss a line and buffer an
+-- instruction, and `AfterRollbacks` has one that rolls back
 steps : map (λ h. (next waiting (event Step h)).outcome) (0 ∷ 1 ∷ 2 ∷ 3 ∷ []) ≡ Stalled ∷ Committed 3 ∷ Stalled ∷ Stalled ∷ []
 unfolding computing
 steps = refl
@@ -217,7 +234,36 @@ same_section : map (λ state. section_of state 1) (waiting ∷ state_after waiti
 unfolding computing
 same_section = refl
 
+-- it ends in the same view, before and after
+abbrev shown : HartView
+shown = record { pc = 135176; regs = patched (replicate 32 0) usual; reserved = None; status = Running }
+
+shown_before : shown_of waiting 1 ≡ shown
+unfolding computing
+shown_before = refl
+
+shown_after : shown_of (state_after waiting taking) 1 ≡ shown
+unfolding computing
+shown_after = refl
+
 -- the release of hart 1 comes next, and its step commits, as `steps` has it
 release_is_next : is_release (shown_in waiting 1 (section 2 65536 0 1)) 1 65536 0 ≡ true
 unfolding computing
 release_is_next = refl
+
+-- all three take effect at once: before, hart 1 is at its acquire and its store is not committed; after, it is past its release and it is
+store_before : slice_index waiting.committed.bytes 64 ≡ 0
+unfolding computing
+store_before = refl
+
+store_after : slice_index (next waiting (event Step 1)).state.committed.bytes 64 ≡ 5
+unfolding computing
+store_after = refl
+
+counter_before : (view_of waiting.committed 1).pc ≡ 135168
+unfolding computing
+counter_before = refl
+
+counter_after : (view_of (next waiting (event Step 1)).state.committed 1).pc ≡ 135180
+unfolding computing
+counter_after = refl

@@ -6,6 +6,10 @@ pub mod Faced
 pub mod NewBits
 pub mod Over
 pub mod Worked
+pub mod AtTheChain
+pub mod AttemptsAtTheChain
+pub mod AfterRollbacks
+pub mod LaterAttempts
 pub mod AllWait
 pub mod WithoutStamps
 pub mod LeastStamp

@@ -11,6 +11,7 @@ ghost use Rattle.snoop.specs.Shows.{IsReady, kept};
 
 mod delivering;
 mod events;
+mod making;
 mod ordering;
 mod serving;
 

@@ -1,0 +1,59 @@
+//! A bus before its first event.
+
+ghost use Rattle.std.specs.Prelude.{IfOk};
+ghost use Rattle.snoop.specs.Shows.{IsReady, kept};
+
+use super::*;
+use crate::asked::Asked;
+
+/// The bus of as many harts over the image, or why there is none.
+fn first_bus(alloc: Global, harts: u8) -> Result<Bus, Fail>
+    ensures { IfOk result (λ bus. IsReady (kept bus)) }
+{
+    let config = Config {
+        harts,
+        ..Config::usual()
+    };
+    if config.check().is_err() {
+        return Err("no such bus".into());
+    }
+    let image = load(alloc, &HEADER, config.harts).map_err(|_| "no image")?;
+    if image.harts() != config.harts {
+        return Err("an image for other harts".into());
+    }
+    Ok(Bus::make(alloc, &image, &config)?)
+}
+
+/// What a hart has asked, or nothing where it is not there.
+fn asked(bus: &Bus, hart: HartId) -> Option<Asked> {
+    if usize::from(hart.number) < bus.harts() {
+        Some(bus.request(hart))
+    } else {
+        None
+    }
+}
+
+#[test]
+fn a_first_bus_has_the_image_and_no_request(rt: HostRuntime) -> Result<(), Fail> {
+    for harts in [1, 2, 8] {
+        let bus = first_bus(rt.alloc(), harts)?;
+        assert_eq!(rt; bus.harts(), usize::from(harts));
+        for number in 0..harts {
+            assert_eq!(rt;
+                asked(&bus, hart(number)?),
+                Some(Asked::Nothing),
+                "hart {number}"
+            );
+        }
+        for (address, byte) in [
+            (0xffff, None),
+            (0x10000, Some(0x7f)),
+            (0x10001, Some(0x45)),
+            (0x10054, Some(0x73)),
+            (0x10058, Some(0)),
+        ] {
+            assert_eq!(rt; bus.byte(address), byte, "at {address:x}");
+        }
+    }
+    Ok(())
+}

@@ -1,40 +1,22 @@
 -- a program that comes to a live section: the law of covered runs says something of it
 use Rattle.std.specs.Prelude.{slice_index}
-use Rattle.std.proofs.Common.{◌≡◌, ◌<◌, ℕ, zero, suc, List, [], ◌∷◌, Some, replicate, refl, arith}
+use Rattle.std.proofs.Common.{◌≡◌, ◌<◌, ℕ, zero, suc, [], ◌∷◌, Some, replicate, refl, arith}
 use Rattle.el_base.specs.LineAddr.{line_addr}
 use Rattle.el_base.specs.declared.config.Config.{Config}
 use Rattle.el_base.specs.declared.config.Mode.TheVariants.{Sle}
-use Rattle.el_base.specs.declared.events.Event.{Event}
-use Rattle.el_base.specs.declared.events.Kind.TheVariants.{Step, Order, Serve}
 use Rattle.el_base.specs.declared.outcomes.Need.TheVariants.{Read}
 use Rattle.el_base.specs.declared.outcomes.Outcome.TheVariants.{Began, Missed, Ordered, Ran, Served}
-use Rattle.elf_image.specs.Program.{Program}
 use Rattle.el_model.proofs.Computing.{computing}
-use Rattle.el_model.proofs.Given.{bytes_of, event, lost, section}
-use Rattle.el_model.proofs.Rows.Given.{code_at, settings, swap}
+use Rattle.el_model.proofs.Given.{lost, section}
+use Rattle.el_model.proofs.Rows.Given.{settings}
 use Rattle.el_model.specs.Next.{after, outcomes}
 use Rattle.el_model.specs.State.{cache_of, section_of}
 use Rattle.run_laws.proofs.Reachable.{live_sections_run_covered}
 use Rattle.run_laws.specs.PrivateRun.{IsCoveredRun}
-
--- lui x10, 16; addi x5, x0, 1; amoswap.w x7, x5, (x10)
-abbrev words : List ℕ
-words = 66871 ∷ 1049235 ∷ swap 7 5 10 ∷ []
-
-abbrev program : Program
-program = record {
-  base = 65536;
-  bytes = replicate 64 0;
-  entry = code_at 0;
-  harts = 1;
-  code = record { start = code_at 0; bytes = bytes_of words } ∷ [];
-}
+use Rattle.section_laws.proofs.FullSet.{events, program}
 
 abbrev config : Config
 config = settings 1 Sle 16 4 16 2000
-
-abbrev events : List Event
-events = event Step 0 ∷ event Step 0 ∷ event Step 0 ∷ event Order 0 ∷ event Serve 0 ∷ event Step 0 ∷ []
 
 outcomes_are : outcomes program config events
     ≡ Ran ∷ Ran ∷ Missed (line_addr 1024) Read ∷ Ordered (lost ([])) ∷ Served (lost ([])) ∷ Began ∷ []

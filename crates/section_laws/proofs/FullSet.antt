@@ -19,10 +19,10 @@ use Rattle.section_laws.specs.Bounds.{IsShaped}
 use Rattle.section_laws.proofs.Bounds.{caches_are_shaped}
 
 -- lui x10, 16; addi x5, x0, 1; amoswap.w x7, x5, (x10)
-abbrev words : List ℕ
+abbrev pub words : List ℕ
 words = 66871 ∷ 1049235 ∷ swap 7 5 10 ∷ []
 
-abbrev program : Program
+abbrev pub program : Program
 program = record {
   base = 65536;
   bytes = replicate 64 0;
@@ -35,7 +35,7 @@ program = record {
 abbrev config : Config
 config = settings 1 Sle 1 1 16 2000
 
-abbrev events : List Event
+abbrev pub events : List Event
 events = event Step 0 ∷ event Step 0 ∷ event Step 0 ∷ event Order 0 ∷ event Serve 0 ∷ event Step 0 ∷ []
 
 -- the swap begins a section, with its line in the only way

@@ -1,5 +1,6 @@
 //! The state after the last event.
 
+use crate::caches::cache_agrees;
 use crate::difference::Difference;
 use crate::field::{byte, element, list, member, word};
 use el_base::HartId;
@@ -15,23 +16,31 @@ const STACK_POINTER: usize = 2;
 pub fn end_agrees(machine: &Machine, run: &Value) -> Result<(), Difference> {
     let end = member(run, "end")?;
     for (number, hart) in list(member(end, "harts")?)?.iter().enumerate() {
-        if !hart_agrees(machine, number, hart)? {
+        if !hart_agrees(machine, run, number, hart)? {
             return Err(Difference::Hart { number });
         }
     }
     bytes_agree(machine, run, list(member(end, "bytes_unlike_0")?)?)
 }
 
-/// Whether a hart has the committed pc and registers that are told of it.
-fn hart_agrees(machine: &Machine, number: usize, told: &Value) -> Result<bool, Difference> {
+/// Whether a hart has the committed pc and registers, and the cache, that are told of it.
+fn hart_agrees(
+    machine: &Machine,
+    run: &Value,
+    number: usize,
+    told: &Value,
+) -> Result<bool, Difference> {
     let number = u8::try_from(number).map_err(|_| Difference::Form)?;
     let hart = HartId::new(number).ok_or(Difference::Form)?;
     if hart.number >= machine.config().harts {
         return Err(Difference::Form);
     }
     let view = machine.hart(hart);
-    Ok(view.pc == word(member(told, "pc")?)?
-        && registers_agree(&view, list(member(told, "registers")?)?)?)
+    Ok(
+        view.pc == word(member(told, "pc")?)?
+            && registers_agree(&view, list(member(told, "registers")?)?)?
+            && cache_agrees(machine, hart, run, member(told, "cache")?)?,
+    )
 }
 
 /// Whether the registers of a view, but for the stack pointer, are those of a list.

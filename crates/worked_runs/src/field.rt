@@ -34,3 +34,8 @@ pub fn byte(value: &Value) -> Result<u8, Difference> {
 pub fn text(value: &Value) -> Result<&str, Difference> {
     value.as_str().ok_or(Difference::Form)
 }
+
+/// Whether something is so.
+pub fn truth(value: &Value) -> Result<bool, Difference> {
+    value.as_bool().ok_or(Difference::Form)
+}

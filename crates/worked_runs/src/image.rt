@@ -11,6 +11,7 @@ const CODE_PLACE: u32 = 52 + 2 * 32;
 
 /// A segment that is readable and writable, and one that is readable and executable.
 const DATA: u32 = 6;
+
 const CODE: u32 = 5;
 
 /// The file of a run's program (ELF-32, chapter 1 'Object Files'; header values of the RISC-V psABI).
@@ -53,7 +54,16 @@ fn header(entry: u32) -> [u32; 13] {
 
 /// A program header of a load segment.
 fn program_header(address: u32, file_size: u32, memory_size: u32, flags: u32) -> [u32; 8] {
-    [1, CODE_PLACE, address, address, file_size, memory_size, flags, 4]
+    [
+        1,
+        CODE_PLACE,
+        address,
+        address,
+        file_size,
+        memory_size,
+        flags,
+        4,
+    ]
 }
 
 /// Puts words behind a file, little-endian.

@@ -5,6 +5,7 @@
 //! files are in `data/`; README.md tells their form.
 #![tactic(auto)]
 
+mod caches;
 mod difference;
 mod ending;
 mod field;

@@ -1,5 +1,5 @@
 -- what holds of the view and the hold that the code keeps of a live section
-use Rattle.std.specs.Prelude.{ℕ, ◌≡◌, ◌+◌, ◌%◌, ◌^◌, ◌<◌, Bool, true, ◌||◌, List, [], length, Option, None, Some, slice_index}
+use Rattle.std.specs.Prelude.{ℕ, ◌≡◌, ◌+◌, ◌%◌, ◌^◌, ◌<◌, Bool, true, List, [], length, Option, None, Some, slice_index}
 use Rattle.cache_sets.specs.Residency.{Way}
 use Rattle.core_step.specs.Port.{byte_of}
 use Rattle.el_base.specs.Line.{line_number}
@@ -7,7 +7,7 @@ use Rattle.el_base.specs.declared.line.TheConstants.{LINE_BYTES}
 use Rattle.elf_image.specs.Program.{code_word}
 use Rattle.el_model.specs.State.{Section}
 use Rattle.el_model.specs.Upcoming.{Swap, is_release, next_access, next_execution, next_swap}
-use Rattle.rv_alu.specs.Execution.{Execution, Store, insn_at, put_of, release_of, store_in, view_after}
+use Rattle.rv_alu.specs.Execution.{Store, insn_at, put_of, release_of, store_in, view_after}
 use Rattle.rv_alu.specs.Footprint.{Touches}
 use Rattle.rv_alu.specs.Regs.{get}
 use Rattle.rv_alu.specs.declared.action.Action.TheVariants as actions

@@ -68,7 +68,8 @@ module _ (committed : FlatState) (h : ℕ) (swap : Swap) (runs : status_of commi
   only_first : (line : ℕ) → WroteLine committed h 1 line → is_written swap.word [] line ≡ true
   only_first line wrote =
       let none : wrote.step ≡ 0 = let before = wrote.before in omega arith in
-      let written : written_line (footprint_of committed h) ≡ Some line = subst (λ n. written_line (footprint_of (alone committed h n) h) ≡ Some line) none wrote.writes in
+      let written : written_line (footprint_of committed h) ≡ Some line =
+      subst (λ n. written_line (footprint_of (alone committed h n) h) ≡ Some line) none wrote.writes in
       let same : line_number swap.word ≡ line = line_is _ line (sym (word_written committed h swap.word swap.new runs first.stores) ∙ written) in
       subst (λ line. is_written swap.word [] line ≡ true) same (ap (λ test. test || holds [] (line_number swap.word)) (own_test (line_number swap.word)))
 

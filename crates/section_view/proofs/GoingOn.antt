@@ -1,5 +1,6 @@
 -- a section goes on by a covered instruction
-use Rattle.std.proofs.Common.{◌≡◌, ◌≤◌, ◌<◌, ◌+◌, ◌-◌, ◌*◌, ◌%◌, ◌∙◌, ◌==◌, ℕ, Bool, true, false, List, Option, None, Some, length, arith, refl, ap, sym, subst, inl, inr, ◌⊎◌, nat_le, nat_lt}
+use Rattle.std.proofs.Common.{◌≡◌, ◌≤◌, ◌<◌, ◌+◌, ◌-◌, ◌*◌, ◌%◌, ◌∙◌, ◌==◌, ℕ, Bool, true, false, List, Option, None, Some, length, nat_le, nat_lt}
+use Rattle.std.proofs.Common.{arith, refl, ap, sym, subst, inl, inr, ◌⊎◌}
 use Rattle.std.specs.Prelude.{MatchOption, slice_index}
 use Rattle.std.proofs.lemmas.Bool.{cases_eq}
 use Rattle.std.proofs.lemmas.Bool.Decides.{nat_tests}
@@ -47,6 +48,9 @@ data IsPutAt (store : Store) (old new : Held) (address : ℕ) : Type 0 where
 put_at : (store : Store) (old new : Held) → IsHeldStore store old new → (address : ℕ) → IsPutAt store old new address
 put_at store old new stored address = by (nat_le store.address address) (nat_lt address (store.address + store.len)) refl refl
   where
+    at : ℕ
+    at = line_number store.address * LINE_BYTES + store.address % LINE_BYTES
+
     start : line_number store.address * LINE_BYTES + store.address % LINE_BYTES ≡ store.address
     start = omega arith
 
@@ -57,7 +61,7 @@ put_at store old new stored address = by (nat_le store.address address) (nat_lt 
         let count : length stored.bytes ≡ store.len = stored.low.count in
         Covered from below
         (stored.put.put address
-        ∙ laid_inside (line_number store.address * LINE_BYTES + store.address % LINE_BYTES) stored.bytes address (held old.entries address)
+        ∙ laid_inside at stored.bytes address (held old.entries address)
         (omega (arith, start)) (omega (arith, start))
         ∙ ap (λ start. Some (slice_index stored.bytes (address - start))) start
         ∙ ap Some (stored.low.each (address - store.address) (omega arith)))
@@ -66,12 +70,12 @@ put_at store old new stored address = by (nat_le store.address address) (nat_lt 
         let count : length stored.bytes ≡ store.len = stored.low.count in
         Kept (λ from below. omega arith)
         (stored.put.put address
-        ∙ laid_above (line_number store.address * LINE_BYTES + store.address % LINE_BYTES) stored.bytes address (held old.entries address) (omega (arith, start)))
+        ∙ laid_above at stored.bytes address (held old.entries address) (omega (arith, start)))
     by false high low is =
         let before : address < store.address = grind (arith, nat_tests) in
         Kept (λ from below. omega arith)
         (stored.put.put address
-        ∙ laid_below (line_number store.address * LINE_BYTES + store.address % LINE_BYTES) stored.bytes address (held old.entries address) (omega (arith, start)))
+        ∙ laid_below at stored.bytes address (held old.entries address) (omega (arith, start)))
 
 -- the line of a store is held after it, and those that were held
 stored_line : (store : Store) (old new : Held) → IsHeldStore store old new → (line : ℕ) → holds new.entries line ≡ true →
@@ -103,7 +107,8 @@ no_store : (state : FlatState) (h : ℕ) → status_of state h ≡ Running → n
 no_store state h runs none =
     ap written_line (running_footprint state h runs) ∙ written_store (next_access state h) (by (next_store state h) none (within state (view_of state h)).store)
   where
-    by : (store : Option Store) → store ≡ None → MatchOption store (IsNoWrite (next_access state h)) (λ store. next_access state h ≡ Write store.address store.len) →
+    by : (store : Option Store) → store ≡ None →
+        MatchOption store (IsNoWrite (next_access state h)) (λ store. next_access state h ≡ Write store.address store.len) →
         IsNoWrite (next_access state h)
     by None none access = access
     by (Some store) none access = absurd (cc)

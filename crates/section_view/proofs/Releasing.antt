@@ -38,7 +38,8 @@ swaps_act committed h swap op rd rs1 rs2 aq rl is means =
     swap_acts (code_word committed.code view.pc) committed view op rd rs1 rs2 aq rl swap.word 4 refl means (acquires committed h swap is).stores.writes
 
 -- and a store of a word
-store_acts : (state : FlatState) (view : HartView) (word len : ℕ) (found : IsWordStore (code_word state.code view.pc)) → touched_by state view ≡ Write word len →
+store_acts : (state : FlatState) (view : HartView) (word len : ℕ) (found : IsWordStore (code_word state.code view.pc)) →
+    touched_by state view ≡ Write word len →
     action_of state view ≡ actions.Store word len (get view.regs found.rs2.number)
 store_acts state view word len found writes =
     rw found.here

@@ -8,3 +8,5 @@ mod Releasing
 mod OthersViews
 mod Lines
 mod Committing
+mod OfProgram
+mod Worked

@@ -1,5 +1,5 @@
--- what a hart's steps alone keep of the state, and of the output
-use Rattle.std.proofs.Common.{◌≡◌, ◌≤◌, ◌<◌, ◌+◌, ◌-◌, ◌∙◌, ℕ, zero, suc, false, List, length, arith, refl, ap, sym, subst}
+-- what steps keep of the state, and a covered run of the output
+use Rattle.std.proofs.Common.{◌≡◌, ◌≤◌, ◌<◌, ◌+◌, ◌-◌, ◌∙◌, ℕ, zero, suc, false, List, [], ◌∷◌, length, replicate, arith, refl, ap, sym, subst}
 use Rattle.cache_sets.specs.Residency.{Way}
 use Rattle.elf_image.specs.Program.{code_word}
 use Rattle.el_model.specs.State.{Section}
@@ -11,7 +11,7 @@ use Rattle.rv_alu.specs.declared.view.HartStatus.TheVariants.{Running}
 use Rattle.rv_flat.proofs.StepLaws.{keeps_shape, running}
 use Rattle.rv_flat.specs.FlatState.{FlatState, output_limit, room_of, span_of, status_of, view_of}
 use Rattle.rv_flat.specs.Laws.{next_insn, touched_by}
-use Rattle.rv_flat.specs.Run.{alone}
+use Rattle.rv_flat.specs.Run.{alone, run}
 use Rattle.rv_flat.specs.Step.{appended_by, flat}
 use Rattle.run_laws.proofs.Alike.{no_call}
 use Rattle.run_laws.proofs.Survival.{alone_more}
@@ -20,24 +20,27 @@ use Rattle.run_laws.proofs.WordStores.{acquires}
 use Rattle.run_laws.specs.PrivateRun.{IsCoveredRun}
 use Rattle.section_view.specs.Laws.{SectionsComeTo}
 
--- where memory lies, its code and its size, and how many harts there are
+-- memory lies at the same place and has the same size, and the code and the number of harts are the same
 pub record SameShape (old new : FlatState) : Type 0 where
   pub base : new.base ≡ old.base
   pub code : new.code ≡ old.code
   pub size : length new.bytes ≡ length old.bytes
   pub harts : length new.harts ≡ length old.harts
 
-pub alone_shape : (state : FlatState) (h n : ℕ) → SameShape state (alone state h n)
-alone_shape state h zero = record { base = refl; code = refl; size = refl; harts = refl }
-alone_shape state h (suc n) =
-    let step = keeps_shape state h in
-    let rest = alone_shape (flat state h) h n in
+pub run_shape : (state : FlatState) (harts : List ℕ) → SameShape state (run state harts)
+run_shape state [] = record { base = refl; code = refl; size = refl; harts = refl }
+run_shape state (hart ∷ harts) =
+    let step = keeps_shape state hart in
+    let rest = run_shape (flat state hart) harts in
     record {
       base = rest.base ∙ step.base;
       code = rest.code ∙ step.code;
       size = rest.size ∙ step.length_of_bytes;
       harts = rest.harts ∙ step.harts;
     }
+
+pub alone_shape : (state : FlatState) (h n : ℕ) → SameShape state (alone state h n)
+alone_shape state h n = run_shape state (replicate n h)
 
 -- an instruction that makes no call leaves the output
 pub quiet_step : (state : FlatState) (h : ℕ) → status_of state h ≡ Running → calls_or_stops state h ≡ false → (flat state h).output ≡ state.output

@@ -1,7 +1,8 @@
 -- One hart elides a lock, stores a byte, and comes to its release: its view and a hold of that byte keep its run, and it takes effect.
 -- What the laws do not say is refuted on the same run.
 use Rattle.std.proofs.Common.{◌≡◌, ◌≤◌, ◌<◌, ◌+◌, ◌-◌, ◌*◌, ◌/◌, ◌%◌, ◌^◌, ◌∙◌, ◌&&◌, ◌==◌, ℕ, zero, suc, Bool, true}
-use Rattle.std.proofs.Common.{false, List, [], ◌∷◌, Option, None, Some, nat_le, nat_lt, arith, refl, ap, sym, inl, inr, ◌⊎◌, if◌then◌else◌, replicate, option_and_then, subst}
+use Rattle.std.proofs.Common.{false, List, [], ◌∷◌, Option, None, Some, nat_le, nat_lt}
+use Rattle.std.proofs.Common.{arith, refl, ap, sym, inl, inr, ◌⊎◌, if◌then◌else◌, replicate, option_and_then, subst}
 use Rattle.std.specs.Prelude.{slice_index}
 use Rattle.std.proofs.lemmas.Bool.{cases_eq}
 use Rattle.std.proofs.lemmas.Bool.Decides.{nat_tests}

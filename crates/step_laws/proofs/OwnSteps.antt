@@ -1,14 +1,12 @@
 -- a hart stands after its step as its deed says
-use Rattle.std.proofs.Common.{◌≡◌, ◌∙◌, ◌<◌, ◌+◌, ℕ, List, length, refl, ap, sym, subst, inl, inr, ◌⊎◌, arith}
+use Rattle.std.proofs.Common.{◌≡◌, ◌∙◌, ◌<◌, ℕ, List, length, refl, ap, sym, subst, inl, inr, ◌⊎◌, arith}
 use Rattle.el_base.specs.declared.config.Config.{Config}
 use Rattle.el_base.specs.declared.events.Event.{Event}
 use Rattle.el_base.specs.declared.events.Kind.{Kind}
 use Rattle.el_base.specs.declared.events.Kind.TheVariants as kinds
-use Rattle.el_base.specs.declared.outcomes.Cause.{Cause}
 use Rattle.el_base.specs.declared.outcomes.Need.{Need}
-use Rattle.el_base.specs.declared.outcomes.Outcome.TheVariants as outcomes
 use Rattle.elf_image.specs.Program.{Program}
-use Rattle.el_model.specs.Deed.{Begins, Buffers, Commits, Deed, DoesWhere, Misses, MissesInside, MissesOutside, Rests, RollsBack, Runs, Waits, committed_after, done, hart_after, outcome_of}
+use Rattle.el_model.specs.Deed.{Begins, Buffers, Commits, Deed, DoesWhere, Misses, MissesInside, MissesOutside, Rests, RollsBack, Runs, Waits, done, hart_after, outcome_of}
 use Rattle.el_model.specs.Next.{after, kind_turn, next}
 use Rattle.el_model.specs.State.{ModelState, begin, hart_of}
 use Rattle.el_model.proofs.FromStart.{kept_after, steps_are_deeds}
@@ -20,7 +18,7 @@ use Rattle.rv_flat.specs.Run.{alone}
 use Rattle.section_laws.proofs.Lengths.{AsMany, first_as_many, next_as_many}
 use Rattle.section_laws.proofs.SectionSteps.{IsOfBus, of_bus}
 use Rattle.section_laws.proofs.Waiting.{is_rolled}
-use Rattle.step_laws.specs.OwnSteps.{CommitsSection, DoesDeed, OwnCommits, OwnDeeds, OwnRollbacks, RollsSectionBack}
+use Rattle.step_laws.specs.OwnSteps.{Does, OwnCommits, OwnDeeds, OwnOutcomes, OwnRollbacks, TellsOf}
 
 -- a hart that runs is one of the machine's
 exists : (state : ModelState) (h : ℕ) → AsMany state → status_of state.committed h ≡ Running → h < length state.harts
@@ -47,23 +45,39 @@ deed_stands state h (Commits section) many does =
 deed_stands state h (RollsBack section cause) many does =
     hart_of-with_hart_same state h _ (exists state h many (is_rolled state h section cause does).running)
 
-does_deed : (state : ModelState) (event : Event) → event.kind ≡ kinds.Step → AsMany state → DoesDeed state event
+does_deed : (state : ModelState) (event : Event) → event.kind ≡ kinds.Step → AsMany state → (deed : Deed) × Does state event deed
 does_deed state event is many =
     let h = event.hart.number in
     let step = steps_are_deeds state event is in
-    record {
-      deed = step.deed;
+    let stands : Does state event step.deed = record {
       where_it = step.where_it;
       outcome = ap (λ turn. turn.outcome) step.turn_is;
       committed = ap (λ turn. turn.state.committed) step.turn_is;
       hart = ap (λ turn. hart_of turn.state h) step.turn_is ∙ deed_stands state h step.deed many step.where_it;
-    }
+    } in
+    (step.deed, stands)
 
 always_as_many : (program : Program) (config : Config) (events : List Event) → AsMany (after program config events)
 always_as_many program config events = kept_after AsMany next_as_many (begin program config) events (first_as_many program config)
 
 pub own_deeds : OwnDeeds
 own_deeds program config events event is = does_deed (after program config events) event is (always_as_many program config events)
+
+tells_of : (state : ModelState) (event : Event) (deed : Deed) → Does state event deed → TellsOf state event (outcome_of deed)
+tells_of state event Rests does = does
+tells_of state event Waits does = does
+tells_of state event (Misses line need) does = (line, refl, does)
+tells_of state event (Runs touch) does = (touch, does)
+tells_of state event (Begins swap) does = (swap, does)
+tells_of state event (Buffers section touch) does = (section, touch, does)
+tells_of state event (Commits section) does = (section, refl, does)
+tells_of state event (RollsBack section cause) does = (section, does)
+
+pub own_outcomes : OwnOutcomes
+own_outcomes program config events event is =
+    let state = after program config events in
+    let (deed, does) = own_deeds program config events event is in
+    subst (TellsOf state event) (sym does.outcome) (tells_of state event deed does)
 
 -- an outcome that is none of the bus comes of a step
 step_by : (state : ModelState) (h : ℕ) (kind : Kind) → (IsOfBus (kind_turn state h kind).outcome → ⊥) → kind ≡ kinds.Step
@@ -76,69 +90,35 @@ is_step : (state : ModelState) (event : Event) → (IsOfBus (next state event).o
 unfolding next
 is_step state event other = step_by state event.hart.number event.kind other
 
--- a commit
-commits_by : (state : ModelState) (event : Event) (count : ℕ) → event.kind ≡ kinds.Step → (deed : Deed) →
-    DoesWhere state event.hart.number deed → outcome_of deed ≡ outcomes.Committed count →
-    (next state event).state.committed ≡ committed_after state event.hart.number deed →
-    hart_of (next state event).state event.hart.number ≡ hart_after state event.hart.number deed (hart_of state event.hart.number) →
-    CommitsSection state event count
-commits_by state event count step Rests does outcome committed hart = absurd (cc)
-commits_by state event count step Waits does outcome committed hart = absurd (cc)
-commits_by state event count step (Misses line need) does outcome committed hart = absurd (cc)
-commits_by state event count step (Runs touch) does outcome committed hart = absurd (cc)
-commits_by state event count step (Begins swap) does outcome committed hart = absurd (cc)
-commits_by state event count step (Buffers section touch) does outcome committed hart = absurd (cc)
-commits_by state event count step (RollsBack section cause) does outcome committed hart = absurd (cc)
-commits_by state event count step (Commits section) does outcome committed hart =
-    let e : section.count + 1 ≡ count = cc in
-    record {
-      step = step;
-      section = section;
-      live = does.goes_on.is_short.inside.live;
-      may = does;
-      count_is = sym e;
-      committed = committed ∙ ap (alone state.committed event.hart.number) e;
-      cache = ap (λ hart. hart.cache) hart;
-      hart = hart;
-    }
-
+-- a commit, and a rollback
 pub own_commits : OwnCommits
 own_commits program config events event count outcome =
     let state = after program config events in
+    let h = event.hart.number in
     let step = is_step state event (λ bus. subst IsOfBus outcome bus) in
-    let own = own_deeds program config events event step in
-    commits_by state event count step own.deed own.where_it (sym own.outcome ∙ outcome) own.committed own.hart
-
--- a rollback
-rolls_back_by : (state : ModelState) (event : Event) (cause : Cause) → event.kind ≡ kinds.Step → (deed : Deed) →
-    DoesWhere state event.hart.number deed → outcome_of deed ≡ outcomes.RolledBack cause →
-    (next state event).state.committed ≡ committed_after state event.hart.number deed →
-    hart_of (next state event).state event.hart.number ≡ hart_after state event.hart.number deed (hart_of state event.hart.number) →
-    RollsSectionBack state event cause
-rolls_back_by state event cause step Rests does outcome committed hart = absurd (cc)
-rolls_back_by state event cause step Waits does outcome committed hart = absurd (cc)
-rolls_back_by state event cause step (Misses line need) does outcome committed hart = absurd (cc)
-rolls_back_by state event cause step (Runs touch) does outcome committed hart = absurd (cc)
-rolls_back_by state event cause step (Begins swap) does outcome committed hart = absurd (cc)
-rolls_back_by state event cause step (Buffers section touch) does outcome committed hart = absurd (cc)
-rolls_back_by state event cause step (Commits section) does outcome committed hart = absurd (cc)
-rolls_back_by state event cause step (RollsBack section why) does outcome committed hart =
-    let e : why ≡ cause = cc in
-    let must = subst (DoesWhere state event.hart.number) (ap (RollsBack section) e) does in
-    let stands = hart ∙ ap (λ c. hart_after state event.hart.number (RollsBack section c) (hart_of state event.hart.number)) e in
+    let (section, count_is, does) = subst (TellsOf state event) outcome (own_outcomes program config events event step) in
     record {
       step = step;
       section = section;
-      live = (is_rolled state event.hart.number section why does).live;
-      must = must;
-      committed = committed;
-      cache = ap (λ hart. hart.cache) stands;
-      hart = stands;
+      live = does.where_it.goes_on.is_short.inside.live;
+      may = does.where_it;
+      count_is = count_is;
+      committed = does.committed ∙ ap (alone state.committed h) (sym count_is);
+      cache = ap (λ hart. hart.cache) does.hart;
+      hart = does.hart;
     }
 
 pub own_rollbacks : OwnRollbacks
 own_rollbacks program config events event cause outcome =
     let state = after program config events in
     let step = is_step state event (λ bus. subst IsOfBus outcome bus) in
-    let own = own_deeds program config events event step in
-    rolls_back_by state event cause step own.deed own.where_it (sym own.outcome ∙ outcome) own.committed own.hart
+    let (section, does) = subst (TellsOf state event) outcome (own_outcomes program config events event step) in
+    record {
+      step = step;
+      section = section;
+      live = (is_rolled state event.hart.number section cause does.where_it).live;
+      must = does.where_it;
+      committed = does.committed;
+      cache = ap (λ hart. hart.cache) does.hart;
+      hart = does.hart;
+    }

@@ -2,7 +2,7 @@ ghost use Rattle.step_laws.specs.Clocks.{ClocksAreFew};
 ghost use Rattle.step_laws.specs.Counts.{SectionsAreShort, WatchesAreShort};
 ghost use Rattle.step_laws.specs.Frames.{BusEventsKeep, StepsKeepOthers};
 ghost use Rattle.step_laws.specs.Losing.{OnlyLiveSectionsLose, WhatEndsASection};
-ghost use Rattle.step_laws.specs.OwnSteps.{OwnCommits, OwnDeeds, OwnRollbacks};
+ghost use Rattle.step_laws.specs.OwnSteps.{OwnCommits, OwnDeeds, OwnOutcomes, OwnRollbacks};
 ghost use Rattle.step_laws.specs.Survivors.{SurvivorsKeepBits, SurvivorsKeepWhatTheyShow};
 
 /// In every state that can be reached, no clock is greater than the number of the events: no hart's own clock, nor the
@@ -29,7 +29,8 @@ pub fn only_live_sections_lose()
     ensures { OnlyLiveSectionsLose }
 {}
 
-/// An event that is no step leaves what is committed as it was, and each hart's predictor. This is said of any state.
+/// An event that is no step leaves what is committed as it was, each hart's predictor, the configuration, and how many
+/// harts there are. This is said of any state.
 pub fn bus_events_keep()
     ensures { BusEventsKeep }
 {}
@@ -57,6 +58,11 @@ pub fn survivors_keep_what_they_show()
 /// is committed likewise. What a step leaves as it was is told by `steps_keep_others`.
 pub fn own_deeds()
     ensures { OwnDeeds }
+{}
+
+/// In every state that can be reached, the outcome of a step tells which deed its hart did, with all that the deed says.
+pub fn own_outcomes()
+    ensures { OwnOutcomes }
 {}
 
 /// In every state that can be reached, an event that comes out as `Committed` is a step of a hart with a live section: so

@@ -1,6 +1,7 @@
 -- no clock is greater than the number of the events: an attempt that closes makes one by one greater than two that were there, and
 -- every other change takes one that was there
-use Rattle.std.proofs.Common.{◌≡◌, ◌+◌, ◌≤◌, ◌==◌, ℕ, Bool, true, false, List, [], ◌∷◌, Option, None, Some, is_some, length, map, arith, if◌then◌else◌}
+use Rattle.std.proofs.Common.{◌≡◌, ◌+◌, ◌≤◌, ◌==◌, ℕ, Bool, true, false, List, [], ◌∷◌, Option, None, Some, is_some, length}
+use Rattle.std.proofs.Common.{map, arith, if◌then◌else◌}
 use Rattle.bus_order.specs.Order.{Request, appended, first_of, in_front_of, removed, request_of, tail_of}
 use Rattle.defer_list.specs.HartSet.{has, included}
 use Rattle.el_base.specs.declared.config.Config.{Config}
@@ -13,14 +14,19 @@ use Rattle.elf_image.specs.Program.{Program}
 use Rattle.el_model.specs.Attempts.{closed_clock, opened, see}
 use Rattle.el_model.specs.Conflicts.{stamp_in}
 use Rattle.el_model.specs.Deed.{Begins, Buffers, Commits, Deed, Misses, Rests, RollsBack, Runs, Waits, hart_after}
-use Rattle.el_model.specs.Deliver.{after_probe, deliver_next, deliver_turn, delivered, forwarded, forwards_on, loses_to_origin, taken, told_of, told_on}
-use Rattle.el_model.specs.Face.{Fate, LosesTo, Stays, Unmet, after_fate, deferring, faced, faced_hart, faced_if, fate_of, markers_for, winning_stamp}
+use Rattle.el_model.specs.Deliver.{after_probe, deliver_next, deliver_turn, delivered, forwarded, forwards_on}
+use Rattle.el_model.specs.Deliver.{loses_to_origin, taken, told_of, told_on}
+use Rattle.el_model.specs.Face.{Fate, LosesTo, Stays, Unmet, after_fate, deferring, faced, faced_hart, faced_if, fate_of}
+use Rattle.el_model.specs.Face.{markers_for, winning_stamp}
 use Rattle.el_model.specs.Next.{kind_turn, next, state_after, step_turn}
-use Rattle.el_model.specs.Order.{Alone, Behind, InFront, Place, before_face, marked_by, marked_from, marking, order_raised, order_turn, place_for, placed, placed_in_front, placed_last}
+use Rattle.el_model.specs.Order.{Alone, Behind, InFront, Place, before_face, marked_by, marked_from, marking, order_raised}
+use Rattle.el_model.specs.Order.{order_turn, place_for, placed, placed_in_front, placed_last}
 use Rattle.el_model.specs.Plain.{after_candidate, candidate_of}
 use Rattle.el_model.specs.RollBack.{beaten, most_tries, out_of_section}
-use Rattle.el_model.specs.Serve.{Blocks, Free, Obstacle, bystander, obstacle_to, serve_ordered, serve_past, serve_turn, served, served_hart, serving, with_claim}
-use Rattle.el_model.specs.State.{Hart, ModelState, begin, for_line, hart_of, head_of, new_hart, ordered_of, ordered_on, post_all, raised_of, with_hart}
+use Rattle.el_model.specs.Serve.{Blocks, Free, Obstacle, bystander, obstacle_to, serve_ordered, serve_past, serve_turn}
+use Rattle.el_model.specs.Serve.{served, served_hart, serving, with_claim}
+use Rattle.el_model.specs.State.{Hart, ModelState, begin, for_line, hart_of, head_of, new_hart, ordered_of, ordered_on}
+use Rattle.el_model.specs.State.{post_all, raised_of, with_hart}
 use Rattle.el_model.specs.Upcoming.{Swap}
 use Rattle.el_model.proofs.AllHarts.{all_each, all_first, all_with}
 use Rattle.el_model.proofs.Deeds.{step_deed}

@@ -155,20 +155,11 @@ kind_ends state event h kinds.Step is numbered live ended =
     (event.hart.number ≡ h) × HowItEnds (kind_turn state event.hart.number k).outcome) (sym is) (step_ends state event.hart.number h live) ended in
     inl (record { own = own.0; step = is; how = own.1 })
 kind_ends state event h kinds.Order is numbered live ended =
-    inr (bus_ends state event h numbered (λ step. kinds_differ (sym is ∙ step)) live ended _ refl)
-  where
-    kinds_differ : kinds.Order ≡ kinds.Step → ⊥
-    kinds_differ same = absurd (cc)
+    inr (bus_ends state event h numbered (λ step. absurd (cc)) live ended _ refl)
 kind_ends state event h kinds.Serve is numbered live ended =
-    inr (bus_ends state event h numbered (λ step. kinds_differ (sym is ∙ step)) live ended _ refl)
-  where
-    kinds_differ : kinds.Serve ≡ kinds.Step → ⊥
-    kinds_differ same = absurd (cc)
+    inr (bus_ends state event h numbered (λ step. absurd (cc)) live ended _ refl)
 kind_ends state event h kinds.Deliver is numbered live ended =
-    inr (bus_ends state event h numbered (λ step. kinds_differ (sym is ∙ step)) live ended _ refl)
-  where
-    kinds_differ : kinds.Deliver ≡ kinds.Step → ⊥
-    kinds_differ same = absurd (cc)
+    inr (bus_ends state event h numbered (λ step. absurd (cc)) live ended _ refl)
 
 pub what_ends_a_section : WhatEndsASection
 what_ends_a_section program config events event h same range live ended =

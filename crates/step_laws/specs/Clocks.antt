@@ -1,4 +1,4 @@
--- how great the clocks of a state are
+-- how large the clocks of a state are
 use Rattle.std.specs.Prelude.{ℕ, ◌≤◌, List, [], ◌∷◌, Option, None, Some, length}
 use Rattle.bus_order.specs.Order.{Request}
 use Rattle.el_base.specs.declared.config.Config.{Config}

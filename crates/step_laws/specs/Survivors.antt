@@ -1,14 +1,19 @@
--- what another hart's event leaves of a section that is live before it and after it
+-- what an event that is no step of a section's own hart leaves of the section, where it is live before and after
 use Rattle.std.specs.Prelude.{ℕ, ◌≡◌, ◌≢◌, true, List, Some}
 use Rattle.cache_sets.specs.Cache.{read_bit, write_bit}
 use Rattle.cache_sets.specs.Residency.{Way}
 use Rattle.el_base.specs.declared.config.Config.{Config}
 use Rattle.el_base.specs.declared.events.Event.{Event}
+use Rattle.el_base.specs.declared.events.Kind.TheVariants as kinds
 use Rattle.elf_image.specs.Program.{Program}
 use Rattle.el_model.specs.Next.{after, next}
 use Rattle.el_model.specs.State.{ModelState, Section, cache_of, is_live, section_of}
 use Rattle.rv_flat.specs.Memory.{AreBytes}
 use Rattle.run_laws.specs.PrivateRun.{IsChangeBeside, IsCoveredRun, ShowsTheSame}
+
+-- an event is no step of a hart: it is another hart's, or one of the bus
+abbrev pub IsNoStepOf : ℕ → Event → Type 0
+IsNoStepOf g event = event.kind ≡ kinds.Step → event.hart.number ≢ g
 
 -- each bit of a cache is still there
 pub record HasItsBits (old new : List (List Way)) : Type 0 where
@@ -20,10 +25,10 @@ pub record KeepsSection (state new : ModelState) (g : ℕ) (section : Section) :
   pub same : section_of new g ≡ Some section
   pub bits : HasItsBits (cache_of state g) (cache_of new g)
 
--- a section that is live after another hart's event is the one from before it, with every bit that it had
+-- a section that is live after such an event is the one from before it, with every bit that it had
 abbrev pub SurvivorsKeepBits : Type 0
 SurvivorsKeepBits =
-    (program : Program) (config : Config) (events : List Event) (event : Event) (g : ℕ) (section : Section) → event.hart.number ≢ g →
+    (program : Program) (config : Config) (events : List Event) (event : Event) (g : ℕ) (section : Section) → IsNoStepOf g event →
     section_of (after program config events) g ≡ Some section → is_live (next (after program config events) event).state g ≡ true →
     KeepsSection (after program config events) (next (after program config events) event).state g section
 
@@ -39,6 +44,6 @@ pub record Survives (state new : ModelState) (g : ℕ) (section : Section) : Typ
 abbrev pub SurvivorsKeepWhatTheyShow : Type 0
 SurvivorsKeepWhatTheyShow =
     (program : Program) (config : Config) (events : List Event) (event : Event) (g : ℕ) (section : Section) → AreBytes program.bytes →
-    event.hart.number ≢ g → section_of (after program config events) g ≡ Some section →
+    IsNoStepOf g event → section_of (after program config events) g ≡ Some section →
     is_live (next (after program config events) event).state g ≡ true →
     Survives (after program config events) (next (after program config events) event).state g section

@@ -47,16 +47,16 @@ pub fn steps_keep_others()
     ensures { StepsKeepOthers }
 {}
 
-/// In every state that can be reached, a section that is live after an event of another hart is the one that was live
-/// before it, and has every access bit that it had.
+/// In every state that can be reached, a section that is live after an event of another hart, or one of the bus, is the
+/// one that was live before it, and has every access bit that it had.
 #[tactic(auto, using(crate::proofs::Survivors::survivors_keep_bits))]
 pub fn survivors_keep_bits()
     ensures { SurvivorsKeepBits }
 {}
 
-/// From a program whose memory is bytes, in every state that can be reached: a section that is live after an event of
-/// another hart is the same as before with its bits, its private run is covered before and after, what is committed has
-/// changed beside its hart alone, and it shows the same.
+/// From a program whose memory is bytes, in every state that can be reached: a section that is live after such an event
+/// is the same as before with its bits, its private run is covered before and after, what is committed has changed
+/// beside its hart alone, and it shows the same.
 pub fn survivors_keep_what_they_show()
     ensures { SurvivorsKeepWhatTheyShow }
 {}

@@ -1,6 +1,6 @@
 //! Laws of single events of the machine's definition, in the form in which a machine's code asks for them: what an event
 //! leaves as it was, what becomes of a hart by its own step, what is left of a section by another hart's event, what ends
-//! one, and how great clocks and counts become.
+//! one, and how large clocks and counts become.
 //!
 //! They stand on the definition in `el_model` and on the laws of states that can be reached in `section_laws` and
 //! `run_laws`. The functions of this crate do nothing; each says one law, as its contract. The words stand in `specs/`,

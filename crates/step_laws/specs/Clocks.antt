@@ -30,6 +30,7 @@ pub record AreUpTo (most clock seen : ℕ) (attempt : Option Stamp) (raised : Op
   pub of_attempt : IsStampUpTo most attempt
   pub of_raised : IsRequestUpTo most raised
 
+-- the same of a whole hart
 abbrev pub IsHartUpTo : ℕ → Hart → Type 0
 IsHartUpTo most hart = AreUpTo most hart.clock hart.seen hart.attempt hart.raised
 

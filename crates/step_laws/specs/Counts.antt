@@ -18,12 +18,13 @@ pub record IsSectionShort (long : ℕ) (section : Section) : Type 0 where
   pub some : 1 ≤ section.count
   pub no_more : section.count ≤ long
 
--- with a configuration in range, so it is in every state that can be reached
+-- with a configuration in range, each watch is short in every state that can be reached
 abbrev pub WatchesAreShort : Type 0
 WatchesAreShort =
     (program : Program) (config : Config) (events : List Event) (h : ℕ) (watch : Watch) → IsInRange config →
     (hart_of (after program config events) h).predictor.watch ≡ Some watch → IsWatchShort config.long watch
 
+-- and so is each live section
 abbrev pub SectionsAreShort : Type 0
 SectionsAreShort =
     (program : Program) (config : Config) (events : List Event) (h : ℕ) (section : Section) → IsInRange config →

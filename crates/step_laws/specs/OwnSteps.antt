@@ -62,6 +62,7 @@ pub record CommitsSection (state : ModelState) (event : Event) (count : ℕ) : T
   pub hart : hart_of (next state event).state event.hart.number
       ≡ committed_hart (view_of state.committed event.hart.number).pc (hart_of state event.hart.number)
 
+-- in every state that can be reached, so does an event that comes out as committed
 abbrev pub OwnCommits : Type 0
 OwnCommits =
     (program : Program) (config : Config) (events : List Event) (event : Event) (count : ℕ) →
@@ -78,6 +79,7 @@ pub record RollsSectionBack (state : ModelState) (event : Event) (cause : Cause)
   pub hart : hart_of (next state event).state event.hart.number
       ≡ rolled_back cause (view_of state.committed event.hart.number).pc (record (hart_of state event.hart.number) { held = None })
 
+-- in every state that can be reached, so does an event that comes out as rolled back
 abbrev pub OwnRollbacks : Type 0
 OwnRollbacks =
     (program : Program) (config : Config) (events : List Event) (event : Event) (cause : Cause) →

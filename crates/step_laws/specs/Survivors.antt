@@ -40,7 +40,7 @@ pub record Survives (state new : ModelState) (g : ℕ) (section : Section) : Typ
   pub change : IsChangeBeside g (cache_of state g) state.committed new.committed
   pub shows : ShowsTheSame g section.count state.committed new.committed
 
--- the same section, covered as before, shows what it showed
+-- a section that is live after such an event survives it so, from a program whose memory is bytes
 abbrev pub SurvivorsKeepWhatTheyShow : Type 0
 SurvivorsKeepWhatTheyShow =
     (program : Program) (config : Config) (events : List Event) (event : Event) (g : ℕ) (section : Section) → AreBytes program.bytes →

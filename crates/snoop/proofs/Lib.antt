@@ -6,6 +6,7 @@ mod Settles
 mod LosersBelow
 mod AfterFate
 mod Conflicts
+mod Wanted
 mod Firsts
 mod ServedMarks
 mod Serves

@@ -1,2 +1,3 @@
 mod Origins
 mod NextAction
+mod LittleEndian

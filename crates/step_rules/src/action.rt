@@ -1,7 +1,8 @@
 //! What an action is by itself.
 
-ghost use Rattle.std.specs.Prelude.{◌≡◌, ℕ};
+ghost use Rattle.std.specs.Prelude.{◌≡◌, ◌%◌, ℕ, IfSome};
 ghost use Rattle.std.specs.Option.{option_map};
+ghost use Rattle.core_step.specs.Run.{IsAligned};
 ghost use Rattle.step_rules.specs.Actions as actions;
 
 use crate::upcoming::Exchange;
@@ -10,7 +11,8 @@ use rv_word::AmoOp;
 
 /// The swap that it is, if it is one.
 pub fn swaps(action: Action) -> Option<Exchange>
-    ensures { (byte : ℕ → ℕ) → option_map (actions.swap_over byte) result ≡ actions.swap_by byte action }
+    ensures exact { (byte : ℕ → ℕ) → option_map (actions.swap_over byte) result ≡ actions.swap_by byte action }
+    ensures aligned { IsAligned action → IfSome result (λ exchange. exchange.word % 4 ≡ 0) }
 {
     match action {
         Action::Amo {

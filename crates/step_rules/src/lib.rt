@@ -11,8 +11,13 @@
 #![tactic(auto)]
 
 mod action;
+mod in_section;
+mod plain;
 mod upcoming;
+mod words;
 
+pub use in_section::{Progress, SectionRule, section_rule};
+pub use plain::{PlainRule, plain_rule};
 pub use upcoming::{
     Exchange, Swap, Touch, calls_or_stops, exchange_of, is_release, seen_by, stores_to_word,
     touch_of,

@@ -1,7 +1,8 @@
 //! What an action is to the rules.
 
-ghost use Rattle.std.specs.Prelude.{◌≡◌, ℕ};
+ghost use Rattle.std.specs.Prelude.{◌≡◌, ◌%◌, ℕ, IfSome};
 ghost use Rattle.std.specs.Option.{option_map};
+ghost use Rattle.core_step.specs.Run.{IsAligned};
 ghost use Rattle.el_model.specs.Plain as plain;
 ghost use Rattle.el_model.specs.Upcoming as model;
 ghost use Rattle.pair_table.specs.Predictor.{Watch};
@@ -68,8 +69,9 @@ pub fn touch_of(action: &Action) -> Option<Touch>
 /// chapter 'A Standard Extension for Atomic Instructions'.)
 #[tactic(auto, using(crate::proofs::NextAction::next_swap))]
 pub fn exchange_of(action: &Action) -> Option<Exchange>
-    ensures { (flat : FlatState) (h : ℕ) → IsNext action.now flat h →
+    ensures next { (flat : FlatState) (h : ℕ) → IsNext action.now flat h →
         option_map (swap_over (byte_in flat.base flat.bytes)) result ≡ model.next_swap flat h }
+    ensures aligned { IsAligned action.now → IfSome result (λ exchange. exchange.word % 4 ≡ 0) }
 {
     swaps(*action)
 }

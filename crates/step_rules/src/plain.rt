@@ -16,7 +16,7 @@ use crate::upcoming::{Exchange, Swap, Touch, exchange_of, touch_of};
 use crate::words::word_in;
 use cache_sets::Sets;
 use el_base::{HartId, LineAddr, Need, line_of};
-use moesi::{Letter, may};
+use moesi::may;
 use rv_alu::Action;
 use snoop::Bus;
 
@@ -50,6 +50,7 @@ pub fn plain_rule(bus: &Bus, hart: HartId, action: &Action, may_elide: bool) -> 
 
 /// The rule where the action is a swap that may be elided: it needs its line for reading; one that changes its word
 /// begins a section, unless another hart waits to write there.
+#[tactic(auto, using(crate::proofs::Begins::readable_there))]
 fn swap_rule(bus: &Bus, hart: HartId, exchange: Exchange, touch: Option<Touch>) -> PlainRule
     requires hart_exists { hart.number < length (kept bus.now).copies.caches }
     requires aligned { exchange.word % 4 ≡ 0 }
@@ -57,11 +58,11 @@ fn swap_rule(bus: &Bus, hart: HartId, exchange: Exchange, touch: Option<Touch>) 
         state.committed.base ≤ exchange.word →
         option_map numbered_touch touch ≡ next_touch state.committed hart.number →
         definition_plain result ≡ model.swap_rule state hart.number
-            (Some (swap_over (byte_in state.committed.base state.committed.bytes) exchange)) }
+        (Some (swap_over (byte_in state.committed.base state.committed.bytes) exchange)) }
 {
     let line = line_of(exchange.word);
     let sets = bus.sets(hart);
-    if sets.letter(line) == Letter::I {
+    if !may(sets.letter(line), Need::Read) {
         return PlainRule::Misses {
             line,
             need: Need::Read,

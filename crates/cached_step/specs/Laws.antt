@@ -41,8 +41,8 @@ StepsShowTheirRule = (state : ModelState) (h : ℕ) (cache : Cached) (execution 
     ShowsRule ended (touch_rule state h (next_touch state.committed h))
 
 -- the bytes that an action touches are in the hart's cache those of memory, where its letters permit the action
-abbrev pub CachedBytesAreMemorys : Type 0
-CachedBytesAreMemorys = (copies : Copies) (flat : FlatState) (h room : ℕ) (action : Action) →
+abbrev pub CachedBytesEqualMemory : Type 0
+CachedBytesEqualMemory = (copies : Copies) (flat : FlatState) (h room : ℕ) (action : Action) →
     TellsMemory copies flat → IsInPlace (span_of flat) room action →
     lacking (permitted (cache_at copies.caches h)) (footprint action) ≡ None →
     AgreeOn (footprint action) (cached_byte (cache_at copies.caches h)) (byte_in flat.base flat.bytes)

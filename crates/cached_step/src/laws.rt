@@ -1,5 +1,5 @@
 ghost use Rattle.cached_step.specs.Laws.{
-  CachedBytesAreMemorys,
+  CachedBytesEqualMemory,
   CachesTellMemoryAfter,
   PermittedStepsAreFlat,
   RunsKeepTheForm,
@@ -11,8 +11,8 @@ ghost use Rattle.cached_step.specs.Laws.{
 /// Where caches and main memory tell the bytes of memory, and the letter of the line that an action touches
 /// permits it, the bytes that it touches are in the hart's cache those of memory.
 #[tactic(auto, using(crate::proofs::Told::bytes_agree))]
-pub fn cached_bytes_are_memorys()
-    ensures { CachedBytesAreMemorys }
+pub fn cached_bytes_equal_memory()
+    ensures { CachedBytesEqualMemory }
 {}
 
 /// Then the hart's next instruction does over its cache what it does on plain shared memory.

@@ -6,7 +6,7 @@ use crate::hart_id::MAX_HARTS;
 /// The most events of a run.
 pub const MAX_STEPS: u32 = 16_777_216;
 
-/// How a machine treats an acquire. Machines are built for the plain mode so far.
+/// How a machine treats an acquire.
 #[derive(Clone, Copy, Debug, PartialEq, Eq)]
 pub enum Mode {
     /// Each acquire takes its lock.

@@ -20,3 +20,4 @@ mod Forwarding
 mod Hears
 mod Standing
 mod Ending
+mod GetsOn

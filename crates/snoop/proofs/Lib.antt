@@ -21,3 +21,4 @@ mod Forwarding
 mod Hears
 mod Standing
 mod Ending
+mod GetsOn

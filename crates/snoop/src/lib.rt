@@ -21,6 +21,7 @@ mod fates;
 mod meeting;
 mod obstacle;
 mod ordering;
+mod readiness;
 mod serving;
 mod settling;
 mod wanting;

@@ -1,0 +1,4 @@
+pub mod Parts
+pub mod Reached
+pub mod Acting
+pub mod Effect

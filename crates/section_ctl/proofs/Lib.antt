@@ -1,1 +1,4 @@
 mod PortBytes
+mod Room
+mod Runs
+mod Begins

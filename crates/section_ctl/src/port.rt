@@ -32,7 +32,7 @@ impl Port for SectionPort<'_> {
     ghost permits = { λ port. permits_one port.line.number port.sets.now.residency port.hold.now };
 
     ghost put = { λ before after address len value.
-        (after.hold.ghost_name ≡ before.hold.ghost_name) × IsPutInto before.hold.now after.hold.now address len value };
+        (before.hold.ghost_name ≡ after.hold.ghost_name) × IsPutInto before.hold.now after.hold.now address len value };
 
     fn ask(&self, line: LineAddr, need: Need) -> bool {
         line.number == self.line.number

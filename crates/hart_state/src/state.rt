@@ -243,7 +243,7 @@ impl HartState {
     /// The watch, if one stands, sees an instruction.
     fn see(&mut self, action: &Action, long: u32)
         requires can_count { IfSome self.old.predictor.watch (λ watch. watch.count < 2 ^ 32 - 1) }
-        ensures { (state : ModelState) (h : ℕ) → IsNext action.now state.committed h → state.config.long ≡ long →
+        ensures seen { (state : ModelState) (h : ℕ) → IsNext action.now state.committed h → state.config.long ≡ long →
             self.new ≡ record self.old {
               predictor = plain.watched state h self.old.predictor self.old.predictor.watch } }
         ensures unwatched { self.old.predictor.watch ≡ None → self.new ≡ self.old }

@@ -5,9 +5,10 @@ use Rattle.el_base.specs.declared.config.Mode.{Mode}
 use Rattle.el_base.specs.declared.config.Mode.TheVariants.{Plain, Sle, Tlr}
 use Rattle.el_base.specs.declared.outcomes.Cause.{Cause}
 use Rattle.el_base.specs.declared.outcomes.Need.{Need}
+use Rattle.el_model.proofs.Losing.{beaten_stands}
 use Rattle.el_model.specs.InSection.{buffered_hart, committed_hart}
 use Rattle.el_model.specs.Losses.{Standing, lost_in, one_more_lost, restored, standing_of}
-use Rattle.el_model.specs.Plain.{after_candidate, began_hart, candidate_of, elides, may_elide, missed_hart, ran_hart, watched}
+use Rattle.el_model.specs.Plain.{after_candidate, after_touch, began_hart, candidate_of, elides, may_elide, missed_hart, ran_hart, watched}
 use Rattle.el_model.specs.RollBack.{beaten, blamed, most_tries, one_more_try, out_of_section, rolled_back}
 use Rattle.el_model.specs.State.{Hart, ModelState, Section, new_hart}
 use Rattle.el_model.specs.Upcoming.{Swap, Touch}
@@ -18,6 +19,7 @@ use Rattle.hart_state.specs.Own.{HasOwn, Own, committed_pc, new_own}
 use Rattle.pair_table.specs.Predictor.{Predictor, settled, unwatched, watching}
 use Rattle.pair_table.specs.declared.verdict.Verdict.TheVariants.{Up}
 use Rattle.rv_alu.specs.declared.view.HartView.{HartView}
+use Rattle.rv_flat.specs.FlatState.{view_of}
 use Rattle.section_ctl.specs.State.{SectionState}
 use Rattle.stamp.specs.Stamps.{Stamp}
 
@@ -57,7 +59,29 @@ candidate_is pc had (Some swap) own hart has = record {
 -- an instruction that has run outside of a section
 pub ran_is : (state : ModelState) (h : ℕ) (touch : Option Touch) (own : Own) (hart : Hart) → HasOwn own hart →
     HasOwn (ran_own state h own) (ran_hart state h touch hart)
-ran_is state h touch own hart has = ?
+ran_is state h touch own hart has =
+    subst (λ had. HasOwn (ran_own state h own) (after_candidate pc had swap seen_hart)) (ap (λ p. is_some p.watch) has.predictor)
+    (candidate_is pc (is_some own.predictor.watch) swap seen_own seen_hart seen)
+  where
+    pc : ℕ
+    pc = (view_of state.committed h).pc
+    swap : Option Swap
+    swap = candidate_of state h
+    seen_own : Own
+    seen_own = record own { predictor = watched state h own.predictor own.predictor.watch }
+    seen_hart : Hart
+    seen_hart = record hart {
+      held = None;
+      cache = after_touch hart.cache touch;
+      predictor = watched state h hart.predictor hart.predictor.watch;
+    }
+    seen : HasOwn seen_own seen_hart
+    seen = record {
+      section = has.section;
+      predictor = ap (λ p. watched state h p p.watch) has.predictor;
+      fallback = has.fallback;
+      tries = has.tries;
+    }
 
 -- a section that has begun
 pub began_is : (mode : Mode) (h : ℕ) (swap : Swap) (rd : ℕ) (own : Own) (hart : Hart) → HasOwn own hart →
@@ -85,17 +109,59 @@ rolled_back_is cause own hart has =
     record { section = refl; predictor = ap (blamed cause (committed_pc own)) has.predictor; fallback = refl; tries = refl }
 
 standing_is : (own : Own) (hart : Hart) → HasOwn own hart → standing_own own ≡ standing_of hart
-standing_is own hart has = ?
+standing_is own hart has = rw has.section (rw has.fallback (rw has.tries refl))
+
+-- what a loss leaves, by whether it was the last that may be lost
+abbrev either_left : Bool → ℕ → Bool → Standing
+either_left last tries fallback =
+    if last then record { section = None; tries = 0; fallback = true }
+    else record { section = None; tries = tries; fallback = fallback }
+
+none_either : (last : Bool) (tries : ℕ) (fallback : Bool) → (either_left last tries fallback).section ≡ None
+none_either true tries fallback = refl
+none_either false tries fallback = refl
 
 none_left : (mode : Mode) (old : Standing) → (lost_in mode old).section ≡ None
-none_left mode old = ?
+none_left Tlr old = refl
+none_left Sle old = none_either (old.tries + 1 == most_tries) (old.tries + 1) old.fallback
+none_left Plain old = none_either (old.tries + 1 == most_tries) (old.tries + 1) old.fallback
+
+-- a loss teaches nothing
+nothing_learnt : (hart : Hart) (last : Bool) →
+    (if last then record hart { tries = 0; fallback = true } else record hart { tries = hart.tries + 1 }).predictor ≡ hart.predictor
+nothing_learnt hart true = refl
+nothing_learnt hart false = refl
+
+trust_stays : (mode : Mode) (winner : Option Stamp) (hart : Hart) → (beaten mode winner hart).predictor ≡ hart.predictor
+trust_stays Tlr winner hart = refl
+trust_stays Sle winner hart = nothing_learnt (out_of_section hart) (hart.tries + 1 == most_tries)
+trust_stays Plain winner hart = nothing_learnt (out_of_section hart) (hart.tries + 1 == most_tries)
 
 -- a section that was lost, to a hart of which an event says what is left
 pub lost_is : (mode : Mode) (own : Own) (hart after : Hart) → HasOwn own hart → standing_of after ≡ lost_in mode (standing_of hart) →
     after.predictor ≡ hart.predictor → HasOwn (lost_own mode own) after
-lost_is mode own hart after has standing predictor = ?
+lost_is mode own hart after has standing predictor = record {
+  section = sym (none_left mode (standing_own own)) ∙ ap (λ s. s.section) left;
+  predictor = has.predictor ∙ sym predictor;
+  fallback = ap (λ s. s.fallback) left;
+  tries = ap (λ s. s.tries) left;
+}
+  where
+    left : lost_in mode (standing_own own) ≡ standing_of after
+    left = ap (lost_in mode) (standing_is own hart has) ∙ sym standing
 
 -- and to a hart that a conflict has beaten
 pub beaten_is : (mode : Mode) (winner : Option Stamp) (own : Own) (hart : Hart) → HasOwn own hart →
     HasOwn (lost_own mode own) (beaten mode winner hart)
-beaten_is mode winner own hart has = ?
+beaten_is mode winner own hart has =
+    lost_is mode own hart (beaten mode winner hart) has (beaten_stands mode winner hart) (trust_stays mode winner hart)
+
+-- a hart that an event leaves as it stood
+pub stays_is : (own : Own) (hart after : Hart) → HasOwn own hart → standing_of after ≡ standing_of hart →
+    after.predictor ≡ hart.predictor → HasOwn own after
+stays_is own hart after has standing predictor = record {
+  section = has.section ∙ sym (ap (λ s. s.section) standing);
+  predictor = has.predictor ∙ sym predictor;
+  fallback = has.fallback ∙ sym (ap (λ s. s.fallback) standing);
+  tries = has.tries ∙ sym (ap (λ s. s.tries) standing);
+}

@@ -1,2 +1,1 @@
 pub mod Harts
-mod Seeing

@@ -1,0 +1,12 @@
+mod Bytes
+mod Shapes
+mod ShownBytes
+mod Beginning
+mod GoingOn
+mod Surviving
+mod Releasing
+mod OthersViews
+mod Lines
+mod Committing
+mod OfProgram
+mod Worked

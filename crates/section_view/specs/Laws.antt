@@ -1,13 +1,16 @@
 -- what holds of the view and the hold that the code keeps of a live section
-use Rattle.std.specs.Prelude.{ℕ, ◌≡◌, ◌+◌, ◌%◌, ◌^◌, ◌<◌, Bool, true, ◌||◌, List, [], length, Option, None, Some, slice_index}
+use Rattle.std.specs.Prelude.{ℕ, ◌≡◌, ◌+◌, ◌%◌, ◌^◌, ◌<◌, Bool, true, List, [], length, Option, None, Some, slice_index}
 use Rattle.cache_sets.specs.Residency.{Way}
 use Rattle.core_step.specs.Port.{byte_of}
 use Rattle.el_base.specs.Line.{line_number}
+use Rattle.el_base.specs.declared.config.Config.{Config}
+use Rattle.el_base.specs.declared.events.Event.{Event}
 use Rattle.el_base.specs.declared.line.TheConstants.{LINE_BYTES}
-use Rattle.elf_image.specs.Program.{code_word}
+use Rattle.elf_image.specs.Program.{Program, code_word}
+use Rattle.el_model.specs.Next.{after}
 use Rattle.el_model.specs.State.{Section}
 use Rattle.el_model.specs.Upcoming.{Swap, is_release, next_access, next_execution, next_swap}
-use Rattle.rv_alu.specs.Execution.{Execution, Store, insn_at, put_of, release_of, store_in, view_after}
+use Rattle.rv_alu.specs.Execution.{Store, insn_at, put_of, release_of, store_in, view_after}
 use Rattle.rv_alu.specs.Footprint.{Touches}
 use Rattle.rv_alu.specs.Regs.{get}
 use Rattle.rv_alu.specs.declared.action.Action.TheVariants as actions
@@ -144,3 +147,16 @@ ReleasedViewsAreTold =
     is_release (alone committed h section.count) h section.word section.old ≡ true →
     view_after (section_execution committed section view hold under) view
     ≡ released_view (insn_at (code_word committed.code view.pc)) view (section.new % 2 ^ 32)
+
+-- what is committed lies where its program says, with its code and its size, and is bytes where the program's memory is
+pub record IsOfProgram (program : Program) (committed : FlatState) : Type 0 where
+  pub base : committed.base ≡ program.base
+  pub code : committed.code ≡ program.code
+  pub size : length committed.bytes ≡ length program.bytes
+  pub harts : length committed.harts ≡ program.harts
+  pub bytes : AreBytes program.bytes → AreBytes committed.bytes
+
+-- so it is in every state that can be reached
+abbrev pub CommittedIsOfItsProgram : Type 0
+CommittedIsOfItsProgram =
+    (program : Program) (config : Config) (events : List Event) → IsOfProgram program (after program config events).committed

@@ -1,4 +1,5 @@
 ghost use Rattle.section_view.specs.Laws.{
+  CommittedIsOfItsProgram,
   KeptRunsSurvive,
   MarksStay,
   ReleasedViewsAreTold,
@@ -75,4 +76,11 @@ pub fn sections_commit()
 /// does not depend on where memory lies, nor on the room of the output.
 pub fn released_views_are_told()
     ensures { ReleasedViewsAreTold }
+{}
+
+/// In every state that can be reached, what is committed lies where its program says, with the program's code, size and
+/// number of harts, and is bytes where the program's memory is: what the laws here ask of it, and that it begins with a
+/// line where the program does.
+pub fn committed_is_of_its_program()
+    ensures { CommittedIsOfItsProgram }
 {}

@@ -14,7 +14,7 @@
 mod laws;
 
 pub use laws::{
-    kept_runs_survive, marks_stay, released_views_are_told, releases_store_their_word,
-    sections_begin, sections_come_to, sections_commit, sections_do_as_shown, sections_go_on,
-    sections_show_their_bytes, swaps_act,
+    committed_is_of_its_program, kept_runs_survive, marks_stay, released_views_are_told,
+    releases_store_their_word, sections_begin, sections_come_to, sections_commit,
+    sections_do_as_shown, sections_go_on, sections_show_their_bytes, swaps_act,
 };

@@ -2,3 +2,5 @@ mod PortBytes
 mod Room
 mod Runs
 mod Begins
+mod Drained
+mod Released

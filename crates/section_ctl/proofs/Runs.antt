@@ -67,7 +67,7 @@ permitted (accesses.Exit code) line cache hold is bit sound marked few = refl
 
 -- nothing was lacking
 module _ (result : Ended) (permits : ℕ → Need → Bool) (access : Access) (execution : Execution)
-  (is : result ≡ ended_of (lacking permits access) execution) (nothing : lacking permits access ≡ None) where
+    (is : result ≡ ended_of (lacking permits access) execution) (nothing : lacking permits access ≡ None) where
   ended : result ≡ ended_by execution
   ended = is ∙ ap (λ l. ended_of l execution) nothing
 

@@ -3,6 +3,7 @@ ghost use Rattle.std.specs.Borrow.{sem};
 ghost use Rattle.cache_sets.specs.Cache.{write_bits_of};
 ghost use Rattle.el_model.specs.Upcoming.{touch_of};
 ghost use Rattle.reg_mark.specs.Marks.{committed_of, marks_unreserved};
+ghost use Rattle.rv_alu.specs.Execution.{loads};
 ghost use Rattle.rv_alu.specs.Footprint.{footprint};
 ghost use Rattle.rv_alu.specs.declared.view.HartStatus.TheVariants.{Running};
 ghost use Rattle.section_view.specs.KeptRun.{HoldsMarked};
@@ -176,10 +177,7 @@ impl Section {
         let Some(live) = self.live else {
             unreachable!()
         };
-        let found = match action.loads() {
-            Some(_) => Some(live.new),
-            None => None,
-        };
+        let found = found_by(action, live.new);
         action.perform(&mut self.marks.present, found);
         self.marks.keep();
         commit_into(&mut self.hold, sets);
@@ -194,5 +192,15 @@ impl Section {
         self.marks.back();
         self.hold.forget();
         self.live = None;
+    }
+}
+
+/// What an action loads where it loads this value, if it loads anything.
+fn found_by(action: Action, value: u32) -> Option<u32>
+    ensures { result ≡ option_map (λ load. value) (loads action) }
+{
+    match action.loads() {
+        Some(_) => Some(value),
+        None => None,
     }
 }

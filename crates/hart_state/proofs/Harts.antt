@@ -13,7 +13,7 @@ use Rattle.el_model.specs.RollBack.{beaten, blamed, most_tries, one_more_try, ou
 use Rattle.el_model.specs.State.{Hart, ModelState, Section, new_hart}
 use Rattle.el_model.specs.Upcoming.{Swap, Touch}
 use Rattle.hart_state.specs.Deeds.{began_own, buffered_own, candidate_own, committed_own, left_own, lost_own, own_may_elide}
-use Rattle.hart_state.specs.Deeds.{ran_own, rolled_back_own, standing_own, unreserved_own}
+use Rattle.hart_state.specs.Deeds.{ran_own, restored_own, rolled_back_own, standing_own, unreserved_own}
 use Rattle.hart_state.specs.Lending.{with_view}
 use Rattle.hart_state.specs.Own.{HasOwn, Own, committed_pc, new_own}
 use Rattle.pair_table.specs.Predictor.{Predictor, settled, unwatched, watching}
@@ -165,3 +165,9 @@ stays_is own hart after has standing predictor = record {
   fallback = has.fallback ∙ sym (ap (λ s. s.fallback) standing);
   tries = has.tries ∙ sym (ap (λ s. s.tries) standing);
 }
+
+-- a hart that may have lost
+pub restored_is : (mode : Mode) (winner : Option ℕ) (own : Own) (hart after : Hart) → HasOwn own hart →
+    standing_of after ≡ restored mode winner (standing_of hart) → after.predictor ≡ hart.predictor → HasOwn (restored_own mode winner own) after
+restored_is mode None own hart after has standing predictor = stays_is own hart after has standing predictor
+restored_is mode (Some winner) own hart after has standing predictor = lost_is mode own hart after has standing predictor

@@ -13,3 +13,6 @@
 mod state;
 
 pub use state::HartState;
+
+#[cfg(test)]
+mod tests;

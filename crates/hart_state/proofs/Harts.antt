@@ -65,16 +65,20 @@ ran_is state h touch own hart has =
   where
     pc : ℕ
     pc = (view_of state.committed h).pc
+
     swap : Option Swap
     swap = candidate_of state h
+
     seen_own : Own
     seen_own = record own { predictor = watched state h own.predictor own.predictor.watch }
+
     seen_hart : Hart
     seen_hart = record hart {
       held = None;
       cache = after_touch hart.cache touch;
       predictor = watched state h hart.predictor hart.predictor.watch;
     }
+
     seen : HasOwn seen_own seen_hart
     seen = record {
       section = has.section;

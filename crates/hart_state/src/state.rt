@@ -1,4 +1,4 @@
-ghost use Rattle.std.specs.Prelude.{◌≡◌, ◌≤◌, ◌<◌, ◌+◌, ◌-◌, ◌^◌, ◌%◌, ℕ, Bool, true, false, IfOk, IfSome, IsSome, None, is_some};
+ghost use Rattle.std.specs.Prelude.{◌≡◌, ◌≤◌, ◌<◌, ◌+◌, ◌-◌, ◌^◌, ◌%◌, ℕ, false, IfOk, IfSome, IsSome, None};
 ghost use Rattle.std.specs.Option.{option_map};
 ghost use Rattle.std.specs.Borrow.{sem};
 ghost use Rattle.cache_sets.specs.Cache.{write_bits_of};
@@ -6,11 +6,11 @@ ghost use Rattle.el_model.specs.Losses.{one_more_lost};
 ghost use Rattle.el_model.specs.Plain as plain;
 ghost use Rattle.el_model.specs.State.{Hart, ModelState};
 ghost use Rattle.el_model.specs.Upcoming.{touch_of};
-ghost use Rattle.pair_table.specs.Predictor.{Watch};
 ghost use Rattle.reg_mark.specs.Marks.{committed_of};
 ghost use Rattle.rv_alu.specs.Footprint.{footprint};
 ghost use Rattle.rv_alu.specs.declared.view.HartStatus.TheVariants.{Running};
-ghost use Rattle.section_ctl.specs.Calls.{HasCommitted, HasReleased, HasRun, IsCoveredIn, MayBuffer, has_written, run_of};
+ghost use Rattle.section_ctl.specs.Calls.{HasCommitted, HasReleased, HasRun, IsCoveredIn, MayBuffer};
+ghost use Rattle.section_ctl.specs.Calls.{has_written, run_of};
 ghost use Rattle.section_view.specs.KeptRun.{HoldsMarked};
 ghost use Rattle.section_view.specs.Release.{IsReleaseAction};
 ghost use Rattle.step_rules.specs.Actions.{IsNext, numbered_swap};
@@ -47,7 +47,12 @@ impl Model for HartState {
 
     ghost Value = { Own };
 
-    ghost view = { λ s. record { section = s.section; predictor = s.predictor; fallback = s.fallback; tries = s.tries } };
+    ghost view = { λ s. record {
+      section = s.section;
+      predictor = s.predictor;
+      fallback = s.fallback;
+      tries = s.tries;
+    } };
 
     ghost invariant = { λ s. s.tries < 4 };
 }
@@ -61,7 +66,6 @@ impl HartState {
       buffered_own,
       candidate_own,
       committed_own,
-      left_own,
       lost_own,
       own_may_elide,
       ran_own,
@@ -132,7 +136,8 @@ impl HartState {
     /// place is trusted. ('Speculative Lock Elision', section 3, has the predictor and the limit of tries.)
     pub fn may_elide(&self, mode: Mode) -> bool
         ensures own { result ≡ own_may_elide mode self.now }
-        ensures hart { (hart : Hart) → HasOwn self.now hart → result ≡ plain.may_elide mode hart (committed_pc self.now) }
+        ensures hart { (hart : Hart) → HasOwn self.now hart →
+            result ≡ plain.may_elide mode hart (committed_pc self.now) }
     {
         elides(mode)
             && !self.fallback
@@ -147,7 +152,10 @@ impl HartState {
         requires can_count { IfSome self.old.predictor.watch (λ watch. watch.count < 2 ^ 32 - 1) }
         ensures ran { (state : ModelState) (h : ℕ) → IsNextStep state h config.now pc action.now swap →
             self.new ≡ ran_own state h self.old }
-        ensures rest_stays { self.new ≡ record self.old { predictor = self.new.predictor; fallback = self.new.fallback } }
+        ensures rest_stays { self.new ≡ record self.old {
+          predictor = self.new.predictor;
+          fallback = self.new.fallback;
+        } }
         ensures counts { CountsOn self.old.predictor.watch self.new.predictor.watch }
     {
         let watched = self.predictor.watched();
@@ -170,7 +178,8 @@ impl HartState {
     /// Runs an action in the live section, as `Section::spec_action` does.
     pub fn buffer(&mut self, sets: &mut Sets, action: Action)
         requires live { IsSome self.old.section.live }
-        requires buffered { IfSome self.old.section.live (λ section. MayBuffer self.old.section section sets.old action) }
+        requires buffered { IfSome self.old.section.live (λ section.
+            MayBuffer self.old.section section sets.old action) }
         requires counted { IfSome self.old.section.live (λ section. section.count + 1 < 4294967296) }
         requires marked { HoldsMarked sets.old.residency self.old.section.hold.entries }
         requires few { write_bits_of sets.old.residency ≤ self.old.section.hold.limit }
@@ -233,8 +242,9 @@ impl HartState {
     /// One more section in a row was lost.
     fn count_loss(&mut self)
         ensures { self.new ≡ record self.old {
-            tries = (one_more_lost (standing_own self.old)).tries;
-            fallback = (one_more_lost (standing_own self.old)).fallback } }
+          tries = (one_more_lost (standing_own self.old)).tries;
+          fallback = (one_more_lost (standing_own self.old)).fallback;
+        } }
     {
         self.tries += 1;
         if self.tries == MOST_TRIES {
@@ -246,9 +256,10 @@ impl HartState {
     /// The watch, if one stands, sees an instruction.
     fn see(&mut self, action: &Action, long: u32)
         requires can_count { IfSome self.old.predictor.watch (λ watch. watch.count < 2 ^ 32 - 1) }
-        ensures seen { (state : ModelState) (h : ℕ) → IsNext action.now state.committed h → state.config.long ≡ long →
-            self.new ≡ record self.old {
-              predictor = plain.watched state h self.old.predictor self.old.predictor.watch } }
+        ensures seen { (state : ModelState) (h : ℕ) → IsNext action.now state.committed h →
+            state.config.long ≡ long → self.new ≡ record self.old {
+              predictor = plain.watched state h self.old.predictor self.old.predictor.watch;
+            } }
         ensures rest_stays { self.new ≡ record self.old { predictor = self.new.predictor } }
         ensures unwatched { self.old.predictor.watch ≡ None → self.new ≡ self.old }
         ensures counts { CountsOn self.old.predictor.watch self.new.predictor.watch }

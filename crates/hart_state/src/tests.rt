@@ -13,16 +13,16 @@ use step_rules::Swap;
 
 /// Two places in the program, with counters of their own.
 const HERE: u32 = 0x10000;
+
 const THERE: u32 = 0x10010;
 
 /// A lock word, and another.
 const WORD: u32 = 0x20000;
+
 const OTHER: u32 = 0x20040;
 
 /// An instruction that touches no memory.
-const NOTHING: Action = Action::Go {
-    target: 0x10004,
-};
+const NOTHING: Action = Action::Go { target: 0x10004 };
 
 /// A running hart at a place in the program.
 fn view(pc: u32) -> HartView
@@ -100,6 +100,121 @@ fn the_fourth_loss_in_a_row_takes_the_lock_where_attempts_have_no_stamps(
         assert_eq!(rt; hart.may_elide(mode), third, "{mode:?}");
         lose(&mut hart, mode)?;
         assert_eq!(rt; hart.may_elide(mode), fourth, "{mode:?}");
+    }
+    Ok(())
+}
+
+/// A candidate at a place runs, which finds 7 in a word and stores 8 there.
+fn run_candidate(hart: &mut HartState, pc: u32, word: u32) -> Result<(), Fail>
+    requires few { IfSome hart.old.predictor.watch (λ watch. watch.count < 100) }
+    ensures rest_stays { hart.new.section ≡ hart.old.section }
+    ensures few { IfSome hart.new.predictor.watch (λ watch. watch.count < 101) }
+    ensures first { hart.old.predictor.watch ≡ None → IfSome hart.new.predictor.watch (λ watch. watch.count < 2) }
+{
+    let (action, swap) = swap_of(word, 7, 8)?;
+    hart.has_run(&Config::usual(), pc, &action, Some(swap));
+    Ok(())
+}
+
+/// A section begins at the hart's place, and is rolled back.
+fn roll_back(hart: &mut HartState, found: Reg, cause: Cause)
+    requires idle { hart.old.section.live ≡ None }
+    requires running { hart.old.section.marks.present.status ≡ Running }
+    ensures idle { hart.new.section.live ≡ None }
+    ensures unwatched { hart.new.predictor.watch ≡ None }
+{
+    hart.begin(WORD, 7, 8, found);
+    hart.roll_back(cause);
+}
+
+#[test]
+fn a_rollback_takes_the_next_lock_and_blames_the_section_alone(
+    rt: HostRuntime,
+) -> Result<(), Fail> {
+    for (cause, trusted) in [
+        (Cause::Room, true),
+        (Cause::Lines, true),
+        (Cause::Long, false),
+        (Cause::Call, false),
+        (Cause::Mixed, false),
+    ] {
+        let mut hart = hart_at(rt.alloc(), HERE)?;
+        hart.begin(WORD, 7, 8, found()?);
+        assert_eq!(rt; hart.shown().regs.get(found()?), 7);
+        assert_eq!(rt; *hart.committed(), view(HERE));
+        hart.roll_back(cause);
+        assert_eq!(rt; *hart.shown(), view(HERE), "{cause:?}");
+        assert_eq!(rt; hart.may_elide(Mode::Sle), false, "{cause:?}");
+        run_candidate(&mut hart, THERE, WORD)?;
+        assert_eq!(rt; hart.may_elide(Mode::Sle), trusted, "{cause:?}");
+    }
+    Ok(())
+}
+
+#[test]
+fn a_watch_is_settled_by_what_comes_after_it(rt: HostRuntime) -> Result<(), Fail> {
+    // whether the place is trusted then, and after one section there that was too long
+    for (action, long, trusted, still) in [
+        (store(WORD, 7), 2_000, true, true),
+        (store(WORD, 9), 2_000, false, false),
+        (Action::Exit { code: 0 }, 2_000, false, false),
+        (NOTHING, 2_000, true, false),
+        (NOTHING, 2, false, false),
+    ] {
+        let config = Config {
+            long,
+            ..Config::usual()
+        };
+        let mut hart = hart_at(rt.alloc(), HERE)?;
+        run_candidate(&mut hart, HERE, WORD)?;
+        hart.has_run(&config, THERE, &action, None);
+        assert_eq!(rt; hart.may_elide(Mode::Tlr), trusted, "{action:?}");
+        roll_back(&mut hart, found()?, Cause::Long);
+        run_candidate(&mut hart, THERE, WORD)?;
+        assert_eq!(rt; hart.may_elide(Mode::Tlr), still, "{action:?}");
+    }
+    Ok(())
+}
+
+#[test]
+fn a_candidate_is_watched_where_no_watch_stood(rt: HostRuntime) -> Result<(), Fail> {
+    // the second candidate's word, and whether each place is trusted after later stores to both words
+    for (second, here, there) in [(OTHER, false, true), (WORD, false, true)] {
+        for (pc, trusted) in [(HERE, here), (THERE, there)] {
+            let mut hart = hart_at(rt.alloc(), pc)?;
+            run_candidate(&mut hart, HERE, WORD)?;
+            run_candidate(&mut hart, THERE, second)?;
+            hart.has_run(&Config::usual(), 0x10020, &store(OTHER, 9), None);
+            hart.has_run(&Config::usual(), 0x10024, &store(WORD, 9), None);
+            assert_eq!(rt; hart.may_elide(Mode::Sle), trusted, "{second:x} {pc:x}");
+        }
+    }
+    Ok(())
+}
+
+#[test]
+fn a_candidate_ends_the_fallback_where_locks_are_elided(rt: HostRuntime) -> Result<(), Fail> {
+    for (mode, new, ends) in [
+        (Mode::Sle, None, false),
+        (Mode::Sle, Some(7), false),
+        (Mode::Sle, Some(8), true),
+        (Mode::Tlr, Some(8), true),
+        (Mode::Plain, Some(8), false),
+    ] {
+        let config = Config {
+            mode,
+            ..Config::usual()
+        };
+        let mut hart = hart_at(rt.alloc(), HERE)?;
+        roll_back(&mut hart, found()?, Cause::Room);
+        match new {
+            None => hart.has_run(&config, THERE, &NOTHING, None),
+            Some(new) => {
+                let (action, swap) = swap_of(WORD, 7, new)?;
+                hart.has_run(&config, THERE, &action, Some(swap));
+            }
+        }
+        assert_eq!(rt; hart.may_elide(Mode::Sle), ends, "{mode:?} {new:?}");
     }
     Ok(())
 }

@@ -5,3 +5,4 @@ mod Begins
 mod Drained
 mod Released
 mod Shows
+mod AnyRoom

@@ -1,15 +1,17 @@
 -- the private run of a section is kept, and takes effect
-use Rattle.std.proofs.Common.{◌≡◌, ℕ, ◌+◌, ◌-◌, ◌%◌, ◌≤◌, ◌<◌, ◌||◌, Bool, true, false, List, [], slice_index, Option, None, Some, is_some, option_map, refl, ap, sym, subst, ◌∙◌, arith}
+use Rattle.std.proofs.Common.{◌≡◌, ℕ, ◌+◌, ◌-◌, ◌%◌, ◌^◌, ◌≤◌, ◌<◌, ◌||◌, Bool, true, false, List, [], slice_index, Option, None, Some, is_some, option_map, inl, inr, refl, ap, sym, subst, ◌∙◌, arith}
 use Rattle.std.specs.Option.{unwrap_or}
-use Rattle.std.specs.Prelude.{IfSome}
-use Rattle.cache_sets.specs.Cache.{bit_in, has_bit, is_resident, way_of, write_bit}
+use Rattle.std.specs.Prelude.{IfSome, IsSome, if◌then◌else◌}
+use Rattle.std.proofs.lemmas.Bool.{cases_eq}
+use Rattle.cache_sets.proofs.CacheLemmas.{way_of-touched}
+use Rattle.cache_sets.specs.Cache.{bit_in, has_bit, is_resident, marked, touched, way_of, write_bit}
 use Rattle.cache_sets.specs.Cached.{Cached, bytes_of, copy_in}
 use Rattle.cache_sets.specs.Residency.{Way}
 use Rattle.el_base.specs.Line.{line_number}
 use Rattle.el_base.specs.declared.line.TheConstants.{LINE_BYTES}
 use Rattle.el_base.specs.declared.outcomes.Need.TheVariants.{Read, Write}
 use Rattle.el_model.specs.State.{Section}
-use Rattle.el_model.specs.Upcoming.{next_access, touch_of}
+use Rattle.el_model.specs.Upcoming.{Touch, is_release, touch_of}
 use Rattle.run_laws.proofs.Touches.{on_bit, touched_on_bit}
 use Rattle.run_laws.specs.PrivateRun.{HasItsBit, IsCoveredRun, IsCoveredStep}
 use Rattle.rv_alu.specs.declared.action.Action.{Action}
@@ -19,24 +21,28 @@ use Rattle.rv_flat.specs.Laws.{touched_by}
 use Rattle.rv_flat.specs.Memory.{AreBytes, byte_in}
 use Rattle.rv_flat.specs.Run.{alone}
 use Rattle.rv_flat.specs.Step.{action_of}
-use Rattle.rv_alu.specs.Execution.{perform, put_of, release_of, store_in, view_after}
+use Rattle.rv_alu.specs.Footprint.{footprint}
+use Rattle.rv_alu.specs.declared.action.Action.TheVariants as actions
+use Rattle.rv_alu.specs.Execution.{Store, insn_at, perform, put_of, release_of, store_in, view_after}
 use Rattle.rv_alu.specs.declared.view.HartStatus.TheVariants.{Running}
 use Rattle.rv_alu.specs.declared.view.HartView.{HartView}
+use Rattle.rv_word.specs.Decoding.{decoded}
 use Rattle.rv_word.specs.declared.reg.Reg.{Reg}
 use Rattle.section_ctl.proofs.Drained.{bytes_or_none, copy_of, resident_with_bit}
 use Rattle.section_view.proofs.Beginning.{begins}
-use Rattle.section_view.proofs.Committing.{commits}
+use Rattle.section_view.proofs.Committing.{commits, released_view_told}
 use Rattle.section_view.proofs.GoingOn.{goes_on}
 use Rattle.section_view.proofs.Shapes.{comes_to}
-use Rattle.section_view.specs.KeptRun.{HoldsMarked, KeepsRun, section_byte}
+use Rattle.section_view.specs.KeptRun.{HoldsMarked, KeepsRun, section_byte, section_execution}
 use Rattle.section_view.specs.Laws.{AgreeBeside, HoldsAfter}
-use Rattle.section_view.specs.Release.{HasEffect}
-use Rattle.write_hold.proofs.LookUps.{held_no_line}
+use Rattle.section_view.specs.Release.{HasEffect, released_view}
+use Rattle.write_hold.proofs.LookUps.{held_no_line, holds_after_put_other}
 use Rattle.write_hold.specs.Held.{Entry, Held, held, holds}
-use Rattle.section_ctl.specs.Calls.{HasCommitted, HasReleased, HasRun, begun_state, committed_copy, run_of}
-use Rattle.section_ctl.specs.PrivateRuns.{BeginsRun, CommitsRun, GoesOnRun, HasBytesOf, IsKept, TakesEffect}
+use Rattle.section_ctl.specs.Calls.{HasCommitted, HasReleased, HasReleasedBy, HasRun, IsCoveredIn, begun_state, committed_copy, run_of}
+use Rattle.section_ctl.specs.PrivateRuns.{BeginsRun, CommitsCode, CommitsRun, GoesOnRun, HasBytesOf, IsKept, TakesEffect}
 use Rattle.section_ctl.specs.Shown.{cached_byte}
-use Rattle.section_ctl.specs.State.{SectionState}
+use Rattle.section_ctl.specs.State.{SectionState, section_of}
+use Rattle.section_ctl.specs.declared.live.Live.{Live}
 
 -- a line with a bit is there
 resident_with_any : (cache : List (List Way)) (line : ℕ) → has_bit cache line ≡ true → is_resident cache line ≡ true
@@ -68,6 +74,40 @@ goes_on_run old new section cache action ran committed h kept is covered =
     (agrees committed h old section cache kept covered) covered held).keeps in
     let after = ap (λ marks. marks.present) ran.marks ∙ ap (λ a. view_after (perform a view byte) view) is in
     subst (λ v. KeepsRun committed h (record section { count = section.count + 1 }) v new.hold.entries) (sym after) keeps
+
+-- a store is to the line that its action touches for writing
+store_touched : (cache : List (List Way)) (action : Action) (view : HartView) (byte : ℕ → ℕ) → HasItsBit cache (touch_of (footprint action)) →
+    IfSome (store_in (perform action view byte)) (λ store. write_bit cache (line_number store.address) ≡ true)
+store_touched cache (actions.Store address len value) view byte bit = bit
+store_touched cache (actions.StoreConditional rd address value) view byte bit = bit
+store_touched cache (actions.Amo op rd address source) view byte bit = bit
+store_touched cache _ view byte bit = tt
+
+-- held lines still have the write bit
+marked_with : (store : Option Store) (cache : List (List Way)) (old new : Held) → IfSome store (λ s. write_bit cache (line_number s.address) ≡ true) →
+    HoldsAfter store old new → HoldsMarked cache old.entries → HoldsMarked cache new.entries
+marked_with None cache old new bit same marked line is = marked line (ap (λ entries. holds entries line) (sym same) ∙ is)
+marked_with (Some store) cache old new bit held marked line is = elim (cases_eq line (line_number store.address)) [
+  | inl same ↦ ap (write_bit cache) same ∙ bit
+  | inr other ↦ marked line (sym (holds_after_put_other old new (line_number store.address) (store.address % LINE_BYTES) held.bytes held.put line other) ∙ is)
+]
+
+write_bit_covered : (old new : Cached) (touch : Option Touch) (line : ℕ) → HasItsBit old.residency touch → IsCoveredIn old new touch →
+    write_bit new.residency line ≡ write_bit old.residency line
+write_bit_covered old new None line bit after = ap (λ cache. write_bit cache line) after.residency
+write_bit_covered old new (Some touch) line bit after =
+    ap (λ cache. write_bit cache line) after.residency
+    ∙ ap (λ b. write_bit (touched (if b then old.residency else marked old.residency touch.line touch.need) touch.line) line) bit
+    ∙ ap (bit_in Write) (way_of-touched old.residency touch.line line)
+
+pub marked_after : (old new : SectionState) (section : Section) (before after : Cached) (action : Action) → HasItsBit before.residency (touch_of (footprint action)) →
+    HoldsMarked before.residency old.hold.entries → HasRun old new section (run_of old section before action) →
+    IsCoveredIn before after (touch_of (footprint action)) → HoldsMarked after.residency new.hold.entries
+marked_after old new section before after action bit marked ran covered line is =
+    let byte = section_byte old.hold.entries section.word section.new (cached_byte before) in
+    write_bit_covered before after (touch_of (footprint action)) line bit covered
+    ∙ marked_with (store_in (run_of old section before action)) before.residency old.hold new.hold
+    (store_touched before.residency action old.marks.present byte bit) ran.hold marked line is
 
 -- a section begins
 pub begins_run : (before after : SectionState) (word old new : ℕ) (rd : Reg) → before.marks.present.status ≡ Running → before.hold.entries ≡ [] →
@@ -133,21 +173,51 @@ module _ (committed done : FlatState) (h word : ℕ) (view : HartView) (hold : L
       by above false none = on_other address above there none
 
 -- a section commits
-pub commits_run : (before after : SectionState) (section : Section) (old new : Cached) (action : Action) → HasReleased before after section action →
-    HoldsMarked old.residency before.hold.entries → HasCommitted old new before.hold.entries → CommitsRun before after section old new action
-commits_run before after section old new action released marked puts committed h bytes kept is release =
-    let under : ℕ → ℕ = λ address. 0 in
-    let view = before.marks.present in
-    let byte = section_byte before.hold.entries section.word section.new under in
+commits_with : (before after : SectionState) (section : Section) (old new : Cached) (committed : FlatState) (h : ℕ) → AreBytes committed.bytes →
+    IsKept committed h before section old → is_release (alone committed h section.count) h section.word section.old ≡ true →
+    after.marks.present ≡ view_after (section_execution committed section before.marks.present before.hold.entries (λ at. 0)) before.marks.present →
+    HoldsMarked old.residency before.hold.entries → HasCommitted old new before.hold.entries → TakesEffect committed h before after section new
+commits_with before after section old new committed h bytes kept release present marked puts =
     let done = alone committed h (section.count + 1) in
-    let effect = commits committed h old.residency section view before.hold.entries under bytes kept.run kept.keeps release in
-    let present = ap (λ marks. marks.present) (released.marks under) ∙ ap (λ a. view_after (perform a view byte) view) is in
+    let effect = commits committed h old.residency section before.marks.present before.hold.entries (λ at. 0) bytes kept.run kept.keeps release in
     record {
       effect = subst (λ v. HasEffect committed done h section.word v before.hold.entries) (sym present) effect;
       bytes = done_bytes committed done h section.word _ before.hold.entries old new effect kept.bytes marked puts;
     }
 
+pub commits_run : (before after : SectionState) (section : Section) (old new : Cached) (action : Action) → HasReleased before after section action →
+    HoldsMarked old.residency before.hold.entries → HasCommitted old new before.hold.entries → CommitsRun before after section old new action
+commits_run before after section old new action released marked puts committed h bytes kept is release =
+    let view = before.marks.present in
+    let byte = section_byte before.hold.entries section.word section.new (λ at. 0) in
+    let present = ap (λ marks. marks.present) (released.marks (λ at. 0)) ∙ ap (λ a. view_after (perform a view byte) view) is in
+    commits_with before after section old new committed h bytes kept release present marked puts
+
+pub commits_code : (before after : SectionState) (section : Section) (old new : Cached) (code : ℕ) → HasReleasedBy before after section (decoded code) →
+    section.new < 2 ^ 32 → HoldsMarked old.residency before.hold.entries → HasCommitted old new before.hold.entries →
+    CommitsCode before after section old new code
+commits_code before after section old new code released small marked puts committed h bytes kept at release =
+    let view = before.marks.present in
+    let told = released_view_told committed h old.residency section view before.hold.entries (λ at. 0) kept.run kept.keeps release in
+    let same : section.new ≡ section.new % 2 ^ 32 = omega arith in
+    let present = ap (λ marks. marks.present) released.marks ∙ ap (released_view (decoded code) view) same
+    ∙ ap (λ word. released_view (insn_at word) view (section.new % 2 ^ 32)) (sym at) ∙ sym told in
+    commits_with before after section old new committed h bytes kept release present marked puts
+
 -- what holds of a live section by what does
 pub if_some_map : {A : Type 0} (o : Option A) (P Q : A → Type 0) → ((x : A) → P x → Q x) → IfSome o P → IfSome o Q
 if_some_map None P Q map told = tt
 if_some_map (Some x) P Q map told = map x told
+
+pub on_live : {A : Type 0} (o : Option A) (P Q : A → Type 0) (R : Type 0) → IsSome o → IfSome o P → IfSome o Q → ((x : A) → P x → Q x → R) → R
+on_live None P Q R some p q told = absurd cc
+on_live (Some x) P Q R some p q told = told x p q
+
+-- what holds of the live section holds of the one in the fields, and the other way round
+pub of_live : (o : Option Section) (inside : Option Live) (live : Live) (P : Section → Type 0) → option_map section_of inside ≡ o → inside ≡ Some live →
+    IfSome o P → P (section_of live)
+of_live o inside live P shown is told = subst (λ l. IfSome (option_map section_of l) P) is (subst (λ s. IfSome s P) (sym shown) told)
+
+pub at_live : (o : Option Section) (inside : Option Live) (live : Live) (P : Section → Type 0) → option_map section_of inside ≡ o → inside ≡ Some live →
+    P (section_of live) → IfSome o P
+at_live o inside live P shown is told = subst (λ s. IfSome s P) shown (subst (λ l. IfSome (option_map section_of l) P) (sym is) told)

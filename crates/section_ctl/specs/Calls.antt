@@ -15,9 +15,11 @@ use Rattle.rv_alu.specs.Footprint.{footprint}
 use Rattle.rv_alu.specs.declared.action.Action.{Action}
 use Rattle.rv_alu.specs.declared.action.Action.TheVariants as actions
 use Rattle.rv_alu.specs.declared.view.HartView.{HartView}
+use Rattle.rv_word.specs.declared.insn.Insn.{Insn}
 use Rattle.section_ctl.specs.Shown.{cached_byte}
 use Rattle.section_ctl.specs.State.{SectionState}
 use Rattle.section_view.specs.KeptRun.{is_written, section_byte}
+use Rattle.section_view.specs.Release.{released_view}
 use Rattle.section_view.specs.Laws.{HoldsAfter, IsHeldStore}
 use Rattle.write_hold.specs.Held.{Entry, Held, holds, seen_at}
 
@@ -84,6 +86,12 @@ pub record IsCoveredIn (old new : Cached) (touch : Option Touch) : Type 0 where
 pub record HasReleased (old new : SectionState) (section : Section) (action : Action) : Type 0 where
   pub marks : (under : ℕ → ℕ) → new.marks ≡
       unmarked (view_after (perform action old.marks.present (section_byte old.hold.entries section.word section.new under)) old.marks.present)
+  pub hold : new.hold ≡ record old.hold { entries = [] }
+  pub live : new.live ≡ None
+
+-- the same, with the view that the instruction of the release tells
+pub record HasReleasedBy (old new : SectionState) (section : Section) (insn : Option Insn) : Type 0 where
+  pub marks : new.marks ≡ unmarked (released_view insn old.marks.present section.new)
   pub hold : new.hold ≡ record old.hold { entries = [] }
   pub live : new.live ≡ None
 

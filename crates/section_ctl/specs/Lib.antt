@@ -4,3 +4,4 @@ pub mod Calls
 pub mod Drains
 pub mod Lending
 pub mod PrivateRuns
+pub mod Releases

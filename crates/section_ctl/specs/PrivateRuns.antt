@@ -3,6 +3,7 @@ use Rattle.std.specs.Prelude.{ℕ, ◌≡◌, ◌≤◌, ◌+◌, true, Some}
 use Rattle.cache_sets.specs.Cache.{is_resident}
 use Rattle.cache_sets.specs.Cached.{Cached}
 use Rattle.el_base.specs.Line.{line_number}
+use Rattle.elf_image.specs.Program.{code_word}
 use Rattle.el_model.specs.State.{Section}
 use Rattle.el_model.specs.Upcoming.{is_release, next_swap}
 use Rattle.run_laws.specs.PrivateRun.{IsCoveredRun, IsCoveredStep}
@@ -58,3 +59,10 @@ CommitsRun before after section old new action =
     (committed : FlatState) (h : ℕ) → AreBytes committed.bytes → IsKept committed h before section old →
     action ≡ action_of committed before.marks.present → is_release (alone committed h section.count) h section.word section.old ≡ true →
     TakesEffect committed h before after section new
+
+-- the same, of the release whose instruction word is the next one
+abbrev pub CommitsCode : SectionState → SectionState → Section → Cached → Cached → ℕ → Type 0
+CommitsCode before after section old new code =
+    (committed : FlatState) (h : ℕ) → AreBytes committed.bytes → IsKept committed h before section old →
+    code_word committed.code before.marks.present.pc ≡ Some code →
+    is_release (alone committed h section.count) h section.word section.old ≡ true → TakesEffect committed h before after section new

@@ -1,11 +1,14 @@
-ghost use Rattle.std.specs.Prelude.{◌≡◌, ◌≤◌, ◌<◌, ◌+◌, ◌%◌, [], IfOk, IfSome, IsSome, None, is_some, option_map};
+ghost use Rattle.std.specs.Prelude.{◌≡◌, ◌≤◌, ◌<◌, ◌+◌, ◌%◌, [], IfOk, IfSome, IsSome, None, Some, is_some, option_map, ℕ};
 ghost use Rattle.std.specs.Borrow.{sem};
 ghost use Rattle.cache_sets.specs.Cache.{write_bits_of};
 ghost use Rattle.el_model.specs.Upcoming.{touch_of};
 ghost use Rattle.reg_mark.specs.Marks.{committed_of, marks_unreserved};
+ghost use Rattle.rv_alu.specs.Action.{action_at};
 ghost use Rattle.rv_alu.specs.Execution.{loads};
 ghost use Rattle.rv_alu.specs.Footprint.{footprint};
 ghost use Rattle.rv_alu.specs.declared.view.HartStatus.TheVariants.{Running};
+ghost use Rattle.rv_word.specs.Decoding.{decoded};
+ghost use Rattle.section_ctl.specs.Releases.{IsReleaseInsn, release_of_insn};
 ghost use Rattle.section_view.specs.KeptRun.{HoldsMarked};
 ghost use Rattle.section_view.specs.Release.{IsReleaseAction};
 
@@ -15,8 +18,8 @@ use crate::run::{run_over, touch};
 use cache_sets::Sets;
 use el_base::{Config, LineAddr, NoMemory, line_of};
 use reg_mark::Marked;
-use rv_alu::{Action, HartView};
-use rv_word::{AmoOp, Reg};
+use rv_alu::{Action, HartView, Span};
+use rv_word::{AmoOp, Insn, Reg, decode};
 use std::alloc::Global;
 use std::marker::Model;
 use write_hold::Hold;
@@ -42,10 +45,10 @@ impl Model for Section {
 }
 
 impl Section {
-    ghost use Rattle.section_ctl.specs.Calls.{HasCommitted, HasReleased, HasRun, IsCoveredIn, MayBuffer};
+    ghost use Rattle.section_ctl.specs.Calls.{HasCommitted, HasReleased, HasReleasedBy, HasRun, IsCoveredIn, MayBuffer};
     ghost use Rattle.section_ctl.specs.Calls.{begun_state, has_written, idle_state, rolled_back_state, run_of};
     ghost use Rattle.section_ctl.specs.Lending.{LendsView};
-    ghost use Rattle.section_ctl.specs.PrivateRuns.{BeginsRun, CommitsRun, GoesOnRun};
+    ghost use Rattle.section_ctl.specs.PrivateRuns.{BeginsRun, CommitsCode, CommitsRun, GoesOnRun};
     ghost use Rattle.section_ctl.specs.State.{section_of};
 
     /// A hart's view without a live section, with room for the stores that a section of the
@@ -154,6 +157,7 @@ impl Section {
         requires few { write_bits_of sets.old.residency ≤ self.old.hold.limit }
         ensures ran { IfSome self.old.live (λ section. HasRun self.old self.new section (run_of self.old section sets.old action)) }
         ensures cache { IsCoveredIn sets.old sets.new (touch_of (footprint action)) }
+        ensures marked { HoldsMarked sets.new.residency self.new.hold.entries }
         ensures shows { IfSome self.old.live (λ section. GoesOnRun self.old self.new section sets.old action) }
     {
         let Some(live) = self.live else {
@@ -165,6 +169,26 @@ impl Section {
             count: live.count + 1,
             ..live
         });
+    }
+
+    /// Runs the instruction of a word in the live section, whose action is as [`Section::spec_action`] asks.
+    /// Such an action does not depend on the room of the output.
+    pub fn spec_insn(&mut self, sets: &mut Sets, word: u32, span: Span)
+        requires live { IsSome self.old.live }
+        requires buffered { IfSome self.old.live (λ section.
+            MayBuffer self.old section sets.old (action_at (Some word) self.old.marks.present span 0)) }
+        requires counted { IfSome self.old.live (λ section. section.count + 1 < 4294967296) }
+        requires marked { HoldsMarked sets.old.residency self.old.hold.entries }
+        requires few { write_bits_of sets.old.residency ≤ self.old.hold.limit }
+        ensures ran { (room : ℕ) → IfSome self.old.live (λ section. HasRun self.old self.new section
+            (run_of self.old section sets.old (action_at (Some word) self.old.marks.present span room))) }
+        ensures cache { IsCoveredIn sets.old sets.new (touch_of (footprint (action_at (Some word) self.old.marks.present span 0))) }
+        ensures marked { HoldsMarked sets.new.residency self.new.hold.entries }
+        ensures shows { (room : ℕ) → IfSome self.old.live (λ section.
+            GoesOnRun self.old self.new section sets.old (action_at (Some word) self.old.marks.present span room)) }
+    {
+        let action = Action::at(Some(word), &self.marks.present, span, 0);
+        self.spec_action(sets, action);
     }
 
     /// Runs the release, an action that stores the old value in the lock word, and commits: what is held
@@ -188,6 +212,22 @@ impl Section {
         self.live = None;
     }
 
+    /// Runs the release, the instruction of a word that stores or swaps the old value into the lock word,
+    /// and commits, as [`Section::commit_action`] does.
+    pub fn commit(&mut self, sets: &mut Sets, code: u32)
+        requires live { IsSome self.old.live }
+        requires release { IsReleaseInsn (decoded code) }
+        requires marked { HoldsMarked sets.old.residency self.old.hold.entries }
+        ensures released { IfSome self.old.live (λ section. HasReleasedBy self.old self.new section (decoded code)) }
+        ensures cache { HasCommitted sets.old sets.new self.old.hold.entries }
+        ensures shows { IfSome self.old.live (λ section. CommitsCode self.old self.new section sets.old sets.new code) }
+    {
+        let Some(live) = self.live else {
+            unreachable!()
+        };
+        self.commit_action(sets, release_by(code, live));
+    }
+
     /// Goes back to the checkpoint, and forgets what the section stored. A section is live.
     pub fn roll_back(&mut self)
         requires { IsSome self.old.live }
@@ -206,5 +246,24 @@ fn found_by(action: Action, value: u32) -> Option<u32>
     match action.loads() {
         Some(_) => Some(value),
         None => None,
+    }
+}
+
+/// What the release of a section does whose instruction is this word's.
+fn release_by(code: u32, live: Live) -> Action
+    ensures { result ≡ release_of_insn (decoded code) live.word live.old }
+{
+    match decode(code) {
+        Some(Insn::Amo { rd, .. }) => Action::Amo {
+            op: AmoOp::Swap,
+            rd,
+            address: live.word,
+            source: live.old,
+        },
+        _ => Action::Store {
+            address: live.word,
+            len: 4,
+            value: live.old,
+        },
     }
 }

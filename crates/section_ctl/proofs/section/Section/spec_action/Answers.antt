@@ -2,7 +2,7 @@
 use Rattle.std.proofs.Common.{rules, sym, subst}
 use Rattle.std.specs.Prelude.{IfSome, option_map}
 use Rattle.section_ctl.proofs.Begins.{stays_live}
-use Rattle.section_ctl.proofs.Shows.{goes_on_run, if_some_map}
+use Rattle.section_ctl.proofs.Shows.{goes_on_run, if_some_map, marked_after, on_live}
 use Rattle.section_ctl.specs.Calls.{MayBuffer}
 use Rattle.section_ctl.specs.Shown.{cached_byte}
 use Rattle.section_ctl.specs.State.{Stands, section_of, shown_state}
@@ -25,6 +25,11 @@ invariant_of-self c =
 
 pub returns-clause-ran : goal.returns-clause-ran
 returns-clause-ran c = search rules
+
+pub returns-clause-marked : goal.returns-clause-marked
+returns-clause-marked c =
+    on_live c.args.self.now.live _ _ _ c.requires.live c.requires.buffered (returns-clause-ran c)
+    (λ section may ran. marked_after c.args.self.now _ section c.args.sets.now c.touch.new.sets c.args.action may.bit c.requires.marked ran c.touch.ensures)
 
 pub returns-clause-shows : goal.returns-clause-shows
 returns-clause-shows c =

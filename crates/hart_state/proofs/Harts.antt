@@ -7,16 +7,16 @@ use Rattle.el_base.specs.declared.outcomes.Cause.{Cause}
 use Rattle.el_base.specs.declared.outcomes.Need.{Need}
 use Rattle.el_model.proofs.Losing.{beaten_stands}
 use Rattle.el_model.specs.InSection.{buffered_hart, committed_hart}
-use Rattle.el_model.specs.Losses.{Standing, lost_in, one_more_lost, restored, standing_of}
-use Rattle.el_model.specs.Plain.{after_candidate, after_touch, began_hart, candidate_of, elides, may_elide, missed_hart, ran_hart, watched}
-use Rattle.el_model.specs.RollBack.{beaten, blamed, most_tries, one_more_try, out_of_section, rolled_back}
+use Rattle.el_model.specs.Losses.{Standing, lost_in, restored, standing_of}
+use Rattle.el_model.specs.Plain.{after_candidate, after_touch, began_hart, candidate_of, may_elide, missed_hart, ran_hart, watched}
+use Rattle.el_model.specs.RollBack.{beaten, blamed, most_tries, out_of_section, rolled_back}
 use Rattle.el_model.specs.State.{Hart, ModelState, Section, new_hart}
 use Rattle.el_model.specs.Upcoming.{Swap, Touch}
-use Rattle.hart_state.specs.Deeds.{began_own, buffered_own, candidate_own, committed_own, left_own, lost_own, own_may_elide}
+use Rattle.hart_state.specs.Deeds.{began_own, buffered_own, candidate_own, committed_own, lost_own, own_may_elide}
 use Rattle.hart_state.specs.Deeds.{ran_own, restored_own, rolled_back_own, standing_own, unreserved_own}
 use Rattle.hart_state.specs.Lending.{with_view}
 use Rattle.hart_state.specs.Own.{HasOwn, Own, committed_pc, new_own}
-use Rattle.pair_table.specs.Predictor.{Predictor, settled, unwatched, watching}
+use Rattle.pair_table.specs.Predictor.{settled, unwatched, watching}
 use Rattle.pair_table.specs.declared.verdict.Verdict.TheVariants.{Up}
 use Rattle.rv_alu.specs.declared.view.HartView.{HartView}
 use Rattle.rv_flat.specs.FlatState.{view_of}

@@ -133,7 +133,8 @@ impl HartState {
     }
 
     /// Whether a swap at the committed pc may be elided: the mode elides, the fallback flag is off, and the
-    /// place is trusted. ('Speculative Lock Elision', section 3, has the predictor and the limit of tries.)
+    /// place has a confidence of at least 2. (That a predictor chooses the acquires, and that after some losses
+    /// the lock is taken: 'Speculative Lock Elision'; the numbers are this project's profile.)
     pub fn may_elide(&self, mode: Mode) -> bool
         ensures own { result ≡ own_may_elide mode self.now }
         ensures hart { (hart : Hart) → HasOwn self.now hart →

@@ -11,6 +11,7 @@ ghost use Rattle.rv_alu.specs.Footprint.{footprint};
 ghost use Rattle.rv_alu.specs.declared.view.HartStatus.TheVariants.{Running};
 ghost use Rattle.section_ctl.specs.Calls.{HasCommitted, HasReleased, HasRun, IsCoveredIn, MayBuffer};
 ghost use Rattle.section_ctl.specs.Calls.{has_written, run_of};
+ghost use Rattle.section_ctl.specs.PrivateRuns.{BeginsRun, CommitsRun, GoesOnRun};
 ghost use Rattle.section_view.specs.KeptRun.{HoldsMarked};
 ghost use Rattle.section_view.specs.Release.{IsReleaseAction};
 ghost use Rattle.step_rules.specs.Actions.{IsNext, numbered_swap};
@@ -170,7 +171,9 @@ impl HartState {
         requires none { self.old.section.live ≡ None }
         requires running { self.old.section.marks.present.status ≡ Running }
         requires aligned { word % 4 ≡ 0 }
-        ensures { self.new ≡ began_own word old new rd.number self.old }
+        ensures own { self.new ≡ began_own word old new rd.number self.old }
+        ensures shows { BeginsRun self.old.section self.new.section
+            (record { count = 1; word = word; old = old; new = new }) rd }
     {
         self.section.begin(word, old, new, rd);
         self.predictor.unwatch();
@@ -188,6 +191,9 @@ impl HartState {
         ensures ran { IfSome self.old.section.live (λ section.
             HasRun self.old.section self.new.section section (run_of self.old.section section sets.old action)) }
         ensures cache { IsCoveredIn sets.old sets.new (touch_of (footprint action)) }
+        ensures marked { HoldsMarked sets.new.residency self.new.section.hold.entries }
+        ensures shows { IfSome self.old.section.live (λ section.
+            GoesOnRun self.old.section self.new.section section sets.old action) }
     {
         self.section.spec_action(sets, action);
     }
@@ -202,6 +208,8 @@ impl HartState {
         ensures released { IfSome self.old.section.live (λ section.
             HasReleased self.old.section self.new.section section action) }
         ensures cache { HasCommitted sets.old sets.new self.old.section.hold.entries }
+        ensures shows { IfSome self.old.section.live (λ section.
+            CommitsRun self.old.section self.new.section section sets.old sets.new action) }
     {
         let acquire = self.committed().pc;
         self.section.commit_action(sets, action);

@@ -6,9 +6,8 @@ use Rattle.std.proofs.Common.{◌≡◌, ℕ, zero, suc, ◌+◌, ◌-◌, ◌<�
 use Rattle.std.specs.Prelude.{slice_get, IsTrue}
 use Rattle.drive.specs.Drivers.{MakesRoundRobin}
 use Rattle.el_base.specs.declared.events.Event.{Event}
-use Rattle.plain_model.specs.ModelState.{is_over}
-use Rattle.plain_model.specs.RoundRobin.{IsEventAt}
-use Rattle.plain_model.specs.Runs.{state_after}
+use Rattle.drive.specs.RoundRobin.{IsEventAt}
+use Rattle.el_model.specs.Next.{is_over, state_after}
 use Rattle.machine.proofs.Continued.{continued_more, left_of_continued, nothing_more, state_of_continued}
 use Rattle.machine.specs.Story.{Story, continued, left_of, state_of}
 

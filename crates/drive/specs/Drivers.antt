@@ -1,7 +1,7 @@
 -- what drivers make of a machine
 use Rattle.std.specs.Prelude.{◌≡◌, List}
 use Rattle.el_base.specs.declared.events.Event.{Event}
-use Rattle.plain_model.specs.RoundRobin.{IsRoundRobin}
+use Rattle.drive.specs.RoundRobin.{IsRoundRobin}
 use Rattle.machine.specs.Story.{Story, continued, left_of, state_of}
 
 -- a machine has gone on by a round robin of its harts, and by nothing else

@@ -1,1 +1,3 @@
+pub mod RoundRobin
 pub mod Drivers
+pub mod Laws

@@ -1,6 +1,6 @@
 //! Drivers: which events a machine is made to do, and in which order.
 //!
-//! They stand on `machine`, and on the definition of the round robin in `plain_model`. `round_robin` runs a
+//! They stand on `machine`. `round_robin` runs a
 //! machine to its end, or to its last step; `follow` makes the events that it is given. Each makes
 //! exactly the events that its contract names, and takes no memory.
 //!
@@ -8,9 +8,11 @@
 #![tactic(auto)]
 
 mod following;
+mod laws;
 mod rounds;
 
 pub use following::follow;
+pub use laws::one_round_robin;
 pub use rounds::round_robin;
 
 #[cfg(test)]

@@ -2,7 +2,7 @@ ghost use Rattle.std.specs.Prelude.{◌≡◌, ◌<◌, ◌≤◌, ◌%◌, ◌/
 ghost use Rattle.drive.specs.Drivers.{MakesRoundRobin};
 ghost use Rattle.el_base.specs.Kinds.{kind_number};
 ghost use Rattle.machine.specs.Story.{left_of};
-ghost use Rattle.plain_model.specs.RoundRobin.{IsEventAt};
+ghost use Rattle.drive.specs.RoundRobin.{IsEventAt};
 
 use el_base::{Event, HartId, Kind};
 use machine::Machine;

@@ -48,11 +48,11 @@ fn make(rt: &impl Abort, machine: &mut Machine, events: &[Event]) {
 #[test]
 fn a_round_robin_runs_to_the_end(rt: HostRuntime) -> Result<(), Fail> {
     for (harts, steps, events, instructions, over, output) in [
-        (1, 100, 33, 9, true, b"A\n".as_slice()),
-        (1, 33, 33, 9, true, b"A\n"),
-        (1, 32, 32, 8, false, b"A\n"),
+        (1, 100, 37, 9, true, b"A\n".as_slice()),
+        (1, 37, 37, 9, true, b"A\n"),
+        (1, 36, 36, 8, false, b"A\n"),
         (1, 1, 1, 1, false, b""),
-        (2, 100, 69, 18, true, b"A\nA\n"),
+        (2, 100, 85, 18, true, b"A\nA\n"),
     ] {
         let mut machine = machine(&rt, rt.alloc(), harts, steps)?;
         round_robin(&mut machine);

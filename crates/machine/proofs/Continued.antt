@@ -3,9 +3,9 @@ use Rattle.std.proofs.Common.{◌≡◌, ◌-◌, length, length-append, arith, 
 use Rattle.std.proofs.lemmas.List.{map-append}
 use Rattle.chronicle.specs.Chronicle.{events}
 use Rattle.el_base.specs.declared.events.Event.{Event}
-use Rattle.plain_model.proofs.Runs.{entries_from-append, length-entries_from, events-entries_from, state_after-append}
-use Rattle.plain_model.specs.ModelState.{begin}
-use Rattle.plain_model.specs.Runs.{after, entries_from, state_after}
+use Rattle.el_model.proofs.Folds.{entries_from-append, events-entries_from, length-entries_from, state_after-append}
+use Rattle.el_model.specs.Next.{after, entries_from, state_after}
+use Rattle.el_model.specs.State.{begin}
 use Rattle.machine.specs.Story.{Story, continued, left_of, state_of}
 
 -- the state after further events

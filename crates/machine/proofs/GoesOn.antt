@@ -1,24 +1,80 @@
 -- a machine stands after each event, and what follows from that
-use Rattle.std.proofs.Common.{◌≡◌, ℕ, ◌+◌, ◌≤◌, ◌<◌, [], ◌∷◌, ◌++◌, length, sym, ◌∙◌, ap, subst, arith, length-append}
+use Rattle.std.proofs.Common.{◌≡◌, ◌∙◌, ℕ, ◌+◌, ◌≤◌, ◌<◌, List, [], ◌∷◌, ◌++◌, length, ap, arith, length-append, refl, subst, sym}
 use Rattle.std.proofs.lemmas.List.Elements.{All-push}
 use Rattle.std.proofs.lemmas.List.{map-append}
+use Rattle.std.proofs.lemmas.List.FromFn.{length-map-range_with_len}
 use Rattle.std.specs.Prelude.{map}
 use Rattle.chronicle.specs.Chronicle.{events}
 use Rattle.chronicle.specs.Serial.{serial}
+use Rattle.el_base.specs.Config.{IsInRange}
+use Rattle.el_base.specs.declared.config.Config.{Config}
+use Rattle.el_base.specs.declared.config.Mode.TheVariants.{Plain}
+use Rattle.el_base.specs.declared.entries.Entry.{Entry}
 use Rattle.el_base.specs.declared.events.Event.{Event}
 use Rattle.el_base.specs.declared.outcomes.Outcome.{Outcome}
-use Rattle.elf_image.specs.Program.{Program}
-use Rattle.machine.proofs.Beginning.{start_harts}
+use Rattle.el_model.proofs.Folds.{entries_from-append, outcomes-entries_from, serial_run}
+use Rattle.el_model.specs.Next.{entries_from, next}
+use Rattle.el_model.specs.State.{ModelState, begin}
+use Rattle.elf_image.specs.Program.{IsProgram, Program}
+use Rattle.engine.proofs.Places.{keeps_place}
+use Rattle.engine.proofs.Quiet.{config_of}
+use Rattle.engine.specs.Parts.{IsIn, Parts}
+use Rattle.engine.specs.Reached as engine
+use Rattle.engine.specs.Reached.{IsReached}
 use Rattle.machine.proofs.Continued.{state_of_continued}
 use Rattle.machine.specs.Stands.{IsGiven, Stands}
 use Rattle.machine.specs.Story.{IsOneRun, Story, committed, continued, left_of, memory_of, state_of}
-use Rattle.plain_model.proofs.Runs.{entries_from-append, keeps_place, outcomes-entries_from, serial_run}
-use Rattle.plain_model.specs.ModelState.{ModelState, begin}
-use Rattle.plain_model.specs.Runs.{entries_from}
-use Rattle.plain_model.specs.Step.{next}
-use Rattle.rv_flat.specs.FlatState.{FlatState, span_of, start}
+use Rattle.rv_flat.specs.FlatState.{FlatState, first_view, span_of, start}
 use Rattle.rv_flat.specs.Laws.{KeepsShape}
 use Rattle.rv_flat.specs.Run.{run}
+use Rattle.snoop.specs.Shows.{IsReady}
+
+start_harts : (program : Program) → length (start program).harts ≡ program.harts
+unfolding start
+start_harts program = length-map-range_with_len (first_view program) 0 program.harts
+
+-- a machine stands before its first event
+pub first : (program : Program) (config : Config) (parts : Parts) (entries : List Entry) (room : ℕ) → IsProgram program → IsInRange config →
+    program.harts ≡ config.harts → config.mode ≡ Plain → IsReady parts.bus → IsIn parts (begin program config) → entries ≡ [] → room ≡ config.steps →
+    Stands (record { program = program; config = config; entries = entries }) parts room
+first program config parts entries room valid in_range one_each plain ready is none places =
+    rw (none, places)
+    (record {
+      given = record {
+        program = valid;
+        in_range = in_range;
+        one_hart_each = one_each;
+        plain = plain;
+        places = refl;
+        within = omega arith;
+        harts_exist = λ k d none. absurd (omega arith);
+      };
+      ready = ready;
+      is_in = is;
+      entries = refl;
+    })
+
+-- the state of a machine is one that a program reaches
+pub reached : (story : Story) (room : ℕ) → IsGiven story room → IsReached (state_of story)
+reached story room given = record {
+  program = story.program;
+  config = story.config;
+  events = events story.entries;
+  is_program = given.program;
+  in_range = given.in_range;
+  one_hart_each = given.one_hart_each;
+  state_is = refl;
+}
+
+-- so its parts stand, in the plain mode
+pub parts_stand : (story : Story) (parts : Parts) (room : ℕ) → Stands story parts room → engine.Stands parts
+parts_stand story parts room stands =
+    record { ready = stands.ready; state = state_of story; reached = reached story room stands.given; is_in = stands.is_in }
+
+pub parts_plain : (story : Story) (parts : Parts) (room : ℕ) → Stands story parts room → parts.config.mode ≡ Plain
+unfolding reached
+parts_plain story parts room stands =
+    ap (λ config. config.mode) (stands.is_in.config ∙ config_of (state_of story) (reached story room stands.given)) ∙ stands.given.plain
 
 -- the events of a story that goes on by one more
 events_more : (story : Story) (event : Event) → events (continued story (event ∷ [])).entries ≡ events story.entries ++ event ∷ []
@@ -30,6 +86,7 @@ given_more story room event given below left = record {
   program = given.program;
   in_range = given.in_range;
   one_hart_each = given.one_hart_each;
+  plain = given.plain;
   places = given.places;
   within = omega (arith, length-append story.entries (entries_from (state_of story) (event ∷ [])));
   harts_exist =
@@ -38,33 +95,32 @@ given_more story room event given below left = record {
 }
 
 -- a machine stands after one event more, where a step is left
-pub goes_on : (story : Story) (reached : ModelState) (room : ℕ) (event : Event) → Stands story reached room →
-    event.hart.number < story.config.harts → 1 ≤ left_of story → Stands (continued story (event ∷ [])) (next reached event).state room
-goes_on story reached room event stands below left = record {
-  given = given_more story room event stands.given below left;
-  state = ap (λ s. (next s event).state) stands.state ∙ sym (state_of_continued story (event ∷ []));
-  entries =
-      ap (λ entries. entries ++ entries_from (state_of story) (event ∷ [])) stands.entries
-      ∙ sym (entries_from-append (begin story.program story.config) (events story.entries) (event ∷ []))
-      ∙ sym (ap (λ made. entries_from (begin story.program story.config) made) (events_more story event));
-}
-
--- the same of parts that an event has changed, and of the entry that tells it
-pub stands_more : (story : Story) (old new : ModelState) (room : ℕ) (event : Event) (outcome : Outcome) → Stands story old room →
-    event.hart.number < story.config.harts → 1 ≤ left_of story → new ≡ (next old event).state → outcome ≡ (next old event).outcome →
+pub stands_more : (story : Story) (old new : Parts) (room : ℕ) (event : Event) (outcome : Outcome) → Stands story old room →
+    event.hart.number < story.config.harts → 1 ≤ left_of story → IsReady new.bus →
+    ((state : ModelState) → IsReached state → IsIn old state → IsIn new (next state event).state) →
+    ((state : ModelState) → IsReached state → IsIn old state → outcome ≡ (next state event).outcome) →
     Stands (record story { entries = story.entries ++ record { event = event; outcome = outcome } ∷ [] }) new room
-stands_more story old new room event outcome stands below left state told =
+stands_more story old new room event outcome stands below left ready goes told =
     let Told : Outcome → Type 0 = λ o. Stands (record story { entries = story.entries ++ record { event = event; outcome = o } ∷ [] }) new room in
-    let At : ModelState → Type 0 = λ s. Stands (continued story (event ∷ [])) s room in
-    subst Told (sym (told ∙ ap (λ s. (next s event).outcome) stands.state)) (subst At (sym state) (goes_on story old room event stands below left))
+    let here = reached story room stands.given in
+    subst Told (sym (told (state_of story) here stands.is_in))
+    (record {
+      given = given_more story room event stands.given below left;
+      ready = ready;
+      is_in = subst (IsIn new) (sym (state_of_continued story (event ∷ []))) (goes (state_of story) here stands.is_in);
+      entries =
+          ap (λ entries. entries ++ entries_from (state_of story) (event ∷ [])) stands.entries
+          ∙ sym (entries_from-append (begin story.program story.config) (events story.entries) (event ∷ []))
+          ∙ sym (ap (λ made. entries_from (begin story.program story.config) made) (events_more story event));
+    })
 
 -- so the story goes on by the event
-pub told_more : (story : Story) (old : ModelState) (room : ℕ) (event : Event) (outcome : Outcome) → Stands story old room →
-    outcome ≡ (next old event).outcome →
+pub told_more : (story : Story) (old : Parts) (room : ℕ) (event : Event) (outcome : Outcome) → Stands story old room →
+    ((state : ModelState) → IsReached state → IsIn old state → outcome ≡ (next state event).outcome) →
     record story { entries = story.entries ++ record { event = event; outcome = outcome } ∷ [] } ≡ continued story (event ∷ [])
 told_more story old room event outcome stands told =
     ap (λ o. record story { entries = story.entries ++ record { event = event; outcome = o } ∷ [] })
-    (told ∙ ap (λ s. (next s event).outcome) stands.state)
+    (told (state_of story) (reached story room stands.given) stands.is_in)
 
 begun : (story : Story) → (state_of story).committed ≡ run (begin story.program story.config).committed (serial story.entries) →
     (state_of story).committed ≡ committed story
@@ -72,8 +128,8 @@ unfolding begin
 begun story is = is
 
 -- what the program did is one run of it on plain shared memory
-is_one_run : (story : Story) (reached : ModelState) (room : ℕ) → Stands story reached room → IsOneRun story
-is_one_run story reached room stands =
+is_one_run : (story : Story) (parts : Parts) (room : ℕ) → Stands story parts room → IsOneRun story
+is_one_run story parts room stands =
     let first = begin story.program story.config in
     record {
       outcomes =
@@ -83,19 +139,22 @@ is_one_run story reached room stands =
     }
 
 -- the same of the story that a machine is seen as
-pub one_run : (story now : Story) (reached : ModelState) (room : ℕ) → Stands story reached room → story ≡ now → IsOneRun now
-one_run story now reached room stands same = subst IsOneRun same (is_one_run story reached room stands)
+pub one_run : (story now : Story) (parts : Parts) (room : ℕ) → Stands story parts room → story ≡ now → IsOneRun now
+one_run story now parts room stands same = subst IsOneRun same (is_one_run story parts room stands)
 
-pub reached_committed : (story now : Story) (reached : ModelState) (room : ℕ) → Stands story reached room → story ≡ now →
-    reached.committed ≡ committed now
-reached_committed story now reached room stands same =
-    ap (λ s. s.committed) stands.state ∙ (is_one_run story reached room stands).committed ∙ ap committed same
+pub reached_committed : (story now : Story) (parts : Parts) (room : ℕ) → Stands story parts room → story ≡ now →
+    (state_of now).committed ≡ committed now
+reached_committed story now parts room stands same = (one_run story now parts room stands same).committed
+
+pub now_in : (story now : Story) (parts : Parts) (room : ℕ) → Stands story parts room → story ≡ now → IsIn parts (state_of now)
+now_in story now parts room stands same = subst (λ s. IsIn parts (state_of s)) same stands.is_in
+
+pub now_reached : (story now : Story) (parts : Parts) (room : ℕ) → Stands story parts room → story ≡ now → IsReached (state_of now)
+now_reached story now parts room stands same = subst (λ s. IsReached (state_of s)) same (reached story room stands.given)
 
 -- memory lies where the program's does, and there are as many harts as configured
-place_kept : (story : Story) (reached : ModelState) (room : ℕ) → Stands story reached room → KeepsShape (start story.program) reached.committed
-place_kept story reached room stands =
-    let Kept : ModelState → Type 0 = λ s. KeepsShape (start story.program) s.committed in
-    subst Kept (sym stands.state) (keeps_place story.program story.config (events story.entries))
+place_kept : (story : Story) (parts : Parts) (room : ℕ) → Stands story parts room → KeepsShape (start story.program) (state_of story).committed
+place_kept story parts room stands = keeps_place story.program story.config (events story.entries)
 
 spans : (program : Program) (state : FlatState) → state.base ≡ (start program).base →
     length state.bytes ≡ length (start program).bytes → span_of state ≡ memory_of program
@@ -104,17 +163,22 @@ spans program state base size =
     ap (λ b. record { base = b; end = b + length state.bytes }) base
     ∙ ap (λ n. record { base = program.base; end = program.base + n }) size
 
-pub same_span : (story now : Story) (reached : ModelState) (room : ℕ) → Stands story reached room → story ≡ now →
-    span_of reached.committed ≡ memory_of now.program
-same_span story now reached room stands same =
-    let kept = place_kept story reached room stands in
-    spans story.program reached.committed kept.base kept.length_of_bytes ∙ ap (λ s. memory_of s.program) same
+pub same_span : (story now : Story) (parts : Parts) (room : ℕ) → Stands story parts room → story ≡ now → parts.span ≡ memory_of now.program
+same_span story now parts room stands same =
+    let kept = place_kept story parts room stands in
+    stands.is_in.span ∙ spans story.program (state_of story).committed kept.base kept.length_of_bytes ∙ ap (λ s. memory_of s.program) same
 
-pub same_base : (story now : Story) (reached : ModelState) (room : ℕ) → Stands story reached room → story ≡ now →
-    reached.committed.base ≡ now.program.base
-same_base story now reached room stands same = ap (λ span. span.base) (same_span story now reached room stands same)
+pub same_base : (story now : Story) (parts : Parts) (room : ℕ) → Stands story parts room → story ≡ now →
+    (state_of now).committed.base ≡ now.program.base
+same_base story now parts room stands same =
+    ap (λ span. span.base)
+    (sym (now_in story now parts room stands same).span ∙ same_span story now parts room stands same)
 
-pub as_many : (story now : Story) (reached : ModelState) (room : ℕ) → Stands story reached room → story ≡ now →
-    length reached.committed.harts ≡ now.config.harts
-as_many story now reached room stands same =
-    (place_kept story reached room stands).harts ∙ start_harts story.program ∙ stands.given.one_hart_each ∙ ap (λ s. s.config.harts) same
+pub as_many : (story now : Story) (parts : Parts) (room : ℕ) → Stands story parts room → story ≡ now → length parts.views ≡ now.config.harts
+as_many story now parts room stands same =
+    ap length stands.is_in.views ∙ (place_kept story parts room stands).harts ∙ start_harts story.program ∙ stands.given.one_hart_each
+    ∙ ap (λ s. s.config.harts) same
+
+pub hart_there : (story now : Story) (parts : Parts) (room h : ℕ) → Stands story parts room → story ≡ now → h < now.config.harts →
+    h < length parts.views
+hart_there story now parts room h stands same below = subst (λ n. h < n) (sym (as_many story now parts room stands same)) below

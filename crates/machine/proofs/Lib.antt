@@ -1,4 +1,3 @@
-mod Beginning
 pub mod Continued
 mod GoesOn
-mod Stopping
+mod There

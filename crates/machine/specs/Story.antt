@@ -5,8 +5,8 @@ use Rattle.chronicle.specs.Serial.{serial}
 use Rattle.el_base.specs.declared.entries.Entry.{Entry}
 use Rattle.el_base.specs.declared.events.Event.{Event}
 use Rattle.el_base.specs.declared.config.Config.{Config}
-use Rattle.plain_model.specs.ModelState.{ModelState}
-use Rattle.plain_model.specs.Runs.{after, entries_from, outcomes}
+use Rattle.el_model.specs.Next.{after, entries_from, outcomes}
+use Rattle.el_model.specs.State.{ModelState}
 use Rattle.elf_image.specs.Program.{Program}
 use Rattle.rv_alu.specs.declared.span.Span.{Span}
 use Rattle.rv_flat.specs.FlatState.{FlatState, start}

@@ -2,7 +2,7 @@
 
 ghost use Rattle.std.specs.Prelude.{◌≡◌, ◌++◌, List};
 ghost use Rattle.el_base.specs.declared.events.Event.{Event};
-ghost use Rattle.plain_model.specs.Runs.{state_after};
+ghost use Rattle.el_model.specs.Next.{state_after};
 ghost use Rattle.machine.specs.Story.{Story, continued, state_of};
 
 /// A story that goes on by some events is in the state that they lead to.

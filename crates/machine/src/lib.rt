@@ -1,16 +1,16 @@
 //! The machine: a program on several harts, one event at a time, with a history of what came of each.
 //!
-//! It stands on `rv_flat`, on the history of `chronicle` and on the definitions of `plain_model`. A machine
-//! is seen as its story: the program, the configuration, and the events made so far with their outcomes.
-//! Whatever the events, each outcome is the one that the definition gives, and registers, memory and
-//! output are those of one run of the program on plain shared memory, in the serial order that the
-//! history shows. `make` takes all memory of a run: main memory and the image that it was copied from,
-//! 16 bytes for each step, and room for the output. No other call takes memory, and no event is refused.
+//! It stands on `engine` (the bus with the caches, the harts and the output), on the history of `chronicle` and on
+//! the definition of `el_model`. A machine is seen as its story: the program, the configuration, and the events
+//! made so far with their outcomes. Whatever the events, each outcome is the one that the definition gives, and
+//! registers, memory and output are those of one run of the program on plain shared memory, in the serial order
+//! that the history shows. `make` takes all memory of a run: main memory and the image that it was copied from, the
+//! caches, 16 bytes for each step, and room for the output. No other call takes memory, and no event is refused.
+//! It is built for the plain mode so far.
 //!
 //! Where a doc comment names no other source, its rule is this project's profile.
 #![tactic(auto)]
 
-mod engine;
 mod fault;
 mod laws;
 mod machine;

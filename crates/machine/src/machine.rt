@@ -22,19 +22,22 @@ ghost use Rattle.chronicle.specs.Chronicle.{events};
 ghost use Rattle.el_base.specs.Config.{IsInRange, config_fault};
 ghost use Rattle.el_base.specs.declared.config.ConfigFault.{ConfigFault};
 ghost use Rattle.el_base.specs.declared.config.Mode.TheVariants.{Plain};
-ghost use Rattle.plain_model.specs.ModelState.{is_over, shown_of};
-ghost use Rattle.plain_model.specs.Step.{next};
+ghost use Rattle.el_model.specs.Next.{is_over, next, shown_of};
+ghost use Rattle.el_model.specs.State.{ordered_of, raised_of};
 ghost use Rattle.machine.specs.Story.{IsOneRun, committed, continued, history_of, left_of, memory_of, state_of};
 ghost use Rattle.rv_alu.specs.Span.{holds};
 ghost use Rattle.rv_flat.specs.FlatState.{output_limit, view_of};
 ghost use Rattle.rv_flat.specs.Memory.{byte_in};
+ghost use Rattle.snoop.specs.Asking.{asking, numbered_asked};
+ghost use Rattle.snoop.specs.Shows.{IsReady, Shows, kept};
 
-use crate::engine::Engine;
 use crate::fault::MakeFault;
 use chronicle::History;
 use el_base::{Config, Entry, Event, HartId, Outcome};
 use elf_image::Image;
+use engine::Engine;
 use rv_alu::HartView;
+use snoop::{Asked, Bus};
 use std::alloc::Global;
 use std::marker::Model;
 
@@ -48,6 +51,7 @@ pub struct Machine {
 }
 
 impl Model for Machine {
+    ghost use Rattle.engine.specs.Parts.{parts};
     ghost use Rattle.machine.specs.Stands.{Stands};
     ghost use Rattle.machine.specs.Story.{Story};
 
@@ -57,14 +61,14 @@ impl Model for Machine {
 
     ghost invariant = { λ m.
         Stands (record { program = m.image; config = m.config; entries = m.history.entries })
-        m.engine m.history.places };
+        (parts m.engine) m.history.places };
 }
 
 impl Machine {
     /// A machine before its first event, of an image that was made for the configuration's harts. It
     /// takes all memory of the run. An error is the fault of the configuration, if it has one, and
     /// else want of memory. Machines are built for the plain mode so far.
-    #[tactic(auto, using(crate::proofs::Beginning::first))]
+    #[tactic(auto, using(crate::proofs::GoesOn::first))]
     pub fn make(alloc: Global, image: Image, config: Config) -> Result<Machine, MakeFault>
         requires one_hart_each { image.harts ≡ config.harts }
         requires plain { config.mode ≡ Plain }
@@ -77,7 +81,7 @@ impl Machine {
     {
         prove!(image.harts() == config.harts);
         config.check()?;
-        let engine = Engine::make(alloc, &image)?;
+        let engine = Engine::make(alloc, &image, &config)?;
         let history = History::make(alloc, config.steps)?;
         Ok(Machine {
             image,
@@ -156,6 +160,24 @@ impl Machine {
         ensures { result ≡ shown_of (state_of self.now) hart.number }
     {
         self.engine.shown(hart)
+    }
+
+    /// What a hart has asked of the bus.
+    pub fn request(&self, hart: HartId) -> Asked
+        requires { hart.number < self.now.config.harts }
+        ensures { numbered_asked result ≡
+            asking (raised_of (state_of self.now) hart.number) (ordered_of (state_of self.now) hart.number) }
+    {
+        self.engine.request(hart)
+    }
+
+    /// The bus, with main memory and the copies of its lines: they tell one thing of each line, which is committed
+    /// memory's, and each cache has the lines and the letters that the definition's has.
+    pub fn bus(&self) -> &Bus
+        ensures ready { IsReady (kept result.now) }
+        ensures shows { Shows (kept result.now) (state_of self.now) }
+    {
+        self.engine.bus()
     }
 
     /// The committed byte at an address, or none outside memory.

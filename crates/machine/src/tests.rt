@@ -1,5 +1,9 @@
 use super::*;
-use el_base::{Chronicled, Config, ConfigFault, Entry, Event, HartId, Kind, Mode, Outcome};
+use cache_sets::Letter;
+use el_base::{
+    Chronicled, Config, ConfigFault, Entry, Event, HartId, Kind, LineAddr, Losers, Mode, Need,
+    Outcome, Why, line_of,
+};
 use elf_image::{Image, load};
 use rv_alu::HartStatus;
 use std::alloc::Global;
@@ -30,6 +34,18 @@ const DIGITS: [u8; 126] = [
     0x00, 0x10, 0x00, 0x00, 0x97, 0x05, 0x00, 0x00, 0x93, 0x85, 0x85, 0x02, 0xb3, 0x85, 0xa5, 0x00,
     0x13, 0x05, 0x10, 0x00, 0x13, 0x06, 0x10, 0x00, 0x93, 0x08, 0x00, 0x04, 0x73, 0x00, 0x00, 0x00,
     0x13, 0x05, 0x00, 0x00, 0x93, 0x08, 0xd0, 0x05, 0x73, 0x00, 0x00, 0x00, 0x30, 0x31,
+];
+
+/// A program that stores the byte 5 at 0x11000 and loads the word at 0x11040, the next line: `lui x5,0x11`,
+/// `addi x6,x0,5`, `sb x6,0(x5)`, `lw x7,64(x5)`.
+const STORES: [u8; 100] = [
+    0x7f, 0x45, 0x4c, 0x46, 0x01, 0x01, 0x01, 0x00, 0x00, 0x00, 0x00, 0x00, 0x00, 0x00, 0x00, 0x00,
+    0x02, 0x00, 0xf3, 0x00, 0x01, 0x00, 0x00, 0x00, 0x54, 0x00, 0x01, 0x00, 0x34, 0x00, 0x00, 0x00,
+    0x00, 0x00, 0x00, 0x00, 0x00, 0x00, 0x00, 0x00, 0x34, 0x00, 0x20, 0x00, 0x01, 0x00, 0x00, 0x00,
+    0x00, 0x00, 0x00, 0x00, 0x01, 0x00, 0x00, 0x00, 0x00, 0x00, 0x00, 0x00, 0x00, 0x00, 0x01, 0x00,
+    0x00, 0x00, 0x01, 0x00, 0x64, 0x00, 0x00, 0x00, 0x64, 0x00, 0x00, 0x00, 0x05, 0x00, 0x00, 0x00,
+    0x00, 0x10, 0x00, 0x00, 0xb7, 0x12, 0x01, 0x00, 0x13, 0x03, 0x50, 0x00, 0x23, 0x80, 0x62, 0x00,
+    0x83, 0xa3, 0x02, 0x04,
 ];
 
 fn hart(number: u8) -> Result<HartId, Fail> {
@@ -81,55 +97,183 @@ fn status(rt: &impl Abort, machine: &Machine, hart: HartId) -> HartStatus {
     machine.hart(hart).status
 }
 
+/// The line of the two bytes that the program prints, and of the digits.
+fn printed() -> LineAddr {
+    line_of(0x1_0040)
+}
+
+/// What Order and Serve say where no section is lost.
+fn ordered() -> Outcome {
+    Outcome::Ordered {
+        losers: Losers::none(),
+    }
+}
+
+fn served() -> Outcome {
+    Outcome::Served {
+        losers: Losers::none(),
+    }
+}
+
+/// A row of events: of a kind and a hart, so many, each with this outcome.
+type Row = (Kind, u8, u8, Outcome);
+
+/// Makes the events of some rows, and sees what comes of each and what the history says of it.
+fn play(rt: &impl Abort, machine: &mut Machine, rows: &[Row]) -> Result<(), Fail> {
+    for (kind, number, count, outcome) in rows {
+        let one = hart(*number)?;
+        for _ in 0..*count {
+            assert!(rt; !machine.over());
+            let made = machine.history().length();
+            assert_eq!(rt; act(rt, machine, *kind, one), *outcome);
+            assert_eq!(rt; machine.history().length(), made + 1);
+            assert!(rt; made < machine.history().length());
+            assert_eq!(rt;
+                machine.history().entry(made),
+                Entry {
+                    event: Event {
+                        kind: *kind,
+                        hart: one
+                    },
+                    outcome: *outcome,
+                }
+            );
+        }
+    }
+    Ok(())
+}
+
+/// What a hart's cache has of a line.
+fn letter(rt: &impl Abort, machine: &Machine, hart: HartId, line: LineAddr) -> Letter {
+    let bus = machine.bus();
+    assert!(rt; usize::from(hart.number) < bus.harts());
+    bus.sets(hart).letter(line)
+}
+
+/// The byte at an address of memory in main memory.
+fn main_byte(rt: &impl Abort, machine: &Machine, address: u32) -> u8 {
+    let bus = machine.bus();
+    assert!(rt; bus.byte(address).is_some());
+    bus.main_byte(address)
+}
+
+fn missed() -> Outcome {
+    Outcome::Missed {
+        line: printed(),
+        need: Need::Read,
+    }
+}
+
+/// The write call reads its bytes in the cache: the line has to come first, and the bus is idle before that.
 #[test]
 fn a_program_runs_to_its_end(rt: HostRuntime) -> Result<(), Fail> {
     let only = hart(0)?;
     let mut machine = machine(&rt, rt.alloc(), &FILE, plain(1, 20))?;
     assert_eq!(rt; machine.config(), plain(1, 20));
-    for _ in 0..9 {
-        assert!(rt; !machine.over());
-        assert_eq!(rt; status(&rt, &machine, only), HartStatus::Running);
-        assert_eq!(rt; act(&rt, &mut machine, Kind::Step, only), Outcome::Ran);
-    }
+    let rows = [
+        (Kind::Order, 0, 1, Outcome::Idle),
+        (Kind::Serve, 0, 1, Outcome::Idle),
+        (Kind::Deliver, 0, 1, Outcome::Idle),
+        (Kind::Step, 0, 5, Outcome::Ran),
+        (Kind::Step, 0, 1, missed()),
+        (Kind::Step, 0, 1, Outcome::Stalled),
+        (Kind::Order, 0, 1, ordered()),
+        (Kind::Step, 0, 1, Outcome::Stalled),
+        (Kind::Serve, 0, 1, served()),
+        (Kind::Step, 0, 4, Outcome::Ran),
+    ];
+    assert_eq!(rt; status(&rt, &machine, only), HartStatus::Running);
+    play(&rt, &mut machine, &rows)?;
     assert!(rt; machine.over());
-    assert_eq!(rt; machine.steps_left(), 11);
+    assert_eq!(rt; act(&rt, &mut machine, Kind::Step, only), Outcome::Idle);
+    assert_eq!(rt; machine.steps_left(), 2);
     assert_eq!(rt; machine.output(), b"A\n".as_slice());
     assert_eq!(rt; status(&rt, &machine, only), HartStatus::Exited { code: 0 });
-    assert_eq!(rt; machine.history().length(), 9);
     assert_eq!(rt; machine.history().serial_len(), 9);
     Ok(())
 }
 
-/// Events that have nothing to do are told like the others: each makes the history longer by one.
+/// Two harts ask for one line: the second waits behind the first, and then for the end of its hold.
 #[test]
-fn idle_events_are_told(rt: HostRuntime) -> Result<(), Fail> {
-    let only = hart(0)?;
-    let mut machine = machine(&rt, rt.alloc(), &FILE, plain(1, 20))?;
-    let rounds = [
-        (Kind::Order, 1, Outcome::Idle),
-        (Kind::Serve, 1, Outcome::Idle),
-        (Kind::Deliver, 1, Outcome::Idle),
-        (Kind::Step, 9, Outcome::Ran),
-        (Kind::Step, 2, Outcome::Idle),
+fn two_harts_share_a_line(rt: HostRuntime) -> Result<(), Fail> {
+    let (first, second) = (hart(0)?, hart(1)?);
+    let mut machine = machine(&rt, rt.alloc(), &FILE, plain(2, 30))?;
+    let behind = Outcome::Blocked {
+        why: Why::Behind,
+        by: first,
+    };
+    let locked = Outcome::Blocked {
+        why: Why::Locked,
+        by: first,
+    };
+    let asked = [
+        (Kind::Step, 0, 5, Outcome::Ran),
+        (Kind::Step, 0, 1, missed()),
+        (Kind::Step, 1, 5, Outcome::Ran),
+        (Kind::Step, 1, 1, missed()),
+        (Kind::Order, 0, 1, ordered()),
+        (Kind::Order, 1, 1, ordered()),
+        (Kind::Serve, 1, 1, behind),
+        (Kind::Serve, 0, 1, served()),
     ];
-    let mut made = 0;
-    for (kind, count, outcome) in rounds {
-        for _ in 0..count {
-            assert_eq!(rt; act(&rt, &mut machine, kind, only), outcome);
-            let length = machine.history().length();
-            assert!(rt; made < length);
-            assert_eq!(rt; length, made + 1);
-            assert_eq!(rt;
-                machine.history().entry(made),
-                Entry {
-                    event: Event { kind, hart: only },
-                    outcome,
-                }
-            );
-            made = length;
-        }
-    }
-    assert_eq!(rt; machine.history().serial_len(), 9);
+    play(&rt, &mut machine, &asked)?;
+    assert_eq!(rt; letter(&rt, &machine, first, printed()), Letter::E);
+    play(
+        &rt,
+        &mut machine,
+        &[
+            (Kind::Serve, 1, 1, locked),
+            (Kind::Step, 0, 1, Outcome::Ran),
+        ],
+    )?;
+    assert_eq!(rt; machine.output(), b"A\n".as_slice());
+    play(&rt, &mut machine, &[(Kind::Serve, 1, 1, served())])?;
+    assert_eq!(rt; letter(&rt, &machine, first, printed()), Letter::S);
+    assert_eq!(rt; letter(&rt, &machine, second, printed()), Letter::S);
+    play(&rt, &mut machine, &[(Kind::Step, 1, 1, Outcome::Ran)])?;
+    assert_eq!(rt; machine.output(), b"A\nA\n".as_slice());
+    Ok(())
+}
+
+/// With room for one line, a written line goes back to main memory as another line comes.
+#[test]
+fn a_written_line_is_written_back(rt: HostRuntime) -> Result<(), Fail> {
+    let only = hart(0)?;
+    let config = Config {
+        sets: 1,
+        ways: 1,
+        ..plain(1, 20)
+    };
+    let mut machine = machine(&rt, rt.alloc(), &STORES, config)?;
+    let line = line_of(0x1_1000);
+    let wants = Outcome::Missed {
+        line,
+        need: Need::Write,
+    };
+    let next = Outcome::Missed {
+        line: line_of(0x1_1040),
+        need: Need::Read,
+    };
+    let stored = [
+        (Kind::Step, 0, 2, Outcome::Ran),
+        (Kind::Step, 0, 1, wants),
+        (Kind::Order, 0, 1, ordered()),
+        (Kind::Serve, 0, 1, served()),
+        (Kind::Step, 0, 1, Outcome::Ran),
+    ];
+    play(&rt, &mut machine, &stored)?;
+    assert_eq!(rt; letter(&rt, &machine, only, line), Letter::M);
+    assert_eq!(rt; machine.byte(0x1_1000), Some(5));
+    assert_eq!(rt; main_byte(&rt, &machine, 0x1_1000), 0);
+    let gone = [
+        (Kind::Step, 0, 1, next),
+        (Kind::Order, 0, 1, ordered()),
+        (Kind::Serve, 0, 1, served()),
+    ];
+    play(&rt, &mut machine, &gone)?;
+    assert_eq!(rt; letter(&rt, &machine, only, line), Letter::I);
+    assert_eq!(rt; machine.byte(0x1_1000), Some(5));
+    assert_eq!(rt; main_byte(&rt, &machine, 0x1_1000), 5);
     Ok(())
 }
 
@@ -137,13 +281,16 @@ fn idle_events_are_told(rt: HostRuntime) -> Result<(), Fail> {
 #[test]
 fn the_order_of_events_is_the_order_of_the_output(rt: HostRuntime) -> Result<(), Fail> {
     for (order, output) in [([0, 1], b"01"), ([1, 0], b"10")] {
-        let mut machine = machine(&rt, rt.alloc(), &DIGITS, plain(2, 20))?;
+        let mut machine = machine(&rt, rt.alloc(), &DIGITS, plain(2, 26))?;
         for number in order {
-            for _ in 0..10 {
-                assert!(rt; !machine.over());
-                let one = hart(number)?;
-                assert_eq!(rt; act(&rt, &mut machine, Kind::Step, one), Outcome::Ran);
-            }
+            let rows = [
+                (Kind::Step, number, 6, Outcome::Ran),
+                (Kind::Step, number, 1, missed()),
+                (Kind::Order, number, 1, ordered()),
+                (Kind::Serve, number, 1, served()),
+                (Kind::Step, number, 4, Outcome::Ran),
+            ];
+            play(&rt, &mut machine, &rows)?;
         }
         assert!(rt; machine.over());
         assert_eq!(rt; machine.steps_left(), 0);

@@ -70,11 +70,11 @@ fn told(alloc: Global, machine: &Machine) -> Result<SureSink, Fail> {
 
 #[test]
 fn a_report_is_three_lines_for_one_hart(rt: HostRuntime) -> Result<(), Fail> {
-    let machine = run(&rt, rt.alloc(), &FILE, &[(0, 33)])?;
+    let machine = run(&rt, rt.alloc(), &FILE, &[(0, 37)])?;
     let sink = told(rt.alloc(), &machine)?;
-    let text = b"elide plain harts 1 events 33\n\
+    let text = b"elide plain harts 1 events 37\n\
         hart 0 ran 9 began 0 committed 0 instr 0 conflict 0 room 0 lines 0 long 0 call 0 mixed 0 \
-        missed 0 stalled 0 blocked 0 exit 0\n\
+        missed 1 stalled 0 blocked 0 exit 0\n\
         serial 9 out 2\n";
     assert_eq!(rt; sink.taken(), text.as_slice());
     Ok(())
@@ -95,7 +95,7 @@ fn a_line_ends_with_how_its_hart_stands(rt: HostRuntime) -> Result<(), Fail> {
         (
             CODE,
             [0x13, 0x05, 0xf0, 0xff],
-            33,
+            37,
             " ran 9 ",
             " exit 4294967295\nserial 9 out 2\n",
         ),
@@ -127,15 +127,15 @@ fn each_of_eight_harts_has_its_line(rt: HostRuntime) -> Result<(), Fail> {
         (2, 13),
         (3, 5),
         (4, 17),
-        (5, 33),
-        (6, 21),
-        (7, 25),
+        (5, 37),
+        (6, 25),
+        (7, 29),
     ];
     let machine = run(&rt, rt.alloc(), &FILE, &events)?;
     let sink = told(rt.alloc(), &machine)?;
     let text = str::from_utf8(sink.taken()).map_err(|_| "no text")?;
     let mut lines = text.lines();
-    assert_eq!(rt; lines.next(), Some("elide plain harts 8 events 124"));
+    assert_eq!(rt; lines.next(), Some("elide plain harts 8 events 136"));
     for (number, ran) in [
         (0, 1),
         (1, 3),
@@ -147,9 +147,10 @@ fn each_of_eight_harts_has_its_line(rt: HostRuntime) -> Result<(), Fail> {
         (7, 7),
     ] {
         let status = if number == 5 { "exit 0" } else { "running" };
+        let missed = if number < 5 { 0 } else { 1 };
         let line = format!(in rt.alloc();
             "hart {number} ran {ran} began 0 committed 0 instr 0 conflict 0 \
-            room 0 lines 0 long 0 call 0 mixed 0 missed 0 stalled 0 blocked 0 {status}"
+            room 0 lines 0 long 0 call 0 mixed 0 missed {missed} stalled 0 blocked 0 {status}"
         )?;
         assert_eq!(rt; lines.next(), Some(line.as_str()));
     }
@@ -160,7 +161,7 @@ fn each_of_eight_harts_has_its_line(rt: HostRuntime) -> Result<(), Fail> {
 
 #[test]
 fn a_sink_is_given_the_rest_of_what_it_did_not_take(rt: HostRuntime) -> Result<(), Fail> {
-    let machine = run(&rt, rt.alloc(), &FILE, &[(0, 33)])?;
+    let machine = run(&rt, rt.alloc(), &FILE, &[(0, 37)])?;
     let whole = told(rt.alloc(), &machine)?;
     let mut slow = MemSink::make(rt.alloc(), 2_000, 1, &[])?;
     write_report(&mut slow, &machine)?;
@@ -179,13 +180,13 @@ fn taken_until(alloc: Global, machine: &Machine, failing: u32) -> Result<MemSink
 
 #[test]
 fn a_sink_that_failed_has_the_beginning(rt: HostRuntime) -> Result<(), Fail> {
-    let machine = run(&rt, rt.alloc(), &FILE, &[(0, 33)])?;
+    let machine = run(&rt, rt.alloc(), &FILE, &[(0, 37)])?;
     let none = taken_until(rt.alloc(), &machine, 1)?;
     assert!(rt; none.taken().is_empty());
     let word = taken_until(rt.alloc(), &machine, 2)?;
     assert_eq!(rt; word.taken(), b"elide".as_slice());
     let line = taken_until(rt.alloc(), &machine, 13)?;
-    assert_eq!(rt; line.taken(), b"elide plain harts 1 events 33\n".as_slice());
+    assert_eq!(rt; line.taken(), b"elide plain harts 1 events 37\n".as_slice());
     Ok(())
 }
 

@@ -13,10 +13,9 @@ use Rattle.el_base.proofs.Ranges.{ranges, at_least, at_most}
 use Rattle.el_base.specs.declared.events.Event.{Event}
 use Rattle.el_base.specs.declared.config.Config.{Config}
 use Rattle.el_base.specs.declared.config.Mode.TheVariants.{Plain}
-use Rattle.plain_model.specs.ModelState.{ModelState}
-use Rattle.plain_model.specs.RoundRobin.{IsRoundRobin, IsEventAt}
-use Rattle.plain_model.specs.Runs.{entries_from}
-use Rattle.plain_model.specs.Step.{next}
+use Rattle.drive.specs.RoundRobin.{IsRoundRobin, IsEventAt}
+use Rattle.el_model.specs.Next.{entries_from, next}
+use Rattle.el_model.specs.State.{ModelState}
 use Rattle.elf_image.specs.Limits.{file_limit}
 use Rattle.elf_image.specs.Loaded.{program_of}
 use Rattle.elf_image.specs.Program.{Program}

@@ -1,5 +1,5 @@
 //! An image as linkers make them: code and data in two segments, and headers that are passed over.
-use crate::support::{HELLO, answer, report_of};
+use crate::support::{HELLO, MISSED_ONE, answer, report_of};
 use std::alloc::{AllocError, Global};
 use std::test::Fail;
 
@@ -67,8 +67,8 @@ fn each_hart_has_a_stack_of_its_own(rt: HostRuntime) -> Result<(), Fail> {
     assert_eq!(rt; ending.out.as_slice(), wanted.as_slice());
     let report = report_of(
         rt.alloc(),
-        "elide plain harts 8 events 317",
-        &[(10, "exit 0"); 8],
+        "elide plain harts 8 events 349",
+        &[(10, MISSED_ONE, "exit 0"); 8],
         "serial 80 out 32",
     )?;
     assert_eq!(rt; ending.err.as_slice(), report.as_bytes());

@@ -156,7 +156,7 @@ fn files_over_their_limits_are_refused(rt: HostRuntime) -> Result<(), Fail> {
 
 #[test]
 fn changed_traces_have_their_first_fault(rt: HostRuntime) -> Result<(), Fail> {
-    for length in 0..55usize {
+    for length in 0..59usize {
         let trace = resized(rt.alloc(), &TRACE, length, 0)?;
         let line = format!(in rt.alloc(); "trace fault 1 Short at byte {length}\n")?;
         let ending = answer(&rt, &["replay", "a", "t"], &HELLO, &trace)?;
@@ -175,10 +175,10 @@ fn changed_traces_have_their_first_fault(rt: HostRuntime) -> Result<(), Fail> {
         let ending = answer(&rt, &["replay", "a", "t"], &HELLO, &trace)?;
         assert!(rt; is_refused(&ending, line), "byte {place} set to {value}");
     }
-    let longer = resized(rt.alloc(), &TRACE, 55, 1)?;
+    let longer = resized(rt.alloc(), &TRACE, 59, 1)?;
     let ending = answer(&rt, &["replay", "a", "t"], &HELLO, &longer)?;
     assert!(rt;
-        is_refused(&ending, "trace fault 6 Tail at byte 55\n"),
+        is_refused(&ending, "trace fault 6 Tail at byte 59\n"),
         "one byte more"
     );
     Ok(())

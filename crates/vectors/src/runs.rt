@@ -1,5 +1,7 @@
 //! Runs that end by themselves, or at their last step.
-use crate::support::{HELLO, REPORT, answer, changed, image_of, report_of};
+use crate::support::{
+    HELLO, MISSED_ONE, REPORT, TOUCHED_NOTHING, answer, changed, image_of, report_of,
+};
 use std::test::Fail;
 
 // Each hart exits with its number: addi a7, x0, 93; ecall.
@@ -27,29 +29,29 @@ const LOOPS: [u32; 1] = [0x0000_006f];
 
 #[test]
 fn the_worked_image_prints_and_exits(rt: HostRuntime) -> Result<(), Fail> {
-    let rows: [(&[&str], u8, &str, &str, &[(u32, &str)], &str); 7] = [
+    let rows: [(&[&str], u8, &str, &str, &[(u32, &str, &str)], &str); 7] = [
         (
             &["run", "a"],
             0,
             "A\n",
-            "elide plain harts 1 events 33",
-            &[(9, "exit 0")],
+            "elide plain harts 1 events 37",
+            &[(9, MISSED_ONE, "exit 0")],
             "serial 9 out 2",
         ),
         (
-            &["run", "a", "--steps", "33"],
+            &["run", "a", "--steps", "37"],
             0,
             "A\n",
-            "elide plain harts 1 events 33",
-            &[(9, "exit 0")],
+            "elide plain harts 1 events 37",
+            &[(9, MISSED_ONE, "exit 0")],
             "serial 9 out 2",
         ),
         (
-            &["run", "a", "--steps", "32"],
+            &["run", "a", "--steps", "36"],
             3,
             "A\n",
-            "elide plain harts 1 events 32",
-            &[(8, "running")],
+            "elide plain harts 1 events 36",
+            &[(8, MISSED_ONE, "running")],
             "serial 8 out 2",
         ),
         (
@@ -57,31 +59,34 @@ fn the_worked_image_prints_and_exits(rt: HostRuntime) -> Result<(), Fail> {
             3,
             "",
             "elide plain harts 1 events 1",
-            &[(1, "running")],
+            &[(1, TOUCHED_NOTHING, "running")],
             "serial 1 out 0",
         ),
         (
             &["run", "a", "--harts", "01"],
             0,
             "A\n",
-            "elide plain harts 1 events 33",
-            &[(9, "exit 0")],
+            "elide plain harts 1 events 37",
+            &[(9, MISSED_ONE, "exit 0")],
             "serial 9 out 2",
         ),
         (
             &["run", "a", "--harts", "2"],
             0,
             "A\nA\n",
-            "elide plain harts 2 events 69",
-            &[(9, "exit 0"), (9, "exit 0")],
+            "elide plain harts 2 events 85",
+            &[
+                (9, MISSED_ONE, "exit 0"),
+                (9, "missed 1 stalled 1 blocked 1", "exit 0"),
+            ],
             "serial 18 out 4",
         ),
         (
             &["run", "a", "--steps", "16777216", "--harts", "1"],
             0,
             "A\n",
-            "elide plain harts 1 events 33",
-            &[(9, "exit 0")],
+            "elide plain harts 1 events 37",
+            &[(9, MISSED_ONE, "exit 0")],
             "serial 9 out 2",
         ),
     ];
@@ -107,14 +112,14 @@ fn total_store_order_is_no_fault(rt: HostRuntime) -> Result<(), Fail> {
 
 #[test]
 fn programs_end_as_their_harts_do(rt: HostRuntime) -> Result<(), Fail> {
-    let rows: [(&[u32], &str, u8, &[u8], &str, &[(u32, &str)], &str); 6] = [
+    let rows: [(&[u32], &str, u8, &[u8], &str, &[(u32, &str, &str)], &str); 6] = [
         (
             &EXITS_WITH_ITS_NUMBER,
             "1",
             0,
             &[],
             "elide plain harts 1 events 5",
-            &[(2, "exit 0")],
+            &[(2, TOUCHED_NOTHING, "exit 0")],
             "serial 2 out 0",
         ),
         (
@@ -124,14 +129,14 @@ fn programs_end_as_their_harts_do(rt: HostRuntime) -> Result<(), Fail> {
             &[],
             "elide plain harts 8 events 61",
             &[
-                (2, "exit 0"),
-                (2, "exit 1"),
-                (2, "exit 2"),
-                (2, "exit 3"),
-                (2, "exit 4"),
-                (2, "exit 5"),
-                (2, "exit 6"),
-                (2, "exit 7"),
+                (2, TOUCHED_NOTHING, "exit 0"),
+                (2, TOUCHED_NOTHING, "exit 1"),
+                (2, TOUCHED_NOTHING, "exit 2"),
+                (2, TOUCHED_NOTHING, "exit 3"),
+                (2, TOUCHED_NOTHING, "exit 4"),
+                (2, TOUCHED_NOTHING, "exit 5"),
+                (2, TOUCHED_NOTHING, "exit 6"),
+                (2, TOUCHED_NOTHING, "exit 7"),
             ],
             "serial 16 out 0",
         ),
@@ -140,8 +145,8 @@ fn programs_end_as_their_harts_do(rt: HostRuntime) -> Result<(), Fail> {
             "1",
             1,
             &[0, 0, 0, 0, 0, 0, 0, 0, 1, 0],
-            "elide plain harts 1 events 29",
-            &[(8, "exit 10")],
+            "elide plain harts 1 events 33",
+            &[(8, MISSED_ONE, "exit 10")],
             "serial 8 out 10",
         ),
         (
@@ -150,7 +155,7 @@ fn programs_end_as_their_harts_do(rt: HostRuntime) -> Result<(), Fail> {
             1,
             &[],
             "elide plain harts 1 events 1",
-            &[(1, "trap 4 at 00010054")],
+            &[(1, TOUCHED_NOTHING, "trap 4 at 00010054")],
             "serial 1 out 0",
         ),
         (
@@ -159,7 +164,7 @@ fn programs_end_as_their_harts_do(rt: HostRuntime) -> Result<(), Fail> {
             3,
             &[],
             "elide plain harts 1 events 4000000",
-            &[(1000000, "running")],
+            &[(1000000, TOUCHED_NOTHING, "running")],
             "serial 1000000 out 0",
         ),
         (
@@ -169,9 +174,9 @@ fn programs_end_as_their_harts_do(rt: HostRuntime) -> Result<(), Fail> {
             &[],
             "elide plain harts 3 events 4000000",
             &[
-                (333334, "running"),
-                (333333, "running"),
-                (333333, "running"),
+                (333334, TOUCHED_NOTHING, "running"),
+                (333333, TOUCHED_NOTHING, "running"),
+                (333333, TOUCHED_NOTHING, "running"),
             ],
             "serial 1000000 out 0",
         ),

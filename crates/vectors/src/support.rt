@@ -17,34 +17,42 @@ pub const HELLO: [u8; 122] = [
     0x93, 0x08, 0xd0, 0x05, 0x73, 0x00, 0x00, 0x00, 0x41, 0x0a,
 ];
 
-/// The trace of a run of it: 33 events, Step, Order, Serve and Deliver of hart 0 in turn.
-pub const TRACE: [u8; 55] = [
+/// The trace of a run of it: 37 events, Step, Order, Serve and Deliver of hart 0 in turn.
+pub const TRACE: [u8; 59] = [
     0x45, 0x4c, 0x54, 0x52, 0x01, 0x01, 0x00, 0x10, 0x04, 0x10, 0xd0, 0x07, 0x00, 0x00, 0x00, 0x09,
-    0x3d, 0x00, 0x21, 0x00, 0x00, 0x00, 0x00, 0x10, 0x20, 0x30, 0x00, 0x10, 0x20, 0x30, 0x00, 0x10,
+    0x3d, 0x00, 0x25, 0x00, 0x00, 0x00, 0x00, 0x10, 0x20, 0x30, 0x00, 0x10, 0x20, 0x30, 0x00, 0x10,
     0x20, 0x30, 0x00, 0x10, 0x20, 0x30, 0x00, 0x10, 0x20, 0x30, 0x00, 0x10, 0x20, 0x30, 0x00, 0x10,
-    0x20, 0x30, 0x00, 0x10, 0x20, 0x30, 0x00,
+    0x20, 0x30, 0x00, 0x10, 0x20, 0x30, 0x00, 0x10, 0x20, 0x30, 0x00,
 ];
 
 /// What `err` takes of a run of it to its end.
-pub const REPORT: &str = "elide plain harts 1 events 33\n\
-hart 0 ran 9 began 0 committed 0 instr 0 conflict 0 room 0 lines 0 long 0 call 0 mixed 0 missed 0 stalled 0 blocked 0 exit 0\n\
+pub const REPORT: &str = "elide plain harts 1 events 37\n\
+hart 0 ran 9 began 0 committed 0 instr 0 conflict 0 room 0 lines 0 long 0 call 0 mixed 0 missed 1 stalled 0 blocked 0 exit 0\n\
 serial 9 out 2\n";
 
-/// What a report says of each hart between the number of its instructions and its status, where there
-/// are neither caches nor sections.
-const NOTHING_ELSE: &str =
-    "began 0 committed 0 instr 0 conflict 0 room 0 lines 0 long 0 call 0 mixed 0 missed 0 stalled 0 blocked 0";
+/// What a report says of each hart after the number of its instructions, where there are no sections.
+const NO_SECTIONS: &str =
+    "began 0 committed 0 instr 0 conflict 0 room 0 lines 0 long 0 call 0 mixed 0";
 
-/// A report of these first and last lines, and of harts with so many instructions and such a status.
+/// What it says between that and its status of a hart that touched nothing, and of one that missed one line and got
+/// it at once.
+pub const TOUCHED_NOTHING: &str = "missed 0 stalled 0 blocked 0";
+
+pub const MISSED_ONE: &str = "missed 1 stalled 0 blocked 0";
+
+/// A report of these first and last lines, and of harts with so many instructions, such requests and such a status.
 pub fn report_of(
     alloc: Global,
     first: &str,
-    harts: &[(u32, &str)],
+    harts: &[(u32, &str, &str)],
     last: &str,
 ) -> Result<String, AllocError> {
     let mut text = format!(in alloc; "{first}\n")?;
-    for (number, (ran, status)) in harts.iter().enumerate() {
-        writeln!(text, "hart {number} ran {ran} {NOTHING_ELSE} {status}")?;
+    for (number, (ran, requests, status)) in harts.iter().enumerate() {
+        writeln!(
+            text,
+            "hart {number} ran {ran} {NO_SECTIONS} {requests} {status}"
+        )?;
     }
     writeln!(text, "{last}")?;
     Ok(text)

@@ -1,5 +1,5 @@
 //! Traces that are written, and played again.
-use crate::support::{HELLO, REPORT, TRACE, answer, changed, report_of};
+use crate::support::{HELLO, MISSED_ONE, REPORT, TRACE, answer, changed, report_of};
 use std::test::Fail;
 
 #[test]
@@ -19,21 +19,21 @@ fn a_run_writes_its_trace_and_its_replay_is_the_same(rt: HostRuntime) -> Result<
 // The trace says how many events there are, and not how many steps the run was given.
 #[test]
 fn a_replay_ends_where_its_trace_does(rt: HostRuntime) -> Result<(), Fail> {
-    let mut short = changed(rt.alloc(), &TRACE, 18, 32)?;
-    short.truncate(54);
-    let rows: [(&[u8], u8, &str, (u32, &str), &str); 2] = [
+    let mut short = changed(rt.alloc(), &TRACE, 18, 36)?;
+    short.truncate(58);
+    let rows: [(&[u8], u8, &str, (u32, &str, &str), &str); 2] = [
         (
             &TRACE,
             0,
-            "elide plain harts 1 events 33",
-            (9, "exit 0"),
+            "elide plain harts 1 events 37",
+            (9, MISSED_ONE, "exit 0"),
             "serial 9 out 2",
         ),
         (
             &short,
             3,
-            "elide plain harts 1 events 32",
-            (8, "running"),
+            "elide plain harts 1 events 36",
+            (8, MISSED_ONE, "running"),
             "serial 8 out 2",
         ),
     ];

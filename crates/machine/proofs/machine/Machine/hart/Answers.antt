@@ -1,12 +1,14 @@
-use Rattle.std.proofs.Common.{ℕ, ◌<◌, ap, subst, sym, ◌∙◌}
-use Rattle.machine.proofs.GoesOn.{as_many, reached_committed}
+-- the view that the parts have
+use Rattle.std.proofs.Common.{◌∙◌, ap}
+use Rattle.engine.specs.Parts.{view_at}
+use Rattle.machine.proofs.GoesOn.{hart_there, now_in, reached_committed}
 use Rattle.machine.proofs.machine.Machine.hart.Goals as goal
 use Rattle.rv_flat.specs.FlatState.{view_of}
 
 pub hart-requires : goal.hart-requires
-hart-requires c =
-    let Below : ℕ → Type 0 = λ count. c.args.hart.number < count in
-    subst Below (sym (as_many _ _ _ _ c.self.invariant c.self.view_is)) c.requires
+hart-requires c = hart_there _ _ _ _ _ c.self.invariant c.self.view_is c.requires
 
 pub returns : goal.returns
-returns c = c.hart.ensures ∙ ap (λ state. view_of state c.args.hart.number) (reached_committed _ _ _ _ c.self.invariant c.self.view_is)
+returns c =
+    c.hart.ensures ∙ ap (λ views. view_at views c.args.hart.number) (now_in _ _ _ _ c.self.invariant c.self.view_is).views
+    ∙ ap (λ state. view_of state c.args.hart.number) (reached_committed _ _ _ _ c.self.invariant c.self.view_is)

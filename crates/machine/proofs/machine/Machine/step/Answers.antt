@@ -1,18 +1,35 @@
-use Rattle.std.proofs.Common.{ℕ, ◌<◌, refl, subst, sym}
-use Rattle.machine.proofs.GoesOn.{as_many, one_run, stands_more}
+-- the machine stands after the event
+use Rattle.std.proofs.Common.{◌∙◌, [], ◌∷◌, ap, refl}
+use Rattle.machine.proofs.GoesOn.{hart_there, now_in, now_reached, one_run, parts_plain, parts_stand, stands_more, told_more}
+use Rattle.machine.specs.Story.{continued, state_of}
 use Rattle.machine.proofs.machine.Machine.step.Goals as goal
 
-pub step-outcome-requires : goal.step-outcome-requires
-step-outcome-requires c =
-    let Below : ℕ → Type 0 = λ count. c.args.event.hart.number < count in
-    subst Below (sym (as_many _ _ _ _ c.self.invariant c.self.view_is)) c.requires.hart_exists
+pub step-outcome-requires-clause-hart_exists : goal.step-outcome-requires-clause-hart_exists
+step-outcome-requires-clause-hart_exists c = hart_there _ _ _ _ _ c.self.invariant c.self.view_is c.requires.hart_exists
+
+pub step-outcome-requires-clause-plain : goal.step-outcome-requires-clause-plain
+step-outcome-requires-clause-plain c = parts_plain _ _ _ c.self.invariant
+
+pub step-outcome-requires-clause-stands : goal.step-outcome-requires-clause-stands
+step-outcome-requires-clause-stands c = parts_stand _ _ _ c.self.invariant
 
 pub invariant_of-self : goal.invariant_of-self
 invariant_of-self c =
     let below = rw (← c.self.view_is) at c.requires.hart_exists in
     let left = rw (← c.self.view_is) at c.requires.step_left in
     rw c.push.ensures
-    (stands_more _ _ _ _ _ _ c.self.invariant below left c.step-outcome.ensures.state c.step-outcome.ensures.outcome)
+    (stands_more _ _ _ _ _ _ c.self.invariant below left c.step-outcome.ensures.stands.ready c.step-outcome.ensures.state
+    c.step-outcome.ensures.outcome)
 
 pub returns-clause-one_run : goal.returns-clause-one_run
 returns-clause-one_run c = one_run _ _ _ _ (invariant_of-self c) refl
+
+pub returns-clause-goes_on : goal.returns-clause-goes_on
+returns-clause-goes_on c =
+    rw c.push.ensures
+    (told_more _ _ _ _ _ c.self.invariant c.step-outcome.ensures.outcome ∙ ap (λ story. continued story (c.args.event ∷ [])) c.self.view_is)
+
+pub returns-clause-outcome : goal.returns-clause-outcome
+returns-clause-outcome c =
+    c.step-outcome.ensures.outcome (state_of c.args.self.now) (now_reached _ _ _ _ c.self.invariant c.self.view_is)
+    (now_in _ _ _ _ c.self.invariant c.self.view_is)

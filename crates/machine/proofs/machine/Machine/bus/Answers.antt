@@ -1,0 +1,13 @@
+-- the copies of lines
+use Rattle.std.proofs.Common.{subst, sym}
+use Rattle.machine.proofs.GoesOn.{now_in}
+use Rattle.machine.proofs.machine.Machine.bus.Goals as goal
+use Rattle.machine.specs.Story.{state_of}
+use Rattle.snoop.specs.Shows.{IsReady, Shows}
+
+pub returns-clause-ready : goal.returns-clause-ready
+returns-clause-ready c = subst IsReady (sym c.bus.ensures) c.self.invariant.ready
+
+pub returns-clause-shows : goal.returns-clause-shows
+returns-clause-shows c =
+    subst (λ bus. Shows bus (state_of c.args.self.now)) (sym c.bus.ensures) (now_in _ _ _ _ c.self.invariant c.self.view_is).shows

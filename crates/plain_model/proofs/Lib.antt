@@ -1,5 +1,0 @@
-pub mod Events
-pub mod Runs
-pub mod RoundRobins
-mod Worked
-mod Wrong

@@ -1,5 +1,0 @@
-pub mod ModelState
-pub mod Step
-pub mod Runs
-pub mod RoundRobin
-pub mod Laws

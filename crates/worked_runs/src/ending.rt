@@ -1,0 +1,72 @@
+//! The state after the last event.
+
+use crate::difference::Difference;
+use crate::field::{byte, element, list, member, word};
+use el_base::HartId;
+use machine::Machine;
+use rv_alu::HartView;
+use rv_word::Reg;
+use serde_json::Value;
+
+/// The stack pointer: it tells where memory ends, which a loader puts elsewhere. No program of a run uses it.
+const STACK_POINTER: usize = 2;
+
+/// Whether a machine has come to the state that a run tells.
+pub fn end_agrees(machine: &Machine, run: &Value) -> Result<(), Difference> {
+    let end = member(run, "end")?;
+    for (number, hart) in list(member(end, "harts")?)?.iter().enumerate() {
+        if !hart_agrees(machine, number, hart)? {
+            return Err(Difference::Hart { number });
+        }
+    }
+    bytes_agree(machine, run, list(member(end, "bytes_unlike_0")?)?)
+}
+
+/// Whether a hart has the committed pc and registers that are told of it.
+fn hart_agrees(machine: &Machine, number: usize, told: &Value) -> Result<bool, Difference> {
+    let number = u8::try_from(number).map_err(|_| Difference::Form)?;
+    let hart = HartId::new(number).ok_or(Difference::Form)?;
+    if hart.number >= machine.config().harts {
+        return Err(Difference::Form);
+    }
+    let view = machine.hart(hart);
+    Ok(view.pc == word(member(told, "pc")?)?
+        && registers_agree(&view, list(member(told, "registers")?)?)?)
+}
+
+/// Whether the registers of a view, but for the stack pointer, are those of a list.
+fn registers_agree(view: &HartView, told: &Vec<Value>) -> Result<bool, Difference> {
+    for (number, value) in told.iter().enumerate() {
+        let reg = u8::try_from(number)
+            .ok()
+            .and_then(Reg::new)
+            .ok_or(Difference::Form)?;
+        if number != STACK_POINTER && view.regs.get(reg) != word(value)? {
+            return Ok(false);
+        }
+    }
+    Ok(true)
+}
+
+/// Whether each byte of memory is the one that is told of it, or 0.
+fn bytes_agree(machine: &Machine, run: &Value, told: &Vec<Value>) -> Result<(), Difference> {
+    let memory = member(run, "memory")?;
+    let base = word(member(memory, "base")?)?;
+    for index in 0..word(member(memory, "length")?)? {
+        let address = base.wrapping_add(index);
+        if machine.byte(address) != Some(byte_at(told, index)?) {
+            return Err(Difference::Byte { address });
+        }
+    }
+    Ok(())
+}
+
+/// The byte that is told of an index, in a list of those that are not 0.
+fn byte_at(told: &Vec<Value>, index: u32) -> Result<u8, Difference> {
+    for pair in told {
+        if word(element(pair, 0)?)? == index {
+            return byte(element(pair, 1)?);
+        }
+    }
+    Ok(0)
+}

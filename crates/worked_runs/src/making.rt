@@ -1,0 +1,57 @@
+//! A machine makes the events of a run.
+
+use crate::difference::Difference;
+use crate::ending::end_agrees;
+use crate::field::{element, list, member};
+use crate::image::file;
+use crate::outcome::told;
+use crate::worked::{config, event};
+use el_base::Mode;
+use elf_image::load;
+use machine::Machine;
+use serde_json::Value;
+use std::alloc::Global;
+
+/// How many events the run of a text has, where the machine agrees with all that it tells.
+pub fn agree(alloc: Global, text: &str) -> Result<usize, Difference> {
+    let run = Value::from_str(alloc, text).map_err(|_| Difference::Form)?;
+    let events = list(member(&run, "events")?)?;
+    let mut machine = machine_of(alloc, &run, events.len())?;
+    for (place, told_event) in events.iter().enumerate() {
+        make(alloc, &mut machine, told_event, place)?;
+    }
+    end_agrees(&machine, &run)?;
+    Ok(events.len())
+}
+
+/// A machine of a run's program, with a step for each event.
+fn machine_of(alloc: Global, run: &Value, events: usize) -> Result<Machine, Difference> {
+    let config = config(run, events)?;
+    if config.mode != Mode::Plain || !(1..=8).contains(&config.harts) {
+        return Err(Difference::NoMachine);
+    }
+    let file = file(alloc, run)?;
+    let image = load(alloc, file.as_slice(), config.harts).map_err(|_| Difference::NoMachine)?;
+    if image.harts() != config.harts {
+        return Err(Difference::NoMachine);
+    }
+    Machine::make(alloc, image, config).map_err(|_| Difference::NoMachine)
+}
+
+/// Makes an event, of which the run tells what came of it.
+fn make(
+    alloc: Global,
+    machine: &mut Machine,
+    told_event: &Value,
+    place: usize,
+) -> Result<(), Difference> {
+    let event = event(told_event)?;
+    if event.hart.number >= machine.config().harts || machine.steps_left() == 0 {
+        return Err(Difference::Form);
+    }
+    let outcome = told(alloc, machine.step(event))?;
+    if outcome != element(told_event, 2)?.to_string(alloc)? {
+        return Err(Difference::Event { place });
+    }
+    Ok(())
+}

@@ -1,8 +1,9 @@
 ghost use Rattle.cached_step.specs.Laws.{
-  CachedBytesAreMemorys,
+  CachedBytesEqualMemory,
   CachesTellMemoryAfter,
   PermittedStepsAreFlat,
   RunsKeepTheForm,
+  StepsShowTheirRule,
   TouchedLinesAreThere,
   UnmarkedCachesHaveRoom,
 };
@@ -10,8 +11,8 @@ ghost use Rattle.cached_step.specs.Laws.{
 /// Where caches and main memory tell the bytes of memory, and the letter of the line that an action touches
 /// permits it, the bytes that it touches are in the hart's cache those of memory.
 #[tactic(auto, using(crate::proofs::Told::bytes_agree))]
-pub fn cached_bytes_are_memorys()
-    ensures { CachedBytesAreMemorys }
+pub fn cached_bytes_equal_memory()
+    ensures { CachedBytesEqualMemory }
 {}
 
 /// Then the hart's next instruction does over its cache what it does on plain shared memory.
@@ -40,4 +41,10 @@ pub fn runs_keep_the_form()
 #[tactic(auto, using(crate::proofs::Rooms::room_without_marks))]
 pub fn unmarked_caches_have_room()
     ensures { UnmarkedCachesHaveRoom }
+{}
+
+/// A hart's next instruction ends over its cache as the definition's rule says for what it touches: it needs the
+/// line that the rule misses, and nothing where the rule runs it.
+pub fn steps_show_their_rule()
+    ensures { StepsShowTheirRule }
 {}

@@ -16,7 +16,10 @@ mod port;
 mod step;
 
 pub use laws::{
-    cached_bytes_are_memorys, caches_tell_memory_after, permitted_steps_are_flat,
-    runs_keep_the_form, touched_lines_are_there, unmarked_caches_have_room,
+    cached_bytes_equal_memory, caches_tell_memory_after, permitted_steps_are_flat,
+    runs_keep_the_form, steps_show_their_rule, touched_lines_are_there, unmarked_caches_have_room,
 };
 pub use step::step_in_cache;
+
+#[cfg(test)]
+mod tests;

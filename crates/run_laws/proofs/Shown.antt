@@ -122,7 +122,7 @@ module _ (committed : FlatState) (h : ℕ) (cache : List (List Way)) (section : 
       let some = run.some in unwritten_at (section.count - 1) section.count (omega arith) (omega arith) place bare outside
 
   -- in the lock word
-  lock_at : (k n : ℕ) → n ≡ k + 1 → n ≤ section.count → (place : ℕ) → section.word ≤ committed.base + place →
+  pub lock_at : (k n : ℕ) → n ≡ k + 1 → n ≤ section.count → (place : ℕ) → section.word ≤ committed.base + place →
       committed.base + place < section.word + 4 → slice_index (alone committed h n).bytes place ≡ slice_index (flat committed h).bytes place
   lock_at zero n is within place low high = let one : n ≡ 1 = omega arith in rw one refl
   lock_at (suc k) n is within place low high =

@@ -70,15 +70,15 @@ swap_insn (Some word) is = by (decoded word) refl is
     by _ means is = absurd (cc)
 
 -- or a store of a word
-record IsWordStore (found : Option ℕ) : Type 0 where
-  word : ℕ
-  rs1 : Reg
-  rs2 : Reg
-  offset : ℤ
-  here : found ≡ Some word
-  means : decoded word ≡ Some (insns.Store widths.Word rs1 rs2 offset)
+pub record IsWordStore (found : Option ℕ) : Type 0 where
+  pub word : ℕ
+  pub rs1 : Reg
+  pub rs2 : Reg
+  pub offset : ℤ
+  pub here : found ≡ Some word
+  pub means : decoded word ≡ Some (insns.Store widths.Word rs1 rs2 offset)
 
-word_store_insn : (found : Option ℕ) → is_word_store (insn_at found) ≡ true → IsWordStore found
+pub word_store_insn : (found : Option ℕ) → is_word_store (insn_at found) ≡ true → IsWordStore found
 word_store_insn None is = absurd (cc)
 word_store_insn (Some word) is = by (decoded word) refl is
   where

@@ -12,13 +12,15 @@ use Rattle.el_model.specs.State.{Hart, ModelState, hart_of}
 use Rattle.snoop.specs.Meets.{meets_in}
 use Rattle.snoop.specs.Shows.{Kept, Shows}
 
-read_by : (read write : Bool) (line : ℕ) (letter : _) → has_need Read (bits_of (Some (record { line = line; letter = letter; read = read; write = write }))) ≡ read
+read_by : (read write : Bool) (line : ℕ) (letter : _) →
+    has_need Read (bits_of (Some (record { line = line; letter = letter; read = read; write = write }))) ≡ read
 read_by true true line letter = refl
 read_by true false line letter = refl
 read_by false true line letter = refl
 read_by false false line letter = refl
 
-write_by : (read write : Bool) (line : ℕ) (letter : _) → has_need Write (bits_of (Some (record { line = line; letter = letter; read = read; write = write }))) ≡ write
+write_by : (read write : Bool) (line : ℕ) (letter : _) →
+    has_need Write (bits_of (Some (record { line = line; letter = letter; read = read; write = write }))) ≡ write
 write_by true true line letter = refl
 write_by true false line letter = refl
 write_by false true line letter = refl

@@ -1,5 +1,6 @@
 -- the bus shows what the definition makes of a marker
-use Rattle.std.proofs.Common.{◌≡◌, ◌∙◌, ℕ, suc, ◌-◌, ◌<◌, Bool, true, false, List, [], ◌∷◌, length, map, Option, Some, None, refl, ap, sym, subst, inl, inr, arith, if◌then◌else◌}
+use Rattle.std.proofs.Common.{◌≡◌, ◌∙◌, ℕ, suc, ◌-◌, ◌<◌, Bool, true, false, List, [], ◌∷◌, length, map, Option, Some, None, refl, ap, sym}
+use Rattle.std.proofs.Common.{subst, inl, inr, arith, if◌then◌else◌}
 use Rattle.std.specs.List.{filter}
 use Rattle.std.specs.Prelude.{slice_index_or, slice_set}
 use Rattle.std.proofs.lemmas.Bool.{cases_lt}
@@ -49,7 +50,8 @@ shows_posts (message ∷ messages) bus state to shows =
     (twice_there state to (record (hart_of state to) { mail = posted (hart_of state to).mail message }) (λ hart. post_all hart messages))
     (shows_posts messages (record bus { agents = with_agent bus.agents to (agent_posted message (agent_at bus.agents to)) })
     (with_hart state to (record (hart_of state to) { mail = posted (hart_of state to).mail message })) to
-    (shows_agent bus state to (agent_posted message (agent_at bus.agents to)) (record (hart_of state to) { mail = posted (hart_of state to).mail message }) shows
+    (shows_agent bus state to (agent_posted message (agent_at bus.agents to))
+    (record (hart_of state to) { mail = posted (hart_of state to).mail message }) shows
     (ap (agent_posted message) (shows.agents to)) refl refl))
 
 pub ready_posts : (messages : List Message) (bus : Kept) (to : ℕ) → IsReady bus → IsReady (record bus { agents = posts_sent messages to bus.agents })
@@ -64,7 +66,8 @@ pub probes_posted : (test : ℕ → Bool) (numbers : List ℕ) (to : ℕ) (agent
 probes_posted test [] to agents = refl
 probes_posted test (origin ∷ others) to agents = by (test origin) (λ now. probes_posted test others to now)
   where
-    by : (taken : Bool) → ((now : List Agent) → probes_sent test others to now ≡ posts_sent (map Probe (filter test others)) to now) → probes_sent test others to (probe_sent taken origin to agents)
+    by : (taken : Bool) → ((now : List Agent) → probes_sent test others to now ≡ posts_sent (map Probe (filter test others)) to now) →
+        probes_sent test others to (probe_sent taken origin to agents)
         ≡ posts_sent (map Probe (if taken then origin ∷ filter test others else filter test others)) to agents
     by true rest = rest (with_agent agents to (agent_posted (Probe origin) (agent_at agents to)))
     by false rest = rest agents
@@ -112,7 +115,8 @@ pub marker_shows : (bus : Kept) (state : ModelState) (h sender : ℕ) → Shows 
 marker_shows bus state h sender shows =
     subst (λ messages. Shows (record bus { agents = marker_taken bus h sender }) (post_to behind sender (Probe h ∷ messages)))
     (passed_same bus state h sender (request_of bus.order h) shows ∙ ap (λ order. map Probe (told_on state h sender (request_of order h))) shows.order)
-    (shows_posts (Probe h ∷ passed_on bus h sender (request_of bus.order h)) (record bus { agents = with_agent bus.agents h (agent_behind sender (agent_at bus.agents h)) })
+    (shows_posts (Probe h ∷ passed_on bus h sender (request_of bus.order h))
+    (record bus { agents = with_agent bus.agents h (agent_behind sender (agent_at bus.agents h)) })
     behind sender
     (shows_agent bus state h (agent_behind sender (agent_at bus.agents h)) _ shows (ap (agent_behind sender) (shows.agents h)) refl refl))
   where
@@ -121,7 +125,8 @@ marker_shows bus state h sender shows =
 
 pub marker_ready : (bus : Kept) (h sender : ℕ) → IsReady bus → IsReady (record bus { agents = marker_taken bus h sender })
 marker_ready bus h sender ready =
-    ready_posts (Probe h ∷ passed_on bus h sender (request_of bus.order h)) (record bus { agents = with_agent bus.agents h (agent_behind sender (agent_at bus.agents h)) }) sender
+    ready_posts (Probe h ∷ passed_on bus h sender (request_of bus.order h))
+    (record bus { agents = with_agent bus.agents h (agent_behind sender (agent_at bus.agents h)) }) sender
     (ready_agent bus h (agent_behind sender (agent_at bus.agents h)) ready (λ request is. is))
 
 -- what the bus keeps as some origins were looked at
@@ -180,11 +185,13 @@ pub marker_answered : (bus : Kept) (h sender : ℕ) (own : Request) → request_
 marker_answered bus h sender own is =
     let behind = with_agent bus.agents h (agent_behind sender (agent_at bus.agents h)) in
     ap (λ agents. record bus { agents = agents })
-    (ap (λ told. probes_sent (passes told bus.order sender own.line) (numbers_from 0 (length (first_answer bus.agents h sender))) sender (first_answer bus.agents h sender))
+    (ap (λ told. probes_sent (passes told bus.order sender own.line) (numbers_from 0 (length (first_answer bus.agents h sender))) sender
+    (first_answer bus.agents h sender))
     (told_behind bus.agents h sender)
     ∙ ap (λ count. probes_sent (passes (agent_at bus.agents h).told bus.order sender own.line) (numbers_from 0 count) sender (first_answer bus.agents h sender))
     (count_with_agent behind sender _ ∙ count_with_agent bus.agents h _)
-    ∙ probes_posted (passes (agent_at bus.agents h).told bus.order sender own.line) (numbers_from 0 (length bus.agents)) sender (first_answer bus.agents h sender)
+    ∙ probes_posted (passes (agent_at bus.agents h).told bus.order sender own.line) (numbers_from 0 (length bus.agents)) sender
+    (first_answer bus.agents h sender)
     ∙ ap (λ found. posts_sent (passed_on bus h sender found) sender (first_answer bus.agents h sender)) (sym is))
 
 -- the oldest message is taken out of a mailbox

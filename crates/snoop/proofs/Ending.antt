@@ -1,7 +1,6 @@
 -- a bus of which one section has ended is ready
-use Rattle.std.proofs.Common.{◌≡◌, ◌∙◌, ℕ, ◌<◌, true, length, Option, Some, refl, ap, sym, subst, inl, inr, arith}
+use Rattle.std.proofs.Common.{◌≡◌, ◌∙◌, ℕ, ◌<◌, true, length, refl, ap, sym, subst, inl, inr, arith}
 use Rattle.std.proofs.lemmas.Bool.{cases_eq}
-use Rattle.bus_order.specs.Order.{Request}
 use Rattle.cache_sets.specs.Cache.{room_of}
 use Rattle.cache_sets.specs.Calls.{IsCleared}
 use Rattle.cache_sets.specs.WellFormed.{IsWellFormed}

@@ -1,5 +1,6 @@
 -- the first of all harts of which a test holds, from the last one down
-use Rattle.std.proofs.Common.{◌≡◌, ◌∙◌, ℕ, zero, suc, ◌+◌, ◌-◌, ◌<◌, ◌≤◌, Bool, false, List, [], ◌∷◌, drop, length, Option, Some, None, refl, ap, sym, arith, if◌then◌else◌}
+use Rattle.std.proofs.Common.{◌≡◌, ◌∙◌, ℕ, zero, suc, ◌+◌, ◌-◌, ◌<◌, ◌≤◌, Bool, false, List, [], ◌∷◌, drop, length, Option, Some, None}
+use Rattle.std.proofs.Common.{refl, ap, sym, arith, if◌then◌else◌}
 use Rattle.bus_order.specs.Order.{first_of}
 use Rattle.el_model.specs.Conflicts.{conflicts_with, first_such, retainer_of, retains}
 use Rattle.el_model.specs.State.{Hart, ModelState, count_up, hart_of, numbers_of}

@@ -1,5 +1,6 @@
 -- the bus shows what the definition makes of a probe
-use Rattle.std.proofs.Common.{◌≡◌, ◌≢◌, ◌∙◌, ℕ, ◌<◌, ◌==◌, ◌&&◌, not, Bool, true, false, List, length, Option, Some, None, is_some, refl, ap, sym, subst, inl, inr, arith, if◌then◌else◌}
+use Rattle.std.proofs.Common.{◌≡◌, ◌≢◌, ◌∙◌, ℕ, ◌<◌, ◌==◌, ◌&&◌, not, Bool, true, false, List, length, Option, Some, None, is_some, refl}
+use Rattle.std.proofs.Common.{ap, sym, subst, inl, inr, arith, if◌then◌else◌}
 use Rattle.std.proofs.lemmas.Bool.{cases_eq, cases_lt}
 use Rattle.std.proofs.lemmas.List.{length-set}
 use Rattle.std.specs.Prelude.{IfSome}
@@ -33,7 +34,8 @@ use Rattle.snoop.proofs.Showing.{agent_other, agent_past, agent_same, count_with
 
 -- a hart that does not lose
 pub heard_shows : (bus : Kept) (state : ModelState) (h origin : ℕ) (request : Option Request) → Shows bus state → loses_to_origin state h request ≡ false →
-    Shows (record bus { agents = with_agent bus.agents h (agent_heard origin None (agent_at bus.agents h)) }) (with_hart state h (told_of state h origin request))
+    Shows (record bus { agents = with_agent bus.agents h (agent_heard origin None (agent_at bus.agents h)) })
+    (with_hart state h (told_of state h origin request))
 heard_shows bus state h origin request shows stays =
     let told = record (hart_of state h) { told = included (hart_of state h).told origin } in
     subst (λ hart. Shows (record bus { agents = with_agent bus.agents h (agent_heard origin None (agent_at bus.agents h)) }) (with_hart state h hart))
@@ -119,7 +121,8 @@ lost_shows bus new state h origin request shows inside loses lost =
     (sym (ap (λ test. if test then lost_hart state h origin request else record (hart_of state h) { told = included (hart_of state h).told origin }) loses))
     (lost_is_shown bus new state h origin request shows inside lost)
 
-pub lost_ready : (bus new : Kept) (h origin : ℕ) (request : Option Request) → IsReady bus → h < length bus.agents → IsLostTo h origin request bus new → IsReady new
+pub lost_ready : (bus new : Kept) (h origin : ℕ) (request : Option Request) → IsReady bus → h < length bus.agents →
+    IsLostTo h origin request bus new → IsReady new
 lost_ready bus new h origin request ready inside lost = ready_after bus new ready (record {
   coherent = record { bytes = ready.coherent.bytes; tells = lost.copies.stays.coherent ready.coherent.bytes ready.coherent.tells };
   agent_each = ap length lost.agents ∙ count_with_agent bus.agents h _;
@@ -246,7 +249,9 @@ forward_ready bus new h origin request ready forward = ready_after bus new ready
   coherent = subst IsCoherent (sym forward.copies) ready.coherent;
   agent_each = count;
   cache_each = ap (λ copies. length copies.caches) forward.copies;
-  well_formed = subst (λ copies. (g : ℕ) → g < length copies.caches → IsWellFormed (cache_at copies.caches g).ways (cache_at copies.caches g).residency) (sym forward.copies) ready.well_formed;
+  well_formed = subst
+      (λ copies. (g : ℕ) → g < length copies.caches → IsWellFormed (cache_at copies.caches g).ways (cache_at copies.caches g).residency)
+      (sym forward.copies) ready.well_formed;
   inside = λ line has. subst (λ copies. HasLine copies line) (sym forward.copies) has;
   once = subst IsOneEach (sym forward.order) ready.once;
   raised = λ g asked is. record { is = before g asked is; room = λ room. ap (λ copies. has_room copies g asked.line) forward.copies ∙ room };
@@ -265,7 +270,9 @@ forward_ready bus new h origin request ready forward = ready_after bus new ready
 
     before : (g : ℕ) (asked : Request) → (agent_at new.agents g).raised ≡ Some asked → (agent_at bus.agents g).raised ≡ Some asked
     before g asked is = elim (cases_lt g (length bus.agents)) [
-      | inl below ↦ sym (ap (λ (a : Agent). a.raised) ((forwarded_agents _ _ origin bus.agents new.agents forward.agents).1 g below) ∙ kept_raised _ (agent_at bus.agents g)) ∙ is
+      | inl below ↦ sym
+          (ap (λ (a : Agent). a.raised) ((forwarded_agents _ _ origin bus.agents new.agents forward.agents).1 g below)
+          ∙ kept_raised _ (agent_at bus.agents g)) ∙ is
       | inr past ↦ ap (λ (a : Agent). a.raised) (agent_past bus.agents g past ∙ sym (agent_past new.agents g (omega (arith, past, count)))) ∙ is
     ]
 
@@ -286,5 +293,6 @@ probe_shows mid new state h origin request shows forward =
     told_upstream =
         by_test (λ hart. hart.upstream ≡ (hart_of state h).upstream) (loses_to_origin state h request) (lost_hart state h origin request)
         (record (hart_of state h) { told = included (hart_of state h).told origin })
-        (λ loses. ap (λ agent. agent.upstream) (beaten_agent state.config.mode (stamp_in request) (record (hart_of state h) { told = included (hart_of state h).told origin })))
+        (λ loses. ap (λ agent. agent.upstream)
+        (beaten_agent state.config.mode (stamp_in request) (record (hart_of state h) { told = included (hart_of state h).told origin })))
         (λ stays. refl)

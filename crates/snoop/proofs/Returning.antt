@@ -1,18 +1,25 @@
 -- a lent cache is given back: the bus is ready again, and shows what was done
-use Rattle.std.proofs.Common.{◌≡◌, ◌≢◌, ◌∙◌, ℕ, ◌<◌, true, length, is_some, ap, sym, subst, inl, inr, arith}
+use Rattle.std.proofs.Common.{◌≡◌, ◌≢◌, ◌∙◌, ℕ, ◌<◌, List, true, length, is_some, ap, sym, subst, inl, inr, arith}
 use Rattle.std.specs.Prelude.{slice_set}
 use Rattle.std.proofs.lemmas.Bool.{cases_eq}
 use Rattle.std.proofs.lemmas.List.{get_or-set_other, get_or-set_same, length-set}
 use Rattle.bus_order.specs.Order.{Request, request_of}
-use Rattle.cache_sets.specs.Cache.{has_marks, room_of}
+use Rattle.cache_sets.specs.Cache.{has_marks, room_of, touched}
 use Rattle.cache_sets.specs.Cached.{Cached}
+use Rattle.cache_sets.specs.Calls.{IsLettered, IsTouched}
 use Rattle.cache_sets.specs.WellFormed.{IsWellFormed}
+use Rattle.cache_sets.proofs.WellFormedLemmas.{well_formed-lettered, well_formed-touched}
 use Rattle.coherence.specs.Caches.{cache_at, no_cache}
+use Rattle.coherence.specs.GivenBack.{IsStoredIn, bytes_with}
 use Rattle.coherence.specs.Served.{has_room}
+use Rattle.coherence.proofs.GivenBackLaws.{tells_stored}
+use Rattle.coherence.proofs.LineLaws.{none_is}
 use Rattle.el_model.specs.State.{Hart, ModelState, hart_of}
 use Rattle.el_model.proofs.Harts.{hart_of-with_hart_other, hart_of-with_hart_same}
+use Rattle.moesi.specs.declared.letter.Letter.TheVariants.{M}
 use Rattle.rv_flat.specs.FlatState.{FlatState}
 use Rattle.snoop.specs.Agent.{agent_at, agent_of}
+use Rattle.snoop.specs.Asking.{HasNoRequest}
 use Rattle.snoop.specs.Returned.{IsReturned, IsReturnedAs, returned, state_with}
 use Rattle.snoop.specs.Shows.{CanBeServed, IsReady, Kept, Shows}
 
@@ -70,6 +77,27 @@ ready_returned bus h cache inside ready back = record {
     other_room : (g : ℕ) (request : Request) → g ≢ h → has_room bus.copies g request.line ≡ true →
         has_room (returned bus h cache).copies g request.line ≡ true
     other_room g request other room = ap (λ c. room_of c.ways c.residency request.line) (returned_other bus h g cache other) ∙ room
+
+-- a line that was touched and got the letter M leaves its cache well formed
+pub well_formed_by_calls : (old between new : Cached) (line : ℕ) → IsWellFormed old.ways old.residency → IsTouched old between line →
+    IsLettered between new line M → IsWellFormed new.ways new.residency
+well_formed_by_calls old between new line well_formed touches letters =
+    rw (letters.ways, letters.residency, touches.ways, touches.residency)
+    (well_formed-lettered old.ways (touched old.residency line) line M (λ same. cc)
+    (well_formed-touched old.ways old.residency line well_formed))
+
+-- a hart that waits for nothing gives back a cache in which one line was written
+pub stored_returned : (bus : Kept) (h line : ℕ) (cache : Cached) (bytes : List ℕ) → IsReady bus → HasNoRequest bus h →
+    IsStoredIn (cache_at bus.copies.caches h) cache line bytes → IsWellFormed cache.ways cache.residency → IsReturned bus h cache
+stored_returned bus h line cache bytes ready no_request stores well_formed = record {
+  coherent = record {
+    bytes = bytes_with ready.coherent.bytes line bytes;
+    tells = tells_stored bus.copies h line cache ready.coherent.bytes bytes ready.coherent.tells stores;
+  };
+  well_formed = well_formed;
+  raised = λ request is. none_is request (sym no_request.none_raised ∙ is);
+  ordered = λ request is. none_is request (sym no_request.none_ordered ∙ is);
+}
 
 pub shows_returned : (bus : Kept) (state : ModelState) (h : ℕ) (cache : Cached) (hart : Hart) (committed : FlatState) →
     h < length bus.copies.caches → Shows bus state → IsReturnedAs bus state h cache hart committed →

@@ -8,7 +8,7 @@ use Rattle.cache_sets.specs.WellFormed.{IsWellFormed}
 use Rattle.cache_sets.proofs.MarkLemmas.{has_marks-counted, has_marks-filled_with, has_marks-lettered, has_marks-touched, mark_of, total-without_line}
 use Rattle.el_base.specs.declared.outcomes.Need.{Need}
 use Rattle.el_base.specs.declared.outcomes.Need.TheVariants.{Read, Write}
-use Rattle.el_model.specs.Serve.{kept_letter, others_cache, own_copy}
+use Rattle.el_model.specs.Serve.{kept_letter, others_cache}
 use Rattle.el_model.proofs.Tests.{by_test}
 use Rattle.moesi.specs.Letters.{filled_of}
 use Rattle.section_laws.proofs.ServedCaches.{own_after, own_well_formed}
@@ -37,4 +37,5 @@ pub own_after_marks : (ways : ℕ) (others : Bool) (need : Need) (cache : List (
 own_after_marks ways others need cache line well room =
     has_marks-touched ways _ line (own_well_formed ways others need cache line well room)
     ∙ by_test (λ c. has_marks c ≡ has_marks cache) (is_resident cache line) (lettered cache line (kept_letter need (letter_of cache line)))
-    (filled_with ways cache line (filled_of need others)) (λ here. has_marks-lettered ways cache line _ well) (λ absent. has_marks-filled_with ways cache line _ well)
+    (filled_with ways cache line (filled_of need others)) (λ here. has_marks-lettered ways cache line _ well)
+    (λ absent. has_marks-filled_with ways cache line _ well)

@@ -1,11 +1,11 @@
 -- the bus shows what the definition makes of a served request, and is ready for what comes next
-use Rattle.std.proofs.Common.{◌≡◌, ◌≢◌, ◌∙◌, ℕ, zero, suc, ◌+◌, ◌<◌, ◌==◌, ◌&&◌, ◌||◌, not, Bool, true, false, List, [], ◌∷◌, length, Option, Some, None, is_some, refl, ap, sym, subst, inl, inr, arith, if◌then◌else◌}
+use Rattle.std.proofs.Common.{◌≡◌, ◌≢◌, ◌∙◌, ℕ, suc, ◌+◌, ◌<◌, ◌==◌, ◌&&◌, ◌||◌, not, Bool, true, false, List, [], ◌∷◌, length}
+use Rattle.std.proofs.Common.{Option, Some, None, is_some, refl, ap, sym, subst, inl, inr, arith, if◌then◌else◌}
 use Rattle.std.specs.List.{list_any}
 use Rattle.std.proofs.lemmas.Bool.{cases_eq, cases_lt}
-use Rattle.bus_order.specs.Order.{IsOneEach, Request, first_of, removed, request_of}
-use Rattle.bus_order.proofs.LookUps.{number_of_test, other_test, own_test, request_of_removed_other, request_of_removed_own}
+use Rattle.bus_order.specs.Order.{IsOneEach, Request, removed, request_of}
+use Rattle.bus_order.proofs.LookUps.{other_test, own_test, request_of_removed_other, request_of_removed_own}
 use Rattle.bus_order.proofs.Orders.{one_each_removed}
-use Rattle.bus_order.proofs.Queues.{hart_of_request_of, request_of_first_of}
 use Rattle.cache_sets.specs.Cache.{has_bit, has_marks, is_resident, marked, room_of, touched}
 use Rattle.cache_sets.specs.Cached.{Cached}
 use Rattle.cache_sets.specs.Residency.{Way}
@@ -18,11 +18,10 @@ use Rattle.coherence.proofs.GivenUp.{beyond}
 use Rattle.coherence.specs.Served.{Copies, StaysCoherent, has_room}
 use Rattle.el_base.specs.declared.outcomes.Need.{Need}
 use Rattle.el_base.specs.declared.outcomes.Need.TheVariants.{Write}
-use Rattle.el_base.specs.declared.outcomes.Why.TheVariants.{Behind, Retained}
-use Rattle.el_base.specs.declared.outcomes.Why.{Why}
-use Rattle.el_model.specs.Conflicts.{conflicts_with, first_such, meets_bit, retainer_of, retains}
-use Rattle.el_model.specs.Serve.{Free, Obstacle, blocks_if, bystander, obstacle_to, other_head, others_cache, others_have, own_copy, served, served_hart, serving, with_claim}
-use Rattle.el_model.specs.State.{Hart, ModelState, Section, cache_of, count_up, each_hart, hart_of, head_of, is_live, section_of}
+use Rattle.el_model.specs.Conflicts.{meets_bit}
+use Rattle.el_model.specs.Serve.{Free, bystander, obstacle_to, others_cache, others_have, own_copy, served}
+use Rattle.el_model.specs.Serve.{served_hart, serving, with_claim}
+use Rattle.el_model.specs.State.{Hart, ModelState, Section, cache_of, count_up, each_hart, hart_of, is_live, section_of}
 use Rattle.snoop.specs.Agent.{Agent, agent_at, agent_forgetting, agent_of, agent_served}
 use Rattle.snoop.specs.Serving.{CopiesClaim, CopiesServe, Serves, agent_after_serve, agent_claiming}
 use Rattle.snoop.specs.Shows.{CanBeServed, IsReady, Kept, Shows, line_of}
@@ -173,16 +172,19 @@ served_cache bus new state request ready shows exists serves g below =
           ∙ ap (λ live. claimed_cache live request.line request.need (own_filled bus.copies request)) (lives bus state request.hart shows)
           ∙ ap (claimed_cache (is_live state request.hart) request.line request.need) filled
           ∙ sym (claim_cache (is_live state request.hart) request _)
-          ∙ sym (ap (λ k. k.cache) (at_own request.hart request.hart (served_hart state request (hart_of state request.hart)) (bystander state request (hart_of state request.hart)) refl))
+          ∙ sym (ap (λ k. k.cache) (at_own request.hart request.hart
+          (served_hart state request (hart_of state request.hart)) (bystander state request (hart_of state request.hart)) refl))
           ∙ ap (λ k. (serving state request k (hart_of state k)).cache) (sym same)
       | inr other ↦ serve_others _ request bus.copies new.copies serves.copies g other
-          ∙ ap (λ cache. others_cache (is_resident (cache_at bus.copies.caches request.hart).residency request.line) request.need cache request.line) (shows.caches g)
+          ∙ ap (λ cache. others_cache (is_resident (cache_at bus.copies.caches request.hart).residency request.line) request.need cache request.line)
+          (shows.caches g)
           ∙ ap (λ cache. others_cache (is_resident cache request.line) request.need (cache_of state g) request.line) (shows.caches request.hart)
           ∙ ap (λ k. k.cache) (sym (at_other g request.hart (served_hart state request (hart_of state g)) (bystander state request (hart_of state g)) other))
     ]
   where
     filled : own_filled bus.copies request
-        ≡ touched (own_copy state.config.ways (others_have state request.hart request.line) request.need (cache_of state request.hart) request.line) request.line
+        ≡ touched
+        (own_copy state.config.ways (others_have state request.hart request.line) request.need (cache_of state request.hart) request.line) request.line
     filled =
         ap (λ ways. own_after ways (copies.others_have bus.copies.caches request.hart request.line) request.need
         (cache_at bus.copies.caches request.hart).residency request.line) (shows.ways request.hart (omega (arith, exists, shows.agent_each)))
@@ -216,10 +218,12 @@ served_marks bus new state request ready shows ordered free serves g below =
         has_marks (claimed_cache live request.line request.need (own_filled bus.copies request)) ≡ live
     claimed true is =
         has_marks-marked (cache_at bus.copies.caches request.hart).ways (own_filled bus.copies request) request.line request.need
-        (own_after_well_formed (cache_at bus.copies.caches request.hart).ways _ request.need (cache_at bus.copies.caches request.hart).residency request.line well can.room)
+        (own_after_well_formed (cache_at bus.copies.caches request.hart).ways _ request.need
+        (cache_at bus.copies.caches request.hart).residency request.line well can.room)
         (ap (λ cache. is_resident cache request.line) (sym serves.copies.served.own) ∙ serves.copies.served.here)
     claimed false is =
-        own_after_marks (cache_at bus.copies.caches request.hart).ways _ request.need (cache_at bus.copies.caches request.hart).residency request.line well can.room ∙ is
+        own_after_marks (cache_at bus.copies.caches request.hart).ways _ request.need
+        (cache_at bus.copies.caches request.hart).residency request.line well can.room ∙ is
 
 -- the state that is shown
 pub serve_shows : (bus new : Kept) (state : ModelState) (request : Request) → IsReady bus → Shows bus state →
@@ -263,7 +267,8 @@ served_well_formed bus new request ready ordered serves g below =
       | inl same ↦ subst (λ k. IsWellFormed (cache_at bus.copies.caches k).ways (cache_at new.copies.caches k).residency) (sym same)
           (subst (λ cache. IsWellFormed ways cache) (sym (serve_own _ request bus.copies new.copies serves.copies))
           (claimed (has_marks (cache_at bus.copies.caches request.hart).residency)))
-      | inr other ↦ subst (λ cache. IsWellFormed (cache_at bus.copies.caches g).ways cache) (sym (serve_others _ request bus.copies new.copies serves.copies g other))
+      | inr other ↦ subst (λ cache. IsWellFormed (cache_at bus.copies.caches g).ways cache)
+          (sym (serve_others _ request bus.copies new.copies serves.copies g other))
           (others_well_formed (cache_at bus.copies.caches g).ways _ request.need (cache_at bus.copies.caches g).residency request.line
           (ready.well_formed g (omega (arith, below, ready.each))))
     ]
@@ -279,7 +284,8 @@ served_well_formed bus new request ready ordered serves g below =
         own_after_well_formed (cache_at bus.copies.caches request.hart).ways _ request.need (cache_at bus.copies.caches request.hart).residency request.line
         (ready.well_formed request.hart (omega (arith, can.hart_exists, ready.each))) can.room
 
-    claimed : (live : Bool) → IsWellFormed (cache_at bus.copies.caches request.hart).ways (claimed_cache live request.line request.need (own_filled bus.copies request))
+    claimed : (live : Bool) → IsWellFormed (cache_at bus.copies.caches request.hart).ways
+        (claimed_cache live request.line request.need (own_filled bus.copies request))
     claimed true = well_formed-marked _ (own_filled bus.copies request) request.line request.need filled
     claimed false = filled
 
@@ -291,7 +297,8 @@ raised_claimed false line agent = refl
 raised_after : (live : Bool) (request : Request) (g : ℕ) (agent : Agent) → (agent_after_serve live request g agent).raised ≡ agent.raised
 raised_after live request g agent =
     elim (cases_eq g request.hart) [
-      | inl same ↦ ap (λ (a : Agent). a.raised) (at_own g request.hart _ _ same) ∙ raised_claimed live request.line (agent_served (agent_forgetting request.hart agent))
+      | inl same ↦ ap (λ (a : Agent). a.raised) (at_own g request.hart _ _ same) ∙ raised_claimed live request.line
+          (agent_served (agent_forgetting request.hart agent))
       | inr other ↦ ap (λ (a : Agent). a.raised) (at_other g request.hart _ _ other)
     ]
 
@@ -338,7 +345,8 @@ serve_ready bus new request ready ordered serves = ready_after bus new ready (re
     raised_before g other is =
         elim (cases_lt g (length bus.agents)) [
           | inl below ↦ sym (raised_after _ request g (agent_at bus.agents g)) ∙ ap (λ a. a.raised) (sym (serves.agents.each g below)) ∙ is
-          | inr past ↦ none_some (agent_at new.agents g).raised other (ap (λ a. a.raised) (agent_past new.agents g (omega (arith, past, serves.agents.count)))) is
+          | inr past ↦ none_some (agent_at new.agents g).raised other
+              (ap (λ a. a.raised) (agent_past new.agents g (omega (arith, past, serves.agents.count)))) is
         ]
 
     room : (g line : ℕ) → g ≢ request.hart → has_room bus.copies g line ≡ true → has_room new.copies g line ≡ true
@@ -346,6 +354,7 @@ serve_ready bus new request ready ordered serves = ready_after bus new ready (re
         ap (λ ways. room_of ways (cache_at new.copies.caches g).residency line) (serve_ways _ request bus.copies new.copies serves.copies g)
         ∙ ap (λ cache. room_of (cache_at bus.copies.caches g).ways cache line) (serve_others _ request bus.copies new.copies serves.copies g apart)
         ∙ elim (cases_lt g (length bus.copies.caches)) [
-          | inl below ↦ others_room (cache_at bus.copies.caches g).ways _ request.need (cache_at bus.copies.caches g).residency request.line line (ready.well_formed g below) had
+          | inl below ↦ others_room (cache_at bus.copies.caches g).ways _ request.need (cache_at bus.copies.caches g).residency request.line line
+              (ready.well_formed g below) had
           | inr past ↦ absurd (no_room (ap (λ cache. room_of cache.ways cache.residency line) (sym (beyond bus.copies.caches g past)) ∙ had))
         ]

@@ -96,7 +96,8 @@ shows_each bus new state becomes shows each = record {
   ];
   caches = λ h. elim (cases_lt h (length bus.agents)) [
     | inl below ↦ each.caches h below ∙ ap (λ hart. hart.cache) (sym (became h below))
-    | inr past ↦ ap (λ cache. cache.residency) (beyond new.copies.caches h (omega (arith, past, each.cache_each, shows.agent_each, shows.cache_each))) ∙ ap (λ hart. hart.cache) (sym (gone h past))
+    | inr past ↦ ap (λ cache. cache.residency) (beyond new.copies.caches h (omega (arith, past, each.cache_each, shows.agent_each, shows.cache_each)))
+        ∙ ap (λ hart. hart.cache) (sym (gone h past))
   ];
   live = λ h. elim (cases_lt h (length bus.agents)) [
     | inl below ↦ ap (λ hart. is_some hart.section) (became h below) ∙ each.live h below ∙ ap (λ hart. has_marks hart.cache) (sym (became h below))

@@ -1,5 +1,6 @@
 -- what the bus makes of its parts as a message is delivered
-use Rattle.std.specs.Prelude.{ℕ, zero, suc, ◌≡◌, ◌<◌, ◌==◌, ◌&&◌, Bool, true, false, not, List, [], ◌∷◌, map, filter, length, Option, None, Some, is_some, if◌then◌else◌}
+use Rattle.std.specs.Prelude.{ℕ, zero, suc, ◌≡◌, ◌<◌, ◌==◌, ◌&&◌, Bool, true, false, not, List, [], ◌∷◌, map, filter, length, Option, None}
+use Rattle.std.specs.Prelude.{Some, is_some, if◌then◌else◌}
 use Rattle.bus_order.specs.Order.{Request, request_of}
 use Rattle.cache_sets.specs.Calls.{IsCleared}
 use Rattle.coherence.specs.Changed.{IsChangedAt}

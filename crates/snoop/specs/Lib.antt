@@ -10,3 +10,4 @@ pub mod Places
 pub mod Asking
 pub mod Lending
 pub mod Returned
+pub mod Readiness

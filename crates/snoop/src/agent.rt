@@ -1,6 +1,6 @@
 //! What a hart has at the bus beside its cache.
 
-ghost use Rattle.std.specs.Prelude.{◌≡◌, ◌<◌, IfOk, None, Some};
+ghost use Rattle.std.specs.Prelude.{◌≡◌, ◌<◌, ◌==◌, IfOk, None, Some, length, not};
 ghost use Rattle.std.specs.Option.{option_map};
 ghost use Rattle.bus_order.specs.Order as order;
 ghost use Rattle.defer_list.specs.HartSet.{has};
@@ -115,6 +115,13 @@ impl Agent {
         ensures { result ≡ has self.now.upstream other.number }
     {
         self.upstream.told(other)
+    }
+
+    /// Whether there is a message in the hart's mailbox.
+    pub fn has_mail(&self) -> bool
+        ensures { result ≡ not (length self.now.mail == 0) }
+    {
+        !self.mail.is_empty()
     }
 
     /// The hart raises a request.

@@ -1,6 +1,7 @@
 //! A hart takes the oldest message of its mailbox.
 
-ghost use Rattle.std.specs.Prelude.{◌≡◌, ◌<◌, ◌≤◌, ◌&&◌, ℕ, Bool, true, Option, None, Some, is_some, length, if◌then◌else◌};
+ghost use Rattle.std.specs.Prelude.{◌≡◌, ◌<◌, ◌≤◌, ◌&&◌, ℕ, Bool, true, Option, None, Some};
+ghost use Rattle.std.specs.Prelude.{is_some, length, if◌then◌else◌};
 ghost use Rattle.std.specs.Option.{option_map};
 ghost use Rattle.bus_order.specs.Order.{numbered, request_of};
 ghost use Rattle.defer_list.specs.HartSet.{has};
@@ -37,11 +38,11 @@ use stamp::Stamp;
 
 impl Bus {
     /// The oldest message of the hart's mailbox is taken out, and takes effect. After a marker its sender is before
-    /// the hart, and is sent a probe of the hart, and of each origin that the hart was told of and that is ordered on the line
-    /// of the hart's own request. A probe tells the hart of its origin, where it was not told before: a section that
-    /// retains the line of the origin's request loses to an earlier stamp, and the outcome tells it; and where the hart
-    /// has itself a request there, the probe is forwarded to the harts before it. It is `Idle` exactly where the
-    /// mailbox is empty.
+    /// the hart, and is sent a probe of the hart, and of each origin that the hart was told of and that is ordered on
+    /// the line of the hart's own request. A probe tells the hart of its origin, where it was not told before: a
+    /// section that retains the line of the origin's request loses to an earlier stamp, and the outcome tells it;
+    /// and where the hart has itself a request there, the probe is forwarded to the harts before it. It is `Idle`
+    /// exactly where the mailbox is empty.
     ///
     /// The idea of markers and probes is that of R. Rajwar and J. R. Goodman, 'Transactional Lock-Free Execution of
     /// Lock-Based Programs', ASPLOS 2002.
@@ -111,7 +112,9 @@ impl Bus {
     fn answer_marker(&mut self, hart: HartId, sender: HartId)
         requires hart_exists { hart.number < length (kept self.old).agents }
         requires few { length (kept self.old).agents ≤ 8 }
-        ensures { kept self.new ≡ record (kept self.old) { agents = marker_taken (kept self.old) hart.number sender.number } }
+        ensures { kept self.new ≡ record (kept self.old) {
+          agents = marker_taken (kept self.old) hart.number sender.number;
+        } }
     {
         come_behind(&mut self.agents, hart, sender);
         post(&mut self.agents, sender, Message::Probe { origin: hart });
@@ -141,7 +144,8 @@ impl Bus {
         requires { hart.number < length (kept self.old).agents }
         ensures { kept self.new ≡ record (kept self.old) {
           agents = probe_sent
-              (passes (agent_at (kept self.old).agents hart.number).told (kept self.old).order to.number line.number origin.number)
+              (passes (agent_at (kept self.old).agents hart.number).told (kept self.old).order
+              to.number line.number origin.number)
               origin.number to.number (kept self.old).agents;
         } }
     {
@@ -178,7 +182,8 @@ impl Bus {
         ensures ready { IsReady (kept self.new) }
         ensures hart_exists { hart.number < length (kept self.new).agents }
         ensures shows { (state : ModelState) → Shows (kept self.old) state → Shows (kept self.new)
-            (with_hart state hart.number (delivery.told_of state hart.number origin.number (option_map numbered request))) }
+            (with_hart state hart.number
+            (delivery.told_of state hart.number origin.number (option_map numbered request))) }
         ensures losers { (state : ModelState) → Shows (kept self.old) state →
             result ≡ delivery.probe_losers state hart.number origin.number (option_map numbered request) }
     {
@@ -280,7 +285,8 @@ impl Bus {
 fn forward_all(agents: &mut Vec<Agent>, hart: HartId, origin: HartId)
     requires hart_exists { hart.number < length agents.old.items }
     requires few { length agents.old.items ≤ 8 }
-    ensures { AreForwarded (agent_at agents.old.items hart.number).upstream origin.number agents.old.items agents.new.items }
+    ensures { AreForwarded (agent_at agents.old.items hart.number).upstream origin.number
+        agents.old.items agents.new.items }
 {
     for number in 0..agents.len() {
         forward_one(agents, hart, origin, hart_at(number));
@@ -292,7 +298,8 @@ fn forward_all(agents: &mut Vec<Agent>, hart: HartId, origin: HartId)
 fn forward_one(agents: &mut Vec<Agent>, hart: HartId, origin: HartId, to: HartId)
     requires { hart.number < length agents.old.items }
     ensures { agents.new.items ≡ with_agent agents.old.items to.number (agent_forwarded
-        (agent_at agents.old.items hart.number).upstream origin.number to.number (agent_at agents.old.items to.number)) }
+        (agent_at agents.old.items hart.number).upstream origin.number to.number
+        (agent_at agents.old.items to.number)) }
 {
     if to != origin && agents[usize::from(hart.number)].is_behind(to) {
         post(agents, to, Message::Probe { origin });

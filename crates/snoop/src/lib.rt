@@ -21,8 +21,10 @@ mod fates;
 mod meeting;
 mod obstacle;
 mod ordering;
+mod readiness;
 mod serving;
 mod settling;
+mod wanting;
 
 pub use asked::Asked;
 pub use bus::Bus;

@@ -107,7 +107,8 @@ impl Bus {
         requires { hart.number < length (kept self.now).copies.caches }
         ensures { (state : ModelState) → Shows (kept self.now) state →
             option_map number_of result
-            ≡ (if model.conflicts (numbered request) hart.number (hart_of state hart.number) then Some hart.number else option_map number_of other) }
+            ≡ (if model.conflicts (numbered request) hart.number (hart_of state hart.number) then Some hart.number
+            else option_map number_of other) }
     {
         if self.conflicts(request, hart) {
             Some(hart)
@@ -143,7 +144,8 @@ impl Bus {
         requires { hart.number < length (kept self.now).agents }
         ensures { (state : ModelState) → Shows (kept self.now) state →
             option_map number_of result
-            ≡ (if not (hart.number == request.hart.number) && is_held (hart_of state hart.number).held request.line.number
+            ≡ (if not (hart.number == request.hart.number)
+            && is_held (hart_of state hart.number).held request.line.number
             then Some hart.number else option_map number_of other) }
     {
         if hart != request.hart && self.agents[usize::from(hart.number)].holds(request.line) {

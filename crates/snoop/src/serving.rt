@@ -27,10 +27,10 @@ impl Bus {
     /// The request that the hart has ordered is served, where it is the head of its line, no section retains the line
     /// and no other hart holds it: the line comes into the hart's cache with the letter that its need gives, the
     /// other copies give it up, and a line that leaves for it is written back where main memory is behind. A live
-    /// section gets its bit on the line, and a hart without one holds the line until its next step. The next request of
-    /// the line, if there is one, is faced, and the outcome tells which sections lost. `Blocked` tells the first thing that
-    /// is in the way, with its hart, and then nothing changes. It is `Idle` exactly where the hart has nothing in
-    /// the order.
+    /// section gets its bit on the line, and a hart without one holds the line until its next step. The next request
+    /// of the line, if there is one, is faced, and the outcome tells which sections lost. `Blocked` tells the first
+    /// thing that is in the way, with its hart, and then nothing changes. It is `Idle` exactly where the hart has
+    /// nothing in the order.
     #[tactic(auto, unfolding(el_model::specs::Serve::serve_turn))]
     pub fn serve<P: Policy>(&mut self, hart: HartId, policy: &P) -> Outcome
         requires hart_exists { hart.number < length (kept self.old).agents }
@@ -73,7 +73,8 @@ impl Bus {
     fn serve_free<P: Policy>(&mut self, request: Request, policy: &P) -> Losers
         requires ready { IsReady (kept self.old) }
         requires ordered { request_of (kept self.old).order request.hart.number ≡ Some (numbered request) }
-        requires free { (state : ModelState) → Shows (kept self.old) state → serving.obstacle_to state (numbered request) ≡ Free }
+        requires free { (state : ModelState) → Shows (kept self.old) state →
+            serving.obstacle_to state (numbered request) ≡ Free }
         requires policy { (request holder : Option stamps.Stamp) →
             P.beats policy.now request holder ≡ wins_of (kept self.old).mode request holder }
         ensures ready { IsReady (kept self.new) }
@@ -108,7 +109,8 @@ impl Bus {
     fn give_line(&mut self, request: Request)
         requires ready { IsReady (kept self.old) }
         requires ordered { request_of (kept self.old).order request.hart.number ≡ Some (numbered request) }
-        requires free { (state : ModelState) → Shows (kept self.old) state → serving.obstacle_to state (numbered request) ≡ Free }
+        requires free { (state : ModelState) → Shows (kept self.old) state →
+            serving.obstacle_to state (numbered request) ≡ Free }
         ensures ready { IsReady (kept self.new) }
         ensures mode { (kept self.new).mode ≡ (kept self.old).mode }
         ensures shows { (state : ModelState) → Shows (kept self.old) state →

@@ -115,7 +115,8 @@ impl Bus {
     pub(crate) fn settle_all(&mut self, head: Request, fates: &[Fate])
         requires count { length fates.now ≡ length (kept self.old).agents }
         requires ready { IsReady (kept self.old) }
-        ensures { AreSettledBelow (numbered head) (fate_in fates.now) (length fates.now) (kept self.old) (kept self.new) }
+        ensures { AreSettledBelow (numbered head) (fate_in fates.now) (length fates.now)
+            (kept self.old) (kept self.new) }
     {
         for number in 0..fates.len() {
             self.settle(head, hart_at(number), fates[number]);

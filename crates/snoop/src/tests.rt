@@ -6,6 +6,7 @@ ghost use Rattle.bus_order.specs.Order.{numbered};
 ghost use Rattle.cache_sets.specs.WellFormed.{IsWellFormed};
 ghost use Rattle.coherence.specs.Caches.{cache_at};
 ghost use Rattle.coherence.specs.Served.{IsCoherent, has_room, shown};
+ghost use Rattle.el_base.specs.Config.{IsInRange};
 ghost use Rattle.snoop.specs.Agent.{agent_at, with_agent};
 ghost use Rattle.snoop.specs.Shows.{IsReady, kept};
 
@@ -13,7 +14,9 @@ mod delivering;
 mod events;
 mod making;
 mod ordering;
+mod readiness;
 mod serving;
+mod writing_back;
 
 use crate::agent::Agent;
 use crate::bus::Bus;
@@ -21,7 +24,7 @@ use crate::fates::hart_at;
 use bus_order::{Order, Request};
 use coherence::Hierarchy;
 use el_base::{Config, HartId, LineAddr, Mode, Need, Outcome, line_of};
-use elf_image::load;
+use elf_image::{Image, load};
 use mail::Message;
 use policy::{SlePolicy, TlrPolicy};
 use std::alloc::Global;
@@ -47,6 +50,29 @@ fn line() -> LineAddr {
     line_of(0x10000)
 }
 
+/// The image, where this is a configuration for it.
+fn image(alloc: Global, config: &Config) -> Result<Image, Fail>
+    ensures in_range { IfOk result (λ image. IsInRange config.now) }
+    ensures one_hart_each { IfOk result (λ image. image.harts ≡ config.now.harts) }
+{
+    if config.check().is_err() {
+        return Err("no such caches".into());
+    }
+    let image = load(alloc, &HEADER, config.harts).map_err(|_| "no image")?;
+    if image.harts() != config.harts {
+        return Err("an image for other harts".into());
+    }
+    Ok(image)
+}
+
+/// The bus before its first event.
+fn first_bus(alloc: Global, config: &Config) -> Result<Bus, Fail>
+    ensures { IfOk result (λ bus. IsReady (kept bus)) }
+{
+    let image = image(alloc, config)?;
+    Ok(Bus::make(alloc, &image, config)?)
+}
+
 /// Main memory and four caches, of which those of these harts have read the line in a section.
 fn hierarchy(alloc: Global, mode: Mode, readers: &[u8]) -> Result<Hierarchy, Fail>
     ensures { IfOk result (λ hierarchy. IsCoherent (shown hierarchy)) }
@@ -58,13 +84,7 @@ fn hierarchy(alloc: Global, mode: Mode, readers: &[u8]) -> Result<Hierarchy, Fai
         ways: 2,
         ..Config::usual()
     };
-    if config.check().is_err() {
-        return Err("no such caches".into());
-    }
-    let image = load(alloc, &HEADER, config.harts).map_err(|_| "no image")?;
-    if image.harts() != config.harts {
-        return Err("an image for other harts".into());
-    }
+    let image = image(alloc, &config)?;
     let mut hierarchy = Hierarchy::make(alloc, &image, &config)?;
     for reader in readers {
         if !read_in_section(&mut hierarchy, hart(*reader)?) {
@@ -150,22 +170,7 @@ fn ask(bus: &mut Bus, hart: HartId, need: Need) -> bool
     requires { IsReady (kept bus.old) }
     ensures { IsReady (kept bus.new) }
 {
-    let line = line();
-    if usize::from(hart.number) >= bus.agents.len() || bus.order.of(hart).is_some() {
-        return false;
-    }
-    if !bus.hierarchy.has_in_memory(line) || !has_room(bus, hart, line) {
-        return false;
-    }
-    let stamp = bus.agent(hart).attempt();
-    let request = Request {
-        hart,
-        line,
-        need,
-        stamp,
-    };
-    raise(&mut bus.agents, request);
-    true
+    events::ask_for(bus, hart, line(), need)
 }
 
 /// Whether a hart's cache has room for a line.
@@ -205,6 +210,11 @@ fn order(bus: &mut Bus, hart: HartId) -> Option<Outcome>
 /// Whether a hart's cache has a bit.
 fn is_marked(bus: &Bus, hart: HartId) -> bool {
     usize::from(hart.number) < bus.hierarchy.harts() && bus.hierarchy.cache(hart).marked()
+}
+
+/// A marker that a hart sends.
+fn marker(from: u8) -> Result<Message, Fail> {
+    Ok(Message::Marker { from: hart(from)? })
 }
 
 /// Takes the oldest message of a hart.

@@ -8,10 +8,6 @@ use super::events::*;
 use super::*;
 use el_base::Why;
 
-fn marker(from: u8) -> Result<Message, Fail> {
-    Ok(Message::Marker { from: hart(from)? })
-}
-
 fn probe(origin: u8) -> Result<Message, Fail> {
     Ok(Message::Probe {
         origin: hart(origin)?,
@@ -58,17 +54,46 @@ fn take(bus: &mut Bus, harts: &[u8]) -> Result<(), Fail>
     Ok(())
 }
 
-/// What lies in the mailbox of a hart after these harts took one message each.
-fn mail_after(alloc: Global, harts: &[u8], of: u8) -> Result<[Option<Message>; 4], Fail> {
+/// The chain after these harts took one message each, in this order.
+fn chain_after(alloc: Global, harts: &[u8]) -> Result<Bus, Fail>
+    ensures { IfOk result (λ bus. IsReady (kept bus)) }
+{
     let mut bus = chain(alloc)?;
     take(&mut bus, harts)?;
-    let of = hart(of)?;
-    Ok([
-        message(&mut bus, of),
-        message(&mut bus, of),
-        message(&mut bus, of),
-        message(&mut bus, of),
-    ])
+    Ok(bus)
+}
+
+/// The chain as the probe of hart 0 alone was not taken by hart 1. The probes of harts 2 and 3 came first, and cost
+/// hart 1 nothing.
+fn chain_before_the_last_probe(alloc: Global) -> Result<Bus, Fail>
+    ensures { IfOk result (λ bus. IsReady (kept bus)) }
+{
+    chain_after(alloc, &[0, 3, 3, 2, 2, 2, 1, 1])
+}
+
+/// The same, and then hart 1 commits.
+fn chain_after_the_commit(alloc: Global) -> Result<Bus, Fail>
+    ensures { IfOk result (λ bus. IsReady (kept bus)) }
+{
+    let mut bus = chain_before_the_last_probe(alloc)?;
+    end_section(&mut bus, hart(1)?);
+    Ok(bus)
+}
+
+/// The four oldest messages of a hart.
+fn mail_of(bus: &mut Bus, of: HartId) -> [Option<Message>; 4] {
+    [
+        message(bus, of),
+        message(bus, of),
+        message(bus, of),
+        message(bus, of),
+    ]
+}
+
+/// What lies in the mailbox of a hart of the chain after these harts took one message each.
+fn mail_after(alloc: Global, harts: &[u8], of: u8) -> Result<[Option<Message>; 4], Fail> {
+    let mut bus = chain_after(alloc, harts)?;
+    Ok(mail_of(&mut bus, hart(of)?))
 }
 
 #[test]
@@ -104,9 +129,7 @@ fn probes_go_up_the_chain(rt: HostRuntime) -> Result<(), Fail> {
 #[test]
 fn a_chain_of_four_loses_to_its_earliest(rt: HostRuntime) -> Result<(), Fail> {
     let (one, two) = (hart(1)?, hart(2)?);
-    let mut bus = chain(rt.alloc())?;
-    // the probes of harts 2 and 3 come first, and cost hart 1 nothing
-    take(&mut bus, &[0, 3, 3, 2, 2, 2, 1, 1])?;
+    let mut bus = chain_before_the_last_probe(rt.alloc())?;
     assert!(rt; is_marked(&bus, one));
     assert_eq!(rt;
         serve(&mut bus, two),
@@ -128,33 +151,26 @@ fn a_chain_of_four_loses_to_its_earliest(rt: HostRuntime) -> Result<(), Fail> {
 
 #[test]
 fn a_probe_that_comes_after_the_commit_costs_nobody(rt: HostRuntime) -> Result<(), Fail> {
-    let one = hart(1)?;
-    let mut bus = chain(rt.alloc())?;
-    take(&mut bus, &[0, 3, 3, 2, 2, 2, 1, 1])?;
-    end_section(&mut bus, one);
-    assert_eq!(rt; deliver(&mut bus, one), delivered(&[])?);
+    let mut bus = chain_after_the_commit(rt.alloc())?;
+    assert_eq!(rt; deliver(&mut bus, hart(1)?), delivered(&[])?);
     assert_eq!(rt; serve(&mut bus, hart(2)?), served(&[(2, 0)])?);
     Ok(())
 }
 
 #[test]
 fn a_probe_goes_as_its_origin_is_served(rt: HostRuntime) -> Result<(), Fail> {
-    let one = hart(1)?;
-    let mut bus = chain(rt.alloc())?;
-    take(&mut bus, &[0, 3, 3, 2, 2, 2, 1, 1])?;
-    end_section(&mut bus, one);
+    let mut bus = chain_after_the_commit(rt.alloc())?;
     assert_eq!(rt; serve(&mut bus, hart(2)?), served(&[(2, 0)])?);
     assert_eq!(rt; serve(&mut bus, hart(3)?), served(&[(3, 0)])?);
     assert_eq!(rt; serve(&mut bus, hart(0)?), served(&[])?);
-    assert_eq!(rt; deliver(&mut bus, one), Some(Outcome::Idle));
+    assert_eq!(rt; deliver(&mut bus, hart(1)?), Some(Outcome::Idle));
     Ok(())
 }
 
 #[test]
 fn a_late_probe_costs_the_next_hart_its_section(rt: HostRuntime) -> Result<(), Fail> {
     let two = hart(2)?;
-    let mut bus = chain(rt.alloc())?;
-    take(&mut bus, &[0, 3, 3])?;
+    let mut bus = chain_after(rt.alloc(), &[0, 3, 3])?;
     end_section(&mut bus, hart(1)?);
     // hart 2 was told of nobody yet, and defers hart 3
     assert_eq!(rt; serve(&mut bus, two), served(&[])?);
@@ -173,13 +189,7 @@ fn answer(alloc: Global, before: &[u8], of: u8) -> Result<[Option<Message>; 4], 
     }
     wait(&mut bus, hart(1)?, line())?;
     take(&mut bus, &[1])?;
-    let of = hart(of)?;
-    Ok([
-        message(&mut bus, of),
-        message(&mut bus, of),
-        message(&mut bus, of),
-        message(&mut bus, of),
-    ])
+    Ok(mail_of(&mut bus, hart(of)?))
 }
 
 #[test]

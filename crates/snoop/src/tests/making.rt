@@ -1,28 +1,7 @@
 //! A bus before its first event.
 
-ghost use Rattle.std.specs.Prelude.{IfOk};
-ghost use Rattle.snoop.specs.Shows.{IsReady, kept};
-
 use super::*;
 use crate::asked::Asked;
-
-/// The bus of as many harts over the image, or why there is none.
-fn first_bus(alloc: Global, harts: u8) -> Result<Bus, Fail>
-    ensures { IfOk result (λ bus. IsReady (kept bus)) }
-{
-    let config = Config {
-        harts,
-        ..Config::usual()
-    };
-    if config.check().is_err() {
-        return Err("no such bus".into());
-    }
-    let image = load(alloc, &HEADER, config.harts).map_err(|_| "no image")?;
-    if image.harts() != config.harts {
-        return Err("an image for other harts".into());
-    }
-    Ok(Bus::make(alloc, &image, &config)?)
-}
 
 /// What a hart has asked, or nothing where it is not there.
 fn asked(bus: &Bus, hart: HartId) -> Option<Asked> {
@@ -36,7 +15,11 @@ fn asked(bus: &Bus, hart: HartId) -> Option<Asked> {
 #[test]
 fn a_first_bus_has_the_image_and_no_request(rt: HostRuntime) -> Result<(), Fail> {
     for harts in [1, 2, 8] {
-        let bus = first_bus(rt.alloc(), harts)?;
+        let config = Config {
+            harts,
+            ..Config::usual()
+        };
+        let bus = first_bus(rt.alloc(), &config)?;
         assert_eq!(rt; bus.harts(), usize::from(harts));
         for number in 0..harts {
             assert_eq!(rt;

@@ -1,20 +1,7 @@
 //! Requests that take their place.
 
+use super::events::ordered;
 use super::*;
-use el_base::Losers;
-
-/// What Order says where each of these losers is beaten by its winner.
-fn ordered(pairs: &[(u8, u8)]) -> Result<Option<Outcome>, Fail> {
-    let mut losers = Losers::none();
-    for (loser, winner) in pairs {
-        losers = losers.with(hart(*loser)?, hart(*winner)?);
-    }
-    Ok(Some(Outcome::Ordered { losers }))
-}
-
-fn marker(from: u8) -> Result<Option<Message>, Fail> {
-    Ok(Some(Message::Marker { from: hart(from)? }))
-}
 
 #[test]
 fn a_second_request_goes_behind(rt: HostRuntime) -> Result<(), Fail> {
@@ -31,7 +18,11 @@ fn a_second_request_goes_behind(rt: HostRuntime) -> Result<(), Fail> {
         let last = bus.order.tail_of(line()).ok_or("no last one")?;
         assert_eq!(rt; (head.hart, last.hart), (first, second));
         // the last one of the line sends a marker in lock removal alone
-        let wanted = if mode == Mode::Tlr { marker(0)? } else { None };
+        let wanted = if mode == Mode::Tlr {
+            Some(marker(0)?)
+        } else {
+            None
+        };
         assert_eq!(rt; message(&mut bus, second), wanted, "{mode:?}");
         assert_eq!(rt; message(&mut bus, first), None);
     }
@@ -80,7 +71,7 @@ fn a_request_in_front_meets_two_sections(rt: HostRuntime) -> Result<(), Fail> {
     let (mut bus, outcome) = in_front(rt.alloc(), Mode::Tlr, true)?;
     assert_eq!(rt; outcome, ordered(&[(1, 0), (3, 2)])?);
     assert_eq!(rt; marked(&bus)?, [false, false, true, false]);
-    assert_eq!(rt; message(&mut bus, hart(0)?), marker(2)?);
+    assert_eq!(rt; message(&mut bus, hart(0)?), Some(marker(2)?));
     assert_eq!(rt; message(&mut bus, hart(0)?), None);
     assert_eq!(rt; message(&mut bus, hart(2)?), None);
 
@@ -88,8 +79,8 @@ fn a_request_in_front_meets_two_sections(rt: HostRuntime) -> Result<(), Fail> {
     let (mut bus, outcome) = in_front(rt.alloc(), Mode::Tlr, false)?;
     assert_eq!(rt; outcome, ordered(&[(3, 2)])?);
     assert_eq!(rt; marked(&bus)?, [false, true, true, false]);
-    assert_eq!(rt; message(&mut bus, hart(0)?), marker(2)?);
-    assert_eq!(rt; message(&mut bus, hart(2)?), marker(1)?);
+    assert_eq!(rt; message(&mut bus, hart(0)?), Some(marker(2)?));
+    assert_eq!(rt; message(&mut bus, hart(2)?), Some(marker(1)?));
     assert_eq!(rt; message(&mut bus, hart(2)?), None);
     Ok(())
 }

@@ -6,4 +6,9 @@ use Rattle.snoop.proofs.bus.Bus.answer_marker.Goals as goal
 
 pub returns-in-Some : goal.returns-in-Some
 returns-in-Some c =
-    search (rules, c.pass_on.ensures, marker_answered (kept c.args.self.now) c.args.hart.number c.args.sender.number (numbered c.in-Some.own) (sym c.in-Some.ensures))
+    search (
+      rules,
+      c.pass_on.ensures,
+      marker_answered (kept c.args.self.now) c.args.hart.number c.args.sender.number (numbered c.in-Some.own)
+          (sym c.in-Some.ensures),
+    )

@@ -10,7 +10,8 @@ abbrev pub invariant-loop-number : goal.invariant-loop-number
 invariant-loop-number l =
     (l.number ≤ length (kept l.self).agents)
     × ((state : ModelState) → Shows (kept l.self) state →
-    option_map number_of l.found ≡ first_such (λ other. not (other == l.request.hart.number) && is_held (hart_of state other).held l.request.line.number) (drop l.number (numbers_of state)))
+    option_map number_of l.found ≡ first_such
+    (λ other. not (other == l.request.hart.number) && is_held (hart_of state other).held l.request.line.number) (drop l.number (numbers_of state)))
 
 abbrev pub decreases-loop-number : goal.decreases-loop-number
 decreases-loop-number l = l.number

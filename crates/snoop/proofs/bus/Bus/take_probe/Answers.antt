@@ -29,5 +29,6 @@ returns-clause-shows c = λ state shows.
     (ap (after_probe state c.args.hart.number c.args.origin.number) request
     ∙ ap (λ known. if known then state else after_probe state c.args.hart.number c.args.origin.number (ordered_of state c.args.origin.number))
     (sym c.if-knows.false ∙ c.knows.ensures ∙ ap (λ agent. has agent.told c.args.origin.number) (c.agent.ensures ∙ shows.agents c.args.hart.number)))
-    (probe_shows (kept c.hear_of-losers.new.self) (kept c.forward.new.self) state c.args.hart.number c.args.origin.number (option_map numbered c.of-request.result)
+    (probe_shows (kept c.hear_of-losers.new.self) (kept c.forward.new.self) state c.args.hart.number c.args.origin.number
+    (option_map numbered c.of-request.result)
     (c.hear_of-losers.ensures.shows state shows) c.forward.ensures)

@@ -7,5 +7,6 @@ use Rattle.snoop.specs.Shows.{kept}
 
 pub returns-then-from-harts : goal.returns-then-from-harts
 returns-then-from-harts c =
-    ready_ended (kept c.args.bus.now) (shown c.clear.new.self) c.args.hart.number c.requires (omega (arith, c.if-from-harts.true, c.harts.ensures, c.from.ensures))
+    ready_ended (kept c.args.bus.now) (shown c.clear.new.self) c.args.hart.number c.requires
+    (omega (arith, c.if-from-harts.true, c.harts.ensures, c.from.ensures))
     c.clear.ensures

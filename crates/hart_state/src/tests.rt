@@ -1,0 +1,220 @@
+//! Harts whose sections are lost and rolled back, and whose watches are settled, worked by hand.
+
+ghost use Rattle.std.specs.Prelude.{◌≡◌, ◌<◌, ◌-◌, ◌^◌, IfOk, IfSome, None};
+ghost use Rattle.rv_alu.specs.declared.view.HartStatus.TheVariants.{Running};
+
+use super::*;
+use el_base::{Cause, Config, Mode};
+use rv_alu::{Action, HartStatus, HartView, Regs};
+use rv_word::{AmoOp, Reg};
+use std::alloc::Global;
+use std::test::Fail;
+use step_rules::Swap;
+
+/// Two places in the program, with counters of their own.
+const HERE: u32 = 0x10000;
+
+const THERE: u32 = 0x10010;
+
+/// A lock word, and another.
+const WORD: u32 = 0x20000;
+
+const OTHER: u32 = 0x20040;
+
+/// An instruction that touches no memory.
+const NOTHING: Action = Action::Go { target: 0x10004 };
+
+/// A running hart at a place in the program.
+fn view(pc: u32) -> HartView
+    ensures { result.status ≡ Running }
+{
+    HartView {
+        pc,
+        regs: Regs::zero(),
+        reserved: None,
+        status: HartStatus::Running,
+    }
+}
+
+/// A hart before its first event, at a place in the program.
+fn hart_at(alloc: Global, pc: u32) -> Result<HartState, Fail>
+    ensures idle { IfOk result (λ own. own.section.live ≡ None) }
+    ensures running { IfOk result (λ own. own.section.marks.present.status ≡ Running) }
+    ensures unwatched { IfOk result (λ own. own.predictor.watch ≡ None) }
+{
+    Ok(HartState::make(alloc, &Config::usual(), view(pc))?)
+}
+
+/// The register that a swap puts its word into.
+fn found() -> Result<Reg, Fail> {
+    Ok(Reg::new(5).ok_or("no such register")?)
+}
+
+/// A swap of a word, and what it is to the rules.
+fn swap_of(word: u32, old: u32, new: u32) -> Result<(Action, Swap), Fail> {
+    let action = Action::Amo {
+        op: AmoOp::Swap,
+        rd: found()?,
+        address: word,
+        source: new,
+    };
+    Ok((action, Swap { word, old, new }))
+}
+
+/// A store of a word.
+fn store(address: u32, value: u32) -> Action {
+    Action::Store {
+        address,
+        len: 4,
+        value,
+    }
+}
+
+/// A section begins at a word, and is lost.
+fn lose(hart: &mut HartState, mode: Mode) -> Result<(), Fail>
+    requires idle { hart.old.section.live ≡ None }
+    requires running { hart.old.section.marks.present.status ≡ Running }
+    ensures idle { hart.new.section.live ≡ None }
+    ensures running { hart.new.section.marks.present.status ≡ Running }
+{
+    hart.begin(WORD, 7, 8, found()?);
+    hart.lose(mode);
+    Ok(())
+}
+
+#[test]
+fn the_fourth_loss_in_a_row_takes_the_lock_where_attempts_have_no_stamps(
+    rt: HostRuntime,
+) -> Result<(), Fail> {
+    for (mode, elides) in [
+        (Mode::Sle, [true, true, true, false]),
+        (Mode::Tlr, [true, true, true, true]),
+    ] {
+        let [first, second, third, fourth] = elides;
+        let mut hart = hart_at(rt.alloc(), HERE)?;
+        lose(&mut hart, mode)?;
+        assert_eq!(rt; hart.may_elide(mode), first, "{mode:?}");
+        lose(&mut hart, mode)?;
+        assert_eq!(rt; hart.may_elide(mode), second, "{mode:?}");
+        lose(&mut hart, mode)?;
+        assert_eq!(rt; hart.may_elide(mode), third, "{mode:?}");
+        lose(&mut hart, mode)?;
+        assert_eq!(rt; hart.may_elide(mode), fourth, "{mode:?}");
+    }
+    Ok(())
+}
+
+/// A candidate at a place runs, which finds 7 in a word and stores 8 there.
+fn run_candidate(hart: &mut HartState, pc: u32, word: u32) -> Result<(), Fail>
+    requires few { IfSome hart.old.predictor.watch (λ watch. watch.count < 100) }
+    ensures rest_stays { hart.new.section ≡ hart.old.section }
+    ensures few { IfSome hart.new.predictor.watch (λ watch. watch.count < 101) }
+    ensures first { hart.old.predictor.watch ≡ None → IfSome hart.new.predictor.watch (λ watch. watch.count < 2) }
+{
+    let (action, swap) = swap_of(word, 7, 8)?;
+    hart.has_run(&Config::usual(), pc, &action, Some(swap));
+    Ok(())
+}
+
+/// A section begins at the hart's place, and is rolled back.
+fn roll_back(hart: &mut HartState, found: Reg, cause: Cause)
+    requires idle { hart.old.section.live ≡ None }
+    requires running { hart.old.section.marks.present.status ≡ Running }
+    ensures idle { hart.new.section.live ≡ None }
+    ensures unwatched { hart.new.predictor.watch ≡ None }
+{
+    hart.begin(WORD, 7, 8, found);
+    hart.roll_back(cause);
+}
+
+#[test]
+fn a_rollback_takes_the_next_lock_and_blames_the_section_alone(
+    rt: HostRuntime,
+) -> Result<(), Fail> {
+    for (cause, trusted) in [
+        (Cause::Room, true),
+        (Cause::Lines, true),
+        (Cause::Long, false),
+        (Cause::Call, false),
+        (Cause::Mixed, false),
+    ] {
+        let mut hart = hart_at(rt.alloc(), HERE)?;
+        hart.begin(WORD, 7, 8, found()?);
+        assert_eq!(rt; hart.shown().regs.get(found()?), 7);
+        assert_eq!(rt; *hart.committed(), view(HERE));
+        hart.roll_back(cause);
+        assert_eq!(rt; *hart.shown(), view(HERE), "{cause:?}");
+        assert_eq!(rt; hart.may_elide(Mode::Sle), false, "{cause:?}");
+        run_candidate(&mut hart, THERE, WORD)?;
+        assert_eq!(rt; hart.may_elide(Mode::Sle), trusted, "{cause:?}");
+    }
+    Ok(())
+}
+
+#[test]
+fn a_watch_is_settled_by_what_comes_after_it(rt: HostRuntime) -> Result<(), Fail> {
+    // whether the place is trusted then, and after one section there that was too long
+    for (action, long, trusted, still) in [
+        (store(WORD, 7), 2_000, true, true),
+        (store(WORD, 9), 2_000, false, false),
+        (Action::Exit { code: 0 }, 2_000, false, false),
+        (NOTHING, 2_000, true, false),
+        (NOTHING, 2, false, false),
+    ] {
+        let config = Config {
+            long,
+            ..Config::usual()
+        };
+        let mut hart = hart_at(rt.alloc(), HERE)?;
+        run_candidate(&mut hart, HERE, WORD)?;
+        hart.has_run(&config, THERE, &action, None);
+        assert_eq!(rt; hart.may_elide(Mode::Tlr), trusted, "{action:?}");
+        roll_back(&mut hart, found()?, Cause::Long);
+        run_candidate(&mut hart, THERE, WORD)?;
+        assert_eq!(rt; hart.may_elide(Mode::Tlr), still, "{action:?}");
+    }
+    Ok(())
+}
+
+#[test]
+fn a_candidate_is_watched_where_no_watch_stood(rt: HostRuntime) -> Result<(), Fail> {
+    // the second candidate's word, and whether each place is trusted after later stores to both words
+    for (second, here, there) in [(OTHER, false, true), (WORD, false, true)] {
+        for (pc, trusted) in [(HERE, here), (THERE, there)] {
+            let mut hart = hart_at(rt.alloc(), pc)?;
+            run_candidate(&mut hart, HERE, WORD)?;
+            run_candidate(&mut hart, THERE, second)?;
+            hart.has_run(&Config::usual(), 0x10020, &store(OTHER, 9), None);
+            hart.has_run(&Config::usual(), 0x10024, &store(WORD, 9), None);
+            assert_eq!(rt; hart.may_elide(Mode::Sle), trusted, "{second:x} {pc:x}");
+        }
+    }
+    Ok(())
+}
+
+#[test]
+fn a_candidate_ends_the_fallback_where_locks_are_elided(rt: HostRuntime) -> Result<(), Fail> {
+    for (mode, new, ends) in [
+        (Mode::Sle, None, false),
+        (Mode::Sle, Some(7), false),
+        (Mode::Sle, Some(8), true),
+        (Mode::Tlr, Some(8), true),
+        (Mode::Plain, Some(8), false),
+    ] {
+        let config = Config {
+            mode,
+            ..Config::usual()
+        };
+        let mut hart = hart_at(rt.alloc(), HERE)?;
+        roll_back(&mut hart, found()?, Cause::Room);
+        match new {
+            None => hart.has_run(&config, THERE, &NOTHING, None),
+            Some(new) => {
+                let (action, swap) = swap_of(WORD, 7, new)?;
+                hart.has_run(&config, THERE, &action, Some(swap));
+            }
+        }
+        assert_eq!(rt; hart.may_elide(Mode::Sle), ends, "{mode:?} {new:?}");
+    }
+    Ok(())
+}

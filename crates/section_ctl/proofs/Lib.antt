@@ -1,0 +1,8 @@
+mod PortBytes
+mod Room
+mod Runs
+mod Begins
+mod Drained
+mod Released
+mod Shows
+mod AnyRoom

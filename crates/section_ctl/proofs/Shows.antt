@@ -1,0 +1,225 @@
+-- the private run of a section is kept, and takes effect
+use Rattle.std.proofs.Common.{◌≡◌, ℕ, ◌+◌, ◌-◌, ◌%◌, ◌^◌, ◌≤◌, ◌<◌, ◌||◌, Bool, true, false, List, [], slice_index, Option, None, Some, is_some}
+use Rattle.std.proofs.Common.{option_map, inl, inr, refl, ap, sym, subst, ◌∙◌, arith}
+use Rattle.std.specs.Option.{unwrap_or}
+use Rattle.std.specs.Prelude.{IfSome, IsSome, if◌then◌else◌}
+use Rattle.std.proofs.lemmas.Bool.{cases_eq}
+use Rattle.cache_sets.proofs.CacheLemmas.{way_of-touched}
+use Rattle.cache_sets.specs.Cache.{bit_in, has_bit, is_resident, marked, touched, way_of, write_bit}
+use Rattle.cache_sets.specs.Cached.{Cached, bytes_of}
+use Rattle.cache_sets.specs.Residency.{Way}
+use Rattle.el_base.specs.Line.{line_number}
+use Rattle.el_base.specs.declared.line.TheConstants.{LINE_BYTES}
+use Rattle.el_base.specs.declared.outcomes.Need.TheVariants.{Read, Write}
+use Rattle.el_model.specs.State.{Section}
+use Rattle.el_model.specs.Upcoming.{Touch, is_release, touch_of}
+use Rattle.run_laws.proofs.Touches.{on_bit, touched_on_bit}
+use Rattle.run_laws.specs.PrivateRun.{HasItsBit, IsCoveredStep}
+use Rattle.rv_alu.specs.declared.action.Action.{Action}
+use Rattle.rv_flat.proofs.StepLaws.{one_line-touched}
+use Rattle.rv_flat.specs.FlatState.{FlatState, span_of}
+use Rattle.rv_flat.specs.Laws.{touched_by}
+use Rattle.rv_flat.specs.Memory.{AreBytes, byte_in}
+use Rattle.rv_flat.specs.Run.{alone}
+use Rattle.rv_alu.specs.Footprint.{footprint}
+use Rattle.rv_alu.specs.declared.action.Action.TheVariants as actions
+use Rattle.rv_alu.specs.Execution.{Store, insn_at, perform, put_of, release_of, store_in, view_after}
+use Rattle.rv_alu.specs.declared.view.HartStatus.TheVariants.{Running}
+use Rattle.rv_alu.specs.declared.view.HartView.{HartView}
+use Rattle.rv_word.specs.Decoding.{decoded}
+use Rattle.rv_word.specs.declared.reg.Reg.{Reg}
+use Rattle.section_ctl.proofs.Drained.{bytes_or_none, copy_of, resident_with_bit}
+use Rattle.section_view.proofs.Beginning.{begins}
+use Rattle.section_view.proofs.Committing.{commits, released_view_told}
+use Rattle.section_view.proofs.GoingOn.{goes_on}
+use Rattle.section_view.proofs.Shapes.{comes_to}
+use Rattle.section_view.specs.KeptRun.{HoldsMarked, KeepsRun, section_byte, section_execution}
+use Rattle.section_view.specs.Laws.{AgreeBeside, HoldsAfter}
+use Rattle.section_view.specs.Release.{HasEffect, released_view}
+use Rattle.write_hold.proofs.LookUps.{held_no_line, holds_after_put_other}
+use Rattle.write_hold.specs.Held.{Entry, Held, held, holds}
+use Rattle.section_ctl.specs.Calls.{HasCommitted, HasReleased, HasReleasedBy, HasRun, IsCoveredIn, begun_state, committed_copy, run_of}
+use Rattle.section_ctl.specs.PrivateRuns.{BeginsRun, CommitsCode, CommitsRun, GoesOnRun, HasBytesOf, IsKept, TakesEffect}
+use Rattle.section_ctl.specs.Shown.{cached_byte}
+use Rattle.section_ctl.specs.State.{SectionState, section_of}
+use Rattle.section_ctl.specs.declared.live.Live.{Live}
+
+-- a line with a bit is there
+resident_with_any : (cache : List (List Way)) (line : ℕ) → has_bit cache line ≡ true → is_resident cache line ≡ true
+resident_with_any cache line bit = by (way_of cache line) bit
+  where
+    by : (way : Option Way) → (bit_in Read way || bit_in Write way) ≡ true → is_some way ≡ true
+    by None bit = absurd cc
+    by (Some way) bit = refl
+
+-- the cache has the committed bytes wherever what comes next touches memory
+agrees : (committed : FlatState) (h : ℕ) (state : SectionState) (section : Section) (cache : Cached) → IsKept committed h state section cache →
+    IsCoveredStep (alone committed h section.count) h section.word cache.residency →
+    AgreeBeside committed section.word (touched_by committed state.marks.present) (cached_byte cache)
+agrees committed h state section cache kept covered address there outside =
+    let view = state.marks.present in
+    let access = (comes_to committed h cache.residency section view state.hold.entries kept.run kept.keeps).access in
+    let bit = subst (λ a. HasItsBit cache.residency (touch_of a)) access covered.bit in
+    let touched = touched_on_bit (span_of committed) cache.residency (touched_by committed view) address (one_line-touched committed view)
+    (on_bit cache.residency (touch_of (touched_by committed view)) bit) there in
+    kept.bytes address touched.above (resident_with_any cache.residency (line_number address) touched.bit)
+
+pub goes_on_run : (old new : SectionState) (section : Section) (cache : Cached) (action : Action) → HasRun old new section (run_of old section cache action) →
+    GoesOnRun old new section cache action
+goes_on_run old new section cache action ran committed h kept is covered =
+    let view = old.marks.present in
+    let byte = section_byte old.hold.entries section.word section.new (cached_byte cache) in
+    let held = subst (λ a. HoldsAfter (store_in (perform a view byte)) old.hold new.hold) is ran.hold in
+    let keeps = (goes_on committed h cache.residency cache.residency section view old.hold new.hold (cached_byte cache) kept.run kept.keeps
+    (agrees committed h old section cache kept covered) covered held).keeps in
+    let after = ap (λ marks. marks.present) ran.marks ∙ ap (λ a. view_after (perform a view byte) view) is in
+    subst (λ v. KeepsRun committed h (record section { count = section.count + 1 }) v new.hold.entries) (sym after) keeps
+
+-- a store is to the line that its action touches for writing
+store_touched : (cache : List (List Way)) (action : Action) (view : HartView) (byte : ℕ → ℕ) → HasItsBit cache (touch_of (footprint action)) →
+    IfSome (store_in (perform action view byte)) (λ store. write_bit cache (line_number store.address) ≡ true)
+store_touched cache (actions.Store address len value) view byte bit = bit
+store_touched cache (actions.StoreConditional rd address value) view byte bit = bit
+store_touched cache (actions.Amo op rd address source) view byte bit = bit
+store_touched cache _ view byte bit = tt
+
+-- held lines still have the write bit
+marked_with : (store : Option Store) (cache : List (List Way)) (old new : Held) → IfSome store (λ s. write_bit cache (line_number s.address) ≡ true) →
+    HoldsAfter store old new → HoldsMarked cache old.entries → HoldsMarked cache new.entries
+marked_with None cache old new bit same marked line is = marked line (ap (λ entries. holds entries line) (sym same) ∙ is)
+marked_with (Some store) cache old new bit held marked line is = elim (cases_eq line (line_number store.address)) [
+  | inl same ↦ ap (write_bit cache) same ∙ bit
+  | inr other ↦ marked line (sym (holds_after_put_other old new (line_number store.address) (store.address % LINE_BYTES) held.bytes held.put line other) ∙ is)
+]
+
+write_bit_covered : (old new : Cached) (touch : Option Touch) (line : ℕ) → HasItsBit old.residency touch → IsCoveredIn old new touch →
+    write_bit new.residency line ≡ write_bit old.residency line
+write_bit_covered old new None line bit after = ap (λ cache. write_bit cache line) after.residency
+write_bit_covered old new (Some touch) line bit after =
+    ap (λ cache. write_bit cache line) after.residency
+    ∙ ap (λ b. write_bit (touched (if b then old.residency else marked old.residency touch.line touch.need) touch.line) line) bit
+    ∙ ap (bit_in Write) (way_of-touched old.residency touch.line line)
+
+pub marked_after : (old new : SectionState) (section : Section) (before after : Cached) (action : Action) →
+    HasItsBit before.residency (touch_of (footprint action)) →
+    HoldsMarked before.residency old.hold.entries → HasRun old new section (run_of old section before action) →
+    IsCoveredIn before after (touch_of (footprint action)) → HoldsMarked after.residency new.hold.entries
+marked_after old new section before after action bit marked ran covered line is =
+    let byte = section_byte old.hold.entries section.word section.new (cached_byte before) in
+    write_bit_covered before after (touch_of (footprint action)) line bit covered
+    ∙ marked_with (store_in (run_of old section before action)) before.residency old.hold new.hold
+    (store_touched before.residency action old.marks.present byte bit) ran.hold marked line is
+
+-- a section begins
+pub begins_run : (before after : SectionState) (word old new : ℕ) (rd : Reg) → before.marks.present.status ≡ Running → before.hold.entries ≡ [] →
+    after ≡ begun_state before word old new rd.number → BeginsRun before after (record { count = 1; word = word; old = old; new = new }) rd
+begins_run before after word old new rd running empty is committed h op address source at next acts =
+    let section : Section = record { count = 1; word = word; old = old; new = new } in
+    let keeps = begins committed h (record { word = word; old = old; new = new }) op rd address source (ap (λ view. view.status) (sym at)
+    ∙ running) next acts in
+    let present = ap (λ state. state.marks.present) is ∙ ap (λ view. release_of (put_of view rd.number old)) at in
+    let nothing = ap (λ state. state.hold.entries) is ∙ empty in
+    subst (λ entries. KeepsRun committed h section after.marks.present entries) (sym nothing)
+    (subst (λ view. KeepsRun committed h section view []) (sym present) keeps)
+
+-- the bytes of a line of which nothing was held
+bytes_committed : (way other : Option Way) (left right : List ℕ) (written : Bool) → is_some other ≡ true →
+    option_map (copy_of left) other ≡ option_map (committed_copy written) (option_map (copy_of right) way) → left ≡ right
+bytes_committed way None left right written there same = absurd cc
+bytes_committed None (Some w) left right written there same = absurd cc
+bytes_committed (Some way) (Some w) left right written there same = ap bytes_or_none same
+
+resident_before : (way other : Option Way) (left right : List ℕ) (written : Bool) → is_some other ≡ true →
+    option_map (copy_of left) other ≡ option_map (committed_copy written) (option_map (copy_of right) way) → is_some way ≡ true
+resident_before way None left right written there same = absurd cc
+resident_before None (Some w) left right written there same = absurd cc
+resident_before (Some way) (Some w) left right written there same = refl
+
+-- the cache has the bytes of memory after a commit
+module _ (committed done : FlatState) (h word : ℕ) (view : HartView) (hold : List Entry) (old new : Cached) (effect : HasEffect committed done h word view hold)
+    (has : HasBytesOf committed old) (marked : HoldsMarked old.residency hold) (puts : HasCommitted old new hold) where
+  -- each byte of memory
+  done_byte : (address : ℕ) → committed.base ≤ address →
+      byte_in done.base done.bytes address ≡ unwrap_or (held hold address) (byte_in committed.base committed.bytes address)
+  done_byte address above =
+      let there : committed.base + (address - committed.base) ≡ address = omega arith in
+      ap (λ base. slice_index done.bytes (address - base)) effect.base ∙ effect.bytes (address - committed.base)
+      ∙ ap (λ a. unwrap_or (held hold a) (slice_index committed.bytes (address - committed.base))) there
+
+  on_held : (address : ℕ) → committed.base ≤ address → holds hold (line_number address) ≡ true →
+      cached_byte new address ≡ unwrap_or (held hold address) (byte_in committed.base committed.bytes address)
+  on_held address above is =
+      let below : address % LINE_BYTES < LINE_BYTES = omega arith in
+      let there = resident_with_bit old.residency (line_number address) (marked (line_number address) is) in
+      puts.bytes (line_number address) (address % LINE_BYTES) is below ∙ ap (unwrap_or (held hold address)) (has address above there)
+
+  on_other : (address : ℕ) → committed.base ≤ address → is_resident new.residency (line_number address) ≡ true → holds hold (line_number address) ≡ false →
+      cached_byte new address ≡ unwrap_or (held hold address) (byte_in committed.base committed.bytes address)
+  on_other address above there none =
+      let line : ℕ = line_number address in
+      let before = way_of old.residency line in
+      let after = way_of new.residency line in
+      let same = bytes_committed before after (bytes_of new line) (bytes_of old line) (write_bit old.residency line) there (puts.others line none) in
+      let was = resident_before before after (bytes_of new line) (bytes_of old line) (write_bit old.residency line) there (puts.others line none) in
+      ap (λ bytes. slice_index bytes (address % LINE_BYTES)) same ∙ has address above was
+      ∙ sym (ap (λ byte. unwrap_or byte (byte_in committed.base committed.bytes address)) (held_no_line hold address none))
+
+  pub done_bytes : HasBytesOf done new
+  done_bytes address from there =
+      let above : committed.base ≤ address = subst (λ base. base ≤ address) effect.base from in
+      by above (holds hold (line_number address)) refl ∙ sym (done_byte address above)
+    where
+      by : committed.base ≤ address → (b : Bool) → holds hold (line_number address) ≡ b →
+          cached_byte new address ≡ unwrap_or (held hold address) (byte_in committed.base committed.bytes address)
+      by above true is = on_held address above is
+      by above false none = on_other address above there none
+
+-- a section commits
+commits_with : (before after : SectionState) (section : Section) (old new : Cached) (committed : FlatState) (h : ℕ) → AreBytes committed.bytes →
+    IsKept committed h before section old → is_release (alone committed h section.count) h section.word section.old ≡ true →
+    after.marks.present ≡ view_after (section_execution committed section before.marks.present before.hold.entries (λ at. 0)) before.marks.present →
+    HoldsMarked old.residency before.hold.entries → HasCommitted old new before.hold.entries → TakesEffect committed h before after section new
+commits_with before after section old new committed h bytes kept release present marked puts =
+    let done = alone committed h (section.count + 1) in
+    let effect = commits committed h old.residency section before.marks.present before.hold.entries (λ at. 0) bytes kept.run kept.keeps release in
+    record {
+      effect = subst (λ v. HasEffect committed done h section.word v before.hold.entries) (sym present) effect;
+      bytes = done_bytes committed done h section.word _ before.hold.entries old new effect kept.bytes marked puts;
+    }
+
+pub commits_run : (before after : SectionState) (section : Section) (old new : Cached) (action : Action) → HasReleased before after section action →
+    HoldsMarked old.residency before.hold.entries → HasCommitted old new before.hold.entries → CommitsRun before after section old new action
+commits_run before after section old new action released marked puts committed h bytes kept is release =
+    let view = before.marks.present in
+    let byte = section_byte before.hold.entries section.word section.new (λ at. 0) in
+    let present = ap (λ marks. marks.present) (released.marks (λ at. 0)) ∙ ap (λ a. view_after (perform a view byte) view) is in
+    commits_with before after section old new committed h bytes kept release present marked puts
+
+pub commits_code : (before after : SectionState) (section : Section) (old new : Cached) (code : ℕ) → HasReleasedBy before after section (decoded code) →
+    section.new < 2 ^ 32 → HoldsMarked old.residency before.hold.entries → HasCommitted old new before.hold.entries →
+    CommitsCode before after section old new code
+commits_code before after section old new code released small marked puts committed h bytes kept at release =
+    let view = before.marks.present in
+    let told = released_view_told committed h old.residency section view before.hold.entries (λ at. 0) kept.run kept.keeps release in
+    let same : section.new ≡ section.new % 2 ^ 32 = omega arith in
+    let present = ap (λ marks. marks.present) released.marks ∙ ap (released_view (decoded code) view) same
+    ∙ ap (λ word. released_view (insn_at word) view (section.new % 2 ^ 32)) (sym at) ∙ sym told in
+    commits_with before after section old new committed h bytes kept release present marked puts
+
+-- what holds of a live section by what does
+pub if_some_map : {A : Type 0} (o : Option A) (P Q : A → Type 0) → ((x : A) → P x → Q x) → IfSome o P → IfSome o Q
+if_some_map None P Q map told = tt
+if_some_map (Some x) P Q map told = map x told
+
+pub on_live : {A : Type 0} (o : Option A) (P Q : A → Type 0) (R : Type 0) → IsSome o → IfSome o P → IfSome o Q → ((x : A) → P x → Q x → R) → R
+on_live None P Q R some p q told = absurd cc
+on_live (Some x) P Q R some p q told = told x p q
+
+-- what holds of the live section holds of the one in the fields, and the other way round
+pub of_live : (o : Option Section) (inside : Option Live) (live : Live) (P : Section → Type 0) → option_map section_of inside ≡ o → inside ≡ Some live →
+    IfSome o P → P (section_of live)
+of_live o inside live P shown is told = subst (λ l. IfSome (option_map section_of l) P) is (subst (λ s. IfSome s P) (sym shown) told)
+
+pub at_live : (o : Option Section) (inside : Option Live) (live : Live) (P : Section → Type 0) → option_map section_of inside ≡ o → inside ≡ Some live →
+    P (section_of live) → IfSome o P
+at_live o inside live P shown is told = subst (λ s. IfSome s P) shown (subst (λ l. IfSome (option_map section_of l) P) (sym is) told)

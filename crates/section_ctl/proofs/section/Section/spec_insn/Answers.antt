@@ -1,0 +1,30 @@
+-- an instruction of a section, whatever the room of the output
+use Rattle.std.proofs.Common.{◌≡◌, ◌∙◌, false, ap, sym, subst}
+use Rattle.std.specs.Prelude.{IfSome, Some, ℕ}
+use Rattle.rv_alu.specs.Action.{action_at}
+use Rattle.section_ctl.proofs.AnyRoom.{any_room}
+use Rattle.section_ctl.proofs.Shows.{on_live}
+use Rattle.section_ctl.specs.Calls.{HasRun, ends_section, run_of}
+use Rattle.section_ctl.specs.PrivateRuns.{GoesOnRun}
+use Rattle.section_ctl.proofs.section.Section.spec_insn.Goals as goal
+
+same : (c : goal.After-spec_action) (room : ℕ) → c.at-action.result ≡ action_at (Some c.args.word) c.args.self.now.marks.present c.args.span room
+same c room =
+    let word = c.args.word in
+    let present = c.args.self.now.marks.present in
+    let goes : ends_section (action_at (Some word) present c.args.span 0) ≡ false =
+    on_live c.args.self.now.live _ _ _ c.requires.live c.requires.buffered c.requires.buffered (λ section may also. may.goes_on) in
+    c.at-action.ensures.value ∙ ap (λ state. action_at (Some word) state.marks.present c.args.span 0) c.self.view_is
+    ∙ sym (any_room word present c.args.span room goes)
+
+pub returns-clause-ran : goal.returns-clause-ran
+returns-clause-ran c room =
+    let old = c.args.self.now in
+    subst (λ action. IfSome old.live (λ section. HasRun old c.spec_action.new.self section (run_of old section c.args.sets.now action))) (same c room)
+    c.spec_action.ensures.ran
+
+pub returns-clause-shows : goal.returns-clause-shows
+returns-clause-shows c room =
+    let old = c.args.self.now in
+    subst (λ action. IfSome old.live (λ section. GoesOnRun old c.spec_action.new.self section c.args.sets.now action)) (same c room)
+    c.spec_action.ensures.shows

@@ -1,0 +1,7 @@
+pub mod State
+pub mod Shown
+pub mod Calls
+pub mod Drains
+pub mod Lending
+pub mod PrivateRuns
+pub mod Releases

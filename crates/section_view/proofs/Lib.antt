@@ -1,0 +1,12 @@
+pub mod Bytes
+pub mod Shapes
+pub mod ShownBytes
+pub mod Beginning
+pub mod GoingOn
+mod Surviving
+mod Releasing
+mod OthersViews
+mod Lines
+pub mod Committing
+mod OfProgram
+mod Worked

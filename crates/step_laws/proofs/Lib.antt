@@ -1,0 +1,7 @@
+pub mod Clocks
+pub mod Short
+pub mod Frames
+pub mod Losing
+pub mod Survivors
+pub mod OwnSteps
+mod Worked

@@ -1,0 +1,166 @@
+-- only live sections are lost, and a section ends by its own hart's commit or rollback or by a loss
+use Rattle.std.proofs.Common.{◌≡◌, ◌≢◌, ◌∙◌, ◌<◌, ◌+◌, ◌==◌, ℕ, Bool, true, false, ◌&&◌, Option, None, Some, is_some, refl}
+use Rattle.std.proofs.Common.{ap, sym, subst, inl, inr, ◌⊎◌, if◌then◌else◌}
+use Rattle.std.specs.Prelude.{nat_lt, slice_index}
+use Rattle.std.proofs.lemmas.Bool.{ltb-true}
+use Rattle.el_base.specs.Losers.{beaten_by}
+use Rattle.el_base.specs.declared.events.Event.{Event}
+use Rattle.el_base.specs.declared.events.Kind.{Kind}
+use Rattle.el_base.specs.declared.events.Kind.TheVariants as kinds
+use Rattle.el_base.specs.declared.losers.Losers.{Losers}
+use Rattle.el_base.specs.declared.outcomes.Outcome.{Outcome}
+use Rattle.el_base.specs.declared.outcomes.Outcome.TheVariants as outcomes
+use Rattle.el_base.specs.declared.config.Mode.{Mode}
+use Rattle.el_base.specs.declared.config.Mode.TheVariants.{Plain, Sle, Tlr}
+use Rattle.el_model.specs.Deed.{Begins, Buffers, Commits, Deed, Misses, Rests, RollsBack, Runs, Waits, hart_after, outcome_of}
+use Rattle.el_model.specs.Losses.{HartsAreNumbered, Standing, lost_in, restored, standing_of, winner_over}
+use Rattle.el_model.specs.Next.{after, kind_turn, next}
+use Rattle.el_model.specs.Plain.{candidate_of}
+use Rattle.el_model.specs.RollBack.{most_tries}
+use Rattle.el_model.specs.State.{Hart, ModelState, Section, hart_of, is_live, section_of}
+use Rattle.el_model.proofs.Deeds.{step_deed}
+use Rattle.el_model.proofs.Restoring.{losers_restored}
+use Rattle.el_model.proofs.Tests.{by_test}
+use Rattle.removal_laws.proofs.Attempts.{candidate_keeps}
+use Rattle.removal_laws.proofs.Facing.{live_below}
+use Rattle.run_laws.proofs.Tests.{not_both}
+use Rattle.section_laws.specs.Sections.{is_committed, is_rolled_back}
+use Rattle.section_laws.proofs.EachHart.{each_with}
+use Rattle.section_laws.proofs.Numbered.{requests_are_numbered}
+use Rattle.section_laws.proofs.SectionSteps.{live_exists}
+use Rattle.section_laws.proofs.UnnamedLosers.{unnamed_outside}
+use Rattle.step_laws.specs.Losing.{EndsItself, IsBeaten, LosesItsSection, OnlyLiveSectionsLose, WhatEndsASection}
+
+none_some : {A X : Type 0} {x : A} → None ≡ Some x → X
+none_some wrong = absurd (cc)
+
+-- a winner is one of the harts that a machine may have
+found_small : (here below : Bool) (n winner : ℕ) → nat_lt n 8 ≡ below → (if here && below then Some n else None) ≡ Some winner → winner < 8
+found_small true true n winner is found = let e : n ≡ winner = cc in subst (λ k. k < 8) e (ltb-true n 8 is)
+found_small true false n winner is found = absurd (cc)
+found_small false below n winner is found = absurd (cc)
+
+beaten_small : (losers : Losers) (h winner : ℕ) → beaten_by losers h ≡ Some winner → winner < 8
+beaten_small losers h winner found = found_small (nat_lt h 8) _ (slice_index losers.winners h) winner refl found
+
+winner_small : (outcome : Outcome) (h winner : ℕ) → winner_over outcome h ≡ Some winner → winner < 8
+winner_small outcomes.Idle h winner names = none_some names
+winner_small outcomes.Stalled h winner names = none_some names
+winner_small (outcomes.Missed line need) h winner names = none_some names
+winner_small outcomes.Ran h winner names = none_some names
+winner_small outcomes.Began h winner names = none_some names
+winner_small outcomes.Buffered h winner names = none_some names
+winner_small (outcomes.Committed count) h winner names = none_some names
+winner_small (outcomes.RolledBack cause) h winner names = none_some names
+winner_small (outcomes.Ordered losers) h winner names = beaten_small losers h winner names
+winner_small (outcomes.Served losers) h winner names = beaten_small losers h winner names
+winner_small (outcomes.Blocked why by) h winner names = none_some names
+winner_small (outcomes.Delivered losers) h winner names = beaten_small losers h winner names
+
+-- a step names no losers
+deed_unnamed : (deed : Deed) (g : ℕ) → winner_over (outcome_of deed) g ≡ None
+deed_unnamed Rests g = refl
+deed_unnamed Waits g = refl
+deed_unnamed (Misses line need) g = refl
+deed_unnamed (Runs touch) g = refl
+deed_unnamed (Begins swap) g = refl
+deed_unnamed (Buffers section touch) g = refl
+deed_unnamed (Commits section) g = refl
+deed_unnamed (RollsBack section cause) g = refl
+
+names_on_bus : (state : ModelState) (h : ℕ) (kind : Kind) (g winner : ℕ) → winner_over (kind_turn state h kind).outcome g ≡ Some winner →
+    kind ≢ kinds.Step
+names_on_bus state h kinds.Step g winner names same =
+    let step = step_deed state h in
+    none_some (sym (ap (λ turn. winner_over turn.outcome g) step.turn_is ∙ deed_unnamed step.deed g) ∙ names)
+names_on_bus state h kinds.Order g winner names same = absurd (cc)
+names_on_bus state h kinds.Serve g winner names same = absurd (cc)
+names_on_bus state h kinds.Deliver g winner names same = absurd (cc)
+
+-- a loss ends the section
+lost_section : (mode : Mode) (old : Standing) → (lost_in mode old).section ≡ None
+lost_section Tlr old = refl
+lost_section Sle old = by_test {A = Standing} (λ standing. standing.section ≡ None) (old.tries + 1 == most_tries) _ _ (λ last. refl) (λ more. refl)
+lost_section Plain old = by_test {A = Standing} (λ standing. standing.section ≡ None) (old.tries + 1 == most_tries) _ _ (λ last. refl) (λ more. refl)
+
+lost_by : (state : ModelState) (event : Event) (g winner : ℕ) → HartsAreNumbered state →
+    winner_over (next state event).outcome g ≡ Some winner → event.kind ≢ kinds.Step → (section : Option Section) →
+    section_of state g ≡ section → LosesItsSection state event g winner
+unfolding next
+lost_by state event g winner numbered names bus None none =
+    none_some (sym (unnamed_outside state event.hart.number event.kind g bus none) ∙ names)
+lost_by state event g winner numbered names bus (Some section) live = record {
+  section = section;
+  live = live;
+  of_bus = bus;
+  over =
+      ap (λ standing. standing.section) (losers_restored state event g numbered bus (live_exists state g section live))
+      ∙ ap (λ w. (restored state.config.mode w (standing_of (hart_of state g))).section) names
+      ∙ lost_section state.config.mode (standing_of (hart_of state g));
+  exists = winner_small (next state event).outcome g winner names;
+}
+
+event_on_bus : (state : ModelState) (event : Event) (g winner : ℕ) → winner_over (next state event).outcome g ≡ Some winner →
+    event.kind ≢ kinds.Step
+unfolding next
+event_on_bus state event g winner names = names_on_bus state event.hart.number event.kind g winner names
+
+pub only_live_sections_lose : OnlyLiveSectionsLose
+only_live_sections_lose program config events event g winner same range names =
+    let state = after program config events in
+    lost_by state event g winner (requests_are_numbered program config events same range) names (event_on_bus state event g winner names)
+    (section_of state g) refl
+
+-- where a step ends a section it is its hart's own, which commits the section or rolls it back
+abbrev HowItEnds : Outcome → Type 0
+HowItEnds outcome = (is_committed outcome ≡ true) ⊎ (is_rolled_back outcome ≡ true)
+
+abbrev Ends : ModelState → ℕ → Deed → ℕ → Hart → Type 0
+Ends state h deed g hart = is_live state g ≡ true → is_some hart.section ≡ false → (h ≡ g) × HowItEnds (outcome_of deed)
+
+deed_ends : (state : ModelState) (h : ℕ) (deed : Deed) → Ends state h deed h (hart_after state h deed (hart_of state h))
+deed_ends state h Rests live ended = not_both live ended
+deed_ends state h Waits live ended = not_both live ended
+deed_ends state h (Misses line need) live ended = not_both live ended
+deed_ends state h (Runs touch) live ended =
+    not_both (candidate_keeps (λ section clock seen attempt. is_some section ≡ true) _ _ (candidate_of state h) _ live) ended
+deed_ends state h (Begins swap) live ended = not_both refl ended
+deed_ends state h (Buffers section touch) live ended = not_both refl ended
+deed_ends state h (Commits section) live ended = (refl, inl refl)
+deed_ends state h (RollsBack section cause) live ended = (refl, inr refl)
+
+step_ends : (state : ModelState) (h g : ℕ) → is_live state g ≡ true → is_live (kind_turn state h kinds.Step).state g ≡ false →
+    (h ≡ g) × HowItEnds (kind_turn state h kinds.Step).outcome
+step_ends state h g =
+    let step = step_deed state h in
+    rw step.turn_is
+    (each_with (Ends state h step.deed) state h (hart_after state h step.deed (hart_of state h)) (deed_ends state h step.deed)
+    (λ k live ended. not_both live ended) g)
+
+-- where an event of the bus ends it, a winner is named
+bus_ends : (state : ModelState) (event : Event) (h : ℕ) → HartsAreNumbered state → event.kind ≢ kinds.Step → is_live state h ≡ true →
+    is_live (next state event).state h ≡ false → (winner : Option ℕ) → winner_over (next state event).outcome h ≡ winner →
+    IsBeaten state event h
+bus_ends state event h numbered bus live ended None none =
+    not_both
+    (ap (λ standing. is_some standing.section) (losers_restored state event h numbered bus (live_below state h live))
+    ∙ ap (λ w. is_some (restored state.config.mode w (standing_of (hart_of state h))).section) none ∙ live) ended
+bus_ends state event h numbered bus live ended (Some winner) names = record { winner = winner; names = names }
+
+kind_ends : (state : ModelState) (event : Event) (h : ℕ) (kind : Kind) → event.kind ≡ kind → HartsAreNumbered state →
+    is_live state h ≡ true → is_live (next state event).state h ≡ false → EndsItself state event h ⊎ IsBeaten state event h
+unfolding next
+kind_ends state event h kinds.Step is numbered live ended =
+    let own = subst (λ k. is_live (kind_turn state event.hart.number k).state h ≡ false →
+    (event.hart.number ≡ h) × HowItEnds (kind_turn state event.hart.number k).outcome) (sym is) (step_ends state event.hart.number h live) ended in
+    inl (record { own = own.0; step = is; how = own.1 })
+kind_ends state event h kinds.Order is numbered live ended =
+    inr (bus_ends state event h numbered (λ step. absurd (cc)) live ended _ refl)
+kind_ends state event h kinds.Serve is numbered live ended =
+    inr (bus_ends state event h numbered (λ step. absurd (cc)) live ended _ refl)
+kind_ends state event h kinds.Deliver is numbered live ended =
+    inr (bus_ends state event h numbered (λ step. absurd (cc)) live ended _ refl)
+
+pub what_ends_a_section : WhatEndsASection
+what_ends_a_section program config events event h same range live ended =
+    kind_ends (after program config events) event h event.kind refl (requests_are_numbered program config events same range) live ended

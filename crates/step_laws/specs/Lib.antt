@@ -1,0 +1,6 @@
+pub mod Clocks
+pub mod Counts
+pub mod Frames
+pub mod Losing
+pub mod Survivors
+pub mod OwnSteps

@@ -5,7 +5,8 @@ mod Facing
 mod Settles
 mod LosersBelow
 mod AfterFate
-mod Conflicts
+pub mod Conflicts
+mod Wanted
 mod Firsts
 mod ServedMarks
 mod Serves

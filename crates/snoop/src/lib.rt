@@ -23,6 +23,7 @@ mod obstacle;
 mod ordering;
 mod serving;
 mod settling;
+mod wanting;
 
 pub use asked::Asked;
 pub use bus::Bus;

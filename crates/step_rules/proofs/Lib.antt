@@ -1,0 +1,6 @@
+mod Origins
+mod NextAction
+mod LittleEndian
+mod CommittedWords
+mod Begins
+mod Elides

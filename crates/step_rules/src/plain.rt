@@ -1,0 +1,106 @@
+//! The rule of a hart outside of a section.
+
+ghost use Rattle.std.specs.Prelude.{◌≡◌, ◌<◌, ◌≤◌, ◌%◌, Some, length};
+ghost use Rattle.std.specs.Option.{option_map};
+ghost use Rattle.core_step.specs.Run.{IsAligned};
+ghost use Rattle.el_model.specs.Plain as model;
+ghost use Rattle.el_model.specs.State.{ModelState, hart_of};
+ghost use Rattle.el_model.specs.Upcoming.{next_touch};
+ghost use Rattle.rv_flat.specs.FlatState.{view_of};
+ghost use Rattle.rv_flat.specs.Memory.{byte_in};
+ghost use Rattle.snoop.specs.Shows.{Shows, kept};
+ghost use Rattle.step_rules.specs.Actions.{IsNext, numbered_swap, numbered_touch, swap_over};
+ghost use Rattle.step_rules.specs.Rules.{IsOnLine, beginning_rule, definition_plain, touching_rule};
+
+use crate::upcoming::{Exchange, Swap, Touch, exchange_of, touch_of};
+use crate::words::word_in;
+use cache_sets::Sets;
+use el_base::{HartId, LineAddr, Need, line_of};
+use moesi::may;
+use rv_alu::Action;
+use snoop::Bus;
+
+/// What a step of a hart without a live section comes to, which runs and waits for no request.
+#[derive(Clone, Copy, Debug, PartialEq, Eq)]
+pub enum PlainRule {
+    /// One instruction runs, which touches a line or none.
+    Runs { touch: Option<Touch> },
+    /// A request is raised.
+    Misses { line: LineAddr, need: Need },
+    /// The acquire is elided, and a section begins.
+    Begins { swap: Swap },
+}
+
+/// The rule of a hart outside of a section, whose next action this is; `may_elide` says whether a swap at its pc may
+/// be elided. (The elision of a lock's acquire: 'Speculative Lock Elision', section 3.)
+pub fn plain_rule(bus: &Bus, hart: HartId, action: &Action, may_elide: bool) -> PlainRule
+    requires hart_exists { hart.number < length (kept bus.now).copies.caches }
+    requires aligned { IsAligned action.now }
+    ensures { (state : ModelState) → Shows (kept bus.now) state → IsOnLine state.committed →
+        IsNext action.now state.committed hart.number →
+        may_elide ≡ model.may_elide state.config.mode (hart_of state hart.number) (view_of state.committed hart.number).pc →
+        definition_plain result ≡ model.plain_rule state hart.number }
+{
+    let touch = touch_of(action);
+    match exchange_of(action) {
+        Some(exchange) if may_elide => swap_rule(bus, hart, exchange, touch),
+        _ => touch_rule(bus.sets(hart), touch),
+    }
+}
+
+/// The rule where the action is a swap that may be elided: it needs its line for reading; one that changes its word
+/// begins a section, unless another hart waits to write there.
+#[tactic(auto, using(crate::proofs::Begins::readable_there))]
+fn swap_rule(bus: &Bus, hart: HartId, exchange: Exchange, touch: Option<Touch>) -> PlainRule
+    requires hart_exists { hart.number < length (kept bus.now).copies.caches }
+    requires aligned { exchange.word % 4 ≡ 0 }
+    ensures { (state : ModelState) → Shows (kept bus.now) state → IsOnLine state.committed →
+        state.committed.base ≤ exchange.word →
+        option_map numbered_touch touch ≡ next_touch state.committed hart.number →
+        definition_plain result ≡ model.swap_rule state hart.number
+        (Some (swap_over (byte_in state.committed.base state.committed.bytes) exchange)) }
+{
+    let line = line_of(exchange.word);
+    let sets = bus.sets(hart);
+    if !may(sets.letter(line), Need::Read) {
+        return PlainRule::Misses {
+            line,
+            need: Need::Read,
+        };
+    }
+    let swap = Swap {
+        word: exchange.word,
+        old: word_in(sets.bytes(line), exchange.word),
+        new: exchange.new,
+    };
+    begin_rule(sets, bus.is_wanted(hart, line, Need::Read), swap, touch)
+}
+
+/// The same where the hart's cache has the line, by whether another hart waits to write there.
+fn begin_rule(sets: &Sets, wanted: bool, swap: Swap, touch: Option<Touch>) -> PlainRule
+    ensures { definition_plain result
+        ≡ beginning_rule sets.now.residency wanted (numbered_swap swap) (option_map numbered_touch touch) }
+{
+    if !swap.changes_word() {
+        touch_rule(sets, touch)
+    } else if wanted {
+        PlainRule::Misses {
+            line: line_of(swap.word),
+            need: Need::Read,
+        }
+    } else {
+        PlainRule::Begins { swap }
+    }
+}
+
+/// The rule of any other action: it runs where the letter of its line permits it.
+fn touch_rule(sets: &Sets, touch: Option<Touch>) -> PlainRule
+    ensures { definition_plain result ≡ touching_rule sets.now.residency (option_map numbered_touch touch) }
+{
+    match touch {
+        Some(Touch { line, need }) if !may(sets.letter(line), need) => {
+            PlainRule::Misses { line, need }
+        }
+        _ => PlainRule::Runs { touch },
+    }
+}

@@ -115,10 +115,8 @@ pub aligned : (word : Option ℕ) (view : HartView) (span : Span) (room : ℕ) �
 aligned None view span room = tt
 aligned (Some word) view span room = aligned-decoded (decoded word) view span room
 
--- where an instruction lacks nothing, its action may happen
-pub is_ready : (permits : ℕ → Need → Bool) (word : Option ℕ) (view : HartView) (span : Span) (room : ℕ) (action : Action) →
-    action ≡ action_at word view span room → lacking permits (footprint action) ≡ None → IsReady permits action
-is_ready permits word view span room action is permitted = record { aligned = rw is (aligned word view span room); permitted = permitted }
+pub aligned_at : (word : Option ℕ) (view : HartView) (span : Span) (room : ℕ) (action : Action) → action ≡ action_at word view span room → IsAligned action
+aligned_at word view span room action is = rw is (aligned word view span room)
 
 -- an execution is its action's
 pub performed : (word : Option ℕ) (view : HartView) (span : Span) (room : ℕ) (byte : ℕ → ℕ) →

@@ -1,5 +1,5 @@
 -- a hold: lines, each with the bytes that were stored in it
-use Rattle.std.specs.Prelude.{ℕ, ◌+◌, ◌-◌, ◌%◌, Bool, ◌==◌, ◌&&◌, nat_le, nat_lt, if◌then◌else◌, List, find, length, slice_index, Option, None, Some, is_some, option_and_then, unwrap_or}
+use Rattle.std.specs.Prelude.{ℕ, ◌+◌, ◌-◌, ◌%◌, Bool, ◌==◌, ◌&&◌, ◌||◌, nat_le, nat_lt, if◌then◌else◌, List, find, length, slice_index, Option, None, Some, is_some, option_and_then, unwrap_or}
 use Rattle.std.specs.Int.{bit_at}
 use Rattle.el_base.specs.Line.{line_number}
 use Rattle.el_base.specs.declared.line.TheConstants.{LINE_BYTES}
@@ -42,3 +42,7 @@ laid start bytes address under =
 -- the byte at a place of a line as its hart sees it: the held one, else the one under it
 abbrev pub seen_at : List Entry → ℕ → List ℕ → ℕ → ℕ
 seen_at entries line under place = unwrap_or (held_at entries line place) (slice_index under place)
+
+-- whether bytes of a line may be put: it is held, or there may be one line more
+abbrev pub has_room_for : Held → ℕ → Bool
+has_room_for hold line = holds hold.entries line || nat_lt (length hold.entries) hold.limit

@@ -29,7 +29,7 @@ impl Model for Hold {
 
 impl Hold {
     ghost use Rattle.write_hold.specs.Calls.{IsDrained, IsFull, IsPut, IsHold};
-    ghost use Rattle.write_hold.specs.Held.{holds, seen_at};
+    ghost use Rattle.write_hold.specs.Held.{has_room_for, holds, seen_at};
 
     /// A hold of nothing, which may hold as many lines as a section may write in a configuration.
     pub fn make(alloc: Global, config: &Config) -> Result<Hold, NoMemory>
@@ -113,6 +113,14 @@ impl Hold {
         ensures sound { IsHold self.now }
     {
         self.entries.len()
+    }
+
+    /// Whether bytes of a line may be put: it is held, or there may be one line more.
+    pub fn has_room_for(&self, line: LineAddr) -> bool
+        ensures exact { result ≡ has_room_for self.now line.number }
+        ensures sound { IsHold self.now }
+    {
+        self.has(line) || self.len() < usize::from(self.limit)
     }
 
     /// Whether a line is held.

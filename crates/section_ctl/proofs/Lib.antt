@@ -1,0 +1,6 @@
+mod PortBytes
+mod Room
+mod Runs
+mod Begins
+mod Drained
+mod Released

@@ -1,0 +1,23 @@
+-- a section goes on
+use Rattle.std.proofs.Common.{sym, subst}
+use Rattle.std.specs.Prelude.{IfSome, option_map}
+use Rattle.section_ctl.proofs.Begins.{stays_live}
+use Rattle.section_ctl.specs.Calls.{MayBuffer}
+use Rattle.section_ctl.specs.Shown.{cached_byte}
+use Rattle.section_ctl.specs.State.{Stands, section_of, shown_state}
+use Rattle.section_view.specs.KeptRun.{section_byte}
+use Rattle.section_ctl.proofs.section.Section.spec_action.Goals as goal
+
+pub invariant_of-self : goal.invariant_of-self
+invariant_of-self c =
+    let inside = c.self.inside in
+    let live = c.in-Some.live in
+    let cache = c.args.sets.now in
+    let was_live = subst (λ l. Stands inside.marks inside.hold (option_map section_of l)) c.in-Some.is c.self.invariant in
+    let at_view = subst (λ s. IfSome s.live (λ section. MayBuffer s section cache c.args.action)) (sym c.self.view_is) c.requires.buffered in
+    let may = subst
+    (λ l. IfSome (option_map section_of l)
+    (λ section. MayBuffer (shown_state inside.marks inside.hold inside.live) section cache c.args.action)) c.in-Some.is at_view in
+    stays_live inside.marks inside.hold c.run_over.new.hold (section_of live) _ c.args.action
+    (section_byte inside.hold.entries live.word live.new (cached_byte cache)) c.run_over.new.view was_live may.goes_on may.unmixed
+    c.run_over.ensures.view c.run_over.ensures.hold

@@ -1,0 +1,5 @@
+pub mod State
+pub mod Shown
+pub mod Calls
+pub mod Drains
+pub mod Lending

@@ -1,0 +1,37 @@
+-- the bytes that a section shows over a cache, and the lines that it may touch
+use Rattle.std.specs.Prelude.{ℕ, ◌≡◌, ◌%◌, ◌&&◌, ◌==◌, Bool, List, slice_index}
+use Rattle.cache_sets.specs.Cached.{Cached, bytes_of}
+use Rattle.cache_sets.specs.Residency.{Way}
+use Rattle.core_step.specs.Port.{stored}
+use Rattle.el_base.specs.Line.{line_number}
+use Rattle.el_base.specs.declared.line.TheConstants.{LINE_BYTES}
+use Rattle.el_base.specs.declared.outcomes.Need.{Need}
+use Rattle.el_base.specs.declared.outcomes.Need.TheVariants.{Read, Write}
+use Rattle.el_model.specs.InSection.{is_covered}
+use Rattle.rv_alu.specs.declared.footprint.Access.{Access}
+use Rattle.rv_alu.specs.declared.footprint.Access.TheVariants as accesses
+use Rattle.section_view.specs.KeptRun.{held_over}
+use Rattle.write_hold.specs.Held.{Entry, Held, has_room_for}
+
+-- the byte at an address, in a cache that has its line
+abbrev pub cached_byte : Cached → ℕ → ℕ
+cached_byte cache address = slice_index (bytes_of cache (line_number address)) (address % LINE_BYTES)
+
+-- the byte that a port shows: the held one, else the new value's in the lock word, else the cached one
+abbrev pub port_byte : List Entry → ℕ → ℕ → Cached → ℕ → ℕ
+port_byte hold word new cache = held_over hold (stored (cached_byte cache) word 4 new)
+
+-- whether a line may be touched: it has its bit, and what is written may be held
+abbrev pub may_touch : List (List Way) → Held → ℕ → Need → Bool
+may_touch cache hold line Read = is_covered cache line Read
+may_touch cache hold line Write = is_covered cache line Write && has_room_for hold line
+
+-- a port permits one line
+abbrev pub permits_one : ℕ → List (List Way) → Held → ℕ → Need → Bool
+permits_one one cache hold line need = (line == one) && may_touch cache hold line need
+
+-- a line is the one that an access touches, if it touches one
+abbrev pub IsTouchedLine : Access → ℕ → Type 0
+IsTouchedLine (accesses.Read address len) line = line ≡ line_number address
+IsTouchedLine (accesses.Write address len) line = line ≡ line_number address
+IsTouchedLine _ line = Unit {0}

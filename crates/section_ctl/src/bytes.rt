@@ -1,0 +1,33 @@
+ghost use Rattle.std.specs.Prelude.{◌≡◌, ◌≤◌, ◌<◌, ◌+◌, ℕ, length, slice_index};
+ghost use Rattle.core_step.specs.Port.{byte_of, stored};
+
+/// The bytes of a word, the lowest first.
+pub(crate) fn low_bytes(word: u32) -> [u8; 4]
+    ensures four { length result ≡ 4 }
+    ensures each { (place : ℕ) → place < 4 → slice_index result place ≡ byte_of word place }
+{
+    word.to_le_bytes()
+}
+
+/// A line with a word at a place, the lowest byte first.
+pub(crate) fn with_word(line: &[u8; 64], place: u8, word: u32) -> [u8; 64]
+    requires { place + 4 ≤ 64 }
+    ensures { (at : ℕ) → slice_index result at ≡ stored (slice_index line.now) place 4 word at }
+{
+    let mut shown = *line;
+    put_word(&mut shown, place, word);
+    shown
+}
+
+/// Puts a word at a place of a line, the lowest byte first.
+fn put_word(line: &mut [u8; 64], place: u8, word: u32)
+    requires { place + 4 ≤ 64 }
+    ensures { (at : ℕ) → slice_index line.new at ≡ stored (slice_index line.old) place 4 word at }
+{
+    let start = usize::from(place);
+    let [first, second, third, fourth] = low_bytes(word);
+    line[start] = first;
+    line[start + 1] = second;
+    line[start + 2] = third;
+    line[start + 3] = fourth;
+}

@@ -1,0 +1,89 @@
+-- what a hart's events make of what it keeps beside the bus
+use Rattle.std.specs.Prelude.{ℕ, ◌≡◌, Bool, false, true, ◌&&◌, Option, None, Some, is_some, not, nat_le, option_map, if◌then◌else◌}
+use Rattle.el_base.specs.declared.config.Config.{Config}
+use Rattle.el_base.specs.declared.config.Mode.{Mode}
+use Rattle.el_base.specs.declared.outcomes.Cause.{Cause}
+use Rattle.el_model.specs.Losses.{Standing, lost_in}
+use Rattle.el_model.specs.Plain.{candidate_of, elides, least_confidence, watched}
+use Rattle.el_model.specs.RollBack.{blamed}
+use Rattle.el_model.specs.State.{ModelState}
+use Rattle.el_model.specs.Upcoming.{Swap, next_swap}
+use Rattle.hart_state.specs.Own.{Own, committed_pc}
+use Rattle.pair_table.specs.Predictor.{confidence_of, settled, unwatched, watching}
+use Rattle.pair_table.specs.declared.verdict.Verdict.TheVariants.{Up}
+use Rattle.reg_mark.specs.Marks.{marks_unreserved}
+use Rattle.rv_alu.specs.declared.action.Action.{Action}
+use Rattle.rv_flat.specs.FlatState.{view_of}
+use Rattle.section_ctl.specs.Calls.{begun_state, rolled_back_state}
+use Rattle.section_ctl.specs.State.{SectionState}
+use Rattle.step_rules.specs.Actions.{IsNext, numbered_swap}
+use Rattle.step_rules.specs.declared.upcoming.Swap as swaps
+
+-- whether a swap at the committed pc may be elided
+abbrev pub own_may_elide : Mode → Own → Bool
+own_may_elide mode own =
+    elides mode && not own.fallback && nat_le least_confidence (confidence_of own.predictor (committed_pc own))
+
+-- the committed view's reservation of a word on a line has ended
+abbrev pub unreserved_own : ℕ → Own → Own
+unreserved_own line own =
+    record own { section = record own.section { marks = marks_unreserved line own.section.marks } }
+
+-- the next instruction of a hart outside of a section: its pc, its action, and the swap that it is, if it is one
+pub record IsNextStep (state : ModelState) (h : ℕ) (config : Config) (pc : ℕ) (action : Action) (swap : Option swaps.Swap) : Type 0 where
+  pub config_is : state.config ≡ config
+  pub pc_is : (view_of state.committed h).pc ≡ pc
+  pub action_is : IsNext action state.committed h
+  pub swap_is : option_map numbered_swap swap ≡ next_swap state.committed h
+
+-- a candidate at a pc that ran ends the fallback, and is watched where no watch stood before
+abbrev pub candidate_own : ℕ → Bool → Option Swap → Own → Own
+candidate_own pc had_watch None own = own
+candidate_own pc had_watch (Some swap) own =
+    record own {
+      fallback = false;
+      predictor = if had_watch then own.predictor else watching own.predictor pc swap.word swap.old;
+    }
+
+-- the next instruction of a hart has run outside of a section: the watch, if one stands, has seen it
+abbrev pub ran_own : ModelState → ℕ → Own → Own
+ran_own state h own =
+    candidate_own (view_of state.committed h).pc (is_some own.predictor.watch) (candidate_of state h)
+    (record own { predictor = watched state h own.predictor own.predictor.watch })
+
+-- a section has begun at a swap, which puts the old value into a register: a watch is dropped without a verdict
+abbrev pub began_own : ℕ → ℕ → ℕ → ℕ → Own → Own
+began_own word old new rd own =
+    record own { section = begun_state own.section word old new rd; predictor = unwatched own.predictor }
+
+-- an action has run in the section: only the section has changed
+abbrev pub buffered_own : SectionState → Own → Own
+buffered_own section own = record own { section = section }
+
+-- the section has committed, and is this one now
+abbrev pub committed_own : SectionState → Own → Own
+committed_own section own =
+    record own { section = section; tries = 0; predictor = settled own.predictor (committed_pc own) Up }
+
+-- the hart itself has rolled its section back
+abbrev pub rolled_back_own : Cause → Own → Own
+rolled_back_own cause own =
+    record own {
+      section = rolled_back_state own.section;
+      tries = 0;
+      fallback = true;
+      predictor = blamed cause (committed_pc own) own.predictor;
+    }
+
+-- the section, the tries and the fallback flag
+abbrev pub standing_own : Own → Standing
+standing_own own = record { section = own.section.live; tries = own.tries; fallback = own.fallback }
+
+-- out of the section, with the tries and the flag of a standing
+abbrev pub left_own : Standing → Own → Own
+left_own standing own =
+    record own { section = rolled_back_state own.section; tries = standing.tries; fallback = standing.fallback }
+
+-- the section was lost by a conflict
+abbrev pub lost_own : Mode → Own → Own
+lost_own mode own = left_own (lost_in mode (standing_own own)) own

@@ -1,0 +1,35 @@
+-- what a hart keeps beside the bus
+use Rattle.std.specs.Prelude.{ℕ, ◌≡◌, Bool, false, []}
+use Rattle.el_model.specs.State.{Hart}
+use Rattle.pair_table.specs.Predictor.{Predictor, unseen}
+use Rattle.reg_mark.specs.Marks.{committed_of}
+use Rattle.rv_alu.specs.declared.view.HartView.{HartView}
+use Rattle.section_ctl.specs.Calls.{idle_state}
+use Rattle.section_ctl.specs.State.{SectionState}
+
+-- the part of a hart that no other hart ever asks for; each field but the first is the one of this name of the definition's hart
+pub record Own : Type 0 where
+  pub section : SectionState  -- its live section or none, with its views and its buffered stores
+  pub predictor : Predictor
+  pub fallback : Bool
+  pub tries : ℕ
+
+-- it is that of the definition's hart
+pub record HasOwn (own : Own) (hart : Hart) : Type 0 where
+  pub section : own.section.live ≡ hart.section
+  pub predictor : own.predictor ≡ hart.predictor
+  pub fallback : own.fallback ≡ hart.fallback
+  pub tries : own.tries ≡ hart.tries
+
+-- before its first event, with a view and with room for stores to so many lines
+abbrev pub new_own : HartView → ℕ → Own
+new_own view lines = record {
+  section = idle_state view (record { limit = lines; entries = [] });
+  predictor = unseen;
+  fallback = false;
+  tries = 0;
+}
+
+-- the pc of the committed view: outside of a section that of the next instruction, inside of one that of its acquire
+abbrev pub committed_pc : Own → ℕ
+committed_pc own = (committed_of own.section.marks).pc

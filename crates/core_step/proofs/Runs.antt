@@ -1,8 +1,9 @@
 -- laws of an instruction that runs over a port
-use Rattle.std.proofs.Common.{◌≡◌, ℕ, ◌-◌, ◌%◌, Bool, true, false, inl, inr, List, Option, None, Some, arith, refl}
+use Rattle.std.proofs.Common.{◌≡◌, ℕ, ◌-◌, ◌%◌, Bool, true, false, inl, inr, List, Option, None, Some, ap, arith, refl, ◌∙◌}
 use Rattle.std.specs.Prelude.{◌==◌, if◌then◌else◌, ◌||◌, not, IfSome}
 use Rattle.std.proofs.lemmas.Bool.Decides.{nat_tests}
 use Rattle.el_base.specs.LineAddr.{line_addr}
+use Rattle.el_base.specs.declared.line.LineAddr.{LineAddr}
 use Rattle.el_base.specs.declared.line.TheConstants.{LINE_BYTES}
 use Rattle.el_base.specs.declared.outcomes.Need.{Need}
 use Rattle.rv_word.specs.Decoding.{decoded}
@@ -14,18 +15,21 @@ use Rattle.rv_word.specs.declared.insn.StoreWidth.{StoreWidth}
 use Rattle.rv_word.specs.declared.insn.StoreWidth.TheVariants as stores_of
 use Rattle.rv_alu.specs.declared.action.Action.{Action}
 use Rattle.rv_alu.specs.declared.action.Action.TheVariants as actions
+use Rattle.rv_alu.specs.declared.footprint.Access.{Access}
 use Rattle.rv_alu.specs.declared.span.Span.{Span}
 use Rattle.rv_alu.specs.declared.view.HartStatus.TheVariants.{Running}
 use Rattle.rv_alu.specs.declared.view.HartView.{HartView}
 use Rattle.rv_alu.specs.Action.{action_at, action_of, checked_of, has_reserved_of, indirect_of, insn_action_of, jump_of, load_size_of, store_size_of}
 use Rattle.rv_alu.specs.Cause.{instruction_address_misaligned}
-use Rattle.rv_alu.specs.Execution.{executed, insn_touched, loads, perform, store_in, touched, view_after}
+use Rattle.rv_alu.specs.Execution.{Execution, Goes, Stops, executed, insn_touched, loads, perform, store_in, touched, view_after}
 use Rattle.rv_alu.specs.Footprint.{IsSize, footprint}
 use Rattle.rv_alu.specs.Operation.{moved_of, taken_of}
 use Rattle.rv_alu.specs.Regs.{a0, a1, a2, a7, get}
 use Rattle.rv_alu.specs.Span.{holds}
 use Rattle.rv_alu.specs.Syscall.{call_of, exit_number, write_call_of, write_number}
-use Rattle.core_step.specs.Run.{IsAligned, IsLoadable, IsReady, IsStorable, ended_by, ended_with, lacking, refused}
+use Rattle.core_step.specs.Run.{IsAligned, IsLoadable, IsReady, IsStorable, ended_by, ended_of, ended_with, lacking, refused, store_when}
+use Rattle.core_step.specs.declared.ended.Ended.{Ended}
+use Rattle.core_step.specs.declared.ended.Ended.TheVariants as ends
 use Rattle.core_step.specs.declared.want.Want.{Want}
 
 -- what an instruction lacks is what its action lacks
@@ -125,8 +129,8 @@ unfolding executed
 performed word view span room byte = refl
 
 -- what is not refused is permitted
-permitted : (permits : ℕ → Need → Bool) (line : ℕ) (need : Need) → refused permits line need ≡ None → permits line need ≡ true
-permitted permits line need h = tested (permits line need) h
+pub is_permitted : (permits : ℕ → Need → Bool) (line : ℕ) (need : Need) → refused permits line need ≡ None → permits line need ≡ true
+is_permitted permits line need h = tested (permits line need) h
   where
     want : Want
     want = record { line = line_addr line; need = need }
@@ -138,21 +142,21 @@ permitted permits line need h = tested (permits line need) h
 -- a load and a store of an action that may happen
 pub load_ready : (permits : ℕ → Need → Bool) (action : Action) → IsReady permits action → IfSome (loads action) (IsLoadable permits)
 load_ready permits (actions.Load width rd address) ready =
-    record { size = load_sized width; aligned = ready.aligned; permitted = inl (permitted permits _ _ ready.permitted) }
+    record { size = load_sized width; aligned = ready.aligned; permitted = inl (is_permitted permits _ _ ready.permitted) }
 load_ready permits (actions.LoadReserved rd address) ready =
-    record { size = inr (inr refl); aligned = ready.aligned; permitted = inl (permitted permits _ _ ready.permitted) }
+    record { size = inr (inr refl); aligned = ready.aligned; permitted = inl (is_permitted permits _ _ ready.permitted) }
 load_ready permits (actions.Amo op rd address source) ready =
-    record { size = inr (inr refl); aligned = ready.aligned; permitted = inr (permitted permits _ _ ready.permitted) }
+    record { size = inr (inr refl); aligned = ready.aligned; permitted = inr (is_permitted permits _ _ ready.permitted) }
 load_ready permits _ ready = tt
 
 pub store_ready : (permits : ℕ → Need → Bool) (action : Action) (view : HartView) (byte : ℕ → ℕ) → IsReady permits action →
     IfSome (store_in (perform action view byte)) (IsStorable permits)
 store_ready permits (actions.Store address len value) view byte ready =
-    record { size = ready.aligned.0; aligned = ready.aligned.1; permitted = permitted permits _ _ ready.permitted }
+    record { size = ready.aligned.0; aligned = ready.aligned.1; permitted = is_permitted permits _ _ ready.permitted }
 store_ready permits (actions.StoreConditional rd address value) view byte ready =
-    record { size = inr (inr refl); aligned = ready.aligned; permitted = permitted permits _ _ ready.permitted }
+    record { size = inr (inr refl); aligned = ready.aligned; permitted = is_permitted permits _ _ ready.permitted }
 store_ready permits (actions.Amo op rd address source) view byte ready =
-    record { size = inr (inr refl); aligned = ready.aligned; permitted = permitted permits _ _ ready.permitted }
+    record { size = inr (inr refl); aligned = ready.aligned; permitted = is_permitted permits _ _ ready.permitted }
 store_ready permits _ view byte ready = tt
 
 -- how an action ends shows in its hart's status
@@ -161,3 +165,23 @@ pub ended_alike : (action : Action) (view : HartView) (byte : ℕ → ℕ) → v
 ended_alike (actions.Trap cause) view byte running = refl
 ended_alike (actions.Exit code) view byte running = refl
 ended_alike _ view byte running = rw running refl
+
+-- what ended in no need of a line lacked none, and its store is that of its execution
+pub record HasRanBy (permits : ℕ → Need → Bool) (access : Access) (execution : Execution) (ended : Ended) : Type 0 where
+  pub lacked : lacking permits access ≡ None
+  pub store : store_when ended execution ≡ store_in execution
+
+ran_store : (execution : Execution) → store_when (ended_by execution) execution ≡ store_in execution
+ran_store (Stops status) = refl
+ran_store (Goes view store append) = refl
+
+pub ran_by : (permits : ℕ → Need → Bool) (access : Access) (execution : Execution) (ended : Ended) →
+    ended ≡ ended_of (lacking permits access) execution → ((line : LineAddr) (need : Need) → ended ≡ ends.Needs line need → ⊥) →
+    HasRanBy permits access execution ended
+ran_by permits access execution ended is not_needs =
+    let by : (lacking permits access ≡ None) × (ended ≡ ended_by execution) = tested (lacking permits access) is in
+    record { lacked = by.0; store = ap (λ e. store_when e execution) by.1 ∙ ran_store execution }
+  where
+    tested : (lack : Option Want) → ended ≡ ended_of lack execution → (lack ≡ None) × (ended ≡ ended_by execution)
+    tested None is = (refl, is)
+    tested (Some want) is = absurd (not_needs want.line want.need is)

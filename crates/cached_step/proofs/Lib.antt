@@ -1,0 +1,6 @@
+pub mod PutBytes
+pub mod CachedBytes
+pub mod Runs
+pub mod Windows
+pub mod Rooms
+pub mod Told

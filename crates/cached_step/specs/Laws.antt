@@ -1,0 +1,61 @@
+-- what a run over a cache promises of plain shared memory
+use Rattle.std.specs.Prelude.{ℕ, ◌≡◌, ◌≤◌, false, true, List, Option, None, Some}
+use Rattle.cache_sets.specs.Cache as caches
+use Rattle.cache_sets.specs.Cache.{has_marks}
+use Rattle.cache_sets.specs.Cached.{Cached}
+use Rattle.cache_sets.specs.Residency.{Way}
+use Rattle.cache_sets.specs.WellFormed.{IsWellFormed}
+use Rattle.coherence.specs.Caches.{cache_at}
+use Rattle.coherence.specs.GivenBack.{copies_with}
+use Rattle.coherence.specs.Served.{Copies, HasLine}
+use Rattle.core_step.specs.Run.{lacking}
+use Rattle.el_model.specs.Upcoming.{Touch, touch_of}
+use Rattle.rv_alu.specs.Execution.{Store, perform, store_in}
+use Rattle.rv_alu.specs.Footprint.{AgreeOn, IsInPlace, footprint}
+use Rattle.rv_alu.specs.declared.action.Action.{Action}
+use Rattle.rv_alu.specs.declared.view.HartView.{HartView}
+use Rattle.rv_flat.specs.FlatState.{FlatState, room_of, span_of}
+use Rattle.rv_flat.specs.Memory.{byte_in}
+use Rattle.rv_flat.specs.Step.{action_of, applied, execution_of}
+use Rattle.cached_step.specs.CacheRun.{HasRun, cached_byte, permitted}
+use Rattle.cached_step.specs.Memory.{IsPlaced, TellsMemory}
+
+-- the bytes that an action touches are in the hart's cache those of memory, where its letters permit the action
+abbrev pub CachedBytesAreMemorys : Type 0
+CachedBytesAreMemorys = (copies : Copies) (flat : FlatState) (h room : ℕ) (action : Action) →
+    TellsMemory copies flat → IsInPlace (span_of flat) room action →
+    lacking (permitted (cache_at copies.caches h)) (footprint action) ≡ None →
+    AgreeOn (footprint action) (cached_byte (cache_at copies.caches h)) (byte_in flat.base flat.bytes)
+
+-- then its next instruction does over the cache what it does on plain memory
+abbrev pub PermittedStepsAreFlat : Type 0
+PermittedStepsAreFlat = (copies : Copies) (flat : FlatState) (h : ℕ) (view : HartView) →
+    TellsMemory copies flat → IsInPlace (span_of flat) (room_of flat) (action_of flat view) →
+    lacking (permitted (cache_at copies.caches h)) (footprint (action_of flat view)) ≡ None →
+    perform (action_of flat view) view (cached_byte (cache_at copies.caches h)) ≡ execution_of flat view
+
+-- after an action ran over a cache, caches and main memory tell the bytes of memory after it
+abbrev pub CachesTellMemoryAfter : Type 0
+CachesTellMemoryAfter = (copies : Copies) (flat : FlatState) (h room : ℕ) (new : Cached) (action : Action) (view : HartView) (byte : ℕ → ℕ) →
+    TellsMemory copies flat → IsInPlace (span_of flat) room action →
+    HasRun (cache_at copies.caches h) new action (store_in (perform action view byte)) →
+    TellsMemory (copies_with copies h new) (applied flat h view (perform action view byte))
+
+-- the line that an action touches lies in memory
+abbrev pub TouchedLinesAreThere : Type 0
+TouchedLinesAreThere = (copies : Copies) (flat : FlatState) (room : ℕ) (action : Action) (touch : Touch) →
+    IsPlaced copies flat → IsInPlace (span_of flat) room action → touch_of (footprint action) ≡ Some touch → HasLine copies touch.line
+
+-- a cache stays well formed, and has marks where it had them
+pub record StaysInForm (old new : Cached) : Type 0 where
+  pub well_formed : IsWellFormed new.ways new.residency
+  pub marks : has_marks new.residency ≡ has_marks old.residency
+
+abbrev pub RunsKeepTheForm : Type 0
+RunsKeepTheForm = (old new : Cached) (action : Action) (store : Option Store) →
+    IsWellFormed old.ways old.residency → HasRun old new action store → StaysInForm old new
+
+-- a cache without marks has room for any line
+abbrev pub UnmarkedCachesHaveRoom : Type 0
+UnmarkedCachesHaveRoom = (ways : ℕ) (cache : List (List Way)) (line : ℕ) →
+    1 ≤ ways → has_marks cache ≡ false → caches.room_of ways cache line ≡ true

@@ -1,0 +1,3 @@
+pub mod CacheRun
+pub mod Memory
+pub mod Laws

@@ -1,0 +1,76 @@
+ghost use Rattle.std.specs.Prelude.{◌≡◌, MatchOption, None, is_some, true};
+ghost use Rattle.cache_sets.specs.Cache.{is_resident};
+ghost use Rattle.cached_step.specs.CacheRun.{HasRun, IsModified, IsUsed, PutsIn, cached_byte, permitted};
+ghost use Rattle.core_step.specs.Run.{IsAligned, ended_of, lacking, store_when, view_when};
+ghost use Rattle.rv_alu.specs.Execution.{perform, store_in};
+ghost use Rattle.rv_alu.specs.Footprint.{footprint};
+ghost use Rattle.rv_alu.specs.declared.view.HartStatus.TheVariants.{Running};
+
+use crate::port::CachePort;
+use cache_sets::Sets;
+use core_step::{Ended, run_action};
+use el_base::{LineAddr, line_of};
+use moesi::Letter;
+use rv_alu::{Access, Action, HartView};
+
+/// Runs an action over a cache, and leaves the order and the letters of its lines.
+fn run_over(sets: &mut Sets, view: &mut HartView, action: Action) -> Ended
+    requires running { view.old.status ≡ Running }
+    requires aligned { IsAligned action }
+    ensures ended { result ≡ ended_of (lacking (permitted sets.old) (footprint action))
+        (perform action view.old (cached_byte sets.old)) }
+    ensures view { view.new ≡ view_when result (perform action view.old (cached_byte sets.old)) view.old }
+    ensures put { MatchOption (store_when result (perform action view.old (cached_byte sets.old)))
+        (sets.new ≡ sets.old) (λ store. PutsIn sets.old sets.new store.address store.len store.value) }
+{
+    let mut port = CachePort { sets };
+    run_action(&mut port, view, action)
+}
+
+/// The line of an access that the cache permits becomes the most recent one of its set, and a written one is
+/// modified.
+fn use_line(sets: &mut Sets, access: Access)
+    requires { lacking (permitted sets.old) access ≡ None }
+    ensures { IsUsed access sets.old sets.new }
+{
+    match access {
+        Access::Read { address, .. } => sets.touch(line_of(address)),
+        Access::Write { address, .. } => modify(sets, line_of(address)),
+        _ => (),
+    }
+}
+
+/// A line becomes the most recent one of its set, and is modified.
+fn modify(sets: &mut Sets, line: LineAddr)
+    requires { is_resident sets.old.residency line.number ≡ true }
+    ensures { IsModified sets.old sets.new line.number }
+{
+    sets.touch(line);
+    sets.set_letter(line, Letter::M);
+}
+
+/// Runs what a hart does next ([`Action::at`]) over the lines of its cache.
+///
+/// `Needs` comes exactly where the action touches a line whose letter does not permit it, and the cache and the
+/// hart's view are the old ones then. Else the action ran: the line that it touched is the most recent one of
+/// its set, a written one has its new bytes and the letter M, and all else is as it was. (The letters are those
+/// of the MOESI table; the order of lines is this project's profile.)
+pub fn step_in_cache(sets: &mut Sets, view: &mut HartView, action: Action) -> Ended
+    requires running { view.old.status ≡ Running }
+    requires aligned { IsAligned action }
+    ensures ended { result ≡ ended_of (lacking (permitted sets.old) (footprint action))
+        (perform action view.old (cached_byte sets.old)) }
+    ensures view { view.new ≡ view_when result (perform action view.old (cached_byte sets.old)) view.old }
+    ensures lacks { is_some (lacking (permitted sets.old) (footprint action)) ≡ true → sets.new ≡ sets.old }
+    ensures ran { lacking (permitted sets.old) (footprint action) ≡ None →
+        HasRun sets.old sets.new action (store_in (perform action view.old (cached_byte sets.old))) }
+{
+    let access = action.footprint();
+    match run_over(sets, view, action) {
+        Ended::Needs { line, need } => Ended::Needs { line, need },
+        ended => {
+            use_line(sets, access);
+            ended
+        }
+    }
+}

@@ -1,5 +1,5 @@
 -- what the bus shows before the first event
-use Rattle.std.proofs.Common.{◌≡◌, ◌∙◌, ◌<◌, ◌≤◌, ℕ, zero, suc, true, false, [], length, replicate, Option, None, Some, is_some, refl, ap, sym, arith}
+use Rattle.std.proofs.Common.{◌≡◌, ◌∙◌, ◌<◌, ◌≤◌, ℕ, zero, suc, ◌*◌, true, false, [], length, replicate, Option, None, Some, is_some, refl, ap, sym, arith}
 use Rattle.std.specs.Prelude.{slice_index_or}
 use Rattle.std.proofs.lemmas.Bool.Decides.{nat_tests}
 use Rattle.std.proofs.lemmas.List.{length-replicate}
@@ -13,6 +13,7 @@ use Rattle.coherence.specs.Caches.{cache_at}
 use Rattle.coherence.specs.Served.{TellsOf}
 use Rattle.el_base.proofs.Ranges.{ranges}
 use Rattle.el_base.specs.Config.{IsInRange, allows}
+use Rattle.el_base.specs.declared.line.TheConstants.{LINE_BYTES}
 use Rattle.el_base.specs.declared.config.Config.{Config}
 use Rattle.el_base.specs.declared.config.ConfigFault.TheVariants.{Harts, Sets}
 use Rattle.el_model.specs.State.{Hart, begin, new_hart}
@@ -57,6 +58,8 @@ pub record IsNew (program : Program) (config : Config) (bus : Kept) : Type 0 whe
   pub agents : bus.agents ≡ replicate config.harts new_agent
   pub caches : bus.copies.caches ≡ replicate config.harts (empty_cached config.ways config.sets)
   pub order : bus.order ≡ []
+  pub first : bus.copies.first * LINE_BYTES ≡ program.base
+  pub lines : length bus.copies.lines * LINE_BYTES ≡ length program.bytes
   pub bytes : TellsOf bus.copies (bytes_at_first program)
 
 count_agents : (program : Program) (config : Config) (bus : Kept) → IsNew program config bus → length bus.agents ≡ config.harts
@@ -80,6 +83,7 @@ shows_first program config bus one_each new = record {
       ∙ ap (λ n. (hart_in n config.sets h).cache) (sym one_each);
   live = λ h. none_live program.harts config.sets h;
   order = new.order;
+  memory = record { first = new.first; lines = new.lines };
   bytes = new.bytes;
 }
   where

@@ -15,7 +15,7 @@ use Rattle.el_model.specs.State.{Hart, ModelState, cache_of, each_hart, hart_of,
 use Rattle.snoop.proofs.AfterFate.{cache_left, fate_agent, fate_cache, fate_live, own_unmet, post_all_cache, post_all_section}
 use Rattle.snoop.proofs.Ready.{Stood, ready_after}
 use Rattle.snoop.proofs.Sent.{head_posted, others_posted, posted_count, posted_kept}
-use Rattle.snoop.proofs.Showing.{ShowsEach, shows_each}
+use Rattle.snoop.proofs.Showing.{ShowsEach, lies_yet, shows_each}
 use Rattle.snoop.specs.Agent.{Agent, agent_at, agent_of}
 use Rattle.snoop.specs.Fates.{fate_in}
 use Rattle.snoop.specs.Settled.{AreSettledBelow, SettledCache, sent_in, settled_agent}
@@ -114,6 +114,7 @@ faced_each head known old mid state count settled shows is = record {
         ∙ fate_live state head (fate_at state head h) (hart_of state h) (shows.live h)
         ∙ ap (λ hart. has_marks hart.cache) (sym (other_hart state head h (hart_of state h) other))
   ];
+  memory = lies_yet old.copies mid.copies state.committed settled.stays.first settled.stays.lines shows.memory;
   bytes = settled.stays.coherent (line_of state.committed) shows.bytes;
 }
   where

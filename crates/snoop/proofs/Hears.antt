@@ -26,10 +26,10 @@ use Rattle.mail.specs.Mailbox.{Probe, posted}
 use Rattle.snoop.specs.Agent.{Agent, agent_at, agent_of, agent_posted, with_agent}
 use Rattle.snoop.specs.Delivering.{Forwards, IsForwarded, IsLostTo, agent_heard, asks_on}
 use Rattle.snoop.specs.Settled.{in_removal}
-use Rattle.snoop.specs.Shows.{IsReady, Kept, Shows, line_of}
+use Rattle.snoop.specs.Shows.{IsReady, Kept, LiesWhere, Shows, line_of}
 use Rattle.snoop.proofs.AfterFate.{beaten_agent, beaten_cache, beaten_live}
 use Rattle.snoop.proofs.Ready.{asks_agent, ready_after}
-use Rattle.snoop.proofs.Showing.{agent_other, agent_past, agent_same, count_with_agent, shows_agent, shows_each}
+use Rattle.snoop.proofs.Showing.{agent_other, agent_past, agent_same, count_with_agent, lies_yet, shows_agent, shows_each}
 
 -- a hart that does not lose
 pub heard_shows : (bus : Kept) (state : ModelState) (h origin : ℕ) (request : Option Request) → Shows bus state → loses_to_origin state h request ≡ false →
@@ -108,6 +108,7 @@ lost_is_shown bus new state h origin request shows inside lost =
             ap (λ hart. is_some hart.section) there ∙ shows.live g ∙ ap (λ hart. has_marks hart.cache) (sym there)
       ];
       order = lost.order ∙ shows.order;
+      memory = lies_yet bus.copies new.copies state.committed lost.copies.stays.first lost.copies.stays.lines shows.memory;
       bytes = lost.copies.stays.coherent (line_of state.committed) shows.bytes;
     }
 
@@ -230,6 +231,7 @@ forward_shows bus new before told h origin request shows order upstream forward 
           ∙ sym (chosen_kept (λ hart. hart.cache) (forwards_on before h origin request g) origin (hart_of told g) refl);
       live = λ g below. chosen_kept (λ hart. is_some hart.section) (forwards_on before h origin request g) origin (hart_of told g) refl ∙ shows.live g
           ∙ ap has_marks (sym (chosen_kept (λ hart. hart.cache) (forwards_on before h origin request g) origin (hart_of told g) refl));
+      memory = subst (λ copies. LiesWhere copies told.committed) (sym forward.copies) shows.memory;
       bytes = subst (λ copies. TellsOf copies (line_of told.committed)) (sym forward.copies) shows.bytes;
     }))
   where

@@ -98,6 +98,7 @@ shows_returned bus state h cache hart committed inside shows back = record {
         ∙ ap (λ k. has_marks k.cache) (sym (hart_of-with_hart_other state h g hart other))
   ];
   order = shows.order;
+  memory = record { first = back.memory.first; lines = back.memory.lines };
   bytes = back.bytes;
 }
   where

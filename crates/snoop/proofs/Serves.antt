@@ -31,7 +31,7 @@ use Rattle.snoop.proofs.Settles.{stays_twice}
 use Rattle.snoop.proofs.Ready.{ready_after}
 use Rattle.section_laws.proofs.ServedCaches.{others_room, others_well_formed, own_after, own_after_well_formed}
 use Rattle.snoop.proofs.ServedMarks.{others_marks, own_after_marks}
-use Rattle.snoop.proofs.Showing.{ShowsEach, agent_past, shows_each}
+use Rattle.snoop.proofs.Showing.{ShowsEach, agent_past, lies_yet, shows_each}
 
 -- a hart that the test takes for another, and one that it takes for itself
 at_own : {A : Type 0} (g h : ℕ) (x y : A) → g ≡ h → (if g == h then x else y) ≡ x
@@ -249,6 +249,9 @@ serve_shows bus new state request ready shows ordered free serves =
           ap is_some (serving_section state request g (hart_of state g)) ∙ shows.live g ∙ ap has_marks (sym (shows.caches g))
           ∙ sym (served_marks bus new state request ready shows ordered free serves g below)
           ∙ ap has_marks (served_cache bus new state request ready shows can.hart_exists serves g below);
+      memory =
+          let stays = serve_stays _ request bus.copies new.copies serves.copies in
+          lies_yet bus.copies new.copies state.committed stays.first stays.lines shows.memory;
       bytes = (serve_stays _ request bus.copies new.copies serves.copies).coherent (line_of state.committed) shows.bytes;
     }
 

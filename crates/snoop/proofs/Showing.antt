@@ -1,17 +1,27 @@
 -- what the bus shows after one hart has changed, and after each has
-use Rattle.std.proofs.Common.{◌≡◌, ◌≢◌, ◌∙◌, ℕ, zero, suc, ◌<◌, ◌≤◌, List, [], ◌∷◌, length, is_some, refl, ap, sym, inl, inr, arith}
+use Rattle.std.proofs.Common.{◌≡◌, ◌≢◌, ◌∙◌, ℕ, zero, suc, ◌*◌, ◌<◌, ◌≤◌, List, [], ◌∷◌, length, is_some, refl, ap, sym, inl, inr, arith}
 use Rattle.std.specs.Prelude.{slice_set}
 use Rattle.std.proofs.lemmas.Bool.{cases_eq, cases_lt}
 use Rattle.std.proofs.lemmas.List.{get_or-set_same, get_or-set_other, length-set}
 use Rattle.cache_sets.specs.Cache.{has_marks}
 use Rattle.coherence.specs.Caches.{cache_at}
 use Rattle.coherence.proofs.GivenUp.{beyond}
-use Rattle.coherence.specs.Served.{TellsOf}
+use Rattle.coherence.specs.Served.{Copies, TellsOf}
+use Rattle.el_base.specs.declared.line.TheConstants.{LINE_BYTES}
 use Rattle.el_model.specs.State.{Hart, ModelState, cache_of, each_from, each_hart, hart_of, new_hart, section_of, with_hart}
 use Rattle.el_model.proofs.Harts.{hart_of-each_hart, hart_of-each_hart_past, hart_of-past, hart_of-with_hart_same, hart_of-with_hart_other, with_hart_kept}
 use Rattle.el_model.proofs.Keeps.{length-each_from}
 use Rattle.snoop.specs.Agent.{Agent, agent_at, agent_of, new_agent, with_agent}
-use Rattle.snoop.specs.Shows.{Kept, Shows, line_of}
+use Rattle.rv_flat.specs.FlatState.{FlatState}
+use Rattle.snoop.specs.Shows.{Kept, LiesWhere, Shows, line_of}
+
+-- main memory that has not moved lies where it did
+pub lies_yet : (old new : Copies) (flat : FlatState) → new.first ≡ old.first → length new.lines ≡ length old.lines → LiesWhere old flat →
+    LiesWhere new flat
+lies_yet old new flat first lines lies = record {
+  first = ap (λ n. n * LINE_BYTES) first ∙ lies.first;
+  lines = ap (λ n. n * LINE_BYTES) lines ∙ lies.lines;
+}
 
 -- an agent past the last one
 pub agent_past : (agents : List Agent) (h : ℕ) → length agents ≤ h → agent_at agents h ≡ new_agent
@@ -51,6 +61,7 @@ shows_agent bus state h agent hart shows is section cache = record {
   caches = λ g. shows.caches g ∙ sym (kept_cache g);
   live = λ g. ap is_some (with_hart_kept (λ k. k.section) state h hart section g) ∙ shows.live g ∙ ap has_marks (sym (kept_cache g));
   order = shows.order;
+  memory = shows.memory;
   bytes = shows.bytes;
 }
   where
@@ -69,6 +80,7 @@ pub record ShowsEach (bus new : Kept) (state : ModelState) (becomes : ℕ → Ha
   pub agents : (h : ℕ) → h < length bus.agents → agent_at new.agents h ≡ agent_of (becomes h (hart_of state h))
   pub caches : (h : ℕ) → h < length bus.agents → (cache_at new.copies.caches h).residency ≡ (becomes h (hart_of state h)).cache
   pub live : (h : ℕ) → h < length bus.agents → is_some (becomes h (hart_of state h)).section ≡ has_marks (becomes h (hart_of state h)).cache
+  pub memory : LiesWhere new.copies state.committed
   pub bytes : TellsOf new.copies (line_of state.committed)
 
 pub shows_each : (bus new : Kept) (state : ModelState) (becomes : ℕ → Hart → Hart) → Shows bus state → ShowsEach bus new state becomes →
@@ -91,6 +103,7 @@ shows_each bus new state becomes shows each = record {
     | inr past ↦ ap (λ hart. is_some hart.section) (gone h past) ∙ ap (λ hart. has_marks hart.cache) (sym (gone h past))
   ];
   order = refl;
+  memory = each.memory;
   bytes = each.bytes;
 }
   where

@@ -10,7 +10,7 @@ use Rattle.coherence.specs.Served.{IsCoherent, TellsOf}
 use Rattle.el_model.specs.State.{Hart, ModelState, hart_of, with_hart}
 use Rattle.rv_flat.specs.FlatState.{FlatState}
 use Rattle.snoop.specs.Agent.{agent_at, agent_of}
-use Rattle.snoop.specs.Shows.{Kept, line_of}
+use Rattle.snoop.specs.Shows.{Kept, LiesWhere, line_of}
 
 -- another cache in the place of a hart's
 abbrev pub returned : Kept → ℕ → Cached → Kept
@@ -29,12 +29,13 @@ pub record IsReturned (bus : Kept) (h : ℕ) (cache : Cached) : Type 0 where
   pub ordered : (request : Request) → request_of bus.order h ≡ Some request → HasRoomFor cache request
 
 -- what is owed for it to show that the hart has become another, and that these are the committed bytes: the hart's part at the bus is as
--- it was, its cache is the one that was given back, and it has a live section exactly where some line has a bit
+-- it was, its cache is the one that was given back, it has a live section exactly where some line has a bit, and memory lies where it did
 pub record IsReturnedAs (bus : Kept) (state : ModelState) (h : ℕ) (cache : Cached) (hart : Hart) (committed : FlatState) : Type 0 where
   pub agent : agent_of hart ≡ agent_of (hart_of state h)
   pub ways : cache.ways ≡ (cache_at bus.copies.caches h).ways
   pub residency : hart.cache ≡ cache.residency
   pub live : is_some hart.section ≡ has_marks cache.residency
+  pub memory : LiesWhere bus.copies committed
   pub bytes : TellsOf (copies_with bus.copies h cache) (line_of committed)
 
 -- the state in which a hart has become another, and memory has these bytes

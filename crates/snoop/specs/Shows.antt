@@ -1,5 +1,5 @@
 -- what the bus keeps, and the state of the machine's definition that it shows
-use Rattle.std.specs.Prelude.{ℕ, ◌≡◌, ◌<◌, ◌≤◌, ◌-◌, ◌/◌, true, List, None, Some, length}
+use Rattle.std.specs.Prelude.{ℕ, ◌≡◌, ◌<◌, ◌≤◌, ◌-◌, ◌*◌, ◌/◌, true, List, None, Some, length}
 use Rattle.bus_order.specs.Order.{IsOneEach, Request, request_of}
 use Rattle.cache_sets.specs.Cache.{has_marks}
 use Rattle.cache_sets.specs.WellFormed.{IsWellFormed}
@@ -27,7 +27,12 @@ kept bus = record { mode = bus.mode; copies = shown bus.hierarchy; agents = bus.
 abbrev pub line_of : FlatState → ℕ → List ℕ
 line_of flat line = line_in flat.bytes (line - flat.base / LINE_BYTES)
 
--- each part is the definition's, and the copies and main memory tell the committed bytes; a hart has a live section exactly where
+-- main memory lies where the state's memory does, and is as long
+pub record LiesWhere (copies : Copies) (flat : FlatState) : Type 0 where
+  pub first : copies.first * LINE_BYTES ≡ flat.base
+  pub lines : length copies.lines * LINE_BYTES ≡ length flat.bytes
+
+-- each part is the definition's, main memory lies in its place, and the copies and main memory tell the committed bytes; a hart has a live section exactly where
 -- some line of its cache has a bit
 pub record Shows (bus : Kept) (state : ModelState) : Type 0 where
   pub mode : bus.mode ≡ state.config.mode
@@ -38,6 +43,7 @@ pub record Shows (bus : Kept) (state : ModelState) : Type 0 where
   pub caches : (h : ℕ) → (cache_at bus.copies.caches h).residency ≡ cache_of state h
   pub live : (h : ℕ) → is_live state h ≡ has_marks (cache_of state h)
   pub order : bus.order ≡ state.order
+  pub memory : LiesWhere bus.copies state.committed
   pub bytes : TellsOf bus.copies (line_of state.committed)
 
 -- a request can be served once it is the head of its line and nothing is in its way: its hart is there, its line lies in

@@ -11,6 +11,8 @@ returns-clause-ready c =
       agents = c.in_ok-new_agents.ensures;
       caches = c.in_ok-make.ensures.caches;
       order = c.new.ensures;
+      first = c.in_ok-make.ensures.first.0;
+      lines = c.in_ok-make.ensures.first.1;
       bytes = c.in_ok-make.ensures.memory;
     })
 
@@ -22,5 +24,7 @@ returns-clause-shows c =
       agents = c.in_ok-new_agents.ensures;
       caches = c.in_ok-make.ensures.caches;
       order = c.new.ensures;
+      first = c.in_ok-make.ensures.first.0;
+      lines = c.in_ok-make.ensures.first.1;
       bytes = c.in_ok-make.ensures.memory;
     })

@@ -1,0 +1,44 @@
+-- a hart that acts: it runs, waits for nothing, and holds nothing any more
+use Rattle.std.specs.Prelude.{ℕ, ◌≡◌, ◌<◌, ◌≤◌, false, None, Some, length}
+use Rattle.cache_sets.specs.Cached.{Cached}
+use Rattle.coherence.specs.Caches.{cache_at}
+use Rattle.el_model.specs.State.{ModelState, Section, has_request, hart_of, section_of, with_hart}
+use Rattle.elf_image.specs.Limits.{end_limit}
+use Rattle.elf_image.specs.Program.{code_word}
+use Rattle.engine.specs.Parts.{IsIn, Parts, committed_at, present_at, room_in}
+use Rattle.engine.specs.Reached.{IsReached}
+use Rattle.rv_alu.specs.Action.{action_at}
+use Rattle.rv_alu.specs.declared.action.Action.{Action}
+use Rattle.rv_alu.specs.declared.view.HartStatus.TheVariants.{Running}
+use Rattle.snoop.specs.Shows.{IsReady}
+
+-- the state in which a hart has given up the line that it held
+abbrev pub freed : ModelState → ℕ → ModelState
+freed state h = with_hart state h (record (hart_of state h) { held = None })
+
+-- the parts are in such a state, which comes of one that a program reaches; memory lies below the last address
+pub record MayAct (parts : Parts) (h : ℕ) (state : ModelState) : Type 0 where
+  pub reached : IsReached state
+  pub is_in : IsIn parts (freed state h)
+  pub ready : IsReady parts.bus
+  pub exists : h < length parts.harts
+  pub low : parts.span.end ≤ end_limit
+  pub running : (committed_at parts.harts h).status ≡ Running
+  pub free : has_request state h ≡ false
+
+-- it may act outside of a section, or in one
+pub record ActsOutside (parts : Parts) (h : ℕ) (state : ModelState) : Type 0 where
+  pub may : MayAct parts h state
+  pub no_section : section_of state h ≡ None
+
+pub record ActsInside (parts : Parts) (h : ℕ) (state : ModelState) (section : Section) : Type 0 where
+  pub may : MayAct parts h state
+  pub live : section_of state h ≡ Some section
+
+abbrev pub cache_in : Parts → ℕ → Cached
+cache_in parts h = cache_at parts.bus.copies.caches h
+
+-- the action that a hart comes to next, as it sees itself
+abbrev pub next_action : Parts → ℕ → Action
+next_action parts h =
+    let view = present_at parts.harts h in action_at (code_word parts.code view.pc) view parts.span (room_in parts)

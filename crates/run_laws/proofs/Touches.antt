@@ -40,9 +40,9 @@ SameOnBits cache left right =
     (place : ℕ) → has_bit cache (line_number (left.base + place)) ≡ true → slice_index right.bytes place ≡ slice_index left.bytes place
 
 -- an address that is touched is not below the base, and on the touched line
-record IsTouched (base : ℕ) (cache : List (List Way)) (address : ℕ) : Type 0 where
-  above : base ≤ address
-  bit : has_bit cache (line_number address) ≡ true
+pub record IsTouched (base : ℕ) (cache : List (List Way)) (address : ℕ) : Type 0 where
+  pub above : base ≤ address
+  pub bit : has_bit cache (line_number address) ≡ true
 
 on_piece : (span : Span) (cache : List (List Way)) (from len address : ℕ) → IsPiece span from len → from ≤ address → address < from + len →
     has_bit cache (line_number from) ≡ true → IsTouched span.base cache address
@@ -52,7 +52,7 @@ on_piece span cache from len address piece low high bit =
     let same : line_number address ≡ line_number from = omega arith in
     record { above = omega arith; bit = ap (has_bit cache) same ∙ bit }
 
-touched_on_bit : (span : Span) (cache : List (List Way)) (access : Access) (address : ℕ) → IsInOneLine span access →
+pub touched_on_bit : (span : Span) (cache : List (List Way)) (access : Access) (address : ℕ) → IsInOneLine span access →
     IsOnBit cache (touch_of access) → Touches access address → IsTouched span.base cache address
 touched_on_bit span cache (Read from len) address piece bit there = on_piece span cache from len address piece there.0 there.1 bit
 touched_on_bit span cache (Write from len) address piece bit there = on_piece span cache from len address piece there.0 there.1 bit

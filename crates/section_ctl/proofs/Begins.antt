@@ -17,9 +17,9 @@ use Rattle.rv_alu.specs.declared.view.HartStatus.TheVariants.{Running}
 use Rattle.rv_alu.specs.declared.view.HartView.{HartView}
 use Rattle.rv_word.specs.declared.insn.AmoOp.TheVariants as amos
 use Rattle.rv_word.specs.declared.reg.Reg.{Reg}
-use Rattle.section_ctl.proofs.PortBytes.{stored_inside}
 use Rattle.section_ctl.specs.Calls.{ends_section}
 use Rattle.section_ctl.specs.State.{IsLive, Stands}
+use Rattle.section_view.proofs.Bytes.{stored_inside}
 use Rattle.section_view.specs.Laws.{HoldsAfter}
 use Rattle.write_hold.proofs.LookUps.{laid_above, laid_below}
 use Rattle.write_hold.specs.Held.{Entry, Held, held, laid}

@@ -23,10 +23,10 @@ resident_with_bit cache line bit = by (way_of cache line) bit
     by (Some way) bit = refl
 
 -- a copy of a way, and the bytes of a copy
-abbrev copy_of : List ℕ → Way → Copy
+abbrev pub copy_of : List ℕ → Way → Copy
 copy_of bytes way = record { letter = way.letter; bytes = bytes }
 
-abbrev bytes_or_none : Option Copy → List ℕ
+abbrev pub bytes_or_none : Option Copy → List ℕ
 bytes_or_none None = []
 bytes_or_none (Some copy) = copy.bytes
 

@@ -4,3 +4,4 @@ mod Runs
 mod Begins
 mod Drained
 mod Released
+mod Shows

@@ -10,6 +10,7 @@ use Rattle.el_base.specs.declared.line.TheConstants.{LINE_BYTES}
 use Rattle.rv_alu.specs.Footprint.{IsSize}
 use Rattle.rv_alu.specs.Loaded.{loaded}
 use Rattle.section_ctl.specs.Shown.{cached_byte, port_byte}
+use Rattle.section_view.proofs.Bytes.{stored_inside, stored_outside}
 use Rattle.section_view.specs.KeptRun.{held_over}
 use Rattle.section_view.specs.Laws.{AreLowBytes}
 use Rattle.write_hold.specs.Calls.{IsPut}
@@ -25,23 +26,6 @@ loaded_from left right from start (suc len) same =
     loaded_from left right (from + 1) (start + 1) len
     (λ k below. ap left (omega arith) ∙ same (k + 1) (omega arith) ∙ ap right (omega arith)) in
     cc
-
--- a byte that was stored, and one that was not
-module _ (byte : ℕ → ℕ) (from len value address : ℕ) where
-  chosen : (within : Bool) → (nat_le from address && nat_lt address (from + len)) ≡ within →
-      stored byte from len value address ≡ (if within then byte_of value (address - from) else byte address)
-  chosen within is = ap (λ b. if b then byte_of value (address - from) else byte address) is
-
-  pub stored_inside : from ≤ address → address < from + len → stored byte from len value address ≡ byte_of value (address - from)
-  stored_inside low high = chosen true (grind (arith, nat_tests))
-
-  pub stored_beside : (from ≤ address → address < from + len → ⊥) → stored byte from len value address ≡ byte address
-  stored_beside beside = chosen false (outside (nat_le from address && nat_lt address (from + len)) refl)
-    where
-      outside : (within : Bool) → (nat_le from address && nat_lt address (from + len)) ≡ within →
-          (nat_le from address && nat_lt address (from + len)) ≡ false
-      outside true is = absurd (beside (grind (arith, nat_tests)) (grind (arith, nat_tests)))
-      outside false is = is
 
 -- what lies under the hold in a word
 abbrev pub LiesUnder : ℕ → ℕ → Cached → ℕ → List ℕ → Type 0
@@ -114,7 +98,7 @@ pub lies_in_cache : (word new : ℕ) (cache : Cached) (address : ℕ) (under : L
     under ≡ bytes_of cache (line_number address) → LiesUnder word new cache address under
 lies_in_cache word new cache address under aligned lock_aligned other is k below =
     ap (λ bytes. slice_index bytes (address % LINE_BYTES + k)) is ∙ cached_from cache address k aligned below
-    ∙ sym (stored_beside (cached_byte cache) word 4 new (address + k) (λ low high. other (omega arith)))
+    ∙ sym (stored_outside (cached_byte cache) word 4 new (address + k) (λ low high. other (omega arith)))
 
 -- as many of a word's bytes as are stored
 pub low_part : (bytes : List ℕ) (len value : ℕ) → length bytes ≡ 4 → IsSize len → ((place : ℕ) → place < 4 → slice_index bytes place ≡ byte_of value place) →

@@ -16,27 +16,15 @@ use Rattle.rv_alu.specs.Execution.{Execution, Goes, Stops, Store, store_in, view
 use Rattle.rv_alu.specs.declared.footprint.Access.{Access}
 use Rattle.rv_alu.specs.declared.footprint.Access.TheVariants as accesses
 use Rattle.rv_alu.specs.declared.view.HartView.{HartView}
-use Rattle.section_ctl.proofs.PortBytes.{stored_beside, stored_inside}
 use Rattle.section_ctl.proofs.Room.{room_for_written}
 use Rattle.section_ctl.specs.Calls.{IsPutInto}
 use Rattle.section_ctl.specs.Shown.{IsTouchedLine, cached_byte, permits_one, port_byte}
+use Rattle.section_view.proofs.Bytes.{stored_inside, stored_outside}
+use Rattle.section_view.proofs.ShownBytes.{Inside, Outside, in_word}
 use Rattle.section_view.specs.KeptRun.{HoldsMarked, held_over, section_byte}
 use Rattle.section_view.specs.Laws.{HoldsAfter}
 use Rattle.write_hold.specs.Calls.{IsHold}
 use Rattle.write_hold.specs.Held.{Entry, Held, held}
-
--- an address is of a word, or outside of it
-pub data InWord (word address : ℕ) : Type 0 where
-  Inside : word ≤ address → address < word + 4 → InWord word address
-  Outside : (word ≤ address → address < word + 4 → ⊥) → InWord word address
-
-pub in_word : (word address : ℕ) → InWord word address
-in_word word address = by (nat_le word address) (nat_lt address (word + 4)) refl refl
-  where
-    by : (low high : Bool) → nat_le word address ≡ low → nat_lt address (word + 4) ≡ high → InWord word address
-    by true true low high = Inside (grind (arith, nat_tests)) (grind (arith, nat_tests))
-    by true false low high = Outside (λ from below. grind (arith, nat_tests))
-    by false high low is = Outside (λ from below. grind (arith, nat_tests))
 
 -- what a port shows is what the section shows, since no byte of the lock word is held
 byte_shown : (entries : List Entry) (word new : ℕ) (cache : Cached) → ((address : ℕ) → word ≤ address → address < word + 4 → held entries address ≡ None) →
@@ -47,8 +35,8 @@ byte_shown entries word new cache free address = elim (in_word word address) [
       ∙ stored_inside (cached_byte cache) word 4 new address low high
       ∙ sym (stored_inside (held_over entries (cached_byte cache)) word 4 new address low high)
   | Outside beside ↦
-      ap (unwrap_or (held entries address)) (stored_beside (cached_byte cache) word 4 new address beside)
-      ∙ sym (stored_beside (held_over entries (cached_byte cache)) word 4 new address beside)
+      ap (unwrap_or (held entries address)) (stored_outside (cached_byte cache) word 4 new address beside)
+      ∙ sym (stored_outside (held_over entries (cached_byte cache)) word 4 new address beside)
 ]
 
 pub bytes_shown : (entries : List Entry) (word new : ℕ) (cache : Cached) → ((address : ℕ) → word ≤ address → address < word + 4 → held entries address ≡ None) →

@@ -3,3 +3,4 @@ pub mod Shown
 pub mod Calls
 pub mod Drains
 pub mod Lending
+pub mod PrivateRuns

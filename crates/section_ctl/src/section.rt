@@ -45,6 +45,7 @@ impl Section {
     ghost use Rattle.section_ctl.specs.Calls.{HasCommitted, HasReleased, HasRun, IsCoveredIn, MayBuffer};
     ghost use Rattle.section_ctl.specs.Calls.{begun_state, has_written, idle_state, rolled_back_state, run_of};
     ghost use Rattle.section_ctl.specs.Lending.{LendsView};
+    ghost use Rattle.section_ctl.specs.PrivateRuns.{BeginsRun, CommitsRun, GoesOnRun};
     ghost use Rattle.section_ctl.specs.State.{section_of};
 
     /// A hart's view without a live section, with room for the stores that a section of the
@@ -122,7 +123,8 @@ impl Section {
         requires none { self.old.live ≡ None }
         requires running { self.old.marks.present.status ≡ Running }
         requires aligned { word % 4 ≡ 0 }
-        ensures { self.new ≡ begun_state self.old word old new rd.number }
+        ensures begun { self.new ≡ begun_state self.old word old new rd.number }
+        ensures shows { BeginsRun self.old self.new (record { count = 1; word = word; old = old; new = new }) rd }
     {
         self.marks.mark();
         let swap = Action::Amo {
@@ -152,6 +154,7 @@ impl Section {
         requires few { write_bits_of sets.old.residency ≤ self.old.hold.limit }
         ensures ran { IfSome self.old.live (λ section. HasRun self.old self.new section (run_of self.old section sets.old action)) }
         ensures cache { IsCoveredIn sets.old sets.new (touch_of (footprint action)) }
+        ensures shows { IfSome self.old.live (λ section. GoesOnRun self.old self.new section sets.old action) }
     {
         let Some(live) = self.live else {
             unreachable!()
@@ -173,6 +176,7 @@ impl Section {
         requires marked { HoldsMarked sets.old.residency self.old.hold.entries }
         ensures released { IfSome self.old.live (λ section. HasReleased self.old self.new section action) }
         ensures cache { HasCommitted sets.old sets.new self.old.hold.entries }
+        ensures shows { IfSome self.old.live (λ section. CommitsRun self.old self.new section sets.old sets.new action) }
     {
         let Some(live) = self.live else {
             unreachable!()

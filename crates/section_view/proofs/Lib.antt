@@ -1,12 +1,12 @@
-mod Bytes
-mod Shapes
-mod ShownBytes
-mod Beginning
-mod GoingOn
+pub mod Bytes
+pub mod Shapes
+pub mod ShownBytes
+pub mod Beginning
+pub mod GoingOn
 mod Surviving
 mod Releasing
 mod OthersViews
 mod Lines
-mod Committing
+pub mod Committing
 mod OfProgram
 mod Worked

@@ -3,6 +3,7 @@ use Rattle.std.proofs.Common.{◌≡◌, ◌∙◌, ap, refl, sym, subst}
 use Rattle.std.specs.Prelude.{IsSome, Some, None}
 use Rattle.rv_alu.specs.Execution.{put_of, release_of}
 use Rattle.section_ctl.proofs.Begins.{begun_view, held_none, nothing_held}
+use Rattle.section_ctl.proofs.Shows.{begins_run}
 use Rattle.section_ctl.specs.Calls.{begun_state}
 use Rattle.section_ctl.specs.State.{section_of}
 use Rattle.section_ctl.proofs.section.Section.begin.Goals as goal
@@ -20,8 +21,8 @@ invariant_of-self c =
       free = λ address low high. held_none c.self.inside.hold.entries empty address;
     }
 
-pub returns : goal.returns
-returns c =
+pub returns-clause-begun : goal.returns-clause-begun
+returns-clause-begun c =
     let view = begun_view c.args.rd c.args.word c.args.old c.args.new c.mark.new.self.present c.perform.new.view c.ranges.old.fits c.perform.ensures.view in
     let present = view ∙ ap (λ m. release_of (put_of m.present c.args.rd.number c.args.old)) c.mark.ensures in
     let mark = ap (λ m. m.mark) c.mark.ensures in
@@ -31,3 +32,9 @@ returns c =
       live = Some (record { count = 1; word = c.args.word; old = c.args.old; new = c.args.new });
     })
     ∙ ap (λ state. begun_state state c.args.word c.args.old c.args.new c.args.rd.number) c.self.view_is
+
+pub returns-clause-shows : goal.returns-clause-shows
+returns-clause-shows c =
+    let none = ap (λ state. state.live) c.self.view_is ∙ c.requires.none in
+    let empty = ap (λ state. state.hold.entries) (sym c.self.view_is) ∙ nothing_held c.self.inside.marks c.self.inside.hold _ c.self.invariant none in
+    begins_run c.args.self.now _ c.args.word c.args.old c.args.new c.args.rd c.requires.running empty (returns-clause-begun c)

@@ -3,7 +3,8 @@ use Rattle.std.proofs.Common.{◌≡◌, ◌<◌, ◌∙◌, None, ap, refl, rul
 use Rattle.std.specs.Prelude.{IfSome, option_map}
 use Rattle.reg_mark.specs.Marks.{unmarked}
 use Rattle.section_ctl.proofs.Released.{finds_new}
-use Rattle.section_ctl.specs.Calls.{HasReleased}
+use Rattle.section_ctl.proofs.Shows.{commits_run, if_some_map}
+use Rattle.section_ctl.specs.Calls.{HasCommitted, HasReleased}
 use Rattle.section_ctl.specs.State.{section_of, shown_state}
 use Rattle.section_view.specs.KeptRun.{section_byte}
 use Rattle.section_view.specs.Release.{IsReleaseAction}
@@ -36,3 +37,10 @@ returns-clause-released c =
     (λ l. IfSome (option_map section_of l) (λ section. HasReleased (shown_state inside.marks inside.hold inside.live) new section c.args.action))
     (sym c.in-Some.is) (at_fields c) in
     subst (λ state. IfSome state.live (λ section. HasReleased state new section c.args.action)) c.self.view_is at_view
+
+pub returns-clause-shows : goal.returns-clause-shows
+returns-clause-shows c =
+    let puts = subst (λ state. HasCommitted c.args.sets.now c.commit_into.new.sets state.hold.entries) c.self.view_is c.commit_into.ensures.cache in
+    if_some_map c.args.self.now.live _ _
+    (λ section released. commits_run c.args.self.now _ section c.args.sets.now c.commit_into.new.sets c.args.action released c.requires.marked puts)
+    (returns-clause-released c)

@@ -1,7 +1,8 @@
 -- a section goes on
-use Rattle.std.proofs.Common.{sym, subst}
+use Rattle.std.proofs.Common.{rules, sym, subst}
 use Rattle.std.specs.Prelude.{IfSome, option_map}
 use Rattle.section_ctl.proofs.Begins.{stays_live}
+use Rattle.section_ctl.proofs.Shows.{goes_on_run, if_some_map}
 use Rattle.section_ctl.specs.Calls.{MayBuffer}
 use Rattle.section_ctl.specs.Shown.{cached_byte}
 use Rattle.section_ctl.specs.State.{Stands, section_of, shown_state}
@@ -21,3 +22,10 @@ invariant_of-self c =
     stays_live inside.marks inside.hold c.run_over.new.hold (section_of live) _ c.args.action
     (section_byte inside.hold.entries live.word live.new (cached_byte cache)) c.run_over.new.view was_live may.goes_on may.unmixed
     c.run_over.ensures.view c.run_over.ensures.hold
+
+pub returns-clause-ran : goal.returns-clause-ran
+returns-clause-ran c = search rules
+
+pub returns-clause-shows : goal.returns-clause-shows
+returns-clause-shows c =
+    if_some_map c.args.self.now.live _ _ (λ section ran. goes_on_run c.args.self.now _ section c.args.sets.now c.args.action ran) (returns-clause-ran c)

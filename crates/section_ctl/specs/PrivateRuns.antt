@@ -1,0 +1,60 @@
+-- what a section's calls make of its private run: the steps of its hart alone, from what is committed on
+use Rattle.std.specs.Prelude.{ℕ, ◌≡◌, ◌≤◌, ◌+◌, true, Some}
+use Rattle.cache_sets.specs.Cache.{is_resident}
+use Rattle.cache_sets.specs.Cached.{Cached}
+use Rattle.el_base.specs.Line.{line_number}
+use Rattle.el_model.specs.State.{Section}
+use Rattle.el_model.specs.Upcoming.{is_release, next_swap}
+use Rattle.run_laws.specs.PrivateRun.{IsCoveredRun, IsCoveredStep}
+use Rattle.rv_alu.specs.declared.action.Action.{Action}
+use Rattle.rv_alu.specs.declared.action.Action.TheVariants as actions
+use Rattle.rv_flat.specs.FlatState.{FlatState, view_of}
+use Rattle.rv_flat.specs.Memory.{AreBytes, byte_in}
+use Rattle.rv_flat.specs.Run.{alone}
+use Rattle.rv_flat.specs.Step.{action_of}
+use Rattle.rv_word.specs.declared.insn.AmoOp.{AmoOp}
+use Rattle.rv_word.specs.declared.reg.Reg.{Reg}
+use Rattle.section_ctl.specs.Shown.{cached_byte}
+use Rattle.section_ctl.specs.State.{SectionState}
+use Rattle.section_view.specs.KeptRun.{KeepsRun}
+use Rattle.section_view.specs.Release.{HasEffect}
+
+-- each line of memory that a cache has, has the bytes of memory
+abbrev pub HasBytesOf : FlatState → Cached → Type 0
+HasBytesOf memory cache =
+    (address : ℕ) → memory.base ≤ address → is_resident cache.residency (line_number address) ≡ true →
+    cached_byte cache address ≡ byte_in memory.base memory.bytes address
+
+-- the code's view and hold tell what the private run of a section has come to, which its bits cover
+pub record IsKept (committed : FlatState) (h : ℕ) (state : SectionState) (section : Section) (cache : Cached) : Type 0 where
+  pub run : IsCoveredRun committed h cache.residency section
+  pub keeps : KeepsRun committed h section state.marks.present state.hold.entries
+  pub bytes : HasBytesOf committed cache
+
+-- where the hart's next instruction in what is committed is this swap, the run of the section that begins is kept
+abbrev pub BeginsRun : SectionState → SectionState → Section → Reg → Type 0
+BeginsRun before after section rd =
+    (committed : FlatState) (h : ℕ) (op : AmoOp) (address source : ℕ) → before.marks.present ≡ view_of committed h →
+    next_swap committed h ≡ Some (record { word = section.word; old = section.old; new = section.new }) →
+    action_of committed (view_of committed h) ≡ actions.Amo op rd address source →
+    KeepsRun committed h section after.marks.present after.hold.entries
+
+-- where this is the action of a covered instruction that comes next, the run is kept with one instruction more
+abbrev pub GoesOnRun : SectionState → SectionState → Section → Cached → Action → Type 0
+GoesOnRun before after section cache action =
+    (committed : FlatState) (h : ℕ) → IsKept committed h before section cache → action ≡ action_of committed before.marks.present →
+    IsCoveredStep (alone committed h section.count) h section.word cache.residency →
+    KeepsRun committed h (record section { count = section.count + 1 }) after.marks.present after.hold.entries
+
+-- after the commit memory is what the run has come to, with its release: the hart has the view after it, the held bytes are in
+-- memory, the other harts have lost their reservations of words on the written lines; and the cache has the bytes of memory
+pub record TakesEffect (committed : FlatState) (h : ℕ) (before after : SectionState) (section : Section) (new : Cached) : Type 0 where
+  pub effect : HasEffect committed (alone committed h (section.count + 1)) h section.word after.marks.present before.hold.entries
+  pub bytes : HasBytesOf (alone committed h (section.count + 1)) new
+
+-- where this is the action of the release, which comes next, the whole run takes effect
+abbrev pub CommitsRun : SectionState → SectionState → Section → Cached → Cached → Action → Type 0
+CommitsRun before after section old new action =
+    (committed : FlatState) (h : ℕ) → AreBytes committed.bytes → IsKept committed h before section old →
+    action ≡ action_of committed before.marks.present → is_release (alone committed h section.count) h section.word section.old ≡ true →
+    TakesEffect committed h before after section new

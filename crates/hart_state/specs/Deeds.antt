@@ -9,7 +9,7 @@ use Rattle.el_model.specs.RollBack.{blamed}
 use Rattle.el_model.specs.State.{ModelState}
 use Rattle.el_model.specs.Upcoming.{Swap, next_swap}
 use Rattle.hart_state.specs.Own.{Own, committed_pc}
-use Rattle.pair_table.specs.Predictor.{confidence_of, settled, unwatched, watching}
+use Rattle.pair_table.specs.Predictor.{Watch, confidence_of, counting, settled, unwatched, watching}
 use Rattle.pair_table.specs.declared.verdict.Verdict.TheVariants.{Up}
 use Rattle.reg_mark.specs.Marks.{marks_unreserved}
 use Rattle.rv_alu.specs.declared.action.Action.{Action}
@@ -51,6 +51,12 @@ ran_own state h own =
     candidate_own (view_of state.committed h).pc (is_some own.predictor.watch) (candidate_of state h)
     (record own { predictor = watched state h own.predictor own.predictor.watch })
 
+-- a watch that stands has counted one instruction more or is gone, and where none stood a new one has counted its own
+abbrev pub CountsOn : Option Watch → Option Watch → Type 0
+CountsOn old None = Unit {0}
+CountsOn None (Some new) = new.count ≡ 1
+CountsOn (Some old) (Some new) = new ≡ counting old
+
 -- a section has begun at a swap, which puts the old value into a register: a watch is dropped without a verdict
 abbrev pub began_own : ℕ → ℕ → ℕ → ℕ → Own → Own
 began_own word old new rd own =
@@ -87,3 +93,8 @@ left_own standing own =
 -- the section was lost by a conflict
 abbrev pub lost_own : Mode → Own → Own
 lost_own mode own = left_own (lost_in mode (standing_own own)) own
+
+-- what is left to it by an event that tells the hart that it lost to, if it lost
+abbrev pub restored_own : Mode → Option ℕ → Own → Own
+restored_own mode None own = own
+restored_own mode (Some winner) own = lost_own mode own

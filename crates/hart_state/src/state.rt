@@ -55,6 +55,7 @@ impl Model for HartState {
 impl HartState {
     ghost use Rattle.hart_state.specs.Own.{HasOwn, committed_pc, new_own};
     ghost use Rattle.hart_state.specs.Deeds.{
+      CountsOn,
       IsNextStep,
       began_own,
       buffered_own,
@@ -144,8 +145,10 @@ impl HartState {
     /// action is, if it is one, with the word that it finds.
     pub fn has_run(&mut self, config: &Config, pc: u32, action: &Action, swap: Option<Swap>)
         requires can_count { IfSome self.old.predictor.watch (λ watch. watch.count < 2 ^ 32 - 1) }
-        ensures { (state : ModelState) (h : ℕ) → IsNextStep state h config.now pc action.now swap →
+        ensures ran { (state : ModelState) (h : ℕ) → IsNextStep state h config.now pc action.now swap →
             self.new ≡ ran_own state h self.old }
+        ensures rest_stays { self.new ≡ record self.old { predictor = self.new.predictor; fallback = self.new.fallback } }
+        ensures counts { CountsOn self.old.predictor.watch self.new.predictor.watch }
     {
         let watched = self.predictor.watched();
         self.see(action, config.long);
@@ -243,10 +246,12 @@ impl HartState {
     /// The watch, if one stands, sees an instruction.
     fn see(&mut self, action: &Action, long: u32)
         requires can_count { IfSome self.old.predictor.watch (λ watch. watch.count < 2 ^ 32 - 1) }
-        ensures { (state : ModelState) (h : ℕ) → IsNext action.now state.committed h → state.config.long ≡ long →
+        ensures seen { (state : ModelState) (h : ℕ) → IsNext action.now state.committed h → state.config.long ≡ long →
             self.new ≡ record self.old {
               predictor = plain.watched state h self.old.predictor self.old.predictor.watch } }
+        ensures rest_stays { self.new ≡ record self.old { predictor = self.new.predictor } }
         ensures unwatched { self.old.predictor.watch ≡ None → self.new ≡ self.old }
+        ensures counts { CountsOn self.old.predictor.watch self.new.predictor.watch }
     {
         if let Some((word, old)) = self.predictor.watched() {
             self.predictor.saw(seen_by(action, word, old), long);

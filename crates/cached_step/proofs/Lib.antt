@@ -4,3 +4,4 @@ pub mod Runs
 pub mod Windows
 pub mod Rooms
 pub mod Told
+pub mod Rules

@@ -1,5 +1,5 @@
 -- what a run over a cache promises of plain shared memory
-use Rattle.std.specs.Prelude.{ℕ, ◌≡◌, ◌≤◌, false, true, List, Option, None, Some}
+use Rattle.std.specs.Prelude.{ℕ, ◌≡◌, ◌≢◌, ◌≤◌, false, true, List, Option, None, Some}
 use Rattle.cache_sets.specs.Cache as caches
 use Rattle.cache_sets.specs.Cache.{has_marks}
 use Rattle.cache_sets.specs.Cached.{Cached}
@@ -8,17 +8,37 @@ use Rattle.cache_sets.specs.WellFormed.{IsWellFormed}
 use Rattle.coherence.specs.Caches.{cache_at}
 use Rattle.coherence.specs.GivenBack.{copies_with}
 use Rattle.coherence.specs.Served.{Copies, HasLine}
-use Rattle.core_step.specs.Run.{lacking}
-use Rattle.el_model.specs.Upcoming.{Touch, touch_of}
-use Rattle.rv_alu.specs.Execution.{Store, perform, store_in}
+use Rattle.core_step.specs.Run.{ended_of, lacking}
+use Rattle.core_step.specs.declared.ended.Ended.{Ended}
+use Rattle.core_step.specs.declared.ended.Ended.TheVariants.{Needs}
+use Rattle.el_base.specs.LineAddr.{line_addr}
+use Rattle.el_base.specs.declared.line.LineAddr.{LineAddr}
+use Rattle.el_base.specs.declared.outcomes.Need.{Need}
+use Rattle.el_model.specs.Plain.{Begins, Misses, PlainRule, Runs, touch_rule}
+use Rattle.el_model.specs.State.{ModelState, cache_of}
+use Rattle.el_model.specs.Upcoming.{Touch, next_touch, touch_of}
+use Rattle.rv_alu.specs.Execution.{Execution, Store, perform, store_in}
 use Rattle.rv_alu.specs.Footprint.{AgreeOn, IsInPlace, footprint}
 use Rattle.rv_alu.specs.declared.action.Action.{Action}
 use Rattle.rv_alu.specs.declared.view.HartView.{HartView}
-use Rattle.rv_flat.specs.FlatState.{FlatState, room_of, span_of}
+use Rattle.rv_flat.specs.FlatState.{FlatState, room_of, span_of, view_of}
 use Rattle.rv_flat.specs.Memory.{byte_in}
 use Rattle.rv_flat.specs.Step.{action_of, applied, execution_of}
 use Rattle.cached_step.specs.CacheRun.{HasRun, cached_byte, permitted}
 use Rattle.cached_step.specs.Memory.{IsPlaced, TellsMemory}
+
+-- how the rule of a step shows in how its action ends: a rule that runs it in no need, and one that misses in the need of that line
+abbrev pub ShowsRule : Ended → PlainRule → Type 0
+ShowsRule ended (Runs touch) = (line : LineAddr) (need : Need) → ended ≢ Needs line need
+ShowsRule ended (Misses line need) = ended ≡ Needs (line_addr line) need
+ShowsRule ended (Begins swap) = ⊥
+
+-- a hart's next instruction ends over its cache as the rule says for what it touches
+abbrev pub StepsShowTheirRule : Type 0
+StepsShowTheirRule = (state : ModelState) (h : ℕ) (cache : Cached) (execution : Execution) (ended : Ended) →
+    cache.residency ≡ cache_of state h →
+    ended ≡ ended_of (lacking (permitted cache) (footprint (action_of state.committed (view_of state.committed h)))) execution →
+    ShowsRule ended (touch_rule state h (next_touch state.committed h))
 
 -- the bytes that an action touches are in the hart's cache those of memory, where its letters permit the action
 abbrev pub CachedBytesAreMemorys : Type 0

@@ -3,6 +3,7 @@ ghost use Rattle.cached_step.specs.Laws.{
   CachesTellMemoryAfter,
   PermittedStepsAreFlat,
   RunsKeepTheForm,
+  StepsShowTheirRule,
   TouchedLinesAreThere,
   UnmarkedCachesHaveRoom,
 };
@@ -40,4 +41,10 @@ pub fn runs_keep_the_form()
 #[tactic(auto, using(crate::proofs::Rooms::room_without_marks))]
 pub fn unmarked_caches_have_room()
     ensures { UnmarkedCachesHaveRoom }
+{}
+
+/// A hart's next instruction ends over its cache as the definition's rule says for what it touches: it needs the
+/// line that the rule misses, and nothing where the rule runs it.
+pub fn steps_show_their_rule()
+    ensures { StepsShowTheirRule }
 {}

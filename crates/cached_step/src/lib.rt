@@ -17,6 +17,9 @@ mod step;
 
 pub use laws::{
     cached_bytes_are_memorys, caches_tell_memory_after, permitted_steps_are_flat,
-    runs_keep_the_form, touched_lines_are_there, unmarked_caches_have_room,
+    runs_keep_the_form, steps_show_their_rule, touched_lines_are_there, unmarked_caches_have_room,
 };
 pub use step::step_in_cache;
+
+#[cfg(test)]
+mod tests;

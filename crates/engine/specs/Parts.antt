@@ -59,7 +59,7 @@ KeepsSectionOf state h (Some section) kept = KeepsSection state h section kept
 
 -- what a hart keeps is that of the definition's hart, with its committed view, and with its live section, if it has one
 pub record IsOfHart (state : ModelState) (h : ℕ) (own : Own) : Type 0 where
-  pub own : HasOwn own (hart_of state h)
+  pub part : HasOwn own (hart_of state h)
   pub view : committed_of own.section.marks ≡ view_of state.committed h
   pub section : KeepsSectionOf state h (section_of state h) own.section
   pub stands : sections.Stands own.section.marks own.section.hold own.section.live

@@ -23,7 +23,8 @@ impl Bus {
 
 /// Whether one of these requests is another hart's for a line and would conflict with a new bit of this need.
 fn is_asked(requests: &[Request], hart: HartId, line: LineAddr, need: Need) -> bool
-    ensures { result ≡ list_any (λ request. (request.line.number == line.number) && not (request.hart.number == hart.number)
+    ensures { result ≡ list_any
+        (λ request. (request.line.number == line.number) && not (request.hart.number == hart.number)
         && (model.writes need || model.writes request.need)) requests.now }
 {
     requests.iter().any(|request| {

@@ -1,5 +1,5 @@
 -- the rule of a swap that may be elided
-use Rattle.std.proofs.Common.{◌≡◌, ◌∙◌, ◌≤◌, ℕ, ◌%◌, Bool, true, false, List, Option, None, Some, is_some, refl, ap, sym}
+use Rattle.std.proofs.Common.{◌≡◌, ◌∙◌, ◌≤◌, ℕ, ◌%◌, Bool, true, List, Option, None, Some, is_some, refl, ap, sym}
 use Rattle.std.specs.Prelude.{not, slice_index, if◌then◌else◌}
 use Rattle.cache_sets.specs.Cache.{is_resident, letter_in, letter_of, way_of}
 use Rattle.cache_sets.specs.Cached.{bytes_of}

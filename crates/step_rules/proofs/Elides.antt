@@ -2,8 +2,8 @@
 use Rattle.std.proofs.Common.{◌≡◌, ◌∙◌, ◌≤◌, ℕ, Bool, true, false, Option, None, Some, refl, ap, subst, sym}
 use Rattle.std.specs.Prelude.{if◌then◌else◌}
 use Rattle.elf_image.specs.Program.{code_word}
-use Rattle.el_model.specs.Plain.{may_elide, plain_rule, swap_rule, touch_rule}
-use Rattle.el_model.specs.State.{ModelState, hart_of}
+use Rattle.el_model.specs.Plain.{plain_rule, swap_rule, touch_rule}
+use Rattle.el_model.specs.State.{ModelState}
 use Rattle.el_model.specs.Upcoming.{Swap, is_swap_op, next_swap, next_touch}
 use Rattle.rv_alu.proofs.Footprints.{fits}
 use Rattle.rv_alu.specs.Action.{action_at, insn_action_of}
@@ -20,6 +20,7 @@ use Rattle.rv_word.specs.Decoding.{decoded}
 use Rattle.rv_word.specs.declared.insn.Insn.{Insn}
 use Rattle.step_rules.proofs.NextAction.{next_swap as swap_next}
 use Rattle.step_rules.specs.Actions.{IsNext, swap_by, swap_over}
+use Rattle.step_rules.specs.Rules.{MayElide}
 use Rattle.step_rules.specs.declared.upcoming.Exchange as exchanges
 
 -- a hart's next action is in its place
@@ -49,10 +50,6 @@ exchange_from action flat h exchange next is =
     (subst (IsInPlace (span_of flat) (room_of flat)) (sym next)
     (in_place_at (code_word flat.code (view_of flat h).pc) (view_of flat h) (span_of flat) (room_of flat)))
     (swap_next action flat h next ∙ sym is)
-
--- whether a hart may elide a swap, in its state
-abbrev pub MayElide : ModelState → ℕ → Bool → Type 0
-MayElide state h may = may ≡ may_elide state.config.mode (hart_of state h) (view_of state.committed h).pc
 
 -- the rule where the next action is a swap that may be elided
 pub elided : (state : ModelState) (h : ℕ) (may : Bool) (swap : Swap) → MayElide state h may → may ≡ true → Some swap ≡ next_swap state.committed h →

@@ -1,6 +1,6 @@
 -- of which instruction an action comes
 use Rattle.std.proofs.Common.{◌≡◌, ℕ, ◌%◌, ◌-◌, Bool, true, false, List, Option, Some, refl}
-use Rattle.std.specs.Prelude.{◌==◌, ◌||◌, if◌then◌else◌, min, not}
+use Rattle.std.specs.Prelude.{◌==◌, ◌||◌, if◌then◌else◌, not}
 use Rattle.el_base.specs.declared.line.TheConstants.{LINE_BYTES}
 use Rattle.el_model.specs.Upcoming.{is_swap, is_swap_op, is_word_store}
 use Rattle.rv_alu.specs.Action.{action_of, checked_of, has_reserved_of, indirect_of, jump_of}

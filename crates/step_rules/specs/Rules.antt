@@ -1,29 +1,24 @@
 -- the rules as the code has them, and what they rest on
-use Rattle.std.specs.Prelude.{ℕ, ◌≡◌, ◌+◌, ◌-◌, ◌%◌, Bool, false, List, slice_index, Option, None, Some, not, option_map, ◌==◌, ◌||◌, if◌then◌else◌}
+use Rattle.std.specs.Prelude.{ℕ, ◌≡◌, ◌%◌, Bool, false, List, Option, None, Some, not, option_map, ◌==◌, ◌||◌, if◌then◌else◌}
 use Rattle.cache_sets.specs.Cache.{letter_of, room_of, write_bits_of}
-use Rattle.cache_sets.specs.Cached.{Cached, bytes_of}
 use Rattle.cache_sets.specs.Residency.{Way}
-use Rattle.coherence.specs.Caches.{cache_at}
 use Rattle.el_base.specs.Line.{line_number}
 use Rattle.el_base.specs.declared.line.TheConstants.{LINE_BYTES}
 use Rattle.el_base.specs.declared.outcomes.Cause.TheVariants.{Room, Lines}
 use Rattle.el_base.specs.declared.outcomes.Need.{Need}
 use Rattle.el_base.specs.declared.outcomes.Need.TheVariants as needs
 use Rattle.el_model.specs.InSection.{SectionRule}
-use Rattle.el_model.specs.Plain.{PlainRule}
-use Rattle.el_model.specs.State.{Section}
+use Rattle.el_model.specs.Plain.{PlainRule, may_elide}
+use Rattle.el_model.specs.State.{ModelState, Section, hart_of}
 use Rattle.el_model.specs.Upcoming.{Swap, Touch, changes_word}
 use Rattle.moesi.specs.Letters.{may_of}
-use Rattle.rv_alu.specs.Loaded.{loaded}
-use Rattle.rv_flat.specs.FlatState.{FlatState}
-use Rattle.snoop.specs.Shows.{Kept}
+use Rattle.rv_flat.specs.FlatState.{FlatState, view_of}
 use Rattle.step_rules.specs.Actions.{numbered_swap, numbered_touch}
 use Rattle.step_rules.specs.declared.in_section.Progress.{Progress}
 use Rattle.step_rules.specs.declared.in_section.SectionRule as section_rules
 use Rattle.step_rules.specs.declared.in_section.SectionRule.TheVariants as section_variants
 use Rattle.step_rules.specs.declared.plain.PlainRule as plain_rules
 use Rattle.step_rules.specs.declared.plain.PlainRule.TheVariants as plain_variants
-use Rattle.step_rules.specs.declared.upcoming.Exchange as exchanges
 
 -- the rules as the definition has them
 abbrev pub definition_plain : plain_rules.PlainRule → PlainRule
@@ -45,13 +40,9 @@ section_of progress new = record { count = progress.count; word = progress.word;
 abbrev pub IsOnLine : FlatState → Type 0
 IsOnLine flat = flat.base % LINE_BYTES ≡ 0
 
--- the word at an address, as the cache has it that has its line
-abbrev pub cached_word : Cached → ℕ → ℕ
-cached_word cache address = loaded (λ place. slice_index (bytes_of cache (line_number address)) place) (address % LINE_BYTES) 4
-
--- a swap over a cache that has the line of its word
-abbrev pub swap_in : Cached → exchanges.Exchange → Swap
-swap_in cache exchange = record { word = exchange.word; old = cached_word cache exchange.word; new = exchange.new }
+-- whether a hart may elide a swap that comes next
+abbrev pub MayElide : ModelState → ℕ → Bool → Type 0
+MayElide state h may = may ≡ may_elide state.config.mode (hart_of state h) (view_of state.committed h).pc
 
 -- an instruction outside of a section runs where the letter of its line permits it
 abbrev pub touching_rule : List (List Way) → Option Touch → PlainRule

@@ -40,8 +40,7 @@ pub enum SectionRule {
 }
 
 /// The rule of a hart with a live section, whose next action, on what the section shows, this is. (A section ends at
-/// its release, and whatever does not fit into the cache and the buffered stores ends it without effect:
-/// 'Speculative Lock Elision', sections 3 and 4.)
+/// its release, and what it cannot hold back ends it without effect: 'Speculative Lock Elision', MICRO 2001.)
 pub fn section_rule(
     bus: &Bus,
     hart: HartId,
@@ -98,7 +97,7 @@ fn bit_rule(bus: &Bus, hart: HartId, touch: Touch, lines: u8) -> SectionRule
 
 /// The rule of an action that touches a line without the bit: the line must be one that may be written beside the
 /// others, have room, be permitted and be wanted by no other hart.
-fn mark_rule(sets: &Sets, wanted: bool, touch: Touch, lines: u8) -> SectionRule
+pub(crate) fn mark_rule(sets: &Sets, wanted: bool, touch: Touch, lines: u8) -> SectionRule
     ensures { definition_in_section result
         ≡ marking_rule sets.now.ways lines sets.now.residency wanted (numbered_touch touch) }
 {

@@ -22,3 +22,6 @@ pub use upcoming::{
     Exchange, Swap, Touch, calls_or_stops, exchange_of, is_release, seen_by, stores_to_word,
     touch_of,
 };
+
+#[cfg(test)]
+mod tests;

@@ -4,13 +4,12 @@ ghost use Rattle.std.specs.Prelude.{◌≡◌, ◌<◌, ◌≤◌, ◌%◌, Some
 ghost use Rattle.std.specs.Option.{option_map};
 ghost use Rattle.core_step.specs.Run.{IsAligned};
 ghost use Rattle.el_model.specs.Plain as model;
-ghost use Rattle.el_model.specs.State.{ModelState, hart_of};
+ghost use Rattle.el_model.specs.State.{ModelState};
 ghost use Rattle.el_model.specs.Upcoming.{next_touch};
-ghost use Rattle.rv_flat.specs.FlatState.{view_of};
 ghost use Rattle.rv_flat.specs.Memory.{byte_in};
 ghost use Rattle.snoop.specs.Shows.{Shows, kept};
 ghost use Rattle.step_rules.specs.Actions.{IsNext, numbered_swap, numbered_touch, swap_over};
-ghost use Rattle.step_rules.specs.Rules.{IsOnLine, beginning_rule, definition_plain, touching_rule};
+ghost use Rattle.step_rules.specs.Rules.{IsOnLine, MayElide, beginning_rule, definition_plain, touching_rule};
 
 use crate::upcoming::{Exchange, Swap, Touch, exchange_of, touch_of};
 use crate::words::word_in;
@@ -32,13 +31,13 @@ pub enum PlainRule {
 }
 
 /// The rule of a hart outside of a section, whose next action this is; `may_elide` says whether a swap at its pc may
-/// be elided. (The elision of a lock's acquire: 'Speculative Lock Elision', section 3.)
+/// be elided. (The elision of an acquire is the idea of 'Speculative Lock Elision', MICRO 2001.)
 pub fn plain_rule(bus: &Bus, hart: HartId, action: &Action, may_elide: bool) -> PlainRule
     requires hart_exists { hart.number < length (kept bus.now).copies.caches }
     requires aligned { IsAligned action.now }
     ensures { (state : ModelState) → Shows (kept bus.now) state → IsOnLine state.committed →
         IsNext action.now state.committed hart.number →
-        may_elide ≡ model.may_elide state.config.mode (hart_of state hart.number) (view_of state.committed hart.number).pc →
+        MayElide state hart.number may_elide →
         definition_plain result ≡ model.plain_rule state hart.number }
 {
     let touch = touch_of(action);
@@ -77,7 +76,7 @@ fn swap_rule(bus: &Bus, hart: HartId, exchange: Exchange, touch: Option<Touch>) 
 }
 
 /// The same where the hart's cache has the line, by whether another hart waits to write there.
-fn begin_rule(sets: &Sets, wanted: bool, swap: Swap, touch: Option<Touch>) -> PlainRule
+pub(crate) fn begin_rule(sets: &Sets, wanted: bool, swap: Swap, touch: Option<Touch>) -> PlainRule
     ensures { definition_plain result
         ≡ beginning_rule sets.now.residency wanted (numbered_swap swap) (option_map numbered_touch touch) }
 {

@@ -1,14 +1,12 @@
 -- the rule by what the next action is
-use Rattle.std.proofs.Common.{◌≡◌, ◌∙◌, ap, sym}
+use Rattle.std.proofs.Common.{◌≡◌, ◌∙◌, ap}
 use Rattle.std.specs.Option.{option_map}
 use Rattle.el_model.specs.Plain as model
-use Rattle.rv_flat.specs.Memory.{byte_in}
-use Rattle.snoop.specs.Shows.{kept}
 use Rattle.step_rules.proofs.Begins.{touching_same}
 use Rattle.step_rules.proofs.Elides.{elided, exchange_from, no_swap, not_elided}
 use Rattle.step_rules.proofs.plain.plain_rule.Goals as goal
 use Rattle.step_rules.proofs.plain.plain_rule.Goals.{in_default-via-in-Some+else-may_elide, in_default-via-in_default}
-use Rattle.step_rules.specs.Actions.{numbered_touch, swap_over}
+use Rattle.step_rules.specs.Actions.{numbered_touch}
 use Rattle.step_rules.specs.Rules.{touching_rule}
 
 pub returns-in-Some : goal.returns-in-Some

@@ -1,0 +1,150 @@
+//! What each instruction is to the rules, and each row of the two tables of rules once. Expected values are those of
+//! the tables, worked by hand. The harts' caches have one set of two ways.
+
+ghost use Rattle.std.specs.Prelude.{◌<◌, IfOk, length};
+ghost use Rattle.snoop.specs.Shows.{kept};
+
+mod actions;
+mod rules;
+
+use cache_sets::Sets;
+use el_base::{Config, HartId, Mode, Need, line_of};
+use elf_image::load;
+use moesi::Letter;
+use rv_alu::Action;
+use rv_word::{AmoOp, LoadWidth, Reg};
+use snoop::Bus;
+use std::alloc::Global;
+use std::test::Fail;
+
+/// An image of one segment of 256 bytes at 0x10000, of which the first 128 stand in the file: byte 84 of
+/// the file, where the code begins, is at 0x10054.
+const HEADER: [u8; 88] = [
+    0x7f, 0x45, 0x4c, 0x46, 0x01, 0x01, 0x01, 0x00, 0x00, 0x00, 0x00, 0x00, 0x00, 0x00, 0x00, 0x00,
+    0x02, 0x00, 0xf3, 0x00, 0x01, 0x00, 0x00, 0x00, 0x54, 0x00, 0x01, 0x00, 0x34, 0x00, 0x00, 0x00,
+    0x00, 0x00, 0x00, 0x00, 0x00, 0x00, 0x00, 0x00, 0x34, 0x00, 0x20, 0x00, 0x01, 0x00, 0x00, 0x00,
+    0x00, 0x00, 0x00, 0x00, 0x01, 0x00, 0x00, 0x00, 0x00, 0x00, 0x00, 0x00, 0x00, 0x00, 0x01, 0x00,
+    0x00, 0x00, 0x01, 0x00, 0x58, 0x00, 0x00, 0x00, 0x00, 0x01, 0x00, 0x00, 0x05, 0x00, 0x00, 0x00,
+    0x00, 0x10, 0x00, 0x00, 0x73, 0x00, 0x00, 0x00,
+];
+
+/// The lock word, on the second line of memory.
+const WORD: u32 = 0x10040;
+
+const X5: Reg = Reg { number: 5 };
+
+/// The hart whose rules are asked for.
+const HART: HartId = HartId { number: 0 };
+
+/// A swap that stores this at an address.
+fn swap(address: u32, new: u32) -> Action {
+    Action::Amo {
+        op: AmoOp::Swap,
+        rd: X5,
+        address,
+        source: new,
+    }
+}
+
+/// A store of a word.
+fn store(address: u32, value: u32) -> Action {
+    Action::Store {
+        address,
+        len: 4,
+        value,
+    }
+}
+
+/// A load of a word.
+fn load_word(address: u32) -> Action {
+    Action::Load {
+        width: LoadWidth::Word,
+        rd: X5,
+        address,
+    }
+}
+
+/// A line of a cache, by an address in it, with its letter and what the hart's section has done to it. Its first byte
+/// is 5, and the others are 0.
+#[derive(Clone, Copy)]
+struct Line {
+    address: u32,
+    letter: Letter,
+    bit: Option<Need>,
+}
+
+/// Two harts that may write one line in a section.
+fn config() -> Config {
+    Config {
+        harts: 2,
+        mode: Mode::Sle,
+        sets: 1,
+        ways: 2,
+        lines: 1,
+        long: 10,
+        ..Config::usual()
+    }
+}
+
+/// The bus of two harts, of which the first has these lines in its cache.
+fn bus(alloc: Global, lines: &[Line]) -> Result<Bus, Fail>
+    ensures { IfOk result (λ bus. 0 < length (kept bus).copies.caches) }
+{
+    let config = config();
+    if config.check().is_err() {
+        return Err("no such bus".into());
+    }
+    let image = load(alloc, &HEADER, config.harts).map_err(|_| "no image")?;
+    if image.harts() != config.harts {
+        return Err("an image for other harts".into());
+    }
+    let mut bus = Bus::make(alloc, &image, &config)?;
+    if bus.harts() != 2 {
+        return Err("harts that are not there".into());
+    }
+    fill(bus.sets_mut(HART), lines)?;
+    Ok(bus)
+}
+
+/// A cache that has these lines.
+fn cache(alloc: Global, lines: &[Line]) -> Result<Sets, Fail> {
+    let config = config();
+    if config.check().is_err() {
+        return Err("no such cache".into());
+    }
+    let mut sets = Sets::make(alloc, &config)?;
+    fill(&mut sets, lines)?;
+    Ok(sets)
+}
+
+/// Puts lines into a cache.
+fn fill(sets: &mut Sets, lines: &[Line]) -> Result<(), Fail> {
+    for line in lines {
+        put(sets, line)?;
+    }
+    Ok(())
+}
+
+/// Puts one line into a cache that has it not.
+fn put(sets: &mut Sets, line: &Line) -> Result<(), Fail> {
+    let place = line_of(line.address);
+    if line.letter == Letter::I || sets.has(place) || !sets.room(place) {
+        return Err("a line that cannot come".into());
+    }
+    let mut bytes = [0; 64];
+    bytes[0] = 5;
+    sets.fill(place, line.letter, &bytes);
+    mark(sets, line)
+}
+
+/// The hart's section has done to a line what it says.
+fn mark(sets: &mut Sets, line: &Line) -> Result<(), Fail> {
+    let place = line_of(line.address);
+    if !sets.has(place) {
+        return Err("a line that is not there".into());
+    }
+    if let Some(need) = line.bit {
+        sets.set_bit(place, need);
+    }
+    Ok(())
+}

@@ -1,0 +1,258 @@
+ghost use Rattle.std.specs.Prelude.{◌<◌, length};
+ghost use Rattle.snoop.specs.Shows.{kept};
+
+use super::*;
+use crate::in_section::mark_rule;
+use crate::plain::begin_rule;
+use crate::{PlainRule, Progress, SectionRule, Swap, Touch, plain_rule, section_rule};
+use el_base::Cause;
+
+/// What touches the line of an address.
+fn touch(address: u32, need: Need) -> Touch {
+    Touch {
+        line: line_of(address),
+        need,
+    }
+}
+
+/// A request for the line of an address, outside of a section and inside of one.
+fn misses(address: u32, need: Need) -> PlainRule {
+    PlainRule::Misses {
+        line: line_of(address),
+        need,
+    }
+}
+
+fn section_misses(address: u32, need: Need) -> SectionRule {
+    SectionRule::Misses {
+        line: line_of(address),
+        need,
+    }
+}
+
+/// An instruction that runs and touches the line of an address, outside of a section and inside of one.
+fn runs(address: u32, need: Need) -> PlainRule {
+    PlainRule::Runs {
+        touch: Some(touch(address, need)),
+    }
+}
+
+fn buffers(address: u32, need: Need) -> SectionRule {
+    SectionRule::Buffers {
+        touch: Some(touch(address, need)),
+    }
+}
+
+/// A cache of one line.
+fn one(letter: Letter, bit: Option<Need>) -> [Line; 1] {
+    [Line {
+        address: WORD,
+        letter,
+        bit,
+    }]
+}
+
+/// The rule of a swap outside of a section, or nothing where its address is no multiple of 4.
+fn swap_rule(bus: &Bus, address: u32, new: u32, may_elide: bool) -> Option<PlainRule>
+    requires { 0 < length (kept bus.now).copies.caches }
+{
+    if address % 4 != 0 {
+        return None;
+    }
+    let action = Action::Amo {
+        op: AmoOp::Swap,
+        rd: X5,
+        address,
+        source: new,
+    };
+    Some(plain_rule(bus, HART, &action, may_elide))
+}
+
+/// The rule of a store of a word, likewise.
+fn store_rule(bus: &Bus, address: u32) -> Option<PlainRule>
+    requires { 0 < length (kept bus.now).copies.caches }
+{
+    if address % 4 != 0 {
+        return None;
+    }
+    let action = Action::Store {
+        address,
+        len: 4,
+        value: 0,
+    };
+    Some(plain_rule(bus, HART, &action, true))
+}
+
+/// The rule of a load of a word, likewise.
+fn load_rule(bus: &Bus, address: u32) -> Option<PlainRule>
+    requires { 0 < length (kept bus.now).copies.caches }
+{
+    if address % 4 != 0 {
+        return None;
+    }
+    let action = Action::Load {
+        width: LoadWidth::Word,
+        rd: X5,
+        address,
+    };
+    Some(plain_rule(bus, HART, &action, true))
+}
+
+#[test]
+fn a_swap_begins_a_section_where_it_changes_its_word(rt: HostRuntime) -> Result<(), Fail> {
+    let began = Swap {
+        word: WORD,
+        old: 5,
+        new: 6,
+    };
+    let bus = bus(rt.alloc(), &one(Letter::E, None))?;
+    for (address, new, may_elide, rule) in [
+        (WORD, 6, true, PlainRule::Begins { swap: began }),
+        (WORD, 5, true, runs(WORD, Need::Write)),
+        (WORD, 6, false, runs(WORD, Need::Write)),
+        (WORD + 64, 6, true, misses(WORD + 64, Need::Read)),
+        (WORD + 64, 6, false, misses(WORD + 64, Need::Write)),
+    ] {
+        assert_eq!(rt;
+            swap_rule(&bus, address, new, may_elide),
+            Some(rule),
+            "{new} at {address:x}"
+        );
+    }
+    Ok(())
+}
+
+#[test]
+fn an_instruction_runs_where_the_letter_permits_it(rt: HostRuntime) -> Result<(), Fail> {
+    let bus = bus(rt.alloc(), &one(Letter::S, None))?;
+    assert_eq!(rt; load_rule(&bus, WORD), Some(runs(WORD, Need::Read)));
+    assert_eq!(rt;
+        load_rule(&bus, WORD + 64),
+        Some(misses(WORD + 64, Need::Read))
+    );
+    assert_eq!(rt; store_rule(&bus, WORD), Some(misses(WORD, Need::Write)));
+    assert_eq!(rt;
+        swap_rule(&bus, WORD, 5, true),
+        Some(misses(WORD, Need::Write))
+    );
+    let put = Action::Put { rd: X5, value: 7 };
+    assert_eq!(rt;
+        plain_rule(&bus, HART, &put, true),
+        PlainRule::Runs { touch: None }
+    );
+    Ok(())
+}
+
+#[test]
+fn no_section_begins_where_another_hart_waits_to_write(rt: HostRuntime) -> Result<(), Fail> {
+    let cache = cache(rt.alloc(), &one(Letter::E, None))?;
+    let written = Some(touch(WORD, Need::Write));
+    let swap = |new| Swap {
+        word: WORD,
+        old: 5,
+        new,
+    };
+    assert_eq!(rt;
+        begin_rule(&cache, true, swap(6), written),
+        misses(WORD, Need::Read)
+    );
+    assert_eq!(rt;
+        begin_rule(&cache, true, swap(5), written),
+        runs(WORD, Need::Write)
+    );
+    Ok(())
+}
+
+/// The rule of an action in a section that has run so many instructions, and whose lock word held 0.
+fn in_section(bus: &Bus, action: Action, count: u32) -> SectionRule
+    requires { 0 < length (kept bus.now).copies.caches }
+{
+    let progress = Progress {
+        count,
+        word: WORD,
+        old: 0,
+    };
+    section_rule(bus, HART, &action, progress, &config())
+}
+
+/// A full set: one line that the section has read, and one that it has written.
+fn full() -> [Line; 2] {
+    [
+        Line {
+            address: WORD,
+            letter: Letter::E,
+            bit: Some(Need::Read),
+        },
+        Line {
+            address: WORD + 64,
+            letter: Letter::M,
+            bit: Some(Need::Write),
+        },
+    ]
+}
+
+#[test]
+fn a_section_ends_by_the_first_rule_that_holds(rt: HostRuntime) -> Result<(), Fail> {
+    let bus = bus(rt.alloc(), &full())?;
+    let ends = |cause| SectionRule::RollsBack { cause };
+    let call = Action::Answer { value: 0 };
+    let trap = Action::Trap { cause: 3 };
+    let put = Action::Put { rd: X5, value: 7 };
+    for (number, (action, count, rule)) in [
+        (store(WORD, 0), 10, ends(Cause::Long)),
+        (call, 10, ends(Cause::Long)),
+        (call, 9, ends(Cause::Call)),
+        (trap, 9, ends(Cause::Call)),
+        (store(WORD, 0), 9, SectionRule::Commits),
+        (swap(WORD, 0), 9, SectionRule::Commits),
+        (store(WORD, 1), 9, ends(Cause::Mixed)),
+        (put, 9, SectionRule::Buffers { touch: None }),
+        (load_word(WORD), 9, buffers(WORD, Need::Read)),
+        (load_word(WORD + 64), 9, buffers(WORD + 64, Need::Read)),
+        (store(WORD + 64, 0), 9, buffers(WORD + 64, Need::Write)),
+        (store(WORD + 4, 0), 9, ends(Cause::Lines)),
+        (store(WORD + 128, 0), 9, ends(Cause::Lines)),
+        (load_word(WORD + 128), 9, ends(Cause::Room)),
+    ]
+    .iter()
+    .enumerate()
+    {
+        assert_eq!(rt; in_section(&bus, *action, *count), *rule, "row {number}");
+    }
+    Ok(())
+}
+
+#[test]
+fn a_new_bit_needs_its_letter(rt: HostRuntime) -> Result<(), Fail> {
+    let shared = bus(rt.alloc(), &one(Letter::S, None))?;
+    assert_eq!(rt;
+        in_section(&shared, load_word(WORD), 2),
+        buffers(WORD, Need::Read)
+    );
+    assert_eq!(rt;
+        in_section(&shared, store(WORD + 4, 1), 2),
+        section_misses(WORD, Need::Write)
+    );
+    assert_eq!(rt;
+        in_section(&shared, load_word(WORD + 64), 2),
+        section_misses(WORD + 64, Need::Read)
+    );
+    let alone = bus(rt.alloc(), &one(Letter::E, Some(Need::Read)))?;
+    assert_eq!(rt;
+        in_section(&alone, store(WORD + 4, 1), 2),
+        buffers(WORD, Need::Write)
+    );
+    Ok(())
+}
+
+#[test]
+fn no_new_bit_comes_where_another_hart_waits(rt: HostRuntime) -> Result<(), Fail> {
+    let cache = cache(rt.alloc(), &one(Letter::E, None))?;
+    for need in [Need::Read, Need::Write] {
+        let rule = mark_rule(&cache, true, touch(WORD, need), 1);
+        assert_eq!(rt; rule, section_misses(WORD, need));
+        let rule = mark_rule(&cache, false, touch(WORD, need), 1);
+        assert_eq!(rt; rule, buffers(WORD, need));
+    }
+    Ok(())
+}

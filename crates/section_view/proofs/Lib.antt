@@ -3,7 +3,7 @@ pub mod Shapes
 pub mod ShownBytes
 pub mod Beginning
 pub mod GoingOn
-mod Surviving
+pub mod Surviving
 mod Releasing
 mod OthersViews
 mod Lines

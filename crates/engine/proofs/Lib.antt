@@ -1,2 +1,4 @@
 pub mod Standing
 pub mod Misses
+pub mod Reaching
+pub mod BusEvents

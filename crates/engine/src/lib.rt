@@ -15,6 +15,7 @@ mod engine;
 mod losing;
 mod missing;
 mod mode_policy;
+mod on_bus;
 mod output;
 
 pub use engine::Engine;

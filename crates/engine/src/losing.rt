@@ -16,9 +16,8 @@ pub(crate) fn losers_in(outcome: Outcome) -> Losers
     ensures { (h : ℕ) → beaten_by result h ≡ winner_over outcome h }
 {
     match outcome {
-        Outcome::Ordered { losers }
-        | Outcome::Served { losers }
-        | Outcome::Delivered { losers } => losers,
+        Outcome::Ordered { losers } | Outcome::Served { losers } | Outcome::Delivered { losers } =>
+            losers,
         _ => Losers::none(),
     }
 }

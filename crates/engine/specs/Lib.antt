@@ -1,3 +1,4 @@
 pub mod Parts
 pub mod Reached
 pub mod Acting
+pub mod Missing

@@ -12,6 +12,7 @@
 
 mod beginning;
 mod engine;
+mod missing;
 mod mode_policy;
 mod output;
 

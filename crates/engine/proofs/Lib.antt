@@ -2,3 +2,4 @@ pub mod Standing
 pub mod Misses
 pub mod Reaching
 pub mod BusEvents
+mod Others

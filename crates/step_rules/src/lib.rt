@@ -22,6 +22,7 @@ pub use upcoming::{
     Exchange, Swap, Touch, calls_or_stops, exchange_of, is_release, seen_by, stores_to_word,
     touch_of,
 };
+pub use words::word_in;
 
 #[cfg(test)]
 mod tests;

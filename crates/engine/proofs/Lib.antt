@@ -3,3 +3,14 @@ pub mod Misses
 pub mod Reaching
 pub mod BusEvents
 mod Others
+pub mod PlainRules
+pub mod StandsOutside
+pub mod Swaps
+pub mod Pieces
+pub mod LeftBehind
+pub mod RanAction
+pub mod Outsiders
+pub mod AfterRan
+pub mod Chosen
+pub mod RunsNext
+pub mod AfterBegan

@@ -3,3 +3,6 @@ pub mod Reached
 pub mod Acting
 pub mod Missing
 pub mod Restored
+pub mod Outside
+pub mod Effect
+pub mod Beginning

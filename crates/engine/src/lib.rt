@@ -10,12 +10,17 @@
 //! Where a doc comment names no other source, its rule is this project's profile.
 #![tactic(auto)]
 
+mod acting_outside;
 mod beginning;
+mod beginning_section;
+mod effects;
 mod engine;
 mod losing;
 mod missing;
 mod mode_policy;
 mod on_bus;
 mod output;
+mod reservations;
+mod running;
 
 pub use engine::Engine;

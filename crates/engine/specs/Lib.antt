@@ -3,3 +3,4 @@ pub mod Reached
 pub mod Acting
 pub mod Missing
 pub mod Restored
+pub mod Views

@@ -5,7 +5,7 @@ use Rattle.std.proofs.lemmas.List.{map-set}
 use Rattle.cache_sets.specs.Cached.{Cached, bytes_of}
 use Rattle.el_base.specs.Line.{line_number}
 use Rattle.el_base.specs.declared.line.TheConstants.{LINE_BYTES}
-use Rattle.engine.proofs.Pieces.{same_piece}
+use Rattle.engine.proofs.Bytes.{same_piece}
 use Rattle.engine.specs.Effect.{piece_in, unreserved_on}
 use Rattle.hart_state.specs.Deeds.{unreserved_own}
 use Rattle.hart_state.specs.Own.{Own}

@@ -6,7 +6,6 @@ mod Others
 pub mod PlainRules
 pub mod StandsOutside
 pub mod Swaps
-pub mod Pieces
 pub mod LeftBehind
 pub mod RanAction
 pub mod Outsiders
@@ -14,3 +13,6 @@ pub mod AfterRan
 pub mod Chosen
 pub mod RunsNext
 pub mod AfterBegan
+mod Stopping
+mod Bytes
+mod Seen

@@ -1,5 +1,5 @@
 -- what holds of the states that programs reach, by the laws of the definition
-use Rattle.std.proofs.Common.{◌≡◌, ◌≢◌, ◌∙◌, ℕ, ◌<◌, [], ◌∷◌, ◌++◌, true, length, Some, ap, sym, subst, arith}
+use Rattle.std.proofs.Common.{◌≡◌, ◌∙◌, ℕ, ◌<◌, [], ◌∷◌, ◌++◌, true, length, Some, ap, sym, subst, arith}
 use Rattle.std.proofs.lemmas.List.{length-append}
 use Rattle.el_base.specs.declared.events.Event.{Event}
 use Rattle.el_model.proofs.Folds.{state_after-append}

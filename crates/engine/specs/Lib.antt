@@ -6,3 +6,4 @@ pub mod Restored
 pub mod Outside
 pub mod Effect
 pub mod Beginning
+pub mod Views

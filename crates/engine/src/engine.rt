@@ -1,16 +1,29 @@
 //! The parts, and what may be seen of them.
 
-ghost use Rattle.std.specs.Prelude.{◌≡◌, ◌<◌, length};
+ghost use Rattle.std.specs.Prelude.{◌≡◌, ◌<◌, ◌≤◌, ◌↔◌, IfOk, IfSome, IsNone, false, length};
+ghost use Rattle.el_base.specs.Config.{IsInRange};
+ghost use Rattle.el_model.specs.Next.{all_stopped, is_over, shown_of};
+ghost use Rattle.el_model.specs.State.{ModelState, begin, ordered_of, raised_of, section_of};
 ghost use Rattle.engine.specs.Acting.{next_action};
-ghost use Rattle.engine.specs.Parts.{parts, room_in};
+ghost use Rattle.engine.specs.Parts.{IsIn, KeepsSectionOf, committed_at, own_at, parts, present_at, room_in};
+ghost use Rattle.engine.specs.Reached.{Stands};
+ghost use Rattle.engine.specs.Views.{committed_views};
 ghost use Rattle.rv_alu.specs.Footprint.{IsInPlace};
+ghost use Rattle.rv_alu.specs.Span.{holds};
+ghost use Rattle.rv_flat.specs.FlatState.{output_limit, view_of};
+ghost use Rattle.rv_flat.specs.Memory.{byte_in};
+ghost use Rattle.snoop.specs.Asking.{asking, numbered_asked};
+ghost use Rattle.snoop.specs.Shows.{IsReady, kept};
 
+use crate::beginning::{first_harts, memory_of};
 use crate::output::Output;
-use el_base::{Config, HartId};
-use elf_image::Code;
+use el_base::{Config, HartId, NoMemory};
+use elf_image::{Code, Image};
 use hart_state::HartState;
-use rv_alu::{Action, Span};
-use snoop::Bus;
+use rv_alu::{Action, HartStatus, HartView, Span};
+use section_ctl::Section;
+use snoop::{Asked, Bus};
+use std::alloc::Global;
 
 /// The parts of a machine that its events change, with where memory lies and what instructions are fetched from.
 #[derive(Drop)]
@@ -24,6 +37,113 @@ pub struct Engine {
 }
 
 impl Engine {
+    /// The parts before the first event of an image that was made for the configuration's harts. It takes all memory
+    /// of a run, that of the whole output too.
+    pub fn make(alloc: Global, image: &Image, config: &Config) -> Result<Engine, NoMemory>
+        requires in_range { IsInRange config.now }
+        requires one_hart_each { image.now.harts ≡ config.now.harts }
+        ensures ready { IfOk result (λ engine. IsReady (parts engine).bus) }
+        ensures is_in { IfOk result (λ engine. IsIn (parts engine) (begin image.now config.now)) }
+    {
+        Ok(Engine {
+            config: *config,
+            span: memory_of(image),
+            bus: Bus::make(alloc, image, config)?,
+            harts: first_harts(alloc, image, config)?,
+            code: image.code().share()?,
+            output: Output::make(alloc)?,
+        })
+    }
+
+    /// Whether every hart has stopped.
+    pub fn over(&self) -> bool
+        ensures exact { result ≡ all_stopped (committed_views (parts self.now).harts) }
+        ensures state { (state : ModelState) → IsIn (parts self.now) state → result ≡ is_over state }
+    {
+        self.have_stopped()
+    }
+
+    /// The same, hart by hart.
+    #[tactic(auto, using(crate::proofs::Stopping::one_runs, crate::proofs::Stopping::one_more_stopped))]
+    fn have_stopped(&self) -> bool
+        ensures { result ≡ all_stopped (committed_views (parts self.now).harts) }
+    {
+        for hart in &self.harts {
+            if hart.committed().status == HartStatus::Running {
+                return false;
+            }
+        }
+        true
+    }
+
+    /// A hart's committed view: its state with all that has taken effect.
+    pub fn hart(&self, hart: HartId) -> HartView
+        requires { hart.number < length (parts self.now).harts }
+        ensures exact { result ≡ committed_at (parts self.now).harts hart.number }
+        ensures state { (state : ModelState) → IsIn (parts self.now) state →
+            result ≡ view_of state.committed hart.number }
+    {
+        *self.harts[usize::from(hart.number)].committed()
+    }
+
+    /// What a hart itself sees: in a section that of its private run, else its committed view.
+    #[tactic(auto, using(crate::proofs::Seen::sees_shown))]
+    pub fn shown(&self, hart: HartId) -> HartView
+        requires { hart.number < length (parts self.now).harts }
+        ensures exact { result ≡ present_at (parts self.now).harts hart.number }
+        ensures state { (state : ModelState) → IsIn (parts self.now) state → result ≡ shown_of state hart.number }
+    {
+        *self.harts[usize::from(hart.number)].shown()
+    }
+
+    /// A hart's section, with its views and its buffered stores.
+    pub fn section_state(&self, hart: HartId) -> &Section
+        requires { hart.number < length (parts self.now).harts }
+        ensures exact { result.now ≡ (own_at (parts self.now).harts hart.number).section }
+        ensures live { (state : ModelState) → IsIn (parts self.now) state →
+            result.now.live ≡ section_of state hart.number }
+        ensures keeps { (state : ModelState) → IsIn (parts self.now) state →
+            KeepsSectionOf state hart.number (section_of state hart.number) result.now }
+    {
+        self.harts[usize::from(hart.number)].section()
+    }
+
+    /// The byte at an address of committed memory, or none outside it.
+    pub fn byte(&self, address: u32) -> Option<u8>
+        requires { Stands (parts self.now) }
+        ensures none_exactly_outside { IsNone result ↔ (holds (parts self.now).span address 1 ≡ false) }
+        ensures committed { (state : ModelState) → IsIn (parts self.now) state →
+            IfSome result (λ byte. byte ≡ byte_in state.committed.base state.committed.bytes address) }
+    {
+        self.bus.byte(address)
+    }
+
+    /// What the program has written.
+    pub fn output(&self) -> &[u8]
+        ensures exact { result.now ≡ (parts self.now).output }
+        ensures within_limit { length (parts self.now).output ≤ output_limit }
+    {
+        self.output.bytes()
+    }
+
+    /// What a hart has asked of the bus.
+    #[tactic(auto, using(crate::proofs::BusEvents::hart_exists))]
+    pub fn request(&self, hart: HartId) -> Asked
+        requires hart_exists { hart.number < length (parts self.now).harts }
+        requires stands { Stands (parts self.now) }
+        ensures { (state : ModelState) → IsIn (parts self.now) state →
+            numbered_asked result ≡ asking (raised_of state hart.number) (ordered_of state hart.number) }
+    {
+        self.bus.request(hart)
+    }
+
+    /// The bus, with main memory and the caches.
+    pub fn bus(&self) -> &Bus
+        ensures { kept result.now ≡ (parts self.now).bus }
+    {
+        &self.bus
+    }
+
     /// The action that a hart comes to next, as it sees itself.
     pub(crate) fn next_action(&self, hart: HartId) -> Action
         requires { hart.number < length (parts self.now).harts }

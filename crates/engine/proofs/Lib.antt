@@ -1,3 +1,5 @@
 pub mod Standing
 pub mod Misses
 mod Others
+mod Stepped
+mod RolledBack

@@ -15,5 +15,6 @@ mod engine;
 mod missing;
 mod mode_policy;
 mod output;
+mod rolling_back;
 
 pub use engine::Engine;

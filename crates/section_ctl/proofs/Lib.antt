@@ -4,4 +4,4 @@ mod Runs
 mod Begins
 mod Drained
 mod Released
-mod Shows
+pub mod Shows

@@ -1,11 +1,12 @@
 -- a step of one hart, as the others come out of it
-use Rattle.std.proofs.Common.{◌≡◌, ◌≢◌, ◌∙◌, ℕ, ◌<◌, true, length, Option, Some, None, is_some, refl, ap, sym, subst}
+use Rattle.std.proofs.Common.{◌≡◌, ◌≢◌, ◌∙◌, ℕ, ◌<◌, length, Option, Some, None, is_some, refl, ap, sym, subst}
 use Rattle.std.specs.Prelude.{IsSome}
 use Rattle.el_base.specs.declared.events.Event.{Event}
 use Rattle.el_base.specs.declared.events.Kind.TheVariants as kinds
 use Rattle.el_model.proofs.Harts.{hart_of-with_hart_other}
 use Rattle.el_model.specs.Next.{next}
-use Rattle.el_model.specs.State.{Hart, ModelState, Section, cache_of, hart_of, is_live, section_of}
+use Rattle.el_model.specs.State.{Hart, ModelState, Section, cache_of, hart_of, section_of}
+use Rattle.engine.proofs.Reaching.{survives_event}
 use Rattle.engine.specs.Acting.{freed}
 use Rattle.engine.specs.Parts.{IsIn, IsOfHart, KeepsSection, KeepsSectionOf, Parts, own_at}
 use Rattle.engine.specs.Reached.{IsReached}
@@ -22,9 +23,8 @@ use Rattle.section_ctl.specs.State.{IsLive}
 use Rattle.section_view.proofs.Surviving.{kept_survive, marks_stay}
 use Rattle.section_view.specs.KeptRun.{HoldsMarked, KeepsRun}
 use Rattle.step_laws.proofs.Frames.{steps_keep_others}
-use Rattle.step_laws.proofs.Survivors.{survivors_keep_what_they_show}
 use Rattle.step_laws.specs.Frames.{LeavesOthers}
-use Rattle.step_laws.specs.Survivors.{IsNoStepOf, Survives}
+use Rattle.step_laws.specs.Survivors.{Survives}
 use Rattle.write_hold.specs.Held.{Held}
 
 -- the views of a hart, of which at most the committed one has changed: no checkpoint stands as before, or one stands as before, and the
@@ -40,16 +40,7 @@ pub record IsSeenAs (old new : Own) (committed : HartView) : Type 0 where
   pub marks : KeepsPresent old.section.marks new.section.marks
   pub view : committed_of new.section.marks ≡ committed
 
--- a live section survives any event that is no step of its own hart
-pub survives : (from : ModelState) (event : Event) (g : ℕ) (section : Section) → IsReached from → IsNoStepOf g event →
-    section_of from g ≡ Some section → is_live (next from event).state g ≡ true → Survives from (next from event).state g section
-survives from event g section reached other live after =
-    subst (λ state. Survives state (next state event).state g section) (sym reached.state_is)
-    (survivors_keep_what_they_show reached.program reached.config reached.events event g section reached.bytes other
-    (subst (λ state. section_of state g ≡ Some section) reached.state_is live)
-    (subst (λ state. is_live (next state event).state g ≡ true) reached.state_is after))
-
--- where it does, the same present view and the same hold keep it
+-- where a section survives, the same present view and the same hold keep it
 keeps_section : (state new : ModelState) (g : ℕ) (section : Section) (old own : Own) → Survives state new g section →
     KeepsSection state g section old.section → KeepsPresent old.section.marks own.section.marks → own.section.hold ≡ old.section.hold →
     IsSome old.section.marks.mark → KeepsSection new g section own.section
@@ -139,7 +130,7 @@ others_stay parts from event g own reached is step other exists seen = record {
     survive : (section : Section) → section_of before g ≡ Some section → Survives from new g section
     survive section live =
         let here = sym (ap (λ hart. hart.section) was_same) ∙ live in
-        survives from event g section reached (λ _ own_step. other (sym own_step)) here
+        survives_event from event g section reached (λ _ own_step. other (sym own_step)) here
         (ap (λ hart. is_some hart.section) same ∙ ap is_some here)
 
 -- a hart that nothing happened to

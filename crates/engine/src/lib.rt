@@ -11,9 +11,12 @@
 #![tactic(auto)]
 
 mod beginning;
+mod buffering;
 mod engine;
+mod losing;
 mod missing;
 mod mode_policy;
+mod on_bus;
 mod output;
 mod rolling_back;
 

@@ -26,6 +26,11 @@ pub record MayAct (parts : Parts) (h : ℕ) (state : ModelState) : Type 0 where
   pub running : (committed_at parts.harts h).status ≡ Running
   pub free : has_request state h ≡ false
 
+-- it may so from some state
+pub record MayActSomewhere (parts : Parts) (h : ℕ) : Type 0 where
+  pub from : ModelState
+  pub may : MayAct parts h from
+
 -- it may act outside of a section, or in one
 pub record ActsOutside (parts : Parts) (h : ℕ) (state : ModelState) : Type 0 where
   pub may : MayAct parts h state

@@ -10,12 +10,23 @@
 //! Where a doc comment names no other source, its rule is this project's profile.
 #![tactic(auto)]
 
+mod acting_inside;
+mod acting_outside;
 mod beginning;
+mod beginning_section;
+mod buffering;
+mod committing;
+mod effects;
 mod engine;
 mod losing;
 mod missing;
 mod mode_policy;
 mod on_bus;
+mod others_reservations;
 mod output;
+mod reservations;
+mod rolling_back;
+mod running;
+mod step;
 
 pub use engine::Engine;

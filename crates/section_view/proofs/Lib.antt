@@ -4,9 +4,9 @@ pub mod ShownBytes
 pub mod Beginning
 pub mod GoingOn
 pub mod Surviving
-mod Releasing
+pub mod Releasing
 mod OthersViews
 mod Lines
 pub mod Committing
-mod OfProgram
+pub mod OfProgram
 mod Worked

@@ -1,0 +1,126 @@
+//! One event.
+
+ghost use Rattle.std.specs.Prelude.{◌≡◌, ◌<◌, ◌↔◌, length, true, false};
+ghost use Rattle.el_model.specs.Next.{going_turn, next, step_turn};
+ghost use Rattle.el_model.specs.State.{ModelState, has_request, section_of};
+ghost use Rattle.engine.specs.Acting.{MayAct, MayActSomewhere};
+ghost use Rattle.engine.specs.Parts.{IsIn, committed_at, parts};
+ghost use Rattle.engine.specs.Reached.{IsReached, Stands};
+ghost use Rattle.rv_alu.specs.declared.view.HartStatus.TheVariants.{Running};
+ghost use Rattle.snoop.specs.Shows.{IsReady, Shows};
+
+use crate::engine::Engine;
+use el_base::{Event, HartId, Kind, Outcome};
+use rv_alu::HartStatus;
+use snoop::Asked;
+
+impl Engine {
+    /// One event: whatever state that a program reaches the parts are in, they are in the state after the event then,
+    /// with its outcome. It takes no memory.
+    #[tactic(auto, unfolding(el_model::specs::Next::next))]
+    pub fn step(&mut self, event: Event) -> Outcome
+        requires hart_exists { event.hart.number < length (parts self.old).harts }
+        requires stands { Stands (parts self.old) }
+        ensures ready { IsReady (parts self.new).bus }
+        ensures state { (state : ModelState) → IsReached state → IsIn (parts self.old) state →
+            IsIn (parts self.new) (next state event).state }
+        ensures outcome { (state : ModelState) → IsReached state → IsIn (parts self.old) state →
+            result ≡ (next state event).outcome }
+    {
+        match event.kind {
+            Kind::Step => self.step_of(event.hart),
+            Kind::Order | Kind::Serve | Kind::Deliver => self.on_bus(event),
+        }
+    }
+
+    /// A step of a hart: one that has stopped has nothing to do.
+    fn step_of(&mut self, hart: HartId) -> Outcome
+        requires hart_exists { hart.number < length (parts self.old).harts }
+        requires stands { Stands (parts self.old) }
+        ensures ready { IsReady (parts self.new).bus }
+        ensures state { (state : ModelState) → IsReached state → IsIn (parts self.old) state →
+            IsIn (parts self.new) (step_turn state hart.number).state }
+        ensures outcome { (state : ModelState) → IsReached state → IsIn (parts self.old) state →
+            result ≡ (step_turn state hart.number).outcome }
+    {
+        if self.runs(hart) {
+            self.go_on(hart)
+        } else {
+            Outcome::Idle
+        }
+    }
+
+    /// Whether a hart has not stopped, by its committed view.
+    fn runs(&self, hart: HartId) -> bool
+        requires { hart.number < length (parts self.now).harts }
+        ensures { (result ≡ true) ↔ ((committed_at (parts self.now).harts hart.number).status ≡ Running) }
+    {
+        self.harts[usize::from(hart.number)].committed().status == HartStatus::Running
+    }
+
+    /// A step of a hart that runs: one whose request stands waits for it.
+    fn go_on(&mut self, hart: HartId) -> Outcome
+        requires hart_exists { hart.number < length (parts self.old).harts }
+        requires stands { Stands (parts self.old) }
+        requires running { (committed_at (parts self.old).harts hart.number).status ≡ Running }
+        ensures ready { IsReady (parts self.new).bus }
+        ensures state { (state : ModelState) → IsReached state → IsIn (parts self.old) state →
+            IsIn (parts self.new) (step_turn state hart.number).state }
+        ensures outcome { (state : ModelState) → IsReached state → IsIn (parts self.old) state →
+            result ≡ (step_turn state hart.number).outcome }
+    {
+        if self.waits(hart) {
+            Outcome::Stalled
+        } else {
+            self.give_up_and_act(hart)
+        }
+    }
+
+    /// Whether a hart waits for a request of its own.
+    #[tactic(auto, using(crate::proofs::BusEvents::hart_exists))]
+    fn waits(&self, hart: HartId) -> bool
+        requires hart_exists { hart.number < length (parts self.now).harts }
+        requires stands { Stands (parts self.now) }
+        ensures { (state : ModelState) → Shows (parts self.now).bus state → result ≡ has_request state hart.number }
+    {
+        match self.bus.request(hart) {
+            Asked::Nothing => false,
+            Asked::Raised { .. } => true,
+            Asked::Placed { .. } => true,
+        }
+    }
+
+    /// A step of a hart that waits for nothing: it gives up the line that it holds, if it holds one, and does what
+    /// comes next.
+    #[tactic(auto, using(crate::proofs::BusEvents::hart_exists))]
+    fn give_up_and_act(&mut self, hart: HartId) -> Outcome
+        requires hart_exists { hart.number < length (parts self.old).harts }
+        requires stands { Stands (parts self.old) }
+        requires running { (committed_at (parts self.old).harts hart.number).status ≡ Running }
+        requires free { (state : ModelState) → Shows (parts self.old).bus state → has_request state hart.number ≡ false }
+        ensures ready { IsReady (parts self.new).bus }
+        ensures state { (state : ModelState) → IsReached state → IsIn (parts self.old) state →
+            IsIn (parts self.new) (step_turn state hart.number).state }
+        ensures outcome { (state : ModelState) → IsReached state → IsIn (parts self.old) state →
+            result ≡ (step_turn state hart.number).outcome }
+    {
+        self.bus.give_up(hart);
+        self.act(hart)
+    }
+
+    /// What a hart does next that waits for nothing and holds nothing, outside of a section or in its live one.
+    fn act(&mut self, hart: HartId) -> Outcome
+        requires { MayActSomewhere (parts self.old) hart.number }
+        ensures ready { IsReady (parts self.new).bus }
+        ensures state { (from : ModelState) → MayAct (parts self.old) hart.number from →
+            IsIn (parts self.new) (going_turn from hart.number (section_of from hart.number)).state }
+        ensures outcome { (from : ModelState) → MayAct (parts self.old) hart.number from →
+            result ≡ (going_turn from hart.number (section_of from hart.number)).outcome }
+    {
+        let action = self.next_action(hart);
+        match self.harts[usize::from(hart.number)].section().live() {
+            None => self.act_outside(hart, action),
+            Some(_) => self.act_inside(hart, action),
+        }
+    }
+}

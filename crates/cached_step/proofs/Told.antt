@@ -78,7 +78,7 @@ readable_there cache line may = by (way_of cache.residency line) may
     by (Some way) is = refl
 
 -- a byte of memory, in a cache that has its line
-byte_told : (copies : Copies) (flat : FlatState) (h address : ℕ) → TellsMemory copies flat → flat.base ≤ address →
+pub byte_told : (copies : Copies) (flat : FlatState) (h address : ℕ) → TellsMemory copies flat → flat.base ≤ address →
     is_resident (cache_at copies.caches h).residency (line_number address) ≡ true →
     cached_byte (cache_at copies.caches h) address ≡ byte_in flat.base flat.bytes address
 byte_told copies flat h address tells low resident =

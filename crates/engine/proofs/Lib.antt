@@ -1,12 +1,29 @@
-mod Standing
-mod Stopping
+pub mod Standing
+pub mod Misses
+pub mod Reaching
+pub mod BusEvents
 pub mod Places
-mod Rules
-pub mod Quiet
+pub mod Steps
+mod Stopping
 mod Bytes
-mod Effects
-mod Acts
-mod Ran
-mod Steps
-mod PlainMemory
-mod After
+mod Seen
+mod Others
+mod Stepped
+mod RolledBack
+pub mod PlainRules
+pub mod StandsOutside
+pub mod Swaps
+pub mod LeftBehind
+pub mod RanAction
+pub mod Outsiders
+pub mod AfterRan
+pub mod Chosen
+pub mod RunsNext
+pub mod AfterBegan
+mod InsideRules
+mod KeptLive
+mod CommittedParts
+mod Covering
+mod Buffers
+mod Buffered
+mod InsideMisses

@@ -1,134 +1,140 @@
 -- steps of harts, from the state that a program reaches
-use Rattle.std.proofs.Common.{◌≡◌, ◌≢◌, ◌∙◌, ℕ, ◌<◌, ◌≤◌, true, false, length, Option, Some, None, is_some, refl, ap, sym, subst}
-use Rattle.std.specs.Prelude.{◌||◌}
+use Rattle.std.proofs.Common.{◌≡◌, ◌≢◌, ◌∙◌, ℕ, ◌≤◌, ◌<◌, Bool, true, false, length, Option, Some, None, is_some, refl, ap, sym, subst}
+use Rattle.std.specs.Prelude.{◌||◌, if◌then◌else◌}
 use Rattle.bus_order.specs.Order.{Request, request_of}
-use Rattle.cache_sets.specs.Cache.{has_marks}
-use Rattle.el_base.proofs.Ranges.{at_least, ranges}
-use Rattle.el_base.specs.declared.config.Mode.TheVariants.{Plain}
 use Rattle.el_base.specs.declared.outcomes.Outcome.TheVariants.{Idle, Stalled}
+use Rattle.el_model.proofs.Harts.{with_hart_kept}
 use Rattle.el_model.proofs.Keeps.{keeps_with_hart}
-use Rattle.el_model.specs.Next.{step_turn}
-use Rattle.el_model.specs.Plain.{plain_turn}
-use Rattle.el_model.specs.State.{ModelState, has_request, ordered_of, raised_of}
+use Rattle.el_model.specs.Next.{going_turn, stalled, status_turn, step_turn}
+use Rattle.el_model.specs.State.{ModelState, Section, has_request, hart_of, idle, ordered_of, raised_of, section_of}
 use Rattle.elf_image.specs.Limits.{end_limit}
+use Rattle.engine.proofs.Misses.{same_each}
 use Rattle.engine.proofs.Places.{span_small}
-use Rattle.engine.proofs.Quiet.{config_of, quiet}
-use Rattle.engine.proofs.Rules.{acting_turn, freed, freed_here, freed_turn, stalled_turn, stopped_turn}
 use Rattle.engine.proofs.Standing.{with_bus}
-use Rattle.engine.specs.Acting.{MayAct, MayActSomewhere}
-use Rattle.engine.specs.Parts.{IsIn, Parts, view_at}
+use Rattle.engine.specs.Acting.{ActsInside, ActsOutside, MayAct, MayActSomewhere, freed}
+use Rattle.engine.specs.Parts.{IsIn, Parts, committed_at, own_at}
 use Rattle.engine.specs.Reached.{IsReached, Stands}
-use Rattle.rv_alu.specs.declared.view.HartStatus.TheVariants.{Running}
+use Rattle.rv_alu.specs.declared.view.HartStatus.{HartStatus}
+use Rattle.rv_alu.specs.declared.view.HartStatus.TheVariants.{Exited, Running, Trapped}
 use Rattle.rv_flat.specs.FlatState.{status_of}
-use Rattle.snoop.specs.Agent.{agent_at}
-use Rattle.snoop.specs.Asking.{Asking, HasNoRequest, Nothing, asking, numbered_asked}
+use Rattle.snoop.specs.Asking.{Asking, HasNoRequest, Nothing, Placed, Raised, asking}
 use Rattle.snoop.specs.Shows.{IsReady, Kept, Shows}
-use Rattle.snoop.specs.declared.asked.Asked.{Asked}
-use Rattle.snoop.specs.declared.asked.Asked.TheVariants as asked_of
-use Rattle.bus_order.specs.declared.request.Request as requests
 
 -- how a hart stands in the parts is how it stands in the state
-status_is : (parts : Parts) (state : ModelState) (h : ℕ) → IsIn parts state → status_of state.committed h ≡ (view_at parts.views h).status
-status_is parts state h is = ap (λ views. (view_at views h).status) (sym is.views)
+status_is : (parts : Parts) (state : ModelState) (h : ℕ) → h < length parts.harts → IsIn parts state →
+    status_of state.committed h ≡ (committed_at parts.harts h).status
+status_is parts state h below is = ap (λ view. view.status) (sym (is.harts h below).view)
 
-pub stopped_state : (parts : Parts) (state : ModelState) (h : ℕ) → IsIn parts state → (view_at parts.views h).status ≢ Running →
-    IsIn parts (step_turn state h).state
-stopped_state parts state h is stopped =
-    subst (λ turn. IsIn parts turn.state) (sym (stopped_turn state h (λ running. stopped (sym (status_is parts state h is) ∙ running)))) is
+-- a hart that has stopped has nothing to do
+stopped_turn : (state : ModelState) (h : ℕ) → status_of state.committed h ≢ Running → step_turn state h ≡ idle state
+unfolding step_turn
+stopped_turn state h stopped = by (status_of state.committed h) stopped
+  where
+    by : (status : HartStatus) → status ≢ Running → status_turn state h status ≡ idle state
+    by Running other = absurd (other refl)
+    by (Exited code) other = refl
+    by (Trapped cause pc) other = refl
 
-pub stopped_outcome : (parts : Parts) (state : ModelState) (h : ℕ) → IsIn parts state → (view_at parts.views h).status ≢ Running →
-    Idle ≡ (step_turn state h).outcome
-stopped_outcome parts state h is stopped =
-    ap (λ turn. turn.outcome) (sym (stopped_turn state h (λ running. stopped (sym (status_is parts state h is) ∙ running))))
-
--- a hart that has asked for something waits for it
-asks : (raised ordered : Option Request) (asked : Asking) → asked ≡ asking raised ordered → asked ≢ Nothing → (is_some raised || is_some ordered) ≡ true
-asks (Some request) ordered asked is other = refl
-asks None (Some request) asked is other = refl
-asks None None asked is other = absurd (other is)
-
-pub stalled_state : (parts : Parts) (state : ModelState) (h : ℕ) (asked : Asking) → IsIn parts state → (view_at parts.views h).status ≡ Running →
-    asked ≡ asking (raised_of state h) (ordered_of state h) → asked ≢ Nothing → IsIn parts (step_turn state h).state
-stalled_state parts state h asked is running asks_it something =
+pub stopped_state : (parts : Parts) (state : ModelState) (h : ℕ) → h < length parts.harts → IsIn parts state →
+    (committed_at parts.harts h).status ≢ Running → IsIn parts (step_turn state h).state
+stopped_state parts state h below is stopped =
     subst (λ turn. IsIn parts turn.state)
-    (sym (stalled_turn state h (status_is parts state h is ∙ running) (asks (raised_of state h) (ordered_of state h) asked asks_it something))) is
+    (sym (stopped_turn state h (λ running. stopped (sym (status_is parts state h below is) ∙ running)))) is
 
-pub stalled_outcome : (parts : Parts) (state : ModelState) (h : ℕ) (asked : Asking) → IsIn parts state → (view_at parts.views h).status ≡ Running →
-    asked ≡ asking (raised_of state h) (ordered_of state h) → asked ≢ Nothing → Stalled ≡ (step_turn state h).outcome
-stalled_outcome parts state h asked is running asks_it something =
-    ap (λ turn. turn.outcome)
-    (sym (stalled_turn state h (status_is parts state h is ∙ running) (asks (raised_of state h) (ordered_of state h) asked asks_it something)))
+pub stopped_outcome : (parts : Parts) (state : ModelState) (h : ℕ) → h < length parts.harts → IsIn parts state →
+    (committed_at parts.harts h).status ≢ Running → Idle ≡ (step_turn state h).outcome
+stopped_outcome parts state h below is stopped =
+    ap (λ turn. turn.outcome) (sym (stopped_turn state h (λ running. stopped (sym (status_is parts state h below is) ∙ running))))
 
-nothing_asked : (raised ordered : Option Request) → Nothing ≡ asking raised ordered → (raised ≡ None) × (ordered ≡ None)
-nothing_asked (Some request) ordered is = absurd (cc)
-nothing_asked None (Some request) is = absurd (cc)
-nothing_asked None None is = (refl, refl)
+-- one that waits for a request stalls
+stalled_turn : (state : ModelState) (h : ℕ) → status_of state.committed h ≡ Running → has_request state h ≡ true →
+    step_turn state h ≡ stalled state
+unfolding step_turn
+stalled_turn state h running waits =
+    ap (status_turn state h) running ∙ ap (λ test. if test then stalled state else going_turn state h (section_of state h)) waits
 
-pub no_request : (bus : Kept) (h : ℕ) → Nothing ≡ asking (agent_at bus.agents h).raised (request_of bus.order h) → HasNoRequest bus h
-no_request bus h is =
-    let none = nothing_asked _ _ is in record { none_raised = none.0; none_ordered = none.1 }
+pub stalled_state : (parts : Parts) (state : ModelState) (h : ℕ) → h < length parts.harts → IsIn parts state →
+    (committed_at parts.harts h).status ≡ Running → has_request state h ≡ true → IsIn parts (step_turn state h).state
+stalled_state parts state h below is running waits =
+    subst (λ turn. IsIn parts turn.state) (sym (stalled_turn state h (status_is parts state h below is ∙ running) waits)) is
+
+pub stalled_outcome : (parts : Parts) (state : ModelState) (h : ℕ) → h < length parts.harts → IsIn parts state →
+    (committed_at parts.harts h).status ≡ Running → has_request state h ≡ true → Stalled ≡ (step_turn state h).outcome
+stalled_outcome parts state h below is running waits =
+    ap (λ turn. turn.outcome) (sym (stalled_turn state h (status_is parts state h below is ∙ running) waits))
+
+-- what a hart has asked tells whether it waits
+abbrev pub is_asking : Asking → Bool
+is_asking Nothing = false
+is_asking (Raised request) = true
+is_asking (Placed request) = true
+
+pub asking_is : (raised ordered : Option Request) → is_asking (asking raised ordered) ≡ (is_some raised || is_some ordered)
+asking_is (Some request) ordered = refl
+asking_is None (Some request) = refl
+asking_is None None = refl
+
+-- one that waits for nothing goes on
+pub going_on : (parts : Parts) (state : ModelState) (h : ℕ) → h < length parts.harts → IsIn parts state →
+    (committed_at parts.harts h).status ≡ Running → has_request state h ≡ false → step_turn state h ≡ going_turn state h (section_of state h)
+unfolding step_turn
+going_on parts state h below is running free =
+    ap (status_turn state h) (status_is parts state h below is ∙ running)
+    ∙ ap (λ waits. if waits then stalled state else going_turn state h (section_of state h)) free
 
 -- a hart that has given up what it held may act
-free : (parts : Parts) (state : ModelState) (h : ℕ) → IsIn parts state → HasNoRequest parts.bus h → has_request state h ≡ false
-free parts state h is none =
-    ap (λ raised. is_some raised || is_some (ordered_of state h)) (sym (ap (λ agent. agent.raised) (is.shows.agents h)) ∙ none.none_raised)
-    ∙ ap is_some (sym (ap (λ order. request_of order h) is.shows.order) ∙ none.none_ordered)
+pub may_act : (parts : Parts) (bus : Kept) (state : ModelState) (h : ℕ) → IsReached state → IsIn parts state → h < length parts.harts →
+    (committed_at parts.harts h).status ≡ Running → has_request state h ≡ false → IsReady bus → Shows bus (freed state h) →
+    MayAct (record parts { bus = bus }) h state
+may_act parts bus state h reached is exists running free ready shows = record {
+  reached = reached;
+  is_in =
+      with_bus parts bus state (freed state h) is (keeps_with_hart state h (record (hart_of state h) { held = None }))
+      (same_each state h (record (hart_of state h) { held = None })
+      (record { section = refl; cache = refl; predictor = refl; fallback = refl; tries = refl })) shows;
+  ready = ready;
+  exists = exists;
+  low = subst (λ span. span.end ≤ end_limit) (sym is.span) (span_small state reached);
+  running = running;
+  free = free;
+}
 
-pub may_act : (parts : Parts) (bus : Kept) (state : ModelState) (h : ℕ) → IsReached state → IsIn parts state → parts.config.mode ≡ Plain →
-    h < length parts.views → (view_at parts.views h).status ≡ Running → HasNoRequest parts.bus h → IsReady bus → Shows bus (freed state h) →
-    MayAct (record parts { bus = bus }) h (freed state h)
-may_act parts bus state h reached is plain exists running none ready shows =
-    let below : h < length state.harts = subst (λ n. h < n) is.one_each exists in
-    let here = freed_here state h below in
-    let mode : state.config.mode ≡ Plain = sym (ap (λ config. config.mode) is.config) ∙ plain in
-    let was = quiet state reached mode h in
-    record {
-      is_in = with_bus parts bus state (freed state h) is (keeps_with_hart state h _) shows;
-      ready = ready;
-      exists = exists;
-      low = subst (λ span. span.end ≤ end_limit) (sym is.span) (span_small state reached);
-      some_ways = some_ways state reached;
-      mode = mode;
-      running = running;
-      free = ap (λ hart. is_some hart.raised || is_some (ordered_of state h)) here ∙ free parts state h is none;
-      holds_nothing = ap (λ hart. hart.held) here;
-      quiet = record {
-        section = ap (λ hart. hart.section) here ∙ was.section;
-        unmarked = ap (λ hart. has_marks hart.cache) here ∙ was.unmarked;
-        watch = ap (λ hart. hart.predictor.watch) here ∙ was.watch;
-      };
-    }
-  where
-    some_ways : (s : ModelState) → IsReached s → 1 ≤ s.config.ways
-    some_ways s r =
-        subst (λ config. 1 ≤ config.ways) (sym (config_of s r)) (at_least 1 8 r.config.ways (ranges r.config r.in_range).ways)
-
-pub turn_freed : (parts : Parts) (state : ModelState) (h : ℕ) → IsReached state → IsIn parts state → parts.config.mode ≡ Plain →
-    h < length parts.views → (view_at parts.views h).status ≡ Running → HasNoRequest parts.bus h →
-    step_turn state h ≡ plain_turn (freed state h) h
-turn_freed parts state h reached is plain exists running none =
-    let mode : state.config.mode ≡ Plain = sym (ap (λ config. config.mode) is.config) ∙ plain in
-    acting_turn state h (status_is parts state h is ∙ running) (free parts state h is none) (quiet state reached mode h).section
-    ∙ sym (freed_turn state h mode (subst (λ n. h < n) is.one_each exists))
-
-pub may_act_somewhere : (parts : Parts) (bus : Kept) (h : ℕ) → Stands parts → parts.config.mode ≡ Plain → h < length parts.views →
-    (view_at parts.views h).status ≡ Running → HasNoRequest parts.bus h → IsReady bus →
-    ((state : ModelState) → Shows parts.bus state → Shows bus (freed state h)) → MayActSomewhere (record parts { bus = bus }) h
-may_act_somewhere parts bus h stands plain exists running none ready shows = record {
-  state = freed stands.state h;
+pub may_act_somewhere : (parts : Parts) (bus : Kept) (h : ℕ) → Stands parts → h < length parts.harts →
+    (committed_at parts.harts h).status ≡ Running → ((state : ModelState) → Shows parts.bus state → has_request state h ≡ false) →
+    IsReady bus → ((state : ModelState) → Shows parts.bus state → Shows bus (freed state h)) → MayActSomewhere (record parts { bus = bus }) h
+may_act_somewhere parts bus h stands exists running free ready shows = record {
+  from = stands.state;
   may =
-      may_act parts bus stands.state h stands.reached stands.is_in plain exists running none ready
+      may_act parts bus stands.state h stands.reached stands.is_in exists running (free stands.state stands.is_in.shows) ready
       (shows stands.state stands.is_in.shows);
 }
 
-pub raised_is : (asked : Asked) (request : requests.Request) → asked ≡ asked_of.Raised request → numbered_asked asked ≢ Nothing
-raised_is asked request is none = absurd (both (ap numbered_asked (sym is) ∙ none))
-  where
-    both : numbered_asked (asked_of.Raised request) ≡ Nothing → ⊥
-    both is = cc
+-- it asks nothing of the bus
+none_of : (one other : Option Request) → (is_some one || is_some other) ≡ false → (one ≡ None) × (other ≡ None)
+none_of None None is = (refl, refl)
+none_of None (Some request) is = absurd (cc)
+none_of (Some request) other is = absurd (cc)
 
-pub placed_is : (asked : Asked) (request : requests.Request) → asked ≡ asked_of.Placed request → numbered_asked asked ≢ Nothing
-placed_is asked request is none = absurd (both (ap numbered_asked (sym is) ∙ none))
-  where
-    both : numbered_asked (asked_of.Placed request) ≡ Nothing → ⊥
-    both is = cc
+pub asks_nothing : (parts : Parts) (state : ModelState) (h : ℕ) → MayAct parts h state → HasNoRequest parts.bus h
+asks_nothing parts state h may =
+    let none = none_of (raised_of state h) (ordered_of state h) may.free in
+    record {
+      none_raised =
+          ap (λ agent. agent.raised) (may.is_in.shows.agents h)
+          ∙ with_hart_kept (λ hart. hart.raised) state h (record (hart_of state h) { held = None }) refl h ∙ none.0;
+      none_ordered = ap (λ order. request_of order h) may.is_in.shows.order ∙ none.1;
+    }
+
+-- the section that is kept is the state's
+pub section_is : (parts : Parts) (state : ModelState) (h : ℕ) → MayAct parts h state → (own_at parts.harts h).section.live ≡ section_of state h
+section_is parts state h may =
+    (may.is_in.harts h may.exists).part.section
+    ∙ with_hart_kept (λ hart. hart.section) state h (record (hart_of state h) { held = None }) refl h
+
+pub acts_outside : (parts : Parts) (state : ModelState) (h : ℕ) → MayAct parts h state → (own_at parts.harts h).section.live ≡ None →
+    ActsOutside parts h state
+acts_outside parts state h may none = record { may = may; no_section = sym (section_is parts state h may) ∙ none }
+
+pub acts_inside : (parts : Parts) (state : ModelState) (h : ℕ) (section : Section) → MayAct parts h state →
+    (own_at parts.harts h).section.live ≡ Some section → ActsInside parts h state section
+acts_inside parts state h section may live = record { may = may; live = sym (section_is parts state h may) ∙ live }

@@ -1,8 +1,12 @@
 -- whether every hart has stopped, one hart after another
-use Rattle.std.proofs.Common.{◌≡◌, ◌≢◌, ℕ, ◌+◌, ◌<◌, List, true, false, ◌&&◌, length, take, refl, ◌∙◌, ap}
-use Rattle.std.proofs.lemmas.List.Folds.{list_all_at, list_all_more}
+use Rattle.std.proofs.Common.{◌≡◌, ◌≢◌, ℕ, ◌+◌, ◌<◌, Bool, List, true, false, ◌&&◌, length, take, refl, ◌∙◌, ap, sym}
+use Rattle.std.specs.List.{list_all}
+use Rattle.std.proofs.lemmas.List.Folds.{list_all-map, list_all_at, list_all_more}
 use Rattle.el_model.specs.Next.{all_stopped, has_stopped}
-use Rattle.engine.specs.Parts.{view_at}
+use Rattle.engine.specs.Parts.{committed_at, own_at}
+use Rattle.engine.specs.Views.{committed_views}
+use Rattle.hart_state.specs.Own.{Own, new_own}
+use Rattle.reg_mark.specs.Marks.{committed_of}
 use Rattle.rv_alu.specs.declared.view.HartStatus.{HartStatus}
 use Rattle.rv_alu.specs.declared.view.HartStatus.TheVariants.{Running, Exited, Trapped}
 use Rattle.rv_alu.specs.declared.view.HartView.{HartView}
@@ -13,12 +17,24 @@ not_running Running other = absurd (other refl)
 not_running (Exited code) other = refl
 not_running (Trapped cause pc) other = refl
 
-pub one_runs : (views : List HartView) (hart : ℕ) → hart < length views → (view_at views hart).status ≡ Running → all_stopped views ≡ false
-one_runs views hart within running = list_all_at (λ view. has_stopped view.status) views hart no_hart within (ap has_stopped running)
+-- a view has stopped, and what a hart keeps tells of it
+abbrev stopped_view : HartView → Bool
+stopped_view view = has_stopped view.status
 
-pub one_more_stopped : (views : List HartView) (hart : ℕ) → hart < length views → all_stopped (take hart views) ≡ true →
-    (view_at views hart).status ≢ Running → all_stopped (take (hart + 1) views) ≡ true
-one_more_stopped views hart within before stopped =
-    list_all_more (λ view. has_stopped view.status) views hart no_hart within
-    ∙ ap (λ test. test && has_stopped (view_at views hart).status) before
-    ∙ not_running (view_at views hart).status stopped
+abbrev stopped_own : Own → Bool
+stopped_own own = has_stopped (committed_of own.section.marks).status
+
+of_harts : (harts : List Own) → all_stopped (committed_views harts) ≡ list_all stopped_own harts
+of_harts harts = list_all-map stopped_view (λ own. committed_of own.section.marks) harts
+
+pub one_runs : (harts : List Own) (hart : ℕ) → hart < length harts → (committed_at harts hart).status ≡ Running →
+    all_stopped (committed_views harts) ≡ false
+one_runs harts hart within running =
+    of_harts harts ∙ list_all_at stopped_own harts hart (new_own no_hart 0) within (ap has_stopped running)
+
+pub one_more_stopped : (harts : List Own) (hart : ℕ) → hart < length harts → all_stopped (committed_views (take hart harts)) ≡ true →
+    (committed_at harts hart).status ≢ Running → all_stopped (committed_views (take (hart + 1) harts)) ≡ true
+one_more_stopped harts hart within before stopped =
+    of_harts (take (hart + 1) harts) ∙ list_all_more stopped_own harts hart (new_own no_hart 0) within
+    ∙ ap (λ test. test && stopped_own (own_at harts hart)) (sym (of_harts (take hart harts)) ∙ before)
+    ∙ not_running (committed_at harts hart).status stopped

@@ -1,4 +1,12 @@
 pub mod Parts
 pub mod Reached
 pub mod Acting
+pub mod Missing
+pub mod Restored
+pub mod Outside
+pub mod Inside
+pub mod Views
 pub mod Effect
+pub mod Beginning
+pub mod Unreserved
+pub mod Covered

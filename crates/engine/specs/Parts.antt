@@ -1,12 +1,17 @@
 -- what a machine keeps beside its history, and the state of the machine's definition that it is in
-use Rattle.std.specs.Prelude.{ℕ, ◌≡◌, ◌-◌, List, length, slice_index_or}
+use Rattle.std.specs.Prelude.{ℕ, ◌≡◌, ◌<◌, ◌-◌, List, Option, None, Some, length, slice_index_or}
 use Rattle.el_base.specs.declared.config.Config.{Config}
-use Rattle.el_model.specs.State.{ModelState}
+use Rattle.el_model.specs.State.{ModelState, Section, cache_of, hart_of, section_of}
 use Rattle.elf_image.specs.Program.{CodeSegment}
 use Rattle.engine.specs.declared.engine.Engine as engines
+use Rattle.hart_state.specs.Own.{HasOwn, Own, new_own}
+use Rattle.reg_mark.specs.Marks.{committed_of}
 use Rattle.rv_alu.specs.declared.span.Span.{Span}
 use Rattle.rv_alu.specs.declared.view.HartView.{HartView}
-use Rattle.rv_flat.specs.FlatState.{no_hart, output_limit, span_of}
+use Rattle.rv_flat.specs.FlatState.{no_hart, output_limit, span_of, view_of}
+use Rattle.section_ctl.specs.State as sections
+use Rattle.section_ctl.specs.State.{SectionState}
+use Rattle.section_view.specs.KeptRun.{HoldsMarked, KeepsRun}
 use Rattle.snoop.specs.Shows.{Kept, Shows, kept}
 
 -- what it keeps
@@ -14,7 +19,7 @@ pub record Parts : Type 0 where
   pub config : Config
   pub span : Span  -- the addresses of memory
   pub bus : Kept
-  pub views : List HartView  -- the committed view of each hart
+  pub harts : List Own  -- of each hart, what it keeps beside the bus
   pub code : List CodeSegment
   pub output : List ℕ
 
@@ -23,25 +28,50 @@ parts engine = record {
   config = engine.config;
   span = engine.span;
   bus = kept engine.bus;
-  views = engine.views.items;
+  harts = engine.harts.items;
   code = engine.code;
   output = engine.output;
 }
 
--- a hart's committed view; past the last hart, one that has stopped
-abbrev pub view_at : List HartView → ℕ → HartView
-view_at views h = slice_index_or views h no_hart
+-- what a hart keeps; past the last hart, what one keeps that has stopped
+abbrev pub own_at : List Own → ℕ → Own
+own_at harts h = slice_index_or harts h (new_own no_hart 0)
+
+-- a hart's committed view, and the one that it sees itself
+abbrev pub committed_at : List Own → ℕ → HartView
+committed_at harts h = committed_of (own_at harts h).section.marks
+
+abbrev pub present_at : List Own → ℕ → HartView
+present_at harts h = (own_at harts h).section.marks.present
 
 -- how many bytes the output has room for
 abbrev pub room_in : Parts → ℕ
 room_in parts = output_limit - length parts.output
 
--- the bus shows the state, each hart has its view, and each other part is the state's
+-- the view and the stores that are kept of a live section tell its private run, and each stored line has the write bit
+pub record KeepsSection (state : ModelState) (h : ℕ) (section : Section) (kept : SectionState) : Type 0 where
+  pub run : KeepsRun state.committed h section kept.marks.present kept.hold.entries
+  pub marked : HoldsMarked (cache_of state h) kept.hold.entries
+
+abbrev pub KeepsSectionOf : ModelState → ℕ → Option Section → SectionState → Type 0
+KeepsSectionOf state h None kept = Unit {0}
+KeepsSectionOf state h (Some section) kept = KeepsSection state h section kept
+
+-- what a hart keeps is that of the definition's hart, with its committed view, and with its live section, if it has one
+pub record IsOfHart (state : ModelState) (h : ℕ) (own : Own) : Type 0 where
+  pub part : HasOwn own (hart_of state h)
+  pub view : committed_of own.section.marks ≡ view_of state.committed h
+  pub section : KeepsSectionOf state h (section_of state h) own.section
+  pub stands : sections.Stands own.section.marks own.section.hold own.section.live
+  pub limit : own.section.hold.limit ≡ state.config.lines
+
+-- the bus shows the state, each hart keeps what is its own, and each other part is the state's
 pub record IsIn (parts : Parts) (state : ModelState) : Type 0 where
   pub config : parts.config ≡ state.config
   pub span : parts.span ≡ span_of state.committed
   pub shows : Shows parts.bus state
-  pub views : parts.views ≡ state.committed.harts
-  pub one_each : length parts.views ≡ length state.harts
+  pub one_each : length parts.harts ≡ length state.harts
+  pub view_each : length parts.harts ≡ length state.committed.harts
+  pub harts : (h : ℕ) → h < length parts.harts → IsOfHart state h (own_at parts.harts h)
   pub code : parts.code ≡ state.committed.code
   pub output : parts.output ≡ state.committed.output

@@ -2,10 +2,12 @@
 
 ghost use Rattle.std.specs.Prelude.{◌≡◌, ◌<◌, ◌+◌, IfOk, length, map};
 ghost use Rattle.std.specs.List.{range_with_len};
+ghost use Rattle.engine.specs.Views.{first_own};
 ghost use Rattle.rv_flat.specs.FlatState.{first_view};
 
-use el_base::NoMemory;
+use el_base::{Config, NoMemory};
 use elf_image::{Image, STACK_BYTES};
+use hart_state::HartState;
 use rv_alu::abi::{A0, A1, SP};
 use rv_alu::{HartStatus, HartView, Regs, Span};
 use std::alloc::Global;
@@ -39,13 +41,18 @@ fn first_view(image: &Image, hart: u8) -> HartView
     }
 }
 
-/// All harts before their first step.
-pub(crate) fn first_views(alloc: Global, image: &Image) -> Result<Vec<HartView>, NoMemory>
-    ensures { IfOk result (λ views. views.items ≡ map (first_view image.now) (range_with_len 0 image.now.harts)) }
+/// What all harts keep before their first event.
+pub(crate) fn first_harts(
+    alloc: Global,
+    image: &Image,
+    config: &Config,
+) -> Result<Vec<HartState>, NoMemory>
+    ensures { IfOk result (λ harts.
+        harts.items ≡ map (first_own image.now config.now) (range_with_len 0 image.now.harts)) }
 {
-    let mut views = Vec::new(alloc);
+    let mut harts = Vec::new(alloc);
     for hart in 0..image.harts() {
-        views.push(first_view(image, hart))?;
+        harts.push(HartState::make(alloc, config, first_view(image, hart))?)?;
     }
-    Ok(views)
+    Ok(harts)
 }

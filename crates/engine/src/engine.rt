@@ -2,22 +2,26 @@
 
 ghost use Rattle.std.specs.Prelude.{◌≡◌, ◌<◌, ◌≤◌, ◌↔◌, IfOk, IfSome, IsNone, false, length};
 ghost use Rattle.el_base.specs.Config.{IsInRange};
-ghost use Rattle.el_base.specs.declared.config.Mode.TheVariants.{Plain};
-ghost use Rattle.el_model.specs.Next.{all_stopped, shown_of};
-ghost use Rattle.el_model.specs.State.{ModelState, begin, ordered_of, raised_of};
-ghost use Rattle.engine.specs.Parts.{IsIn, parts, view_at};
-ghost use Rattle.engine.specs.Reached.{IsReached, Stands};
+ghost use Rattle.el_model.specs.Next.{all_stopped, is_over, shown_of};
+ghost use Rattle.el_model.specs.State.{ModelState, begin, ordered_of, raised_of, section_of};
+ghost use Rattle.engine.specs.Acting.{next_action};
+ghost use Rattle.engine.specs.Parts.{IsIn, KeepsSectionOf, committed_at, own_at, parts, present_at, room_in};
+ghost use Rattle.engine.specs.Reached.{Stands};
+ghost use Rattle.engine.specs.Views.{committed_views};
+ghost use Rattle.rv_alu.specs.Footprint.{IsInPlace};
 ghost use Rattle.rv_alu.specs.Span.{holds};
-ghost use Rattle.rv_flat.specs.FlatState.{output_limit};
+ghost use Rattle.rv_flat.specs.FlatState.{output_limit, view_of};
 ghost use Rattle.rv_flat.specs.Memory.{byte_in};
 ghost use Rattle.snoop.specs.Asking.{asking, numbered_asked};
 ghost use Rattle.snoop.specs.Shows.{IsReady, kept};
 
-use crate::beginning::{first_views, memory_of};
+use crate::beginning::{first_harts, memory_of};
 use crate::output::Output;
 use el_base::{Config, HartId, NoMemory};
 use elf_image::{Code, Image};
-use rv_alu::{HartStatus, HartView, Span};
+use hart_state::HartState;
+use rv_alu::{Action, HartStatus, HartView, Span};
+use section_ctl::Section;
 use snoop::{Asked, Bus};
 use std::alloc::Global;
 
@@ -27,7 +31,7 @@ pub struct Engine {
     pub(crate) config: Config,
     pub(crate) span: Span,
     pub(crate) bus: Bus,
-    pub(crate) views: Vec<HartView>,
+    pub(crate) harts: Vec<HartState>,
     pub(crate) code: Code,
     pub(crate) output: Output,
 }
@@ -45,41 +49,63 @@ impl Engine {
             config: *config,
             span: memory_of(image),
             bus: Bus::make(alloc, image, config)?,
-            views: first_views(alloc, image)?,
+            harts: first_harts(alloc, image, config)?,
             code: image.code().share()?,
             output: Output::make(alloc)?,
         })
     }
 
     /// Whether every hart has stopped.
-    #[tactic(auto, using(crate::proofs::Stopping::one_runs, crate::proofs::Stopping::one_more_stopped))]
     pub fn over(&self) -> bool
-        ensures { result ≡ all_stopped (parts self.now).views }
+        ensures exact { result ≡ all_stopped (committed_views (parts self.now).harts) }
+        ensures state { (state : ModelState) → IsIn (parts self.now) state → result ≡ is_over state }
     {
-        for view in &self.views {
-            if view.status == HartStatus::Running {
+        self.have_stopped()
+    }
+
+    /// The same, hart by hart.
+    #[tactic(auto, using(crate::proofs::Stopping::one_runs, crate::proofs::Stopping::one_more_stopped))]
+    fn have_stopped(&self) -> bool
+        ensures { result ≡ all_stopped (committed_views (parts self.now).harts) }
+    {
+        for hart in &self.harts {
+            if hart.committed().status == HartStatus::Running {
                 return false;
             }
         }
         true
     }
 
-    /// A hart's committed view.
+    /// A hart's committed view: its state with all that has taken effect.
     pub fn hart(&self, hart: HartId) -> HartView
-        requires { hart.number < length (parts self.now).views }
-        ensures { result ≡ view_at (parts self.now).views hart.number }
+        requires { hart.number < length (parts self.now).harts }
+        ensures exact { result ≡ committed_at (parts self.now).harts hart.number }
+        ensures state { (state : ModelState) → IsIn (parts self.now) state →
+            result ≡ view_of state.committed hart.number }
     {
-        self.views[usize::from(hart.number)]
+        *self.harts[usize::from(hart.number)].committed()
     }
 
-    /// What a hart itself sees. In the plain mode that is its committed view.
+    /// What a hart itself sees: in a section that of its private run, else its committed view.
+    #[tactic(auto, using(crate::proofs::Seen::sees_shown))]
     pub fn shown(&self, hart: HartId) -> HartView
-        requires hart_exists { hart.number < length (parts self.now).views }
-        requires plain { (parts self.now).config.mode ≡ Plain }
-        ensures { (state : ModelState) → IsReached state → IsIn (parts self.now) state →
-            result ≡ shown_of state hart.number }
+        requires { hart.number < length (parts self.now).harts }
+        ensures exact { result ≡ present_at (parts self.now).harts hart.number }
+        ensures state { (state : ModelState) → IsIn (parts self.now) state → result ≡ shown_of state hart.number }
     {
-        self.hart(hart)
+        *self.harts[usize::from(hart.number)].shown()
+    }
+
+    /// A hart's section, with its views and its buffered stores.
+    pub fn section_state(&self, hart: HartId) -> &Section
+        requires { hart.number < length (parts self.now).harts }
+        ensures exact { result.now ≡ (own_at (parts self.now).harts hart.number).section }
+        ensures live { (state : ModelState) → IsIn (parts self.now) state →
+            result.now.live ≡ section_of state hart.number }
+        ensures keeps { (state : ModelState) → IsIn (parts self.now) state →
+            KeepsSectionOf state hart.number (section_of state hart.number) result.now }
+    {
+        self.harts[usize::from(hart.number)].section()
     }
 
     /// The byte at an address of committed memory, or none outside it.
@@ -101,8 +127,9 @@ impl Engine {
     }
 
     /// What a hart has asked of the bus.
+    #[tactic(auto, using(crate::proofs::BusEvents::hart_exists))]
     pub fn request(&self, hart: HartId) -> Asked
-        requires hart_exists { hart.number < length (parts self.now).views }
+        requires hart_exists { hart.number < length (parts self.now).harts }
         requires stands { Stands (parts self.now) }
         ensures { (state : ModelState) → IsIn (parts self.now) state →
             numbered_asked result ≡ asking (raised_of state hart.number) (ordered_of state hart.number) }
@@ -115,5 +142,20 @@ impl Engine {
         ensures { kept result.now ≡ (parts self.now).bus }
     {
         &self.bus
+    }
+
+    /// The action that a hart comes to next, as it sees itself.
+    pub(crate) fn next_action(&self, hart: HartId) -> Action
+        requires { hart.number < length (parts self.now).harts }
+        ensures value { result ≡ next_action (parts self.now) hart.number }
+        ensures in_place { IsInPlace (parts self.now).span (room_in (parts self.now)) result }
+    {
+        let view = self.harts[usize::from(hart.number)].shown();
+        Action::at(
+            self.code.code_word(view.pc),
+            view,
+            self.span,
+            self.output.room(),
+        )
     }
 }

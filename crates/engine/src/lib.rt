@@ -1,20 +1,32 @@
-//! The parts of a machine that its events change: the bus with main memory and the caches, the committed view of
-//! each hart, what instructions are fetched from, and the output.
+//! The parts of a machine that its events change: the bus with main memory and the caches, what each hart keeps beside
+//! it, what instructions are fetched from, and the output.
 //!
-//! It stands on `snoop` (the bus), on `cached_step` (one instruction over a hart's cache) and on the definition of
-//! `el_model`. The parts have no state of their own in contracts: each event makes them be in the state that the
-//! definition gives, whatever state they are in before, with the definition's outcome (`IsIn` in
-//! `specs/Parts.antt`). What a call needs of them and leaves is one word, `Stands` in `specs/Reached.antt`. Only
-//! `make` takes memory.
+//! It stands on `snoop` (the bus), `hart_state` (a hart's section, predictor and tries), `step_rules` (which rule a
+//! step follows), `cached_step` (one instruction over a hart's cache), and on the definition of `el_model` with its
+//! laws. The parts have no state of their own in contracts: each event makes them be in the state that the definition
+//! gives, whatever state they are in before, with the definition's outcome (`IsIn` in `specs/Parts.antt`). What a call
+//! needs of them is one word, `Stands` in `specs/Reached.antt`. Only `make` takes memory.
 //!
 //! Where a doc comment names no other source, its rule is this project's profile.
 #![tactic(auto)]
 
+mod acting_inside;
+mod acting_outside;
 mod beginning;
+mod beginning_section;
+mod buffering;
+mod committing;
+mod effects;
 mod engine;
+mod losing;
+mod missing;
 mod mode_policy;
+mod on_bus;
+mod others_reservations;
 mod output;
 mod reservations;
+mod rolling_back;
+mod running;
 mod step;
 
 pub use engine::Engine;

@@ -1,30 +1,16 @@
 //! Reservations of harts, which a store to their line ends.
 
 ghost use Rattle.std.specs.Prelude.{◌≡◌, map};
-ghost use Rattle.rv_alu.specs.Reservations.{reserved_off, unreserved};
+ghost use Rattle.hart_state.specs.Deeds.{unreserved_own};
 
-use el_base::{LineAddr, line_of};
-use rv_alu::HartView;
+use el_base::LineAddr;
+use hart_state::HartState;
 
-/// The reservation that is left after a store to a line.
-fn kept(reserved: Option<u32>, line: LineAddr) -> Option<u32>
-    ensures { result ≡ reserved_off line.number reserved }
-{
-    reserved.filter(|word| line_of(*word) != line)
-}
-
-/// A hart after a store to a line.
-fn unreserve(hart: &mut HartView, line: LineAddr)
-    ensures { hart.new ≡ unreserved line.number hart.old }
-{
-    hart.reserved = kept(hart.reserved, line);
-}
-
-/// Takes the reservations of words on a line from all harts.
-pub(crate) fn unreserve_all(harts: &mut [HartView], line: LineAddr)
-    ensures { harts.new ≡ map (unreserved line.number) harts.old }
+/// Takes the committed reservations of words on a line from all harts. A live section keeps its own.
+pub(crate) fn unreserve_all(harts: &mut [HartState], line: LineAddr)
+    ensures { harts.new ≡ map (unreserved_own line.number) harts.old }
 {
     for hart in harts.iter_mut() {
-        unreserve(hart, line);
+        hart.unreserve(line);
     }
 }

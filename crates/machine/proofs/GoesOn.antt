@@ -1,14 +1,13 @@
 -- a machine stands after each event, and what follows from that
 use Rattle.std.proofs.Common.{◌≡◌, ◌∙◌, ℕ, ◌+◌, ◌≤◌, ◌<◌, List, [], ◌∷◌, ◌++◌, length, ap, arith, length-append, refl, subst, sym}
 use Rattle.std.proofs.lemmas.List.Elements.{All-push}
-use Rattle.std.proofs.lemmas.List.{map-append}
+use Rattle.std.proofs.lemmas.List.{length-map, map-append}
 use Rattle.std.proofs.lemmas.List.FromFn.{length-map-range_with_len}
 use Rattle.std.specs.Prelude.{map}
 use Rattle.chronicle.specs.Chronicle.{events}
 use Rattle.chronicle.specs.Serial.{serial}
 use Rattle.el_base.specs.Config.{IsInRange}
 use Rattle.el_base.specs.declared.config.Config.{Config}
-use Rattle.el_base.specs.declared.config.Mode.TheVariants.{Plain}
 use Rattle.el_base.specs.declared.entries.Entry.{Entry}
 use Rattle.el_base.specs.declared.events.Event.{Event}
 use Rattle.el_base.specs.declared.outcomes.Outcome.{Outcome}
@@ -17,7 +16,6 @@ use Rattle.el_model.specs.Next.{entries_from, next}
 use Rattle.el_model.specs.State.{ModelState, begin}
 use Rattle.elf_image.specs.Program.{IsProgram, Program}
 use Rattle.engine.proofs.Places.{keeps_place}
-use Rattle.engine.proofs.Quiet.{config_of}
 use Rattle.engine.specs.Parts.{IsIn, Parts}
 use Rattle.engine.specs.Reached as engine
 use Rattle.engine.specs.Reached.{IsReached}
@@ -26,25 +24,26 @@ use Rattle.machine.specs.Stands.{IsGiven, Stands}
 use Rattle.machine.specs.Story.{IsOneRun, Story, committed, continued, left_of, memory_of, state_of}
 use Rattle.rv_flat.specs.FlatState.{FlatState, first_view, span_of, start}
 use Rattle.rv_flat.specs.Laws.{KeepsShape}
+use Rattle.rv_flat.specs.Memory.{AreBytes}
 use Rattle.rv_flat.specs.Run.{run}
 use Rattle.snoop.specs.Shows.{IsReady}
 
-start_harts : (program : Program) → length (start program).harts ≡ program.harts
+pub start_harts : (program : Program) → length (start program).harts ≡ program.harts
 unfolding start
 start_harts program = length-map-range_with_len (first_view program) 0 program.harts
 
 -- a machine stands before its first event
-pub first : (program : Program) (config : Config) (parts : Parts) (entries : List Entry) (room : ℕ) → IsProgram program → IsInRange config →
-    program.harts ≡ config.harts → config.mode ≡ Plain → IsReady parts.bus → IsIn parts (begin program config) → entries ≡ [] → room ≡ config.steps →
+pub first : (program : Program) (config : Config) (parts : Parts) (entries : List Entry) (room : ℕ) → IsProgram program →
+    AreBytes program.bytes → IsInRange config → program.harts ≡ config.harts → IsReady parts.bus → IsIn parts (begin program config) → entries ≡ [] → room ≡ config.steps →
     Stands (record { program = program; config = config; entries = entries }) parts room
-first program config parts entries room valid in_range one_each plain ready is none places =
+first program config parts entries room valid bytes in_range one_each ready is none places =
     rw (none, places)
     (record {
       given = record {
         program = valid;
+        bytes = bytes;
         in_range = in_range;
         one_hart_each = one_each;
-        plain = plain;
         places = refl;
         within = omega arith;
         harts_exist = λ k d none. absurd (omega arith);
@@ -61,20 +60,17 @@ reached story room given = record {
   config = story.config;
   events = events story.entries;
   is_program = given.program;
+  bytes = given.bytes;
   in_range = given.in_range;
   one_hart_each = given.one_hart_each;
+  within = let within = given.within in omega (arith, within, length-map story.entries (λ entry. entry.event));
   state_is = refl;
 }
 
--- so its parts stand, in the plain mode
+-- so its parts stand
 pub parts_stand : (story : Story) (parts : Parts) (room : ℕ) → Stands story parts room → engine.Stands parts
 parts_stand story parts room stands =
     record { ready = stands.ready; state = state_of story; reached = reached story room stands.given; is_in = stands.is_in }
-
-pub parts_plain : (story : Story) (parts : Parts) (room : ℕ) → Stands story parts room → parts.config.mode ≡ Plain
-unfolding reached
-parts_plain story parts room stands =
-    ap (λ config. config.mode) (stands.is_in.config ∙ config_of (state_of story) (reached story room stands.given)) ∙ stands.given.plain
 
 -- the events of a story that goes on by one more
 events_more : (story : Story) (event : Event) → events (continued story (event ∷ [])).entries ≡ events story.entries ++ event ∷ []
@@ -84,9 +80,9 @@ given_more : (story : Story) (room : ℕ) (event : Event) → IsGiven story room
     1 ≤ left_of story → IsGiven (continued story (event ∷ [])) room
 given_more story room event given below left = record {
   program = given.program;
+  bytes = given.bytes;
   in_range = given.in_range;
   one_hart_each = given.one_hart_each;
-  plain = given.plain;
   places = given.places;
   within = omega (arith, length-append story.entries (entries_from (state_of story) (event ∷ [])));
   harts_exist =
@@ -174,11 +170,11 @@ same_base story now parts room stands same =
     ap (λ span. span.base)
     (sym (now_in story now parts room stands same).span ∙ same_span story now parts room stands same)
 
-pub as_many : (story now : Story) (parts : Parts) (room : ℕ) → Stands story parts room → story ≡ now → length parts.views ≡ now.config.harts
+pub as_many : (story now : Story) (parts : Parts) (room : ℕ) → Stands story parts room → story ≡ now → length parts.harts ≡ now.config.harts
 as_many story now parts room stands same =
-    ap length stands.is_in.views ∙ (place_kept story parts room stands).harts ∙ start_harts story.program ∙ stands.given.one_hart_each
+    stands.is_in.view_each ∙ (place_kept story parts room stands).harts ∙ start_harts story.program ∙ stands.given.one_hart_each
     ∙ ap (λ s. s.config.harts) same
 
 pub hart_there : (story now : Story) (parts : Parts) (room h : ℕ) → Stands story parts room → story ≡ now → h < now.config.harts →
-    h < length parts.views
+    h < length parts.harts
 hart_there story now parts room h stands same below = subst (λ n. h < n) (sym (as_many story now parts room stands same)) below

@@ -1,3 +1,6 @@
 pub mod Continued
 mod GoesOn
+mod Promised
+mod InSections
 mod There
+mod Readiness

@@ -6,7 +6,6 @@
 //! registers, memory and output are those of one run of the program on plain shared memory, in the serial order
 //! that the history shows. `make` takes all memory of a run: main memory and the image that it was copied from, the
 //! caches, 16 bytes for each step, and room for the output. No other call takes memory, and no event is refused.
-//! It is built for the plain mode so far.
 //!
 //! Where a doc comment names no other source, its rule is this project's profile.
 #![tactic(auto)]
@@ -14,6 +13,7 @@
 mod fault;
 mod laws;
 mod machine;
+mod ready;
 
 pub use fault::MakeFault;
 pub use laws::{continued_story_reaches_the_state_after, stories_go_on_event_by_event};

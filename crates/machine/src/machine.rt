@@ -17,19 +17,35 @@ ghost use Rattle.std.specs.Prelude.{
   Err,
   length,
   false,
+  option_map,
 };
 ghost use Rattle.chronicle.specs.Chronicle.{events};
 ghost use Rattle.el_base.specs.Config.{IsInRange, config_fault};
 ghost use Rattle.el_base.specs.declared.config.ConfigFault.{ConfigFault};
-ghost use Rattle.el_base.specs.declared.config.Mode.TheVariants.{Plain};
+ghost use Rattle.el_base.specs.declared.config.Mode.TheVariants.{Tlr};
 ghost use Rattle.el_model.specs.Next.{is_over, next, shown_of};
-ghost use Rattle.el_model.specs.State.{ordered_of, raised_of};
+ghost use Rattle.el_model.specs.State as model;
+ghost use Rattle.el_model.specs.State.{cache_of, ordered_of, raised_of, section_of};
+ghost use Rattle.machine.specs.Promises.{
+  EndsAreNamed,
+  LeastStays,
+  LosesToLess,
+  OthersAreUntouched,
+  ReleasesTakeEffect,
+  ShowsStoresOverMemory,
+  StampsStay,
+  change,
+};
 ghost use Rattle.machine.specs.Story.{IsOneRun, committed, continued, history_of, left_of, memory_of, state_of};
 ghost use Rattle.rv_alu.specs.Span.{holds};
 ghost use Rattle.rv_flat.specs.FlatState.{output_limit, view_of};
-ghost use Rattle.rv_flat.specs.Memory.{byte_in};
+ghost use Rattle.rv_flat.specs.Memory.{AreBytes, byte_in};
+ghost use Rattle.run_laws.specs.PrivateRun.{IsCoveredRun};
+ghost use Rattle.section_ctl.specs.State as sections;
+ghost use Rattle.section_view.specs.KeptRun.{HoldsMarked, KeepsRun};
 ghost use Rattle.snoop.specs.Asking.{asking, numbered_asked};
 ghost use Rattle.snoop.specs.Shows.{IsReady, Shows, kept};
+ghost use Rattle.step_laws.specs.Counts.{IsSectionShort};
 
 use crate::fault::MakeFault;
 use chronicle::History;
@@ -37,6 +53,7 @@ use el_base::{Config, Entry, Event, HartId, Outcome};
 use elf_image::Image;
 use engine::Engine;
 use rv_alu::HartView;
+use section_ctl::{Live, Section};
 use snoop::{Asked, Bus};
 use std::alloc::Global;
 use std::marker::Model;
@@ -46,7 +63,7 @@ use std::marker::Model;
 pub struct Machine {
     image: Image,
     config: Config,
-    engine: Engine,
+    pub(crate) engine: Engine,
     history: History,
 }
 
@@ -67,11 +84,10 @@ impl Model for Machine {
 impl Machine {
     /// A machine before its first event, of an image that was made for the configuration's harts. It
     /// takes all memory of the run. An error is the fault of the configuration, if it has one, and
-    /// else want of memory. Machines are built for the plain mode so far.
+    /// else want of memory.
     #[tactic(auto, using(crate::proofs::GoesOn::first))]
     pub fn make(alloc: Global, image: Image, config: Config) -> Result<Machine, MakeFault>
         requires one_hart_each { image.harts ≡ config.harts }
-        requires plain { config.mode ≡ Plain }
         ensures made { IfOk result (λ machine.
             machine ≡ record { program = image; config = config; entries = [] }) }
         ensures in_range { OnOk result (IsInRange config) }
@@ -80,6 +96,7 @@ impl Machine {
         ensures memory_after_faults { result ≡ Err MakeFault.NoMemory → IsInRange config }
     {
         prove!(image.harts() == config.harts);
+        are_bytes(image.bytes());
         config.check()?;
         let engine = Engine::make(alloc, &image, &config)?;
         let history = History::make(alloc, config.steps)?;
@@ -92,6 +109,13 @@ impl Machine {
     }
 
     /// Makes one event, and puts it with its outcome behind the history.
+    ///
+    /// What it keeps of live sections: one ends by its own hart's commit or rollback, or the outcome names its hart
+    /// among the losers; one whose hart did not step shows the same as before; at its release a section takes effect
+    /// whole. A stamp stays until its attempt closes. In lock removal each loser lost to a hart that waits with a less
+    /// stamp, and the least stamp never loses. The last two are the idea of R. Rajwar and J. R. Goodman, 'Transactional
+    /// Lock-Free Execution of Lock-Based Programs', ASPLOS 2002, and the first three that of their 'Speculative Lock
+    /// Elision', MICRO 2001.
     #[tactic(auto, using(crate::proofs::GoesOn::told_more))]
     pub fn step(&mut self, event: Event) -> Outcome
         requires hart_exists { event.hart.number < self.old.config.harts }
@@ -99,6 +123,12 @@ impl Machine {
         ensures goes_on { self.new ≡ continued self.old (event ∷ []) }
         ensures outcome { result ≡ (next (state_of self.old) event).outcome }
         ensures one_run { IsOneRun self.new }
+        ensures ends_are_named { EndsAreNamed (change self.old event result self.new) }
+        ensures losers_lost_to_less { self.old.config.mode ≡ Tlr → LosesToLess (change self.old event result self.new) }
+        ensures least_never_loses { self.old.config.mode ≡ Tlr → LeastStays (change self.old event result self.new) }
+        ensures stamps_stay { StampsStay (change self.old event result self.new) }
+        ensures releases_commit { ReleasesTakeEffect self.old.config.long (change self.old event result self.new) }
+        ensures others_are_untouched { OthersAreUntouched (change self.old event result self.new) }
     {
         let outcome = self.engine.step(event);
         self.history.push(Entry { event, outcome });
@@ -154,12 +184,41 @@ impl Machine {
         self.engine.hart(hart)
     }
 
-    /// What a hart itself sees: outside of a section, its committed view.
+    /// What a hart itself sees: in a section what the section shows, else its committed view.
     pub fn shown(&self, hart: HartId) -> HartView
         requires { hart.number < self.now.config.harts }
         ensures { result ≡ shown_of (state_of self.now) hart.number }
     {
         self.engine.shown(hart)
+    }
+
+    /// A hart's live section, `None` exactly where it has none. Each instruction of a live section but the acquire had
+    /// the access bit of what it touched, and it has run from 1 to `long` instructions.
+    pub fn section(&self, hart: HartId) -> Option<Live>
+        requires { hart.number < self.now.config.harts }
+        ensures exact { option_map sections.section_of result ≡ section_of (state_of self.now) hart.number }
+        ensures covered { (section : model.Section) → section_of (state_of self.now) hart.number ≡ Some section →
+            IsCoveredRun (committed self.now) hart.number (cache_of (state_of self.now) hart.number) section }
+        ensures short { (section : model.Section) → section_of (state_of self.now) hart.number ≡ Some section →
+            IsSectionShort self.now.config.long section }
+    {
+        self.engine.section_state(hart).live()
+    }
+
+    /// A hart's section with its views and its buffered stores. Where one is live, its view is what its private run
+    /// has come to, its buffered stores over committed memory, with the acquire's new value in the lock word, are what
+    /// the section shows of memory, and each line that it stored to has the write bit.
+    pub fn section_state(&self, hart: HartId) -> &Section
+        requires { hart.number < self.now.config.harts }
+        ensures live { result.now.live ≡ section_of (state_of self.now) hart.number }
+        ensures run { (section : model.Section) → result.now.live ≡ Some section →
+            KeepsRun (committed self.now) hart.number section result.now.marks.present result.now.hold.entries }
+        ensures shows { (section : model.Section) → result.now.live ≡ Some section →
+            ShowsStoresOverMemory (state_of self.now) hart.number section result.now.hold.entries }
+        ensures marked { (section : model.Section) → result.now.live ≡ Some section →
+            HoldsMarked (cache_of (state_of self.now) hart.number) result.now.hold.entries }
+    {
+        self.engine.section_state(hart)
     }
 
     /// What a hart has asked of the bus.
@@ -188,4 +247,10 @@ impl Machine {
     {
         self.engine.byte(address)
     }
+}
+
+/// What memory has before the first step is bytes.
+fn are_bytes(bytes: &[u8])
+    ensures { AreBytes bytes.now }
+{
 }

@@ -126,8 +126,9 @@ fn play(rt: &impl Abort, machine: &mut Machine, rows: &[Row]) -> Result<(), Fail
             assert!(rt; !machine.over());
             let made = machine.history().length();
             assert_eq!(rt; act(rt, machine, *kind, one), *outcome);
-            assert_eq!(rt; machine.history().length(), made + 1);
-            assert!(rt; made < machine.history().length());
+            let now = machine.history().length();
+            assert!(rt; made < now);
+            assert_eq!(rt; now - made, 1);
             assert_eq!(rt;
                 machine.history().entry(made),
                 Entry {
@@ -150,11 +151,13 @@ fn letter(rt: &impl Abort, machine: &Machine, hart: HartId, line: LineAddr) -> L
     bus.sets(hart).letter(line)
 }
 
-/// The byte at an address of memory in main memory.
-fn main_byte(rt: &impl Abort, machine: &Machine, address: u32) -> u8 {
+/// The byte at an address in main memory, or none outside memory.
+fn main_byte(machine: &Machine, address: u32) -> Option<u8> {
     let bus = machine.bus();
-    assert!(rt; bus.byte(address).is_some());
-    bus.main_byte(address)
+    match bus.byte(address) {
+        Some(_) => Some(bus.main_byte(address)),
+        None => None,
+    }
 }
 
 fn missed() -> Outcome {
@@ -264,7 +267,7 @@ fn a_written_line_is_written_back(rt: HostRuntime) -> Result<(), Fail> {
     play(&rt, &mut machine, &stored)?;
     assert_eq!(rt; letter(&rt, &machine, only, line), Letter::M);
     assert_eq!(rt; machine.byte(0x1_1000), Some(5));
-    assert_eq!(rt; main_byte(&rt, &machine, 0x1_1000), 0);
+    assert_eq!(rt; main_byte(&machine, 0x1_1000), Some(0));
     let gone = [
         (Kind::Step, 0, 1, next),
         (Kind::Order, 0, 1, ordered()),
@@ -273,7 +276,7 @@ fn a_written_line_is_written_back(rt: HostRuntime) -> Result<(), Fail> {
     play(&rt, &mut machine, &gone)?;
     assert_eq!(rt; letter(&rt, &machine, only, line), Letter::I);
     assert_eq!(rt; machine.byte(0x1_1000), Some(5));
-    assert_eq!(rt; main_byte(&rt, &machine, 0x1_1000), 5);
+    assert_eq!(rt; main_byte(&machine, 0x1_1000), Some(5));
     Ok(())
 }
 

@@ -103,7 +103,7 @@ held_runs state h line sound is =
     running_or (status_of state.committed h) (λ ended. some_none (sym is ∙ ((sound h).stopped ended).not_held))
 
 -- a hart that runs and has no request steps
-deed_gets_on : (state : ModelState) (h : ℕ) (deed : Deed) → DoesWhere state h deed → status_of state.committed h ≡ Running →
+pub deed_gets_on : (state : ModelState) (h : ℕ) (deed : Deed) → DoesWhere state h deed → status_of state.committed h ≡ Running →
     has_request state h ≡ false → is_progress (outcome_of deed) ≡ true
 deed_gets_on state h Rests rests running free = absurd (rests running)
 deed_gets_on state h Waits waits running free = true_false (sym waits.waits ∙ free)

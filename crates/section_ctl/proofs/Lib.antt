@@ -1,8 +1,8 @@
 mod PortBytes
 mod Room
 mod Runs
-mod Begins
+pub mod Begins
 mod Drained
 mod Released
-mod Shows
+pub mod Shows
 mod AnyRoom

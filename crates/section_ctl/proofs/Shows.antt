@@ -53,7 +53,7 @@ resident_with_any cache line bit = by (way_of cache line) bit
     by (Some way) bit = refl
 
 -- the cache has the committed bytes wherever what comes next touches memory
-agrees : (committed : FlatState) (h : ℕ) (state : SectionState) (section : Section) (cache : Cached) → IsKept committed h state section cache →
+pub agrees : (committed : FlatState) (h : ℕ) (state : SectionState) (section : Section) (cache : Cached) → IsKept committed h state section cache →
     IsCoveredStep (alone committed h section.count) h section.word cache.residency →
     AgreeBeside committed section.word (touched_by committed state.marks.present) (cached_byte cache)
 agrees committed h state section cache kept covered address there outside =

@@ -3,10 +3,10 @@ pub mod Shapes
 pub mod ShownBytes
 pub mod Beginning
 pub mod GoingOn
-mod Surviving
-mod Releasing
+pub mod Surviving
+pub mod Releasing
 mod OthersViews
 mod Lines
 pub mod Committing
-mod OfProgram
+pub mod OfProgram
 mod Worked

@@ -52,7 +52,7 @@ abbrev pub told : exchanges.Exchange → ℕ → Swap
 told exchange old = record { word = exchange.word; old = old; new = exchange.new }
 
 -- the word that a cached line tells is the committed one
-word_told : (bus : Kept) (state : ModelState) (h address : ℕ) → Shows bus state → IsOnLine state.committed → state.committed.base ≤ address →
+pub word_told : (bus : Kept) (state : ModelState) (h address : ℕ) → Shows bus state → IsOnLine state.committed → state.committed.base ≤ address →
     address % 4 ≡ 0 → is_resident (cache_at bus.copies.caches h).residency (line_number address) ≡ true →
     loaded (slice_index (bytes_of (cache_at bus.copies.caches h) (line_number address))) (address % LINE_BYTES) 4
     ≡ loaded (byte_in state.committed.base state.committed.bytes) address 4

@@ -1,6 +1,6 @@
-mod Origins
-mod NextAction
-mod LittleEndian
-mod CommittedWords
-mod Begins
-mod Elides
+pub mod Origins
+pub mod NextAction
+pub mod LittleEndian
+pub mod CommittedWords
+pub mod Begins
+pub mod Elides

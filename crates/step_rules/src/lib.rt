@@ -16,12 +16,13 @@ mod plain;
 mod upcoming;
 mod words;
 
-pub use in_section::{Progress, SectionRule, section_rule};
+pub use in_section::{Progress, SectionRule, is_covered, section_rule};
 pub use plain::{PlainRule, plain_rule};
 pub use upcoming::{
     Exchange, Swap, Touch, calls_or_stops, exchange_of, is_release, seen_by, stores_to_word,
     touch_of,
 };
+pub use words::word_in;
 
 #[cfg(test)]
 mod tests;

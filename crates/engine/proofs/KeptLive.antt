@@ -1,0 +1,87 @@
+-- what a hart keeps of its live section, and what comes next in it
+use Rattle.std.proofs.Common.{◌≡◌, ◌∙◌, ℕ, ◌-◌, length, Some, ap, sym, subst}
+use Rattle.cached_step.proofs.Told.{byte_told}
+use Rattle.cached_step.specs.Memory.{TellsMemory}
+use Rattle.el_model.specs.InSection.{shown_in}
+use Rattle.el_model.specs.State.{ModelState, Section, cache_of, section_of}
+use Rattle.elf_image.specs.Program.{code_word}
+use Rattle.engine.proofs.InsideRules.{freed_cache}
+use Rattle.engine.proofs.Misses.{freed_here, is_there}
+use Rattle.engine.specs.Acting.{ActsInside, MayAct, cache_in, freed, next_action}
+use Rattle.engine.specs.Parts.{KeepsSection, KeepsSectionOf, Parts, own_at, present_at, room_in}
+use Rattle.engine.specs.Reached.{IsReached}
+use Rattle.run_laws.proofs.Reachable.{live_sections_run_covered}
+use Rattle.run_laws.specs.PrivateRun.{IsCoveredRun}
+use Rattle.rv_alu.specs.Action.{action_at}
+use Rattle.rv_alu.specs.declared.action.Action.{Action}
+use Rattle.rv_flat.specs.FlatState.{output_limit, span_of}
+use Rattle.rv_flat.specs.Step.{action_of}
+use Rattle.section_ctl.specs.PrivateRuns.{HasBytesOf}
+use Rattle.section_ctl.specs.State as sections
+use Rattle.section_ctl.specs.State.{IsLive, SectionState}
+use Rattle.section_view.proofs.Shapes.{comes_to}
+use Rattle.section_view.specs.KeptRun.{HoldsMarked, KeepsRun}
+use Rattle.section_view.specs.Laws.{ComesTo}
+use Rattle.snoop.specs.Shows.{Shows}
+use Rattle.step_rules.specs.Actions.{IsNext}
+
+abbrev pub kept_of : Parts → ℕ → SectionState
+kept_of parts h = (own_at parts.harts h).section
+
+pub record KeepsLive (parts : Parts) (h : ℕ) (from : ModelState) (section : Section) : Type 0 where
+  pub run : IsCoveredRun from.committed h (cache_of from h) section
+  pub keeps : KeepsRun from.committed h section (kept_of parts h).marks.present (kept_of parts h).hold.entries
+  pub marked : HoldsMarked (cache_of from h) (kept_of parts h).hold.entries
+  pub live : (kept_of parts h).live ≡ Some section
+  pub stands : IsLive (kept_of parts h).marks (kept_of parts h).hold section
+  pub cache : (cache_in parts h).residency ≡ cache_of from h
+  pub bytes : HasBytesOf from.committed (cache_in parts h)
+  pub comes : ComesTo from.committed (shown_in from h section) h (kept_of parts h).marks.present
+
+covered : (from : ModelState) (h : ℕ) (section : Section) → IsReached from → section_of from h ≡ Some section →
+    IsCoveredRun from.committed h (cache_of from h) section
+covered from h section reached live =
+    subst (λ s. IsCoveredRun s.committed h (cache_of s h) section) (sym reached.state_is)
+    (live_sections_run_covered reached.program reached.config reached.events h section reached.bytes
+    (subst (λ s. section_of s h ≡ Some section) reached.state_is live))
+
+tells : (parts : Parts) (h : ℕ) (from : ModelState) → Shows parts.bus (freed from h) → TellsMemory parts.bus.copies from.committed
+tells parts h from shows =
+    record { placed = record { first = shows.memory.first; size = shows.memory.lines }; bytes = shows.bytes }
+
+pub keeps_live : (parts : Parts) (h : ℕ) (from : ModelState) (section : Section) → ActsInside parts h from section →
+    KeepsLive parts h from section
+keeps_live parts h from section inside =
+    let may = inside.may in
+    let kept = kept_of parts h in
+    let was = may.is_in.harts h may.exists in
+    let here = freed_here from h (is_there parts from h may) in
+    let live = ap (λ hart. hart.section) here ∙ inside.live in
+    let own_live = was.part.section ∙ live in
+    let told : KeepsSection (freed from h) h section kept = subst (λ l. KeepsSectionOf (freed from h) h l kept) live was.section in
+    let run = covered from h section may.reached inside.live in
+    record {
+      run = run;
+      keeps = told.run;
+      marked = subst (λ c. HoldsMarked c kept.hold.entries) (freed_cache from h h) told.marked;
+      live = own_live;
+      stands = subst (sections.Stands kept.marks kept.hold) own_live was.stands;
+      cache = may.is_in.shows.caches h ∙ freed_cache from h h;
+      bytes = λ address low resident. byte_told parts.bus.copies from.committed h address (tells parts h from may.is_in.shows) low resident;
+      comes = comes_to from.committed h (cache_of from h) section kept.marks.present kept.hold.entries run told.run;
+    }
+
+-- the next action is that of what is committed, for the kept view, and the next one of what the section shows
+pub same_action : (parts : Parts) (h : ℕ) (from : ModelState) → MayAct parts h from →
+    next_action parts h ≡ action_of from.committed (present_at parts.harts h)
+same_action parts h from may =
+    let view = present_at parts.harts h in
+    ap (λ code. action_at (code_word code view.pc) view parts.span (room_in parts)) may.is_in.code
+    ∙ ap (λ span. action_at (code_word from.committed.code view.pc) view span (room_in parts)) may.is_in.span
+    ∙ ap (λ output. action_at (code_word from.committed.code view.pc) view (span_of from.committed) (output_limit - length output)) may.is_in.output
+
+pub next_inside : (parts : Parts) (h : ℕ) (from : ModelState) (section : Section) (action : Action) → ActsInside parts h from section →
+    action ≡ next_action parts h → IsNext action (shown_in from h section) h
+next_inside parts h from section action inside is =
+    let kept = keeps_live parts h from section inside in
+    is ∙ same_action parts h from inside.may ∙ sym kept.comes.action ∙ ap (action_of (shown_in from h section)) kept.keeps.view

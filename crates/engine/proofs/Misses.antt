@@ -1,0 +1,67 @@
+-- the parts after a request was raised
+use Rattle.std.proofs.Common.{◌≡◌, ◌∙◌, ℕ, ◌<◌, None, length, refl, ap, subst, arith}
+use Rattle.std.proofs.lemmas.List.{set-set}
+use Rattle.el_base.specs.declared.outcomes.Need.{Need}
+use Rattle.el_model.proofs.Harts.{hart_of-with_hart_same, with_hart_kept}
+use Rattle.el_model.proofs.Keeps.{keeps_with_hart}
+use Rattle.el_model.specs.Plain.{missed, missed_hart}
+use Rattle.el_model.specs.State.{Hart, ModelState, hart_of, with_hart}
+use Rattle.engine.proofs.Standing.{IsSameHart, with_bus}
+use Rattle.engine.specs.Acting.{MayAct, freed}
+use Rattle.engine.specs.Missing.{MayMiss}
+use Rattle.engine.specs.Parts.{IsIn, Parts}
+use Rattle.snoop.specs.Agent.{agent_at}
+use Rattle.snoop.specs.Shows.{Kept, Shows}
+
+-- the hart is there, in the state too
+pub freed_each : (parts : Parts) (state : ModelState) (h : ℕ) → MayAct parts h state → length parts.harts ≡ length state.harts
+freed_each parts state h may = may.is_in.one_each ∙ (keeps_with_hart state h (record (hart_of state h) { held = None })).count
+
+pub is_there : (parts : Parts) (state : ModelState) (h : ℕ) → MayAct parts h state → h < length state.harts
+is_there parts state h may = subst (λ n. h < n) (freed_each parts state h may) may.exists
+
+pub freed_here : (state : ModelState) (h : ℕ) → h < length state.harts → hart_of (freed state h) h ≡ record (hart_of state h) { held = None }
+freed_here state h below = hart_of-with_hart_same state h (record (hart_of state h) { held = None }) below
+
+-- a hart that becomes another becomes it in place of the freed one
+pub freed_then : (state : ModelState) (h : ℕ) (hart : Hart) → with_hart (freed state h) h hart ≡ with_hart state h hart
+freed_then state h hart =
+    ap (λ harts. record state { harts = harts }) (set-set state.harts h (record (hart_of state h) { held = None }) hart)
+
+-- another hart in the place of one, the same but for what the bus keeps
+pub same_each : (state : ModelState) (h : ℕ) (hart : Hart) → IsSameHart (hart_of state h) hart → (g : ℕ) →
+    IsSameHart (hart_of state g) (hart_of (with_hart state h hart) g)
+same_each state h hart same g = record {
+  section = with_hart_kept (λ k. k.section) state h hart same.section g;
+  cache = with_hart_kept (λ k. k.cache) state h hart same.cache g;
+  predictor = with_hart_kept (λ k. k.predictor) state h hart same.predictor g;
+  fallback = with_hart_kept (λ k. k.fallback) state h hart same.fallback g;
+  tries = with_hart_kept (λ k. k.tries) state h hart same.tries g;
+}
+
+pub has_agent : (parts : Parts) (h line : ℕ) → MayMiss parts h line → h < length parts.bus.agents
+has_agent parts h line may =
+    omega (arith, may.may.exists, may.may.is_in.one_each, may.may.is_in.shows.agent_each)
+
+pub holds_none : (parts : Parts) (h line : ℕ) → MayMiss parts h line → (agent_at parts.bus.agents h).held ≡ None
+holds_none parts h line may =
+    ap (λ agent. agent.held) (may.may.is_in.shows.agents h)
+    ∙ ap (λ hart. hart.held) (freed_here may.from h (is_there parts may.from h may.may))
+
+-- the request was raised from the freed state, as it is from the first one
+missed_is : (state : ModelState) (h line : ℕ) (need : Need) → h < length state.harts →
+    with_hart (freed state h) h (missed_hart h line need (hart_of (freed state h) h)) ≡ (missed state h line need).state
+missed_is state h line need below =
+    ap (λ hart. with_hart (freed state h) h (missed_hart h line need hart)) (freed_here state h below)
+    ∙ freed_then state h (missed_hart h line need (hart_of state h))
+
+pub after_missed : (old : Parts) (bus : Kept) (state : ModelState) (h line : ℕ) (need : Need) → MayAct old h state →
+    ((from : ModelState) → Shows old.bus from → Shows bus (with_hart from h (missed_hart h line need (hart_of from h)))) →
+    IsIn (record old { bus = bus }) (missed state h line need).state
+after_missed old bus state h line need may shows =
+    let from = freed state h in
+    let hart = missed_hart h line need (hart_of from h) in
+    subst (IsIn (record old { bus = bus })) (missed_is state h line need (is_there old state h may))
+    (with_bus old bus from (with_hart from h hart) may.is_in (keeps_with_hart from h hart)
+    (same_each from h hart (record { section = refl; cache = refl; predictor = refl; fallback = refl; tries = refl }))
+    (shows from may.is_in.shows))

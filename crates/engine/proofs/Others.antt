@@ -1,0 +1,156 @@
+-- a step of one hart, as the others come out of it
+use Rattle.std.proofs.Common.{◌≡◌, ◌≢◌, ◌∙◌, ℕ, ◌<◌, length, Option, Some, None, is_some, refl, ap, sym, subst}
+use Rattle.std.specs.Prelude.{IsSome}
+use Rattle.el_base.specs.declared.events.Event.{Event}
+use Rattle.el_base.specs.declared.events.Kind.TheVariants as kinds
+use Rattle.el_model.proofs.Harts.{hart_of-with_hart_other}
+use Rattle.el_model.specs.Next.{next}
+use Rattle.el_model.specs.State.{Hart, ModelState, Section, cache_of, hart_of, section_of}
+use Rattle.engine.proofs.Reaching.{survives_event}
+use Rattle.engine.specs.Acting.{freed}
+use Rattle.engine.specs.Parts.{IsIn, IsOfHart, KeepsSection, KeepsSectionOf, Parts, own_at}
+use Rattle.engine.specs.Reached.{IsReached}
+use Rattle.hart_state.specs.Deeds.{unreserved_own}
+use Rattle.hart_state.specs.Own.{HasOwn, Own}
+use Rattle.reg_mark.proofs.Views.{committed_unreserved}
+use Rattle.reg_mark.specs.Marks.{committed_of, views_unreserved}
+use Rattle.reg_mark.specs.declared.marked.Marked.{Marked}
+use Rattle.rv_alu.specs.Reservations.{unreserved}
+use Rattle.rv_alu.specs.declared.view.HartView.{HartView}
+use Rattle.rv_flat.specs.FlatState.{view_of}
+use Rattle.section_ctl.specs.State as sections
+use Rattle.section_ctl.specs.State.{IsLive}
+use Rattle.section_view.proofs.Surviving.{kept_survive, marks_stay}
+use Rattle.section_view.specs.KeptRun.{HoldsMarked, KeepsRun}
+use Rattle.step_laws.proofs.Frames.{steps_keep_others}
+use Rattle.step_laws.specs.Frames.{LeavesOthers}
+use Rattle.step_laws.specs.Survivors.{Survives}
+use Rattle.write_hold.specs.Held.{Held}
+
+-- the views of a hart, of which at most the committed one has changed: no checkpoint stands as before, or one stands as before, and the
+-- present view beside it has stayed
+pub record KeepsPresent (old new : Marked) : Type 0 where
+  pub unmarked : old.mark ≡ None → new.mark ≡ None
+  pub marked : IsSome old.mark → IsSome new.mark
+  pub present : IsSome old.mark → new.present ≡ old.present
+
+-- what a hart keeps, but that its committed view is this one now
+pub record IsSeenAs (old new : Own) (committed : HartView) : Type 0 where
+  pub rest : new ≡ record old { section = record old.section { marks = new.section.marks } }
+  pub marks : KeepsPresent old.section.marks new.section.marks
+  pub view : committed_of new.section.marks ≡ committed
+
+-- where a section survives, the same present view and the same hold keep it
+keeps_section : (state new : ModelState) (g : ℕ) (section : Section) (old own : Own) → Survives state new g section →
+    KeepsSection state g section old.section → KeepsPresent old.section.marks own.section.marks → own.section.hold ≡ old.section.hold →
+    IsSome old.section.marks.mark → KeepsSection new g section own.section
+keeps_section state new g section old own survives keeps marks hold marked =
+    let bits = marks_stay (cache_of state g) (cache_of new g) old.section.hold.entries survives.keeps.bits.written keeps.marked in
+    record {
+      run =
+          subst (λ present. KeepsRun new.committed g section present own.section.hold.entries) (sym (marks.present marked))
+          (subst (λ held. KeepsRun new.committed g section old.section.marks.present held.entries) (sym hold)
+          (kept_survive g (cache_of state g) section state.committed new.committed old.section.marks.present old.section.hold.entries
+          survives.covered survives.change keeps.marked keeps.run));
+      marked = subst (λ held. HoldsMarked (cache_of new g) held.entries) (sym hold) bits;
+    }
+
+-- what stood keeps standing
+stands_still : (live : Option Section) (hold : Held) (old new : Marked) → KeepsPresent old new → sections.Stands old hold live →
+    sections.Stands new hold live
+stands_still None hold old new marks stands = record { unmarked = marks.unmarked stands.unmarked; empty = stands.empty }
+stands_still (Some section) hold old new marks stands = record {
+  mark = marks.marked stands.mark;
+  running = ap (λ present. present.status) (marks.present stands.mark) ∙ stands.running;
+  aligned = stands.aligned;
+  free = stands.free;
+}
+
+-- what a hart keeps is that of its part of the definition's hart, but that its committed view may have changed
+has_still : (old own : Own) (before after : Hart) (view : HartView) → after ≡ before → IsSeenAs old own view → HasOwn old before → HasOwn own after
+has_still old own before after view same seen has = subst (HasOwn own) (sym same) (subst (λ o. HasOwn o before) (sym seen.rest) (record {
+  section = has.section;
+  predictor = has.predictor;
+  fallback = has.fallback;
+  tries = has.tries;
+}))
+
+-- by whether a section is live
+kept_by : (live : Option Section) (from before new : ModelState) (g : ℕ) (old own : Own) →
+    ((section : Section) → live ≡ Some section → Survives from new g section) → KeepsSectionOf before g live old.section →
+    before.committed ≡ from.committed → cache_of before g ≡ cache_of from g → sections.Stands old.section.marks old.section.hold live →
+    IsSeenAs old own (view_of new.committed g) → KeepsSectionOf new g live own.section
+kept_by None from before new g old own survives keeps committed cache stands seen = tt
+kept_by (Some section) from before new g old own survives keeps committed cache stands seen =
+    keeps_section from new g section old own (survives section refl)
+    (record {
+      run = subst (λ memory. KeepsRun memory g section old.section.marks.present old.section.hold.entries) committed keeps.run;
+      marked = subst (λ c. HoldsMarked c old.section.hold.entries) cache keeps.marked;
+    })
+    seen.marks (ap (λ o. o.section.hold) seen.rest) stands.mark
+
+-- after a step of one hart, what another keeps is what it kept, but that its committed view is that of the state after it
+pub others_stay : (parts : Parts) (from : ModelState) (event : Event) (g : ℕ) (own : Own) → IsReached from →
+    IsIn parts (freed from event.hart.number) → event.kind ≡ kinds.Step → g ≢ event.hart.number → g < length parts.harts →
+    IsSeenAs (own_at parts.harts g) own (view_of (next from event).state.committed g) → IsOfHart (next from event).state g own
+others_stay parts from event g own reached is step other exists seen = record {
+  part = has_still old own (hart_of before g) (hart_of new g) _ (same ∙ sym was_same) seen was.part;
+  view = seen.view;
+  section = subst (λ live. KeepsSectionOf new g live own.section) (sym (ap (λ hart. hart.section) (same ∙ sym was_same)))
+      (kept_by (section_of before g) from before new g old own survive was.section refl (ap (λ hart. hart.cache) was_same) live_stands seen);
+  stands = subst (λ o. sections.Stands own.section.marks o.section.hold o.section.live) (sym seen.rest)
+      (stands_still old.section.live old.section.hold old.section.marks own.section.marks seen.marks was.stands);
+  limit = ap (λ o. o.section.hold.limit) seen.rest ∙ was.limit ∙ ap (λ config. config.lines) (sym left.config);
+}
+  where
+    new : ModelState
+    new = (next from event).state
+
+    before : ModelState
+    before = freed from event.hart.number
+
+    old : Own
+    old = own_at parts.harts g
+
+    was : IsOfHart before g old
+    was = is.harts g exists
+
+    left : LeavesOthers from new event.hart.number
+    left = steps_keep_others from event step
+
+    was_same : hart_of before g ≡ hart_of from g
+    was_same = hart_of-with_hart_other from event.hart.number g _ other
+
+    same : hart_of new g ≡ hart_of from g
+    same = left.others g other
+
+    live_stands : sections.Stands old.section.marks old.section.hold (section_of before g)
+    live_stands = subst (sections.Stands old.section.marks old.section.hold) was.part.section was.stands
+
+    survive : (section : Section) → section_of before g ≡ Some section → Survives from new g section
+    survive section live =
+        let here = sym (ap (λ hart. hart.section) was_same) ∙ live in
+        survives_event from event g section reached (λ _ own_step. other (sym own_step)) here
+        (ap (λ hart. is_some hart.section) same ∙ ap is_some here)
+
+-- a hart that nothing happened to
+pub seen_same : (own : Own) (committed : HartView) → committed_of own.section.marks ≡ committed → IsSeenAs own own committed
+seen_same own committed is = record {
+  rest = refl;
+  marks = record { unmarked = λ none. none; marked = λ some. some; present = λ some. refl };
+  view = is;
+}
+
+-- the views of which the committed one lost its reservation of a word on a line
+unreserved_marks : (line : ℕ) (present : HartView) (mark : Option HartView) →
+    KeepsPresent (record { present = present; mark = mark }) (views_unreserved line mark present)
+unreserved_marks line present None = record { unmarked = λ none. refl; marked = λ some. some; present = λ some. absurd (cc) }
+unreserved_marks line present (Some mark) =
+    record { unmarked = λ none. absurd (cc); marked = λ some. refl; present = λ some. refl }
+
+pub seen_unreserved : (line : ℕ) (own : Own) → IsSeenAs own (unreserved_own line own) (unreserved line (committed_of own.section.marks))
+seen_unreserved line own = record {
+  rest = refl;
+  marks = unreserved_marks line own.section.marks.present own.section.marks.mark;
+  view = committed_unreserved line own.section.marks;
+}

@@ -1,0 +1,183 @@
+-- the rule of a step outside of a section, by what it touches and by the swap that it is
+use Rattle.std.proofs.Common.{◌≡◌, ◌∙◌, ℕ, ◌<◌, Bool, true, false, List, length, Option, Some, None, refl, ap, sym, subst}
+use Rattle.std.specs.Prelude.{if◌then◌else◌, not}
+use Rattle.cache_sets.specs.Cache.{letter_of}
+use Rattle.cache_sets.specs.Cached.{Cached}
+use Rattle.cache_sets.specs.Residency.{Way}
+use Rattle.cached_step.specs.CacheRun.{permitted}
+use Rattle.core_step.specs.Run.{lacking}
+use Rattle.el_base.specs.Line.{line_number}
+use Rattle.el_base.specs.LineAddr.{line_addr}
+use Rattle.el_base.specs.declared.outcomes.Need.{Need}
+use Rattle.el_base.specs.declared.outcomes.Need.TheVariants.{Read, Write}
+use Rattle.el_model.specs.Conflicts.{is_wanted_to_write}
+use Rattle.el_model.specs.Plain.{Begins, Misses, PlainRule, Runs, elidable_swap, may_elide, plain_rule, swap_rule}
+use Rattle.el_model.specs.State.{ModelState, cache_of}
+use Rattle.el_model.specs.Upcoming.{Swap, Touch, changes_word, next_swap, next_touch, touch_of}
+use Rattle.engine.proofs.Misses.{freed_here}
+use Rattle.engine.specs.Acting.{freed}
+use Rattle.moesi.specs.Letters.{may_of, may_read}
+use Rattle.rv_alu.specs.declared.footprint.Access.{Access}
+use Rattle.rv_alu.specs.declared.footprint.Access.TheVariants as accesses
+use Rattle.rv_flat.specs.FlatState.{view_of}
+use Rattle.step_rules.proofs.Begins.{touching_same}
+use Rattle.step_rules.specs.Rules.{touching_rule}
+
+-- the same by a cache, and by which lines another hart waits to write
+abbrev pub swapping_rule : List (List Way) → (ℕ → Bool) → Option Touch → Option Swap → PlainRule
+swapping_rule cache wanted touch None = touching_rule cache touch
+swapping_rule cache wanted touch (Some swap) =
+    if not (may_read (letter_of cache (line_number swap.word))) then Misses (line_number swap.word) Read
+    else if not (changes_word swap) then touching_rule cache touch
+    else if wanted (line_number swap.word) then Misses (line_number swap.word) Read
+    else Begins swap
+
+pub swapping_same : (state : ModelState) (h : ℕ) (swap : Option Swap) →
+    swap_rule state h swap
+    ≡ swapping_rule (cache_of state h) (λ line. is_wanted_to_write state h line) (next_touch state.committed h) swap
+swapping_same state h None = sym (touching_same state h (next_touch state.committed h))
+swapping_same state h (Some swap) =
+    ap (λ rule. if not (may_read (letter_of (cache_of state h) (line_number swap.word))) then Misses (line_number swap.word) Read
+    else if not (changes_word swap) then rule
+    else if is_wanted_to_write state h (line_number swap.word) then Misses (line_number swap.word) Read
+    else Begins swap) (sym (touching_same state h (next_touch state.committed h)))
+
+-- it is the same once the hart has given up what it held
+pub freed_rule : (state : ModelState) (h : ℕ) → h < length state.harts → plain_rule (freed state h) h ≡ plain_rule state h
+freed_rule state h below =
+    swapping_same (freed state h) h (elidable_swap (freed state h) h)
+    ∙ ap (λ hart. swapping_rule hart.cache (λ line. is_wanted_to_write state h line) (next_touch state.committed h)
+    (if may_elide state.config.mode hart (view_of state.committed h).pc then next_swap state.committed h else None))
+    (freed_here state h below)
+    ∙ sym (swapping_same state h (elidable_swap state h))
+
+-- where it runs, what it touches may be touched
+pub runs_touch : (cache : List (List Way)) (wanted : ℕ → Bool) (touch : Option Touch) (swap : Option Swap) (t : Option Touch) →
+    swapping_rule cache wanted touch swap ≡ Runs t → touching_rule cache touch ≡ Runs t
+runs_touch cache wanted touch None t is = is
+runs_touch cache wanted touch (Some swap) t is =
+    by (may_read (letter_of cache (line_number swap.word))) (changes_word swap) (wanted (line_number swap.word)) is
+  where
+    by : (may changes waits : Bool) →
+        (if not may then Misses (line_number swap.word) Read
+        else if not changes then touching_rule cache touch
+        else if waits then Misses (line_number swap.word) Read
+        else Begins swap)
+        ≡ Runs t →
+        touching_rule cache touch ≡ Runs t
+    by false changes waits is = absurd (cc)
+    by true false waits is = is
+    by true true true is = absurd (cc)
+    by true true false is = absurd (cc)
+
+pub same_touch : (cache : List (List Way)) (touch t : Option Touch) → touching_rule cache touch ≡ Runs t → t ≡ touch
+same_touch cache None t is = of is
+  where
+    of : Runs None ≡ Runs t → t ≡ None
+    of is = cc
+same_touch cache (Some touch) t is = by (may_of (letter_of cache touch.line) touch.need) is
+  where
+    by : (may : Bool) → (if may then Runs (Some touch) else Misses touch.line touch.need) ≡ Runs t → t ≡ Some touch
+    by true is = cc
+    by false is = absurd (cc)
+
+lacks_by : {A : Type 0} (may : Bool) (touch : Touch) (t : Option Touch) (want : A) →
+    (if may then Runs (Some touch) else Misses touch.line touch.need) ≡ Runs t → (if may then None else Some want) ≡ None
+lacks_by true touch t want is = refl
+lacks_by false touch t want is = absurd (cc)
+
+pub lacks_none : (cache : Cached) (access : Access) (t : Option Touch) → touching_rule cache.residency (touch_of access) ≡ Runs t →
+    lacking (permitted cache) access ≡ None
+lacks_none cache (accesses.Read from len) t is =
+    lacks_by (permitted cache (line_number from) Read) (record { line = line_number from; need = Read }) t
+    (record { line = line_addr (line_number from); need = Read }) is
+lacks_none cache (accesses.Write from len) t is =
+    lacks_by (permitted cache (line_number from) Write) (record { line = line_number from; need = Write }) t
+    (record { line = line_addr (line_number from); need = Write }) is
+lacks_none cache accesses.Nothing t is = refl
+lacks_none cache (accesses.Trap cause) t is = refl
+lacks_none cache (accesses.Exit code) t is = refl
+
+-- where it misses, the line is the one that it touches, of which a swap touches its word's
+abbrev pub TouchesWord : Option Swap → Option Touch → Type 0
+TouchesWord None touch = Unit {0}
+TouchesWord (Some swap) touch = touch ≡ Some (record { line = line_number swap.word; need = Write })
+
+abbrev pub TouchesLine : Option Touch → ℕ → Type 0
+TouchesLine None line = ⊥
+TouchesLine (Some touch) line = touch.line ≡ line
+
+touch_missed : (cache : List (List Way)) (touch : Option Touch) (line : ℕ) (need : Need) → touching_rule cache touch ≡ Misses line need →
+    TouchesLine touch line
+touch_missed cache None line need is = absurd (of is)
+  where
+    of : Runs None ≡ Misses line need → ⊥
+    of is = cc
+touch_missed cache (Some touch) line need is = by (may_of (letter_of cache touch.line) touch.need) is
+  where
+    by : (may : Bool) → (if may then Runs (Some touch) else Misses touch.line touch.need) ≡ Misses line need → touch.line ≡ line
+    by true is = absurd (cc)
+    by false is = cc
+
+pub misses_touch : (cache : List (List Way)) (wanted : ℕ → Bool) (touch : Option Touch) (swap : Option Swap) (line : ℕ) (need : Need) →
+    TouchesWord swap touch → swapping_rule cache wanted touch swap ≡ Misses line need → TouchesLine touch line
+misses_touch cache wanted touch None line need word is = touch_missed cache touch line need is
+misses_touch cache wanted touch (Some swap) line need word is =
+    by (may_read (letter_of cache (line_number swap.word))) (changes_word swap) (wanted (line_number swap.word)) is
+  where
+    own : Misses (line_number swap.word) Read ≡ Misses line need → TouchesLine touch line
+    own is = subst (λ t. TouchesLine t line) (sym word) (of is)
+      where
+        of : Misses (line_number swap.word) Read ≡ Misses line need → line_number swap.word ≡ line
+        of is = cc
+
+    by : (may changes waits : Bool) →
+        (if not may then Misses (line_number swap.word) Read
+        else if not changes then touching_rule cache touch
+        else if waits then Misses (line_number swap.word) Read
+        else Begins swap)
+        ≡ Misses line need →
+        TouchesLine touch line
+    by false changes waits is = own is
+    by true false waits is = touch_missed cache touch line need is
+    by true true true is = own is
+    by true true false is = absurd (cc)
+
+-- where a section begins, it does so at the swap, whose line may be read
+pub record BeginsAt (cache : List (List Way)) (found : Option Swap) (swap : Swap) : Type 0 where
+  pub found_is : found ≡ Some swap
+  pub may : may_read (letter_of cache (line_number swap.word)) ≡ true
+
+never_begins : (cache : List (List Way)) (touch : Option Touch) (swap : Swap) → touching_rule cache touch ≡ Begins swap → ⊥
+never_begins cache None swap is = of is
+  where
+    of : Runs None ≡ Begins swap → ⊥
+    of is = cc
+never_begins cache (Some touch) swap is = by (may_of (letter_of cache touch.line) touch.need) is
+  where
+    by : (may : Bool) → (if may then Runs (Some touch) else Misses touch.line touch.need) ≡ Begins swap → ⊥
+    by true is = cc
+    by false is = cc
+
+pub begins_swap : (cache : List (List Way)) (wanted : ℕ → Bool) (touch : Option Touch) (found : Option Swap) (swap : Swap) →
+    swapping_rule cache wanted touch found ≡ Begins swap → BeginsAt cache found swap
+begins_swap cache wanted touch None swap is = absurd (never_begins cache touch swap is)
+begins_swap cache wanted touch (Some found) swap is =
+    by (may_read (letter_of cache (line_number found.word))) (changes_word found) (wanted (line_number found.word)) refl is
+  where
+    by : (may changes waits : Bool) → may_read (letter_of cache (line_number found.word)) ≡ may →
+        (if not may then Misses (line_number found.word) Read
+        else if not changes then touching_rule cache touch
+        else if waits then Misses (line_number found.word) Read
+        else Begins found)
+        ≡ Begins swap →
+        BeginsAt cache (Some found) swap
+    by false changes waits readable is = absurd (cc)
+    by true false waits readable is = absurd (never_begins cache touch swap is)
+    by true true true readable is = absurd (cc)
+    by true true false readable is =
+        let same = of is in
+        record { found_is = ap Some same; may = ap (λ s. may_read (letter_of cache (line_number s.word))) (sym same) ∙ readable }
+      where
+        of : Begins found ≡ Begins swap → found ≡ swap
+        of is = cc

@@ -1,0 +1,214 @@
+-- what an action leaves that ran in the cache of its hart, from a state in which the hart acts outside of a section
+use Rattle.std.proofs.Common.{◌≡◌, ◌∙◌, ℕ, Bool, true, Option, Some, None, is_some, refl, ap, sym, subst}
+use Rattle.cache_sets.specs.Cache.{is_resident}
+use Rattle.cache_sets.specs.Cached.{Cached}
+use Rattle.cached_step.proofs.CachedBytes.{same_bytes}
+use Rattle.cached_step.proofs.Rooms.{stays_in_form}
+use Rattle.cached_step.proofs.Told.{performs_flat, tells_memory_after}
+use Rattle.step_rules.proofs.Begins.{readable_there}
+use Rattle.cached_step.specs.CacheRun.{HasRun, cached_byte, permitted}
+use Rattle.coherence.proofs.Fetched.{copy_resident}
+use Rattle.coherence.proofs.GivenBackLaws.{copy_tells}
+use Rattle.coherence.proofs.Owners.{copy_is}
+use Rattle.coherence.specs.GivenBack.{copies_with}
+use Rattle.coherence.specs.Served.{TellsOf}
+use Rattle.core_step.proofs.Runs.{is_permitted}
+use Rattle.core_step.specs.Run.{lacking}
+use Rattle.el_base.specs.Line.{line_number}
+use Rattle.el_base.specs.declared.outcomes.Need.TheVariants.{Read}
+use Rattle.el_model.specs.Plain.{after_candidate, after_touch, candidate_of, ran_hart, watched}
+use Rattle.el_model.specs.State.{Hart, ModelState, hart_of}
+use Rattle.el_model.specs.Upcoming.{Swap, touch_of}
+use Rattle.engine.proofs.LeftBehind.{TellsPiece}
+use Rattle.engine.proofs.Misses.{freed_here, freed_then}
+use Rattle.engine.proofs.StandsOutside.{action_is, has_cache, in_memory, inside, none_marked, runs_there, tells_memory, view_is}
+use Rattle.engine.specs.Acting.{ActsOutside, cache_in, freed, next_action}
+use Rattle.engine.specs.Effect.{CanAppend}
+use Rattle.engine.specs.Outside.{execution_in}
+use Rattle.engine.specs.Parts.{Parts, present_at, room_in}
+use Rattle.hart_state.specs.Deeds.{candidate_own, ran_own}
+use Rattle.hart_state.specs.Own.{Own}
+use Rattle.rv_alu.specs.Execution.{perform, store_in}
+use Rattle.rv_alu.specs.Footprint.{IsInPlace, footprint}
+use Rattle.rv_alu.specs.declared.action.Action.{Action}
+use Rattle.rv_alu.specs.declared.action.Action.TheVariants as actions
+use Rattle.rv_alu.specs.declared.span.Span.{Span}
+use Rattle.rv_flat.proofs.StepLaws.{keeps_shape, running}
+use Rattle.rv_flat.specs.FlatState.{room_of, span_of, view_of}
+use Rattle.rv_flat.specs.Step.{action_of, applied, execution_of, flat}
+use Rattle.snoop.proofs.Returning.{ready_returned, shows_returned}
+use Rattle.snoop.specs.Agent.{agent_of}
+use Rattle.snoop.specs.Asking.{HasNoRequest}
+use Rattle.snoop.specs.Returned.{IsReturnedAs, returned, state_with}
+use Rattle.snoop.specs.Shows.{IsReady, Shows, line_of}
+use Rattle.coherence.proofs.LineLaws.{none_is}
+
+-- what a candidate leaves of a hart, and learning of what the hart keeps
+candidate_agent : (pc : ℕ) (had : Bool) (swap : Option Swap) (hart : Hart) → agent_of (after_candidate pc had swap hart) ≡ agent_of hart
+candidate_agent pc had None hart = refl
+candidate_agent pc had (Some swap) hart = refl
+
+candidate_cache : (pc : ℕ) (had : Bool) (swap : Option Swap) (hart : Hart) → (after_candidate pc had swap hart).cache ≡ hart.cache
+candidate_cache pc had None hart = refl
+candidate_cache pc had (Some swap) hart = refl
+
+candidate_section : (pc : ℕ) (had : Bool) (swap : Option Swap) (hart : Hart) → (after_candidate pc had swap hart).section ≡ hart.section
+candidate_section pc had None hart = refl
+candidate_section pc had (Some swap) hart = refl
+
+candidate_kept : (pc : ℕ) (had : Bool) (swap : Option Swap) (own : Own) → (candidate_own pc had swap own).section ≡ own.section
+candidate_kept pc had None own = refl
+candidate_kept pc had (Some swap) own = refl
+
+pub ran_kept : (state : ModelState) (h : ℕ) (own : Own) → (ran_own state h own).section ≡ own.section
+ran_kept state h own =
+    candidate_kept (view_of state.committed h).pc (is_some own.predictor.watch) (candidate_of state h)
+    (record own { predictor = watched state h own.predictor own.predictor.watch })
+
+-- the hart then
+abbrev pub hart_ran : ModelState → ℕ → Action → Hart
+hart_ran state h action = ran_hart state h (touch_of (footprint action)) (hart_of state h)
+
+-- the state then
+abbrev pub state_ran : ModelState → ℕ → Action → ModelState
+state_ran state h action = state_with state h (hart_ran state h action) (flat state.committed h)
+
+abbrev seen_hart : ModelState → ℕ → Action → Hart
+seen_hart state h action =
+    let hart = hart_of state h in
+    record hart {
+      held = None;
+      cache = after_touch hart.cache (touch_of (footprint action));
+      predictor = watched state h hart.predictor hart.predictor.watch;
+    }
+
+module _ (parts : Parts) (h : ℕ) (state : ModelState) (action : Action) (acts : ActsOutside parts h state)
+    (is : action ≡ next_action parts h) (place : IsInPlace parts.span (room_in parts) action)
+    (none : lacking (permitted (cache_in parts h)) (footprint action) ≡ None) (cache : Cached)
+    (run : HasRun (cache_in parts h) cache action (store_in (execution_in parts h action))) where
+  -- over the cache it does what it does over plain memory
+  pub same_execution : execution_in parts h action ≡ execution_of state.committed (view_of state.committed h)
+  same_execution =
+      let view = view_of state.committed h in
+      let bytes = cached_byte (cache_in parts h) in
+      let same : action ≡ action_of state.committed view = is ∙ action_is parts h state acts in
+      ap (λ v. perform action v bytes) (view_is parts h state acts)
+      ∙ ap (λ a. perform a view bytes) same
+      ∙ performs_flat parts.bus.copies state.committed h view (tells_memory parts h state acts)
+      (subst (IsInPlace (span_of state.committed) (room_of state.committed)) same (in_memory parts h state acts action place))
+      (subst (λ a. lacking (permitted (cache_in parts h)) (footprint a) ≡ None) same none)
+
+  -- caches and main memory tell the bytes after it
+  pub tells_after : TellsOf (copies_with parts.bus.copies h cache) (line_of (flat state.committed h))
+  tells_after =
+      let view = present_at parts.harts h in
+      let after =
+      tells_memory_after parts.bus.copies state.committed h (room_of state.committed) cache action view (cached_byte (cache_in parts h))
+      (tells_memory parts h state acts) (in_memory parts h state acts action place) run in
+      subst (λ s. TellsOf (copies_with parts.bus.copies h cache) (line_of s))
+      (ap (λ v. applied state.committed h v (execution_in parts h action)) (view_is parts h state acts)
+      ∙ ap (applied state.committed h (view_of state.committed h)) same_execution
+      ∙ sym (running state.committed h (runs_there parts h state acts)))
+      after.bytes
+
+  agent_stays : agent_of (hart_ran state h action) ≡ agent_of (hart_of (freed state h) h)
+  agent_stays =
+      candidate_agent (view_of state.committed h).pc (is_some (hart_of state h).predictor.watch) (candidate_of state h)
+      (seen_hart state h action)
+      ∙ ap agent_of (sym (freed_here state h (inside parts h state acts)))
+
+  cache_is : (hart_ran state h action).cache ≡ cache.residency
+  cache_is =
+      candidate_cache (view_of state.committed h).pc (is_some (hart_of state h).predictor.watch) (candidate_of state h)
+      (seen_hart state h action)
+      ∙ ap (λ c. after_touch c (touch_of (footprint action)))
+      (sym (acts.may.is_in.shows.caches h ∙ ap (λ hart. hart.cache) (freed_here state h (inside parts h state acts))))
+      ∙ sym run.residency
+
+  pub section_none : (hart_ran state h action).section ≡ None
+  section_none =
+      candidate_section (view_of state.committed h).pc (is_some (hart_of state h).predictor.watch) (candidate_of state h)
+      (seen_hart state h action)
+      ∙ acts.no_section
+
+  returns_as : IsReturnedAs parts.bus (freed state h) h cache (hart_ran state h action) (flat state.committed h)
+  returns_as =
+      let keeps = keeps_shape state.committed h in
+      record {
+        agent = agent_stays;
+        ways = run.ways;
+        residency = cache_is;
+        live =
+            ap is_some section_none
+            ∙ sym ((stays_in_form (cache_in parts h) cache action _ (acts.may.ready.well_formed h (has_cache parts h state acts)) run).marks
+            ∙ none_marked parts h state acts);
+        memory = record {
+          first = acts.may.is_in.shows.memory.first ∙ sym keeps.base;
+          lines = acts.may.is_in.shows.memory.lines ∙ sym keeps.length_of_bytes;
+        };
+        bytes = tells_after;
+      }
+
+  pub ran_shows : Shows (returned parts.bus h cache) (state_ran state h action)
+  ran_shows =
+      subst (Shows (returned parts.bus h cache))
+      (ap {A = ModelState} (λ s. record s { committed = flat state.committed h }) (freed_then state h (hart_ran state h action)))
+      (shows_returned parts.bus (freed state h) h cache (hart_ran state h action) (flat state.committed h) (has_cache parts h state acts)
+      acts.may.is_in.shows returns_as)
+
+  pub ran_ready : HasNoRequest parts.bus h → IsReady (returned parts.bus h cache)
+  ran_ready none_asked =
+      ready_returned parts.bus h cache (has_cache parts h state acts) acts.may.ready
+      (record {
+        coherent = record { bytes = line_of (flat state.committed h); tells = tells_after };
+        well_formed = (stays_in_form (cache_in parts h) cache action _ (acts.may.ready.well_formed h (has_cache parts h state acts)) run).well_formed;
+        raised = λ request found. none_is request (sym none_asked.none_raised ∙ found);
+        ordered = λ request found. none_is request (sym none_asked.none_ordered ∙ found);
+      })
+
+-- the bytes that an action appends are there, and are those of memory
+append_there : (parts : Parts) (h address len : ℕ) → lacking (permitted (cache_in parts h)) (footprint (actions.Append address len)) ≡ None →
+    is_resident (cache_in parts h).residency (line_number address) ≡ true
+append_there parts h address len none =
+    readable_there (cache_in parts h).residency (line_number address) (is_permitted (permitted (cache_in parts h)) (line_number address) Read none)
+
+pub can_append : (parts : Parts) (h room : ℕ) (span : Span) (action : Action) (cache : Cached) → IsInPlace span room action →
+    lacking (permitted (cache_in parts h)) (footprint action) ≡ None →
+    HasRun (cache_in parts h) cache action (store_in (execution_in parts h action)) → CanAppend cache room action
+can_append parts h room span (actions.Append address len) cache place none run = record {
+  resident = copy_resident cache (line_number address) _ (run.copies (line_number address)
+      ∙ copy_is (cache_in parts h) (line_number address) (append_there parts h address len none));
+  one_line = place.0.one_line;
+  room = place.1;
+}
+can_append parts h room span (actions.Trap cause) cache place none run = tt
+can_append parts h room span (actions.Exit code) cache place none run = tt
+can_append parts h room span (actions.Put rd value) cache place none run = tt
+can_append parts h room span (actions.JumpAndLink rd target) cache place none run = tt
+can_append parts h room span (actions.Go target) cache place none run = tt
+can_append parts h room span (actions.Answer value) cache place none run = tt
+can_append parts h room span (actions.Load width rd address) cache place none run = tt
+can_append parts h room span (actions.LoadReserved rd address) cache place none run = tt
+can_append parts h room span (actions.Store address len value) cache place none run = tt
+can_append parts h room span (actions.StoreConditional rd address value) cache place none run = tt
+can_append parts h room span (actions.Fail rd) cache place none run = tt
+can_append parts h room span (actions.Amo op rd address source) cache place none run = tt
+
+pub tells_piece : (parts : Parts) (h : ℕ) (state : ModelState) (action : Action) (cache : Cached) → ActsOutside parts h state →
+    lacking (permitted (cache_in parts h)) (footprint action) ≡ None →
+    HasRun (cache_in parts h) cache action (store_in (execution_in parts h action)) → TellsPiece cache state.committed action
+tells_piece parts h state (actions.Append address len) cache acts none run =
+    same_bytes (cache_in parts h) cache (line_number address) (run.copies (line_number address))
+    ∙ copy_tells parts.bus.copies h (line_number address) (line_of state.committed) acts.may.is_in.shows.bytes (append_there parts h address len none)
+tells_piece parts h state (actions.Trap cause) cache acts none run = tt
+tells_piece parts h state (actions.Exit code) cache acts none run = tt
+tells_piece parts h state (actions.Put rd value) cache acts none run = tt
+tells_piece parts h state (actions.JumpAndLink rd target) cache acts none run = tt
+tells_piece parts h state (actions.Go target) cache acts none run = tt
+tells_piece parts h state (actions.Answer value) cache acts none run = tt
+tells_piece parts h state (actions.Load width rd address) cache acts none run = tt
+tells_piece parts h state (actions.LoadReserved rd address) cache acts none run = tt
+tells_piece parts h state (actions.Store address len value) cache acts none run = tt
+tells_piece parts h state (actions.StoreConditional rd address value) cache acts none run = tt
+tells_piece parts h state (actions.Fail rd) cache acts none run = tt
+tells_piece parts h state (actions.Amo op rd address source) cache acts none run = tt

@@ -1,0 +1,194 @@
+-- the parts after a hart has rolled its section back
+use Rattle.std.proofs.Common.{◌≡◌, ◌∙◌, ℕ, ◌<◌, ◌≤◌, length, None, refl, ap, sym, subst, arith}
+use Rattle.std.specs.Prelude.{slice_set}
+use Rattle.std.below.core.specs.declared.int.u64.TheConstants.{MAX}
+use Rattle.std.proofs.lemmas.List.{get_or-set_other, get_or-set_same, length-set}
+use Rattle.cache_sets.proofs.MarkLemmas.{has_marks-cleared}
+use Rattle.cache_sets.proofs.WellFormedLemmas.{well_formed-cleared}
+use Rattle.cache_sets.specs.Cache.{cleared, has_marks}
+use Rattle.cache_sets.specs.Cached.{Cached}
+use Rattle.cache_sets.specs.Calls.{IsCleared}
+use Rattle.cache_sets.specs.WellFormed.{IsWellFormed}
+use Rattle.coherence.specs.Caches.{cache_at}
+use Rattle.el_base.proofs.Ranges.{at_most, ranges}
+use Rattle.el_base.specs.declared.config.TheConstants.{MAX_STEPS}
+use Rattle.el_base.specs.declared.hart_id.HartId.{HartId}
+use Rattle.el_base.specs.declared.outcomes.Cause.{Cause}
+use Rattle.el_base.specs.declared.outcomes.Cause.TheVariants.{Room}
+use Rattle.el_base.specs.declared.outcomes.Outcome.TheVariants.{RolledBack}
+use Rattle.el_model.proofs.Harts.{hart_of-with_hart_same}
+use Rattle.el_model.specs.Attempts.{close_attempt}
+use Rattle.el_model.specs.InSection.{RollsBack, by_section_rule, section_rule, section_turn}
+use Rattle.el_model.specs.RollBack.{rolled_back}
+use Rattle.el_model.specs.State.{Hart, ModelState, Section, hart_of, with_hart}
+use Rattle.engine.proofs.Misses.{freed_here, freed_then, is_there}
+use Rattle.engine.proofs.Others.{IsSeenAs, seen_same}
+use Rattle.engine.proofs.Stepped.{HasSameCopies, HasStepped, IsBetween, after_step, StaysInPlace, ready_between, set_twice}
+use Rattle.engine.proofs.Stepped.{shows_between, stays_in_place}
+use Rattle.engine.specs.Acting.{MayAct, freed}
+use Rattle.engine.specs.Inside.{FollowsRule}
+use Rattle.engine.specs.Parts.{IsIn, IsOfHart, KeepsSectionOf, Parts, own_at}
+use Rattle.engine.specs.Reached.{IsReached}
+use Rattle.hart_state.proofs.Harts.{rolled_back_is}
+use Rattle.hart_state.specs.Deeds.{rolled_back_own}
+use Rattle.hart_state.specs.Own.{HasOwn, committed_pc, new_own}
+use Rattle.rv_flat.specs.FlatState.{no_hart, view_of}
+use Rattle.snoop.specs.Agent.{agent_at}
+use Rattle.snoop.specs.Returned.{returned}
+use Rattle.snoop.specs.Shows.{IsReady, Kept, Shows}
+use Rattle.step_laws.proofs.Clocks.{clocks_are_few}
+use Rattle.step_laws.specs.Clocks.{AreClocksUpTo}
+
+-- the hart then
+abbrev hart_then : ModelState → ℕ → Cause → Hart
+hart_then from h cause = rolled_back cause (view_of from.committed h).pc (record (hart_of from h) { held = None })
+
+by_rule : (from : ModelState) (h : ℕ) (section : Section) (cause : Cause) → by_section_rule from h section (RollsBack cause) ≡
+    record { state = with_hart from h (hart_then from h cause); outcome = RolledBack cause }
+unfolding by_section_rule
+by_rule from h section cause = refl
+
+pub rolls_turn : (from : ModelState) (h : ℕ) (section : Section) (cause : Cause) → section_rule from h section ≡ RollsBack cause →
+    section_turn from h section ≡ record { state = with_hart from h (hart_then from h cause); outcome = RolledBack cause }
+unfolding section_turn
+rolls_turn from h section cause is = ap (by_section_rule from h section) is ∙ by_rule from h section cause
+
+-- no clock comes near to the last one
+clocks_up_to : (from : ModelState) (reached : IsReached from) → AreClocksUpTo (length reached.events) from
+clocks_up_to from reached =
+    subst (AreClocksUpTo (length reached.events)) (sym reached.state_is) (clocks_are_few reached.program reached.config reached.events)
+
+few_events : (from : ModelState) (reached : IsReached from) → length reached.events ≤ MAX_STEPS
+few_events from reached =
+    let most = at_most 1 MAX_STEPS reached.config.steps (ranges reached.config reached.in_range).steps in
+    omega (arith, reached.within, most)
+
+pub clock_small : (parts : Parts) (h : ℕ) (from : ModelState) → MayAct parts h from → (agent_at parts.bus.agents h).clock < MAX
+clock_small parts h from may =
+    let small = (clocks_up_to from may.reached).harts h in
+    let few = few_events from may.reached in
+    let same : (agent_at parts.bus.agents h).clock ≡ (hart_of from h).clock =
+    ap (λ agent. agent.clock) (may.is_in.shows.agents h) ∙ ap (λ hart. hart.clock) (freed_here from h (is_there parts from h may)) in
+    omega (arith, small.of_clock, few, same)
+
+pub seen_small : (parts : Parts) (h : ℕ) (from : ModelState) → MayAct parts h from → (agent_at parts.bus.agents h).seen < MAX
+seen_small parts h from may =
+    let small = (clocks_up_to from may.reached).harts h in
+    let few = few_events from may.reached in
+    let same : (agent_at parts.bus.agents h).seen ≡ (hart_of from h).seen =
+    ap (λ agent. agent.seen) (may.is_in.shows.agents h) ∙ ap (λ hart. hart.seen) (freed_here from h (is_there parts from h may)) in
+    omega (arith, small.of_seen, few, same)
+
+-- an attempt that closes as the line is given up
+pub between : (parts : Parts) (bus : Kept) (h : ℕ) (from : ModelState) → MayAct parts h from →
+    Shows bus (with_hart (freed from h) h (close_attempt (hart_of (freed from h) h))) →
+    IsBetween bus from (with_hart (freed from h) h (close_attempt (hart_of (freed from h) h))) h
+    (close_attempt (record (hart_of from h) { held = None }))
+between parts bus h from may shows =
+    let below = is_there parts from h may in
+    record {
+      shows = shows;
+      here = hart_of-with_hart_same (freed from h) h _ (subst (λ n. h < n) (sym (length-set from.harts h _)) below)
+          ∙ ap close_attempt (freed_here from h below);
+      becomes = λ now. set_twice (freed from h) h _ now ∙ freed_then from h now;
+      same = refl;
+    }
+
+has_cleared : (bus : Kept) (h : ℕ) (from between : ModelState) (cause : Cause) (cache : Cached) →
+    IsBetween bus from between h (close_attempt (record (hart_of from h) { held = None })) →
+    IsCleared (cache_at bus.copies.caches h) cache → HasSameCopies bus h cache (hart_then from h cause)
+has_cleared bus h from between cause cache is clears = record {
+  ways = clears.ways;
+  residency = ap (λ c. cleared c) (sym (is.shows.caches h ∙ ap (λ hart. hart.cache) is.here)) ∙ sym clears.residency;
+  live = sym (ap has_marks clears.residency ∙ has_marks-cleared (cache_at bus.copies.caches h).residency);
+  copies = clears.copies;
+}
+
+-- the parts then
+abbrev parts_then : Parts → Kept → ℕ → Cached → Cause → Parts
+parts_then old bus h cache cause = record old {
+  bus = returned bus h cache;
+  harts = slice_set old.harts h (rolled_back_own cause (own_at old.harts h));
+}
+
+own_then : (old : Parts) (from : ModelState) (h : ℕ) (cause : Cause) → MayAct old h from →
+    IsOfHart (with_hart from h (hart_then from h cause)) h (rolled_back_own cause (own_at old.harts h))
+own_then old from h cause may =
+    let own = own_at old.harts h in
+    let was = may.is_in.harts h may.exists in
+    let below = is_there old from h may in
+    let here = hart_of-with_hart_same from h (hart_then from h cause) below in
+    let part : HasOwn own (record (hart_of from h) { held = None }) = subst (HasOwn own) (freed_here from h below) was.part in
+    let pc : committed_pc own ≡ (view_of from.committed h).pc = ap (λ view. view.pc) was.view in
+    record {
+      part = subst (HasOwn (rolled_back_own cause own)) (sym here)
+          (subst (λ p. HasOwn (rolled_back_own cause own) (rolled_back cause p (record (hart_of from h) { held = None }))) pc
+          (rolled_back_is cause own (record (hart_of from h) { held = None }) part));
+      view = was.view;
+      section = subst (λ live. KeepsSectionOf (with_hart from h (hart_then from h cause)) h live (rolled_back_own cause own).section)
+          (sym (ap (λ hart. hart.section) here)) tt;
+      stands = record { unmarked = refl; empty = refl };
+      limit = was.limit;
+    }
+
+rolls_stepped : (old : Parts) (bus : Kept) (from : ModelState) (h : ℕ) (cache : Cached) (cause : Cause) → MayAct old h from →
+    Shows (returned bus h cache) (with_hart from h (hart_then from h cause)) →
+    HasStepped old (parts_then old bus h cache cause) h (with_hart from h (hart_then from h cause))
+rolls_stepped old bus from h cache cause may shows =
+    let own = rolled_back_own cause (own_at old.harts h) in
+    let none = new_own no_hart 0 in
+    record {
+      config = refl;
+      span = refl;
+      code = refl;
+      output = refl;
+      shows = shows;
+      each = length-set old.harts h own;
+      own = subst (IsOfHart (with_hart from h (hart_then from h cause)) h) (sym (get_or-set_same old.harts h own none may.exists))
+          (own_then old from h cause may);
+      others = λ g other exists. subst (λ o. IsSeenAs (own_at old.harts g) o (view_of from.committed g))
+          (sym (get_or-set_other old.harts h g own none other))
+          (seen_same (own_at old.harts g) (view_of from.committed g) (may.is_in.harts g exists).view);
+    }
+
+inside_bus : (parts : Parts) (bus : Kept) (h : ℕ) (from between : ModelState) (hart : Hart) → MayAct parts h from →
+    IsBetween bus from between h hart → length between.harts ≡ length from.harts → h < length bus.copies.caches
+inside_bus parts bus h from between hart may is count =
+    subst (λ n. h < n) (sym (is.shows.cache_each ∙ count)) (is_there parts from h may)
+
+count_between : (from : ModelState) (h : ℕ) (hart : Hart) → length (with_hart (freed from h) h hart).harts ≡ length from.harts
+count_between from h hart = length-set (freed from h).harts h hart ∙ length-set from.harts h _
+
+-- the bus has the hart's cache, and is ready again
+pub has_cache : (parts : Parts) (bus : Kept) (h : ℕ) (from : ModelState) → MayAct parts h from →
+    Shows bus (with_hart (freed from h) h (close_attempt (hart_of (freed from h) h))) → h < length bus.copies.caches
+has_cache parts bus h from may shows =
+    inside_bus parts bus h from _ _ may (between parts bus h from may shows) (count_between from h _)
+
+pub rolled_ready : (parts : Parts) (bus : Kept) (h : ℕ) (from : ModelState) (cache : Cached) → MayAct parts h from → IsReady bus →
+    Shows bus (with_hart (freed from h) h (close_attempt (hart_of (freed from h) h))) → IsCleared (cache_at bus.copies.caches h) cache →
+    IsReady (returned bus h cache)
+rolled_ready parts bus h from cache may ready shows clears =
+    let is = between parts bus h from may shows in
+    let inside = has_cache parts bus h from may shows in
+    let formed = well_formed-cleared (cache_at bus.copies.caches h).ways (cache_at bus.copies.caches h).residency (ready.well_formed h inside) in
+    ready_between bus from _ h cache _ (hart_then from h Room) inside ready is refl refl may.free
+    (subst (λ ways. IsWellFormed ways cache.residency) (sym clears.ways)
+    (subst (IsWellFormed (cache_at bus.copies.caches h).ways) (sym clears.residency) formed))
+    (has_cleared bus h from _ Room cache is clears)
+
+pub rolled_in : (old : Parts) (bus : Kept) (hart : HartId) (from : ModelState) (section : Section) (cache : Cached) (cause : Cause) →
+    FollowsRule old hart.number from section (RollsBack cause) →
+    Shows bus (with_hart (freed from hart.number) hart.number (close_attempt (hart_of (freed from hart.number) hart.number))) →
+    IsCleared (cache_at bus.copies.caches hart.number) cache →
+    IsIn (parts_then old bus hart.number cache cause) (section_turn from hart.number section).state
+rolled_in old bus hart from section cache cause follows shows clears =
+    let h = hart.number in
+    let may = follows.inside.may in
+    let is = between old bus h from may shows in
+    let turn = rolls_turn from h section cause follows.rule_is in
+    let shown = shows_between bus from _ h cache _ (hart_then from h cause) (has_cache old bus h from may shows) is refl
+    (has_cleared bus h from _ cause cache is clears) in
+    after_step old (parts_then old bus h cache cause) hart from section follows.inside
+    (subst (λ t. StaysInPlace from.committed t.state.committed) (sym turn) (stays_in_place from.committed))
+    (subst (λ t. HasStepped old (parts_then old bus h cache cause) h t.state) (sym turn) (rolls_stepped old bus from h cache cause may shown))

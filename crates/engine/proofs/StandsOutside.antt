@@ -1,0 +1,158 @@
+-- what holds where a hart acts outside of a section
+use Rattle.std.proofs.Common.{◌≡◌, ◌∙◌, ℕ, ◌-◌, ◌^◌, ◌<◌, ◌≤◌, true, false, length, Option, Some, None, is_some, refl, ap, sym, subst, arith}
+use Rattle.std.specs.Prelude.{IfSome}
+use Rattle.cache_sets.specs.Cache.{has_marks}
+use Rattle.coherence.specs.Served.{HasLine, has_room}
+use Rattle.cached_step.proofs.Rooms.{room_without_marks}
+use Rattle.cached_step.proofs.Told.{touched_there}
+use Rattle.cached_step.specs.Memory.{TellsMemory}
+use Rattle.el_base.proofs.Ranges.{at_least, at_most, ranges}
+use Rattle.el_base.specs.declared.config.Mode.{Mode}
+use Rattle.el_model.proofs.FromStart.{kept_after, next_config}
+use Rattle.el_model.specs.Plain.{may_elide}
+use Rattle.el_model.specs.State.{ModelState, begin, hart_of, section_of}
+use Rattle.el_model.specs.Upcoming.{Touch, touch_of}
+use Rattle.elf_image.specs.Program.{code_word}
+use Rattle.engine.proofs.Misses.{freed_here, is_there}
+use Rattle.engine.proofs.PlainRules.{TouchesLine}
+use Rattle.engine.specs.Acting.{ActsOutside, cache_in, freed, next_action}
+use Rattle.engine.specs.Parts.{IsOfHart, Parts, committed_at, own_at, present_at, room_in}
+use Rattle.engine.specs.Reached.{IsReached}
+use Rattle.hart_state.specs.Own.{HasOwn, committed_pc}
+use Rattle.reg_mark.specs.Marks.{checkpoint_or}
+use Rattle.rv_alu.specs.Action.{action_at}
+use Rattle.rv_alu.specs.Footprint.{IsInPlace, footprint}
+use Rattle.rv_alu.specs.declared.action.Action.{Action}
+use Rattle.rv_alu.specs.declared.view.HartStatus.TheVariants.{Running}
+use Rattle.rv_flat.specs.FlatState.{output_limit, room_of, span_of, status_of, view_of}
+use Rattle.rv_flat.specs.Step.{action_of}
+use Rattle.section_ctl.specs.State.{IsIdle, Stands}
+use Rattle.step_rules.specs.Rules.{IsOnLine}
+use Rattle.step_laws.proofs.Short.{watches_are_short}
+use Rattle.pair_table.specs.Predictor.{Watch}
+
+begin_config : (state : ModelState) (reached : IsReached state) → (begin reached.program reached.config).config ≡ reached.config
+unfolding begin
+begin_config state reached = refl
+
+-- no event changes the configuration
+pub config_of : (state : ModelState) (reached : IsReached state) → state.config ≡ reached.config
+config_of state reached =
+    ap (λ s. s.config) reached.state_is
+    ∙ kept_after (λ s. s.config ≡ reached.config) (λ s event is. next_config s event ∙ is) (begin reached.program reached.config) reached.events
+    (begin_config state reached)
+
+-- what holds of the line of each touch holds of a touched line
+of_touch : (P : ℕ → Type 0) (touch : Option Touch) (line : ℕ) → ((t : Touch) → touch ≡ Some t → P t.line) → TouchesLine touch line → P line
+of_touch P None line there touches = absurd touches
+of_touch P (Some touch) line there touches = subst P touches (there touch refl)
+
+module _ (parts : Parts) (h : ℕ) (state : ModelState) (acts : ActsOutside parts h state) where
+  pub inside : h < length state.harts
+  inside = is_there parts state h acts.may
+
+  pub is_own : IsOfHart (freed state h) h (own_at parts.harts h)
+  is_own = acts.may.is_in.harts h acts.may.exists
+
+  -- what it keeps is that of the hart in the first state too
+  pub has_own : HasOwn (own_at parts.harts h) (hart_of state h)
+  has_own =
+      let has = subst (HasOwn (own_at parts.harts h)) (freed_here state h inside) is_own.part in
+      record { section = has.section; predictor = has.predictor; fallback = has.fallback; tries = has.tries }
+
+  -- no section is live there
+  pub none_live : section_of (freed state h) h ≡ None
+  none_live = ap (λ hart. hart.section) (freed_here state h inside) ∙ acts.no_section
+
+  pub no_live : (own_at parts.harts h).section.live ≡ None
+  no_live = is_own.part.section ∙ none_live
+
+  pub idle : IsIdle (own_at parts.harts h).section.marks (own_at parts.harts h).section.hold
+  idle = subst (Stands (own_at parts.harts h).section.marks (own_at parts.harts h).section.hold) no_live is_own.stands
+
+  -- so it sees its committed view
+  pub sees_committed : committed_at parts.harts h ≡ present_at parts.harts h
+  sees_committed = ap (λ mark. checkpoint_or mark (present_at parts.harts h)) idle.unmarked
+
+  pub view_is : present_at parts.harts h ≡ view_of state.committed h
+  view_is = sym sees_committed ∙ is_own.view
+
+  pub runs : (present_at parts.harts h).status ≡ Running
+  runs = ap (λ view. view.status) (sym sees_committed) ∙ acts.may.running
+
+  pub runs_there : status_of state.committed h ≡ Running
+  runs_there = ap (λ view. view.status) (sym view_is) ∙ runs
+
+  pub action_is : next_action parts h ≡ action_of state.committed (view_of state.committed h)
+  action_is =
+      let is = acts.may.is_in in
+      ap (λ view. action_at (code_word parts.code view.pc) view parts.span (room_in parts)) view_is
+      ∙ ap (λ code. action_at (code_word code (view_of state.committed h).pc) (view_of state.committed h) parts.span (room_in parts)) is.code
+      ∙ ap (λ span. action_at (code_word state.committed.code (view_of state.committed h).pc) (view_of state.committed h) span (room_in parts)) is.span
+      ∙ ap (λ output. action_at (code_word state.committed.code (view_of state.committed h).pc) (view_of state.committed h)
+      (span_of state.committed) (output_limit - length output)) is.output
+
+  pub on_line : IsOnLine state.committed
+  on_line = omega (arith, acts.may.is_in.shows.memory.first)
+
+  pub has_cache : h < length parts.bus.copies.caches
+  has_cache = omega (arith, acts.may.exists, acts.may.is_in.one_each, acts.may.is_in.shows.cache_each)
+
+  -- its cache has no bits, and so room for any line
+  pub none_marked : has_marks (cache_in parts h).residency ≡ false
+  none_marked = ap has_marks (acts.may.is_in.shows.caches h) ∙ sym (acts.may.is_in.shows.live h) ∙ ap is_some none_live
+
+  pub some_ways : 1 ≤ (cache_in parts h).ways
+  some_ways =
+      subst (λ n. 1 ≤ n)
+      (sym (acts.may.is_in.shows.ways h (omega (arith, acts.may.exists, acts.may.is_in.one_each))
+      ∙ ap (λ config. config.ways) (config_of state acts.may.reached)))
+      (at_least 1 8 acts.may.reached.config.ways (ranges acts.may.reached.config acts.may.reached.in_range).ways)
+
+  pub has_room_for : (line : ℕ) → has_room parts.bus.copies h line ≡ true
+  has_room_for line = room_without_marks (cache_in parts h).ways (cache_in parts h).residency line some_ways none_marked
+
+  pub tells_memory : TellsMemory parts.bus.copies state.committed
+  tells_memory = record {
+    placed = record { first = acts.may.is_in.shows.memory.first; size = acts.may.is_in.shows.memory.lines };
+    bytes = acts.may.is_in.shows.bytes;
+  }
+
+  pub in_memory : (action : Action) → IsInPlace parts.span (room_in parts) action →
+      IsInPlace (span_of state.committed) (room_of state.committed) action
+  in_memory action place =
+      subst (λ span. IsInPlace span (room_of state.committed) action) acts.may.is_in.span
+      (subst (λ room. IsInPlace parts.span room action) (ap (λ output. output_limit - length output) acts.may.is_in.output) place)
+
+  -- what an action touches is there
+  pub line_there : (action : Action) (line : ℕ) → IsInPlace parts.span (room_in parts) action → TouchesLine (touch_of (footprint action)) line →
+      HasLine parts.bus.copies line
+  line_there action line place touches =
+      of_touch (HasLine parts.bus.copies) (touch_of (footprint action)) line
+      (λ touch found.
+      touched_there parts.bus.copies state.committed (room_of state.committed) action touch tells_memory.placed
+      (in_memory action place) found)
+      touches
+
+  -- whether it may elide a swap
+  pub elides_is : (mode : Mode) (may : _) → mode ≡ state.config.mode →
+      may ≡ may_elide mode (hart_of (freed state h) h) (committed_pc (own_at parts.harts h)) →
+      may ≡ may_elide state.config.mode (hart_of (freed state h) h) (view_of state.committed h).pc
+  elides_is mode may mode_is is =
+      is ∙ ap (λ m. may_elide m (hart_of (freed state h) h) (committed_pc (own_at parts.harts h))) mode_is
+      ∙ ap (λ view. may_elide state.config.mode (hart_of (freed state h) h) view.pc) is_own.view
+
+  -- a watch that stands may count one instruction more
+  pub watch_short : IfSome (own_at parts.harts h).predictor.watch (λ watch. watch.count < 2 ^ 32 - 1)
+  watch_short = by (own_at parts.harts h).predictor.watch there
+    where
+      there : (hart_of state h).predictor.watch ≡ (own_at parts.harts h).predictor.watch
+      there = ap (λ hart. hart.predictor.watch) (sym (freed_here state h inside)) ∙ ap (λ predictor. predictor.watch) (sym is_own.part.predictor)
+
+      by : (watch : Option Watch) → (hart_of state h).predictor.watch ≡ watch → IfSome watch (λ w. w.count < 2 ^ 32 - 1)
+      by None is = tt
+      by (Some watch) is =
+          let reached = acts.may.reached in
+          let short = watches_are_short reached.program reached.config reached.events h watch reached.in_range
+          (ap (λ s. (hart_of s h).predictor.watch) (sym reached.state_is) ∙ is) in
+          omega (arith, short.fewer, at_most 2 65536 reached.config.long (ranges reached.config reached.in_range).long)

@@ -1,0 +1,68 @@
+-- each rule's deed is the turn
+use Rattle.std.proofs.Common.{◌∙◌, ap, sym, subst}
+use Rattle.engine.proofs.Chosen.{missed_line, runs_own}
+use Rattle.engine.proofs.Outsiders.{began_outcome, missed_outcome, missed_state, ran_outcome, turn_is}
+use Rattle.engine.proofs.StandsOutside.{has_room_for, line_there}
+use Rattle.engine.proofs.engine.Engine.act_outside.Goals as goal
+use Rattle.engine.specs.Parts.{IsIn, parts}
+use Rattle.step_rules.specs.Rules.{definition_plain}
+
+pub run_next-requires-clause-runs : goal.run_next-requires-clause-runs
+run_next-requires-clause-runs c from acts =
+    runs_own (parts c.args.self.now) c.args.hart.number from c.args.action acts c.requires.action _
+    (c.rule_outside.ensures from acts ∙ ap definition_plain c.in-Runs.is)
+
+pub returns-in-Runs-clause-state : goal.returns-in-Runs-clause-state
+returns-in-Runs-clause-state c from acts =
+    subst (λ turn. IsIn (parts c.run_next.new.self) turn.state)
+    (sym (turn_is from c.args.hart.number _ (runs_own (parts c.args.self.now) c.args.hart.number from c.args.action acts c.requires.action _
+    (c.rule_outside.ensures from acts ∙ ap definition_plain c.in-Runs.is)))) (c.run_next.ensures.state from acts)
+
+pub returns-in-Runs-clause-outcome : goal.returns-in-Runs-clause-outcome
+returns-in-Runs-clause-outcome c from acts =
+    c.run_next.ensures.outcome
+    ∙ sym (ran_outcome from c.args.hart.number _ (runs_own (parts c.args.self.now) c.args.hart.number from c.args.action acts c.requires.action _
+    (c.rule_outside.ensures from acts ∙ ap definition_plain c.in-Runs.is)))
+
+pub miss-requires : goal.miss-requires
+miss-requires c =
+    let old = parts c.args.self.now in
+    let h = c.args.hart.number in
+    let from = c.requires.some.from in
+    let acts = c.requires.some.acts in
+    record {
+      may = record {
+        from = from;
+        may = acts.may;
+        free = c.requires.no_request;
+        in_memory =
+            line_there old h from acts c.args.action c.in-Misses.line.number c.requires.in_place
+            (missed_line old h from c.args.action acts c.requires.action c.in-Misses.line.number c.in-Misses.need
+            (c.rule_outside.ensures from acts ∙ ap definition_plain c.in-Misses.is));
+        room = has_room_for old h from acts c.in-Misses.line.number;
+      };
+    }
+
+pub returns-in-Misses-clause-state : goal.returns-in-Misses-clause-state
+returns-in-Misses-clause-state c from acts =
+    subst (IsIn (parts c.miss.new.self))
+    (sym (missed_state from c.args.hart.number c.in-Misses.line c.in-Misses.need
+    (c.rule_outside.ensures from acts ∙ ap definition_plain c.in-Misses.is)))
+    (c.miss.ensures.state from acts.may)
+
+pub returns-in-Misses-clause-outcome : goal.returns-in-Misses-clause-outcome
+returns-in-Misses-clause-outcome c from acts =
+    c.miss.ensures.outcome
+    ∙ sym (missed_outcome from c.args.hart.number c.in-Misses.line c.in-Misses.need
+    (c.rule_outside.ensures from acts ∙ ap definition_plain c.in-Misses.is))
+
+pub returns-in-Begins-clause-state : goal.returns-in-Begins-clause-state
+returns-in-Begins-clause-state c from acts =
+    subst (λ turn. IsIn (parts c.begin_section.new.self) turn.state)
+    (sym (turn_is from c.args.hart.number _ (c.rule_outside.ensures from acts ∙ ap definition_plain c.in-Begins.is)))
+    (c.begin_section.ensures.state from acts)
+
+pub returns-in-Begins-clause-outcome : goal.returns-in-Begins-clause-outcome
+returns-in-Begins-clause-outcome c from acts =
+    c.begin_section.ensures.outcome
+    ∙ sym (began_outcome from c.args.hart.number _ (c.rule_outside.ensures from acts ∙ ap definition_plain c.in-Begins.is))

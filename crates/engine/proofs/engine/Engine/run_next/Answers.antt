@@ -1,0 +1,59 @@
+-- what each call leaves, and the state after them
+use Rattle.std.proofs.Common.{◌≡◌, None, sym, subst}
+use Rattle.cached_step.specs.CacheRun.{permitted}
+use Rattle.core_step.proofs.Runs.{aligned}
+use Rattle.core_step.specs.Run.{IsAligned, lacking}
+use Rattle.engine.proofs.Chosen.{lacks_nothing}
+use Rattle.engine.proofs.RunsNext.{after_ran, may_append, ready_ran}
+use Rattle.engine.proofs.engine.Engine.run_next.Goals as goal
+use Rattle.engine.specs.Acting.{cache_in}
+use Rattle.engine.specs.Outside.{RanIn}
+use Rattle.engine.specs.Parts.{parts}
+use Rattle.rv_alu.specs.Footprint.{footprint}
+
+pub next_swap-swap-requires-clause-permitted : goal.next_swap-swap-requires-clause-permitted
+next_swap-swap-requires-clause-permitted c =
+    let acts = c.requires.some.acts in
+    lacks_nothing (parts c.args.self.now) c.args.hart.number c.requires.some.from c.args.action acts c.requires.action _
+    (c.requires.runs c.requires.some.from acts)
+
+pub run_in_cache-requires-clause-aligned : goal.run_in_cache-requires-clause-aligned
+run_in_cache-requires-clause-aligned c = subst IsAligned (sym c.requires.action) (aligned _ _ _ _)
+
+pub run_in_cache-requires-clause-permitted : goal.run_in_cache-requires-clause-permitted
+run_in_cache-requires-clause-permitted c =
+    let acts = c.requires.some.acts in
+    subst (λ p. lacking (permitted (cache_in p c.args.hart.number)) (footprint c.args.action) ≡ None)
+    (sym (c.learn.ensures c.requires.some.from acts))
+    (lacks_nothing (parts c.args.self.now) c.args.hart.number c.requires.some.from c.args.action acts c.requires.action _
+    (c.requires.runs c.requires.some.from acts))
+
+pub take_effect-requires-clause-can_append : goal.take_effect-requires-clause-can_append
+take_effect-requires-clause-can_append c =
+    let old = parts c.args.self.now in
+    let h = c.args.hart.number in
+    let from = c.requires.some.from in
+    let acts = c.requires.some.acts in
+    may_append old (parts c.run_in_cache.new.self) h from c.args.action acts
+    (subst (λ p. RanIn p (parts c.run_in_cache.new.self) h c.args.action) (c.learn.ensures from acts) c.run_in_cache.ensures) c.requires.in_place
+    (lacks_nothing old h from c.args.action acts c.requires.action _ (c.requires.runs from acts))
+
+pub returns-clause-ready : goal.returns-clause-ready
+returns-clause-ready c =
+    let old = parts c.args.self.now in
+    let mid = parts c.run_in_cache.new.self in
+    let h = c.args.hart.number in
+    let from = c.requires.some.from in
+    let acts = c.requires.some.acts in
+    ready_ran old mid (parts c.take_effect.new.self) h from c.args.action acts
+    (subst (λ p. RanIn p mid h c.args.action) (c.learn.ensures from acts) c.run_in_cache.ensures) c.requires.action c.requires.in_place
+    (lacks_nothing old h from c.args.action acts c.requires.action _ (c.requires.runs from acts)) c.requires.no_request c.take_effect.ensures
+
+pub returns-clause-state : goal.returns-clause-state
+returns-clause-state c from acts =
+    let old = parts c.args.self.now in
+    let mid = parts c.run_in_cache.new.self in
+    let h = c.args.hart.number in
+    after_ran old mid (parts c.take_effect.new.self) c.args.hart from c.args.action acts
+    (subst (λ p. RanIn p mid h c.args.action) (c.learn.ensures from acts) c.run_in_cache.ensures) c.requires.action c.requires.in_place
+    (lacks_nothing old h from c.args.action acts c.requires.action _ (c.requires.runs from acts)) (c.requires.runs from acts) c.take_effect.ensures

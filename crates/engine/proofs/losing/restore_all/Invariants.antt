@@ -1,0 +1,7 @@
+-- the harts so far are restored, and the others are as they were
+use Rattle.el_base.specs.Losers.{beaten_by}
+use Rattle.engine.specs.Restored.{AreRestoredBelow}
+use Rattle.engine.proofs.losing.restore_all.Given as goal
+
+abbrev pub invariant-loop-number : goal.invariant-loop-number
+invariant-loop-number l = AreRestoredBelow l.number l.mode (beaten_by l.losers) l.initial.harts.items l.harts.items

@@ -1,0 +1,38 @@
+-- a hart that acts outside of a section, and what its action makes of the parts where it runs
+use Rattle.std.specs.Prelude.{ℕ, ◌≡◌, slice_set}
+use Rattle.cache_sets.specs.Cached.{Cached}
+use Rattle.cached_step.specs.CacheRun.{HasRun, cached_byte}
+use Rattle.el_model.specs.Plain.{PlainRule, plain_rule}
+use Rattle.el_model.specs.State.{ModelState}
+use Rattle.engine.specs.Acting.{ActsOutside, cache_in}
+use Rattle.engine.specs.Parts.{Parts, own_at, present_at}
+use Rattle.hart_state.specs.Lending.{with_view}
+use Rattle.rv_alu.specs.Execution.{Execution, perform, store_in, view_after}
+use Rattle.rv_alu.specs.declared.action.Action.{Action}
+use Rattle.snoop.specs.Returned.{returned}
+
+-- it acts so in some state
+pub record OutsideSomewhere (parts : Parts) (h : ℕ) : Type 0 where
+  pub from : ModelState
+  pub acts : ActsOutside parts h from
+
+-- this is its rule, whatever the state
+abbrev pub IsItsRule : Parts → ℕ → PlainRule → Type 0
+IsItsRule parts h rule = (from : ModelState) → ActsOutside parts h from → plain_rule from h ≡ rule
+
+-- what an action does over the hart's cache
+abbrev pub execution_in : Parts → ℕ → Action → Execution
+execution_in parts h action = perform action (present_at parts.harts h) (cached_byte (cache_in parts h))
+
+-- it ran: the hart has its new view, and its cache is what the action has made of it
+pub record RanIn (old new : Parts) (h : ℕ) (action : Action) : Type 0 where
+  pub cache : Cached
+  pub has_run : HasRun (cache_in old h) cache action (store_in (execution_in old h action))
+  pub new_is :
+      new
+      ≡ record old {
+        bus = returned old.bus h cache;
+        harts =
+            slice_set old.harts h
+            (with_view (own_at old.harts h) (view_after (execution_in old h action) (present_at old.harts h)));
+      }

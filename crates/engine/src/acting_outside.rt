@@ -1,0 +1,48 @@
+//! What a hart does outside of a section, which waits for nothing and holds nothing.
+
+ghost use Rattle.std.specs.Prelude.{◌≡◌};
+ghost use Rattle.el_model.specs.Plain.{plain_turn};
+ghost use Rattle.el_model.specs.State.{ModelState};
+ghost use Rattle.engine.specs.Acting.{ActsOutside, next_action};
+ghost use Rattle.engine.specs.Outside.{IsItsRule, OutsideSomewhere};
+ghost use Rattle.engine.specs.Parts.{IsIn, parts, room_in};
+ghost use Rattle.rv_alu.specs.Footprint.{IsInPlace};
+ghost use Rattle.snoop.specs.Asking.{HasNoRequest};
+ghost use Rattle.snoop.specs.Shows.{IsReady};
+ghost use Rattle.step_rules.specs.Rules.{definition_plain};
+
+use crate::engine::Engine;
+use el_base::{HartId, Outcome};
+use rv_alu::Action;
+use step_rules::{PlainRule, plain_rule};
+
+impl Engine {
+    /// A step of a hart without a live section, whose next action this is.
+    pub(crate) fn act_outside(&mut self, hart: HartId, action: Action) -> Outcome
+        requires some { OutsideSomewhere (parts self.old) hart.number }
+        requires no_request { HasNoRequest (parts self.old).bus hart.number }
+        requires action { action ≡ next_action (parts self.old) hart.number }
+        requires in_place { IsInPlace (parts self.old).span (room_in (parts self.old)) action }
+        ensures ready { IsReady (parts self.new).bus }
+        ensures state { (from : ModelState) → ActsOutside (parts self.old) hart.number from →
+            IsIn (parts self.new) (plain_turn from hart.number).state }
+        ensures outcome { (from : ModelState) → ActsOutside (parts self.old) hart.number from →
+            result ≡ (plain_turn from hart.number).outcome }
+    {
+        match self.rule_outside(hart, action) {
+            PlainRule::Runs { .. } => self.run_next(hart, action),
+            PlainRule::Misses { line, need } => self.miss(hart, line, need),
+            PlainRule::Begins { swap } => self.begin_section(hart, action, swap),
+        }
+    }
+
+    /// The rule of that step.
+    fn rule_outside(&self, hart: HartId, action: Action) -> PlainRule
+        requires some { OutsideSomewhere (parts self.now) hart.number }
+        requires action { action ≡ next_action (parts self.now) hart.number }
+        ensures { IsItsRule (parts self.now) hart.number (definition_plain result) }
+    {
+        let may_elide = self.harts[usize::from(hart.number)].may_elide(self.config.mode);
+        plain_rule(&self.bus, hart, &action, may_elide)
+    }
+}

@@ -1,0 +1,66 @@
+//! A section that begins.
+
+ghost use Rattle.std.specs.Prelude.{◌≡◌, ◌<◌, ◌%◌, None, length, slice_set, true};
+ghost use Rattle.cache_sets.specs.Cache.{is_resident};
+ghost use Rattle.el_base.specs.Line.{line_number};
+ghost use Rattle.el_base.specs.declared.outcomes.Outcome.TheVariants.{Began};
+ghost use Rattle.el_model.specs.Plain.{Begins, by_plain_rule};
+ghost use Rattle.el_model.specs.State.{ModelState};
+ghost use Rattle.engine.specs.Acting.{ActsOutside, cache_in, next_action};
+ghost use Rattle.engine.specs.Beginning.{BeganIn};
+ghost use Rattle.engine.specs.Outside.{IsItsRule, OutsideSomewhere};
+ghost use Rattle.engine.specs.Parts.{IsIn, own_at, parts, present_at, room_in};
+ghost use Rattle.rv_alu.specs.Footprint.{IsInPlace};
+ghost use Rattle.rv_alu.specs.declared.action.Action.TheVariants.{Amo};
+ghost use Rattle.rv_alu.specs.declared.view.HartStatus.TheVariants.{Running};
+ghost use Rattle.snoop.specs.Asking.{HasNoRequest};
+ghost use Rattle.snoop.specs.Shows.{IsReady};
+ghost use Rattle.step_rules.specs.Actions.{numbered_swap};
+
+use crate::engine::Engine;
+use el_base::{HartId, Need, Outcome, line_of};
+use rv_alu::Action;
+use rv_word::Reg;
+use step_rules::Swap;
+
+impl Engine {
+    /// The acquire that comes next is elided, and a section begins at it.
+    pub(crate) fn begin_section(&mut self, hart: HartId, action: Action, swap: Swap) -> Outcome
+        requires some { OutsideSomewhere (parts self.old) hart.number }
+        requires no_request { HasNoRequest (parts self.old).bus hart.number }
+        requires action { action ≡ next_action (parts self.old) hart.number }
+        requires in_place { IsInPlace (parts self.old).span (room_in (parts self.old)) action }
+        requires begins { IsItsRule (parts self.old) hart.number (Begins (numbered_swap swap)) }
+        ensures ready { IsReady (parts self.new).bus }
+        ensures state { (from : ModelState) → ActsOutside (parts self.old) hart.number from →
+            IsIn (parts self.new) (by_plain_rule from hart.number (Begins (numbered_swap swap))).state }
+        ensures outcome { result ≡ Began }
+    {
+        match action {
+            Action::Amo { rd, .. } => {
+                self.enter(hart, swap, rd);
+                self.bus.open_attempt(hart);
+                Outcome::Began
+            }
+            _ => unreachable!(),
+        }
+    }
+
+    /// The lock's line gets the read bit and becomes the most recent one, and the hart's section begins.
+    fn enter(&mut self, hart: HartId, swap: Swap, rd: Reg)
+        requires hart_exists { hart.number < length (parts self.old).harts }
+        requires cache_exists { hart.number < length (parts self.old).bus.copies.caches }
+        requires no_section { (own_at (parts self.old).harts hart.number).section.live ≡ None }
+        requires running { (present_at (parts self.old).harts hart.number).status ≡ Running }
+        requires aligned { swap.word % 4 ≡ 0 }
+        requires resident { is_resident (cache_in (parts self.old) hart.number).residency (line_number swap.word)
+            ≡ true }
+        ensures { BeganIn (parts self.old) (parts self.new) hart.number (numbered_swap swap) rd.number }
+    {
+        let line = line_of(swap.word);
+        let sets = self.bus.sets_mut(hart);
+        sets.set_bit(line, Need::Read);
+        sets.touch(line);
+        self.harts[usize::from(hart.number)].begin(swap.word, swap.old, swap.new, rd);
+    }
+}

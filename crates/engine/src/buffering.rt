@@ -1,0 +1,58 @@
+//! Instructions of a live section.
+
+ghost use Rattle.std.specs.Prelude.{◌≡◌, Some, true};
+ghost use Rattle.std.specs.Option.{option_map};
+ghost use Rattle.cache_sets.specs.Cache.{is_resident};
+ghost use Rattle.el_base.specs.declared.outcomes.Outcome.TheVariants.{Buffered};
+ghost use Rattle.el_model.specs.InSection.{Buffers, section_turn};
+ghost use Rattle.el_model.specs.State.{ModelState, Section};
+ghost use Rattle.engine.specs.Acting.{next_action};
+ghost use Rattle.engine.specs.Covered.{HasItsBitNow, IsTouchedThere};
+ghost use Rattle.engine.specs.Inside.{FollowsRule, FollowsSomewhere};
+ghost use Rattle.engine.specs.Parts.{IsIn, parts};
+ghost use Rattle.snoop.specs.Shows.{IsReady};
+ghost use Rattle.step_rules.specs.Actions.{numbered_touch};
+
+use crate::engine::Engine;
+use cache_sets::Sets;
+use el_base::{HartId, Outcome};
+use rv_alu::Action;
+use step_rules::{Touch, is_covered};
+
+impl Engine {
+    /// An action of a hart's live section runs: what it touches has its bit from then on, and what it stores is held.
+    pub(crate) fn buffer(&mut self, hart: HartId, action: Action, touch: Option<Touch>) -> Outcome
+        requires follows { FollowsSomewhere (parts self.old) hart.number (Buffers (option_map numbered_touch touch)) }
+        requires action { action ≡ next_action (parts self.old) hart.number }
+        ensures ready { IsReady (parts self.new).bus }
+        ensures state { (from : ModelState) (section : Section) →
+            FollowsRule (parts self.old) hart.number from section (Buffers (option_map numbered_touch touch)) →
+            IsIn (parts self.new) (section_turn from hart.number section).state }
+        ensures outcome { result ≡ Buffered }
+    {
+        let sets = self.bus.sets_mut(hart);
+        cover(sets, touch);
+        self.harts[usize::from(hart.number)].buffer(sets, action);
+        Outcome::Buffered
+    }
+}
+
+/// A line that is touched gets the bit of its need, where it has it not.
+fn cover(sets: &mut Sets, touch: Option<Touch>)
+    requires { IsTouchedThere sets.old (option_map numbered_touch touch) }
+    ensures { HasItsBitNow sets.old sets.new (option_map numbered_touch touch) }
+{
+    if let Some(touch) = touch {
+        cover_line(sets, touch);
+    }
+}
+
+/// The same of a line.
+fn cover_line(sets: &mut Sets, touch: Touch)
+    requires { is_resident sets.old.residency touch.line.number ≡ true }
+    ensures { HasItsBitNow sets.old sets.new (option_map numbered_touch (Some touch)) }
+{
+    if !is_covered(sets, touch) {
+        sets.set_bit(touch.line, touch.need);
+    }
+}

@@ -1,0 +1,51 @@
+//! Commits of a live section.
+
+ghost use Rattle.std.specs.Prelude.{◌≡◌, ◌<◌, ◌+◌, IfSome, length};
+ghost use Rattle.el_base.specs.declared.outcomes.Outcome.TheVariants.{Committed};
+ghost use Rattle.el_model.specs.InSection.{Commits, section_turn};
+ghost use Rattle.el_model.specs.State.{ModelState, Section};
+ghost use Rattle.engine.specs.Acting.{next_action};
+ghost use Rattle.engine.specs.Inside.{FollowsRule, FollowsSomewhere};
+ghost use Rattle.engine.specs.Parts.{IsIn, own_at, parts};
+ghost use Rattle.snoop.specs.Shows.{IsReady};
+
+use crate::engine::Engine;
+use crate::others_reservations::unreserve_others;
+use el_base::{HartId, Outcome};
+use rv_alu::Action;
+
+impl Engine {
+    /// A hart's live section takes effect, whose release this action is: its stores are in the cache, whose lines lose
+    /// their bits, other harts' reservations of words on the written lines end, and its attempt closes.
+    pub(crate) fn commit(&mut self, hart: HartId, action: Action) -> Outcome
+        requires follows { FollowsSomewhere (parts self.old) hart.number Commits }
+        requires action { action ≡ next_action (parts self.old) hart.number }
+        ensures ready { IsReady (parts self.new).bus }
+        ensures state { (from : ModelState) (section : Section) →
+            FollowsRule (parts self.old) hart.number from section Commits →
+            IsIn (parts self.new) (section_turn from hart.number section).state }
+        ensures outcome { (from : ModelState) (section : Section) →
+            FollowsRule (parts self.old) hart.number from section Commits →
+            result ≡ (section_turn from hart.number section).outcome }
+    {
+        let count = self.count_with_release(hart);
+        unreserve_others(&mut self.harts, hart);
+        self.bus.close_attempt(hart);
+        self.harts[usize::from(hart.number)].commit(self.bus.sets_mut(hart), action);
+        Outcome::Committed { count }
+    }
+
+    /// How many instructions a hart's live section has with its release; 0 where none is live.
+    fn count_with_release(&self, hart: HartId) -> u32
+        requires hart_exists { hart.number < length (parts self.now).harts }
+        requires counted { IfSome (own_at (parts self.now).harts hart.number).section.live
+            (λ section. section.count + 1 < 4294967296) }
+        ensures { IfSome (own_at (parts self.now).harts hart.number).section.live
+            (λ section. result ≡ section.count + 1) }
+    {
+        match self.harts[usize::from(hart.number)].section().live() {
+            Some(live) => live.count + 1,
+            None => 0,
+        }
+    }
+}

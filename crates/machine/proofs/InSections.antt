@@ -1,0 +1,58 @@
+-- what holds of the live sections of a machine
+use Rattle.std.proofs.Common.{◌≡◌, ◌∙◌, ℕ, Option, None, Some, ap, subst, sym}
+use Rattle.chronicle.specs.Chronicle.{events}
+use Rattle.el_model.specs.State.{ModelState, Section, cache_of, section_of}
+use Rattle.engine.specs.Parts.{KeepsSection, KeepsSectionOf, Parts}
+use Rattle.machine.proofs.GoesOn.{reached_committed}
+use Rattle.machine.specs.Promises.{IsSoundSection, ShowsStoresOverMemory}
+use Rattle.machine.specs.Stands.{IsGiven, Stands}
+use Rattle.machine.specs.Story.{Story, committed, state_of}
+use Rattle.rv_flat.specs.FlatState.{FlatState}
+use Rattle.run_laws.proofs.Reachable.{live_sections_run_covered}
+use Rattle.run_laws.specs.PrivateRun.{IsCoveredRun}
+use Rattle.section_ctl.specs.State.{SectionState}
+use Rattle.section_view.proofs.ShownBytes.{sections_show_their_bytes}
+use Rattle.section_view.specs.KeptRun.{HoldsMarked, KeepsRun}
+use Rattle.step_laws.proofs.Short.{sections_are_short}
+use Rattle.step_laws.specs.Counts.{IsSectionShort}
+
+-- a live section's run is covered
+covered_in : (story : Story) (room h : ℕ) (section : Section) → IsGiven story room → section_of (state_of story) h ≡ Some section →
+    IsCoveredRun (state_of story).committed h (cache_of (state_of story) h) section
+covered_in story room h section given live =
+    live_sections_run_covered story.program story.config (events story.entries) h section given.bytes live
+
+pub runs_covered : (story now : Story) (parts : Parts) (room h : ℕ) (section : Section) → Stands story parts room → story ≡ now →
+    section_of (state_of now) h ≡ Some section → IsCoveredRun (committed now) h (cache_of (state_of now) h) section
+runs_covered story now parts room h section stands same live =
+    subst (λ flat. IsCoveredRun flat h (cache_of (state_of now) h) section) (reached_committed story now parts room stands same)
+    (covered_in now room h section (subst (λ s. IsGiven s room) same stands.given) live)
+
+-- and it is no longer than it may be
+pub runs_short : (story now : Story) (parts : Parts) (room h : ℕ) (section : Section) → Stands story parts room → story ≡ now →
+    section_of (state_of now) h ≡ Some section → IsSectionShort now.config.long section
+runs_short story now parts room h section stands same live =
+    let given = subst (λ s. IsGiven s room) same stands.given in
+    sections_are_short now.program now.config (events now.entries) h section given.in_range live
+
+-- what is kept of it tells its run
+pub kept_of : (state : ModelState) (h : ℕ) (section : Section) (kept : SectionState) → KeepsSectionOf state h (section_of state h) kept →
+    section_of state h ≡ Some section → KeepsSection state h section kept
+kept_of state h section kept keeps live = subst (λ s. KeepsSectionOf state h s kept) live keeps
+
+pub keeps_run : (story now : Story) (parts : Parts) (room h : ℕ) (section : Section) (kept : SectionState) → Stands story parts room →
+    story ≡ now → KeepsSectionOf (state_of now) h (section_of (state_of now) h) kept → section_of (state_of now) h ≡ Some section →
+    KeepsRun (committed now) h section kept.marks.present kept.hold.entries
+keeps_run story now parts room h section kept stands same keeps live =
+    subst (λ flat. KeepsRun flat h section kept.marks.present kept.hold.entries) (reached_committed story now parts room stands same)
+    (kept_of (state_of now) h section kept keeps live).run
+
+-- and its stores over memory are what it shows
+pub shows_stores : (story now : Story) (parts : Parts) (room h : ℕ) (section : Section) (kept : SectionState) → Stands story parts room →
+    story ≡ now → KeepsSectionOf (state_of now) h (section_of (state_of now) h) kept → section_of (state_of now) h ≡ Some section →
+    ShowsStoresOverMemory (state_of now) h section kept.hold.entries
+shows_stores story now parts room h section kept stands same keeps live =
+    let state = state_of now in
+    sections_show_their_bytes state.committed h (cache_of state h) section kept.marks.present kept.hold.entries
+    (covered_in now room h section (subst (λ s. IsGiven s room) same stands.given) live)
+    (kept_of state h section kept keeps live).run

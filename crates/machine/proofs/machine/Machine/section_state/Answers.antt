@@ -1,0 +1,32 @@
+-- the section that the parts keep
+use Rattle.std.proofs.Common.{◌∙◌, sym}
+use Rattle.machine.proofs.GoesOn.{hart_there, now_in}
+use Rattle.machine.proofs.InSections.{keeps_run, kept_of, shows_stores}
+use Rattle.machine.proofs.machine.Machine.section_state.Goals as goal
+use Rattle.machine.specs.Story.{state_of}
+
+pub section_state-requires : goal.section_state-requires
+section_state-requires c = hart_there _ _ _ _ _ c.self.invariant c.self.view_is c.requires
+
+pub returns-clause-live : goal.returns-clause-live
+returns-clause-live c = c.section_state.ensures.live (state_of c.args.self.now) (now_in _ _ _ _ c.self.invariant c.self.view_is)
+
+pub returns-clause-run : goal.returns-clause-run
+returns-clause-run c section live =
+    let state = state_of c.args.self.now in
+    let is_in = now_in _ _ _ _ c.self.invariant c.self.view_is in
+    keeps_run _ _ _ _ _ section _ c.self.invariant c.self.view_is (c.section_state.ensures.keeps state is_in)
+    (sym (c.section_state.ensures.live state is_in) ∙ live)
+
+pub returns-clause-shows : goal.returns-clause-shows
+returns-clause-shows c section live =
+    let state = state_of c.args.self.now in
+    let is_in = now_in _ _ _ _ c.self.invariant c.self.view_is in
+    shows_stores _ _ _ _ _ section _ c.self.invariant c.self.view_is (c.section_state.ensures.keeps state is_in)
+    (sym (c.section_state.ensures.live state is_in) ∙ live)
+
+pub returns-clause-marked : goal.returns-clause-marked
+returns-clause-marked c section live =
+    let state = state_of c.args.self.now in
+    let is_in = now_in _ _ _ _ c.self.invariant c.self.view_is in
+    (kept_of state _ section _ (c.section_state.ensures.keeps state is_in) (sym (c.section_state.ensures.live state is_in) ∙ live)).marked

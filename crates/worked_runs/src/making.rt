@@ -6,7 +6,6 @@ use crate::field::{element, list, member};
 use crate::image::file;
 use crate::outcome::told;
 use crate::worked::{config, event};
-use el_base::Mode;
 use elf_image::load;
 use machine::Machine;
 use serde_json::Value;
@@ -27,7 +26,7 @@ pub fn agree(alloc: Global, text: &str) -> Result<usize, Difference> {
 /// A machine of a run's program, with a step for each event.
 fn machine_of(alloc: Global, run: &Value, events: usize) -> Result<Machine, Difference> {
     let config = config(run, events)?;
-    if config.mode != Mode::Plain || !(1..=8).contains(&config.harts) {
+    if !(1..=8).contains(&config.harts) {
         return Err(Difference::NoMachine);
     }
     let file = file(alloc, run)?;

@@ -18,7 +18,7 @@ pub fn round_robin(machine: &mut Machine)
 }
 
 /// Makes the events of a round robin of so many harts, and of so many steps at most.
-#[tactic(auto, using(crate::proofs::GoingRound::none_made, crate::proofs::GoingRound::one_left, crate::proofs::GoingRound::one_made, crate::proofs::GoingRound::no_step_left, crate::proofs::GoingRound::all_stopped))]
+#[tactic(auto, using(crate::proofs::GoingRound::none_made, crate::proofs::GoingRound::one_made))]
 fn go_round(machine: &mut Machine, harts: u8, steps: u32)
     requires some { 1 ≤ harts }
     requires few { harts ≤ 8 }

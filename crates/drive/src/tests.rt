@@ -44,7 +44,8 @@ fn make(rt: &impl Abort, machine: &mut Machine, events: &[Event]) {
     follow(machine, events);
 }
 
-/// The program's nine steps take nine events of each kind, but for the last three.
+/// Where the write call's line has to come first, a hart makes ten steps, and nine events of each other kind. Two
+/// harts wait for one line: the second is served a round later, and makes eleven.
 #[test]
 fn a_round_robin_runs_to_the_end(rt: HostRuntime) -> Result<(), Fail> {
     for (harts, steps, events, instructions, over, output) in [

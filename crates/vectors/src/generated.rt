@@ -2,30 +2,7 @@
 use crate::support::{Ending, HELLO, answer};
 use std::test::Fail;
 
-/// The kinds, and what hart 0 prints on 1, 2, 4 and 8 harts: the sum of what every hart adds, or all
-/// that there is in a bank.
-const KINDS: [(&str, [&str; 4]); 5] = [
-    (
-        "counter",
-        ["00000064\n", "000000c8\n", "00000190\n", "00000320\n"],
-    ),
-    (
-        "bank",
-        ["0000fa00\n", "0000fa00\n", "0000fa00\n", "0000fa00\n"],
-    ),
-    (
-        "buckets",
-        ["000000c8\n", "00000190\n", "00000320\n", "00000640\n"],
-    ),
-    (
-        "locks",
-        ["000000c8\n", "00000190\n", "00000320\n", "00000640\n"],
-    ),
-    (
-        "overflow",
-        ["00000190\n", "00000320\n", "00000640\n", "00000c80\n"],
-    ),
-];
+const KINDS: [&str; 5] = ["counter", "bank", "buckets", "locks", "overflow"];
 
 /// The answer to `gen`, with the image that it writes.
 fn generated(rt: &HostRuntime, kind: &str, number: &str) -> Result<Ending, Fail> {
@@ -45,7 +22,7 @@ fn prints(ending: &Ending, told: &str) -> bool {
 
 #[test]
 fn an_image_is_written_and_its_length_told(rt: HostRuntime) -> Result<(), Fail> {
-    for (kind, _) in KINDS {
+    for kind in KINDS {
         let ending = generated(&rt, kind, "3")?;
         let line = format!(in rt.alloc(); "wrote {} bytes\n", ending.written.len())?;
         assert!(rt; prints(&ending, ""), "{kind}");
@@ -55,39 +32,88 @@ fn an_image_is_written_and_its_length_told(rt: HostRuntime) -> Result<(), Fail> 
     Ok(())
 }
 
-#[test]
-fn each_kind_prints_its_sum_on_1_2_and_4_harts(rt: HostRuntime) -> Result<(), Fail> {
-    for (kind, [on_1, on_2, on_4, _]) in KINDS {
-        let image = generated(&rt, kind, "3")?.written;
-        for (harts, told) in [("1", on_1), ("2", on_2), ("4", on_4)] {
-            let ending = run_on(&rt, &image, harts)?;
-            assert!(rt; prints(&ending, told), "{kind} on {harts}");
+/// What an image of a kind that was made with 3 prints on 1, 2, 4 and 8 harts, one after the other: the sum of what
+/// every hart adds, or all that there is in a bank.
+fn told_on_1_2_4_and_8(rt: &HostRuntime, kind: &str) -> Result<Vec<u8>, Fail> {
+    let image = generated(rt, kind, "3")?.written;
+    let mut told = Vec::new(rt.alloc());
+    for harts in ["1", "2", "4", "8"] {
+        let ending = run_on(rt, &image, harts)?;
+        if ending.status.number() != 0 {
+            return Err("a hart did not exit with 0".into());
         }
+        told.extend_from_slice(&ending.out)?;
     }
+    Ok(told)
+}
+
+#[test]
+fn each_hart_adds_100_to_a_counter(rt: HostRuntime) -> Result<(), Fail> {
+    let told = told_on_1_2_4_and_8(&rt, "counter")?;
+    assert_eq!(rt;
+        told.as_slice(),
+        b"00000064\n000000c8\n00000190\n00000320\n".as_slice()
+    );
     Ok(())
 }
 
 #[test]
-fn each_kind_prints_its_sum_on_8_harts_each_time(rt: HostRuntime) -> Result<(), Fail> {
-    for (kind, [_, _, _, on_8]) in KINDS {
-        let image = generated(&rt, kind, "3")?.written;
-        for time in 1..=2 {
-            let ending = run_on(&rt, &image, "8")?;
-            assert!(rt; prints(&ending, on_8), "{kind}, run {time}");
-        }
-    }
+fn a_bank_keeps_what_it_has(rt: HostRuntime) -> Result<(), Fail> {
+    let told = told_on_1_2_4_and_8(&rt, "bank")?;
+    assert_eq!(rt;
+        told.as_slice(),
+        b"0000fa00\n0000fa00\n0000fa00\n0000fa00\n".as_slice()
+    );
+    Ok(())
+}
+
+#[test]
+fn each_hart_adds_200_to_buckets(rt: HostRuntime) -> Result<(), Fail> {
+    let told = told_on_1_2_4_and_8(&rt, "buckets")?;
+    assert_eq!(rt;
+        told.as_slice(),
+        b"000000c8\n00000190\n00000320\n00000640\n".as_slice()
+    );
+    Ok(())
+}
+
+#[test]
+fn each_hart_adds_200_under_two_locks(rt: HostRuntime) -> Result<(), Fail> {
+    let told = told_on_1_2_4_and_8(&rt, "locks")?;
+    assert_eq!(rt;
+        told.as_slice(),
+        b"000000c8\n00000190\n00000320\n00000640\n".as_slice()
+    );
+    Ok(())
+}
+
+#[test]
+fn each_hart_adds_400_to_20_words(rt: HostRuntime) -> Result<(), Fail> {
+    let told = told_on_1_2_4_and_8(&rt, "overflow")?;
+    assert_eq!(rt;
+        told.as_slice(),
+        b"00000190\n00000320\n00000640\n00000c80\n".as_slice()
+    );
     Ok(())
 }
 
 // The number is the one that drawing begins with, and what is drawn never changes a sum.
 #[test]
 fn another_number_prints_the_same_sum(rt: HostRuntime) -> Result<(), Fail> {
-    let rows = [("counter", "1", "00000320\n"), ("bank", "7", "0000fa00\n")];
-    for (kind, number, told) in rows {
-        let image = generated(&rt, kind, number)?.written;
-        let ending = run_on(&rt, &image, "8")?;
-        assert!(rt; prints(&ending, told), "{kind} {number}");
-    }
+    let image = generated(&rt, "counter", "1")?.written;
+    let ending = run_on(&rt, &image, "8")?;
+    assert!(rt; prints(&ending, "00000320\n"));
+    Ok(())
+}
+
+#[test]
+fn a_second_run_says_the_same(rt: HostRuntime) -> Result<(), Fail> {
+    let image = generated(&rt, "bank", "7")?.written;
+    let first = run_on(&rt, &image, "8")?;
+    let second = run_on(&rt, &image, "8")?;
+    assert!(rt; prints(&first, "0000fa00\n"));
+    assert!(rt; prints(&second, "0000fa00\n"));
+    assert_eq!(rt; first.err.as_slice(), second.err.as_slice());
     Ok(())
 }
 
@@ -95,7 +121,7 @@ fn another_number_prints_the_same_sum(rt: HostRuntime) -> Result<(), Fail> {
 fn a_number_gives_the_same_file_each_time_and_another_gives_another(
     rt: HostRuntime,
 ) -> Result<(), Fail> {
-    for (kind, _) in KINDS {
+    for kind in KINDS {
         let first = generated(&rt, kind, "7")?.written;
         let again = generated(&rt, kind, "0000000007")?.written;
         let other = generated(&rt, kind, "4294967295")?.written;

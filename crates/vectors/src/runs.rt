@@ -112,7 +112,7 @@ fn total_store_order_is_no_fault(rt: HostRuntime) -> Result<(), Fail> {
 
 #[test]
 fn programs_end_as_their_harts_do(rt: HostRuntime) -> Result<(), Fail> {
-    let rows: [(&[u32], &str, u8, &[u8], &str, &[(u32, &str, &str)], &str); 6] = [
+    let rows: [(&[u32], &str, u8, &[u8], &str, &[(u32, &str, &str)], &str); 4] = [
         (
             &EXITS_WITH_ITS_NUMBER,
             "1",
@@ -158,28 +158,6 @@ fn programs_end_as_their_harts_do(rt: HostRuntime) -> Result<(), Fail> {
             &[(1, TOUCHED_NOTHING, "trap 4 at 00010054")],
             "serial 1 out 0",
         ),
-        (
-            &LOOPS,
-            "1",
-            3,
-            &[],
-            "elide plain harts 1 events 4000000",
-            &[(1000000, TOUCHED_NOTHING, "running")],
-            "serial 1000000 out 0",
-        ),
-        (
-            &LOOPS,
-            "3",
-            3,
-            &[],
-            "elide plain harts 3 events 4000000",
-            &[
-                (333334, TOUCHED_NOTHING, "running"),
-                (333333, TOUCHED_NOTHING, "running"),
-                (333333, TOUCHED_NOTHING, "running"),
-            ],
-            "serial 1000000 out 0",
-        ),
     ];
     for (code, harts, number, out, first, stands, last) in rows {
         let err = report_of(rt.alloc(), first, stands, last)?;
@@ -192,6 +170,38 @@ fn programs_end_as_their_harts_do(rt: HostRuntime) -> Result<(), Fail> {
             err.as_bytes(),
             "{code:?} on {harts}"
         );
+    }
+    Ok(())
+}
+
+// Without words for it, a run has 4,000,000 steps.
+#[test]
+fn a_program_that_never_ends_uses_up_its_steps(rt: HostRuntime) -> Result<(), Fail> {
+    let rows: [(&[&str], &str, &[(u32, &str, &str)], &str); 2] = [
+        (
+            &["run", "a"],
+            "elide plain harts 1 events 4000000",
+            &[(1000000, TOUCHED_NOTHING, "running")],
+            "serial 1000000 out 0",
+        ),
+        (
+            &["run", "a", "--harts", "3", "--steps", "400000"],
+            "elide plain harts 3 events 400000",
+            &[
+                (33334, TOUCHED_NOTHING, "running"),
+                (33333, TOUCHED_NOTHING, "running"),
+                (33333, TOUCHED_NOTHING, "running"),
+            ],
+            "serial 100000 out 0",
+        ),
+    ];
+    let image = image_of(rt.alloc(), &LOOPS)?;
+    for (words, first, stands, last) in rows {
+        let err = report_of(rt.alloc(), first, stands, last)?;
+        let ending = answer(&rt, words, &image, &[])?;
+        assert_eq!(rt; ending.status.number(), 3, "{words:?}");
+        assert_eq!(rt; ending.out.as_slice(), b"".as_slice(), "{words:?}");
+        assert_eq!(rt; ending.err.as_slice(), err.as_bytes(), "{words:?}");
     }
     Ok(())
 }

@@ -1,25 +1,39 @@
 #!/bin/sh
-# Prints how many steps and events a second the built program makes of a loop of 3,999,998 steps, the
-# best of five runs. The round robin of one hart makes four events a step. The time is that of the
-# whole run, from the start of the process to its end.
+# Prints how many events a second the built program makes of a loop, in each mode, on 1, 2 and 8 harts, each over a line
+# of its own and all over one line: the best of five runs. The loop takes no lock. One hart makes 3,999,998 steps, and one
+# in which its line is not there yet. Several harts use up the events that a run may have. The time is that of the whole
+# run, from the start of the process to its end.
 set -eu
 cd "$(dirname "$0")/.."
-image=$(mktemp)
-trap 'rm -f "$image"' EXIT
+own=$(mktemp)
+one=$(mktemp)
+trap 'rm -f "$own" "$one"' EXIT
 
-bench/loop_image.py "$image"
+bench/loop_image.py own "$own"
+bench/loop_image.py one "$one"
 
 ./elide run crates/elide/data/hello.elf > /dev/null 2>&1 # builds the program where it is not built
-python3 - "$image" <<'PYTHON'
-import subprocess, sys, time
+python3 - "$own" "$one" <<'PYTHON'
+import itertools, subprocess, sys, time
 
-STEPS = 3 + 8 * 499_999 + 3
-best = None
-for _ in range(5):
-    start = time.monotonic()
-    subprocess.run(["./elide", "run", sys.argv[1], "--steps", "16777216"], check=True, capture_output=True)
-    taken = time.monotonic() - start
-    best = taken if best is None else min(best, taken)
-events = 4 * (STEPS - 1) + 1
-print(f"{STEPS} steps, {events} events in {best:.3f} s: {best / STEPS * 1e9:.0f} ns a step, {best / events * 1e9:.1f} ns an event")
+
+def best_run(mode, image, harts):
+    """How many events a run has, and the seconds of the fastest of five."""
+    words = ["./elide", "run", image, "--mode", mode, "--harts", str(harts), "--steps", "16777216"]
+    best = None
+    for _ in range(5):
+        start = time.monotonic()
+        run = subprocess.run(words, capture_output=True, text=True)
+        taken = time.monotonic() - start
+        if run.returncode not in (0, 3):
+            sys.exit(run.stderr)
+        best = taken if best is None else min(best, taken)
+    return int(run.stderr.split("events ")[1].split()[0]), best
+
+
+IMAGES = (("a line each", sys.argv[1]), ("one line", sys.argv[2]))
+for mode, (lines, image), harts in itertools.product(("plain", "sle", "tlr"), IMAGES, (1, 2, 8)):
+    events, seconds = best_run(mode, image, harts)
+    print(f"{mode}, {harts} harts, {lines}: {events} events in {seconds:.3f} s,"
+          f" {events / seconds / 1e6:.1f} million a second, {seconds / events * 1e9:.0f} ns an event")
 PYTHON

@@ -1,9 +1,16 @@
 #!/usr/bin/env python3
-"""Writes the image of a loop of 3,999,998 steps to a file: bench/loop_image.py FILE"""
+"""Writes the image of a loop of 3,999,998 steps to a file: bench/loop_image.py own|one FILE
+
+Each hart loads from and stores to a line of its own, or all of them do to one line."""
 import struct, sys
 
+place, file = sys.argv[1:]
+FIRST = {
+    "own": 0xfc010293, # addi x5, x2, -64
+    "one": 0x000112b7, # lui  x5, 0x11       in the lowest stack
+}
 CODE = [
-    0xfc010293, #        addi x5, x2, -64
+    FIRST[place],
     0x0007a337, #        lui  x6, 0x7a
     0x11f30313, #        addi x6, x6, 0x11f   499,999 times:
     0x0002a383, # loop:  lw   x7, 0(x5)
@@ -22,5 +29,5 @@ size = 84 + 4 * len(CODE)
 header = struct.pack("<4s12BHHIIIIIHHHHHH", b"\x7fELF", 1, 1, 1, *[0] * 9,
                      2, 243, 1, 0x10054, 52, 0, 0, 52, 32, 1, 0, 0, 0)
 segment = struct.pack("<8I", 1, 0, 0x10000, 0x10000, size, size, 7, 0x1000)
-with open(sys.argv[1], "wb") as image:
+with open(file, "wb") as image:
     image.write(header + segment + struct.pack("<%dI" % len(CODE), *CODE))

@@ -1,5 +1,5 @@
 #!/bin/sh
-# Prints how long the report of 15,999,989 events takes, the best of five runs: from the last write to the
+# Prints how long the report of 15,999,993 events takes, the best of five runs: from the last write to the
 # trace, which comes before the report, to the moment at which the report has been read.
 set -eu
 cd "$(dirname "$0")/.."
@@ -7,7 +7,7 @@ image=$(mktemp)
 trace=$(mktemp)
 trap 'rm -f "$image" "$trace"' EXIT
 
-bench/loop_image.py "$image"
+bench/loop_image.py own "$image"
 ./elide run crates/elide/data/hello.elf > /dev/null 2>&1 # builds the program where it is not built
 python3 - "$image" "$trace" <<'PYTHON'
 import os, subprocess, sys, time

@@ -11,7 +11,7 @@ use Rattle.rv_flat.specs.FlatState.{FlatState}
 use Rattle.run_laws.proofs.Reachable.{live_sections_run_covered}
 use Rattle.run_laws.specs.PrivateRun.{IsCoveredRun}
 use Rattle.section_ctl.specs.State.{SectionState}
-use Rattle.section_view.proofs.ShownBytes.{sections_show_their_bytes}
+use Rattle.section_view.proofs.ShownBytes.{shows_bytes}
 use Rattle.section_view.specs.KeptRun.{HoldsMarked, KeepsRun}
 use Rattle.step_laws.proofs.Short.{sections_are_short}
 use Rattle.step_laws.specs.Counts.{IsSectionShort}
@@ -53,6 +53,6 @@ pub shows_stores : (story now : Story) (parts : Parts) (room h : ℕ) (section :
     ShowsStoresOverMemory (state_of now) h section kept.hold.entries
 shows_stores story now parts room h section kept stands same keeps live =
     let state = state_of now in
-    sections_show_their_bytes state.committed h (cache_of state h) section kept.marks.present kept.hold.entries
+    shows_bytes state.committed h (cache_of state h) section kept.marks.present kept.hold.entries
     (covered_in now room h section (subst (λ s. IsGiven s room) same stands.given) live)
     (kept_of state h section kept keeps live).run

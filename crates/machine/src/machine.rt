@@ -252,5 +252,4 @@ impl Machine {
 /// What memory has before the first step is bytes.
 fn are_bytes(bytes: &[u8])
     ensures { AreBytes bytes.now }
-{
-}
+{}

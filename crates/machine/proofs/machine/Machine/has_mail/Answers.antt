@@ -12,7 +12,6 @@ has_mail-requires c =
     subst (λ bus. c.args.hart.number < length bus.agents) (sym c.bus.ensures)
     (hart_exists _ _ (parts_stand _ _ _ c.self.invariant) (hart_there _ _ _ _ _ c.self.invariant c.self.view_is c.requires))
 
-
 pub returns : goal.returns
 returns c =
     let state = state_of c.args.self.now in

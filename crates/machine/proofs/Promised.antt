@@ -11,7 +11,7 @@ use Rattle.el_model.specs.Next.{next}
 use Rattle.el_model.specs.State.{ModelState, Section, is_live, section_of}
 use Rattle.engine.specs.Parts.{Parts}
 use Rattle.machine.proofs.Continued.{state_of_continued}
-use Rattle.machine.specs.Promises.{Change, EndsAreNamed, EndsIt, KeepsPromises, LeastStays, LosesToLess, OthersAreUntouched, ReleasesTakeEffect, StampsStay, change}
+use Rattle.machine.specs.Promises.{Change, EndsAreNamed, EndsIt, KeepsPromises, OthersAreUntouched, ReleasesTakeEffect, change}
 use Rattle.machine.specs.Stands.{IsGiven, Stands}
 use Rattle.machine.specs.Story.{Story, continued, state_of}
 use Rattle.removal_laws.proofs.Beating.{losers_lose_to_earlier}

@@ -35,3 +35,20 @@ runtime=("$here/runtime/runtime.c" "$here/runtime/arithmetic.c")
 image hello "$here/hello/hello.S"
 image table "$here/table/table.c" "${runtime[@]}"
 image counter "$here/counter/counter.c" "${runtime[@]}"
+
+# lock NAME SOURCE..: the image locks/NAME.elf, without relaxation, so that both linkers leave every `la` and
+# `call` two instructions, and the counts of locks/check.sh hold of either's image
+lock() {
+    local name=$1
+    shift
+    mkdir -p "$to/locks"
+    "${compile[@]}" "${code[@]}" -I "$here/runtime" -I "$here/locks" "$@" "$here/runtime/start.S" \
+        "${link[@]}" -Wl,--no-relax -o "$to/locks/$name.elf"
+}
+
+for name in private lock_word overflow; do
+    lock "$name" "$here/locks/$name.S" "$here/locks/finish.S"
+done
+for name in private_in_c accounts; do
+    lock "$name" "$here/locks/$name.c" "${runtime[@]}"
+done

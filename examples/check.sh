@@ -1,8 +1,8 @@
 #!/usr/bin/env bash
 # Runs the example images on 1, 2 and 8 harts and compares what they print, and the images that the program
-# itself writes on 1, 2, 4 and 8. Where a compiler for RISC-V
-# is there, it builds them anew and runs those too. Then it gives the program words that are no UTF-8,
-# which no test can. The last line counts the runs.
+# itself writes on 1, 2, 4 and 8. Those over locks have a script of their own, which also compares reports.
+# Where a compiler for RISC-V is there, it builds them anew and runs those too. Then it gives the program words
+# that are no UTF-8, which no test can. The last line counts the runs, but for those over locks.
 set -u
 cd "$(dirname "$0")/.." || exit 2
 passed=0
@@ -58,15 +58,24 @@ refuses() {
     fi
 }
 
+# over_locks [FOLDER]: the programs over locks, whose script counts its runs itself
+over_locks() {
+    examples/locks/check.sh "$@" || failed=$((failed + 1))
+}
+
 # Builds the program where it is not built.
 ./elide run crates/elide/data/hello.elf > /dev/null || exit 1
 
 all_of examples
+over_locks
 anew=$(mktemp -d) || exit 1
 trap 'rm -rf "$anew"' EXIT
 examples/build.sh "$anew"
 case $? in
-    0) all_of "$anew" ;;
+    0)
+        all_of "$anew"
+        over_locks "$anew/locks"
+        ;;
     3) echo "examples: not built anew" ;;
     *)
         echo "examples: the sources do not build"

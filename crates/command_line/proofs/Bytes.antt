@@ -1,16 +1,15 @@
 -- numbers for fields of one byte: one that is no byte is out of the field's range
-use Rattle.std.proofs.Common.{◌≡◌, ℕ, ◌&&◌, ◌||◌, Bool, true, false, List, [], ◌∷◌, refl, ap₂, arith, ltb, eqb}
+use Rattle.std.proofs.Common.{◌≡◌, ℕ, ◌<◌, ◌&&◌, ◌||◌, Bool, true, false, List, [], ◌∷◌, refl, ap₂, arith, ltb, eqb}
 use Rattle.std.specs.List.{list_all, list_any}
 use Rattle.std.proofs.lemmas.Bool.Decides.{nat_tests}
-use Rattle.el_base.specs.Config.{config_fault, set_counts, usual, within}
+use Rattle.el_base.specs.Config.{config_fault, set_counts, within}
 use Rattle.el_base.specs.declared.config.Config.{Config}
-use Rattle.el_base.specs.declared.config.Mode.TheVariants.{Plain}
 use Rattle.command_line.specs.Settings.{byte_or_none}
 
-within_8 : (n : ℕ) → within 1 8 (byte_or_none n) ≡ within 1 8 n
-within_8 n = go (ltb n 256) refl
+within_byte : (high n : ℕ) → high < 256 → within 1 high (byte_or_none n) ≡ within 1 high n
+within_byte high n small = go (ltb n 256) refl
   where
-    go : (b : Bool) → ltb n 256 ≡ b → within 1 8 (byte_or_none n) ≡ within 1 8 n
+    go : (b : Bool) → ltb n 256 ≡ b → within 1 high (byte_or_none n) ≡ within 1 high n
     go true e = rw e refl
     go false e = rw e (grind (arith, nat_tests))
 
@@ -37,9 +36,17 @@ counts n = go (ltb n 256) refl
     go true e = rw e refl
     go false e = rw (e, no_byte n e set_counts refl) refl
 
-abbrev pub plain_config : ℕ → ℕ → ℕ → ℕ → Config
-plain_config harts sets ways steps = record usual { harts = harts; mode = Plain; sets = sets; ways = ways; steps = steps }
+-- the configuration with what is a byte in each field of one byte
+abbrev pub with_bytes : Config → Config
+with_bytes config = record config {
+  harts = byte_or_none config.harts;
+  sets = byte_or_none config.sets;
+  ways = byte_or_none config.ways;
+  lines = byte_or_none config.lines;
+}
 
-pub same_fault : (harts sets ways steps : ℕ)
-    → config_fault (plain_config (byte_or_none harts) (byte_or_none sets) (byte_or_none ways) steps) ≡ config_fault (plain_config harts sets ways steps)
-same_fault harts sets ways steps = rw (within_8 harts, counts sets, within_8 ways) refl
+pub same_fault : (config : Config) → config_fault (with_bytes config) ≡ config_fault config
+same_fault config =
+    rw
+    (within_byte 8 config.harts (omega arith), counts config.sets, within_byte 8 config.ways (omega arith), within_byte 32 config.lines (omega arith))
+    refl

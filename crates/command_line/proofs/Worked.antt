@@ -2,8 +2,8 @@
 use Rattle.std.proofs.Common.{◌≡◌, ℕ, List, [], ◌∷◌, Option, None, Some, refl}
 use Rattle.std.specs.Prelude.{codes}
 use Rattle.el_base.specs.Config.{config_fault, usual}
-use Rattle.el_base.specs.declared.config.ConfigFault.TheVariants.{Harts, Sets, Steps, Ways}
-use Rattle.el_base.specs.declared.config.Mode.TheVariants.{Plain}
+use Rattle.el_base.specs.declared.config.ConfigFault.TheVariants.{Harts, Lines, Long, Sets, Steps, Ways}
+use Rattle.el_base.specs.declared.config.Mode.TheVariants.{Plain, Sle, Tlr}
 use Rattle.command_line.specs.Numbers.{number_of}
 use Rattle.command_line.specs.Settings.{config_of}
 use Rattle.command_line.specs.Words.{Job, Gen, Replay, Run, RunJob, job_of}
@@ -11,7 +11,17 @@ use Rattle.workload.specs.declared.work.Work.TheVariants.{Bank, Overflow}
 
 -- to run the image `a` with no option
 abbrev bare : RunJob
-bare = record { image = codes "a"; harts = None; sets = None; ways = None; steps = None; trace = None }
+bare = record {
+  image = codes "a";
+  mode = None;
+  harts = None;
+  sets = None;
+  ways = None;
+  lines = None;
+  long = None;
+  steps = None;
+  trace = None;
+}
 
 abbrev run_a : List (List ℕ) → Option Job
 run_a words = job_of (codes "run" ∷ codes "a" ∷ words)
@@ -25,6 +35,17 @@ options_in_any_order :
     ∷ codes "--sets" ∷ codes "64" ∷ [])
     ≡ Some (Run (record bare { harts = Some 2; sets = Some 64; ways = Some 8; steps = Some 33; trace = Some (codes "t") }))
 options_in_any_order = refl
+
+modes_and_sections :
+    run_a (codes "--lines=8" ∷ codes "--mode" ∷ codes "sle" ∷ codes "--long" ∷ codes "100" ∷ [])
+    ≡ Some (Run (record bare { mode = Some Sle; lines = Some 8; long = Some 100 }))
+modes_and_sections = refl
+
+plain_mode : run_a (codes "--mode=plain" ∷ []) ≡ Some (Run (record bare { mode = Some Plain }))
+plain_mode = refl
+
+tlr_mode : run_a (codes "--mode=tlr" ∷ []) ≡ Some (Run (record bare { mode = Some Tlr }))
+tlr_mode = refl
 
 replays : job_of (codes "replay" ∷ codes "a" ∷ codes "t" ∷ []) ≡ Some (Replay (codes "a") (codes "t"))
 replays = refl
@@ -50,6 +71,9 @@ no_number = refl
 
 no_value : run_a (codes "--steps" ∷ []) ≡ None
 no_value = refl
+
+no_such_mode : run_a (codes "--mode" ∷ codes "none" ∷ []) ≡ None
+no_such_mode = refl
 
 no_such_option : run_a (codes "--threads" ∷ codes "5" ∷ []) ≡ None
 no_such_option = refl
@@ -101,9 +125,12 @@ eleven_digits = refl
 no_digits : number_of [] ≡ None
 no_digits = refl
 
--- what is not given is as usual, and the mode is plain
-bare_config : config_of bare ≡ record usual { mode = Plain }
+-- what is not given is as usual
+bare_config : config_of bare ≡ usual
 bare_config = refl
+
+sections : config_of (record bare { mode = Some Plain; lines = Some 8; long = Some 100 }) ≡ record usual { mode = Plain; lines = 8; long = 100 }
+sections = refl
 
 nine_harts : config_fault (config_of (record bare { harts = Some 9 })) ≡ Some Harts
 nine_harts = refl
@@ -113,6 +140,12 @@ three_sets = refl
 
 no_ways : config_fault (config_of (record bare { ways = Some 0 })) ≡ Some Ways
 no_ways = refl
+
+many_lines : config_fault (config_of (record bare { lines = Some 33 })) ≡ Some Lines
+many_lines = refl
+
+one_instruction : config_fault (config_of (record bare { long = Some 1 })) ≡ Some Long
+one_instruction = refl
 
 no_steps : config_fault (config_of (record bare { steps = Some 0 })) ≡ Some Steps
 no_steps = refl

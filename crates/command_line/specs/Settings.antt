@@ -2,16 +2,17 @@
 use Rattle.std.specs.Prelude.{ℕ, ◌^◌, nat_lt, if◌then◌else◌, unwrap_or}
 use Rattle.el_base.specs.Config.{usual}
 use Rattle.el_base.specs.declared.config.Config.{Config}
-use Rattle.el_base.specs.declared.config.Mode.TheVariants.{Plain}
 use Rattle.command_line.specs.Words.{RunJob}
 
--- no section is built, so its mode is plain; what was not given is as usual
+-- what was not given is as usual
 abbrev pub config_of : RunJob → Config
-config_of job = record usual {
+config_of job = record {
   harts = unwrap_or job.harts usual.harts;
-  mode = Plain;
+  mode = unwrap_or job.mode usual.mode;
   sets = unwrap_or job.sets usual.sets;
   ways = unwrap_or job.ways usual.ways;
+  lines = unwrap_or job.lines usual.lines;
+  long = unwrap_or job.long usual.long;
   steps = unwrap_or job.steps usual.steps;
 }
 

@@ -2,6 +2,8 @@
 use Rattle.std.specs.Prelude.{ℕ, List, [], ◌∷◌, String, string_bytes, map, codes, bytes_eq, Option, None, Some, if◌then◌else◌}
 use Rattle.std.specs.Option.{option_map}
 use Rattle.std.specs.Global.{Global}
+use Rattle.el_base.specs.declared.config.Mode.{Mode}
+use Rattle.el_base.specs.declared.config.Mode.TheVariants.{Plain, Sle, Tlr}
 use Rattle.command_line.specs.Fields.{Field, Form, ◌>>=◌, fields_of, value_in}
 use Rattle.command_line.specs.Numbers.{number_of}
 use Rattle.command_line.specs.declared.command.Command.{Command}
@@ -13,9 +15,12 @@ use Rattle.workload.specs.declared.work.Work.TheVariants.{Counter, Bank, Buckets
 -- an image to run, with what was given of the options
 pub record RunJob : Type 0 where
   pub image : List ℕ
+  pub mode : Option Mode
   pub harts : Option ℕ
   pub sets : Option ℕ
   pub ways : Option ℕ
+  pub lines : Option ℕ
+  pub long : Option ℕ
   pub steps : Option ℕ
   pub trace : Option (List ℕ)
 
@@ -29,26 +34,48 @@ pub data Job : Type 0 where
 abbrev pub texts : List (String Global) → List (List ℕ)
 texts words = map string_bytes words
 
--- the number that is given, if any is: its word is a number word
-abbrev pub optional_number_of : Option (List ℕ) → Option (Option ℕ)
-optional_number_of None = Some None
-optional_number_of (Some word) = option_map (λ number. Some number) (number_of word)
+-- the mode of a word
+abbrev pub mode_of : List ℕ → Option Mode
+mode_of word =
+    if bytes_eq word (codes "plain") then Some Plain
+    else if bytes_eq word (codes "sle") then Some Sle
+    else if bytes_eq word (codes "tlr") then Some Tlr
+    else None
 
--- `IMAGE [--harts N] [--sets N] [--ways N] [--steps N] [--trace FILE]`
+-- what is given, if anything is: its word has this meaning
+abbrev pub optional : {A : Type 0} → (List ℕ → Option A) → Option (List ℕ) → Option (Option A)
+optional means None = Some None
+optional means (Some word) = option_map (λ value. Some value) (means word)
+
+-- `IMAGE [--mode plain|sle|tlr] [--harts N] [--sets N] [--ways N] [--lines N] [--long N] [--steps N] [--trace FILE]`
 abbrev pub run_form : Form
 run_form = record {
   positionals = codes "image" ∷ [];
-  options = codes "harts" ∷ codes "sets" ∷ codes "ways" ∷ codes "steps" ∷ codes "trace" ∷ [];
+  options =
+      codes "mode" ∷ codes "harts" ∷ codes "sets" ∷ codes "ways" ∷ codes "lines" ∷ codes "long" ∷ codes "steps" ∷ codes "trace" ∷ [];
 }
 
 abbrev pub run_in : List Field → Option Job
 run_in fields = do
   image ← value_in fields (codes "image")
-  harts ← optional_number_of (value_in fields (codes "harts"))
-  sets ← optional_number_of (value_in fields (codes "sets"))
-  ways ← optional_number_of (value_in fields (codes "ways"))
-  steps ← optional_number_of (value_in fields (codes "steps"))
-  Some (Run (record { image = image; harts = harts; sets = sets; ways = ways; steps = steps; trace = value_in fields (codes "trace") }))
+  mode ← optional mode_of (value_in fields (codes "mode"))
+  harts ← optional number_of (value_in fields (codes "harts"))
+  sets ← optional number_of (value_in fields (codes "sets"))
+  ways ← optional number_of (value_in fields (codes "ways"))
+  lines ← optional number_of (value_in fields (codes "lines"))
+  long ← optional number_of (value_in fields (codes "long"))
+  steps ← optional number_of (value_in fields (codes "steps"))
+  Some (Run (record {
+    image = image;
+    mode = mode;
+    harts = harts;
+    sets = sets;
+    ways = ways;
+    lines = lines;
+    long = long;
+    steps = steps;
+    trace = value_in fields (codes "trace");
+  }))
 
 abbrev pub run_of : List (List ℕ) → Option Job
 run_of words = fields_of run_form words >>= run_in
@@ -102,9 +129,12 @@ job_of (name ∷ words) =
 abbrev pub run_meaning : RunCommand → RunJob
 run_meaning command = record {
   image = command.image.now;
+  mode = command.mode;
   harts = command.harts;
   sets = command.sets;
   ways = command.ways;
+  lines = command.lines;
+  long = command.long;
   steps = command.steps;
   trace = option_map (λ name. name.now) command.trace;
 }

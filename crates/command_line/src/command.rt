@@ -1,3 +1,4 @@
+use el_base::Mode;
 use workload::Work;
 
 /// What a command line asks for.
@@ -18,17 +19,24 @@ pub enum Command<'a> {
     },
 }
 
-/// `run IMAGE` with its options, as they are given: [`RunCommand::config`] judges the numbers.
+/// `run IMAGE` with its options, as they are given: [`RunCommand::config`] judges the numbers, and says
+/// what stands for an option that is not given.
 #[derive(Clone, Copy, Debug, PartialEq, Eq)]
 pub struct RunCommand<'a> {
     /// The file of the image.
     pub image: &'a str,
+    /// `--mode`, how the machine treats an acquire.
+    pub mode: Option<Mode>,
     /// `--harts`, the number of harts.
     pub harts: Option<u32>,
     /// `--sets`, the sets in each cache.
     pub sets: Option<u32>,
     /// `--ways`, the lines in each set.
     pub ways: Option<u32>,
+    /// `--lines`, the most lines that a section may write.
+    pub lines: Option<u32>,
+    /// `--long`, the most instructions that a section may run.
+    pub long: Option<u32>,
     /// `--steps`, the most events of the run.
     pub steps: Option<u32>,
     /// `--trace`, the file that the trace is to be written to.

@@ -11,7 +11,9 @@ pub(crate) struct Form {
 
 pub(crate) const RUN: Form = Form {
     positionals: &["image"],
-    options: &["harts", "sets", "ways", "steps", "trace"],
+    options: &[
+        "mode", "harts", "sets", "ways", "lines", "long", "steps", "trace",
+    ],
 };
 
 pub(crate) const REPLAY: Form = Form {

@@ -1,13 +1,15 @@
 //! What the words mean.
 
 ghost use Rattle.std.specs.Prelude.{◌≡◌, None, Some, IfOk, MatchResult, option_map};
-ghost use Rattle.command_line.specs.Words.{gen_of, job_of, kind_of, meaning, optional_number_of, replay_of, run_of, texts};
+ghost use Rattle.command_line.specs.Words.{gen_of, job_of, kind_of, meaning, mode_of, optional, replay_of, run_of, texts};
+ghost use Rattle.command_line.specs.Numbers.{number_of};
 
 use crate::command::{Command, RunCommand};
 use crate::fault::WordsFault;
 use crate::form::{GEN, REPLAY, RUN};
 use crate::matching::Given;
 use crate::numbers::read_number;
+use el_base::Mode;
 use std::alloc::Global;
 use workload::Work;
 
@@ -35,9 +37,12 @@ fn read_run(alloc: Global, words: &[String]) -> Result<Command<'_>, WordsFault>
     let given = Given::by_form(alloc, RUN, words)?;
     Ok(Command::Run(RunCommand {
         image: given.value("image").ok_or(WordsFault::Usage)?,
+        mode: read_optional_mode(given.value("mode"))?,
         harts: read_optional_number(given.value("harts"))?,
         sets: read_optional_number(given.value("sets"))?,
         ways: read_optional_number(given.value("ways"))?,
+        lines: read_optional_number(given.value("lines"))?,
+        long: read_optional_number(given.value("long"))?,
         steps: read_optional_number(given.value("steps"))?,
         trace: given.value("trace"),
     }))
@@ -71,12 +76,35 @@ fn read_gen(alloc: Global, words: &[String]) -> Result<Command<'_>, WordsFault>
 /// The number of an option, where it is given.
 fn read_optional_number(word: Option<&str>) -> Result<Option<u32>, WordsFault>
     ensures { MatchResult result
-        (λ number. optional_number_of (option_map (λ word. word.now) word.entry) ≡ Some number)
-        (λ fault. (fault ≡ WordsFault.Usage) × (optional_number_of (option_map (λ word. word.now) word.entry) ≡ None)) }
+        (λ number. optional number_of (option_map (λ word. word.now) word.entry) ≡ Some number)
+        (λ fault. (fault ≡ WordsFault.Usage) × (optional number_of (option_map (λ word. word.now) word.entry) ≡ None)) }
 {
     match word {
         Some(word) => Ok(Some(read_number(word).ok_or(WordsFault::Usage)?)),
         None => Ok(None),
+    }
+}
+
+/// The mode of an option, where it is given.
+fn read_optional_mode(word: Option<&str>) -> Result<Option<Mode>, WordsFault>
+    ensures { MatchResult result
+        (λ mode. optional mode_of (option_map (λ word. word.now) word.entry) ≡ Some mode)
+        (λ fault. (fault ≡ WordsFault.Usage) × (optional mode_of (option_map (λ word. word.now) word.entry) ≡ None)) }
+{
+    match word {
+        Some(word) => Ok(Some(read_mode(word).ok_or(WordsFault::Usage)?)),
+        None => Ok(None),
+    }
+}
+
+fn read_mode(word: &str) -> Option<Mode>
+    ensures { result ≡ mode_of word.now }
+{
+    match word {
+        "plain" => Some(Mode::Plain),
+        "sle" => Some(Mode::Sle),
+        "tlr" => Some(Mode::Tlr),
+        _ => None,
     }
 }
 

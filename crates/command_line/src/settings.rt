@@ -4,10 +4,11 @@ ghost use Rattle.command_line.specs.Settings.{byte_or_none, config_of};
 ghost use Rattle.command_line.specs.Words.{run_meaning};
 
 use crate::command::RunCommand;
-use el_base::{Config, ConfigFault, Mode};
+use el_base::{Config, ConfigFault};
 
 impl RunCommand<'_> {
-    /// The configuration that the options ask for, or its first field that is out of range.
+    /// The configuration that the options ask for, usual in what they do not, or its first field that is
+    /// out of range.
     pub fn config(&self) -> Result<Config, ConfigFault>
         ensures { MatchResult result
             (λ config. (config ≡ config_of (run_meaning self.now)) × IsInRange config)
@@ -16,11 +17,12 @@ impl RunCommand<'_> {
         let usual = Config::usual();
         let config = Config {
             harts: byte_given(self.harts, usual.harts),
-            mode: Mode::Plain,
+            mode: self.mode.unwrap_or(usual.mode),
             sets: byte_given(self.sets, usual.sets),
             ways: byte_given(self.ways, usual.ways),
+            lines: byte_given(self.lines, usual.lines),
+            long: self.long.unwrap_or(usual.long),
             steps: self.steps.unwrap_or(usual.steps),
-            ..usual
         };
         config.check()?;
         Ok(config)

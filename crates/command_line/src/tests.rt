@@ -5,9 +5,12 @@ use std::test::Fail;
 
 const BARE: RunCommand = RunCommand {
     image: "a",
+    mode: None,
     harts: None,
     sets: None,
     ways: None,
+    lines: None,
+    long: None,
     steps: None,
     trace: None,
 };
@@ -19,9 +22,17 @@ fn strings(alloc: Global, words: &[&str]) -> Result<Vec<String>, AllocError> {
         .try_collect(alloc)
 }
 
+/// To run `a` in a mode that is named.
+fn in_mode(mode: Mode) -> Command<'static> {
+    Command::Run(RunCommand {
+        mode: Some(mode),
+        ..BARE
+    })
+}
+
 #[test]
 fn command_lines_mean_what_they_say(rt: HostRuntime) -> Result<(), Fail> {
-    let rows: [(&[&str], Command); 8] = [
+    let rows: [(&[&str], Command); 11] = [
         (&["run", "a"], Command::Run(BARE)),
         (
             &[
@@ -36,16 +47,27 @@ fn command_lines_mean_what_they_say(rt: HostRuntime) -> Result<(), Fail> {
                 "t",
                 "--steps",
                 "33",
+                "--long=2",
+                "--mode",
+                "sle",
+                "--lines",
+                "0",
             ],
             Command::Run(RunCommand {
                 image: "a",
+                mode: Some(Mode::Sle),
                 harts: Some(8),
                 sets: Some(3),
                 ways: Some(4_294_967_295),
+                lines: Some(0),
+                long: Some(2),
                 steps: Some(33),
                 trace: Some("t"),
             }),
         ),
+        (&["run", "a", "--mode", "plain"], in_mode(Mode::Plain)),
+        (&["run", "--mode=sle", "a"], in_mode(Mode::Sle)),
+        (&["run", "a", "--mode=tlr"], in_mode(Mode::Tlr)),
         (
             &["replay", "a", "t"],
             Command::Replay {
@@ -134,7 +156,7 @@ fn words_that_begin_with_a_dash(rt: HostRuntime) -> Result<(), Fail> {
 
 #[test]
 fn other_words_are_no_command_line(rt: HostRuntime) -> Result<(), Fail> {
-    let rows: [&[&str]; 20] = [
+    let rows: [&[&str]; 28] = [
         &[],
         &["walk", "x"],
         &["--harts=2"],
@@ -148,7 +170,15 @@ fn other_words_are_no_command_line(rt: HostRuntime) -> Result<(), Fail> {
         &["run", "a", "--steps", "4294967296"],
         &["run", "a", "--steps", "00000000001"],
         &["run", "a", "--threads", "5"],
-        &["run", "a", "--mode", "plain"],
+        &["run", "a", "--mode"],
+        &["run", "a", "--mode", "none"],
+        &["run", "a", "--mode", "Plain"],
+        &["run", "a", "--mode", "tlr "],
+        &["run", "a", "--mode="],
+        &["run", "a", "--mode", "2"],
+        &["run", "a", "--mode", "tlr", "--mode=tlr"],
+        &["run", "a", "--lines", "x"],
+        &["run", "a", "--long", "4294967296"],
         &["run", "a", "--help"],
         &["replay", "a"],
         &["replay", "a", "t", "--harts=1"],
@@ -170,43 +200,128 @@ fn other_words_are_no_command_line(rt: HostRuntime) -> Result<(), Fail> {
 fn options_make_a_configuration(rt: HostRuntime) {
     let usual = Config {
         harts: 1,
-        mode: Mode::Plain,
+        mode: Mode::Tlr,
         sets: 16,
         ways: 4,
         lines: 16,
         long: 2_000,
         steps: 4_000_000,
     };
+    let least = Config {
+        harts: 1,
+        sets: 1,
+        ways: 1,
+        lines: 1,
+        long: 2,
+        steps: 1,
+        ..usual
+    };
     let most = Config {
         harts: 8,
         sets: 64,
         ways: 8,
+        lines: 32,
+        long: 65_536,
         steps: 16_777_216,
         ..usual
     };
     let rows = [
-        ([None, None, None, None], Ok(usual)),
-        ([Some(8), Some(64), Some(8), Some(16_777_216)], Ok(most)),
+        ([None, None, None, None, None, None], Ok(usual)),
         (
-            [Some(9), Some(3), Some(9), Some(0)],
+            [Some(1), Some(1), Some(1), Some(1), Some(2), Some(1)],
+            Ok(least),
+        ),
+        (
+            [
+                Some(8),
+                Some(64),
+                Some(8),
+                Some(32),
+                Some(65_536),
+                Some(16_777_216),
+            ],
+            Ok(most),
+        ),
+        (
+            [Some(9), Some(3), Some(9), Some(33), Some(1), Some(0)],
             Err(ConfigFault::Harts),
         ),
-        ([Some(257), None, None, None], Err(ConfigFault::Harts)),
-        ([None, Some(272), Some(9), Some(0)], Err(ConfigFault::Sets)),
-        ([None, None, Some(260), Some(0)], Err(ConfigFault::Ways)),
-        ([None, None, None, Some(0)], Err(ConfigFault::Steps)),
+        (
+            [Some(257), None, None, None, None, None],
+            Err(ConfigFault::Harts),
+        ),
+        (
+            [None, Some(272), Some(9), Some(0), Some(0), Some(0)],
+            Err(ConfigFault::Sets),
+        ),
+        (
+            [None, None, Some(260), Some(0), Some(0), Some(0)],
+            Err(ConfigFault::Ways),
+        ),
+        (
+            [None, None, None, Some(0), Some(1), Some(0)],
+            Err(ConfigFault::Lines),
+        ),
+        (
+            [None, None, None, Some(33), None, None],
+            Err(ConfigFault::Lines),
+        ),
+        (
+            [None, None, None, Some(272), Some(1), None],
+            Err(ConfigFault::Lines),
+        ),
+        (
+            [None, None, None, None, Some(1), Some(0)],
+            Err(ConfigFault::Long),
+        ),
+        (
+            [None, None, None, None, Some(65_537), None],
+            Err(ConfigFault::Long),
+        ),
+        (
+            [None, None, None, None, Some(4_294_967_295), None],
+            Err(ConfigFault::Long),
+        ),
+        (
+            [None, None, None, None, None, Some(0)],
+            Err(ConfigFault::Steps),
+        ),
+        (
+            [None, None, None, None, None, Some(16_777_217)],
+            Err(ConfigFault::Steps),
+        ),
     ];
-    for ([harts, sets, ways, steps], want) in rows {
+    for ([harts, sets, ways, lines, long, steps], want) in rows {
         let command = RunCommand {
             harts,
             sets,
             ways,
+            lines,
+            long,
             steps,
             ..BARE
         };
         assert!(rt;
             command.config() == want,
-            "{harts:?} {sets:?} {ways:?} {steps:?}"
+            "{harts:?} {sets:?} {ways:?} {lines:?} {long:?} {steps:?}"
         );
+    }
+}
+
+#[test]
+fn the_mode_is_the_one_that_is_named(rt: HostRuntime) {
+    let rows = [
+        (None, Mode::Tlr),
+        (Some(Mode::Plain), Mode::Plain),
+        (Some(Mode::Sle), Mode::Sle),
+        (Some(Mode::Tlr), Mode::Tlr),
+    ];
+    for (mode, want) in rows {
+        let config = RunCommand { mode, ..BARE }.config();
+        let usual = Config {
+            mode: want,
+            ..Config::usual()
+        };
+        assert!(rt; config == Ok(usual), "{mode:?}");
     }
 }

@@ -34,7 +34,8 @@ start_harts program = length-map-range_with_len (first_view program) 0 program.h
 
 -- a machine stands before its first event
 pub first : (program : Program) (config : Config) (parts : Parts) (entries : List Entry) (room : ℕ) → IsProgram program →
-    AreBytes program.bytes → IsInRange config → program.harts ≡ config.harts → IsReady parts.bus → IsIn parts (begin program config) → entries ≡ [] → room ≡ config.steps →
+    AreBytes program.bytes → IsInRange config → program.harts ≡ config.harts → IsReady parts.bus → IsIn parts (begin program config) →
+    entries ≡ [] → room ≡ config.steps →
     Stands (record { program = program; config = config; entries = entries }) parts room
 first program config parts entries room valid bytes in_range one_each ready is none places =
     rw (none, places)

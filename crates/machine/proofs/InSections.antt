@@ -1,18 +1,17 @@
 -- what holds of the live sections of a machine
-use Rattle.std.proofs.Common.{◌≡◌, ◌∙◌, ℕ, Option, None, Some, ap, subst, sym}
+use Rattle.std.proofs.Common.{◌≡◌, ℕ, Some, subst}
 use Rattle.chronicle.specs.Chronicle.{events}
 use Rattle.el_model.specs.State.{ModelState, Section, cache_of, section_of}
 use Rattle.engine.specs.Parts.{KeepsSection, KeepsSectionOf, Parts}
 use Rattle.machine.proofs.GoesOn.{reached_committed}
-use Rattle.machine.specs.Promises.{IsSoundSection, ShowsStoresOverMemory}
+use Rattle.machine.specs.Promises.{ShowsStoresOverMemory}
 use Rattle.machine.specs.Stands.{IsGiven, Stands}
 use Rattle.machine.specs.Story.{Story, committed, state_of}
-use Rattle.rv_flat.specs.FlatState.{FlatState}
 use Rattle.run_laws.proofs.Reachable.{live_sections_run_covered}
 use Rattle.run_laws.specs.PrivateRun.{IsCoveredRun}
 use Rattle.section_ctl.specs.State.{SectionState}
 use Rattle.section_view.proofs.ShownBytes.{shows_bytes}
-use Rattle.section_view.specs.KeptRun.{HoldsMarked, KeepsRun}
+use Rattle.section_view.specs.KeptRun.{KeepsRun}
 use Rattle.step_laws.proofs.Short.{sections_are_short}
 use Rattle.step_laws.specs.Counts.{IsSectionShort}
 

@@ -1,17 +1,14 @@
 -- what one event keeps of live sections, by the laws of the machine's definition
-use Rattle.std.proofs.Common.{◌≡◌, ◌∙◌, ◌⊎◌, ℕ, [], ◌∷◌, true, false, None, Some, ap, inl, inr, refl, subst, sym}
+use Rattle.std.proofs.Common.{◌≡◌, ◌∙◌, ◌⊎◌, ℕ, [], ◌∷◌, ap, inl, inr, refl, subst, sym}
 use Rattle.std.specs.Prelude.{IsSome}
 use Rattle.chronicle.specs.Chronicle.{events}
-use Rattle.el_base.specs.declared.config.Mode.TheVariants.{Tlr}
 use Rattle.el_base.specs.declared.events.Event.{Event}
-use Rattle.el_base.specs.declared.events.Kind.TheVariants as kinds
 use Rattle.el_base.specs.declared.outcomes.Outcome.{Outcome}
 use Rattle.el_model.specs.Losses.{winner_over}
 use Rattle.el_model.specs.Next.{next}
-use Rattle.el_model.specs.State.{ModelState, Section, is_live, section_of}
 use Rattle.engine.specs.Parts.{Parts}
 use Rattle.machine.proofs.Continued.{state_of_continued}
-use Rattle.machine.specs.Promises.{Change, EndsAreNamed, EndsIt, KeepsPromises, LeastStays, LosesToLess, OthersAreUntouched, ReleasesTakeEffect, StampsStay, change}
+use Rattle.machine.specs.Promises.{Change, EndsAreNamed, EndsIt, KeepsPromises, OthersAreUntouched, ReleasesTakeEffect, change}
 use Rattle.machine.specs.Stands.{IsGiven, Stands}
 use Rattle.machine.specs.Story.{Story, continued, state_of}
 use Rattle.removal_laws.proofs.Beating.{losers_lose_to_earlier}

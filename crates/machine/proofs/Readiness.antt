@@ -1,5 +1,6 @@
 -- which events of a hart are progress, and the first of all harts
-use Rattle.std.proofs.Common.{◌≡◌, ◌≢◌, ◌∙◌, ◌↔◌, ℕ, suc, ◌+◌, ◌<◌, ◌≤◌, Bool, true, false, not, List, [], ◌∷◌, Option, None, Some, is_some, length, drop, refl, ap, arith, cond, subst, sym}
+use Rattle.std.proofs.Common.{◌≡◌, ◌≢◌, ◌∙◌, ◌↔◌, ℕ, suc, ◌+◌, ◌<◌, ◌≤◌, Bool, true, false, not, List, [], ◌∷◌, Option, None, Some}
+use Rattle.std.proofs.Common.{is_some, length, drop, refl, ap, arith, cond, sym}
 use Rattle.std.specs.List.{find, flat_map}
 use Rattle.std.specs.Option.{option_or}
 use Rattle.std.proofs.lemmas.List.{at_drop_more, drop_all}
@@ -17,7 +18,7 @@ use Rattle.el_model.specs.Deliver.{deliver_next, deliver_turn}
 use Rattle.el_model.specs.Next.{is_over, next, status_turn, step_turn}
 use Rattle.el_model.specs.Order.{order_raised, order_turn}
 use Rattle.el_model.specs.Serve.{Blocks, Free, Obstacle, obstacle_to, serve_ordered, serve_past, serve_turn}
-use Rattle.el_model.specs.State.{Hart, ModelState, count_up, has_request, hart_of, ordered_of, raised_of}
+use Rattle.el_model.specs.State.{ModelState, count_up, has_request, hart_of, ordered_of, raised_of}
 use Rattle.machine.proofs.GoesOn.{start_harts}
 use Rattle.machine.specs.Story.{Story, state_of}
 use Rattle.engine.proofs.Places.{keeps_place}

@@ -1,5 +1,5 @@
 -- a line at which a byte is told lies in memory
-use Rattle.std.proofs.Common.{◌≡◌, ℕ, ◌+◌, ◌<◌, ◌≤◌, true, length, Option, Some, None, is_some, inl, inr, arith}
+use Rattle.std.proofs.Common.{◌≡◌, ℕ, ◌+◌, true, length, Option, Some, None, is_some, inl, inr, arith}
 use Rattle.std.specs.Prelude.{IsNone, ◌↔◌}
 use Rattle.std.proofs.lemmas.Bool.{cases_lt}
 use Rattle.coherence.specs.Served.{Copies, HasLine}

@@ -54,7 +54,7 @@ fn hart(number: u8) -> Result<HartId, Fail> {
 
 /// A file that is known to be an image, for so many harts.
 fn image(rt: &impl Abort, alloc: Global, file: &[u8], harts: u8) -> Result<Image, Fail> {
-    assert!(rt; file.len() <= 200);
+    assert!(rt; file.len() <= 1_000);
     assert!(rt; (1..=8).contains(&harts));
     Ok(load(alloc, file, harts).map_err(|_| "no image")?)
 }
@@ -77,7 +77,6 @@ fn made(
 ) -> Result<Result<Machine, MakeFault>, Fail> {
     let image = image(rt, alloc, file, config.harts)?;
     assert_eq!(rt; image.harts(), config.harts);
-    assert_eq!(rt; config.mode, Mode::Plain);
     Ok(Machine::make(alloc, image, config))
 }
 
@@ -188,11 +187,32 @@ fn a_program_runs_to_its_end(rt: HostRuntime) -> Result<(), Fail> {
     assert_eq!(rt; status(&rt, &machine, only), HartStatus::Running);
     play(&rt, &mut machine, &rows)?;
     assert!(rt; machine.over());
+    assert_eq!(rt; machine.ready(), None);
     assert_eq!(rt; act(&rt, &mut machine, Kind::Step, only), Outcome::Idle);
     assert_eq!(rt; machine.steps_left(), 2);
     assert_eq!(rt; machine.output(), b"A\n".as_slice());
     assert_eq!(rt; status(&rt, &machine, only), HartStatus::Exited { code: 0 });
     assert_eq!(rt; machine.history().serial_len(), 9);
+    Ok(())
+}
+
+/// Ten steps of a hart that waits, in each mode: five run, one misses, and the others stall.
+#[test]
+fn a_machine_has_so_many_steps(rt: HostRuntime) -> Result<(), Fail> {
+    for mode in [Mode::Plain, Mode::Sle, Mode::Tlr] {
+        let config = Config {
+            mode,
+            ..plain(1, 10)
+        };
+        let mut machine = machine(&rt, rt.alloc(), &FILE, config)?;
+        let rows = [
+            (Kind::Step, 0, 5, Outcome::Ran),
+            (Kind::Step, 0, 1, missed()),
+            (Kind::Step, 0, 4, Outcome::Stalled),
+        ];
+        play(&rt, &mut machine, &rows)?;
+        assert_eq!(rt; machine.steps_left(), 0);
+    }
     Ok(())
 }
 

@@ -34,16 +34,27 @@ const FIRST: usize = 84;
 
 const KINDS: [Kind; 4] = [Kind::Step, Kind::Order, Kind::Serve, Kind::Deliver];
 
-/// A machine in plain mode of a file that is known to be an image, after these many events of each hart
+/// A machine in lock removal of a file that is known to be an image, after these many events of each hart
 /// in turn, of the kinds in their order.
 fn run(rt: &impl Abort, alloc: Global, file: &[u8], events: &[(u8, u32)]) -> Result<Machine, Fail> {
+    run_in(rt, alloc, Mode::Tlr, file, events)
+}
+
+/// The same in any mode.
+fn run_in(
+    rt: &impl Abort,
+    alloc: Global,
+    mode: Mode,
+    file: &[u8],
+    events: &[(u8, u32)],
+) -> Result<Machine, Fail> {
     assert!(rt; file.len() == 122);
     assert!(rt; (1..=8).contains(&events.len()));
     let harts = events.len() as u8;
     let image = load(alloc, file, harts).map_err(|_| "no image")?;
     let config = Config {
         harts,
-        mode: Mode::Plain,
+        mode,
         steps: 400,
         ..Config::usual()
     };
@@ -70,13 +81,21 @@ fn told(alloc: Global, machine: &Machine) -> Result<SureSink, Fail> {
 
 #[test]
 fn a_report_is_three_lines_for_one_hart(rt: HostRuntime) -> Result<(), Fail> {
-    let machine = run(&rt, rt.alloc(), &FILE, &[(0, 37)])?;
-    let sink = told(rt.alloc(), &machine)?;
-    let text = b"elide plain harts 1 events 37\n\
-        hart 0 ran 9 began 0 committed 0 instr 0 conflict 0 room 0 lines 0 long 0 call 0 mixed 0 \
-        missed 1 stalled 0 blocked 0 exit 0\n\
-        serial 9 out 2\n";
-    assert_eq!(rt; sink.taken(), text.as_slice());
+    for (mode, name) in [
+        (Mode::Plain, "plain"),
+        (Mode::Sle, "sle"),
+        (Mode::Tlr, "tlr"),
+    ] {
+        let machine = run_in(&rt, rt.alloc(), mode, &FILE, &[(0, 37)])?;
+        let sink = told(rt.alloc(), &machine)?;
+        let text = format!(in rt.alloc();
+            "elide {name} harts 1 events 37\n\
+            hart 0 ran 9 began 0 committed 0 instr 0 conflict 0 room 0 lines 0 long 0 call 0 mixed 0 \
+            missed 1 stalled 0 blocked 0 exit 0\n\
+            serial 9 out 2\n"
+        )?;
+        assert_eq!(rt; sink.taken(), text.as_bytes());
+    }
     Ok(())
 }
 
@@ -135,7 +154,7 @@ fn each_of_eight_harts_has_its_line(rt: HostRuntime) -> Result<(), Fail> {
     let sink = told(rt.alloc(), &machine)?;
     let text = str::from_utf8(sink.taken()).map_err(|_| "no text")?;
     let mut lines = text.lines();
-    assert_eq!(rt; lines.next(), Some("elide plain harts 8 events 136"));
+    assert_eq!(rt; lines.next(), Some("elide tlr harts 8 events 136"));
     for (number, ran) in [
         (0, 1),
         (1, 3),
@@ -186,7 +205,7 @@ fn a_sink_that_failed_has_the_beginning(rt: HostRuntime) -> Result<(), Fail> {
     let word = taken_until(rt.alloc(), &machine, 2)?;
     assert_eq!(rt; word.taken(), b"elide".as_slice());
     let line = taken_until(rt.alloc(), &machine, 13)?;
-    assert_eq!(rt; line.taken(), b"elide plain harts 1 events 37\n".as_slice());
+    assert_eq!(rt; line.taken(), b"elide tlr harts 1 events 37\n".as_slice());
     Ok(())
 }
 

@@ -12,7 +12,6 @@ use Rattle.command_line.specs.Words.{RunJob}
 use Rattle.el_base.proofs.Ranges.{ranges, at_least, at_most}
 use Rattle.el_base.specs.declared.events.Event.{Event}
 use Rattle.el_base.specs.declared.config.Config.{Config}
-use Rattle.el_base.specs.declared.config.Mode.TheVariants.{Plain}
 use Rattle.drive.specs.RoundRobin.{IsRoundRobin, IsEventAt}
 use Rattle.el_model.specs.Next.{entries_from, next}
 use Rattle.el_model.specs.State.{ModelState}
@@ -75,7 +74,6 @@ record Ran (image : List ℕ) (file : WrittenFile) (ran : Answer) : Type 0 where
   made : List Event
   trace : Option (List ℕ)
   is_trace : IsTrace config made
-  plain : config.mode ≡ Plain
   spelled : file.bytes ≡ spelling config made
   small : size_refusal file_limit image ≡ None
   accepted : image_refusal image config.harts ≡ None
@@ -106,7 +104,6 @@ run-ran job image file ran answers written =
         few = few;
         harts = harts-made (state_of begins) config.harts _ round.made (at_least 1 8 config.harts inside.harts) round.round_robin;
       };
-      plain = refl;
       spelled = written-story job.trace story file as_written ∙ ap (spelling config) (events-entries (state_of begins) round.made);
       small = sized.0;
       accepted = accepted.0;
@@ -147,7 +144,7 @@ repeats job image file ran replayed answers written replay =
     let r : Ran image file ran = run-ran job image file ran answers written in
     let none : replay_refusal image file.bytes ≡ None =
     replay-accepted image file.bytes r.config.harts r.small (trace-fits r.config r.made file.bytes r.is_trace r.spelled)
-    (ap (option_map _) (no_fault r.config r.made file.bytes r.is_trace (rw r.plain (omega arith)) r.spelled))
+    (ap (option_map _) (no_fault r.config r.made file.bytes r.is_trace r.spelled))
     (spelled_harts file.bytes r.config r.made r.spelled) r.accepted in
     let P : Option Refusal → Type 0 = λ found. UnlessRefused found (FollowAnswer image file.bytes) replayed in
     let followed : FollowAnswer image file.bytes replayed = subst P none replay in

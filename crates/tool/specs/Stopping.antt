@@ -4,7 +4,6 @@ use Rattle.command_line.specs.declared.fault.WordsFault.{WordsFault}
 use Rattle.command_line.specs.declared.fault.WordsFault.TheVariants as words_faults
 use Rattle.el_base.specs.Firsts.{first_of}
 use Rattle.el_base.specs.declared.config.Config.{Config}
-use Rattle.el_base.specs.declared.config.Mode.TheVariants.{Plain}
 use Rattle.el_base.specs.declared.events.Event.{Event}
 use Rattle.el_io.specs.Shelf.{Contents, Holds}
 use Rattle.el_io.specs.declared.shelf.ShelfFault.{ShelfFault}
@@ -49,11 +48,10 @@ fault_of_shelf shelf_faults.Failed = Device
 fault_of_shelf shelf_faults.TooBig = Device
 fault_of_shelf shelf_faults.NoMemory = NoMemory
 
--- a trace that a machine can be made for, and what spells it
+-- a trace, and what it spells
 pub record IsTraceOf (file : List ℕ) (config : Config) (made : List Event) : Type 0 where
   pub accepted : trace_fault file ≡ None
   pub is_trace : IsTrace config made
-  pub plain : config.mode ≡ Plain
   pub spelled : file ≡ spelling config made
 
 -- the refusals of a replay of files within their limits

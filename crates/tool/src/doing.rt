@@ -5,7 +5,6 @@ ghost use Rattle.command_line.specs.Settings.{config_of};
 ghost use Rattle.command_line.specs.Words.{job_of, run_meaning, texts};
 ghost use Rattle.drive.specs.Drivers.{MakesRoundRobin};
 ghost use Rattle.el_base.specs.Config.{IsInRange, config_fault};
-ghost use Rattle.el_base.specs.declared.config.Mode.TheVariants.{Plain};
 ghost use Rattle.el_io.specs.Shelf.{Holds, NamedCall};
 ghost use Rattle.el_io.specs.declared.shelf.Call.TheVariants.{Read};
 ghost use Rattle.elf_image.specs.Faults.{fault};
@@ -127,7 +126,6 @@ fn read_file<S: Shelf>(
 fn run_image(alloc: Global, file: Vec<u8>, config: Config) -> Result<Machine, Stop>
     requires within_limit { length file.items ≤ file_limit }
     requires in_range { IsInRange config }
-    requires plain { config.mode ≡ Plain }
     ensures { MatchResult result
         (λ machine. (fault file.items config.harts ≡ None)
         × MakesRoundRobin (first_story (program_of file.items config.harts) config) machine)

@@ -13,9 +13,9 @@ use Rattle.el_base.specs.declared.config.Config.{Config}
 use Rattle.el_base.specs.declared.file_fault.FileFault.{FileFault}
 use Rattle.trace_file.specs.declared.fault.FaultKind.{FaultKind}
 use Rattle.trace_file.specs.declared.fault.FaultKind.TheVariants.{Short, Magic, Version, Config as config_kind}
-use Rattle.trace_file.specs.Spelling.{head, mode_number, last_mode}
+use Rattle.trace_file.specs.Spelling.{head, mode_number}
 use Rattle.trace_file.specs.FaultKinds.{fault_of}
-use Rattle.trace_file.specs.Faults.{field, wrong, byte_fault, magic_fault, version_fault, settings_fault, number_fault, is_built, number_at, mode_at, config_at}
+use Rattle.trace_file.specs.Faults.{field, wrong, byte_fault, magic_fault, version_fault, settings_fault, number_fault, is_mode, number_at, mode_at, config_at}
 
 abbrev pub IsBytes : List ℕ → Type 0
 IsBytes bytes = (i : ℕ) → get_or bytes i 0 < 256
@@ -141,19 +141,18 @@ number_passed file place test none =
     let e = field_none file (place + 4) (some_if (not passed) (fault_of config_kind place)) none in
     (e.0, not_true passed (if_none (not passed) config_kind place e.1))
 
-at_most_last : (n : ℕ) → is_built n ≡ true → n ≤ last_mode
-at_most_last n built = grind (arith, nat_tests)
+at_most_two : (n : ℕ) → is_mode n ≡ true → n ≤ 2
+at_most_two n known = grind (arith, nat_tests)
 
-pub mode_none : (file : List ℕ) → settings_fault file ≡ None →
-    (mode_number (mode_at (get_or file 6 0)) ≡ get_or file 6 0) × (get_or file 6 0 ≤ last_mode)
+mode_none : (file : List ℕ) → settings_fault file ≡ None →
+    mode_number (mode_at (get_or file 6 0)) ≡ get_or file 6 0
 unfolding settings_fault
 mode_none file none =
     let numbers = number_fault file 10 (allows Long) ∷ number_fault file 14 (allows Steps) ∷ [] in
     let behind = byte_fault file 7 (allows Sets) ∷ byte_fault file 8 (allows Ways) ∷ byte_fault file 9 (allows Lines) ∷ numbers in
-    let e = or_none (byte_fault file 5 (allows Harts)) (first_of (byte_fault file 6 is_built ∷ behind)) none in
-    let mode = or_none (byte_fault file 6 is_built) (first_of behind) e.1 in
-    let small : get_or file 6 0 ≤ last_mode = at_most_last (get_or file 6 0) (byte_passed file 6 is_built mode.0) in
-    (mode_again (get_or file 6 0) (omega arith), small)
+    let e = or_none (byte_fault file 5 (allows Harts)) (first_of (byte_fault file 6 is_mode ∷ behind)) none in
+    let mode = or_none (byte_fault file 6 is_mode) (first_of behind) e.1 in
+    mode_again (get_or file 6 0) (at_most_two (get_or file 6 0) (byte_passed file 6 is_mode mode.0))
 
 -- ---- the head
 
@@ -198,7 +197,7 @@ pub head_spelled : (file : List ℕ) (config : Config) (count : ℕ) → IsBytes
 unfolding config_at
 head_spelled file config count fits long magic version settings config-is count-is =
     let letters = magic_none file magic in
-    let mode = sym (mode_none file settings).0 in
+    let mode = sym (mode_none file settings) in
     let spelled : file ≡ head (config_at file) (number_at file 18) ++ drop 22 file =
     holds file 0 0x45 (omega arith) letters.0
     ∙ ap (λ (t : List ℕ). 0x45 ∷ t)

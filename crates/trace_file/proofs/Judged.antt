@@ -17,11 +17,11 @@ use Rattle.el_base.specs.declared.hart_id.HartId.{HartId}
 use Rattle.el_base.specs.declared.events.Event.{Event}
 use Rattle.el_base.specs.declared.config.Config.{Config}
 use Rattle.trace_file.specs.declared.fault.FaultKind.TheVariants.{Event as event_kind, Tail}
-use Rattle.trace_file.specs.Spelling.{spelling, event_byte, last_mode, IsTrace, IsBuilt}
+use Rattle.trace_file.specs.Spelling.{spelling, event_byte, IsTrace}
 use Rattle.trace_file.specs.FaultKinds.{fault_of}
-use Rattle.trace_file.specs.Faults.{byte_fault, magic_fault, version_fault, settings_fault, number_fault, head_fault, number_at, config_at, is_built, is_few, is_event, event_fault, end_fault, trace_fault}
+use Rattle.trace_file.specs.Faults.{byte_fault, magic_fault, version_fault, settings_fault, number_fault, head_fault, number_at, config_at, is_mode, is_few, is_event, event_fault, end_fault, trace_fault}
 use Rattle.trace_file.proofs.EventBytes.{none_fails, all_taken}
-use Rattle.trace_file.proofs.Heads.{IsBytes, byte_passed, number_passed, or_none, if_none, field_none, mode_none, head_spelled}
+use Rattle.trace_file.proofs.Heads.{IsBytes, byte_passed, number_passed, or_none, if_none, field_none, head_spelled}
 use Rattle.trace_file.proofs.Spelled.{kind_at, read_is}
 
 -- ---- the configuration
@@ -34,9 +34,9 @@ settings_within file none =
     let lines = byte_fault file 9 (allows Lines) ∷ long in
     let ways = byte_fault file 8 (allows Ways) ∷ lines in
     let sets = byte_fault file 7 (allows Sets) ∷ ways in
-    let mode = byte_fault file 6 is_built ∷ sets in
+    let mode = byte_fault file 6 is_mode ∷ sets in
     let e0 = or_none (byte_fault file 5 (allows Harts)) (first_of mode) none in
-    let e1 = or_none (byte_fault file 6 is_built) (first_of sets) e0.1 in
+    let e1 = or_none (byte_fault file 6 is_mode) (first_of sets) e0.1 in
     let e2 = or_none (byte_fault file 7 (allows Sets)) (first_of ways) e1.1 in
     let e3 = or_none (byte_fault file 8 (allows Ways)) (first_of lines) e2.1 in
     let e4 = or_none (byte_fault file 9 (allows Lines)) (first_of long) e3.1 in
@@ -95,7 +95,7 @@ no_place None none = refl
 no_place (Some i) none = absurd cc
 
 pub faultless : (file : List ℕ) → IsBytes file → trace_fault file ≡ None →
-    (c : Config) × (es : List Event) × IsTrace c es × IsBuilt c.mode × (file ≡ spelling c es)
+    (c : Config) × (es : List Event) × IsTrace c es × (file ≡ spelling c es)
 unfolding trace_fault head_fault event_fault end_fault config_at
 faultless file fits none =
     let count = number_at file 18 in
@@ -126,6 +126,4 @@ faultless file fits none =
     events.1
     events.2
     in
-    let mode = mode_none file h2.0 in
-    let built : IsBuilt c.mode = omega (arith, mode.0, mode.1) in
-    (c, events.0, is.0, built, is.1)
+    (c, events.0, is.0, is.1)

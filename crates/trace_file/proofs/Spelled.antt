@@ -27,9 +27,9 @@ use Rattle.el_base.specs.declared.config.Mode.TheVariants.{Plain, Sle, Tlr}
 use Rattle.el_base.specs.declared.file_fault.FileFault.{FileFault}
 use Rattle.trace_file.specs.declared.fault.FaultKind.{FaultKind}
 use Rattle.trace_file.specs.declared.fault.FaultKind.TheVariants.{Config as config_kind}
-use Rattle.trace_file.specs.Spelling.{head, spelling, mode_number, event_byte, last_mode, IsTrace, IsBuilt}
+use Rattle.trace_file.specs.Spelling.{head, spelling, mode_number, event_byte, IsTrace}
 use Rattle.trace_file.specs.FaultKinds.{fault_of}
-use Rattle.trace_file.specs.Faults.{field, byte_fault, magic_fault, version_fault, settings_fault, number_fault, head_fault, number_at, mode_at, is_built, is_few, is_event, event_fault, end_fault, trace_fault}
+use Rattle.trace_file.specs.Faults.{field, byte_fault, magic_fault, version_fault, settings_fault, number_fault, head_fault, number_at, mode_at, is_mode, is_few, is_event, event_fault, end_fault, trace_fault}
 
 -- ---- fields without a fault
 
@@ -87,28 +87,32 @@ both_none (Some fault) b first second = absurd cc
 few_pass : (count steps : ℕ) → count ≤ steps → is_few steps count ≡ true
 few_pass count steps few = grind (arith, nat_tests)
 
-settings_pass : (c : Config) (es : List Event) → Ranges c → IsBuilt c.mode → settings_fault (spelling c es) ≡ None
+mode_passes : (mode : Mode) → is_mode (mode_number mode) ≡ true
+mode_passes Plain = refl
+mode_passes Sle = refl
+mode_passes Tlr = refl
+
+settings_pass : (c : Config) (es : List Event) → Ranges c → settings_fault (spelling c es) ≡ None
 unfolding settings_fault
-settings_pass c es r built =
+settings_pass c es r =
     let file = spelling c es in
     let long = spelled_length c es in
     let small = at_most 2 65536 c.long r.long in
     let few = at_most 1 MAX_STEPS c.steps r.steps in
-    let mode : is_built (mode_number c.mode) ≡ true = few_pass (mode_number c.mode) last_mode built in
     let long-in : allows Long (number_at file 10) ≡ true = rw (long_is c es (omega arith)) r.long in
     let steps-in : allows Steps (number_at file 14) ≡ true = rw (steps_is c es (omega arith)) r.steps in
     both_none (byte_fault file 5 (allows Harts)) _ (byte_passes file 5 (allows Harts) (omega arith) r.harts)
-    (both_none (byte_fault file 6 is_built) _ (byte_passes file 6 is_built (omega arith) mode)
+    (both_none (byte_fault file 6 is_mode) _ (byte_passes file 6 is_mode (omega arith) (mode_passes c.mode))
     (both_none (byte_fault file 7 (allows Sets)) _ (byte_passes file 7 (allows Sets) (omega arith) r.sets)
     (both_none (byte_fault file 8 (allows Ways)) _ (byte_passes file 8 (allows Ways) (omega arith) r.ways)
     (both_none (byte_fault file 9 (allows Lines)) _ (byte_passes file 9 (allows Lines) (omega arith) r.lines)
     (both_none (number_fault file 10 (allows Long)) _ (number_passes file 10 (allows Long) (omega arith) long-in)
     (both_none (number_fault file 14 (allows Steps)) None (number_passes file 14 (allows Steps) (omega arith) steps-in) refl))))))
 
-head_passes : (c : Config) (es : List Event) → Ranges c → IsBuilt c.mode → length es ≤ c.steps →
+head_passes : (c : Config) (es : List Event) → Ranges c → length es ≤ c.steps →
     head_fault (spelling c es) ≡ None
 unfolding head_fault magic_fault version_fault
-head_passes c es r built few =
+head_passes c es r few =
     let file = spelling c es in
     let long = spelled_length c es in
     let most = at_most 1 MAX_STEPS c.steps r.steps in
@@ -117,7 +121,7 @@ head_passes c es r built few =
     in
     both_none (magic_fault file) _ (field_passes file 4 _ (omega arith) refl)
     (both_none (version_fault file) _ (field_passes file 5 _ (omega arith) refl)
-    (both_none (settings_fault file) _ (settings_pass c es r built)
+    (both_none (settings_fault file) _ (settings_pass c es r)
     (both_none (number_fault file 18 (is_few (number_at file 14))) None
     (number_passes file 18 (is_few (number_at file 14)) (omega arith) count-in) refl)))
 
@@ -171,16 +175,16 @@ end_passes c es =
     let over : ltb (22 + length es) (length file) ≡ false = le-ltb (22 + length es) (length file) (omega arith) in
     field_passes file (22 + length es) _ (omega arith) (rw over refl)
 
-pub no_fault : (c : Config) (es : List Event) (file : List ℕ) → IsTrace c es → IsBuilt c.mode → file ≡ spelling c es →
+pub no_fault : (c : Config) (es : List Event) (file : List ℕ) → IsTrace c es → file ≡ spelling c es →
     trace_fault file ≡ None
 unfolding trace_fault
-no_fault c es file is built file-is =
+no_fault c es file is file-is =
     let r = ranges c is.in_range in
     let most = at_most 1 MAX_STEPS c.steps r.steps in
     let few = is.few in
     let count = count_is c es (omega arith) in
     let spelled : trace_fault (spelling c es) ≡ None =
-    both_none (head_fault (spelling c es)) _ (head_passes c es r built is.few)
+    both_none (head_fault (spelling c es)) _ (head_passes c es r is.few)
     (both_none (event_fault c.harts (number_at (spelling c es) 18) (spelling c es)) _
     (ap (λ (n : ℕ). event_fault c.harts n (spelling c es)) count ∙ events_pass c es is.harts)
     (both_none (end_fault (number_at (spelling c es) 18) (spelling c es)) None

@@ -4,20 +4,20 @@ use Rattle.el_base.specs.declared.events.Event.{Event}
 use Rattle.el_base.specs.declared.events.Kind.{Kind}
 use Rattle.el_base.specs.declared.events.Kind.TheVariants.{Step, Order}
 use Rattle.el_base.specs.declared.config.Config.{Config}
-use Rattle.el_base.specs.declared.config.Mode.TheVariants.{Plain}
+use Rattle.el_base.specs.declared.config.Mode.TheVariants.{Plain, Tlr}
 use Rattle.el_base.specs.declared.file_fault.FileFault.{FileFault}
 use Rattle.trace_file.specs.Spelling.{spelling}
 use Rattle.trace_file.specs.Faults.{field, byte_fault, magic_fault, version_fault, settings_fault, number_fault, head_fault, event_fault, end_fault, trace_fault}
 
 abbrev config : Config
-config = record { harts = 1; mode = Plain; sets = 16; ways = 4; lines = 16; long = 2000; steps = 4000000 }
+config = record { harts = 1; mode = Tlr; sets = 16; ways = 4; lines = 16; long = 2000; steps = 4000000 }
 
 abbrev of_hart_0 : Kind → Event
 of_hart_0 kind = record { kind = kind; hart = record { number = 0; small = lit< tt } }
 
 abbrev file : List ℕ
 file =
-    0x45 ∷ 0x4c ∷ 0x54 ∷ 0x52 ∷ 0x01 ∷ 0x01 ∷ 0x00 ∷ 0x10 ∷ 0x04 ∷ 0x10
+    0x45 ∷ 0x4c ∷ 0x54 ∷ 0x52 ∷ 0x01 ∷ 0x01 ∷ 0x02 ∷ 0x10 ∷ 0x04 ∷ 0x10
     ∷ 0xd0 ∷ 0x07 ∷ 0x00 ∷ 0x00
     ∷ 0x00 ∷ 0x09 ∷ 0x3d ∷ 0x00
     ∷ 0x02 ∷ 0x00 ∷ 0x00 ∷ 0x00
@@ -28,6 +28,9 @@ bad number place = Some (record { number = number; place = place })
 
 spelled : spelling config (of_hart_0 Step ∷ of_hart_0 Order ∷ []) ≡ file
 spelled = refl
+
+spelled_in_plain_mode : spelling (record config { mode = Plain }) (of_hart_0 Step ∷ of_hart_0 Order ∷ []) ≡ set file 6 0
+spelled_in_plain_mode = refl
 
 faultless : trace_fault file ≡ None
 unfolding field byte_fault magic_fault version_fault settings_fault number_fault head_fault event_fault end_fault trace_fault
@@ -52,6 +55,10 @@ wrong_letter = refl
 no_harts : trace_fault (set (set file 7 3) 5 0) ≡ bad 4 5
 unfolding field byte_fault magic_fault version_fault settings_fault number_fault head_fault event_fault end_fault trace_fault
 no_harts = refl
+
+no_such_mode : trace_fault (set file 6 3) ≡ bad 4 6
+unfolding field byte_fault magic_fault version_fault settings_fault number_fault head_fault event_fault end_fault trace_fault
+no_such_mode = refl
 
 more_events_than_steps : trace_fault (set (set (set file 14 1) 15 0) 16 0) ≡ bad 4 18
 unfolding field byte_fault magic_fault version_fault settings_fault number_fault head_fault event_fault end_fault trace_fault

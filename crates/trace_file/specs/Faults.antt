@@ -12,7 +12,6 @@ use Rattle.el_base.specs.declared.config.Mode.{Mode}
 use Rattle.el_base.specs.declared.config.Mode.TheVariants.{Plain, Sle, Tlr}
 use Rattle.trace_file.specs.declared.fault.FaultKind.{FaultKind}
 use Rattle.trace_file.specs.declared.fault.FaultKind.TheVariants.{Short, Magic, Version, Config, Event, Tail}
-use Rattle.trace_file.specs.Spelling.{last_mode}
 use Rattle.trace_file.specs.FaultKinds.{fault_of}
 
 -- a field that ends at this place: the file ends in it, or it has this fault, if it has one
@@ -48,9 +47,9 @@ magic_fault file =
 unfoldable pub version_fault : List ℕ → Option FileFault
 version_fault file = field file 5 (wrong file 4 1 Version)
 
--- whether machines are built for the mode of this number, and whether there may be so many events
-abbrev pub is_built : ℕ → Bool
-is_built mode = nat_le mode last_mode
+-- whether a mode has this number, and whether there may be so many events
+abbrev pub is_mode : ℕ → Bool
+is_mode number = nat_le number 2
 
 abbrev pub is_few : ℕ → ℕ → Bool
 is_few steps count = nat_le count steps
@@ -60,7 +59,7 @@ unfoldable pub settings_fault : List ℕ → Option FileFault
 settings_fault file =
     first_of
     (byte_fault file 5 (allows settings_of.Harts)
-    ∷ byte_fault file 6 is_built
+    ∷ byte_fault file 6 is_mode
     ∷ byte_fault file 7 (allows settings_of.Sets)
     ∷ byte_fault file 8 (allows settings_of.Ways)
     ∷ byte_fault file 9 (allows settings_of.Lines)

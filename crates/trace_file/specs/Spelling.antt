@@ -45,11 +45,3 @@ pub record IsTrace (config : Config) (events : List Event) : Type 0 where
   pub in_range : IsInRange config
   pub few : length events ≤ config.steps
   pub harts : All (λ event. event.hart.number < config.harts) events
-
--- the last number of a mode that machines are built for, of which alone traces are read
-abbrev pub last_mode : ℕ
-last_mode = 0
-
--- machines are built for this mode
-abbrev pub IsBuilt : Mode → Type 0
-IsBuilt mode = mode_number mode ≤ last_mode

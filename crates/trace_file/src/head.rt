@@ -2,8 +2,8 @@
 
 ghost use Rattle.std.specs.Prelude.{◌≡◌, ◌≤◌, ◌++◌, drop, None, Some, length, slice_index, IfErr, IfOk, OnOk};
 ghost use Rattle.el_base.specs.Config.{IsInRange};
-ghost use Rattle.trace_file.specs.Faults.{byte_fault, config_at, head_fault, is_built, is_few, magic_fault, mode_at, number_at, number_fault, settings_fault, version_fault};
-ghost use Rattle.trace_file.specs.Spelling.{head, IsBuilt};
+ghost use Rattle.trace_file.specs.Faults.{byte_fault, config_at, head_fault, is_few, is_mode, magic_fault, mode_at, number_at, number_fault, settings_fault, version_fault};
+ghost use Rattle.trace_file.specs.Spelling.{head};
 
 use crate::fault::FaultKind;
 use crate::fields::{self, expect, reaches, setting_byte, setting_number};
@@ -52,7 +52,7 @@ pub fn head_of(file: &[u8]) -> Result<Head, FileFault>
     ensures refused { IfErr result (λ fault. head_fault file.now ≡ Some fault) }
     ensures fields { IfOk result (λ head. (head.config ≡ config_at file.now) × (head.count ≡ number_at file.now 18)) }
     ensures whole { OnOk result (22 ≤ length file.now) }
-    ensures settings { IfOk result (λ head. IsInRange head.config × IsBuilt head.config.mode) }
+    ensures settings { IfOk result (λ head. IsInRange head.config) }
     ensures few { IfOk result (λ head. head.count ≤ head.config.steps) }
     ensures spelled { IfOk result (λ found. file.now ≡ head found.config found.count ++ drop 22 file.now) }
 {
@@ -90,7 +90,6 @@ fn config_of(file: &[u8]) -> Result<Config, FileFault>
     ensures accepted { OnOk result (settings_fault file.now ≡ None) }
     ensures refused { IfErr result (λ fault. settings_fault file.now ≡ Some fault) }
     ensures in_range { IfOk result (λ config. IsInRange config) }
-    ensures is_built { IfOk result (λ config. IsBuilt config.mode) }
 {
     let harts = setting_byte(file, HARTS, ConfigFault::Harts)?;
     let mode = mode_of(file)?;
@@ -110,16 +109,15 @@ fn config_of(file: &[u8]) -> Result<Config, FileFault>
     })
 }
 
-/// The last number of a mode that machines are built for: so far 0, the plain one.
-const LAST_MODE: u8 = 0;
+/// The last number of a mode.
+const LAST_MODE: u8 = 2;
 
-/// The mode, one of those that machines are built for.
+/// The mode: 0 is plain, 1 sle, 2 tlr.
 #[tactic(auto, unfolding(crate::specs::Faults::field, crate::specs::Faults::byte_fault))]
 fn mode_of(file: &[u8]) -> Result<Mode, FileFault>
     ensures value { IfOk result (λ mode. mode ≡ mode_at (slice_index file.now 6)) }
-    ensures accepted { OnOk result (byte_fault file.now 6 is_built ≡ None) }
-    ensures refused { IfErr result (λ fault. byte_fault file.now 6 is_built ≡ Some fault) }
-    ensures is_built { IfOk result (λ mode. IsBuilt mode) }
+    ensures accepted { OnOk result (byte_fault file.now 6 is_mode ≡ None) }
+    ensures refused { IfErr result (λ fault. byte_fault file.now 6 is_mode ≡ Some fault) }
 {
     reaches(file, MODE + 1)?;
     let number = file[MODE as usize];

@@ -5,7 +5,7 @@ ghost use Rattle.el_base.specs.Config.{IsInRange};
 ghost use Rattle.el_base.specs.declared.config.Config.{Config};
 ghost use Rattle.el_base.specs.declared.config.TheConstants.{MAX_STEPS};
 ghost use Rattle.trace_file.specs.Faults.{is_event, event_fault, end_fault, trace_fault, config_at, number_at};
-ghost use Rattle.trace_file.specs.Spelling.{event_byte, head, spelling, IsTrace, IsBuilt};
+ghost use Rattle.trace_file.specs.Spelling.{event_byte, head, spelling, IsTrace};
 
 use crate::content::{Events, Trace};
 use crate::fault::{FaultKind, TraceFault};
@@ -85,7 +85,7 @@ fn event_of(byte: u8, harts: u8) -> Event
 fn checked(file: &[u8]) -> Result<Head, FileFault>
     ensures accepted { OnOk result (trace_fault file.now ≡ None) }
     ensures refused { IfErr result (λ fault. trace_fault file.now ≡ Some fault) }
-    ensures settings { IfOk result (λ found. IsInRange found.config × IsBuilt found.config.mode) }
+    ensures settings { IfOk result (λ found. IsInRange found.config) }
     ensures few { IfOk result (λ found. found.count ≤ found.config.steps) }
     ensures whole { IfOk result (λ found. length file.now ≡ 22 + found.count) }
     ensures spelled { IfOk result (λ found. file.now ≡ head found.config found.count ++ drop 22 file.now) }
@@ -117,14 +117,12 @@ fn events_of(alloc: Global, bytes: &[u8], harts: u8) -> Result<Events, NoMemory>
 #[tactic(auto, using(crate::proofs::Spelled::no_fault, crate::proofs::Spelled::one_spelling))]
 pub fn read_trace(alloc: Global, file: &[u8]) -> Result<Trace, TraceFault>
     ensures accepted { IfOk result (λ trace. IsTrace trace.config trace.events
-        × IsBuilt trace.config.mode
         × (file.now ≡ spelling trace.config trace.events)) }
     ensures refused { (number place : ℕ) → result ≡ Err (TraceFault.Bad number place) →
         trace_fault file.now ≡ Some (record { number = number; place = place }) }
     ensures memory_after_faults { result ≡ Err TraceFault.NoMemory → trace_fault file.now ≡ None }
     // What is spelled is read as what it spells, unless memory runs out.
-    ensures spelled { (config : Config) (events : List Event) → IsTrace config events → IsBuilt config.mode →
-        file.now ≡ spelling config events →
+    ensures spelled { (config : Config) (events : List Event) → IsTrace config events → file.now ≡ spelling config events →
         (trace_fault file.now ≡ None)
         × IfOk result (λ trace. (trace.config ≡ config) × (trace.events ≡ events)) }
 {

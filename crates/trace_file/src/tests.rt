@@ -9,29 +9,22 @@ use el_io::{MemShelf, ShelfFault, SureShelf};
 use std::alloc::Global;
 use std::test::Fail;
 
-/// The head of the worked trace, a plain run of one hart with 33 events.
+/// The head of the worked trace, a run of one hart in the usual mode with 37 events.
 const HEAD: [u8; 22] = [
-    0x45, 0x4c, 0x54, 0x52, 0x01, 0x01, 0x00, 0x10, 0x04, 0x10, 0xd0, 0x07, 0x00, 0x00, 0x00, 0x09,
-    0x3d, 0x00, 0x21, 0x00, 0x00, 0x00,
+    0x45, 0x4c, 0x54, 0x52, 0x01, 0x01, 0x02, 0x10, 0x04, 0x10, 0xd0, 0x07, 0x00, 0x00, 0x00, 0x09,
+    0x3d, 0x00, 0x25, 0x00, 0x00, 0x00,
 ];
 
 const KINDS: [Kind; 4] = [Kind::Step, Kind::Order, Kind::Serve, Kind::Deliver];
 
-/// The worked trace: the head, then eight times a round of the four kinds, then one step.
+/// The worked trace: the head, then nine times a round of the four kinds, then one step.
 fn worked(alloc: Global) -> Result<Vec<u8>, Fail> {
     let mut file = Vec::from_slice(alloc, &HEAD)?;
-    for _ in 0..8 {
+    for _ in 0..9 {
         file.extend_from_slice(&[0x00, 0x10, 0x20, 0x30])?;
     }
     file.push(0x00)?;
     Ok(file)
-}
-
-fn plain() -> Config {
-    Config {
-        mode: Mode::Plain,
-        ..Config::usual()
-    }
 }
 
 /// A history of these events, in which nothing was done.
@@ -72,8 +65,8 @@ fn bad(fault: Option<(FaultKind, u32)>) -> Option<FileFault> {
 #[test]
 fn the_worked_trace_is_read(rt: HostRuntime) -> Result<(), Fail> {
     let trace = read_trace(rt.alloc(), &worked(rt.alloc())?)?;
-    assert_eq!(rt; trace.config, plain());
-    assert_eq!(rt; trace.events.as_slice().len(), 33);
+    assert_eq!(rt; trace.config, Config::usual());
+    assert_eq!(rt; trace.events.as_slice().len(), 37);
     let hart = HartId::new(0).ok_or("no hart 0")?;
     for (place, event) in trace.events.as_slice().iter().enumerate() {
         assert_eq!(rt;
@@ -114,6 +107,22 @@ fn each_kind_and_hart_has_its_byte(rt: HostRuntime) -> Result<(), Fail> {
     Ok(())
 }
 
+/// A mode's byte is read as that mode and written as that byte.
+#[test]
+fn each_mode_has_its_byte(rt: HostRuntime) -> Result<(), Fail> {
+    for (byte, mode) in [(0, Mode::Plain), (1, Mode::Sle), (2, Mode::Tlr)] {
+        let mut file = worked(rt.alloc())?;
+        change(&mut file, &[(6, byte)]);
+        let trace = read_trace(rt.alloc(), &file)?;
+        assert_eq!(rt; trace.config.mode, mode, "byte {byte}");
+        let history = history_of(rt.alloc(), trace.events.as_slice())?;
+        let mut shelf = SureShelf::make(rt.alloc(), &[], &[])?;
+        write_trace(rt.alloc(), &mut shelf, "t", &trace.config, &history)?;
+        assert_eq!(rt; shelf.contents("t"), file.as_slice(), "byte {byte}");
+    }
+    Ok(())
+}
+
 /// The numbers that a user reads.
 #[test]
 fn each_kind_has_its_number(rt: HostRuntime) {
@@ -132,19 +141,19 @@ fn each_kind_has_its_number(rt: HostRuntime) {
 #[test]
 fn each_cut_is_short(rt: HostRuntime) -> Result<(), Fail> {
     let mut file = worked(rt.alloc())?;
-    for len in 0..55_u32 {
+    for len in 0..59_u32 {
         assert!(rt; len as usize <= file.len());
         let cut = fault_of(rt.alloc(), &file[..len as usize]);
         assert_eq!(rt; cut, Some(FaultKind::Short.at(len)), "cut to {len}");
     }
     file.push(0x00)?;
-    assert_eq!(rt; fault_of(rt.alloc(), &file), Some(FaultKind::Tail.at(55)));
+    assert_eq!(rt; fault_of(rt.alloc(), &file), Some(FaultKind::Tail.at(59)));
     Ok(())
 }
 
 #[test]
 fn the_first_fault_is_answered(rt: HostRuntime) -> Result<(), Fail> {
-    let cases: [(&[(usize, u8)], Option<(FaultKind, u32)>); 36] = [
+    let cases: [(&[(usize, u8)], Option<(FaultKind, u32)>); 37] = [
         (&[], None),
         (&[(0, 0x46)], Some((FaultKind::Magic, 0))),
         (&[(1, 0x00)], Some((FaultKind::Magic, 1))),
@@ -156,9 +165,10 @@ fn the_first_fault_is_answered(rt: HostRuntime) -> Result<(), Fail> {
         (&[(5, 0)], Some((FaultKind::Config, 5))),
         (&[(5, 8)], None),
         (&[(5, 9)], Some((FaultKind::Config, 5))),
-        (&[(6, 1)], Some((FaultKind::Config, 6))),
-        (&[(6, 2)], Some((FaultKind::Config, 6))),
+        (&[(6, 0)], None),
+        (&[(6, 1)], None),
         (&[(6, 3)], Some((FaultKind::Config, 6))),
+        (&[(6, 255), (7, 0)], Some((FaultKind::Config, 6))),
         (&[(7, 0)], Some((FaultKind::Config, 7))),
         (&[(7, 3)], Some((FaultKind::Config, 7))),
         (&[(7, 128)], Some((FaultKind::Config, 7))),
@@ -174,18 +184,18 @@ fn the_first_fault_is_answered(rt: HostRuntime) -> Result<(), Fail> {
             &[(14, 1), (15, 0), (16, 0), (17, 1)],
             Some((FaultKind::Config, 14)),
         ),
-        (&[(14, 0x21), (15, 0), (16, 0)], None),
+        (&[(14, 0x25), (15, 0), (16, 0)], None),
         (
-            &[(14, 0x20), (15, 0), (16, 0)],
+            &[(14, 0x24), (15, 0), (16, 0)],
             Some((FaultKind::Config, 18)),
         ),
         (&[(18, 0), (21, 0x21)], Some((FaultKind::Config, 18))),
-        (&[(18, 0x22)], Some((FaultKind::Short, 55))),
-        (&[(18, 0x20)], Some((FaultKind::Tail, 54))),
+        (&[(18, 0x26)], Some((FaultKind::Short, 59))),
+        (&[(18, 0x24)], Some((FaultKind::Tail, 58))),
         (&[(22, 0x08)], Some((FaultKind::Event, 22))),
         (&[(22, 0x01)], Some((FaultKind::Event, 22))),
         (&[(22, 0x40)], Some((FaultKind::Event, 22))),
-        (&[(54, 0xff), (18, 0x22)], Some((FaultKind::Event, 54))),
+        (&[(58, 0xff), (18, 0x26)], Some((FaultKind::Event, 58))),
         (&[(5, 0), (7, 0), (22, 0xff)], Some((FaultKind::Config, 5))),
     ];
     for (changes, fault) in cases {

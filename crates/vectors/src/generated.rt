@@ -97,6 +97,19 @@ fn each_hart_adds_400_to_20_words(rt: HostRuntime) -> Result<(), Fail> {
     Ok(())
 }
 
+#[test]
+fn each_mode_prints_the_sum_of_8_harts(rt: HostRuntime) -> Result<(), Fail> {
+    let image = generated(&rt, "counter", "1")?.written;
+    for mode in ["plain", "sle", "tlr"] {
+        let words = [
+            "run", "a", "--mode", mode, "--harts", "8", "--steps", "16777216",
+        ];
+        let ending = answer(&rt, &words, &image, &[])?;
+        assert!(rt; prints(&ending, "00000320\n"), "{mode}");
+    }
+    Ok(())
+}
+
 // The number is the one that drawing begins with, and what is drawn never changes a sum.
 #[test]
 fn another_number_prints_the_same_sum(rt: HostRuntime) -> Result<(), Fail> {

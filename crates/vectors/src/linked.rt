@@ -67,7 +67,7 @@ fn each_hart_has_a_stack_of_its_own(rt: HostRuntime) -> Result<(), Fail> {
     assert_eq!(rt; ending.out.as_slice(), wanted.as_slice());
     let report = report_of(
         rt.alloc(),
-        "elide plain harts 8 events 349",
+        "elide tlr harts 8 events 349",
         &[(10, MISSED_ONE, "exit 0"); 8],
         "serial 80 out 32",
     )?;

@@ -12,7 +12,7 @@ fn is_refused(ending: &Ending, line: &str) -> bool {
 
 #[test]
 fn words_outside_the_grammar_are_the_usage_line(rt: HostRuntime) -> Result<(), Fail> {
-    let rows: [&[&str]; 18] = [
+    let rows: [&[&str]; 20] = [
         &[],
         &["walk", "x"],
         &["run"],
@@ -24,6 +24,8 @@ fn words_outside_the_grammar_are_the_usage_line(rt: HostRuntime) -> Result<(), F
         &["run", "a", "--harts", "1", "--harts", "1"],
         &["run", "a", "--threads", "5"],
         &["run", "a", "--trace", "-t"],
+        &["run", "a", "--mode", "walk"],
+        &["run", "a", "--mode"],
         &["replay", "a"],
         &["replay", "a", "t", "--steps", "1"],
         &["gen", "counter", "x", "t"],
@@ -41,7 +43,7 @@ fn words_outside_the_grammar_are_the_usage_line(rt: HostRuntime) -> Result<(), F
 
 #[test]
 fn configurations_are_judged_before_files(rt: HostRuntime) -> Result<(), Fail> {
-    let rows: [(&[&str], &str); 8] = [
+    let rows: [(&[&str], &str); 12] = [
         (&["run", "a", "--harts", "9"], "config fault 1 Harts\n"),
         (&["run", "a", "--harts", "0"], "config fault 1 Harts\n"),
         (
@@ -50,6 +52,10 @@ fn configurations_are_judged_before_files(rt: HostRuntime) -> Result<(), Fail> {
         ),
         (&["run", "a", "--sets", "3"], "config fault 2 Sets\n"),
         (&["run", "a", "--ways=9"], "config fault 3 Ways\n"),
+        (&["run", "a", "--lines", "0"], "config fault 4 Lines\n"),
+        (&["run", "a", "--lines", "33"], "config fault 4 Lines\n"),
+        (&["run", "a", "--long", "1"], "config fault 5 Long\n"),
+        (&["run", "a", "--long", "65537"], "config fault 5 Long\n"),
         (&["run", "a", "--steps", "0"], "config fault 6 Steps\n"),
         (
             &["run", "a", "--steps", "16777217"],
@@ -166,7 +172,7 @@ fn changed_traces_have_their_first_fault(rt: HostRuntime) -> Result<(), Fail> {
         (1, 0, "trace fault 2 Magic at byte 1\n"),
         (4, 2, "trace fault 3 Version at byte 4\n"),
         (5, 0, "trace fault 4 Config at byte 5\n"),
-        (6, 2, "trace fault 4 Config at byte 6\n"),
+        (6, 3, "trace fault 4 Config at byte 6\n"),
         (22, 8, "trace fault 5 Event at byte 22\n"),
         (22, 0x40, "trace fault 5 Event at byte 22\n"),
     ];

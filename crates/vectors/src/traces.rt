@@ -16,25 +16,33 @@ fn a_run_writes_its_trace_and_its_replay_is_the_same(rt: HostRuntime) -> Result<
     Ok(())
 }
 
-// The trace says how many events there are, and not how many steps the run was given.
+// The trace says in which mode it ran and how many events there are, and not how many steps the run was given.
 #[test]
 fn a_replay_ends_where_its_trace_does(rt: HostRuntime) -> Result<(), Fail> {
     let mut short = changed(rt.alloc(), &TRACE, 18, 36)?;
     short.truncate(58);
-    let rows: [(&[u8], u8, &str, (u32, &str, &str), &str); 2] = [
+    let plain = changed(rt.alloc(), &TRACE, 6, 0)?;
+    let rows: [(&[u8], u8, &str, (u32, &str, &str), &str); 3] = [
         (
             &TRACE,
             0,
-            "elide plain harts 1 events 37",
+            "elide tlr harts 1 events 37",
             (9, MISSED_ONE, "exit 0"),
             "serial 9 out 2",
         ),
         (
             &short,
             3,
-            "elide plain harts 1 events 36",
+            "elide tlr harts 1 events 36",
             (8, MISSED_ONE, "running"),
             "serial 8 out 2",
+        ),
+        (
+            &plain,
+            0,
+            "elide plain harts 1 events 37",
+            (9, MISSED_ONE, "exit 0"),
+            "serial 9 out 2",
         ),
     ];
     for (trace, number, first, hart, last) in rows {

@@ -8,8 +8,8 @@ pub returns-clause-one_spelling : goal.returns-clause-one_spelling
 returns-clause-one_spelling c = one_spelling
 
 pub returns-clause-a_spelling_has_no_fault : goal.returns-clause-a_spelling_has_no_fault
-returns-clause-a_spelling_has_no_fault c config events is built =
-    no_fault config events (spelling config events) is built refl
+returns-clause-a_spelling_has_no_fault c config events is =
+    no_fault config events (spelling config events) is refl
 
 pub returns-clause-what_has_no_fault_is_a_spelling : goal.returns-clause-what_has_no_fault_is_a_spelling
 returns-clause-what_has_no_fault_is_a_spelling c = faultless

@@ -1,8 +1,5 @@
 -- hart by hart
-use Rattle.std.proofs.Common.{◌≡◌, ◌∙◌, ◌<◌, ℕ, Option, None, Some, arith, false, is_some, refl, sym, true}
-use Rattle.std.specs.List.{find}
-use Rattle.el_base.specs.declared.events.Event.{Event}
-use Rattle.el_model.specs.State.{ModelState}
+use Rattle.std.proofs.Common.{◌∙◌, arith, sym}
 use Rattle.machine.proofs.Readiness.{first_of, none_left, none_more}
 use Rattle.machine.proofs.machine.Machine.first_ready.Goals as goal
 use Rattle.machine.specs.Story.{state_of}

@@ -2,7 +2,6 @@
 use Rattle.std.proofs.Common.{◌∙◌, [], ◌∷◌, ap, refl}
 use Rattle.machine.proofs.GoesOn.{hart_there, now_in, now_reached, one_run, parts_stand, stands_more, told_more}
 use Rattle.machine.proofs.Promised.{kept_by}
-use Rattle.machine.specs.Promises.{KeepsPromises, change}
 use Rattle.machine.specs.Story.{continued, state_of}
 use Rattle.machine.proofs.machine.Machine.step.Goals as goal
 

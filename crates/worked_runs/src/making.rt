@@ -6,7 +6,7 @@ use crate::field::{element, list, member};
 use crate::image::file;
 use crate::outcome::told;
 use crate::worked::{config, event};
-use elf_image::load;
+use elf_image::{IMAGE_FILE_LIMIT, load};
 use machine::Machine;
 use serde_json::Value;
 use std::alloc::Global;
@@ -30,6 +30,9 @@ fn machine_of(alloc: Global, run: &Value, events: usize) -> Result<Machine, Diff
         return Err(Difference::NoMachine);
     }
     let file = file(alloc, run)?;
+    if file.len() > IMAGE_FILE_LIMIT as usize {
+        return Err(Difference::NoMachine);
+    }
     let image = load(alloc, file.as_slice(), config.harts).map_err(|_| Difference::NoMachine)?;
     if image.harts() != config.harts {
         return Err(Difference::NoMachine);

@@ -1,5 +1,7 @@
 -- one hart's cache with the bytes of its lines
-use Rattle.std.specs.Prelude.{ℕ, ◌==◌, if◌then◌else◌, List, [], ◌∷◌, Option, option_map, replicate, slice_index_or, slice_set}
+use Rattle.std.specs.Prelude.{ℕ, ◌==◌, ◌%◌, if◌then◌else◌, List, [], ◌∷◌, Option, option_map, replicate, slice_index, slice_index_or, slice_set}
+use Rattle.el_base.specs.Line.{line_number}
+use Rattle.el_base.specs.declared.line.TheConstants.{LINE_BYTES}
 use Rattle.moesi.specs.declared.letter.Letter.{Letter}
 use Rattle.cache_sets.specs.Residency.{Way}
 use Rattle.cache_sets.specs.Cache.{empty_cache, set_number, set_of, way_of}
@@ -28,6 +30,10 @@ put_in (way ∷ ways) (bytes ∷ rows) line new = (if way.line == line then new 
 -- the bytes of a line, and no bytes of a line that is not there
 abbrev pub bytes_of : Cached → ℕ → List ℕ
 bytes_of cached line = bytes_in (set_of cached.residency line) (slice_index_or cached.bytes (set_number cached.residency line) []) line
+
+-- the byte at an address, in a cache that has its line
+abbrev pub cached_byte : Cached → ℕ → ℕ
+cached_byte cached address = slice_index (bytes_of cached (line_number address)) (address % LINE_BYTES)
 
 -- a copy of a line: what the cache knows of it, and its bytes
 pub record Copy : Type 0 where

@@ -5,7 +5,7 @@ use Rattle.std.specs.Option.{option_map_or}
 use Rattle.std.specs.Prelude.{◌==◌, if◌then◌else◌, slice_index}
 use Rattle.std.proofs.lemmas.Bool.{cases_eq, cases_lt}
 use Rattle.cache_sets.specs.Cache.{is_resident, way_of}
-use Rattle.cache_sets.specs.Cached.{Cached, Copy, bytes_in, bytes_of, copy_in, copy_with_bytes, with_bytes}
+use Rattle.cache_sets.specs.Cached.{Cached, Copy, bytes_in, bytes_of, cached_byte, copy_in, copy_with_bytes, with_bytes}
 use Rattle.cache_sets.specs.Calls.{IsWritten}
 use Rattle.cache_sets.specs.Residency.{Way, way_in}
 use Rattle.coherence.proofs.Owners.{copy_is}
@@ -16,7 +16,7 @@ use Rattle.el_base.specs.declared.line.TheConstants.{LINE_BYTES}
 use Rattle.rv_alu.specs.Footprint.{IsSize}
 use Rattle.rv_flat.specs.Memory.{put_bytes}
 use Rattle.rv_flat.proofs.PutBytes.{put_bytes-other}
-use Rattle.cached_step.specs.CacheRun.{PutsIn, cached_byte, line_after}
+use Rattle.cached_step.specs.CacheRun.{PutsIn, line_after}
 use Rattle.cached_step.proofs.PutBytes.{put_bytes-here, stored-here, stored-other}
 
 -- a line that is not there has no bytes

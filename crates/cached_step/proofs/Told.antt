@@ -6,8 +6,9 @@ use Rattle.std.specs.Prelude.{IfSome, slice_index}
 use Rattle.std.proofs.lemmas.Bool.{cases_eq, cases_lt, eq-eqb, ne_eqb}
 use Rattle.std.proofs.lemmas.List.{get_or-drop, get_or-take}
 use Rattle.cache_sets.specs.Cache.{is_resident, letter_in, letter_of, way_of}
-use Rattle.cache_sets.specs.Cached.{Cached}
+use Rattle.cache_sets.specs.Cached.{Cached, cached_byte}
 use Rattle.cache_sets.specs.Residency.{Way}
+use Rattle.coherence.specs.Beginning.{line_at}
 use Rattle.coherence.specs.Caches.{cache_at}
 use Rattle.coherence.specs.GivenBack.{bytes_with, copies_with}
 use Rattle.coherence.specs.Served.{Copies, HasLine, TellsOf}
@@ -34,8 +35,8 @@ use Rattle.rv_flat.specs.Step.{action_of, applied, execution_of, stored_by}
 use Rattle.rv_flat.proofs.PutBytes.{length-put_bytes}
 use Rattle.rv_word.specs.Decoding.{decoded}
 use Rattle.rv_word.specs.declared.insn.Insn.{Insn}
-use Rattle.cached_step.specs.CacheRun.{HasRun, cached_byte, line_after, permitted}
-use Rattle.cached_step.specs.Memory.{IsPlaced, TellsMemory, line_at}
+use Rattle.cached_step.specs.CacheRun.{HasRun, line_after, permitted}
+use Rattle.cached_step.specs.Memory.{IsPlaced, TellsMemory}
 use Rattle.cached_step.proofs.Windows.{put-before, put-behind, put-inside}
 
 -- the line of a piece of memory lies there

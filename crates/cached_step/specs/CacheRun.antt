@@ -1,5 +1,5 @@
 -- what an instruction makes of a cache, over whose lines it runs
-use Rattle.std.specs.Prelude.{ℕ, ◌≡◌, ◌≢◌, ◌%◌, Bool, List, Option, None, Some, option_map, slice_index}
+use Rattle.std.specs.Prelude.{ℕ, ◌≡◌, ◌≢◌, ◌%◌, Bool, List, Option, None, Some, option_map}
 use Rattle.cache_sets.specs.Cache.{letter_of, lettered, touched}
 use Rattle.cache_sets.specs.Cached.{Cached, bytes_of, copy_in, copy_with_letter}
 use Rattle.cache_sets.specs.Calls.{IsTouched, IsWritten}
@@ -17,10 +17,6 @@ use Rattle.rv_alu.specs.declared.action.Action.{Action}
 use Rattle.rv_alu.specs.declared.footprint.Access.{Access}
 use Rattle.rv_alu.specs.declared.footprint.Access.TheVariants.{Read, Write}
 use Rattle.rv_flat.specs.Memory.{put_bytes}
-
--- the byte at an address, in a cache
-abbrev pub cached_byte : Cached → ℕ → ℕ
-cached_byte cache address = slice_index (bytes_of cache (line_number address)) (address % LINE_BYTES)
 
 -- whether the letter of a line permits a need
 abbrev pub permitted : Cached → ℕ → Need → Bool

@@ -2,7 +2,7 @@
 use Rattle.std.specs.Prelude.{ℕ, ◌≡◌, ◌≢◌, ◌≤◌, false, true, List, Option, None, Some}
 use Rattle.cache_sets.specs.Cache as caches
 use Rattle.cache_sets.specs.Cache.{has_marks}
-use Rattle.cache_sets.specs.Cached.{Cached}
+use Rattle.cache_sets.specs.Cached.{Cached, cached_byte}
 use Rattle.cache_sets.specs.Residency.{Way}
 use Rattle.cache_sets.specs.WellFormed.{IsWellFormed}
 use Rattle.coherence.specs.Caches.{cache_at}
@@ -24,7 +24,7 @@ use Rattle.rv_alu.specs.declared.view.HartView.{HartView}
 use Rattle.rv_flat.specs.FlatState.{FlatState, room_of, span_of, view_of}
 use Rattle.rv_flat.specs.Memory.{byte_in}
 use Rattle.rv_flat.specs.Step.{action_of, applied, execution_of}
-use Rattle.cached_step.specs.CacheRun.{HasRun, cached_byte, permitted}
+use Rattle.cached_step.specs.CacheRun.{HasRun, permitted}
 use Rattle.cached_step.specs.Memory.{IsPlaced, TellsMemory}
 
 -- how the rule of a step shows in how its action ends: a rule that runs it in no need, and one that misses in the need of that line

@@ -1,13 +1,9 @@
 -- memory, which caches and main memory tell
-use Rattle.std.specs.Prelude.{ℕ, ◌≡◌, ◌*◌, ◌-◌, ◌/◌, List, length}
-use Rattle.coherence.specs.Beginning.{line_in}
+use Rattle.std.specs.Prelude.{ℕ, ◌≡◌, ◌*◌, length}
+use Rattle.coherence.specs.Beginning.{line_of}
 use Rattle.coherence.specs.Served.{Copies, TellsOf}
 use Rattle.el_base.specs.declared.line.TheConstants.{LINE_BYTES}
 use Rattle.rv_flat.specs.FlatState.{FlatState}
-
--- the bytes of a line of memory, which is a list of bytes from a base on
-abbrev pub line_at : ℕ → List ℕ → ℕ → List ℕ
-line_at base bytes line = line_in bytes (line - base / LINE_BYTES)
 
 -- the lines lie where the bytes of memory do
 pub record IsPlaced (copies : Copies) (flat : FlatState) : Type 0 where
@@ -17,4 +13,4 @@ pub record IsPlaced (copies : Copies) (flat : FlatState) : Type 0 where
 -- caches and main memory tell the bytes of memory
 pub record TellsMemory (copies : Copies) (flat : FlatState) : Type 0 where
   pub placed : IsPlaced copies flat
-  pub bytes : TellsOf copies (line_at flat.base flat.bytes)
+  pub bytes : TellsOf copies (line_of flat)

@@ -15,7 +15,8 @@ pub struct CachePort<'a> {
 
 impl Port for CachePort<'_> {
     ghost use Rattle.std.specs.Prelude.{◌≡◌};
-    ghost use Rattle.cached_step.specs.CacheRun.{PutsIn, cached_byte, permitted};
+    ghost use Rattle.cache_sets.specs.Cached.{cached_byte};
+    ghost use Rattle.cached_step.specs.CacheRun.{PutsIn, permitted};
 
     ghost byte = { λ port. cached_byte port.sets.now };
 

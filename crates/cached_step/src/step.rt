@@ -1,6 +1,7 @@
 ghost use Rattle.std.specs.Prelude.{◌≡◌, MatchOption, None, is_some, true};
 ghost use Rattle.cache_sets.specs.Cache.{is_resident};
-ghost use Rattle.cached_step.specs.CacheRun.{HasRun, IsModified, IsUsed, PutsIn, cached_byte, permitted};
+ghost use Rattle.cache_sets.specs.Cached.{cached_byte};
+ghost use Rattle.cached_step.specs.CacheRun.{HasRun, IsModified, IsUsed, PutsIn, permitted};
 ghost use Rattle.core_step.specs.Run.{IsAligned, ended_of, lacking, store_when, view_when};
 ghost use Rattle.rv_alu.specs.Execution.{perform, store_in};
 ghost use Rattle.rv_alu.specs.Footprint.{footprint};

@@ -10,6 +10,7 @@ use Rattle.cache_sets.specs.Cached.{Cached}
 use Rattle.cache_sets.specs.WellFormed.{IsWellFormed}
 use Rattle.coherence.proofs.GivenBackLaws.{tells_same_copies}
 use Rattle.coherence.proofs.LineLaws.{none_is}
+use Rattle.coherence.specs.Beginning.{line_of}
 use Rattle.coherence.specs.GivenBack.{copies_with}
 use Rattle.coherence.specs.Served.{TellsOf}
 use Rattle.el_base.specs.Line.{line_number}
@@ -44,7 +45,7 @@ use Rattle.snoop.proofs.Returning.{ready_returned, shows_returned}
 use Rattle.snoop.specs.Agent.{agent_of}
 use Rattle.snoop.specs.Asking.{HasNoRequest}
 use Rattle.snoop.specs.Returned.{IsReturnedAs, returned}
-use Rattle.snoop.specs.Shows.{IsReady, Kept, Shows, line_of}
+use Rattle.snoop.specs.Shows.{IsReady, Kept, Shows}
 use Rattle.write_hold.proofs.LookUps.{held_nothing}
 use Rattle.write_hold.specs.Held.{Entry, held}
 

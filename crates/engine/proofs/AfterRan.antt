@@ -3,8 +3,8 @@ use Rattle.std.proofs.Common.{◌≡◌, ◌≢◌, ◌∙◌, ℕ, ◌+◌, ◌
 use Rattle.std.specs.Prelude.{slice_set}
 use Rattle.std.proofs.lemmas.Bool.{cases_eq}
 use Rattle.std.proofs.lemmas.List.{get_or-map, get_or-set_other, get_or-set_same, length-map, length-set}
-use Rattle.cache_sets.specs.Cached.{Cached}
-use Rattle.cached_step.specs.CacheRun.{HasRun, cached_byte, permitted}
+use Rattle.cache_sets.specs.Cached.{Cached, cached_byte}
+use Rattle.cached_step.specs.CacheRun.{HasRun, permitted}
 use Rattle.core_step.specs.Run.{lacking}
 use Rattle.el_base.specs.Line.{line_number}
 use Rattle.el_base.specs.declared.hart_id.HartId.{HartId}

@@ -4,7 +4,7 @@ use Rattle.std.specs.Prelude.{IfSome, IsSome, slice_set}
 use Rattle.std.proofs.lemmas.List.{get_or-set_other, get_or-set_same, length-set}
 use Rattle.cache_sets.specs.Cache.{has_marks, is_resident}
 use Rattle.cache_sets.specs.Residency.{Way}
-use Rattle.cache_sets.specs.Cached.{Cached}
+use Rattle.cache_sets.specs.Cached.{Cached, cached_byte}
 use Rattle.cache_sets.specs.WellFormed.{IsWellFormed}
 use Rattle.el_base.specs.declared.hart_id.HartId.{HartId}
 use Rattle.el_model.proofs.Harts.{hart_of-with_hart_same}
@@ -33,7 +33,6 @@ use Rattle.rv_alu.specs.declared.view.HartView.{HartView}
 use Rattle.rv_flat.specs.FlatState.{no_hart, view_of}
 use Rattle.section_ctl.proofs.Begins.{stays_live}
 use Rattle.section_ctl.specs.Calls.{HasRun, IsCoveredIn, run_of}
-use Rattle.section_ctl.specs.Shown.{cached_byte}
 use Rattle.section_ctl.specs.State as sections
 use Rattle.section_ctl.specs.State.{IsLive, SectionState}
 use Rattle.section_view.proofs.GoingOn.{goes_on}

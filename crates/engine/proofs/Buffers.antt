@@ -3,7 +3,7 @@ use Rattle.std.proofs.Common.{◌≡◌, ◌∙◌, ℕ, ◌+◌, ◌%◌, ◌<�
 use Rattle.std.proofs.Common.{false, List, Option, Some, None, not, ◌||◌, inl, inr, refl, ap, sym, subst, arith}
 use Rattle.cache_sets.proofs.MarkLemmas.{write_bits_of-touched}
 use Rattle.cache_sets.specs.Cache.{is_resident, write_bits_of}
-use Rattle.cache_sets.specs.Cached.{Cached, copy_in}
+use Rattle.cache_sets.specs.Cached.{Cached, cached_byte, copy_in}
 use Rattle.cache_sets.specs.Residency.{Way}
 use Rattle.cache_sets.specs.WellFormed.{IsWellFormed}
 use Rattle.cached_step.proofs.CachedBytes.{same_bytes}
@@ -49,7 +49,6 @@ use Rattle.section_ctl.proofs.Shows.{agrees}
 use Rattle.section_ctl.specs.Calls as calls
 use Rattle.section_ctl.specs.Calls.{ends_section, run_of}
 use Rattle.section_ctl.specs.PrivateRuns.{HasBytesOf, IsKept}
-use Rattle.section_ctl.specs.Shown.{cached_byte}
 use Rattle.section_view.proofs.ShownBytes.{do_as_shown}
 use Rattle.section_view.specs.KeptRun.{HoldsMarked, section_byte, section_execution}
 use Rattle.section_view.specs.Laws.{AgreeBeside}

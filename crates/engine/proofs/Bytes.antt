@@ -3,12 +3,13 @@ use Rattle.std.proofs.Common.{◌≡◌, ◌∙◌, ℕ, ◌+◌, ◌-◌, ◌*�
 use Rattle.std.specs.Prelude.{IfSome, IsNone, slice_index, ◌↔◌}
 use Rattle.std.proofs.lemmas.Bool.{cases_lt}
 use Rattle.std.proofs.lemmas.List.{drop-drop, drop-take, get_or-drop, get_or-take, take-take}
+use Rattle.coherence.specs.Beginning.{line_of}
 use Rattle.coherence.specs.Served.{Copies, HasLine}
 use Rattle.el_base.specs.Line.{line_number}
 use Rattle.el_base.specs.declared.line.TheConstants.{LINE_BYTES}
 use Rattle.rv_flat.specs.FlatState.{FlatState}
 use Rattle.rv_flat.specs.Memory.{byte_in, piece_of}
-use Rattle.snoop.specs.Shows.{LiesWhere, line_of}
+use Rattle.snoop.specs.Shows.{LiesWhere}
 
 -- the place of an address in memory is that of its line, and its place in it
 placed : (first base address : ℕ) → first * LINE_BYTES ≡ base → first ≤ line_number address →

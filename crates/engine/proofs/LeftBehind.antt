@@ -3,6 +3,7 @@ use Rattle.std.proofs.Common.{◌≡◌, ◌∙◌, ℕ, ◌*◌, ◌%◌, ◌�
 use Rattle.std.specs.Prelude.{OnSome, option_map, slice_set}
 use Rattle.std.proofs.lemmas.List.{map-set}
 use Rattle.cache_sets.specs.Cached.{Cached, bytes_of}
+use Rattle.coherence.specs.Beginning.{line_of}
 use Rattle.el_base.specs.Line.{line_number}
 use Rattle.el_base.specs.declared.line.TheConstants.{LINE_BYTES}
 use Rattle.engine.proofs.Bytes.{same_piece}
@@ -23,7 +24,6 @@ use Rattle.rv_flat.specs.FlatState.{FlatState}
 use Rattle.rv_flat.specs.Laws.{written_line}
 use Rattle.rv_flat.specs.Memory.{piece_of}
 use Rattle.rv_flat.specs.Step.{appended_by}
-use Rattle.snoop.specs.Shows.{line_of}
 
 -- the line of a store, if there is one
 abbrev pub store_line : Option Store → Option ℕ

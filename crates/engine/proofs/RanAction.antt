@@ -1,12 +1,13 @@
 -- what an action leaves that ran in the cache of its hart, from a state in which the hart acts outside of a section
 use Rattle.std.proofs.Common.{◌≡◌, ◌∙◌, ℕ, Bool, true, Option, Some, None, is_some, refl, ap, sym, subst}
 use Rattle.cache_sets.specs.Cache.{is_resident}
-use Rattle.cache_sets.specs.Cached.{Cached}
+use Rattle.cache_sets.specs.Cached.{Cached, cached_byte}
 use Rattle.cached_step.proofs.CachedBytes.{same_bytes}
 use Rattle.cached_step.proofs.Rooms.{stays_in_form}
 use Rattle.cached_step.proofs.Told.{performs_flat, tells_memory_after}
+use Rattle.coherence.specs.Beginning.{line_of}
 use Rattle.step_rules.proofs.Begins.{readable_there}
-use Rattle.cached_step.specs.CacheRun.{HasRun, cached_byte, permitted}
+use Rattle.cached_step.specs.CacheRun.{HasRun, permitted}
 use Rattle.coherence.proofs.Fetched.{copy_resident}
 use Rattle.coherence.proofs.GivenBackLaws.{copy_tells}
 use Rattle.coherence.proofs.Owners.{copy_is}
@@ -40,7 +41,7 @@ use Rattle.snoop.proofs.Returning.{ready_returned, shows_returned}
 use Rattle.snoop.specs.Agent.{agent_of}
 use Rattle.snoop.specs.Asking.{HasNoRequest}
 use Rattle.snoop.specs.Returned.{IsReturnedAs, returned, state_with}
-use Rattle.snoop.specs.Shows.{IsReady, Shows, line_of}
+use Rattle.snoop.specs.Shows.{IsReady, Shows}
 use Rattle.coherence.proofs.LineLaws.{none_is}
 
 -- what a candidate leaves of a hart, and learning of what the hart keeps

@@ -2,8 +2,8 @@
 use Rattle.std.proofs.Common.{◌≡◌, ◌∙◌, ℕ, ◌++◌, None, refl, ap, sym, subst}
 use Rattle.std.specs.Prelude.{slice_set}
 use Rattle.std.proofs.lemmas.List.{get_or-set_same, set-set}
-use Rattle.cache_sets.specs.Cached.{Cached}
-use Rattle.cached_step.specs.CacheRun.{HasRun, cached_byte, permitted}
+use Rattle.cache_sets.specs.Cached.{Cached, cached_byte}
+use Rattle.cached_step.specs.CacheRun.{HasRun, permitted}
 use Rattle.coherence.specs.Caches.{no_cache}
 use Rattle.core_step.specs.Run.{lacking}
 use Rattle.el_base.specs.declared.hart_id.HartId.{HartId}

@@ -1,7 +1,7 @@
 -- a hart that acts outside of a section, and what its action makes of the parts where it runs
 use Rattle.std.specs.Prelude.{ℕ, ◌≡◌, slice_set}
-use Rattle.cache_sets.specs.Cached.{Cached}
-use Rattle.cached_step.specs.CacheRun.{HasRun, cached_byte}
+use Rattle.cache_sets.specs.Cached.{Cached, cached_byte}
+use Rattle.cached_step.specs.CacheRun.{HasRun}
 use Rattle.el_model.specs.Plain.{PlainRule, plain_rule}
 use Rattle.el_model.specs.State.{ModelState}
 use Rattle.engine.specs.Acting.{ActsOutside, cache_in}

@@ -16,11 +16,11 @@ ghost use Rattle.snoop.specs.Asking.{asking, numbered_asked};
 ghost use Rattle.snoop.specs.Shows.{IsReady, kept};
 
 use crate::beginning::{first_harts, memory_of};
-use crate::output::Output;
 use el_base::{Config, HartId, NoMemory};
 use elf_image::{Code, Image};
 use hart_state::HartState;
 use rv_alu::{Action, HartStatus, HartView, Span};
+use rv_flat::Output;
 use section_ctl::Section;
 use snoop::{Asked, Bus};
 use std::alloc::Global;

@@ -23,7 +23,6 @@ mod missing;
 mod mode_policy;
 mod on_bus;
 mod others_reservations;
-mod output;
 mod reservations;
 mod rolling_back;
 mod running;

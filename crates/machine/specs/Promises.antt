@@ -90,11 +90,6 @@ pub record KeepsPromises (config : Config) (change : Change) : Type 0 where
   pub release : ReleasesTakeEffect config.long change
   pub others : OthersAreUntouched change
 
--- a live section runs covered by its hart's access bits, and is no longer than it may be
-pub record IsSoundSection (state : ModelState) (long h : ℕ) (section : Section) : Type 0 where
-  pub covered : IsCoveredRun state.committed h (cache_of state h) section
-  pub short : IsSectionShort long section
-
 -- what a section shows of memory: its new value in the lock word, else what it has stored, else what is committed
 abbrev pub ShowsStoresOverMemory : ModelState → ℕ → Section → List Entry → Type 0
 ShowsStoresOverMemory state h section stores =

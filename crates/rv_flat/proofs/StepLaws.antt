@@ -23,7 +23,7 @@ use Rattle.rv_alu.specs.declared.span.Span.{Span}
 use Rattle.rv_word.specs.declared.insn.Insn.{Insn}
 use Rattle.rv_flat.specs.FlatState.{FlatState, first_regs, first_view, no_hart, room_of, span_of, start, status_of, view_of}
 use Rattle.rv_flat.specs.Laws.{HasRegs, IsInOneLine, KeepsShape, Writes, footprint_of, seen_after, touched_by, touched_in, written_line}
-use Rattle.rv_flat.specs.Memory.{byte_in, piece_of, put_bytes}
+use Rattle.rv_flat.specs.Memory.{byte_in, piece_of}
 use Rattle.rv_flat.specs.Run.{alone, run}
 use Rattle.rv_flat.specs.Step.{appended_by, applied, execution_of, flat, status_step, stored_by, unreserved, unreserved_by}
 use Rattle.rv_flat.proofs.PutBytes.{length-put_bytes, put_bytes-other}

@@ -9,7 +9,7 @@ use Rattle.rv_alu.specs.declared.view.HartStatus.TheVariants.{Running, Exited, T
 use Rattle.rv_alu.specs.declared.view.HartView.{HartView}
 use Rattle.rv_alu.specs.declared.span.Span.{Span}
 use Rattle.rv_alu.specs.Execution.{insn_at, touched}
-use Rattle.rv_alu.specs.Footprint.{AgreeOn, IsNoCall, IsNoStoreConditional, IsPiece}
+use Rattle.rv_alu.specs.Footprint.{AgreeOn, IsNoStoreConditional, IsPiece}
 use Rattle.rv_alu.specs.Regs.{AreRegs}
 use Rattle.rv_word.specs.declared.insn.Insn.{Insn}
 use Rattle.rv_flat.specs.FlatState.{FlatState, room_of, span_of, status_of, view_of}

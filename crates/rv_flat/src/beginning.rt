@@ -8,10 +8,10 @@ use rv_alu::abi::{A0, A1, SP};
 use rv_alu::{HartStatus, HartView, Regs};
 use std::alloc::Global;
 
-/// A hart before its first step, with its number, the number of harts and its own stack (this
-/// project's profile).
+/// A hart before its first step: at the entry, with its number in x10, the number of harts in x11,
+/// its stack's end in x2 and 0 in the other registers (this project's profile).
 #[tactic(auto, unfolding(crate::specs::FlatState::first_view))]
-fn first_view(image: &Image, hart: u8) -> HartView
+pub fn first_view(image: &Image, hart: u8) -> HartView
     requires { hart < image.now.harts }
     ensures { result ≡ first_view image.now hart }
 {

@@ -8,15 +8,13 @@ ghost use Rattle.rv_flat.specs.Step.{action_of, appended_by, applied, execution_
 
 use crate::beginning::first_views;
 use crate::memory;
+use crate::output::Output;
 use crate::reservations::unreserve_all;
 use el_base::{HartId, NoMemory, line_of};
 use elf_image::{Code, Image};
 use rv_alu::{Action, Append, HartStatus, HartView, Load, Span, Store};
 use std::alloc::Global;
 use std::marker::Model;
-
-/// The most bytes that a program may write.
-pub const OUTPUT_LIMIT: usize = 16_777_216;
 
 /// Harts over plain shared memory. Contracts see the list of their views, memory as its base and
 /// the list of its bytes, what instructions are fetched from, and the output as one list.
@@ -26,21 +24,19 @@ pub struct Flat {
     base: u32,
     bytes: Vec<u8>,
     code: Code,
-    output: Vec<u8>,
+    output: Output,
 }
 
 impl Model for Flat {
-    ghost use Rattle.std.specs.Prelude.{◌+◌, ◌<◌, ◌≤◌, ◌^◌, length, vec_capacity};
-    ghost use Rattle.rv_flat.specs.FlatState.{FlatState, output_limit};
+    ghost use Rattle.std.specs.Prelude.{◌+◌, ◌<◌, ◌^◌, length};
+    ghost use Rattle.rv_flat.specs.FlatState.{FlatState};
 
     ghost Value = { FlatState };
 
-    ghost view = { λ f. record { harts = f.harts.items; base = f.base; bytes = f.bytes.items; code = f.code; output = f.output.items } };
+    ghost view = { λ f. record { harts = f.harts.items; base = f.base; bytes = f.bytes.items; code = f.code; output = f.output } };
 
     ghost invariant = { λ f. record {
       small : f.base + length f.bytes.items < 2 ^ 32;
-      within : length f.output.items ≤ output_limit;
-      reserved : output_limit ≤ vec_capacity f.output;
     } };
 }
 
@@ -57,7 +53,7 @@ impl Flat {
             base: image.base(),
             bytes: Vec::from_slice(alloc, image.bytes())?,
             code: image.code().share()?,
-            output: Vec::with_capacity(alloc, OUTPUT_LIMIT)?,
+            output: Output::make(alloc)?,
         })
     }
 
@@ -98,7 +94,7 @@ impl Flat {
         ensures exact { result.now ≡ self.now.output }
         ensures within_limit { length self.now.output ≤ output_limit }
     {
-        self.output.as_slice()
+        self.output.bytes()
     }
 
     /// One step of a hart: its next instruction, or the trap that it meets (RISC-V unprivileged
@@ -129,7 +125,7 @@ impl Flat {
     fn room(&self) -> u32
         ensures { result ≡ room_of self.now }
     {
-        (OUTPUT_LIMIT - self.output.len()) as u32
+        self.output.room()
     }
 
     /// What a hart does next.
@@ -176,7 +172,7 @@ impl Flat {
         if let Some(append) = append {
             let place = (append.address - self.base) as usize;
             let piece = &self.bytes[place..place + append.len as usize];
-            self.output.extend_from_slice(piece).unwrap();
+            self.output.append(piece);
         }
     }
 

@@ -4,13 +4,13 @@ use Rattle.std.proofs.Common.{length, take, inl, inr, slice_index, Some, refl, a
 use Rattle.std.specs.Option.{unwrap_or}
 use Rattle.std.proofs.lemmas.Bool.Decides.{nat_tests}
 use Rattle.std.proofs.lemmas.Grind.{common_steps}
-use Rattle.cache_sets.specs.Cached.{Cached, bytes_of}
+use Rattle.cache_sets.specs.Cached.{Cached, bytes_of, cached_byte}
 use Rattle.core_step.specs.Port.{byte_of, stored}
 use Rattle.el_base.specs.Line.{line_number}
 use Rattle.el_base.specs.declared.line.TheConstants.{LINE_BYTES}
 use Rattle.rv_alu.specs.Footprint.{IsSize}
 use Rattle.rv_alu.specs.Loaded.{loaded}
-use Rattle.section_ctl.specs.Shown.{cached_byte, port_byte}
+use Rattle.section_ctl.specs.Shown.{port_byte}
 use Rattle.section_view.proofs.Bytes.{stored_inside, stored_outside}
 use Rattle.section_view.specs.KeptRun.{held_over}
 use Rattle.section_view.specs.Laws.{AreLowBytes}

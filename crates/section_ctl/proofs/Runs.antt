@@ -4,7 +4,7 @@ use Rattle.std.specs.Prelude.{MatchOption}
 use Rattle.std.specs.Option.{unwrap_or}
 use Rattle.std.proofs.lemmas.Bool.Decides.{nat_tests}
 use Rattle.cache_sets.specs.Cache.{write_bits_of}
-use Rattle.cache_sets.specs.Cached.{Cached}
+use Rattle.cache_sets.specs.Cached.{Cached, cached_byte}
 use Rattle.cache_sets.specs.Residency.{Way}
 use Rattle.core_step.specs.Port.{stored}
 use Rattle.core_step.specs.Run.{ended_by, ended_of, lacking, store_when, view_when}
@@ -18,7 +18,7 @@ use Rattle.rv_alu.specs.declared.footprint.Access.TheVariants as accesses
 use Rattle.rv_alu.specs.declared.view.HartView.{HartView}
 use Rattle.section_ctl.proofs.Room.{room_for_written}
 use Rattle.section_ctl.specs.Calls.{IsPutInto}
-use Rattle.section_ctl.specs.Shown.{IsTouchedLine, cached_byte, permits_one, port_byte}
+use Rattle.section_ctl.specs.Shown.{IsTouchedLine, permits_one, port_byte}
 use Rattle.section_view.proofs.Bytes.{stored_inside, stored_outside}
 use Rattle.section_view.proofs.ShownBytes.{Inside, Outside, in_word}
 use Rattle.section_view.specs.KeptRun.{HoldsMarked, held_over, section_byte}

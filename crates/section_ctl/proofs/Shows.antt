@@ -6,7 +6,7 @@ use Rattle.std.specs.Prelude.{IfSome, IsSome, if◌then◌else◌}
 use Rattle.std.proofs.lemmas.Bool.{cases_eq}
 use Rattle.cache_sets.proofs.CacheLemmas.{way_of-touched}
 use Rattle.cache_sets.specs.Cache.{bit_in, has_bit, is_resident, marked, touched, way_of, write_bit}
-use Rattle.cache_sets.specs.Cached.{Cached, bytes_of}
+use Rattle.cache_sets.specs.Cached.{Cached, bytes_of, cached_byte}
 use Rattle.cache_sets.specs.Residency.{Way}
 use Rattle.el_base.specs.Line.{line_number}
 use Rattle.el_base.specs.declared.line.TheConstants.{LINE_BYTES}
@@ -40,7 +40,6 @@ use Rattle.write_hold.proofs.LookUps.{held_no_line, holds_after_put_other}
 use Rattle.write_hold.specs.Held.{Entry, Held, held, holds}
 use Rattle.section_ctl.specs.Calls.{HasCommitted, HasReleased, HasReleasedBy, HasRun, IsCoveredIn, begun_state, committed_copy, run_of}
 use Rattle.section_ctl.specs.PrivateRuns.{BeginsRun, CommitsCode, CommitsRun, GoesOnRun, HasBytesOf, IsKept, TakesEffect}
-use Rattle.section_ctl.specs.Shown.{cached_byte}
 use Rattle.section_ctl.specs.State.{SectionState, section_of}
 use Rattle.section_ctl.specs.declared.live.Live.{Live}
 

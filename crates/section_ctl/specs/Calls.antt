@@ -1,7 +1,7 @@
 -- what each call of a section makes of it, and of its hart's cache
 use Rattle.std.specs.Prelude.{ℕ, ◌≡◌, ◌+◌, ◌<◌, Bool, true, false, if◌then◌else◌, List, [], length, slice_index, Option, None, Some, option_map}
 use Rattle.cache_sets.specs.Cache.{committed, write_bit}
-use Rattle.cache_sets.specs.Cached.{Cached, Copy, bytes_of, copy_in}
+use Rattle.cache_sets.specs.Cached.{Cached, Copy, bytes_of, cached_byte, copy_in}
 use Rattle.core_step.specs.Run.{IsAligned}
 use Rattle.el_base.specs.declared.line.TheConstants.{LINE_BYTES}
 use Rattle.el_model.specs.InSection.{covered}
@@ -16,7 +16,6 @@ use Rattle.rv_alu.specs.declared.action.Action.{Action}
 use Rattle.rv_alu.specs.declared.action.Action.TheVariants as actions
 use Rattle.rv_alu.specs.declared.view.HartView.{HartView}
 use Rattle.rv_word.specs.declared.insn.Insn.{Insn}
-use Rattle.section_ctl.specs.Shown.{cached_byte}
 use Rattle.section_ctl.specs.State.{SectionState}
 use Rattle.section_view.specs.KeptRun.{is_written, section_byte}
 use Rattle.section_view.specs.Release.{released_view}

@@ -1,7 +1,7 @@
 -- what a section's calls make of its private run: the steps of its hart alone, from what is committed on
 use Rattle.std.specs.Prelude.{ℕ, ◌≡◌, ◌≤◌, ◌+◌, true, Some}
 use Rattle.cache_sets.specs.Cache.{is_resident}
-use Rattle.cache_sets.specs.Cached.{Cached}
+use Rattle.cache_sets.specs.Cached.{Cached, cached_byte}
 use Rattle.el_base.specs.Line.{line_number}
 use Rattle.elf_image.specs.Program.{code_word}
 use Rattle.el_model.specs.State.{Section}
@@ -15,7 +15,6 @@ use Rattle.rv_flat.specs.Run.{alone}
 use Rattle.rv_flat.specs.Step.{action_of}
 use Rattle.rv_word.specs.declared.insn.AmoOp.{AmoOp}
 use Rattle.rv_word.specs.declared.reg.Reg.{Reg}
-use Rattle.section_ctl.specs.Shown.{cached_byte}
 use Rattle.section_ctl.specs.State.{SectionState}
 use Rattle.section_view.specs.KeptRun.{KeepsRun}
 use Rattle.section_view.specs.Release.{HasEffect}

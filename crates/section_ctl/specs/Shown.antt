@@ -1,10 +1,9 @@
 -- the bytes that a section shows over a cache, and the lines that it may touch
-use Rattle.std.specs.Prelude.{ℕ, ◌≡◌, ◌%◌, ◌&&◌, ◌==◌, Bool, List, slice_index}
-use Rattle.cache_sets.specs.Cached.{Cached, bytes_of}
+use Rattle.std.specs.Prelude.{ℕ, ◌≡◌, ◌&&◌, ◌==◌, Bool, List}
+use Rattle.cache_sets.specs.Cached.{Cached, cached_byte}
 use Rattle.cache_sets.specs.Residency.{Way}
 use Rattle.core_step.specs.Port.{stored}
 use Rattle.el_base.specs.Line.{line_number}
-use Rattle.el_base.specs.declared.line.TheConstants.{LINE_BYTES}
 use Rattle.el_base.specs.declared.outcomes.Need.{Need}
 use Rattle.el_base.specs.declared.outcomes.Need.TheVariants.{Read, Write}
 use Rattle.el_model.specs.InSection.{is_covered}
@@ -12,10 +11,6 @@ use Rattle.rv_alu.specs.declared.footprint.Access.{Access}
 use Rattle.rv_alu.specs.declared.footprint.Access.TheVariants as accesses
 use Rattle.section_view.specs.KeptRun.{held_over}
 use Rattle.write_hold.specs.Held.{Entry, Held, has_room_for}
-
--- the byte at an address, in a cache that has its line
-abbrev pub cached_byte : Cached → ℕ → ℕ
-cached_byte cache address = slice_index (bytes_of cache (line_number address)) (address % LINE_BYTES)
 
 -- the byte that a port shows: the held one, else the new value's in the lock word, else the cached one
 abbrev pub port_byte : List Entry → ℕ → ℕ → Cached → ℕ → ℕ

@@ -1,5 +1,6 @@
 ghost use Rattle.std.specs.Prelude.{◌≡◌, ◌≤◌, ◌<◌, ◌+◌, ◌%◌, ℕ, None};
 ghost use Rattle.cache_sets.specs.Cache.{write_bits_of};
+ghost use Rattle.cache_sets.specs.Cached.{cached_byte};
 ghost use Rattle.core_step.specs.Run.{IsAligned};
 ghost use Rattle.el_base.specs.Line.{line_number};
 ghost use Rattle.el_model.specs.Upcoming.{touch_of};
@@ -8,7 +9,7 @@ ghost use Rattle.rv_alu.specs.Execution.{perform, store_in, view_after};
 ghost use Rattle.rv_alu.specs.Footprint.{footprint};
 ghost use Rattle.rv_alu.specs.declared.view.HartStatus.TheVariants.{Running};
 ghost use Rattle.section_ctl.specs.Calls.{IsCoveredIn, ends_section};
-ghost use Rattle.section_ctl.specs.Shown.{IsTouchedLine, cached_byte, port_byte};
+ghost use Rattle.section_ctl.specs.Shown.{IsTouchedLine, port_byte};
 ghost use Rattle.section_view.specs.KeptRun.{HoldsMarked, section_byte};
 ghost use Rattle.section_view.specs.Laws.{HoldsAfter};
 ghost use Rattle.write_hold.specs.Held.{held};

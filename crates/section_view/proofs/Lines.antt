@@ -3,10 +3,10 @@ use Rattle.std.proofs.Common.{◌≡◌, ◌≤◌, ◌<◌, ◌+◌, ◌-◌, �
 use Rattle.std.specs.Prelude.{slice_index, unwrap_or}
 use Rattle.std.proofs.lemmas.Grind.{same_number_lists}
 use Rattle.std.proofs.lemmas.List.{get_or-drop, get_or-take, length-drop, length-take}
-use Rattle.coherence.specs.Beginning.{line_in}
+use Rattle.coherence.specs.Beginning.{line_in, line_of}
 use Rattle.el_base.specs.declared.line.TheConstants.{LINE_BYTES}
 use Rattle.rv_flat.specs.FlatState.{FlatState}
-use Rattle.section_view.specs.Release.{IsLineFrom, line_of}
+use Rattle.section_view.specs.Release.{IsLineFrom}
 use Rattle.write_hold.proofs.LookUps.{held_at_address, seen_at_no_line}
 use Rattle.write_hold.specs.Held.{Entry, held, held_at, holds, seen_at}
 

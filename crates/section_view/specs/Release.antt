@@ -1,6 +1,6 @@
 -- the release of a section, and what a commit leaves
 use Rattle.std.specs.Prelude.{ℕ, ◌≡◌, ◌≢◌, ◌≤◌, ◌<◌, ◌+◌, ◌-◌, ◌/◌, ◌%◌, Bool, false, if◌then◌else◌, List, Option, None, Some, length, slice_index, unwrap_or}
-use Rattle.coherence.specs.Beginning.{line_in}
+use Rattle.coherence.specs.Beginning.{line_of}
 use Rattle.el_base.specs.Line.{line_number}
 use Rattle.el_base.specs.declared.line.TheConstants.{LINE_BYTES}
 use Rattle.rv_alu.specs.Execution.{advance_of, put_of, release_of}
@@ -34,10 +34,6 @@ reserved_beside lines (Some word) = if lines (line_number word) then None else S
 -- a view without its reservation of a word on one of these lines
 abbrev pub unreserved_on : (ℕ → Bool) → HartView → HartView
 unreserved_on lines view = record view { reserved = reserved_beside lines view.reserved }
-
--- the bytes of a line of memory
-abbrev pub line_of : FlatState → ℕ → List ℕ
-line_of state line = line_in state.bytes (line - state.base / LINE_BYTES)
 
 -- memory begins with a line, and this line is none before it
 pub record IsLineFrom (state : FlatState) (line : ℕ) : Type 0 where

@@ -8,6 +8,7 @@ use Rattle.cache_sets.specs.Cache.{has_marks, room_of}
 use Rattle.cache_sets.specs.Cached.{Cached}
 use Rattle.cache_sets.specs.WellFormed.{IsWellFormed}
 use Rattle.coherence.proofs.RoomLaws.{room_after_clear}
+use Rattle.coherence.specs.Beginning.{line_of}
 use Rattle.coherence.specs.Caches.{cache_at}
 use Rattle.el_base.specs.Losers.{losers_of}
 use Rattle.el_model.specs.Face.{Fate, LosesTo, Stays, Unmet, after_fate, fate_at, face_losers, fate_of, faced, faced_hart, markers_for, winner_in}
@@ -19,7 +20,7 @@ use Rattle.snoop.proofs.Showing.{ShowsEach, lies_yet, shows_each}
 use Rattle.snoop.specs.Agent.{Agent, agent_at, agent_of}
 use Rattle.snoop.specs.Fates.{fate_in}
 use Rattle.snoop.specs.Settled.{AreSettledBelow, SettledCache, sent_in, settled_agent}
-use Rattle.snoop.specs.Shows.{IsReady, Kept, Shows, line_of}
+use Rattle.snoop.specs.Shows.{IsReady, Kept, Shows}
 use Rattle.snoop.specs.declared.fates.Fate as fates
 
 -- what a fate leaves of a cache

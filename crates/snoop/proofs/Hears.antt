@@ -9,6 +9,7 @@ use Rattle.cache_sets.specs.Cache.{cleared, has_marks, room_of}
 use Rattle.cache_sets.specs.WellFormed.{IsWellFormed}
 use Rattle.cache_sets.proofs.MarkLemmas.{has_marks-cleared}
 use Rattle.cache_sets.proofs.WellFormedLemmas.{well_formed-cleared}
+use Rattle.coherence.specs.Beginning.{line_of}
 use Rattle.coherence.specs.Caches.{cache_at}
 use Rattle.coherence.specs.Served.{HasLine, IsCoherent, TellsOf, has_room}
 use Rattle.coherence.proofs.RoomLaws.{room_after_clear}
@@ -27,7 +28,7 @@ use Rattle.mail.specs.Mailbox.{Probe, posted}
 use Rattle.snoop.specs.Agent.{Agent, agent_at, agent_of, agent_posted, with_agent}
 use Rattle.snoop.specs.Delivering.{Forwards, IsForwarded, IsLostTo, agent_heard, asks_on}
 use Rattle.snoop.specs.Settled.{in_removal}
-use Rattle.snoop.specs.Shows.{IsReady, Kept, LiesWhere, Shows, line_of}
+use Rattle.snoop.specs.Shows.{IsReady, Kept, LiesWhere, Shows}
 use Rattle.snoop.proofs.AfterFate.{beaten_agent, beaten_cache, beaten_live}
 use Rattle.snoop.proofs.Ready.{asks_agent, ready_after}
 use Rattle.snoop.proofs.Showing.{agent_other, agent_past, agent_same, count_with_agent, lies_yet, shows_agent, shows_each}

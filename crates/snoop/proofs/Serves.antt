@@ -12,6 +12,7 @@ use Rattle.cache_sets.specs.Residency.{Way}
 use Rattle.cache_sets.specs.WellFormed.{IsWellFormed}
 use Rattle.cache_sets.proofs.MarkLemmas.{has_marks-marked, no_marks}
 use Rattle.cache_sets.proofs.WellFormedLemmas.{well_formed-marked}
+use Rattle.coherence.specs.Beginning.{line_of}
 use Rattle.coherence.specs.Caches.{cache_at, others_from}
 use Rattle.coherence.specs.Caches as copies
 use Rattle.coherence.proofs.GivenUp.{beyond}
@@ -24,7 +25,7 @@ use Rattle.el_model.specs.Serve.{served_hart, serving, with_claim}
 use Rattle.el_model.specs.State.{Hart, ModelState, Section, cache_of, count_up, each_hart, hart_of, is_live, section_of}
 use Rattle.snoop.specs.Agent.{Agent, agent_at, agent_forgetting, agent_of, agent_served}
 use Rattle.snoop.specs.Serving.{CopiesClaim, CopiesServe, Serves, agent_after_serve, agent_claiming}
-use Rattle.snoop.specs.Shows.{CanBeServed, IsReady, Kept, Shows, line_of}
+use Rattle.snoop.specs.Shows.{CanBeServed, IsReady, Kept, Shows}
 use Rattle.section_laws.proofs.FreeLines.{unmet as section_unmet}
 use Rattle.snoop.proofs.Settles.{stays_twice}
 use Rattle.snoop.proofs.Ready.{ready_after}

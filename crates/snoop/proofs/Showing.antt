@@ -4,6 +4,7 @@ use Rattle.std.specs.Prelude.{slice_set}
 use Rattle.std.proofs.lemmas.Bool.{cases_eq, cases_lt}
 use Rattle.std.proofs.lemmas.List.{get_or-set_same, get_or-set_other, length-set}
 use Rattle.cache_sets.specs.Cache.{has_marks}
+use Rattle.coherence.specs.Beginning.{line_of}
 use Rattle.coherence.specs.Caches.{cache_at}
 use Rattle.coherence.proofs.GivenUp.{beyond}
 use Rattle.coherence.specs.Served.{Copies, TellsOf}
@@ -13,7 +14,7 @@ use Rattle.el_model.proofs.Harts.{hart_of-each_hart, hart_of-each_hart_past, har
 use Rattle.el_model.proofs.Keeps.{length-each_from}
 use Rattle.snoop.specs.Agent.{Agent, agent_at, agent_of, new_agent, with_agent}
 use Rattle.rv_flat.specs.FlatState.{FlatState}
-use Rattle.snoop.specs.Shows.{Kept, LiesWhere, Shows, line_of}
+use Rattle.snoop.specs.Shows.{Kept, LiesWhere, Shows}
 
 -- main memory that has not moved lies where it did
 pub lies_yet : (old new : Copies) (flat : FlatState) → new.first ≡ old.first → length new.lines ≡ length old.lines → LiesWhere old flat →

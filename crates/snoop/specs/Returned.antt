@@ -4,13 +4,14 @@ use Rattle.bus_order.specs.Order.{Request, request_of}
 use Rattle.cache_sets.specs.Cache.{has_marks, room_of}
 use Rattle.cache_sets.specs.Cached.{Cached}
 use Rattle.cache_sets.specs.WellFormed.{IsWellFormed}
+use Rattle.coherence.specs.Beginning.{line_of}
 use Rattle.coherence.specs.Caches.{cache_at}
 use Rattle.coherence.specs.GivenBack.{copies_with}
 use Rattle.coherence.specs.Served.{IsCoherent, TellsOf}
 use Rattle.el_model.specs.State.{Hart, ModelState, hart_of, with_hart}
 use Rattle.rv_flat.specs.FlatState.{FlatState}
 use Rattle.snoop.specs.Agent.{agent_at, agent_of}
-use Rattle.snoop.specs.Shows.{Kept, LiesWhere, line_of}
+use Rattle.snoop.specs.Shows.{Kept, LiesWhere}
 
 -- another cache in the place of a hart's
 abbrev pub returned : Kept → ℕ → Cached → Kept

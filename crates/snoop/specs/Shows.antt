@@ -3,7 +3,7 @@ use Rattle.std.specs.Prelude.{ℕ, ◌≡◌, ◌<◌, ◌≤◌, ◌-◌, ◌*�
 use Rattle.bus_order.specs.Order.{IsOneEach, Request, request_of}
 use Rattle.cache_sets.specs.Cache.{has_marks}
 use Rattle.cache_sets.specs.WellFormed.{IsWellFormed}
-use Rattle.coherence.specs.Beginning.{line_in}
+use Rattle.coherence.specs.Beginning.{line_of}
 use Rattle.coherence.specs.Caches.{cache_at}
 use Rattle.coherence.specs.Served.{Copies, HasLine, IsCoherent, TellsOf, has_room, shown}
 use Rattle.el_base.specs.declared.config.Mode.{Mode}
@@ -22,10 +22,6 @@ pub record Kept : Type 0 where
 
 abbrev pub kept : buses.Bus → Kept
 kept bus = record { mode = bus.mode; copies = shown bus.hierarchy; agents = bus.agents.items; order = bus.order }
-
--- the bytes of a line of committed memory
-abbrev pub line_of : FlatState → ℕ → List ℕ
-line_of flat line = line_in flat.bytes (line - flat.base / LINE_BYTES)
 
 -- main memory lies where the state's memory does, and is as long
 pub record LiesWhere (copies : Copies) (flat : FlatState) : Type 0 where

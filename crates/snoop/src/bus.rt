@@ -3,6 +3,7 @@
 ghost use Rattle.std.specs.Prelude.{◌≡◌, ◌<◌, ◌%◌, ◌↔◌, IfOk, IfSome, IsNone, None, length, slice_index, true};
 ghost use Rattle.std.specs.Borrow.{sem};
 ghost use Rattle.bus_order.specs.Order.{request_of};
+ghost use Rattle.coherence.specs.Beginning.{line_of};
 ghost use Rattle.coherence.specs.Caches.{behind_of, cache_at};
 ghost use Rattle.coherence.specs.Served.{HasLine, has_room};
 ghost use Rattle.el_base.specs.Config.{IsInRange};
@@ -13,7 +14,7 @@ ghost use Rattle.el_model.specs.Plain.{missed_hart};
 ghost use Rattle.el_model.specs.State.{ModelState, begin, cache_of, hart_of, ordered_of, raised_of, with_hart};
 ghost use Rattle.snoop.specs.Agent.{agent_at};
 ghost use Rattle.snoop.specs.Asking.{HasNoRequest, asking, numbered_asked};
-ghost use Rattle.snoop.specs.Shows.{IsReady, Shows, kept, line_of};
+ghost use Rattle.snoop.specs.Shows.{IsReady, Shows, kept};
 
 use crate::agent::Agent;
 use crate::agents::{close_attempt, give_up, new_agents, open_attempt, raise};

@@ -5,6 +5,7 @@ use Rattle.cache_sets.specs.Cache.{is_resident, letter_in, letter_of, way_of}
 use Rattle.cache_sets.specs.Cached.{bytes_of}
 use Rattle.cache_sets.specs.Residency.{Way}
 use Rattle.coherence.proofs.GivenBackLaws.{copy_tells}
+use Rattle.coherence.specs.Beginning.{line_of}
 use Rattle.coherence.specs.Caches.{cache_at}
 use Rattle.el_base.specs.Line.{line_number}
 use Rattle.el_base.specs.declared.line.TheConstants.{LINE_BYTES}
@@ -16,7 +17,7 @@ use Rattle.el_model.specs.Upcoming.{Swap, Touch, changes_word, next_touch}
 use Rattle.moesi.specs.Letters.{may_read}
 use Rattle.rv_alu.specs.Loaded.{loaded}
 use Rattle.rv_flat.specs.Memory.{byte_in}
-use Rattle.snoop.specs.Shows.{Kept, Shows, line_of}
+use Rattle.snoop.specs.Shows.{Kept, Shows}
 use Rattle.step_rules.proofs.CommittedWords.{committed_word}
 use Rattle.step_rules.specs.Actions.{swap_over}
 use Rattle.step_rules.specs.Rules.{IsOnLine, beginning_rule, touching_rule}

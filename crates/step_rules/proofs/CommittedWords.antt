@@ -2,12 +2,12 @@
 use Rattle.std.proofs.Common.{◌≡◌, ◌∙◌, ◌≤◌, ◌<◌, ℕ, zero, suc, ◌+◌, ◌-◌, ◌*◌, ◌/◌, ◌%◌, arith, refl, ap}
 use Rattle.std.proofs.lemmas.List.{get_or-drop, get_or-take}
 use Rattle.std.specs.Prelude.{drop, slice_index}
+use Rattle.coherence.specs.Beginning.{line_of}
 use Rattle.el_base.specs.Line.{line_number}
 use Rattle.el_base.specs.declared.line.TheConstants.{LINE_BYTES}
 use Rattle.rv_alu.specs.Loaded.{loaded}
 use Rattle.rv_flat.specs.FlatState.{FlatState}
 use Rattle.rv_flat.specs.Memory.{byte_in}
-use Rattle.snoop.specs.Shows.{line_of}
 use Rattle.step_rules.specs.Rules.{IsOnLine}
 
 -- a byte of an aligned word is at its place of the word's line

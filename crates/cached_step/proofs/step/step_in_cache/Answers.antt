@@ -1,10 +1,11 @@
 -- what ran stored what its execution stores, and used its line
 use Rattle.std.proofs.Common.{◌≡◌, Option, None, is_some, true}
+use Rattle.cache_sets.specs.Cached.{cached_byte}
 use Rattle.core_step.specs.Run.{lacking}
 use Rattle.core_step.proofs.Runs.{HasRanBy, ran_by}
 use Rattle.rv_alu.specs.Execution.{Execution, perform}
 use Rattle.rv_alu.specs.Footprint.{footprint}
-use Rattle.cached_step.specs.CacheRun.{cached_byte, permitted}
+use Rattle.cached_step.specs.CacheRun.{permitted}
 use Rattle.cached_step.proofs.Runs.{has_run}
 use Rattle.cached_step.proofs.step.step_in_cache.Goals as goal
 

@@ -19,7 +19,7 @@ returns c =
       base = c.self.inside.base;
       bytes = c.self.inside.bytes.items;
       code = c.self.inside.code;
-      output = c.self.inside.output.items;
+      output = c.self.inside.output;
     } in
     let byte : ℕ → ℕ = byte_in state.base state.bytes in
     let there = rw (← c.self.view_is) at c.requires in

@@ -1,8 +1,8 @@
 -- what is shown after a store
 use Rattle.std.proofs.Common.{arith}
+use Rattle.cache_sets.specs.Cached.{cached_byte}
 use Rattle.core_step.specs.Port.{stored}
 use Rattle.section_ctl.proofs.PortBytes.{shown_after_put, low_part}
-use Rattle.section_ctl.specs.Shown.{cached_byte}
 use Rattle.section_ctl.proofs.port.SectionPortPort.store.Goals as goal
 
 pub returns-clause-bytes : goal.returns-clause-bytes

@@ -1,10 +1,10 @@
 -- a section goes on
 use Rattle.std.proofs.Common.{rules, sym, subst}
 use Rattle.std.specs.Prelude.{IfSome, option_map}
+use Rattle.cache_sets.specs.Cached.{cached_byte}
 use Rattle.section_ctl.proofs.Begins.{stays_live}
 use Rattle.section_ctl.proofs.Shows.{goes_on_run, if_some_map, marked_after, on_live}
 use Rattle.section_ctl.specs.Calls.{MayBuffer}
-use Rattle.section_ctl.specs.Shown.{cached_byte}
 use Rattle.section_ctl.specs.State.{Stands, section_of, shown_state}
 use Rattle.section_view.specs.KeptRun.{section_byte}
 use Rattle.section_ctl.proofs.section.Section.spec_action.Goals as goal

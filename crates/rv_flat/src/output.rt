@@ -7,12 +7,13 @@ use el_base::NoMemory;
 use std::alloc::Global;
 use std::marker::Model;
 
-/// The most bytes that a program may write.
+/// The most bytes that a program may write (this project's profile).
 const OUTPUT_LIMIT: usize = 16_777_216;
 
-/// The bytes that the program has written, with room for as many as it may write.
+/// The bytes that the program has written, with room for as many as it may write. Contracts see the
+/// list of the bytes. `make` takes all memory; the other calls take none.
 #[derive(Drop)]
-pub(crate) struct Output {
+pub struct Output {
     bytes: Vec<u8>,
 }
 
@@ -32,7 +33,7 @@ impl Model for Output {
 
 impl Output {
     /// Nothing yet. It takes all memory of the output.
-    pub(crate) fn make(alloc: Global) -> Result<Output, NoMemory>
+    pub fn make(alloc: Global) -> Result<Output, NoMemory>
         ensures { IfOk result (λ output. output ≡ []) }
     {
         Ok(Output {
@@ -41,7 +42,7 @@ impl Output {
     }
 
     /// The bytes.
-    pub(crate) fn bytes(&self) -> &[u8]
+    pub fn bytes(&self) -> &[u8]
         ensures exact { result.now ≡ self.now }
         ensures within_limit { length self.now ≤ output_limit }
     {
@@ -49,14 +50,14 @@ impl Output {
     }
 
     /// How many bytes there is room for.
-    pub(crate) fn room(&self) -> u32
+    pub fn room(&self) -> u32
         ensures exact { result ≡ output_limit - length self.now }
     {
         (OUTPUT_LIMIT - self.bytes.len()) as u32
     }
 
     /// Appends a piece that there is room for.
-    pub(crate) fn append(&mut self, piece: &[u8])
+    pub fn append(&mut self, piece: &[u8])
         requires { length piece.now ≤ output_limit - length self.old }
         ensures { self.new ≡ self.old ++ piece.now }
     {

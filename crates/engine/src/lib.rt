@@ -2,10 +2,11 @@
 //! it, what instructions are fetched from, and the output.
 //!
 //! It stands on `snoop` (the bus), `hart_state` (a hart's section, predictor and tries), `step_rules` (which rule a
-//! step follows), `cached_step` (one instruction over a hart's cache), and on the definition of `el_model` with its
-//! laws. The parts have no state of their own in contracts: each event makes them be in the state that the definition
-//! gives, whatever state they are in before, with the definition's outcome (`IsIn` in `specs/Parts.antt`). What a call
-//! needs of them is one word, `Stands` in `specs/Reached.antt`. Only `make` takes memory.
+//! step follows), `cached_step` (one instruction over a hart's cache), `rv_flat` (a hart's first view, the output), and
+//! on the definition of `el_model` with its laws. The parts have no state of their own in contracts: each event makes
+//! them be in the state that the definition gives, whatever state they are in before, with the definition's outcome
+//! (`IsIn` in `specs/Parts.antt`). What a call needs of them is one word, `Stands` in `specs/Reached.antt`. Only `make`
+//! takes memory.
 //!
 //! Where a doc comment names no other source, its rule is this project's profile.
 #![tactic(auto)]

@@ -1,6 +1,8 @@
 //! One hart's cache: sets of lines, each most recent first.
 //!
-//! It stands on `el_base` and `moesi`.
+//! It stands on `el_base`, `moesi`, `arrayvec` and `bitflags`, and only `make` takes memory. Contracts see a cache as a
+//! `Cached` (`specs/Cached.antt`): how many ways a set has, the lines of each set with their letters and bits, and the
+//! bytes of each line. Each call says what it makes of these, and nothing of other harts' caches.
 //!
 //! Where a doc comment names no other source, its rule is this project's profile.
 #![tactic(auto)]

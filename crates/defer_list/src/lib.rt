@@ -1,4 +1,4 @@
-//! Sets of harts: the origins that a hart was told of.
+//! Sets of harts: the origins that a hart was told of, and likewise the harts before it.
 //!
 //! It stands on `el_base` and `arrayvec`, and no call of it takes memory. A set is seen as the list of
 //! its harts' numbers, each once, the last one that was added first, and each call as the definition's

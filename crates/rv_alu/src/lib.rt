@@ -10,7 +10,8 @@
 //! for Atomic Instructions'. What the manual leaves to the system is this project's profile:
 //! misaligned accesses trap, a trap stops its hart, and there are two system calls, write and exit.
 //!
-//! The definition of a free function `foo` is `foo_of`; that of a method has the method's name.
+//! The definition of `access`, `alu`, `taken`, `amo` and `extend` has the name with `_of` behind it; that of `touched` and of
+//! a method has its own name, but for [`Action::at`] and [`Action::of`], which have `action_at` and `action_of`.
 #![tactic(auto)]
 
 pub mod abi;

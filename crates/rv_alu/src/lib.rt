@@ -10,8 +10,9 @@
 //! for Atomic Instructions'. What the manual leaves to the system is this project's profile:
 //! misaligned accesses trap, a trap stops its hart, and there are two system calls, write and exit.
 //!
-//! The definition of `access`, `alu`, `taken`, `amo` and `extend` has the name with `_of` behind it; that of `touched` and of
-//! a method has its own name, but for [`Action::at`] and [`Action::of`], which have `action_at` and `action_of`.
+//! The definition of `access`, `alu`, `taken`, `amo` and `extend` has the name with `_of` behind it; that
+//! of `touched` and of a method has its own name, but for [`Action::at`] and [`Action::of`], which have
+//! `action_at` and `action_of`, and for [`Regs::zero`], which is 32 zeros.
 #![tactic(auto)]
 
 pub mod abi;

@@ -2,12 +2,12 @@
 
 ghost use Rattle.std.specs.Prelude.{◌≡◌};
 ghost use Rattle.el_base.specs.declared.outcomes.Outcome.TheVariants.{Missed};
-ghost use Rattle.el_model.specs.Plain.{missed};
-ghost use Rattle.el_model.specs.State.{ModelState};
+ghost use Rattle.el_model.specs.Plain.{missed, missed_hart};
+ghost use Rattle.el_model.specs.State.{ModelState, hart_of, with_hart};
 ghost use Rattle.engine.specs.Acting.{MayAct};
 ghost use Rattle.engine.specs.Missing.{MayMiss};
 ghost use Rattle.engine.specs.Parts.{IsIn, parts};
-ghost use Rattle.snoop.specs.Shows.{IsReady};
+ghost use Rattle.snoop.specs.Shows.{IsReady, Shows};
 
 use crate::engine::Engine;
 use el_base::{HartId, LineAddr, Need, Outcome};
@@ -21,7 +21,18 @@ impl Engine {
             IsIn (parts self.new) (missed from hart.number line.number need).state }
         ensures outcome { result ≡ Missed line need }
     {
-        self.bus.raise(hart, line, need);
+        self.ask(hart, line, need);
         Outcome::Missed { line, need }
+    }
+
+    /// Raises the request for the line. Nothing else changes.
+    fn ask(&mut self, hart: HartId, line: LineAddr, need: Need)
+        requires may { MayMiss (parts self.old) hart.number line.number }
+        ensures ready { IsReady (parts self.new).bus }
+        ensures shows { (state : ModelState) → Shows (parts self.old).bus state → Shows (parts self.new).bus
+            (with_hart state hart.number (missed_hart hart.number line.number need (hart_of state hart.number))) }
+        ensures rest_stays { parts self.new ≡ record (parts self.old) { bus = (parts self.new).bus } }
+    {
+        self.bus.raise(hart, line, need);
     }
 }

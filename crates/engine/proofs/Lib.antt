@@ -4,6 +4,7 @@ pub mod Reaching
 pub mod BusEvents
 pub mod Places
 pub mod Steps
+pub mod MainMemory
 mod Stopping
 mod Bytes
 mod Seen

@@ -10,3 +10,4 @@ pub mod Effect
 pub mod Beginning
 pub mod Unreserved
 pub mod Covered
+pub mod MainMemory

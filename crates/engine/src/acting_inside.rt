@@ -31,6 +31,7 @@ impl Engine {
         ensures outcome { (from : ModelState) (section : Section) →
             ActsInside (parts self.old) hart.number from section →
             result ≡ (section_turn from hart.number section).outcome }
+        ensures memory_stays { (parts self.new).bus.copies.lines ≡ (parts self.old).bus.copies.lines }
     {
         let Some(live) = self.harts[usize::from(hart.number)].section().live() else {
             unreachable!()

@@ -28,6 +28,7 @@ impl Engine {
             IsIn (parts self.new) (plain_turn from hart.number).state }
         ensures outcome { (from : ModelState) → ActsOutside (parts self.old) hart.number from →
             result ≡ (plain_turn from hart.number).outcome }
+        ensures memory_stays { (parts self.new).bus.copies.lines ≡ (parts self.old).bus.copies.lines }
     {
         match self.rule_outside(hart, action) {
             PlainRule::Runs { .. } => self.run_next(hart, action),

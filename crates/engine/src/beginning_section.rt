@@ -35,6 +35,7 @@ impl Engine {
         ensures state { (from : ModelState) → ActsOutside (parts self.old) hart.number from →
             IsIn (parts self.new) (by_plain_rule from hart.number (Begins (numbered_swap swap))).state }
         ensures outcome { result ≡ Began }
+        ensures memory_stays { (parts self.new).bus.copies.lines ≡ (parts self.old).bus.copies.lines }
     {
         match action {
             Action::Amo { rd, .. } => {

@@ -29,6 +29,7 @@ impl Engine {
             FollowsRule (parts self.old) hart.number from section (Buffers (option_map numbered_touch touch)) →
             IsIn (parts self.new) (section_turn from hart.number section).state }
         ensures outcome { result ≡ Buffered }
+        ensures memory_stays { (parts self.new).bus.copies.lines ≡ (parts self.old).bus.copies.lines }
     {
         let sets = self.bus.sets_mut(hart);
         cover(sets, touch);

@@ -27,6 +27,7 @@ impl Engine {
         ensures outcome { (from : ModelState) (section : Section) →
             FollowsRule (parts self.old) hart.number from section Commits →
             result ≡ (section_turn from hart.number section).outcome }
+        ensures memory_stays { (parts self.new).bus.copies.lines ≡ (parts self.old).bus.copies.lines }
     {
         let count = self.count_with_release(hart);
         unreserve_others(&mut self.harts, hart);

@@ -3,17 +3,17 @@
 ghost use Rattle.std.specs.Prelude.{◌≡◌, ◌<◌, ◌≤◌, ◌↔◌, IfOk, IfSome, IsNone, false, length};
 ghost use Rattle.el_base.specs.Config.{IsInRange};
 ghost use Rattle.el_model.specs.Next.{all_stopped, is_over, shown_of};
-ghost use Rattle.el_model.specs.State.{ModelState, begin, ordered_of, raised_of, section_of};
+ghost use Rattle.el_model.specs.State.{ModelState, ordered_of, raised_of, section_of};
 ghost use Rattle.engine.specs.Acting.{next_action};
 ghost use Rattle.engine.specs.Parts.{IsIn, KeepsSectionOf, committed_at, own_at, parts, present_at, room_in};
-ghost use Rattle.engine.specs.Reached.{Stands};
+ghost use Rattle.engine.specs.Reached.{Begins, Stands};
 ghost use Rattle.engine.specs.Views.{committed_views};
 ghost use Rattle.rv_alu.specs.Footprint.{IsInPlace};
 ghost use Rattle.rv_alu.specs.Span.{holds};
 ghost use Rattle.rv_flat.specs.FlatState.{output_limit, view_of};
 ghost use Rattle.rv_flat.specs.Memory.{byte_in};
 ghost use Rattle.snoop.specs.Asking.{asking, numbered_asked};
-ghost use Rattle.snoop.specs.Shows.{IsReady, kept};
+ghost use Rattle.snoop.specs.Shows.{kept};
 
 use crate::beginning::{first_harts, memory_of};
 use el_base::{Config, HartId, NoMemory};
@@ -42,8 +42,7 @@ impl Engine {
     pub fn make(alloc: Global, image: &Image, config: &Config) -> Result<Engine, NoMemory>
         requires in_range { IsInRange config.now }
         requires one_hart_each { image.now.harts ≡ config.now.harts }
-        ensures ready { IfOk result (λ engine. IsReady (parts engine).bus) }
-        ensures is_in { IfOk result (λ engine. IsIn (parts engine) (begin image.now config.now)) }
+        ensures { IfOk result (λ engine. Begins (parts engine) image.now config.now) }
     {
         Ok(Engine {
             config: *config,

@@ -20,6 +20,7 @@ impl Engine {
         ensures state { (from : ModelState) → MayAct (parts self.old) hart.number from →
             IsIn (parts self.new) (missed from hart.number line.number need).state }
         ensures outcome { result ≡ Missed line need }
+        ensures memory_stays { (parts self.new).bus.copies.lines ≡ (parts self.old).bus.copies.lines }
     {
         self.ask(hart, line, need);
         Outcome::Missed { line, need }
@@ -32,6 +33,7 @@ impl Engine {
         ensures shows { (state : ModelState) → Shows (parts self.old).bus state → Shows (parts self.new).bus
             (with_hart state hart.number (missed_hart hart.number line.number need (hart_of state hart.number))) }
         ensures rest_stays { parts self.new ≡ record (parts self.old) { bus = (parts self.new).bus } }
+        ensures memory_stays { (parts self.new).bus.copies.lines ≡ (parts self.old).bus.copies.lines }
     {
         self.bus.raise(hart, line, need);
     }

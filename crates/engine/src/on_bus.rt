@@ -4,6 +4,7 @@ ghost use Rattle.std.specs.Prelude.{◌≡◌, ◌≢◌, ◌<◌, length};
 ghost use Rattle.el_base.specs.declared.events.Kind.TheVariants.{Step};
 ghost use Rattle.el_model.specs.Next.{next};
 ghost use Rattle.el_model.specs.State.{ModelState};
+ghost use Rattle.engine.specs.MainMemory.{lines_from};
 ghost use Rattle.engine.specs.Parts.{IsIn, parts};
 ghost use Rattle.engine.specs.Reached.{IsReached, Stands};
 ghost use Rattle.snoop.specs.Shows.{IsReady, Shows};
@@ -25,6 +26,8 @@ impl Engine {
         ensures shows { (state : ModelState) → IsIn (parts self.old) state →
             Shows (parts self.new).bus (next state event).state }
         ensures outcome { (state : ModelState) → IsIn (parts self.old) state → result ≡ (next state event).outcome }
+        ensures memory { (state : ModelState) → IsIn (parts self.old) state →
+            (parts self.new).bus.copies.lines ≡ lines_from state event (parts self.old).bus.copies.lines }
     {
         let policy = ModePolicy {
             mode: self.config.mode,
@@ -49,6 +52,8 @@ impl Engine {
             IsIn (parts self.new) (next state event).state }
         ensures outcome { (state : ModelState) → IsReached state → IsIn (parts self.old) state →
             result ≡ (next state event).outcome }
+        ensures memory { (state : ModelState) → IsReached state → IsIn (parts self.old) state →
+            (parts self.new).bus.copies.lines ≡ lines_from state event (parts self.old).bus.copies.lines }
     {
         let outcome = self.pass_to_bus(event);
         restore_all(&mut self.harts, self.config.mode, losers_in(outcome));

@@ -21,6 +21,7 @@ impl Engine {
             FollowsRule (parts self.old) hart.number from section (RollsBack cause) →
             IsIn (parts self.new) (section_turn from hart.number section).state }
         ensures outcome { result ≡ RolledBack cause }
+        ensures memory_stays { (parts self.new).bus.copies.lines ≡ (parts self.old).bus.copies.lines }
     {
         self.bus.close_attempt(hart);
         self.bus.sets_mut(hart).clear_bits();

@@ -36,6 +36,7 @@ impl Engine {
         ensures state { (from : ModelState) → ActsOutside (parts self.old) hart.number from →
             IsIn (parts self.new) (by_plain_rule from hart.number (Runs (touch_of (footprint action)))).state }
         ensures outcome { result ≡ Ran }
+        ensures memory_stays { (parts self.new).bus.copies.lines ≡ (parts self.old).bus.copies.lines }
     {
         let swap = self.next_swap(hart, action);
         self.learn(hart, action, swap);

@@ -4,6 +4,7 @@ ghost use Rattle.std.specs.Prelude.{◌≡◌, ◌<◌, ◌↔◌, length, true,
 ghost use Rattle.el_model.specs.Next.{going_turn, next, step_turn};
 ghost use Rattle.el_model.specs.State.{ModelState, has_request, section_of};
 ghost use Rattle.engine.specs.Acting.{MayAct, MayActSomewhere};
+ghost use Rattle.engine.specs.MainMemory.{lines_from};
 ghost use Rattle.engine.specs.Parts.{IsIn, committed_at, parts};
 ghost use Rattle.engine.specs.Reached.{IsReached, Stands};
 ghost use Rattle.rv_alu.specs.declared.view.HartStatus.TheVariants.{Running};
@@ -26,6 +27,8 @@ impl Engine {
             IsIn (parts self.new) (next state event).state }
         ensures outcome { (state : ModelState) → IsReached state → IsIn (parts self.old) state →
             result ≡ (next state event).outcome }
+        ensures memory { (state : ModelState) → IsReached state → IsIn (parts self.old) state →
+            (parts self.new).bus.copies.lines ≡ lines_from state event (parts self.old).bus.copies.lines }
     {
         match event.kind {
             Kind::Step => self.step_of(event.hart),
@@ -42,6 +45,7 @@ impl Engine {
             IsIn (parts self.new) (step_turn state hart.number).state }
         ensures outcome { (state : ModelState) → IsReached state → IsIn (parts self.old) state →
             result ≡ (step_turn state hart.number).outcome }
+        ensures memory_stays { (parts self.new).bus.copies.lines ≡ (parts self.old).bus.copies.lines }
     {
         if self.runs(hart) {
             self.go_on(hart)
@@ -68,6 +72,7 @@ impl Engine {
             IsIn (parts self.new) (step_turn state hart.number).state }
         ensures outcome { (state : ModelState) → IsReached state → IsIn (parts self.old) state →
             result ≡ (step_turn state hart.number).outcome }
+        ensures memory_stays { (parts self.new).bus.copies.lines ≡ (parts self.old).bus.copies.lines }
     {
         if self.waits(hart) {
             Outcome::Stalled
@@ -103,6 +108,7 @@ impl Engine {
             IsIn (parts self.new) (step_turn state hart.number).state }
         ensures outcome { (state : ModelState) → IsReached state → IsIn (parts self.old) state →
             result ≡ (step_turn state hart.number).outcome }
+        ensures memory_stays { (parts self.new).bus.copies.lines ≡ (parts self.old).bus.copies.lines }
     {
         self.bus.give_up(hart);
         self.act(hart)
@@ -116,6 +122,7 @@ impl Engine {
             IsIn (parts self.new) (going_turn from hart.number (section_of from hart.number)).state }
         ensures outcome { (from : ModelState) → MayAct (parts self.old) hart.number from →
             result ≡ (going_turn from hart.number (section_of from hart.number)).outcome }
+        ensures memory_stays { (parts self.new).bus.copies.lines ≡ (parts self.old).bus.copies.lines }
     {
         let action = self.next_action(hart);
         match self.harts[usize::from(hart.number)].section().live() {

@@ -1,0 +1,34 @@
+-- main memory after an event of the bus
+use Rattle.std.proofs.Common.{◌≡◌, ◌≢◌, ◌∙◌, ◌<◌, subst, sym}
+use Rattle.el_base.specs.declared.events.Kind.{Kind}
+use Rattle.el_base.specs.declared.events.Kind.TheVariants.{Deliver, Order, Serve}
+use Rattle.engine.proofs.MainMemory.{kept_lines, serve_is, served_lines}
+use Rattle.engine.proofs.engine.Engine.pass_to_bus.Goals as goal
+use Rattle.engine.specs.Parts.{parts}
+
+orders : (kind : Kind) → kind ≡ Order → kind ≢ Serve
+orders kind is serves = by (sym is ∙ serves)
+  where
+    by : Order ≢ Serve
+    by same = cc
+
+delivers : (kind : Kind) → kind ≡ Deliver → kind ≢ Serve
+delivers kind is serves = by (sym is ∙ serves)
+  where
+    by : Deliver ≢ Serve
+    by same = cc
+
+pub returns-in-Order-clause-memory : goal.returns-in-Order-clause-memory
+returns-in-Order-clause-memory c state is =
+    c.order.ensures.memory_stays ∙ kept_lines state c.args.event _ (orders c.args.event.kind c.in-Order.is)
+
+pub returns-in-Deliver-clause-memory : goal.returns-in-Deliver-clause-memory
+returns-in-Deliver-clause-memory c state is =
+    c.deliver.ensures.memory_stays ∙ kept_lines state c.args.event _ (delivers c.args.event.kind c.in-Deliver.is)
+
+pub returns-in-Serve-clause-memory : goal.returns-in-Serve-clause-memory
+returns-in-Serve-clause-memory c state is =
+    let old = parts c.args.self.now in
+    c.serve.ensures.memory
+    ∙ served_lines old.bus state c.args.event c.serve.result is.shows (subst (λ n. c.args.event.hart.number < n) is.one_each c.requires.hart_exists)
+    c.in-Serve.is (c.serve.ensures.outcome state is.shows ∙ serve_is state c.args.event c.in-Serve.is)

@@ -4,7 +4,7 @@ use Rattle.std.proofs.lemmas.List.Elements.{All-push}
 use Rattle.std.proofs.lemmas.List.{length-map, map-append}
 use Rattle.std.proofs.lemmas.List.FromFn.{length-map-range_with_len}
 use Rattle.std.specs.Prelude.{map}
-use Rattle.chronicle.specs.Chronicle.{events}
+use Rattle.chronicle.specs.Chronicle.{Chronicle, events}
 use Rattle.chronicle.specs.Serial.{serial}
 use Rattle.el_base.specs.Config.{IsInRange}
 use Rattle.el_base.specs.declared.config.Config.{Config}
@@ -16,10 +16,13 @@ use Rattle.el_model.specs.Next.{entries_from, next}
 use Rattle.el_model.specs.State.{ModelState, begin}
 use Rattle.elf_image.specs.Program.{IsProgram, Program}
 use Rattle.engine.proofs.Places.{keeps_place}
+use Rattle.engine.specs.MainMemory.{lines_from}
 use Rattle.engine.specs.Parts.{IsIn, Parts}
 use Rattle.engine.specs.Reached as engine
 use Rattle.engine.specs.Reached.{IsReached}
 use Rattle.machine.proofs.Continued.{state_of_continued}
+use Rattle.machine.proofs.MainLines.{first_lines, more_lines}
+use Rattle.machine.specs.MainMemory.{main_lines}
 use Rattle.machine.specs.Stands.{IsGiven, Stands}
 use Rattle.machine.specs.Story.{IsOneRun, Story, committed, continued, left_of, memory_of, state_of}
 use Rattle.rv_flat.specs.FlatState.{FlatState, first_view, span_of, start}
@@ -34,11 +37,11 @@ start_harts program = length-map-range_with_len (first_view program) 0 program.h
 
 -- a machine stands before its first event
 pub first : (program : Program) (config : Config) (parts : Parts) (entries : List Entry) (room : ℕ) → IsProgram program →
-    AreBytes program.bytes → IsInRange config → program.harts ≡ config.harts → IsReady parts.bus → IsIn parts (begin program config) →
-    entries ≡ [] → room ≡ config.steps →
+    AreBytes program.bytes → IsInRange config → program.harts ≡ config.harts → engine.Begins parts program config →
+    ◌≡◌ {A = Chronicle} (record { entries = entries; places = room }) (record { entries = []; places = config.steps }) →
     Stands (record { program = program; config = config; entries = entries }) parts room
-first program config parts entries room valid bytes in_range one_each ready is none places =
-    rw (none, places)
+first program config parts entries room valid bytes in_range one_each begins empty =
+    rw (ap (λ history. history.entries) empty, ap (λ history. history.places) empty)
     (record {
       given = record {
         program = valid;
@@ -49,8 +52,9 @@ first program config parts entries room valid bytes in_range one_each ready is n
         within = omega arith;
         harts_exist = λ k d none. absurd (omega arith);
       };
-      ready = ready;
-      is_in = is;
+      ready = begins.ready;
+      is_in = begins.is_in;
+      memory = begins.memory ∙ sym (first_lines program config);
       entries = refl;
     })
 
@@ -96,8 +100,9 @@ pub stands_more : (story : Story) (old new : Parts) (room : ℕ) (event : Event)
     event.hart.number < story.config.harts → 1 ≤ left_of story → IsReady new.bus →
     ((state : ModelState) → IsReached state → IsIn old state → IsIn new (next state event).state) →
     ((state : ModelState) → IsReached state → IsIn old state → outcome ≡ (next state event).outcome) →
+    ((state : ModelState) → IsReached state → IsIn old state → new.bus.copies.lines ≡ lines_from state event old.bus.copies.lines) →
     Stands (record story { entries = story.entries ++ record { event = event; outcome = outcome } ∷ [] }) new room
-stands_more story old new room event outcome stands below left ready goes told =
+stands_more story old new room event outcome stands below left ready goes told writes =
     let Told : Outcome → Type 0 = λ o. Stands (record story { entries = story.entries ++ record { event = event; outcome = o } ∷ [] }) new room in
     let here = reached story room stands.given in
     subst Told (sym (told (state_of story) here stands.is_in))
@@ -105,6 +110,10 @@ stands_more story old new room event outcome stands below left ready goes told =
       given = given_more story room event stands.given below left;
       ready = ready;
       is_in = subst (IsIn new) (sym (state_of_continued story (event ∷ []))) (goes (state_of story) here stands.is_in);
+      memory =
+          writes (state_of story) here stands.is_in
+          ∙ ap (lines_from (state_of story) event) stands.memory
+          ∙ sym (more_lines story (continued story (event ∷ [])) event refl refl (events_more story event));
       entries =
           ap (λ entries. entries ++ entries_from (state_of story) (event ∷ [])) stands.entries
           ∙ sym (entries_from-append (begin story.program story.config) (events story.entries) (event ∷ []))
@@ -138,6 +147,10 @@ is_one_run story parts room stands =
 -- the same of the story that a machine is seen as
 pub one_run : (story now : Story) (parts : Parts) (room : ℕ) → Stands story parts room → story ≡ now → IsOneRun now
 one_run story now parts room stands same = subst IsOneRun same (is_one_run story parts room stands)
+
+pub now_lines : (story now : Story) (parts : Parts) (room : ℕ) → Stands story parts room → story ≡ now →
+    parts.bus.copies.lines ≡ main_lines now
+now_lines story now parts room stands same = stands.memory ∙ ap main_lines same
 
 pub reached_committed : (story now : Story) (parts : Parts) (room : ℕ) → Stands story parts room → story ≡ now →
     (state_of now).committed ≡ committed now

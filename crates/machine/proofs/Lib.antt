@@ -4,3 +4,4 @@ mod Promised
 mod InSections
 mod There
 mod Readiness
+mod MainLines

@@ -1,3 +1,4 @@
 pub mod Story
 pub mod Stands
 pub mod Promises
+pub mod MainMemory

@@ -26,6 +26,10 @@ ghost use Rattle.el_base.specs.declared.config.Mode.TheVariants.{Tlr};
 ghost use Rattle.el_model.specs.Next.{is_over, next, shown_of};
 ghost use Rattle.el_model.specs.State as model;
 ghost use Rattle.el_model.specs.State.{cache_of, ordered_of, raised_of, section_of};
+ghost use Rattle.elf_image.specs.Program.{IsProgram};
+ghost use Rattle.engine.specs.Parts.{parts};
+ghost use Rattle.engine.specs.Reached.{Begins};
+ghost use Rattle.machine.specs.MainMemory.{main_lines};
 ghost use Rattle.machine.specs.Promises.{
   EndsAreNamed,
   LeastStays,
@@ -85,7 +89,6 @@ impl Machine {
     /// A machine before its first event, of an image that was made for the configuration's harts. It
     /// takes all memory of the run. An error is the fault of the configuration, if it has one, and
     /// else want of memory.
-    #[tactic(auto, using(crate::proofs::GoesOn::first))]
     pub fn make(alloc: Global, image: Image, config: Config) -> Result<Machine, MakeFault>
         requires one_hart_each { image.harts ≡ config.harts }
         ensures made { IfOk result (λ machine.
@@ -100,12 +103,25 @@ impl Machine {
         config.check()?;
         let engine = Engine::make(alloc, &image, &config)?;
         let history = History::make(alloc, config.steps)?;
-        Ok(Machine {
+        Ok(Machine::begin(image, config, engine, history))
+    }
+
+    /// A machine of its parts before the first event.
+    fn begin(image: Image, config: Config, engine: Engine, history: History) -> Machine
+        requires program { IsProgram image }
+        requires bytes { AreBytes image.bytes }
+        requires in_range { IsInRange config }
+        requires one_hart_each { image.harts ≡ config.harts }
+        requires engine { Begins (parts engine) image config }
+        requires history { history ≡ record { entries = []; places = config.steps } }
+        ensures { result ≡ record { program = image; config = config; entries = [] } }
+    {
+        Machine {
             image,
             config,
             engine,
             history,
-        })
+        }
     }
 
     /// Makes one event, and puts it with its outcome behind the history.
@@ -235,6 +251,7 @@ impl Machine {
     pub fn bus(&self) -> &Bus
         ensures ready { IsReady (kept result.now) }
         ensures shows { Shows (kept result.now) (state_of self.now) }
+        ensures memory { (kept result.now).copies.lines ≡ main_lines self.now }
     {
         self.engine.bus()
     }

@@ -1,6 +1,6 @@
 -- the copies of lines
-use Rattle.std.proofs.Common.{subst, sym}
-use Rattle.machine.proofs.GoesOn.{now_in}
+use Rattle.std.proofs.Common.{◌∙◌, ap, subst, sym}
+use Rattle.machine.proofs.GoesOn.{now_in, now_lines}
 use Rattle.machine.proofs.machine.Machine.bus.Goals as goal
 use Rattle.machine.specs.Story.{state_of}
 use Rattle.snoop.specs.Shows.{IsReady, Shows}
@@ -11,3 +11,6 @@ returns-clause-ready c = subst IsReady (sym c.bus.ensures) c.self.invariant.read
 pub returns-clause-shows : goal.returns-clause-shows
 returns-clause-shows c =
     subst (λ bus. Shows bus (state_of c.args.self.now)) (sym c.bus.ensures) (now_in _ _ _ _ c.self.invariant c.self.view_is).shows
+
+pub returns-clause-memory : goal.returns-clause-memory
+returns-clause-memory c = ap (λ bus. bus.copies.lines) c.bus.ensures ∙ now_lines _ _ _ _ c.self.invariant c.self.view_is

@@ -17,7 +17,7 @@ invariant_of-self c =
     let left = rw (← c.self.view_is) at c.requires.step_left in
     rw c.push.ensures
     (stands_more _ _ _ _ _ _ c.self.invariant below left c.step-outcome.ensures.ready c.step-outcome.ensures.state
-    c.step-outcome.ensures.outcome)
+    c.step-outcome.ensures.outcome c.step-outcome.ensures.memory)
 
 pub returns-clause-one_run : goal.returns-clause-one_run
 returns-clause-one_run c = one_run _ _ _ _ (invariant_of-self c) refl

@@ -11,7 +11,7 @@ use Rattle.cache_sets.specs.declared.evicted.Evicted.{Evicted}
 use Rattle.coherence.specs.Caches.{AreCoherent, GivesUp, IsInMemory, OthersGiveUp, behind_of, cache_at, copies_of, no_cache, others_have}
 use Rattle.coherence.specs.Line.{Coherent, IsFound}
 use Rattle.coherence.specs.Writing.{GoneIsInMemory}
-use Rattle.coherence.specs.Served.{IsFetched, written_back}
+use Rattle.coherence.specs.Served.{IsFetched, lines_after, victim_of, with_copy_back, with_line_back, written_back}
 use Rattle.coherence.proofs.FetchLaws.{Fetch, fetched_aside, fetched_own, fetched_rest, given_up_at, left_other, line_fetched, line_left, other_new, own_new}
 use Rattle.coherence.proofs.LineLaws.{none_is, same_line, some_is}
 use Rattle.coherence.proofs.Owners.{copy_is}
@@ -186,6 +186,37 @@ gives_residency : (need : Need) (old new : Cached) (line : ℕ) → GivesUp need
 gives_residency Write old new line gave = gave.residency
 gives_residency Read old new line gave = gave.residency
 
+pub chosen_else : {A : Type 0} (test : Bool) (x y : A) → test ≡ false → (if test then x else y) ≡ y
+chosen_else true x y is = absurd (cc)
+chosen_else false x y is = refl
+
+pub chosen_then : {A : Type 0} (test : Bool) (x y : A) → test ≡ true → (if test then x else y) ≡ x
+chosen_then true x y is = refl
+chosen_then false x y is = absurd (cc)
+
+-- what left a cache is what the cache had of it
+back_as_it_was : (cached : Cached) (first : ℕ) (lines : List (List ℕ)) (evicted : Option Evicted) →
+    ((gone : Evicted) → evicted ≡ Some gone →
+    copy_in cached gone.line.number ≡ Some (record { letter = gone.letter; bytes = gone.bytes })) →
+    written_back first lines evicted ≡ with_line_back cached first lines (option_map (λ gone. gone.line.number) evicted)
+back_as_it_was cached first lines None left = refl
+back_as_it_was cached first lines (Some gone) left =
+    ap (with_copy_back first lines gone.line.number) (sym (left gone refl))
+
+-- main memory after a fetch is the old one, but for the line that left
+left_behind : (need : Need) (h line first : ℕ) (lines : List (List ℕ)) (old mid : List Cached) (cache : Cached) (bytes : List ℕ)
+    (evicted : Option Evicted) → Fetch need h line old mid cache bytes evicted →
+    written_back first lines evicted ≡ lines_after h line (record { first = first; lines = lines; caches = old })
+unfolding lines_after
+left_behind need h line first lines old mid cache bytes evicted fetch =
+    let cached = cache_at old h in
+    let left_is : option_map (λ gone. gone.line.number) evicted ≡ victim_of cached line =
+    fetch.filled.victim ∙ ap (λ c. option_map (λ way. way.line) (evicted_by c.ways c.residency line)) fetch.gave.own
+    ∙ sym (chosen_else (is_resident cached.residency line) None _ fetch.absent) in
+    back_as_it_was cached first lines evicted
+    (λ gone is. sym (ap (λ c. copy_in c gone.line.number) fetch.gave.own) ∙ fetch.filled.left gone is)
+    ∙ ap (with_line_back cached first lines) left_is
+
 -- a fetch by its parts
 pub fetched_by_parts : (need : Need) (h line first : ℕ) (lines after : List (List ℕ)) (old mid new : List Cached) (cache : Cached)
     (bytes : List ℕ) (evicted : Option Evicted) → Fetch need h line old mid cache bytes evicted →
@@ -217,9 +248,7 @@ fetched_by_parts need h line first lines after old mid new cache bytes evicted f
       others = λ g other.
           ap (λ c. c.residency) (other_new h g mid cache other)
           ∙ gives_residency need (cache_at old g) (cache_at mid g) line (given_up_at need h line old mid fetch.gave g other);
-      evicted = evicted;
-      victim = fetch.filled.victim ∙ ap (λ c. option_map (λ way. way.line) (evicted_by c.ways c.residency line)) fetch.gave.own;
-      memory = refl;
+      memory = left_behind need h line first lines old mid cache bytes evicted fetch;
     })
 
 -- what a place of the list of caches gives

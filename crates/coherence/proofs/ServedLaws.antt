@@ -1,18 +1,18 @@
 -- a request is served: by a fetch or by a kept copy, and then the line is touched
-use Rattle.std.proofs.Common.{◌≡◌, ◌∙◌, ◌<◌, ℕ, Bool, true, false, List, length, None, option_map, ap, refl, sym, subst, inl, inr, if◌then◌else◌}
+use Rattle.std.proofs.Common.{◌≡◌, ◌∙◌, ◌<◌, ℕ, Bool, true, false, List, length, None, ap, refl, sym, subst, inl, inr}
 use Rattle.std.specs.Prelude.{slice_set}
 use Rattle.std.proofs.lemmas.Bool.{cases_eq}
 use Rattle.std.proofs.lemmas.List.{get_or-set_same, length-set}
-use Rattle.cache_sets.specs.Cache.{evicted_by, is_resident, touched}
+use Rattle.cache_sets.specs.Cache.{is_resident, touched}
 use Rattle.cache_sets.specs.Cached.{Cached, copy_in}
 use Rattle.cache_sets.specs.Calls.{IsTouched}
 use Rattle.cache_sets.specs.Residency.{Way}
 use Rattle.coherence.specs.Caches.{cache_at, no_cache}
 use Rattle.coherence.specs.Kept.{IsKept, LeavesTo}
-use Rattle.coherence.specs.Served.{Copies, IsFetched, IsServed, Moves}
+use Rattle.coherence.specs.Served.{Copies, IsFetched, IsServed, Moves, lines_after, with_line_back}
 use Rattle.coherence.proofs.FetchLaws.{other_new}
 use Rattle.coherence.proofs.KeptLaws.{coherent_kept, coherent_same_copies, own_kept}
-use Rattle.coherence.proofs.Fetched.{copy_resident}
+use Rattle.coherence.proofs.Fetched.{chosen_else, chosen_then, copy_resident}
 use Rattle.coherence.proofs.Owners.{copy_is}
 use Rattle.el_base.specs.declared.outcomes.Need.{Need}
 use Rattle.el_base.specs.declared.outcomes.Need.TheVariants.{Read, Write}
@@ -20,14 +20,6 @@ use Rattle.el_model.specs.Serve.{given_up, others_cache}
 
 abbrev pub HasMoved : Need → ℕ → ℕ → Copies → Copies → Type 0
 HasMoved need h line old new = Moves (λ cache. cache) need h line old new
-
-chosen_else : {A : Type 0} (test : Bool) (x y : A) → test ≡ false → (if test then x else y) ≡ y
-chosen_else true x y is = absurd (cc)
-chosen_else false x y is = refl
-
-chosen_then : {A : Type 0} (test : Bool) (x y : A) → test ≡ true → (if test then x else y) ≡ x
-chosen_then true x y is = refl
-chosen_then false x y is = absurd (cc)
 
 others_absent : (had : Bool) (need : Need) (cache : List (List Way)) (line : ℕ) → had ≡ false →
     others_cache had need cache line ≡ given_up need cache line
@@ -45,8 +37,6 @@ moved_by_fetch need h line old new absent fetched =
       ways = fetched.ways;
       own = fetched.own ∙ sym (chosen_else had _ _ absent);
       others = λ g other. fetched.others g other ∙ sym (others_absent had need (cache_at old.caches g).residency line absent);
-      evicted = fetched.evicted;
-      victim = fetched.victim ∙ sym (chosen_else had None (option_map (λ way. way.line) (evicted_by cached.ways cached.residency line)) absent);
       memory = fetched.memory;
     }
 
@@ -59,6 +49,14 @@ leaves_residency : (need : Need) (had : Bool) (old new : Cached) (line : ℕ) �
 leaves_residency Read had old new line is same =
     ap (λ c. c.residency) same ∙ sym (chosen_then had old.residency (given_up Read old.residency line) is)
 leaves_residency Write had old new line is without = without.residency
+
+-- main memory is as it was, since no line leaves
+none_left : (h line first : ℕ) (lines : List (List ℕ)) (old : List Cached) → is_resident (cache_at old h).residency line ≡ true →
+    lines ≡ lines_after h line (record { first = first; lines = lines; caches = old })
+unfolding lines_after
+none_left h line first lines old resident =
+    ap (with_line_back (cache_at old h) first lines)
+    (sym (chosen_then (is_resident (cache_at old h).residency line) None _ resident))
 
 pub moved_by_keeping : (need : Need) (h line first : ℕ) (lines : List (List ℕ)) (old new : List Cached) →
     is_resident (cache_at old h).residency line ≡ true → IsKept need h line old new →
@@ -79,9 +77,7 @@ moved_by_keeping need h line first lines old new resident kept =
       ];
       own = kept.own.residency ∙ sym (chosen_then had _ _ resident);
       others = λ g other. leaves_residency need had (cache_at old g) (cache_at new g) line resident (kept.others g other);
-      evicted = None;
-      victim = sym (chosen_then had None _ resident);
-      memory = refl;
+      memory = none_left h line first lines old resident;
     }
 
 pub served_by_touch : (need : Need) (h line place : ℕ) (old mid : Copies) (before cache : Cached) → place ≡ h → h < length mid.caches →
@@ -112,7 +108,5 @@ served_by_touch need h line place old mid before cache same inside moved was tou
           ap (λ c. c.residency) (get_or-set_same mid.caches h cache no_cache inside)
           ∙ (touch.residency ∙ ap (λ residency. touched residency line) moved.own);
       others = λ g other. ap (λ c. c.residency) (other_new h g mid.caches cache other) ∙ moved.others g other;
-      evicted = moved.evicted;
-      victim = moved.victim;
       memory = moved.memory;
     })

@@ -1,5 +1,6 @@
 -- memory as lines
-use Rattle.std.specs.Prelude.{ℕ, ◌*◌, ◌-◌, ◌/◌, List, drop, take}
+use Rattle.std.specs.List.{range_with_len}
+use Rattle.std.specs.Prelude.{ℕ, ◌*◌, ◌-◌, ◌/◌, List, drop, length, map, take}
 use Rattle.el_base.specs.declared.line.TheConstants.{LINE_BYTES}
 use Rattle.elf_image.specs.Program.{Program}
 use Rattle.rv_flat.specs.FlatState.{FlatState}
@@ -19,3 +20,7 @@ line_of flat = line_at flat.base flat.bytes
 -- the bytes of each line of a program's memory before the first step
 abbrev pub bytes_at_first : Program → ℕ → List ℕ
 bytes_at_first program = line_at program.base program.bytes
+
+-- main memory as a program's bytes, line by line
+unfoldable pub lines_at_first : Program → List (List ℕ)
+lines_at_first program = map (line_in program.bytes) (range_with_len 0 (length program.bytes / 64))

@@ -1,7 +1,7 @@
 -- what a served request makes of the caches and of main memory
 use Rattle.std.specs.Prelude.{ℕ, ◌≡◌, ◌≢◌, ◌-◌, Bool, true, List, length, Option, None, Some, option_map, if◌then◌else◌, slice_set}
 use Rattle.cache_sets.specs.Cache.{evicted_by, filled_with, is_resident, room_of, touched}
-use Rattle.cache_sets.specs.Cached.{Cached}
+use Rattle.cache_sets.specs.Cached.{Cached, Copy, copy_in}
 use Rattle.cache_sets.specs.Residency.{Way}
 use Rattle.cache_sets.specs.declared.evicted.Evicted.{Evicted}
 use Rattle.coherence.specs.Caches.{AreCoherent, IsInMemory, cache_at, others_have}
@@ -22,11 +22,27 @@ victim_of cached line =
     if is_resident cached.residency line then None
     else option_map (λ way. way.line) (evicted_by cached.ways cached.residency line)
 
+-- main memory after a copy of a line left a cache, if it had one: the line has its bytes where main memory may be behind it
+abbrev pub with_copy_back : ℕ → List (List ℕ) → ℕ → Option Copy → List (List ℕ)
+with_copy_back first lines line None = lines
+with_copy_back first lines line (Some copy) = if is_dirty copy.letter then slice_set lines (line - first) copy.bytes else lines
+
+-- main memory after a line left this cache, if one did
+abbrev pub with_line_back : Cached → ℕ → List (List ℕ) → Option ℕ → List (List ℕ)
+with_line_back cached first lines None = lines
+with_line_back cached first lines (Some line) = with_copy_back first lines line (copy_in cached line)
+
 -- main memory and the caches of all harts
 pub record Copies : Type 0 where
   pub first : ℕ
   pub lines : List (List ℕ)
   pub caches : List Cached
+
+-- main memory after a hart's request for a line was served: the line that left the hart's cache for it, if one did, is written back
+-- where its copy was modified or owned; each other line is as it was
+unfoldable pub lines_after : ℕ → ℕ → Copies → List (List ℕ)
+lines_after h line old =
+    with_line_back (cache_at old.caches h) old.first old.lines (victim_of (cache_at old.caches h) line)
 
 -- whatever the bytes are that the old copies tell, the new ones tell the same
 pub record StaysCoherent (old new : Copies) : Type 0 where
@@ -46,12 +62,7 @@ pub record IsFetched (need : Need) (h line : ℕ) (old new : Copies) : Type 0 wh
       ≡ filled_with (cache_at old.caches h).ways (cache_at old.caches h).residency line
       (filled_of need (others_have old.caches h line))
   pub others : (g : ℕ) → g ≢ h → (cache_at new.caches g).residency ≡ given_up need (cache_at old.caches g).residency line
-  -- main memory changes in the line that left alone
-  pub evicted : Option Evicted
-  pub victim :
-      option_map (λ gone. gone.line.number) evicted
-      ≡ option_map (λ way. way.line) (evicted_by (cache_at old.caches h).ways (cache_at old.caches h).residency line)
-  pub memory : new.lines ≡ written_back old.first old.lines evicted
+  pub memory : new.lines ≡ lines_after h line old
 
 -- a request was served, and this has become of the order of the hart's lines: its copy has the letter that its need gives, and the other
 -- harts have given up what the definition says
@@ -65,10 +76,7 @@ pub record Moves (ordering : List (List Way) → List (List Way)) (need : Need) 
   pub others : (g : ℕ) → g ≢ h →
       (cache_at new.caches g).residency
       ≡ others_cache (is_resident (cache_at old.caches h).residency line) need (cache_at old.caches g).residency line
-  -- main memory changes in the line that left alone, and there where it was behind
-  pub evicted : Option Evicted
-  pub victim : option_map (λ gone. gone.line.number) evicted ≡ victim_of (cache_at old.caches h) line
-  pub memory : new.lines ≡ written_back old.first old.lines evicted
+  pub memory : new.lines ≡ lines_after h line old
 
 -- a request was served, and the line is the most recent one of its set
 abbrev pub IsServed : Need → ℕ → ℕ → Copies → Copies → Type 0

@@ -6,7 +6,7 @@ ghost use Rattle.std.specs.Borrow.{sem};
 ghost use Rattle.cache_sets.specs.Cache.{is_resident};
 ghost use Rattle.cache_sets.specs.Cached.{empty_cached};
 ghost use Rattle.cache_sets.specs.Calls.{IsCleared};
-ghost use Rattle.coherence.specs.Beginning.{bytes_at_first};
+ghost use Rattle.coherence.specs.Beginning.{bytes_at_first, lines_at_first};
 ghost use Rattle.coherence.specs.Caches.{behind_of, cache_at};
 ghost use Rattle.coherence.specs.Changed.{GetsBit, IsChangedAt};
 ghost use Rattle.coherence.specs.Served.{HasLine, IsCoherent, IsServed, Moves, TellsOf, has_room, shown};
@@ -42,6 +42,7 @@ impl Hierarchy {
         requires in_range { IsInRange config.now }
         requires one_hart_each { image.now.harts ≡ config.now.harts }
         ensures memory { IfOk result (λ hierarchy. TellsOf (shown hierarchy) (bytes_at_first image.now)) }
+        ensures lines { IfOk result (λ hierarchy. (shown hierarchy).lines ≡ lines_at_first image.now) }
         ensures caches { IfOk result (λ hierarchy.
             (shown hierarchy).caches ≡ replicate config.now.harts (empty_cached config.now.ways config.now.sets)) }
         ensures first { IfOk result (λ hierarchy. ((shown hierarchy).first * LINE_BYTES ≡ image.now.base)

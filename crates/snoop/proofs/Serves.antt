@@ -16,7 +16,7 @@ use Rattle.coherence.specs.Beginning.{line_of}
 use Rattle.coherence.specs.Caches.{cache_at, others_from}
 use Rattle.coherence.specs.Caches as copies
 use Rattle.coherence.proofs.GivenUp.{beyond}
-use Rattle.coherence.specs.Served.{Copies, StaysCoherent, has_room}
+use Rattle.coherence.specs.Served.{Copies, StaysCoherent, has_room, lines_after}
 use Rattle.el_base.specs.declared.outcomes.Need.{Need}
 use Rattle.el_base.specs.declared.outcomes.Need.TheVariants.{Write}
 use Rattle.el_model.specs.Conflicts.{meets_bit}
@@ -72,6 +72,16 @@ claim_stays false request old new claim =
 pub serve_stays : (live : Bool) (request : Request) (old new : Copies) → CopiesServe live request old new → StaysCoherent old new
 serve_stays live request old new serve =
     stays_twice old serve.filled new serve.served.stays (claim_stays live request serve.filled new serve.claimed)
+
+-- main memory after the request was served
+claim_lines : (live : Bool) (request : Request) (old new : Copies) → CopiesClaim live request old new → new.lines ≡ old.lines
+claim_lines true request old new claim = claim.lines
+claim_lines false request old new claim = ap (λ copies. copies.lines) claim
+
+pub serve_lines : (bus new : Kept) (request : Request) → Serves request bus new →
+    new.copies.lines ≡ lines_after request.hart request.line bus.copies
+serve_lines bus new request serves =
+    claim_lines _ request serves.copies.filled new.copies serves.copies.claimed ∙ serves.copies.served.memory
 
 serve_ways : (live : Bool) (request : Request) (old new : Copies) → CopiesServe live request old new → (g : ℕ) →
     (cache_at new.caches g).ways ≡ (cache_at old.caches g).ways

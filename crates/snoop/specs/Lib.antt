@@ -11,3 +11,4 @@ pub mod Asking
 pub mod Lending
 pub mod Returned
 pub mod Readiness
+pub mod MainMemory

@@ -1,5 +1,5 @@
 -- what the bus keeps, and the state of the machine's definition that it shows
-use Rattle.std.specs.Prelude.{ℕ, ◌≡◌, ◌<◌, ◌≤◌, ◌-◌, ◌*◌, ◌/◌, true, List, None, Some, length}
+use Rattle.std.specs.Prelude.{ℕ, ◌≡◌, ◌<◌, ◌≤◌, ◌*◌, true, List, None, Some, length}
 use Rattle.bus_order.specs.Order.{IsOneEach, Request, request_of}
 use Rattle.cache_sets.specs.Cache.{has_marks}
 use Rattle.cache_sets.specs.WellFormed.{IsWellFormed}

@@ -3,7 +3,7 @@
 ghost use Rattle.std.specs.Prelude.{◌≡◌, ◌<◌, ◌%◌, ◌↔◌, IfOk, IfSome, IsNone, None, length, slice_index, true};
 ghost use Rattle.std.specs.Borrow.{sem};
 ghost use Rattle.bus_order.specs.Order.{request_of};
-ghost use Rattle.coherence.specs.Beginning.{line_of};
+ghost use Rattle.coherence.specs.Beginning.{line_of, lines_at_first};
 ghost use Rattle.coherence.specs.Caches.{behind_of, cache_at};
 ghost use Rattle.coherence.specs.Served.{HasLine, has_room};
 ghost use Rattle.el_base.specs.Config.{IsInRange};
@@ -46,6 +46,7 @@ impl Bus {
         requires one_hart_each { image.now.harts ≡ config.now.harts }
         ensures ready { IfOk result (λ bus. IsReady (kept bus)) }
         ensures shows { IfOk result (λ bus. Shows (kept bus) (begin image.now config.now)) }
+        ensures memory { IfOk result (λ bus. (kept bus).copies.lines ≡ lines_at_first image.now) }
     {
         Ok(Bus {
             mode: config.mode,
@@ -97,6 +98,7 @@ impl Bus {
         ensures ready { IsReady (kept self.new) }
         ensures shows { (state : ModelState) → Shows (kept self.old) state → Shows (kept self.new)
             (with_hart state hart.number (missed_hart hart.number line.number need (hart_of state hart.number))) }
+        ensures memory_stays { (kept self.new).copies.lines ≡ (kept self.old).copies.lines }
     {
         let stamp = self.agent(hart).attempt();
         raise(
@@ -117,6 +119,7 @@ impl Bus {
         ensures ready { IsReady (kept self.new) }
         ensures shows { (state : ModelState) → Shows (kept self.old) state → Shows (kept self.new)
             (with_hart state hart.number (record (hart_of state hart.number) { held = None })) }
+        ensures memory_stays { (kept self.new).copies.lines ≡ (kept self.old).copies.lines }
     {
         give_up(&mut self.agents, hart);
     }
@@ -131,6 +134,7 @@ impl Bus {
         ensures shows { (state : ModelState) → Shows (kept self.old) state → Shows (kept self.new)
             (with_hart state hart.number
             (attempts.open_attempt state.config.mode hart.number (hart_of state hart.number))) }
+        ensures memory_stays { (kept self.new).copies.lines ≡ (kept self.old).copies.lines }
     {
         open_attempt(&mut self.agents, self.mode, hart);
     }
@@ -146,6 +150,7 @@ impl Bus {
         ensures ready { IsReady (kept self.new) }
         ensures shows { (state : ModelState) → Shows (kept self.old) state → Shows (kept self.new)
             (with_hart state hart.number (attempts.close_attempt (hart_of state hart.number))) }
+        ensures memory_stays { (kept self.new).copies.lines ≡ (kept self.old).copies.lines }
     {
         close_attempt(&mut self.agents, hart);
     }

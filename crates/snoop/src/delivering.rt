@@ -54,6 +54,7 @@ impl Bus {
             Shows (kept self.new) (delivery.deliver_turn state hart.number).state }
         ensures outcome { (state : ModelState) → Shows (kept self.old) state →
             result ≡ (delivery.deliver_turn state hart.number).outcome }
+        ensures memory_stays { (kept self.new).copies.lines ≡ (kept self.old).copies.lines }
     {
         match self.take_message(hart) {
             Some(message) => Outcome::Delivered {
@@ -73,6 +74,7 @@ impl Bus {
             option_map mailbox.numbered result ≡ mailbox.oldest (hart_of state hart.number).mail }
         ensures shows { (state : ModelState) → Shows (kept self.old) state → Shows (kept self.new)
             (delivery.taken state hart.number (mailbox.without_oldest (hart_of state hart.number).mail)) }
+        ensures memory_stays { (kept self.new).copies.lines ≡ (kept self.old).copies.lines }
     {
         take_message(&mut self.agents, hart)
     }
@@ -87,6 +89,7 @@ impl Bus {
             Shows (kept self.new) (delivery.delivered state hart.number (mailbox.numbered message)) }
         ensures losers { (state : ModelState) → Shows (kept self.old) state →
             result ≡ delivery.losers_by state hart.number (mailbox.numbered message) }
+        ensures memory_stays { (kept self.new).copies.lines ≡ (kept self.old).copies.lines }
     {
         match message {
             Message::Marker { from } => {
@@ -104,6 +107,7 @@ impl Bus {
         ensures ready { IsReady (kept self.new) }
         ensures shows { (state : ModelState) → Shows (kept self.old) state →
             Shows (kept self.new) (delivery.after_marker state hart.number sender.number) }
+        ensures memory_stays { (kept self.new).copies.lines ≡ (kept self.old).copies.lines }
     {
         self.answer_marker(hart, sender);
     }
@@ -165,6 +169,7 @@ impl Bus {
         ensures losers { (state : ModelState) → Shows (kept self.old) state → result
             ≡ (if has (hart_of state hart.number).told origin.number then delivery.nobody
             else delivery.probe_losers state hart.number origin.number (ordered_of state origin.number)) }
+        ensures memory_stays { (kept self.new).copies.lines ≡ (kept self.old).copies.lines }
     {
         if self.agent(hart).knows(origin) {
             return Losers::none();
@@ -186,6 +191,7 @@ impl Bus {
             (delivery.told_of state hart.number origin.number (option_map numbered request))) }
         ensures losers { (state : ModelState) → Shows (kept self.old) state →
             result ≡ delivery.probe_losers state hart.number origin.number (option_map numbered request) }
+        ensures memory_stays { (kept self.new).copies.lines ≡ (kept self.old).copies.lines }
     {
         if self.loses_to_origin(hart, request) {
             self.lose_to(hart, origin, request);

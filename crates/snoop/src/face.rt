@@ -43,6 +43,7 @@ impl Bus {
             Shows (kept self.new) (faced state (numbered head)) }
         ensures losers { (state : ModelState) → Shows (kept self.old) state →
             result ≡ face_losers state (numbered head) }
+        ensures memory_stays { (kept self.new).copies.lines ≡ (kept self.old).copies.lines }
     {
         let fates = self.fates(head, policy);
         self.settle_all(head, &fates);

@@ -68,6 +68,7 @@ impl Bus {
         ensures mode { (kept self.new).mode ≡ (kept self.old).mode }
         ensures shows { (state : ModelState) → Shows (kept self.old) state →
             Shows (kept self.new) (marked_from state.config.mode state from.number to.number) }
+        ensures memory_stays { (kept self.new).copies.lines ≡ (kept self.old).copies.lines }
     {
         match self.mode {
             Mode::Tlr => post(&mut self.agents, to, Message::Marker { from }),
@@ -83,6 +84,7 @@ impl Bus {
         ensures mode { (kept self.new).mode ≡ (kept self.old).mode }
         ensures shows { (state : ModelState) → Shows (kept self.old) state →
             Shows (kept self.new) (placed_in_front state (numbered request)) }
+        ensures memory_stays { (kept self.new).copies.lines ≡ (kept self.old).copies.lines }
     {
         unraise(&mut self.agents, request.hart);
         self.order.in_front(request);
@@ -96,6 +98,7 @@ impl Bus {
         ensures mode { (kept self.new).mode ≡ (kept self.old).mode }
         ensures shows { (state : ModelState) → Shows (kept self.old) state →
             Shows (kept self.new) (placed_last state (numbered request)) }
+        ensures memory_stays { (kept self.new).copies.lines ≡ (kept self.old).copies.lines }
     {
         unraise(&mut self.agents, request.hart);
         self.order.append(request);
@@ -109,6 +112,7 @@ impl Bus {
         ensures mode { (kept self.new).mode ≡ (kept self.old).mode }
         ensures shows { (state : ModelState) → Shows (kept self.old) state →
             Shows (kept self.new) (before_face state (numbered request) InFront) }
+        ensures memory_stays { (kept self.new).copies.lines ≡ (kept self.old).copies.lines }
     {
         let former = self.order.first_of(request.line);
         self.put_in_front(request);
@@ -125,6 +129,7 @@ impl Bus {
         ensures mode { (kept self.new).mode ≡ (kept self.old).mode }
         ensures shows { (state : ModelState) → Shows (kept self.old) state →
             Shows (kept self.new) (before_face state (numbered request) Behind) }
+        ensures memory_stays { (kept self.new).copies.lines ≡ (kept self.old).copies.lines }
     {
         let last = self.order.tail_of(request.line);
         self.put_last(request);
@@ -145,6 +150,7 @@ impl Bus {
             Shows (kept self.new) (placed state (numbered request) (place_for state (numbered request))) }
         ensures losers { (state : ModelState) → Shows (kept self.old) state →
             result ≡ order_losers state (numbered request) }
+        ensures memory_stays { (kept self.new).copies.lines ≡ (kept self.old).copies.lines }
     {
         match self.place_for(request) {
             Place::InFront => {
@@ -179,6 +185,7 @@ impl Bus {
             Shows (kept self.new) (order_turn state hart.number).state }
         ensures outcome { (state : ModelState) → Shows (kept self.old) state →
             result ≡ (order_turn state hart.number).outcome }
+        ensures memory_stays { (kept self.new).copies.lines ≡ (kept self.old).copies.lines }
     {
         match self.agent(hart).raised() {
             Some(request) => Outcome::Ordered {

@@ -5,12 +5,13 @@ ghost use Rattle.std.specs.Option.{option_map};
 ghost use Rattle.bus_order.specs.Order.{numbered, removed, request_of};
 ghost use Rattle.cache_sets.specs.Cache.{has_marks};
 ghost use Rattle.coherence.specs.Caches.{cache_at};
-ghost use Rattle.coherence.specs.Served.{HasLine, IsCoherent, IsServed, has_room, shown};
+ghost use Rattle.coherence.specs.Served.{HasLine, IsCoherent, IsServed, has_room, lines_after, shown};
 ghost use Rattle.el_model.specs.Serve as serving;
 ghost use Rattle.el_model.specs.Serve.{Free};
 ghost use Rattle.el_model.specs.Face.{face_losers_if, faced_if};
 ghost use Rattle.el_model.specs.State.{ModelState, head_of};
 ghost use Rattle.policy.specs.Winners.{wins_of};
+ghost use Rattle.snoop.specs.MainMemory.{lines_served};
 ghost use Rattle.snoop.specs.Serving.{AgentsServe, CopiesClaim, CopiesServe, Serves};
 ghost use Rattle.snoop.specs.Shows.{IsReady, Shows, kept};
 ghost use Rattle.stamp.specs.Stamps as stamps;
@@ -42,6 +43,7 @@ impl Bus {
             Shows (kept self.new) (serving.serve_turn state hart.number).state }
         ensures outcome { (state : ModelState) → Shows (kept self.old) state →
             result ≡ (serving.serve_turn state hart.number).outcome }
+        ensures memory { (kept self.new).copies.lines ≡ lines_served (kept self.old) hart.number result }
     {
         match self.order.of(hart) {
             Some(request) => self.serve_past(request, policy),
@@ -60,6 +62,7 @@ impl Bus {
             (serving.serve_past state (numbered request) (serving.obstacle_to state (numbered request))).state }
         ensures outcome { (state : ModelState) → Shows (kept self.old) state → result
             ≡ (serving.serve_past state (numbered request) (serving.obstacle_to state (numbered request))).outcome }
+        ensures memory { (kept self.new).copies.lines ≡ lines_served (kept self.old) request.hart.number result }
     {
         match self.obstacle_to(request) {
             Obstacle::Free => Outcome::Served {
@@ -82,6 +85,8 @@ impl Bus {
             Shows (kept self.new) (serving.served_turn state (numbered request)).state }
         ensures losers { (state : ModelState) → Shows (kept self.old) state →
             result ≡ serving.serve_losers state (numbered request) }
+        ensures memory { (kept self.new).copies.lines ≡
+            lines_after request.hart.number request.line.number (kept self.old).copies }
     {
         self.give_line(request);
         self.face_head(request.line, policy)
@@ -97,6 +102,7 @@ impl Bus {
             Shows (kept self.new) (faced_if state (head_of state line.number)) }
         ensures losers { (state : ModelState) → Shows (kept self.old) state →
             result ≡ face_losers_if state (head_of state line.number) }
+        ensures memory_stays { (kept self.new).copies.lines ≡ (kept self.old).copies.lines }
     {
         match self.order.first_of(line) {
             Some(head) => self.face(head, policy),
@@ -115,6 +121,8 @@ impl Bus {
         ensures mode { (kept self.new).mode ≡ (kept self.old).mode }
         ensures shows { (state : ModelState) → Shows (kept self.old) state →
             Shows (kept self.new) (serving.served state (numbered request)) }
+        ensures memory { (kept self.new).copies.lines ≡
+            lines_after request.hart.number request.line.number (kept self.old).copies }
     {
         self.serve_parts(request);
     }

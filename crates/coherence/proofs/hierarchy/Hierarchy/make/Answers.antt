@@ -1,6 +1,7 @@
-use Rattle.std.proofs.Common.{◌≡◌, ◌∙◌, ◌*◌, ◌/◌, ◌%◌, ℕ, ap, arith, length}
+use Rattle.std.proofs.Common.{◌≡◌, ◌∙◌, ◌*◌, ◌/◌, ◌%◌, ℕ, ap, arith, length, map}
+use Rattle.std.specs.List.{range_with_len}
 use Rattle.std.proofs.lemmas.List.FromFn.{length-map-range_with_len}
-use Rattle.coherence.specs.Beginning.{line_in}
+use Rattle.coherence.specs.Beginning.{line_in, lines_at_first}
 use Rattle.coherence.proofs.AtFirst.{first_coherent}
 use Rattle.coherence.proofs.hierarchy.Hierarchy.make.Goals as goal
 
@@ -8,6 +9,12 @@ pub returns-clause-memory : goal.returns-clause-memory
 returns-clause-memory c =
     first_coherent c.args.image.now (c.base.result / 64) _ _ _ _ c.in_ok-lines_of.field-0.items c.in_ok-empty_caches.field-0.items
     (ap (λ n. n / 64) c.base.ensures.exact) (rw c.bytes-2.ensures.exact at c.in_ok-lines_of.ensures) c.in_ok-empty_caches.ensures
+
+pub returns-clause-lines : goal.returns-clause-lines
+unfolding lines_at_first
+returns-clause-lines c =
+    rw c.bytes-2.ensures.exact at c.in_ok-lines_of.ensures
+    ∙ ap (λ bytes. map (line_in c.args.image.now.bytes) (range_with_len 0 (length bytes / 64))) c.bytes.ensures.exact
 
 whole_lines : (n : ℕ) → n % 64 ≡ 0 → n / 64 * 64 ≡ n
 whole_lines n on_line = omega (arith, on_line)

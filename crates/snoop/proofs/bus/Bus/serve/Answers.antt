@@ -2,6 +2,7 @@
 use Rattle.std.proofs.Common.{◌∙◌, ap, sym}
 use Rattle.bus_order.specs.Order.{numbered, request_of}
 use Rattle.bus_order.proofs.Queues.{hart_of_request_of}
+use Rattle.snoop.specs.MainMemory.{lines_served}
 use Rattle.snoop.specs.Shows.{kept}
 use Rattle.snoop.proofs.bus.Bus.serve.Goals as goal
 
@@ -10,3 +11,10 @@ serve_past-requires-clause-ordered g c =
     let order = (kept c.args.self.now).order in
     ap (request_of order) (hart_of_request_of order c.args.hart.number (numbered c.in-Some.request) (sym c.in-Some.ensures))
     ∙ sym c.in-Some.ensures
+
+pub returns-in-Some-clause-memory : goal.returns-in-Some-clause-memory
+returns-in-Some-clause-memory g c =
+    let bus = kept c.args.self.now in
+    c.serve_past.ensures.memory
+    ∙ ap (λ h. lines_served bus h c.serve_past.result)
+    (hart_of_request_of bus.order c.args.hart.number (numbered c.in-Some.request) (sym c.in-Some.ensures))

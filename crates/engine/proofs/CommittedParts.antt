@@ -1,7 +1,7 @@
 -- the parts after a hart's section has committed
 use Rattle.std.proofs.Common.{◌≡◌, ◌≢◌, ◌∙◌, ℕ, ◌+◌, ◌-◌, ◌*◌, ◌/◌, ◌<◌, ◌≤◌, Bool, true}
 use Rattle.std.proofs.Common.{false, if◌then◌else◌, List, drop, length, Option, Some, None, refl, ap, sym, subst, arith}
-use Rattle.std.specs.Prelude.{IfSome, option_map, slice_set}
+use Rattle.std.specs.Prelude.{IfSome, IsSome, option_map, slice_set}
 use Rattle.std.specs.Option.{option_map_or}
 use Rattle.std.proofs.lemmas.Bool.{eq-eqb}
 use Rattle.std.proofs.lemmas.Grind.{same_number_lists}
@@ -72,7 +72,6 @@ use Rattle.snoop.specs.Agent.{agent_of}
 use Rattle.snoop.specs.Asking.{HasNoRequest}
 use Rattle.snoop.specs.Returned.{returned}
 use Rattle.snoop.specs.Shows.{IsReady, Kept, LiesWhere, Shows}
-use Rattle.snoop.specs.Shows as shows_of
 use Rattle.write_hold.specs.Held.{Entry, holds, seen_at}
 
 -- what is committed then, and the hart
@@ -144,7 +143,7 @@ owned from h line reached bit =
 
 -- the cache of a hart before and after, the bytes of memory before and after, and what is held
 module _ (copies : Copies) (h : ℕ) (cache : Cached) (old done : FlatState) (word : ℕ) (view : HartView) (hold : List Entry)
-    (tells : TellsOf copies (shows_of.line_of old)) (lies : LiesWhere copies old) (effects : HasEffect old done h word view hold)
+    (tells : TellsOf copies (line_of old)) (lies : LiesWhere copies old) (effects : HasEffect old done h word view hold)
     (commits_in : HasCommitted (cache_at copies.caches h) cache hold) (marked : HoldsMarked (cache_at copies.caches h).residency hold)
     (owns : (line : ℕ) → write_bit (cache_at copies.caches h).residency line ≡ true → may_write (letter_of
     (cache_at copies.caches h).residency line) ≡ true) where
@@ -196,7 +195,7 @@ module _ (copies : Copies) (h : ℕ) (cache : Cached) (old done : FlatState) (wo
       effects.lines line place (from_there line there) less
       ∙ sym (commits_in.bytes line place is less
       ∙ ap (λ bytes. seen_at hold line bytes place)
-      (copy_tells copies h line (shows_of.line_of old) tells (writable_there before line (owns line (marked line is))))))
+      (copy_tells copies h line (line_of old) tells (writable_there before line (owns line (marked line is))))))
 
   same_bytes : (bit : Bool) (copy : Option Copy) (bytes : List ℕ) →
       option_map_or (λ c. c.bytes) (option_map (committed_copy bit) copy) bytes ≡ option_map_or (λ c. c.bytes) copy bytes
@@ -213,8 +212,8 @@ module _ (copies : Copies) (h : ℕ) (cache : Cached) (old done : FlatState) (wo
       ∙ kept_bytes (line_of old line) (copies_of copies.caches line) (behind_of copies.first copies.lines line) h (copy_in before line)
       (tells.each line there) refl)
 
-  pub tells_then : TellsOf (copies_with copies h cache) (shows_of.line_of done)
-  tells_then = tells_after copies h cache (shows_of.line_of old) (shows_of.line_of done) tells
+  pub tells_then : TellsOf (copies_with copies h cache) (line_of done)
+  tells_then = tells_after copies h cache (line_of old) (line_of done) tells
       (record { given_back = record { each = λ line. back line (holds hold line) refl }; exact = λ line there. exact line (holds hold line) there refl })
 
 -- the bus
@@ -279,7 +278,7 @@ module _ (parts : Parts) (bus : Kept) (h : ℕ) (from : ModelState) (section : S
   residency : (cache_at bus.copies.caches h).residency ≡ cache_of from h
   residency = stands_between.shows.caches h ∙ ap (λ hart. hart.cache) stands_between.here
 
-  tells_now : TellsOf (copies_with bus.copies h cache) (shows_of.line_of (done_of from h section))
+  tells_now : TellsOf (copies_with bus.copies h cache) (line_of (done_of from h section))
   tells_now =
       tells_then bus.copies h cache from.committed (done_of from h section) section.word after.marks.present (kept_of parts h).hold.entries
       stands_between.shows.bytes stands_between.shows.memory effects at.committed
@@ -456,6 +455,10 @@ few : (from : ModelState) (h : ℕ) (section : Section) (reached : IsReached fro
 few from h section reached live =
     (sections_are_short reached.program reached.config reached.events h section reached.in_range
     (subst (λ s. section_of s h ≡ Some section) reached.state_is live)).no_more
+
+pub is_live_there : (parts : Parts) (h : ℕ) (from : ModelState) (section : Section) → FollowsRule parts h from section Commits →
+    IsSome (own_at parts.harts h).section.live
+is_live_there parts h from section follows = subst IsSome (sym (keeps_live parts h from section follows.inside).live) refl
 
 pub can_count : (parts : Parts) (h : ℕ) (from : ModelState) (section : Section) → FollowsRule parts h from section Commits →
     IfSome (own_at parts.harts h).section.live (λ s. s.count + 1 < 4294967296)

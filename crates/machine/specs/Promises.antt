@@ -8,18 +8,16 @@ use Rattle.el_base.specs.declared.outcomes.Outcome.{Outcome}
 use Rattle.el_base.specs.declared.outcomes.Outcome.TheVariants.{Committed}
 use Rattle.el_model.specs.InSection.{shown_in}
 use Rattle.el_model.specs.Losses.{winner_over}
-use Rattle.el_model.specs.State.{ModelState, Section, cache_of, has_request, is_live, section_of}
+use Rattle.el_model.specs.State.{ModelState, Section, has_request, is_live, section_of}
 use Rattle.el_model.specs.Upcoming.{is_release}
 use Rattle.machine.specs.Story.{Story, state_of}
 use Rattle.removal_laws.specs.Laws.{HasLeast, LosesToEarlier, attempt_of}
 use Rattle.run_laws.specs.Laws.{IsUntouched}
-use Rattle.run_laws.specs.PrivateRun.{IsCoveredRun}
 use Rattle.rv_flat.specs.Memory.{byte_in}
 use Rattle.rv_flat.specs.Run.{alone}
 use Rattle.section_laws.specs.Sections.{is_committed, is_rolled_back}
 use Rattle.section_view.specs.KeptRun.{section_byte}
 use Rattle.stamp.specs.Stamps.{Stamp}
-use Rattle.step_laws.specs.Counts.{IsSectionShort}
 use Rattle.step_laws.specs.Survivors.{IsNoStepOf}
 use Rattle.write_hold.specs.Held.{Entry}
 

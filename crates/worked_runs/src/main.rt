@@ -14,6 +14,7 @@ mod field;
 mod image;
 mod making;
 mod outcome;
+mod requests;
 mod worked;
 
 use crate::difference::Difference;

@@ -2,7 +2,9 @@
 """Writes the image of a loop of 3,999,998 steps to a file: bench/loop_image.py own|one FILE
 
 Each hart loads from and stores to a line of its own, or all of them do to one line."""
-import struct, sys
+import sys
+
+import image
 
 place, file = sys.argv[1:]
 FIRST = {
@@ -25,9 +27,4 @@ CODE = [
     0x05d00893, #        addi x17, x0, 93
     0x00000073, #        ecall                exits with 0
 ]
-size = 84 + 4 * len(CODE)
-header = struct.pack("<4s12BHHIIIIIHHHHHH", b"\x7fELF", 1, 1, 1, *[0] * 9,
-                     2, 243, 1, 0x10054, 52, 0, 0, 52, 32, 1, 0, 0, 0)
-segment = struct.pack("<8I", 1, 0, 0x10000, 0x10000, size, size, 7, 0x1000)
-with open(file, "wb") as image:
-    image.write(header + segment + struct.pack("<%dI" % len(CODE), *CODE))
+image.write(file, CODE)

@@ -1,25 +1,18 @@
 #!/bin/sh
 # Prints what one call of each part costs, in nanoseconds: the best of seven runs of the program `parts`, less the
-# best of seven that make no call, by the number of calls. A touch comes without its look-up, and a fill without
-# the questions whether the line is there and whether there is room for it.
+# best of seven that make no call, by the number of calls. The time is the process's own user time. A touch comes
+# without its look-up, and a fill without the questions whether the line is there and whether there is room for it.
 set -eu
-cd "$(dirname "$0")/../crates/parts"
-program=out/parts
-[ -x "$program" ] || rt run > /dev/null # builds the program where it is not built
-python3 - "$program" <<'PYTHON'
-import resource, subprocess, sys
+cd "$(dirname "$0")/.."
+(cd crates/parts && rt run > /dev/null) # builds the program, also where a source has changed since
+PYTHONPATH=bench python3 - <<'PYTHON'
+import timing
 
 CALLS = 20_000_000
 
 
 def seconds(part, count):
-    best = None
-    for _ in range(7):
-        before = resource.getrusage(resource.RUSAGE_CHILDREN).ru_utime
-        subprocess.run([sys.argv[1], part, str(count)], check=True, capture_output=True)
-        taken = resource.getrusage(resource.RUSAGE_CHILDREN).ru_utime - before
-        best = taken if best is None else min(best, taken)
-    return best
+    return timing.best(["crates/parts/out/parts", part, str(count)], runs=7)[0]
 
 
 def nanoseconds(part):

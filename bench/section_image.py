@@ -3,7 +3,9 @@
 
 One hart takes and gives back a lock 500 times, and runs a loop of 8,000 instructions in between. With --long 65536 each turn
 is one section in a mode that elides, and none in the plain mode."""
-import struct, sys
+import sys
+
+import image
 
 (file,) = sys.argv[1:]
 CODE = [
@@ -28,9 +30,4 @@ CODE = [
     0x05d00893, #        addi x17, x0, 93
     0x00000073, #        ecall                exits with 0
 ]
-size = 84 + 4 * len(CODE)
-header = struct.pack("<4s12BHHIIIIIHHHHHH", b"\x7fELF", 1, 1, 1, *[0] * 9,
-                     2, 243, 1, 0x10054, 52, 0, 0, 52, 32, 1, 0, 0, 0)
-segment = struct.pack("<8I", 1, 0, 0x10000, 0x10000, size, size, 7, 0x1000)
-with open(file, "wb") as image:
-    image.write(header + segment + struct.pack("<%dI" % len(CODE), *CODE))
+image.write(file, CODE)

@@ -104,7 +104,7 @@ def row(name, mode, harts, words, events, lines=16, sets=16, ways=4, long=2000, 
     (DATA / f"row-{name}.json").write_text(text + "\n")
 
 
-def reservation_lost_to_an_elided_commit():
+def reservation_lost_to_an_elided_commit(mode):
     words = START + [
         addi(12, 5, 4),
         lw(7, 0, 5),
@@ -121,7 +121,7 @@ def reservation_lost_to_an_elided_commit():
         + step(1, "Began") + step(1, "Committed", 2)
         + ran(0)  # its store conditional fails
     )
-    row("reservation-lost-to-an-elided-commit", "Tlr", 2, words, events, end=ending(9, 1))
+    row(f"reservation-lost-to-an-elided-commit-{mode.lower()}", mode, 2, words, events, end=ending(9, 1))
 
 
 def written_lines(name, mode, count, last):
@@ -241,9 +241,9 @@ def call_inside(mode):
 
 
 def main():
-    reservation_lost_to_an_elided_commit()
     for mode in ("Sle", "Tlr"):
         low = mode.lower()
+        reservation_lost_to_an_elided_commit(mode)
         written_lines(f"seventeen-lines-{low}", mode, 17, step(0, "RolledBack", "Lines") + ran(0))
         written_lines(f"sixteen-lines-{low}", mode, 16, step(0, "Committed", 18))
         set_full_of_bits(mode)

@@ -13,9 +13,28 @@ A line `pub mod NAME` in crates/el_model/proofs/Runs.antt makes the check read i
     end     bytes_unlike_0, order, harts: the state after the last event
 """
 import json
+import pathlib
 import sys
 
-CAUSES = {"Room", "Lines", "Long", "Call", "Mixed"}
+USES = """use Rattle.std.proofs.Common.{◌≡◌, ℕ, true, false, List, [], ◌∷◌, Some, None, replicate, refl}
+use Rattle.el_base.specs.HartId.{hart_id}
+use Rattle.el_base.specs.LineAddr.{line_addr}
+use Rattle.el_base.specs.declared.config.Config.{Config}
+use Rattle.el_base.specs.declared.config.Mode.TheVariants.{Plain, Sle, Tlr}
+use Rattle.el_base.specs.declared.events.Event.{Event}
+use Rattle.el_base.specs.declared.events.Kind.TheVariants.{Step, Order, Serve, Deliver}
+use Rattle.el_base.specs.declared.outcomes.Cause.TheVariants.{Room, Lines, Long, Call, Mixed}
+use Rattle.el_base.specs.declared.outcomes.Need.TheVariants.{Read, Write}
+use Rattle.el_base.specs.declared.outcomes.Outcome.{Outcome}
+use Rattle.el_base.specs.declared.outcomes.Outcome.TheVariants.{Idle, Stalled, Missed, Ran, Began, Buffered, Committed, RolledBack, Ordered, Served, Blocked, Delivered}
+use Rattle.el_base.specs.declared.outcomes.Why.TheVariants.{Behind, Retained, Locked}
+use Rattle.el_model.proofs.Computing.{computing}
+use Rattle.el_model.proofs.Given.{Ending, ending_of, event, first_state, lost, patched, request, section, stamp, watch, way}
+use Rattle.el_model.specs.Next.{outcomes_from, state_after}
+use Rattle.el_model.specs.State.{Hart, ModelState}
+use Rattle.mail.specs.Mailbox.{Marker, Probe}
+use Rattle.moesi.specs.declared.letter.Letter.TheVariants.{M, O, E, S}
+"""
 
 
 def items(texts):
@@ -108,32 +127,10 @@ def hart(value):
     }}"""
 
 
-def main():
-    with open(sys.argv[1]) as file:
-        run = json.load(file)
-    title = sys.argv[2] if len(sys.argv) > 2 else "A run of the machine."
-    config, memory, code, end = run["config"], run["memory"], run["code"], run["end"]
-    print(f"-- {title}")
-    print(f"""use Rattle.std.proofs.Common.{{◌≡◌, ℕ, true, false, List, [], ◌∷◌, Some, None, replicate, refl}}
-use Rattle.el_base.specs.HartId.{{hart_id}}
-use Rattle.el_base.specs.LineAddr.{{line_addr}}
-use Rattle.el_base.specs.declared.config.Config.{{Config}}
-use Rattle.el_base.specs.declared.config.Mode.TheVariants.{{Plain, Sle, Tlr}}
-use Rattle.el_base.specs.declared.events.Event.{{Event}}
-use Rattle.el_base.specs.declared.events.Kind.TheVariants.{{Step, Order, Serve, Deliver}}
-use Rattle.el_base.specs.declared.outcomes.Cause.TheVariants.{{Room, Lines, Long, Call, Mixed}}
-use Rattle.el_base.specs.declared.outcomes.Need.TheVariants.{{Read, Write}}
-use Rattle.el_base.specs.declared.outcomes.Outcome.{{Outcome}}
-use Rattle.el_base.specs.declared.outcomes.Outcome.TheVariants.{{Idle, Stalled, Missed, Ran, Began, Buffered, Committed, RolledBack, Ordered, Served, Blocked, Delivered}}
-use Rattle.el_base.specs.declared.outcomes.Why.TheVariants.{{Behind, Retained, Locked}}
-use Rattle.el_model.proofs.Computing.{{computing}}
-use Rattle.el_model.proofs.Given.{{Ending, ending_of, event, first_state, lost, patched, request, section, stamp, watch, way}}
-use Rattle.el_model.specs.Next.{{outcomes_from, state_after}}
-use Rattle.el_model.specs.State.{{Hart, ModelState}}
-use Rattle.mail.specs.Mailbox.{{Marker, Probe}}
-use Rattle.moesi.specs.declared.letter.Letter.TheVariants.{{M, O, E, S}}
-""")
-    print(f"""abbrev config : Config
+def given(run):
+    """The configuration, the first state and the events of a run."""
+    config, memory, code, events = run["config"], run["memory"], run["code"], run["events"]
+    return f"""abbrev config : Config
 config = record {{
   harts = {config['harts']};
   mode = {config['mode']};
@@ -141,7 +138,7 @@ config = record {{
   ways = {config['ways']};
   lines = {config['lines']};
   long = {config['long']};
-  steps = {len(run['events'])};
+  steps = {len(events)};
 }}
 
 abbrev words : List ℕ
@@ -153,30 +150,52 @@ first = first_state config {memory['base']} {memory['length']} {code['start']} w
 
 abbrev events : List Event
 events =
-{wrapped(f"event {kind} {h}" for kind, h, _ in run['events'])}
+{wrapped(f"event {kind} {h}" for kind, h, _ in events)}
+"""
 
-abbrev expected : List Outcome
+
+def expected(events):
+    """What comes of a run's events, and the proof that the definition gives it."""
+    return f"""abbrev expected : List Outcome
 expected =
-{wrapped(outcome(parts) for _, _, parts in run['events'])}
+{wrapped(outcome(parts) for _, _, parts in events)}
 
 outcomes : outcomes_from first events ≡ expected
 unfolding computing
 outcomes = refl
+"""
 
-abbrev last : Ending
+
+def ending(end, length):
+    """The last state of a run with so many bytes of memory, and the proof that the definition comes to it."""
+    harts = end["harts"]
+    return f"""abbrev last : Ending
 last = record {{
   harts =
-    {items(hart(value) for value in end['harts'])};
+    {items(map(hart, harts))};
   order = {items(map(request, end['order']))};
-  pcs = {items(str(value['pc']) for value in end['harts'])};
+  pcs = {items(str(value['pc']) for value in harts)};
   registers =
-    {items("(" + items(map(str, value['registers'])) + ")" for value in end['harts'])};
-  bytes = patched (replicate {memory['length']} 0) ({items(f"({i}, {b})" for i, b in end['bytes_unlike_0'])});
+    {items("(" + items(map(str, value['registers'])) + ")" for value in harts)};
+  bytes = patched (replicate {length} 0) ({items(f"({i}, {b})" for i, b in end['bytes_unlike_0'])});
 }}
 
 ending : ending_of (state_after first events) ≡ last
 unfolding computing
-ending = refl""")
+ending = refl"""
 
 
-main()
+def proof_file(title, run):
+    """The text of a run's proof file."""
+    parts = [f"-- {title}", USES, given(run), expected(run["events"]), ending(run["end"], run["memory"]["length"])]
+    return "\n".join(parts)
+
+
+def main():
+    run = json.loads(pathlib.Path(sys.argv[1]).read_text())
+    title = sys.argv[2] if len(sys.argv) > 2 else "A run of the machine."
+    print(proof_file(title, run))
+
+
+if __name__ == "__main__":
+    main()

@@ -1,12 +1,13 @@
 #!/usr/bin/env python3
-"""Tries wrong definitions of the machine: each must be refused by one worked run or row, and by nothing else.
+"""Tries wrong definitions of the machine: each must be refused by the worked run or row that its file names.
 
     tools/wrong_definitions.py [NAME..]
 
 Each file crates/el_model/wrong/NAME.edit has a line 'file:', pairs of lines 'old:' and 'new:', and a line 'run:' with
 the file of crates/el_model/proofs that must refuse it, such as Rows/ChainOfTwo. The definitions and that one run are
 copied to a scratch folder, without any law. As they stand the copy must be proved; with the edit the prover must find
-that the run does not come to what it should. The last line is 'N refused, M failed'.
+that the run does not come to what it should, and nothing else wrong in the copy. What other runs and the laws say of the
+edit is not tried. The last line is 'N refused, M failed'.
 
 The crates below el_model are copied as they are, and rt begins with what it kept of them: run rt check in
 crates/el_model before, or the first check proves them anew.

@@ -1,7 +1,7 @@
 /* The lock of these programs, and how they end.
  *
- * The lock is the example of the RISC-V unprivileged manual, chapter "A" (atomic instructions): a load
- * and a branch until it looks free, then a swap of 1, and a swap of 0 that gives it back. */
+ * The lock is the example of the RISC-V unprivileged manual, 'A Standard Extension for Atomic Instructions': a
+ * load and a branch until it looks free, then a swap of 1, and a swap of 0 that gives it back. */
 
 /* Takes the lock that the register points to; t0 is 1, and t1 is used. */
 .macro acquire lock

@@ -9,6 +9,7 @@ pub(crate) struct Form {
     pub(crate) options: &'static [&'static str],
 }
 
+/// What `run` takes.
 pub(crate) const RUN: Form = Form {
     positionals: &["image"],
     options: &[
@@ -16,11 +17,13 @@ pub(crate) const RUN: Form = Form {
     ],
 };
 
+/// What `replay` takes.
 pub(crate) const REPLAY: Form = Form {
     positionals: &["image", "trace"],
     options: &[],
 };
 
+/// What `gen` takes.
 pub(crate) const GEN: Form = Form {
     positionals: &["kind", "number", "file"],
     options: &[],

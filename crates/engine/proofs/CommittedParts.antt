@@ -1,7 +1,7 @@
 -- the parts after a hart's section has committed
 use Rattle.std.proofs.Common.{◌≡◌, ◌≢◌, ◌∙◌, ℕ, ◌+◌, ◌-◌, ◌*◌, ◌/◌, ◌<◌, ◌≤◌, Bool, true}
 use Rattle.std.proofs.Common.{false, if◌then◌else◌, List, drop, length, Option, Some, None, refl, ap, sym, subst, arith}
-use Rattle.std.specs.Prelude.{IfSome, option_map, slice_set}
+use Rattle.std.specs.Prelude.{IfSome, IsSome, option_map, slice_set}
 use Rattle.std.specs.Option.{option_map_or}
 use Rattle.std.proofs.lemmas.Bool.{eq-eqb}
 use Rattle.std.proofs.lemmas.Grind.{same_number_lists}
@@ -455,6 +455,10 @@ few : (from : ModelState) (h : ℕ) (section : Section) (reached : IsReached fro
 few from h section reached live =
     (sections_are_short reached.program reached.config reached.events h section reached.in_range
     (subst (λ s. section_of s h ≡ Some section) reached.state_is live)).no_more
+
+pub is_live_there : (parts : Parts) (h : ℕ) (from : ModelState) (section : Section) → FollowsRule parts h from section Commits →
+    IsSome (own_at parts.harts h).section.live
+is_live_there parts h from section follows = subst IsSome (sym (keeps_live parts h from section follows.inside).live) refl
 
 pub can_count : (parts : Parts) (h : ℕ) (from : ModelState) (section : Section) → FollowsRule parts h from section Commits →
     IfSome (own_at parts.harts h).section.live (λ s. s.count + 1 < 4294967296)

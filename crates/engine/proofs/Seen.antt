@@ -47,6 +47,16 @@ sees_shown parts state h is below =
     sees state h (section_of state h) kept hart.part.section hart.section
     (subst (sections.Stands kept.marks kept.hold) hart.part.section hart.stands) hart.view
 
+-- nothing is held where no section is live
+nothing_held : (live : Option Section) (kept : SectionState) → sections.Stands kept.marks kept.hold live → live ≡ None → kept.hold.entries ≡ []
+nothing_held None kept stands none = stands.empty
+nothing_held (Some section) kept stands none = absurd cc
+
+pub holds_nothing : (parts : Parts) (state : ModelState) (h : ℕ) → IsIn parts state → h < length parts.harts →
+    (own_at parts.harts h).section.live ≡ None → (own_at parts.harts h).section.hold.entries ≡ []
+holds_nothing parts state h is below none =
+    let kept = (own_at parts.harts h).section in nothing_held kept.live kept (is.harts h below).stands none
+
 -- a hart before its first event
 first_hart : (program : Program) (config : Config) (h : ℕ) → h < program.harts → IsOfHart (begin program config) h (first_own program config h)
 unfolding begin start

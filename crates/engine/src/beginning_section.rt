@@ -62,6 +62,6 @@ impl Engine {
         let sets = self.bus.sets_mut(hart);
         sets.set_bit(line, Need::Read);
         sets.touch(line);
-        self.harts[usize::from(hart.number)].begin(swap.word, swap.old, swap.new, rd);
+        self.harts[usize::from(hart.number)].begin(swap, rd);
     }
 }

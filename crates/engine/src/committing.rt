@@ -1,6 +1,6 @@
 //! Commits of a live section.
 
-ghost use Rattle.std.specs.Prelude.{◌≡◌, ◌<◌, ◌+◌, IfSome, length};
+ghost use Rattle.std.specs.Prelude.{◌≡◌, ◌<◌, ◌+◌, IfSome, IsSome, length};
 ghost use Rattle.el_base.specs.declared.outcomes.Outcome.TheVariants.{Committed};
 ghost use Rattle.el_model.specs.InSection.{Commits, section_turn};
 ghost use Rattle.el_model.specs.State.{ModelState, Section};
@@ -36,17 +36,18 @@ impl Engine {
         Outcome::Committed { count }
     }
 
-    /// How many instructions a hart's live section has with its release; 0 where none is live.
+    /// How many instructions a hart's live section has with its release.
     fn count_with_release(&self, hart: HartId) -> u32
         requires hart_exists { hart.number < length (parts self.now).harts }
+        requires live { IsSome (own_at (parts self.now).harts hart.number).section.live }
         requires counted { IfSome (own_at (parts self.now).harts hart.number).section.live
             (λ section. section.count + 1 < 4294967296) }
         ensures { IfSome (own_at (parts self.now).harts hart.number).section.live
             (λ section. result ≡ section.count + 1) }
     {
-        match self.harts[usize::from(hart.number)].section().live() {
-            Some(live) => live.count + 1,
-            None => 0,
-        }
+        let Some(live) = self.harts[usize::from(hart.number)].section().live() else {
+            unreachable!()
+        };
+        live.count + 1
     }
 }

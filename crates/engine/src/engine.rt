@@ -1,6 +1,6 @@
 //! The parts, and what may be seen of them.
 
-ghost use Rattle.std.specs.Prelude.{◌≡◌, ◌<◌, ◌≤◌, ◌↔◌, IfOk, IfSome, IsNone, false, length};
+ghost use Rattle.std.specs.Prelude.{◌≡◌, ◌<◌, ◌≤◌, ◌↔◌, [], IfOk, IfSome, IsNone, None, false, length};
 ghost use Rattle.el_base.specs.Config.{IsInRange};
 ghost use Rattle.el_model.specs.Next.{all_stopped, is_over, shown_of};
 ghost use Rattle.el_model.specs.State.{ModelState, ordered_of, raised_of, section_of};
@@ -8,6 +8,7 @@ ghost use Rattle.engine.specs.Acting.{next_action};
 ghost use Rattle.engine.specs.Parts.{IsIn, KeepsSectionOf, committed_at, own_at, parts, present_at, room_in};
 ghost use Rattle.engine.specs.Reached.{Begins, Stands};
 ghost use Rattle.engine.specs.Views.{committed_views};
+ghost use Rattle.reg_mark.specs.Marks.{committed_of};
 ghost use Rattle.rv_alu.specs.Footprint.{IsInPlace};
 ghost use Rattle.rv_alu.specs.Span.{holds};
 ghost use Rattle.rv_flat.specs.FlatState.{output_limit, view_of};
@@ -96,6 +97,7 @@ impl Engine {
     }
 
     /// A hart's section, with its views and its buffered stores.
+    #[tactic(auto, using(crate::proofs::Seen::sees_shown, crate::proofs::Seen::holds_nothing))]
     pub fn section_state(&self, hart: HartId) -> &Section
         requires { hart.number < length (parts self.now).harts }
         ensures exact { result.now ≡ (own_at (parts self.now).harts hart.number).section }
@@ -103,6 +105,12 @@ impl Engine {
             result.now.live ≡ section_of state hart.number }
         ensures keeps { (state : ModelState) → IsIn (parts self.now) state →
             KeepsSectionOf state hart.number (section_of state hart.number) result.now }
+        ensures nothing { (state : ModelState) → IsIn (parts self.now) state →
+            result.now.live ≡ None → result.now.hold.entries ≡ [] }
+        ensures view { (state : ModelState) → IsIn (parts self.now) state →
+            committed_of result.now.marks ≡ view_of state.committed hart.number }
+        ensures shown { (state : ModelState) → IsIn (parts self.now) state →
+            result.now.marks.present ≡ shown_of state hart.number }
     {
         self.harts[usize::from(hart.number)].section()
     }

@@ -1,7 +1,7 @@
 //! What a hart keeps beside the bus: its section, its predictor, its fallback flag and its count of tries.
 //!
-//! It stands on `section_ctl` and `pair_table`, on the actions of `step_rules`, and on the words of `el_model`.
-//! Contracts see a [`HartState`] as an `Own` (`specs/Own.antt`), and each call as one equation on it
+//! It stands on `section_ctl` and `pair_table`, on the actions and swaps of `step_rules`, and on the words of
+//! `el_model`. Contracts see a [`HartState`] as an `Own` (`specs/Own.antt`), and each call as one equation on it
 //! (`specs/Deeds.antt`). That an `Own` which is the definition's before such a deed is the definition's after it
 //! stands as a lemma of each deed in `proofs/Harts.antt`. Only [`HartState::make`] takes memory.
 //!

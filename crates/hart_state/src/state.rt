@@ -165,17 +165,17 @@ impl HartState {
         self.meet(pc, watched.is_some(), candidate(config.mode, swap));
     }
 
-    /// A section begins at an acquire, which is elided: a swap of the lock word at `word` that finds `old`
-    /// there, puts it into `rd`, and would store `new`. A watch is dropped without a verdict.
-    pub fn begin(&mut self, word: u32, old: u32, new: u32, rd: Reg)
+    /// A section begins at an acquire, which is elided: a swap that puts what it finds into `rd`. A watch is
+    /// dropped without a verdict.
+    pub fn begin(&mut self, swap: Swap, rd: Reg)
         requires none { self.old.section.live ≡ None }
         requires running { self.old.section.marks.present.status ≡ Running }
-        requires aligned { word % 4 ≡ 0 }
-        ensures own { self.new ≡ began_own word old new rd.number self.old }
+        requires aligned { swap.word % 4 ≡ 0 }
+        ensures own { self.new ≡ began_own swap.word swap.old swap.new rd.number self.old }
         ensures shows { BeginsRun self.old.section self.new.section
-            (record { count = 1; word = word; old = old; new = new }) rd }
+            (record { count = 1; word = swap.word; old = swap.old; new = swap.new }) rd }
     {
-        self.section.begin(word, old, new, rd);
+        self.section.begin(swap.word, swap.old, swap.new, rd);
         self.predictor.unwatch();
     }
 

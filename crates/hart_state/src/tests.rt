@@ -21,6 +21,13 @@ const WORD: u32 = 0x20000;
 
 const OTHER: u32 = 0x20040;
 
+/// A swap of the lock word, which finds 7 there and would store 8.
+const ACQUIRE: Swap = Swap {
+    word: WORD,
+    old: 7,
+    new: 8,
+};
+
 /// An instruction that touches no memory.
 const NOTHING: Action = Action::Go { target: 0x10004 };
 
@@ -77,7 +84,7 @@ fn lose(hart: &mut HartState, mode: Mode) -> Result<(), Fail>
     ensures idle { hart.new.section.live ≡ None }
     ensures running { hart.new.section.marks.present.status ≡ Running }
 {
-    hart.begin(WORD, 7, 8, found()?);
+    hart.begin(ACQUIRE, found()?);
     hart.lose(mode);
     Ok(())
 }
@@ -123,7 +130,7 @@ fn roll_back(hart: &mut HartState, found: Reg, cause: Cause)
     ensures idle { hart.new.section.live ≡ None }
     ensures unwatched { hart.new.predictor.watch ≡ None }
 {
-    hart.begin(WORD, 7, 8, found);
+    hart.begin(ACQUIRE, found);
     hart.roll_back(cause);
 }
 
@@ -139,7 +146,7 @@ fn a_rollback_takes_the_next_lock_and_blames_the_section_alone(
         (Cause::Mixed, false),
     ] {
         let mut hart = hart_at(rt.alloc(), HERE)?;
-        hart.begin(WORD, 7, 8, found()?);
+        hart.begin(ACQUIRE, found()?);
         assert_eq!(rt; hart.shown().regs.get(found()?), 7);
         assert_eq!(rt; *hart.committed(), view(HERE));
         hart.roll_back(cause);

@@ -18,6 +18,7 @@ mod ready;
 pub use fault::MakeFault;
 pub use laws::{continued_story_reaches_the_state_after, stories_go_on_event_by_event};
 pub use machine::Machine;
+pub use snoop::Asked;
 
 #[cfg(test)]
 mod tests;

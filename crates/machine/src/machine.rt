@@ -41,6 +41,7 @@ ghost use Rattle.machine.specs.Promises.{
   change,
 };
 ghost use Rattle.machine.specs.Story.{IsOneRun, committed, continued, history_of, left_of, memory_of, state_of};
+ghost use Rattle.reg_mark.specs.Marks.{committed_of};
 ghost use Rattle.rv_alu.specs.Span.{holds};
 ghost use Rattle.rv_flat.specs.FlatState.{output_limit, view_of};
 ghost use Rattle.rv_flat.specs.Memory.{AreBytes, byte_in};
@@ -221,9 +222,9 @@ impl Machine {
         self.engine.section_state(hart).live()
     }
 
-    /// A hart's section with its views and its buffered stores. Where one is live, its view is what its private run
-    /// has come to, its buffered stores over committed memory, with the acquire's new value in the lock word, are what
-    /// the section shows of memory, and each line that it stored to has the write bit.
+    /// A hart's section with its views and its buffered stores, which are none where no section is live. Where one is,
+    /// its view is what its private run has come to, its buffered stores over committed memory, with the acquire's new
+    /// value in the lock word, are what the section shows of memory, and each line that it stored to has the write bit.
     pub fn section_state(&self, hart: HartId) -> &Section
         requires { hart.number < self.now.config.harts }
         ensures live { result.now.live ≡ section_of (state_of self.now) hart.number }
@@ -233,6 +234,9 @@ impl Machine {
             ShowsStoresOverMemory (state_of self.now) hart.number section result.now.hold.entries }
         ensures marked { (section : model.Section) → result.now.live ≡ Some section →
             HoldsMarked (cache_of (state_of self.now) hart.number) result.now.hold.entries }
+        ensures nothing { result.now.live ≡ None → result.now.hold.entries ≡ [] }
+        ensures view { committed_of result.now.marks ≡ view_of (committed self.now) hart.number }
+        ensures shown { result.now.marks.present ≡ shown_of (state_of self.now) hart.number }
     {
         self.engine.section_state(hart)
     }
@@ -246,9 +250,11 @@ impl Machine {
         self.engine.request(hart)
     }
 
-    /// The bus, with main memory and the copies of its lines: they tell one thing of each line, which is committed
-    /// memory's, and each cache has the lines and the letters that the definition's has.
+    /// The bus, with main memory and the copies of its lines: it has a cache of each hart, main memory and the copies
+    /// tell one thing of each line, which is committed memory's, and each cache has the lines and the letters that the
+    /// definition's has.
     pub fn bus(&self) -> &Bus
+        ensures harts { length (kept result.now).agents ≡ self.now.config.harts }
         ensures ready { IsReady (kept result.now) }
         ensures shows { Shows (kept result.now) (state_of self.now) }
         ensures memory { (kept result.now).copies.lines ≡ main_lines self.now }

@@ -2,7 +2,7 @@
 //! call costs, as `bench/parts.sh` does.
 //!
 //! `parts PART COUNT` prints the part, the count and a number that the calls came to. Without words it
-//! makes each part's call 2,000 times.
+//! makes each part's call 2,000 times. Words that it refuses end it with status 2.
 #![tactic(auto)]
 
 mod caches;
@@ -12,26 +12,39 @@ mod steps;
 
 use crate::part::Part;
 use std::alloc::{AllocError, Global};
+use std::process::ExitCode;
 use std::{env, io};
 
 /// How many calls each part makes where nothing is asked.
 const FEW: u32 = 2_000;
 
-fn main(rt: HostRuntime) -> io::Result<()> {
+/// The status where the words are refused.
+const REFUSED: u8 = 2;
+
+fn main(rt: HostRuntime) -> io::Result<ExitCode> {
     let words: Vec<String> = env::args(&rt)?.skip(1).collect(rt.alloc())?;
     match words.as_slice() {
         [] => {
             for part in Part::ALL {
                 tell(&rt, part, FEW)?;
             }
-            Ok(())
+            Ok(ExitCode::SUCCESS)
         }
         [name, count] => match (Part::with_name(name.as_str()), count.parse::<u32>()) {
-            (Some(part), Ok(count)) => tell(&rt, part, count),
-            _ => println!(rt; "no such part, or no count"),
+            (Some(part), Ok(count)) => {
+                tell(&rt, part, count)?;
+                Ok(ExitCode::SUCCESS)
+            }
+            _ => refused(&rt, "no such part, or no count"),
         },
-        _ => println!(rt; "usage: parts PART COUNT"),
+        _ => refused(&rt, "usage: parts PART COUNT"),
     }
+}
+
+/// Says on standard error why words are refused.
+fn refused(rt: &HostRuntime, why: &str) -> io::Result<ExitCode> {
+    eprintln!(rt; "{why}")?;
+    Ok(ExitCode::from(REFUSED))
 }
 
 /// Makes a part's calls, and prints what they came to.

@@ -1,13 +1,14 @@
 //! Steps of one hart: the same instruction 1,023 times and a jump back, over and over.
 
+ghost use Rattle.std.specs.Prelude.{◌≡◌, IfOk};
+
 use crate::one_line::OneLine;
 use crate::part::Insn;
 use core_step::run_insn;
 use el_base::{HartId, line_of};
 use elf_image::{Built, Image, load, write_image};
-use rv_alu::abi::SP;
-use rv_alu::{HartStatus, HartView, Regs, Span};
-use rv_flat::Flat;
+use rv_alu::{HartStatus, HartView, Span};
+use rv_flat::{Flat, first_view};
 use rv_word::Reg;
 use std::alloc::{AllocError, Global};
 
@@ -33,7 +34,10 @@ fn word_of(insn: Insn) -> u32 {
 }
 
 /// The program for one hart.
-fn program(alloc: Global, insn: Insn) -> Result<Image, AllocError> {
+#[tactic(auto, unfolding(elf_image::specs::Loaded::program_of))]
+fn program(alloc: Global, insn: Insn) -> Result<Image, AllocError>
+    ensures { IfOk result (λ image. image.harts ≡ 1) }
+{
     let mut words = vec![in alloc; word_of(insn); TIMES + 1]?;
     words[TIMES] = JUMP_BACK;
     let built = Built {
@@ -44,7 +48,10 @@ fn program(alloc: Global, insn: Insn) -> Result<Image, AllocError> {
         entry: 0x10000,
     };
     match write_image(alloc, &built) {
-        Ok(file) => load(alloc, &file, 1).map_err(|_| AllocError),
+        Ok(file) => match load(alloc, &file, 1) {
+            Ok(image) => Ok(image),
+            Err(_) => Err(AllocError),
+        },
         Err(_) => Err(AllocError),
     }
 }
@@ -82,7 +89,7 @@ pub fn port(alloc: Global, insn: Insn, count: u32) -> Result<u32, AllocError> {
         line: line_of(span.end.wrapping_sub(64)),
         bytes: [0; 64],
     };
-    let mut view = first_view(image.entry(), span.end);
+    let mut view = first_view(&image, 0);
     for _ in 0..count {
         if view.status == HartStatus::Running {
             let word = image.code_word(view.pc);
@@ -90,16 +97,4 @@ pub fn port(alloc: Global, insn: Insn, count: u32) -> Result<u32, AllocError> {
         }
     }
     Ok(sum_of(&view))
-}
-
-/// A hart before its first step.
-fn first_view(entry: u32, end: u32) -> HartView {
-    let mut regs = Regs::zero();
-    regs.set(SP, end);
-    HartView {
-        pc: entry,
-        regs,
-        reserved: None,
-        status: HartStatus::Running,
-    }
 }

@@ -17,8 +17,8 @@ pub(crate) enum Word {
     Address(u32),
 }
 
-#[tactic(auto, using(crate::proofs::Putting::putting))]
 /// Puts a line of words: the first, and then some and some more.
+#[tactic(auto, using(crate::proofs::Putting::putting))]
 pub(crate) fn put_line<S: Sink>(
     sink: &mut S,
     first: &'static str,
@@ -49,8 +49,8 @@ fn put_words<S: Sink>(sink: &mut S, words: &[Word]) -> Result<(), Failed>
     Ok(())
 }
 
-#[tactic(auto, using(crate::proofs::Putting::putting))]
 /// Puts a word behind a space.
+#[tactic(auto, using(crate::proofs::Putting::putting))]
 fn put_spaced<S: Sink>(sink: &mut S, word: &Word) -> Result<(), Failed>
     ensures { Puts result
         (record { taken = S.taken sink.old; faults = S.faults sink.old })

@@ -46,8 +46,8 @@ pub(crate) fn run_over(
         hold.old hold.new }
     ensures limit { hold.new.limit ≡ hold.old.limit }
 {
-    // the number of held lines tells that none is held twice
-    let _count = hold.len();
+    // the clause of this call says that no line is held twice
+    prove!(hold.len() <= usize::MAX);
     let mut port = SectionPort {
         hold,
         sets,

@@ -104,8 +104,10 @@ impl Section {
     }
 
     /// What the live section has stored; nothing where none is live.
+    #[tactic(auto, using(crate::proofs::Begins::nothing_held))]
     pub fn hold(&self) -> &Hold
-        ensures { result.now ≡ self.now.hold }
+        ensures exact { result.now ≡ self.now.hold }
+        ensures nothing { self.now.live ≡ None → result.now.entries ≡ [] }
     {
         &self.hold
     }

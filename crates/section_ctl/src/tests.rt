@@ -147,6 +147,28 @@ fn load(section: &mut Section, sets: &mut Sets, address: u32) -> Result<u32, Fai
     Ok(section.shown().regs.get(rd))
 }
 
+/// Runs the instruction of a word, if it computes from a register and a number.
+fn compute(section: &mut Section, sets: &mut Sets, code: u32) -> Result<(), Fail>
+    requires limit { section.old.hold.limit ≡ 2 }
+    requires marked { HoldsMarked sets.old.residency section.old.hold.entries }
+{
+    let Some(live) = section.live() else {
+        return Err("no section is live".into());
+    };
+    if live.count > 1000 || sets.write_bits() > 2 {
+        return Err("no more room".into());
+    }
+    let Some(Insn::OpImm { .. }) = decode(code) else {
+        return Err("no such instruction".into());
+    };
+    let span = Span {
+        base: 0x10000,
+        end: 0x10100,
+    };
+    section.spec_insn(sets, code, span);
+    Ok(())
+}
+
 /// Commits by the instruction of a word, if it stores or is atomic.
 fn commit(section: &mut Section, sets: &mut Sets, code: u32) -> Result<(), Fail>
     requires { HoldsMarked sets.old.residency section.old.hold.entries }
@@ -197,6 +219,9 @@ fn bytes_at(sets: &Sets, address: u32) -> Option<[u8; 64]> {
     }
 }
 
+/// `addi x6, x5, 1`.
+const ADD_ONE: u32 = 0x0012_8313;
+
 /// `sw x5, 0(x6)` and `amoswap.w x7, x5, (x6)`.
 const STORE_WORD: u32 = 0x0053_2023;
 
@@ -239,6 +264,24 @@ fn a_load_sees_what_was_stored_over_the_bytes_under_it(rt: HostRuntime) -> Resul
     assert_eq!(rt; load(&mut section, &mut sets, 0x10088)?, 0x0b0a_0908);
     match section.live() {
         Some(live) => assert_eq!(rt; live.count, 6),
+        None => return Err("no section is live".into()),
+    }
+    Ok(())
+}
+
+#[test]
+fn an_instruction_of_a_word_runs_on_the_live_view(rt: HostRuntime) -> Result<(), Fail> {
+    let Some(sum) = Reg::new(6) else {
+        return Err("no register".into());
+    };
+    let mut section = begun(rt.alloc(), hart(None))?;
+    let mut sets = cache(rt.alloc(), &[(LOCK, Need::Read)])?;
+    compute(&mut section, &mut sets, ADD_ONE)?;
+    assert_eq!(rt; section.shown().regs.get(sum), FREE + 1);
+    assert_eq!(rt; section.shown().pc, 0x10008);
+    assert_eq!(rt; section.committed().pc, 0x10000);
+    match section.live() {
+        Some(live) => assert_eq!(rt; live.count, 2),
         None => return Err("no section is live".into()),
     }
     Ok(())

@@ -31,13 +31,21 @@ use std::marker::Model;
 /// A hart's agent at the bus.
 #[derive(Drop)]
 pub struct Agent {
+    /// The request that the hart has raised, until it is in the order.
     raised: Option<Request>,
+    /// The line that it was served, until its next step.
     held: Option<LineAddr>,
+    /// The messages that have come to it.
     mail: Mail,
+    /// The origins of probes that have reached it.
     told: Told,
+    /// The harts that are before it, from which it took a marker.
     upstream: Told,
+    /// The clock of its next attempt.
     clock: u64,
+    /// The greatest clock of another hart's stamp that it has met.
     seen: u64,
+    /// The stamp of its open attempt.
     attempt: Option<Stamp>,
 }
 

@@ -1,4 +1,5 @@
-//! One of the agents of all harts is changed, or each of them. A hart that is not there changes none.
+//! One of the agents of all harts is changed, or each of them. `post` and `unraise` change none where the hart is
+//! not there; the other calls need it.
 
 ghost use Rattle.std.specs.Prelude.{◌≡◌, ◌<◌, ℕ, IfOk, None, Some, length, replicate};
 ghost use Rattle.std.specs.Option.{option_map};

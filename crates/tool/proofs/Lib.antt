@@ -1,4 +1,5 @@
 pub mod Answering
+pub mod Failing
 pub mod Files
 pub mod Putting
 pub mod Repeating

@@ -31,6 +31,13 @@ abbrev pub calls_under : Option ConfigFault → List NamedCall → List NamedCal
 calls_under (Some found) calls = []
 calls_under None calls = calls
 
+-- the files that a job reads
+abbrev pub reads_of : Option Job → List NamedCall
+reads_of None = []
+reads_of (Some (Run job)) = calls_under (config_fault (config_of job)) ((Read, job.image) ∷ [])
+reads_of (Some (Replay image trace)) = (Read, image) ∷ (Read, trace) ∷ []
+reads_of (Some (Gen kind number file)) = []
+
 -- the calls that a run makes of the shelf
 abbrev pub run_calls : RunJob → List NamedCall
 run_calls job = calls_under (config_fault (config_of job)) ((Read, job.image) ∷ writes_to job.trace)

@@ -1,7 +1,7 @@
 -- What was put and written when the program ended with a status.
 use Rattle.std.specs.Prelude.{◌≡◌, ℕ, ◌⊎◌, List, take, Option, None, Some}
 use Rattle.el_io.specs.Shelf.{Contents, Holds, KeepsOthers}
-use Rattle.el_io.specs.Sink.{TookAll}
+use Rattle.el_io.specs.Sink.{TookAll, TookPart}
 use Rattle.tool.specs.declared.status.Status.{Status}
 use Rattle.tool.specs.declared.status.Status.TheVariants.{DeviceFault, NoMemory}
 use Rattle.tool.specs.declared.stop.Fault.{Fault}
@@ -31,7 +31,7 @@ TriedToWrite before now (Some file) = KeepsOthers before now file.name
 
 -- a fault cut off what was put to a sink
 abbrev pub Untold : Option (List ℕ) → Option (List ℕ) → List ℕ → Fault → Type 0
-Untold before now bytes faults.Device = TookSome before now bytes
+Untold before now bytes faults.Device = TookPart before now bytes
 Untold before now bytes faults.NoMemory = now ≡ before
 
 -- a fault left a file unwritten

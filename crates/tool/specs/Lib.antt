@@ -8,4 +8,5 @@ pub mod Stopping
 pub mod Comes
 pub mod Telling
 pub mod Causes
+pub mod Faults
 pub mod Laws

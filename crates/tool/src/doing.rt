@@ -12,7 +12,7 @@ ghost use Rattle.elf_image.specs.Limits.{file_limit};
 ghost use Rattle.elf_image.specs.Loaded.{program_of};
 ghost use Rattle.trace_file.specs.Faults.{config_at};
 ghost use Rattle.tool.specs.Answer.{answer_of, ended};
-ghost use Rattle.tool.specs.Causes.{ListsOne, StopLists, calls_of, calls_under, is_run, puts_of, writes_of};
+ghost use Rattle.tool.specs.Causes.{ListsOne, StopLists, calls_of, calls_under, is_run, puts_of, reads_of, writes_of};
 ghost use Rattle.tool.specs.Jobs.{FollowAnswer, IsAnswer, IsReplayAnswer, IsRunAnswer, first_story};
 ghost use Rattle.tool.specs.Refusals.{image_refusal, trace_refusal};
 ghost use Rattle.tool.specs.Stopping.{IsTraceOf, StopsBy, StopsRead, StopsWith, follow_refusal};
@@ -42,7 +42,7 @@ pub(crate) fn obey<'a, S: Shelf>(
         MatchResult result (λ made. Answers (answer_of made)) (StopsWith Answers) }
     ensures calls { MatchResult result
         (λ _. S.failures shelf.new ≡ S.failures shelf.old)
-        (StopLists (calls_of (job_of (texts words.entry.now))) (S.failures shelf.old) (S.failures shelf.new)) }
+        (StopLists (reads_of (job_of (texts words.entry.now))) (S.failures shelf.old) (S.failures shelf.new)) }
     ensures writes { IfOk result (λ made. (before now : List NamedCall) →
         ListsOne (writes_of made) before now →
         ListsOne (calls_of (job_of (texts words.entry.now))) before now) }

@@ -1,3 +1,5 @@
+//! What `doing` hands on to `telling`.
+
 use machine::Machine;
 
 /// What a command has made, of which nothing was put or written yet.

@@ -33,6 +33,7 @@ impl Refusal {
             Refusal::Usage => String::from_str(alloc, USAGE),
             Refusal::Config(fault) => config_line(alloc, fault),
             Refusal::TooBig { limit } => format!(in alloc; "file too big: limit {limit}\n"),
+            // Each number that `load` answers with has a name, and so has each of `read_trace`.
             Refusal::Image(fault) => {
                 let name = elf_image::fault_name(fault.number).unwrap_or("");
                 fault_line(alloc, "image", fault, name)

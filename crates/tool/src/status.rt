@@ -1,3 +1,4 @@
+//! How the program ends, by the number that its caller sees.
 ghost use Rattle.std.specs.Prelude.{◌≡◌};
 ghost use Rattle.tool.specs.Statuses.{number_of};
 

@@ -147,6 +147,7 @@ impl From<ShelfFault> for Fault {
 
     fn from(fault: ShelfFault) -> Fault {
         match fault {
+            // `TooBig` never comes here: a read over its limit is refused, and no write answers it.
             ShelfFault::Failed | ShelfFault::TooBig => Fault::Device,
             ShelfFault::NoMemory => Fault::NoMemory,
         }

@@ -1,10 +1,11 @@
 //! What a command puts and writes at its end.
-ghost use Rattle.std.specs.Prelude.{◌≡◌, ℕ, true, false, List, Option, Some, IfOk, MatchResult, string_bytes};
+ghost use Rattle.std.specs.Prelude.{◌≡◌, ℕ, true, false, List, [], Option, Some, IfOk, MatchResult, string_bytes};
 ghost use Rattle.std.specs.Option.{option_map};
 ghost use Rattle.el_io.specs.Sink.{TookAll};
 ghost use Rattle.tool.specs.Answer.{answer_of, ended, generated, written_by};
 ghost use Rattle.tool.specs.Causes.{Caused, FaultCounts, FaultLists, is_run, writes_of, writes_to};
 ghost use Rattle.tool.specs.Comes.{Comes, Untold, Unwritten, Wrote};
+ghost use Rattle.tool.specs.Faults.{Faulted};
 ghost use Rattle.tool.specs.Messages.{line_of, written_line as line_of_written};
 ghost use Rattle.tool.specs.Statuses.{status_of};
 ghost use Rattle.tool.specs.Telling.{Only};
@@ -34,6 +35,11 @@ pub(crate) fn tell<S: Shelf, O: Sink, E: Sink>(
     ensures cause { Caused (writes_of made.entry) (is_run made.entry) (status_of result)
         (record { shelf = S.failures shelf.old; out = O.faults out.old; err = E.faults err.old })
         (record { shelf = S.failures shelf.new; out = O.faults out.new; err = E.faults err.new }) }
+    ensures fault { Faulted [] (Only (answer_of made.entry)) (status_of result)
+        (record { shelf = S.failures shelf.old; out = O.faults out.old; err = E.faults err.old })
+        (record { shelf = S.failures shelf.new; out = O.faults out.new; err = E.faults err.new })
+        (record { out = O.taken out.old; err = E.taken err.old; files = S.told shelf.old })
+        (record { out = O.taken out.new; err = E.taken err.new; files = S.told shelf.new }) }
 {
     match made {
         Made::Run { machine, trace } => tell_run(alloc, &machine, trace, shelf, out, err),
@@ -43,7 +49,7 @@ pub(crate) fn tell<S: Shelf, O: Sink, E: Sink>(
 
 /// Puts the output of a run that has ended, writes its trace where a name was given, and puts its
 /// report, in this order.
-#[tactic(auto, using(crate::proofs::Putting::unwritten_comes))]
+#[tactic(auto, using(crate::proofs::Putting::unwritten_comes, crate::proofs::Putting::unwritten_faults))]
 fn tell_run<S: Shelf, O: Sink, E: Sink>(
     alloc: Global,
     machine: &Machine,
@@ -58,6 +64,11 @@ fn tell_run<S: Shelf, O: Sink, E: Sink>(
     ensures cause { Caused (writes_to (option_map (λ name. name.now) trace.entry)) true (status_of result)
         (record { shelf = S.failures shelf.old; out = O.faults out.old; err = E.faults err.old })
         (record { shelf = S.failures shelf.new; out = O.faults out.new; err = E.faults err.new }) }
+    ensures fault { Faulted [] (Only (ended (option_map (λ name. name.now) trace.entry) machine.now)) (status_of result)
+        (record { shelf = S.failures shelf.old; out = O.faults out.old; err = E.faults err.old })
+        (record { shelf = S.failures shelf.new; out = O.faults out.new; err = E.faults err.new })
+        (record { out = O.taken out.old; err = E.taken err.old; files = S.told shelf.old })
+        (record { out = O.taken out.new; err = E.taken err.new; files = S.told shelf.new }) }
 {
     put_all(out, machine.output())?;
     write_where_named(alloc, machine, trace, shelf)?;
@@ -79,6 +90,11 @@ fn tell_image<S: Shelf, E: Sink>(
     ensures cause { (out : ℕ) → Caused (writes_to (Some file.now)) false (status_of result)
         (record { shelf = S.failures shelf.old; out = out; err = E.faults err.old })
         (record { shelf = S.failures shelf.new; out = out; err = E.faults err.new }) }
+    ensures fault { (faults : ℕ) (out : Option (List ℕ)) → Faulted [] (Only (generated file.now bytes.items)) (status_of result)
+        (record { shelf = S.failures shelf.old; out = faults; err = E.faults err.old })
+        (record { shelf = S.failures shelf.new; out = faults; err = E.faults err.new })
+        (record { out = out; err = E.taken err.old; files = S.told shelf.old })
+        (record { out = out; err = E.taken err.new; files = S.told shelf.new }) }
 {
     let told = written_line(alloc, bytes.len())?;
     shelf.write(alloc, file, &bytes)?;

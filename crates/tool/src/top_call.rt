@@ -1,7 +1,8 @@
 //! The top call.
 ghost use Rattle.command_line.specs.Words.{job_of, texts};
-ghost use Rattle.tool.specs.Causes.{Caused, calls_of, puts_of};
+ghost use Rattle.tool.specs.Causes.{Caused, calls_of, puts_of, reads_of};
 ghost use Rattle.tool.specs.Comes.{Comes};
+ghost use Rattle.tool.specs.Faults.{Faulted};
 ghost use Rattle.tool.specs.Jobs.{IsAnswer};
 ghost use Rattle.tool.specs.Statuses.{status_of};
 
@@ -18,8 +19,12 @@ use std::alloc::Global;
 /// With a status other than the two faults, exactly one answer was put and written: the one to the
 /// words over the contents that the shelf tells. A fault of a device comes exactly where, in this
 /// call, one call of a device failed: one of the shelf that the words ask for, one of err, or, where
-/// the words ask for a run or a replay, one of out. Nothing says when want of memory comes. After
-/// either, what was put and written is nothing or the beginning of an answer.
+/// the words ask for a run or a replay, one of out. What was put and written then ends at that call:
+/// behind a failed read there is nothing, and an answer is cut off in out, at the write of its file or
+/// in err. Nothing says when want of memory comes. After it there is nothing, or the beginning of an
+/// answer's output.
+///
+/// The runtime is for calls that start threads or wait, of which there is none so far.
 pub fn tool<R, S: Shelf, O: Sink, E: Sink>(
     _runtime: &R,
     alloc: Global,
@@ -34,6 +39,11 @@ pub fn tool<R, S: Shelf, O: Sink, E: Sink>(
     ensures cause { Caused (calls_of (job_of (texts words.now))) (puts_of (job_of (texts words.now))) result
         (record { shelf = S.failures shelf.old; out = O.faults out.old; err = E.faults err.old })
         (record { shelf = S.failures shelf.new; out = O.faults out.new; err = E.faults err.new }) }
+    ensures fault { Faulted (reads_of (job_of (texts words.now))) (IsAnswer (texts words.now) (S.told shelf.old)) result
+        (record { shelf = S.failures shelf.old; out = O.faults out.old; err = E.faults err.old })
+        (record { shelf = S.failures shelf.new; out = O.faults out.new; err = E.faults err.new })
+        (record { out = O.taken out.old; err = E.taken err.old; files = S.told shelf.old })
+        (record { out = O.taken out.new; err = E.taken err.new; files = S.told shelf.new }) }
 {
     match answer(alloc, words, shelf, out, err) {
         Ok(status) => status,
@@ -42,6 +52,7 @@ pub fn tool<R, S: Shelf, O: Sink, E: Sink>(
 }
 
 /// Answers the words: with what they ask for, or with the line of their refusal.
+#[tactic(auto, using(crate::proofs::Failing::reads_are_calls))]
 fn answer<S: Shelf, O: Sink, E: Sink>(
     alloc: Global,
     words: &[String],
@@ -55,6 +66,11 @@ fn answer<S: Shelf, O: Sink, E: Sink>(
     ensures cause { Caused (calls_of (job_of (texts words.now))) (puts_of (job_of (texts words.now))) (status_of result)
         (record { shelf = S.failures shelf.old; out = O.faults out.old; err = E.faults err.old })
         (record { shelf = S.failures shelf.new; out = O.faults out.new; err = E.faults err.new }) }
+    ensures fault { Faulted (reads_of (job_of (texts words.now))) (IsAnswer (texts words.now) (S.told shelf.old)) (status_of result)
+        (record { shelf = S.failures shelf.old; out = O.faults out.old; err = E.faults err.old })
+        (record { shelf = S.failures shelf.new; out = O.faults out.new; err = E.faults err.new })
+        (record { out = O.taken out.old; err = E.taken err.old; files = S.told shelf.old })
+        (record { out = O.taken out.new; err = E.taken err.new; files = S.told shelf.new }) }
 {
     match obey(alloc, words, shelf) {
         Ok(made) => tell(alloc, made, shelf, out, err),

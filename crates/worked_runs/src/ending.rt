@@ -2,23 +2,22 @@
 
 use crate::caches::cache_agrees;
 use crate::difference::Difference;
-use crate::field::{byte, element, list, member, word};
+use crate::field::{byte, element, is_null, list, member, word};
+use crate::requests::request_agrees;
 use el_base::HartId;
 use machine::Machine;
 use rv_alu::HartView;
 use rv_word::Reg;
+use section_ctl::Live;
 use serde_json::Value;
 
 /// The stack pointer: it tells where memory ends, which a loader puts elsewhere. No program of a run uses it.
 const STACK_POINTER: usize = 2;
 
-/// Whether a machine has come to the state that a run tells, where it tells one.
-pub fn end_agrees(machine: &Machine, run: &Value) -> Result<(), Difference> {
-    let Some(end) = run.get("end") else {
-        return Ok(());
-    };
+/// Whether a machine has come to the end that a run tells.
+pub fn end_agrees(machine: &Machine, run: &Value, end: &Value) -> Result<(), Difference> {
     for (number, hart) in list(member(end, "harts")?)?.iter().enumerate() {
-        if !hart_agrees(machine, run, number, hart)? {
+        if !hart_agrees(machine, run, end, number, hart)? {
             return Err(Difference::Hart { number });
         }
     }
@@ -28,15 +27,11 @@ pub fn end_agrees(machine: &Machine, run: &Value) -> Result<(), Difference> {
     }
 }
 
-/// Whether nothing is told.
-fn is_untold(value: &Value) -> bool {
-    value.as_null().is_some()
-}
-
-/// Whether a hart has the committed pc and registers, and the cache, that are told of it; what is null is not told.
+/// Whether a hart has what an end tells of it.
 fn hart_agrees(
     machine: &Machine,
     run: &Value,
+    end: &Value,
     number: usize,
     told: &Value,
 ) -> Result<bool, Difference> {
@@ -49,10 +44,31 @@ fn hart_agrees(
     let pc = member(told, "pc")?;
     let cache = member(told, "cache")?;
     Ok(
-        (is_untold(pc) || view.pc == word(pc)?)
+        (is_null(pc) || view.pc == word(pc)?)
             && registers_agree(&view, list(member(told, "registers")?)?)?
-            && (is_untold(cache) || cache_agrees(machine, hart, run, cache)?),
+            && (is_null(cache) || cache_agrees(machine, hart, run, cache)?)
+            && section_agrees(machine.section(hart), told)?
+            && request_agrees(machine.request(hart), hart, end, told)?,
     )
+}
+
+/// Whether a live section is the one that is told of a hart, where that is told.
+fn section_agrees(live: Option<Live>, told: &Value) -> Result<bool, Difference> {
+    match told.get("section") {
+        Some(told) if is_null(told) => Ok(live == None),
+        Some(told) => Ok(live == Some(section(told)?)),
+        None => Ok(true),
+    }
+}
+
+/// A live section that is told.
+fn section(told: &Value) -> Result<Live, Difference> {
+    Ok(Live {
+        count: word(member(told, "count")?)?,
+        word: word(member(told, "word")?)?,
+        old: word(member(told, "old")?)?,
+        new: word(member(told, "new")?)?,
+    })
 }
 
 /// Whether the registers of a view, but for the stack pointer, are those of a list.
@@ -62,7 +78,7 @@ fn registers_agree(view: &HartView, told: &Vec<Value>) -> Result<bool, Differenc
             .ok()
             .and_then(Reg::new)
             .ok_or(Difference::Form)?;
-        let told = number != STACK_POINTER && !is_untold(value);
+        let told = number != STACK_POINTER && !is_null(value);
         if told && view.regs.get(reg) != word(value)? {
             return Ok(false);
         }

@@ -1,6 +1,7 @@
 //! The members of a run's text.
 
 use crate::difference::Difference;
+use el_base::HartId;
 use serde_json::Value;
 
 /// A member of an object.
@@ -24,6 +25,11 @@ pub fn word(value: &Value) -> Result<u32, Difference> {
     u32::try_from(number).map_err(|_| Difference::Form)
 }
 
+/// A hart, of its number.
+pub fn hart(value: &Value) -> Result<HartId, Difference> {
+    HartId::new(byte(value)?).ok_or(Difference::Form)
+}
+
 /// A number of 8 bits.
 pub fn byte(value: &Value) -> Result<u8, Difference> {
     let number = value.as_u64().ok_or(Difference::Form)?;
@@ -33,6 +39,11 @@ pub fn byte(value: &Value) -> Result<u8, Difference> {
 /// A text.
 pub fn text(value: &Value) -> Result<&str, Difference> {
     value.as_str().ok_or(Difference::Form)
+}
+
+/// Whether a value is null.
+pub fn is_null(value: &Value) -> bool {
+    value.as_null().is_some()
 }
 
 /// Whether something is so.

@@ -25,12 +25,17 @@ pub fn file(alloc: Global, run: &Value) -> Result<Vec<u8>, Difference> {
     let base = word(member(memory, "base")?)?;
     let length = word(member(memory, "length")?)?;
     put_all(&mut file, &program_header(base, 0, length, DATA))?;
-    let size = 4 * u32::try_from(words.len() % 1_000_000).unwrap_or(0);
+    let size = size_of_words(words.len()).ok_or(Difference::Form)?;
     put_all(&mut file, &program_header(start, size, size, CODE))?;
     for code_word in words {
         put(&mut file, word(code_word)?)?;
     }
     Ok(file)
+}
+
+/// How many bytes so many words have, or `None` where 32 bits do not hold it.
+fn size_of_words(count: usize) -> Option<u32> {
+    u32::try_from(count).ok()?.checked_mul(4)
 }
 
 /// An ELF header with two program headers behind it.

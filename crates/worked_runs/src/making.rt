@@ -1,5 +1,6 @@
 //! A machine makes the events of a run.
 
+use crate::agreement::Agreement;
 use crate::difference::Difference;
 use crate::ending::end_agrees;
 use crate::field::{element, list, member};
@@ -11,16 +12,21 @@ use machine::Machine;
 use serde_json::Value;
 use std::alloc::Global;
 
-/// How many events the run of a text has, where the machine agrees with all that it tells.
-pub fn agree(alloc: Global, text: &str) -> Result<usize, Difference> {
+/// Makes the run of a text. The answer says what of it the machine agrees with, or where they differ.
+pub fn agree(alloc: Global, text: &str) -> Result<Agreement, Difference> {
     let run = Value::from_str(alloc, text).map_err(|_| Difference::Form)?;
     let events = list(member(&run, "events")?)?;
     let mut machine = machine_of(alloc, &run, events.len())?;
     for (place, told_event) in events.iter().enumerate() {
         make(alloc, &mut machine, told_event, place)?;
     }
-    end_agrees(&machine, &run)?;
-    Ok(events.len())
+    match run.get("end") {
+        Some(end) => {
+            end_agrees(&machine, &run, end)?;
+            Ok(Agreement::EventsAndEnd(events.len()))
+        }
+        None => Ok(Agreement::Events(events.len())),
+    }
 }
 
 /// A machine of a run's program, with a step for each event.

@@ -1,8 +1,8 @@
 //! The parts of a run: its configuration, and an event with what came of it.
 
 use crate::difference::Difference;
-use crate::field::{byte, element, member, text, word};
-use el_base::{Config, Event, HartId, Kind, Mode};
+use crate::field::{byte, element, hart, member, text, word};
+use el_base::{Config, Event, Kind, Mode};
 use serde_json::Value;
 
 /// The configuration of a run of so many events.
@@ -32,7 +32,7 @@ fn mode(name: &str) -> Result<Mode, Difference> {
 pub fn event(value: &Value) -> Result<Event, Difference> {
     Ok(Event {
         kind: kind(text(element(value, 0)?)?)?,
-        hart: HartId::new(byte(element(value, 1)?)?).ok_or(Difference::Form)?,
+        hart: hart(element(value, 1)?)?,
     })
 }
 

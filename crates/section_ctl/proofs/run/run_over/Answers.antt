@@ -12,7 +12,7 @@ returns-clause-view c =
     let shown = bytes_shown c.args.hold.now.entries c.args.live.word c.args.live.new c.args.sets.now c.requires.free in
     let access = footprint c.args.action in
     let nothing = permitted access c.touched_line.result.number c.args.sets.now.residency c.args.hold.now c.touched_line.ensures
-    c.requires.bit c.len-count.ensures.sound c.requires.marked c.requires.few in
+    c.requires.bit c.len.ensures.sound c.requires.marked c.requires.few in
     c.run_action.ensures.view
     ∙ view_ran c.run_action.result (permits_one c.touched_line.result.number c.args.sets.now.residency c.args.hold.now) access
     (perform c.args.action c.args.view.now (port_byte c.args.hold.now.entries c.args.live.word c.args.live.new c.args.sets.now))
@@ -25,7 +25,7 @@ returns-clause-hold c =
     let shown = bytes_shown hold.entries c.args.live.word c.args.live.new c.args.sets.now c.requires.free in
     let access = footprint c.args.action in
     let nothing = permitted access c.touched_line.result.number c.args.sets.now.residency hold c.touched_line.ensures
-    c.requires.bit c.len-count.ensures.sound c.requires.marked c.requires.few in
+    c.requires.bit c.len.ensures.sound c.requires.marked c.requires.few in
     let ends = c.hold-1.given in
     subst (λ byte. HoldsAfter (store_in (perform c.args.action c.args.view.now byte)) hold ends.0) shown
     (held_ran c.run_action.result (permits_one c.touched_line.result.number c.args.sets.now.residency hold) access

@@ -4,7 +4,7 @@ use Rattle.std.specs.Prelude.{slice_set}
 use Rattle.std.proofs.lemmas.List.{get_or_read}
 use Rattle.el_model.specs.InSection.{Commits, section_turn}
 use Rattle.el_model.specs.State.{ModelState, Section}
-use Rattle.engine.proofs.CommittedParts.{CommitsAt, can_count, commits_at, commits_in, counted, marked_then, ready_then, release_then}
+use Rattle.engine.proofs.CommittedParts.{CommitsAt, can_count, commits_at, commits_in, counted, is_live_there, marked_then, ready_then, release_then}
 use Rattle.engine.proofs.RolledBack.{clock_small, has_cache, seen_small}
 use Rattle.engine.proofs.engine.Engine.commit.Goals as goal
 use Rattle.engine.specs.Acting.{freed}
@@ -15,6 +15,11 @@ use Rattle.hart_state.specs.Own.{new_own}
 use Rattle.rv_flat.specs.FlatState.{no_hart}
 use Rattle.snoop.specs.Returned.{returned}
 use Rattle.snoop.specs.Shows.{kept}
+
+pub count_with_release-count-requires-clause-live : goal.count_with_release-count-requires-clause-live
+count_with_release-count-requires-clause-live c =
+    let follows = c.requires.follows in
+    is_live_there (parts c.args.self.now) c.args.hart.number follows.from follows.section follows.follows
 
 pub count_with_release-count-requires-clause-counted : goal.count_with_release-count-requires-clause-counted
 count_with_release-count-requires-clause-counted c =

@@ -1,9 +1,10 @@
 -- the section that the parts keep
-use Rattle.std.proofs.Common.{◌∙◌, sym}
-use Rattle.machine.proofs.GoesOn.{hart_there, now_in}
+use Rattle.std.proofs.Common.{◌∙◌, ap, sym}
+use Rattle.machine.proofs.GoesOn.{hart_there, now_in, reached_committed}
 use Rattle.machine.proofs.InSections.{keeps_run, kept_of, shows_stores}
 use Rattle.machine.proofs.machine.Machine.section_state.Goals as goal
 use Rattle.machine.specs.Story.{state_of}
+use Rattle.rv_flat.specs.FlatState.{view_of}
 
 pub section_state-requires : goal.section_state-requires
 section_state-requires c = hart_there _ _ _ _ _ c.self.invariant c.self.view_is c.requires
@@ -30,3 +31,14 @@ returns-clause-marked c section live =
     let state = state_of c.args.self.now in
     let is_in = now_in _ _ _ _ c.self.invariant c.self.view_is in
     (kept_of state _ section _ (c.section_state.ensures.keeps state is_in) (sym (c.section_state.ensures.live state is_in) ∙ live)).marked
+
+pub returns-clause-nothing : goal.returns-clause-nothing
+returns-clause-nothing c = c.section_state.ensures.nothing (state_of c.args.self.now) (now_in _ _ _ _ c.self.invariant c.self.view_is)
+
+pub returns-clause-view : goal.returns-clause-view
+returns-clause-view c =
+    c.section_state.ensures.view (state_of c.args.self.now) (now_in _ _ _ _ c.self.invariant c.self.view_is)
+    ∙ ap (λ state. view_of state c.args.hart.number) (reached_committed _ _ _ _ c.self.invariant c.self.view_is)
+
+pub returns-clause-shown : goal.returns-clause-shown
+returns-clause-shown c = c.section_state.ensures.shown (state_of c.args.self.now) (now_in _ _ _ _ c.self.invariant c.self.view_is)

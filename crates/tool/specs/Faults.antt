@@ -1,0 +1,55 @@
+-- A fault of a device: which call failed, and what had been put and written by then.
+use Rattle.std.specs.Prelude.{◌≡◌, ◌⊎◌, List, [], ◌∷◌, ◌++◌, Option, None, Some}
+use Rattle.el_io.specs.Counts.{one_more}
+use Rattle.el_io.specs.Shelf.{NamedCall}
+use Rattle.el_io.specs.Sink.{TookAll, TookPart}
+use Rattle.el_io.specs.declared.shelf.Call.TheVariants.{Write}
+use Rattle.tool.specs.declared.status.Status.{Status}
+use Rattle.tool.specs.declared.status.Status.TheVariants.{DeviceFault}
+use Rattle.tool.specs.Answer.{Answer, WrittenFile}
+use Rattle.tool.specs.Causes.{Failures, ListsOne}
+use Rattle.tool.specs.Comes.{PutFile, PutNothing, Told, Wrote}
+
+-- one of these calls of the shelf failed
+abbrev pub ShelfFailed : List NamedCall → Failures → Failures → Type 0
+ShelfFailed calls had has = ListsOne calls had.shelf has.shelf × (has ≡ record had { shelf = has.shelf })
+
+-- the write of this file failed
+abbrev pub WriteFailed : Option WrittenFile → Failures → Failures → Type 0
+WriteFailed None had has = ⊥
+WriteFailed (Some file) had has = has ≡ record had { shelf = had.shelf ++ (Write, file.name) ∷ [] }
+
+-- a put to out failed
+abbrev pub OutFailed : Failures → Failures → Type 0
+OutFailed had has = has ≡ record had { out = one_more had.out }
+
+-- a put to err failed
+abbrev pub ErrFailed : Failures → Failures → Type 0
+ErrFailed had has = has ≡ record had { err = one_more had.err }
+
+-- out took only a part, and nothing came after that
+pub record CutInOut (before now : Told) (answer : Answer) : Type 0 where
+  pub out : TookPart before.out now.out answer.out
+  pub written : now.files ≡ before.files
+  pub err : now.err ≡ before.err
+
+-- all was put to out, the file was written, and err took only a part
+pub record CutInErr (before now : Told) (answer : Answer) : Type 0 where
+  pub out : TookAll before.out now.out answer.out
+  pub written : Wrote before.files now.files answer.written
+  pub err : TookPart before.err now.err answer.err
+
+-- an answer was cut off at the call that failed: in out, at the write of its file, or in err
+abbrev pub CutOff : Failures → Failures → Told → Told → Answer → Type 0
+CutOff had has before now answer =
+    (OutFailed had has × CutInOut before now answer)
+    ⊎ ((WriteFailed answer.written had has × PutFile before now answer)
+    ⊎ (ErrFailed had has × CutInErr before now answer))
+
+-- where a call of the program ended with a fault of a device: one of these reads failed, and nothing was put or
+-- written, or an answer was cut off
+abbrev pub Faulted : List NamedCall → (Answer → Type 0) → Status → Failures → Failures → Told → Told → Type 0
+Faulted reads Answers DeviceFault had has before now =
+    (ShelfFailed reads had has × PutNothing before now)
+    ⊎ ((answer : Answer) × Answers answer × CutOff had has before now answer)
+Faulted reads Answers status had has before now = Unit {0}

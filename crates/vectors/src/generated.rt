@@ -113,8 +113,18 @@ fn each_mode_prints_the_sum_of_8_harts(rt: HostRuntime) -> Result<(), Fail> {
 // The number is the one that drawing begins with, and what is drawn never changes a sum.
 #[test]
 fn another_number_prints_the_same_sum(rt: HostRuntime) -> Result<(), Fail> {
+    for number in ["1", "2"] {
+        let image = generated(&rt, "buckets", number)?.written;
+        let ending = run_on(&rt, &image, "8")?;
+        assert!(rt; prints(&ending, "00000640\n"), "{number}");
+    }
+    Ok(())
+}
+
+#[test]
+fn a_counter_ends_within_the_usual_steps(rt: HostRuntime) -> Result<(), Fail> {
     let image = generated(&rt, "counter", "1")?.written;
-    let ending = run_on(&rt, &image, "8")?;
+    let ending = answer(&rt, &["run", "a", "--harts", "8"], &image, &[])?;
     assert!(rt; prints(&ending, "00000320\n"));
     Ok(())
 }

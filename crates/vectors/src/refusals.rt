@@ -10,63 +10,66 @@ fn is_refused(ending: &Ending, line: &str) -> bool {
     ending.status.number() == 2 && ending.out.is_empty() && ending.err.as_slice() == line.as_bytes()
 }
 
+const OUTSIDE_THE_GRAMMAR: [&[&str]; 20] = [
+    &[],
+    &["walk", "x"],
+    &["run"],
+    &["run", "a", "a"],
+    &["run", "-a"],
+    &["run", "a", "--harts", "x"],
+    &["run", "a", "--steps"],
+    &["run", "a", "--steps", "4294967296"],
+    &["run", "a", "--harts", "1", "--harts", "1"],
+    &["run", "a", "--threads", "5"],
+    &["run", "a", "--trace", "-t"],
+    &["run", "a", "--mode", "walk"],
+    &["run", "a", "--mode"],
+    &["replay", "a"],
+    &["replay", "a", "t", "--steps", "1"],
+    &["gen", "counter", "x", "t"],
+    &["gen", "nothing", "1", "t"],
+    &["gen", "counter", "4294967296", "t"],
+    &["gen", "counter", "1"],
+    &["gen", "counter", "1", "t", "--harts", "1"],
+];
+
 #[test]
 fn words_outside_the_grammar_are_the_usage_line(rt: HostRuntime) -> Result<(), Fail> {
-    let rows: [&[&str]; 20] = [
-        &[],
-        &["walk", "x"],
-        &["run"],
-        &["run", "a", "a"],
-        &["run", "-a"],
-        &["run", "a", "--harts", "x"],
-        &["run", "a", "--steps"],
-        &["run", "a", "--steps", "4294967296"],
-        &["run", "a", "--harts", "1", "--harts", "1"],
-        &["run", "a", "--threads", "5"],
-        &["run", "a", "--trace", "-t"],
-        &["run", "a", "--mode", "walk"],
-        &["run", "a", "--mode"],
-        &["replay", "a"],
-        &["replay", "a", "t", "--steps", "1"],
-        &["gen", "counter", "x", "t"],
-        &["gen", "nothing", "1", "t"],
-        &["gen", "counter", "4294967296", "t"],
-        &["gen", "counter", "1"],
-        &["gen", "counter", "1", "t", "--harts", "1"],
-    ];
-    for words in rows {
+    for words in OUTSIDE_THE_GRAMMAR {
         let ending = answer(&rt, words, &HELLO, &TRACE)?;
         assert!(rt; is_refused(&ending, USAGE), "{words:?}");
     }
     Ok(())
 }
 
+/// Words and the line of their refusal.
+const CONFIGURATIONS: [(&[&str], &str); 12] = [
+    (&["run", "a", "--harts", "9"], "config fault 1 Harts\n"),
+    (&["run", "a", "--harts", "0"], "config fault 1 Harts\n"),
+    (
+        &["run", "a", "--harts", "4294967295"],
+        "config fault 1 Harts\n",
+    ),
+    (&["run", "a", "--sets", "3"], "config fault 2 Sets\n"),
+    (&["run", "a", "--ways=9"], "config fault 3 Ways\n"),
+    (&["run", "a", "--lines", "0"], "config fault 4 Lines\n"),
+    (&["run", "a", "--lines", "33"], "config fault 4 Lines\n"),
+    (&["run", "a", "--long", "1"], "config fault 5 Long\n"),
+    (&["run", "a", "--long", "65537"], "config fault 5 Long\n"),
+    (&["run", "a", "--steps", "0"], "config fault 6 Steps\n"),
+    (
+        &["run", "a", "--steps", "16777217"],
+        "config fault 6 Steps\n",
+    ),
+    (
+        &["run", "a", "--steps", "0", "--harts", "0"],
+        "config fault 1 Harts\n",
+    ),
+];
+
 #[test]
 fn configurations_are_judged_before_files(rt: HostRuntime) -> Result<(), Fail> {
-    let rows: [(&[&str], &str); 12] = [
-        (&["run", "a", "--harts", "9"], "config fault 1 Harts\n"),
-        (&["run", "a", "--harts", "0"], "config fault 1 Harts\n"),
-        (
-            &["run", "a", "--harts", "4294967295"],
-            "config fault 1 Harts\n",
-        ),
-        (&["run", "a", "--sets", "3"], "config fault 2 Sets\n"),
-        (&["run", "a", "--ways=9"], "config fault 3 Ways\n"),
-        (&["run", "a", "--lines", "0"], "config fault 4 Lines\n"),
-        (&["run", "a", "--lines", "33"], "config fault 4 Lines\n"),
-        (&["run", "a", "--long", "1"], "config fault 5 Long\n"),
-        (&["run", "a", "--long", "65537"], "config fault 5 Long\n"),
-        (&["run", "a", "--steps", "0"], "config fault 6 Steps\n"),
-        (
-            &["run", "a", "--steps", "16777217"],
-            "config fault 6 Steps\n",
-        ),
-        (
-            &["run", "a", "--steps", "0", "--harts", "0"],
-            "config fault 1 Harts\n",
-        ),
-    ];
-    for (words, line) in rows {
+    for (words, line) in CONFIGURATIONS {
         let ending = answer(&rt, words, &[], &[])?;
         assert!(rt; is_refused(&ending, line), "{words:?}");
     }
@@ -112,25 +115,27 @@ fn patched(alloc: Global, place: usize, bytes: &[u8]) -> Result<Vec<u8>, AllocEr
     Ok(image)
 }
 
+/// A place of the worked image, the bytes from there on, and the line of its refusal.
+const CHANGED_IMAGES: [(usize, &[u8], &str); 10] = [
+    (36, &[0x01], "image fault 8 Flags at byte 36\n"),
+    (44, &[0xff, 0xff], "image fault 9 Table at byte 44\n"),
+    (
+        28,
+        &[0xff, 0xff, 0xff, 0xff],
+        "image fault 9 Table at byte 28\n",
+    ),
+    (52, &[0x03], "image fault 10 Dynamic at byte 52\n"),
+    (52, &[0x00], "image fault 16 Empty at byte 44\n"),
+    (72, &[0x79], "image fault 11 Segment at byte 68\n"),
+    (76, &[0x04], "image fault 15 Entry at byte 24\n"),
+    (24, &[0x56], "image fault 15 Entry at byte 24\n"),
+    (24, &[0x78], "image fault 15 Entry at byte 24\n"),
+    (0, &[0x7e], "image fault 2 Magic at byte 0\n"),
+];
+
 #[test]
 fn changed_images_have_their_first_fault(rt: HostRuntime) -> Result<(), Fail> {
-    let rows: [(usize, &[u8], &str); 10] = [
-        (36, &[0x01], "image fault 8 Flags at byte 36\n"),
-        (44, &[0xff, 0xff], "image fault 9 Table at byte 44\n"),
-        (
-            28,
-            &[0xff, 0xff, 0xff, 0xff],
-            "image fault 9 Table at byte 28\n",
-        ),
-        (52, &[0x03], "image fault 10 Dynamic at byte 52\n"),
-        (52, &[0x00], "image fault 16 Empty at byte 44\n"),
-        (72, &[0x79], "image fault 11 Segment at byte 68\n"),
-        (76, &[0x04], "image fault 15 Entry at byte 24\n"),
-        (24, &[0x56], "image fault 15 Entry at byte 24\n"),
-        (24, &[0x78], "image fault 15 Entry at byte 24\n"),
-        (0, &[0x7e], "image fault 2 Magic at byte 0\n"),
-    ];
-    for (place, bytes, line) in rows {
+    for (place, bytes, line) in CHANGED_IMAGES {
         let image = patched(rt.alloc(), place, bytes)?;
         let ending = answer(&rt, &["run", "a"], &image, &[])?;
         assert!(rt; is_refused(&ending, line), "{place}: {bytes:?}");

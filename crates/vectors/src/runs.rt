@@ -27,104 +27,113 @@ const LOADS_MISALIGNED: [u32; 1] = [0x0020_2503];
 // jal x0, 0: for ever.
 const LOOPS: [u32; 1] = [0x0000_006f];
 
+/// Words, the status, what is put to out, and the lines of the report.
+const WORKED_IMAGE: [(
+    &[&str],
+    u8,
+    &str,
+    &str,
+    &[(u32, &str, &str)],
+    &str,
+); 11] = [
+    (
+        &["run", "a"],
+        0,
+        "A\n",
+        "elide tlr harts 1 events 37",
+        &[(9, MISSED_ONE, "exit 0")],
+        "serial 9 out 2",
+    ),
+    (
+        &["run", "a", "--steps", "37"],
+        0,
+        "A\n",
+        "elide tlr harts 1 events 37",
+        &[(9, MISSED_ONE, "exit 0")],
+        "serial 9 out 2",
+    ),
+    (
+        &["run", "a", "--steps", "36"],
+        3,
+        "A\n",
+        "elide tlr harts 1 events 36",
+        &[(8, MISSED_ONE, "running")],
+        "serial 8 out 2",
+    ),
+    (
+        &["run", "a", "--steps", "1"],
+        3,
+        "",
+        "elide tlr harts 1 events 1",
+        &[(1, TOUCHED_NOTHING, "running")],
+        "serial 1 out 0",
+    ),
+    (
+        &["run", "a", "--harts", "01"],
+        0,
+        "A\n",
+        "elide tlr harts 1 events 37",
+        &[(9, MISSED_ONE, "exit 0")],
+        "serial 9 out 2",
+    ),
+    (
+        &["run", "a", "--harts", "2"],
+        0,
+        "A\nA\n",
+        "elide tlr harts 2 events 85",
+        &[
+            (9, MISSED_ONE, "exit 0"),
+            (9, "missed 1 stalled 1 blocked 1", "exit 0"),
+        ],
+        "serial 18 out 4",
+    ),
+    (
+        &["run", "a", "--steps", "16777216", "--harts", "1"],
+        0,
+        "A\n",
+        "elide tlr harts 1 events 37",
+        &[(9, MISSED_ONE, "exit 0")],
+        "serial 9 out 2",
+    ),
+    (
+        &["run", "a", "--mode", "plain"],
+        0,
+        "A\n",
+        "elide plain harts 1 events 37",
+        &[(9, MISSED_ONE, "exit 0")],
+        "serial 9 out 2",
+    ),
+    (
+        &["run", "a", "--mode", "plain", "--steps", "36"],
+        3,
+        "A\n",
+        "elide plain harts 1 events 36",
+        &[(8, MISSED_ONE, "running")],
+        "serial 8 out 2",
+    ),
+    (
+        &["run", "a", "--mode=sle"],
+        0,
+        "A\n",
+        "elide sle harts 1 events 37",
+        &[(9, MISSED_ONE, "exit 0")],
+        "serial 9 out 2",
+    ),
+    (
+        &[
+            "run", "a", "--mode", "tlr", "--lines", "32", "--long", "65536",
+        ],
+        0,
+        "A\n",
+        "elide tlr harts 1 events 37",
+        &[(9, MISSED_ONE, "exit 0")],
+        "serial 9 out 2",
+    ),
+];
+
 #[test]
 fn the_worked_image_prints_and_exits(rt: HostRuntime) -> Result<(), Fail> {
-    let rows: [(&[&str], u8, &str, &str, &[(u32, &str, &str)], &str); 11] = [
-        (
-            &["run", "a"],
-            0,
-            "A\n",
-            "elide tlr harts 1 events 37",
-            &[(9, MISSED_ONE, "exit 0")],
-            "serial 9 out 2",
-        ),
-        (
-            &["run", "a", "--steps", "37"],
-            0,
-            "A\n",
-            "elide tlr harts 1 events 37",
-            &[(9, MISSED_ONE, "exit 0")],
-            "serial 9 out 2",
-        ),
-        (
-            &["run", "a", "--steps", "36"],
-            3,
-            "A\n",
-            "elide tlr harts 1 events 36",
-            &[(8, MISSED_ONE, "running")],
-            "serial 8 out 2",
-        ),
-        (
-            &["run", "a", "--steps", "1"],
-            3,
-            "",
-            "elide tlr harts 1 events 1",
-            &[(1, TOUCHED_NOTHING, "running")],
-            "serial 1 out 0",
-        ),
-        (
-            &["run", "a", "--harts", "01"],
-            0,
-            "A\n",
-            "elide tlr harts 1 events 37",
-            &[(9, MISSED_ONE, "exit 0")],
-            "serial 9 out 2",
-        ),
-        (
-            &["run", "a", "--harts", "2"],
-            0,
-            "A\nA\n",
-            "elide tlr harts 2 events 85",
-            &[
-                (9, MISSED_ONE, "exit 0"),
-                (9, "missed 1 stalled 1 blocked 1", "exit 0"),
-            ],
-            "serial 18 out 4",
-        ),
-        (
-            &["run", "a", "--steps", "16777216", "--harts", "1"],
-            0,
-            "A\n",
-            "elide tlr harts 1 events 37",
-            &[(9, MISSED_ONE, "exit 0")],
-            "serial 9 out 2",
-        ),
-        (
-            &["run", "a", "--mode", "plain"],
-            0,
-            "A\n",
-            "elide plain harts 1 events 37",
-            &[(9, MISSED_ONE, "exit 0")],
-            "serial 9 out 2",
-        ),
-        (
-            &["run", "a", "--mode", "plain", "--steps", "36"],
-            3,
-            "A\n",
-            "elide plain harts 1 events 36",
-            &[(8, MISSED_ONE, "running")],
-            "serial 8 out 2",
-        ),
-        (
-            &["run", "a", "--mode=sle"],
-            0,
-            "A\n",
-            "elide sle harts 1 events 37",
-            &[(9, MISSED_ONE, "exit 0")],
-            "serial 9 out 2",
-        ),
-        (
-            &[
-                "run", "a", "--mode", "tlr", "--lines", "32", "--long", "65536",
-            ],
-            0,
-            "A\n",
-            "elide tlr harts 1 events 37",
-            &[(9, MISSED_ONE, "exit 0")],
-            "serial 9 out 2",
-        ),
-    ];
-    for (words, number, out, first, harts, last) in rows {
+    for (words, number, out, first, harts, last) in WORKED_IMAGE {
         let err = report_of(rt.alloc(), first, harts, last)?;
         let ending = answer(&rt, words, &HELLO, &[])?;
         assert_eq!(rt; ending.status.number(), number, "{words:?}");
@@ -144,56 +153,66 @@ fn total_store_order_is_no_fault(rt: HostRuntime) -> Result<(), Fail> {
     Ok(())
 }
 
+/// A program, the number of harts, the status, what is put to out, and the lines of the report.
+const PROGRAMS: [(
+    &[u32],
+    &str,
+    u8,
+    &[u8],
+    &str,
+    &[(u32, &str, &str)],
+    &str,
+); 4] = [
+    (
+        &EXITS_WITH_ITS_NUMBER,
+        "1",
+        0,
+        &[],
+        "elide tlr harts 1 events 5",
+        &[(2, TOUCHED_NOTHING, "exit 0")],
+        "serial 2 out 0",
+    ),
+    (
+        &EXITS_WITH_ITS_NUMBER,
+        "8",
+        1,
+        &[],
+        "elide tlr harts 8 events 61",
+        &[
+            (2, TOUCHED_NOTHING, "exit 0"),
+            (2, TOUCHED_NOTHING, "exit 1"),
+            (2, TOUCHED_NOTHING, "exit 2"),
+            (2, TOUCHED_NOTHING, "exit 3"),
+            (2, TOUCHED_NOTHING, "exit 4"),
+            (2, TOUCHED_NOTHING, "exit 5"),
+            (2, TOUCHED_NOTHING, "exit 6"),
+            (2, TOUCHED_NOTHING, "exit 7"),
+        ],
+        "serial 16 out 0",
+    ),
+    (
+        &WRITES_OVER_A_LINE,
+        "1",
+        1,
+        &[0, 0, 0, 0, 0, 0, 0, 0, 1, 0],
+        "elide tlr harts 1 events 33",
+        &[(8, MISSED_ONE, "exit 10")],
+        "serial 8 out 10",
+    ),
+    (
+        &LOADS_MISALIGNED,
+        "1",
+        1,
+        &[],
+        "elide tlr harts 1 events 1",
+        &[(1, TOUCHED_NOTHING, "trap 4 at 00010054")],
+        "serial 1 out 0",
+    ),
+];
+
 #[test]
 fn programs_end_as_their_harts_do(rt: HostRuntime) -> Result<(), Fail> {
-    let rows: [(&[u32], &str, u8, &[u8], &str, &[(u32, &str, &str)], &str); 4] = [
-        (
-            &EXITS_WITH_ITS_NUMBER,
-            "1",
-            0,
-            &[],
-            "elide tlr harts 1 events 5",
-            &[(2, TOUCHED_NOTHING, "exit 0")],
-            "serial 2 out 0",
-        ),
-        (
-            &EXITS_WITH_ITS_NUMBER,
-            "8",
-            1,
-            &[],
-            "elide tlr harts 8 events 61",
-            &[
-                (2, TOUCHED_NOTHING, "exit 0"),
-                (2, TOUCHED_NOTHING, "exit 1"),
-                (2, TOUCHED_NOTHING, "exit 2"),
-                (2, TOUCHED_NOTHING, "exit 3"),
-                (2, TOUCHED_NOTHING, "exit 4"),
-                (2, TOUCHED_NOTHING, "exit 5"),
-                (2, TOUCHED_NOTHING, "exit 6"),
-                (2, TOUCHED_NOTHING, "exit 7"),
-            ],
-            "serial 16 out 0",
-        ),
-        (
-            &WRITES_OVER_A_LINE,
-            "1",
-            1,
-            &[0, 0, 0, 0, 0, 0, 0, 0, 1, 0],
-            "elide tlr harts 1 events 33",
-            &[(8, MISSED_ONE, "exit 10")],
-            "serial 8 out 10",
-        ),
-        (
-            &LOADS_MISALIGNED,
-            "1",
-            1,
-            &[],
-            "elide tlr harts 1 events 1",
-            &[(1, TOUCHED_NOTHING, "trap 4 at 00010054")],
-            "serial 1 out 0",
-        ),
-    ];
-    for (code, harts, number, out, first, stands, last) in rows {
+    for (code, harts, number, out, first, stands, last) in PROGRAMS {
         let err = report_of(rt.alloc(), first, stands, last)?;
         let image = image_of(rt.alloc(), code)?;
         let ending = answer(&rt, &["run", "a", "--harts", harts], &image, &[])?;

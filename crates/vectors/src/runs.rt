@@ -28,14 +28,7 @@ const LOADS_MISALIGNED: [u32; 1] = [0x0020_2503];
 const LOOPS: [u32; 1] = [0x0000_006f];
 
 /// Words, the status, what is put to out, and the lines of the report.
-const WORKED_IMAGE: [(
-    &[&str],
-    u8,
-    &str,
-    &str,
-    &[(u32, &str, &str)],
-    &str,
-); 11] = [
+const WORKED_IMAGE: [(&[&str], u8, &str, &str, &[(u32, &str, &str)], &str); 11] = [
     (
         &["run", "a"],
         0,
@@ -154,15 +147,7 @@ fn total_store_order_is_no_fault(rt: HostRuntime) -> Result<(), Fail> {
 }
 
 /// A program, the number of harts, the status, what is put to out, and the lines of the report.
-const PROGRAMS: [(
-    &[u32],
-    &str,
-    u8,
-    &[u8],
-    &str,
-    &[(u32, &str, &str)],
-    &str,
-); 4] = [
+const PROGRAMS: [(&[u32], &str, u8, &[u8], &str, &[(u32, &str, &str)], &str); 4] = [
     (
         &EXITS_WITH_ITS_NUMBER,
         "1",

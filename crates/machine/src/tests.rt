@@ -6,6 +6,7 @@ use el_base::{
 };
 use elf_image::{Image, load};
 use rv_alu::HartStatus;
+use section_ctl::Live;
 use std::alloc::Global;
 use std::process::Abort;
 use std::test::Fail;
@@ -46,6 +47,18 @@ const STORES: [u8; 100] = [
     0x00, 0x00, 0x01, 0x00, 0x64, 0x00, 0x00, 0x00, 0x64, 0x00, 0x00, 0x00, 0x05, 0x00, 0x00, 0x00,
     0x00, 0x10, 0x00, 0x00, 0xb7, 0x12, 0x01, 0x00, 0x13, 0x03, 0x50, 0x00, 0x23, 0x80, 0x62, 0x00,
     0x83, 0xa3, 0x02, 0x04,
+];
+
+/// A program that stores the byte 5 at 0x11040, under the lock at 0x11000: `lui x5,0x11`, `addi x6,x0,5`,
+/// `amoswap.w x7,x6,(x5)`, `sb x6,64(x5)`, `sw x0,0(x5)`.
+const LOCKS: [u8; 104] = [
+    0x7f, 0x45, 0x4c, 0x46, 0x01, 0x01, 0x01, 0x00, 0x00, 0x00, 0x00, 0x00, 0x00, 0x00, 0x00, 0x00,
+    0x02, 0x00, 0xf3, 0x00, 0x01, 0x00, 0x00, 0x00, 0x54, 0x00, 0x01, 0x00, 0x34, 0x00, 0x00, 0x00,
+    0x00, 0x00, 0x00, 0x00, 0x00, 0x00, 0x00, 0x00, 0x34, 0x00, 0x20, 0x00, 0x01, 0x00, 0x00, 0x00,
+    0x00, 0x00, 0x00, 0x00, 0x01, 0x00, 0x00, 0x00, 0x00, 0x00, 0x00, 0x00, 0x00, 0x00, 0x01, 0x00,
+    0x00, 0x00, 0x01, 0x00, 0x68, 0x00, 0x00, 0x00, 0x68, 0x00, 0x00, 0x00, 0x05, 0x00, 0x00, 0x00,
+    0x00, 0x10, 0x00, 0x00, 0xb7, 0x12, 0x01, 0x00, 0x13, 0x03, 0x50, 0x00, 0xaf, 0xa3, 0x62, 0x08,
+    0x23, 0x80, 0x62, 0x04, 0x23, 0xa0, 0x02, 0x00,
 ];
 
 fn hart(number: u8) -> Result<HartId, Fail> {
@@ -297,6 +310,80 @@ fn a_written_line_is_written_back(rt: HostRuntime) -> Result<(), Fail> {
     assert_eq!(rt; letter(&rt, &machine, only, line), Letter::I);
     assert_eq!(rt; machine.byte(0x1_1000), Some(5));
     assert_eq!(rt; main_byte(&machine, 0x1_1000), Some(5));
+    Ok(())
+}
+
+/// The byte that is buffered at the start of a line, where the line is the first of a hart's buffered stores.
+fn buffered(rt: &impl Abort, machine: &Machine, hart: HartId, line: LineAddr) -> u32 {
+    assert!(rt; hart.number < machine.config().harts);
+    let hold = machine.section_state(hart).hold();
+    assert_eq!(rt; hold.first(), Some(line));
+    hold.read_over(line, &[0; 64], 0)
+}
+
+/// How many lines a hart's section has stored to.
+fn held(rt: &impl Abort, machine: &Machine, hart: HartId) -> usize {
+    assert!(rt; hart.number < machine.config().harts);
+    machine.section_state(hart).hold().len()
+}
+
+/// A hart's live section.
+fn section(rt: &impl Abort, machine: &Machine, hart: HartId) -> Option<Live> {
+    assert!(rt; hart.number < machine.config().harts);
+    machine.section(hart)
+}
+
+/// The swap of a lock begins a section, whose store waits in the section until the release commits it.
+#[test]
+fn a_section_stores_at_its_release(rt: HostRuntime) -> Result<(), Fail> {
+    let only = hart(0)?;
+    let config = Config {
+        mode: Mode::Sle,
+        ..plain(1, 20)
+    };
+    let mut machine = machine(&rt, rt.alloc(), &LOCKS, config)?;
+    let stored = line_of(0x1_1040);
+    let locks = Outcome::Missed {
+        line: line_of(0x1_1000),
+        need: Need::Read,
+    };
+    let writes = Outcome::Missed {
+        line: stored,
+        need: Need::Write,
+    };
+    let begins = [
+        (Kind::Step, 0, 2, Outcome::Ran),
+        (Kind::Step, 0, 1, locks),
+        (Kind::Order, 0, 1, ordered()),
+        (Kind::Serve, 0, 1, served()),
+        (Kind::Step, 0, 1, Outcome::Began),
+    ];
+    play(&rt, &mut machine, &begins)?;
+    let live = Live {
+        count: 1,
+        word: 0x1_1000,
+        old: 0,
+        new: 5,
+    };
+    assert_eq!(rt; section(&rt, &machine, only), Some(live));
+    assert_eq!(rt; held(&rt, &machine, only), 0);
+    let stores = [
+        (Kind::Step, 0, 1, writes),
+        (Kind::Order, 0, 1, ordered()),
+        (Kind::Serve, 0, 1, served()),
+        (Kind::Step, 0, 1, Outcome::Buffered),
+    ];
+    play(&rt, &mut machine, &stores)?;
+    assert_eq!(rt; machine.byte(0x1_1040), Some(0));
+    assert_eq!(rt; buffered(&rt, &machine, only, stored), 5);
+    play(
+        &rt,
+        &mut machine,
+        &[(Kind::Step, 0, 1, Outcome::Committed { count: 3 })],
+    )?;
+    assert_eq!(rt; machine.byte(0x1_1040), Some(5));
+    assert_eq!(rt; section(&rt, &machine, only), None);
+    assert_eq!(rt; held(&rt, &machine, only), 0);
     Ok(())
 }
 

@@ -1,5 +1,5 @@
 -- memory, which caches and main memory tell
-use Rattle.std.specs.Prelude.{ℕ, ◌≡◌, ◌*◌, length}
+use Rattle.std.specs.Prelude.{◌≡◌, ◌*◌, length}
 use Rattle.coherence.specs.Beginning.{line_of}
 use Rattle.coherence.specs.Served.{Copies, TellsOf}
 use Rattle.el_base.specs.declared.line.TheConstants.{LINE_BYTES}

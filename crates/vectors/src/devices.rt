@@ -4,28 +4,23 @@ use el_io::{MemShelf, MemSink};
 use std::test::Fail;
 use tool::tool;
 
-/// The calls that fail, of the shelf, of out and of err, what the file `t` has, what was put to out, and whether
-/// `t` is then as it was.
+/// The calls that fail, of the shelf, of out and of err, and what was put to out.
 #[derive(Clone, Copy)]
 struct Row {
     words: &'static [&'static str],
     shelf: &'static [u32],
     out: &'static [u32],
     err: &'static [u32],
-    file: &'static [u8],
     put: &'static str,
-    stays: bool,
 }
 
-/// No words, no call that fails, nothing put to out, and the file as it was.
+/// No words, no call that fails, and nothing put to out.
 const FAULTLESS: Row = Row {
     words: &[],
     shelf: &[],
     out: &[],
     err: &[],
-    file: b"old",
     put: "",
-    stays: true,
 };
 
 const RUN: &[&str] = &["run", "a"];
@@ -36,97 +31,78 @@ const REPLAY: &[&str] = &["replay", "a", "t"];
 
 const GEN: &[&str] = &["gen", "counter", "1", "t"];
 
-const FAULTS: [Row; 14] = [
-    Row {
-        words: RUN,
-        shelf: &[1],
-        ..FAULTLESS
-    },
-    Row {
-        words: &["run", "b"],
-        ..FAULTLESS
-    },
-    Row {
-        words: RUN,
-        out: &[1],
-        ..FAULTLESS
-    },
-    Row {
-        words: RUN,
-        out: &[2],
-        put: "A",
-        ..FAULTLESS
-    },
-    Row {
-        words: RUN,
-        err: &[1],
-        put: "A\n",
-        ..FAULTLESS
-    },
-    Row {
-        words: RUN_WITH_TRACE,
-        shelf: &[1],
-        ..FAULTLESS
-    },
-    Row {
-        words: RUN_WITH_TRACE,
-        out: &[2],
-        put: "A",
-        ..FAULTLESS
-    },
-    Row {
-        words: RUN_WITH_TRACE,
-        shelf: &[2],
-        put: "A\n",
-        ..FAULTLESS
-    },
-    Row {
-        words: RUN_WITH_TRACE,
-        err: &[1],
-        put: "A\n",
-        stays: false,
-        ..FAULTLESS
-    },
-    Row {
-        words: REPLAY,
-        shelf: &[1],
-        file: &TRACE,
-        ..FAULTLESS
-    },
-    Row {
-        words: REPLAY,
-        shelf: &[2],
-        file: &TRACE,
-        ..FAULTLESS
-    },
-    Row {
-        words: REPLAY,
-        err: &[1],
-        file: &TRACE,
-        put: "A\n",
-        ..FAULTLESS
-    },
-    Row {
-        words: GEN,
-        shelf: &[1],
-        ..FAULTLESS
-    },
-    Row {
-        words: GEN,
-        err: &[1],
-        stays: false,
-        ..FAULTLESS
-    },
-];
-
-// What a failed write leaves is open; here it is the file as it was.
 #[test]
-fn nothing_is_put_or_written_after_a_fault(rt: HostRuntime) -> Result<(), Fail> {
-    for row in FAULTS {
+fn nothing_more_is_put_after_a_fault(rt: HostRuntime) -> Result<(), Fail> {
+    let rows = [
+        Row {
+            words: RUN,
+            shelf: &[1],
+            ..FAULTLESS
+        },
+        Row {
+            words: &["run", "b"],
+            ..FAULTLESS
+        },
+        Row {
+            words: RUN,
+            out: &[1],
+            ..FAULTLESS
+        },
+        Row {
+            words: RUN,
+            out: &[2],
+            put: "A",
+            ..FAULTLESS
+        },
+        Row {
+            words: RUN,
+            err: &[1],
+            put: "A\n",
+            ..FAULTLESS
+        },
+        Row {
+            words: RUN_WITH_TRACE,
+            shelf: &[1],
+            ..FAULTLESS
+        },
+        Row {
+            words: RUN_WITH_TRACE,
+            shelf: &[2],
+            put: "A\n",
+            ..FAULTLESS
+        },
+        Row {
+            words: REPLAY,
+            shelf: &[1],
+            ..FAULTLESS
+        },
+        Row {
+            words: REPLAY,
+            shelf: &[2],
+            ..FAULTLESS
+        },
+        Row {
+            words: REPLAY,
+            err: &[1],
+            put: "A\n",
+            ..FAULTLESS
+        },
+        Row {
+            words: GEN,
+            shelf: &[1],
+            ..FAULTLESS
+        },
+        Row {
+            words: GEN,
+            err: &[1],
+            ..FAULTLESS
+        },
+    ];
+    for row in rows {
         let names = strings(rt.alloc(), &["a", "t"])?;
         let contents = [
             Vec::from_slice(rt.alloc(), &HELLO)?,
-            Vec::from_slice(rt.alloc(), row.file)?,
+            Vec::from_slice(rt.alloc(), &TRACE)?,
         ];
         assert!(rt; names.len() == 2);
         let mut shelf = MemShelf::make(rt.alloc(), &names, &contents, row.shelf)?;
@@ -136,7 +112,6 @@ fn nothing_is_put_or_written_after_a_fault(rt: HostRuntime) -> Result<(), Fail> 
         let status = tool(&rt, rt.alloc(), &words, &mut shelf, &mut out, &mut err);
         assert_eq!(rt; status.number(), 4, "{words:?}");
         assert_eq!(rt; out.taken(), row.put.as_bytes(), "{words:?}");
-        assert_eq!(rt; shelf.contents("t") == row.file, row.stays, "{words:?}");
         assert_eq!(rt; err.taken(), b"".as_slice(), "{words:?}");
     }
     Ok(())

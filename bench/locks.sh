@@ -1,6 +1,6 @@
 #!/bin/sh
 # Prints how many events a second the built program makes of each workload over locks, on 8 harts in each mode, by the process's own
-# user time: the best of five runs.
+# processor time: the best of five runs.
 set -eu
 cd "$(dirname "$0")/.."
 image=$(mktemp)

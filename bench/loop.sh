@@ -2,7 +2,7 @@
 # Prints how many events a second the built program makes of a loop, in each mode, on 1, 2 and 8 harts, each over a line
 # of its own and all over one line: the best of five runs. The loop takes no lock. One hart makes 3,999,998 steps, and one
 # in which its line is not there yet. Several harts use up the events that a run may have. The time is the process's own
-# user time over the whole run, from its start to its end.
+# processor time over the whole run, from its start to its end.
 set -eu
 cd "$(dirname "$0")/.."
 own=$(mktemp)

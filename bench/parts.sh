@@ -1,6 +1,6 @@
 #!/bin/sh
 # Prints what one call of each part costs, in nanoseconds: the best of seven runs of the program `parts`, less the
-# best of seven that make no call, by the number of calls. The time is the process's own user time. A touch comes
+# best of seven that make no call, by the number of calls. The time is the process's own processor time. A touch comes
 # without its look-up, and a fill without the questions whether the line is there and whether there is room for it.
 set -eu
 cd "$(dirname "$0")/.."

@@ -1,6 +1,6 @@
 #!/bin/sh
 # Prints what a step costs inside of sections and outside of them: the built program runs one image, of 500 turns of 8,000
-# instructions under a lock, in the plain mode and in both that elide; the best of five runs, by the process's own user time. Each
+# instructions under a lock, in the plain mode and in both that elide; the best of five runs, by the process's own processor time. Each
 # step comes with the three events of its hart that have nothing to do.
 set -eu
 cd "$(dirname "$0")/.."

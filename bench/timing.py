@@ -1,4 +1,4 @@
-"""The user seconds of programs, and what their reports tell."""
+"""The processor seconds of programs, and what their reports tell."""
 import resource
 import subprocess
 import sys
@@ -6,18 +6,19 @@ import sys
 ELIDE = "crates/elide/out/elide"
 
 
-def user_seconds():
-    """Those of all processes that have ended and were waited for."""
-    return resource.getrusage(resource.RUSAGE_CHILDREN).ru_utime
+def processor_seconds():
+    """Those of all processes that have ended and were waited for. User time alone is 0 for a run of a few milliseconds."""
+    usage = resource.getrusage(resource.RUSAGE_CHILDREN)
+    return usage.ru_utime + usage.ru_stime
 
 
 def best(words, runs=5, statuses=(0,)):
-    """The least user seconds of so many runs, and what the last one wrote to standard error. Another status ends this script."""
+    """The least processor seconds of so many runs, and what the last one wrote to standard error. Another status ends this script."""
     least = None
     for _ in range(runs):
-        before = user_seconds()
+        before = processor_seconds()
         run = subprocess.run(words, capture_output=True, text=True)
-        taken = user_seconds() - before
+        taken = processor_seconds() - before
         if run.returncode not in statuses:
             sys.exit(run.stderr)
         least = taken if least is None else min(least, taken)

@@ -80,6 +80,10 @@ impl History {
 }
 
 impl Chronicled for History {
+    ghost use Rattle.std.specs.Prelude.{[]};
+
+    ghost opening = { λ _. [] };
+
     ghost entries = { λ history. history.entries };
 
     fn length(&self) -> u32 {

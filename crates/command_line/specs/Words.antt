@@ -2,8 +2,8 @@
 use Rattle.std.specs.Prelude.{ℕ, List, [], ◌∷◌, String, string_bytes, map, codes, bytes_eq, Option, None, Some, if◌then◌else◌}
 use Rattle.std.specs.Option.{option_map}
 use Rattle.std.specs.Global.{Global}
+use Rattle.el_base.specs.Modes.{mode_of}
 use Rattle.el_base.specs.declared.config.Mode.{Mode}
-use Rattle.el_base.specs.declared.config.Mode.TheVariants.{Plain, Sle, Tlr}
 use Rattle.command_line.specs.Fields.{Field, Form, ◌>>=◌, fields_of, value_in}
 use Rattle.command_line.specs.Numbers.{number_of}
 use Rattle.command_line.specs.declared.command.Command.{Command}
@@ -33,14 +33,6 @@ pub data Job : Type 0 where
 -- the bytes of each word
 abbrev pub texts : List (String Global) → List (List ℕ)
 texts words = map string_bytes words
-
--- the mode of a word
-abbrev pub mode_of : List ℕ → Option Mode
-mode_of word =
-    if bytes_eq word (codes "plain") then Some Plain
-    else if bytes_eq word (codes "sle") then Some Sle
-    else if bytes_eq word (codes "tlr") then Some Tlr
-    else None
 
 -- what is given, if anything is: its word has this meaning
 abbrev pub optional : {A : Type 0} → (List ℕ → Option A) → Option (List ℕ) → Option (Option A)

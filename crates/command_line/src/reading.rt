@@ -1,7 +1,8 @@
 //! What the words mean.
 
 ghost use Rattle.std.specs.Prelude.{◌≡◌, None, Some, IfOk, MatchResult, option_map};
-ghost use Rattle.command_line.specs.Words.{gen_of, job_of, kind_of, meaning, mode_of, optional, replay_of, run_of, texts};
+ghost use Rattle.el_base.specs.Modes.{mode_of};
+ghost use Rattle.command_line.specs.Words.{gen_of, job_of, kind_of, meaning, optional, replay_of, run_of, texts};
 ghost use Rattle.command_line.specs.Numbers.{number_of};
 
 use crate::command::{Command, RunCommand};
@@ -92,19 +93,8 @@ fn read_optional_mode(word: Option<&str>) -> Result<Option<Mode>, WordsFault>
         (λ fault. (fault ≡ WordsFault.Usage) × (optional mode_of (option_map (λ word. word.now) word.entry) ≡ None)) }
 {
     match word {
-        Some(word) => Ok(Some(read_mode(word).ok_or(WordsFault::Usage)?)),
+        Some(word) => Ok(Some(Mode::with_word(word).ok_or(WordsFault::Usage)?)),
         None => Ok(None),
-    }
-}
-
-fn read_mode(word: &str) -> Option<Mode>
-    ensures { result ≡ mode_of word.now }
-{
-    match word {
-        "plain" => Some(Mode::Plain),
-        "sle" => Some(Mode::Sle),
-        "tlr" => Some(Mode::Tlr),
-        _ => None,
     }
 }
 

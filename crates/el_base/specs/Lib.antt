@@ -7,3 +7,5 @@ pub mod Kinds
 pub mod Line
 pub mod LineAddr
 pub mod Losers
+pub mod Modes
+pub mod Winners

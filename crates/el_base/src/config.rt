@@ -1,5 +1,6 @@
 ghost use Rattle.std.specs.Prelude.{◌≡◌, None, IfErr, OnOk, Some};
 ghost use Rattle.el_base.specs.Config.{allows, config_fault, field_fault, usual};
+ghost use Rattle.el_base.specs.Modes.{mode_number, mode_of, mode_word};
 
 use crate::hart_id::MAX_HARTS;
 
@@ -15,6 +16,42 @@ pub enum Mode {
     Sle,
     /// Acquires are elided, and in a conflict the older attempt wins.
     Tlr,
+}
+
+impl Mode {
+    /// The number of the mode, 0 to 2: its code in a trace.
+    pub fn number(self) -> u8
+        ensures { result ≡ mode_number self }
+    {
+        match self {
+            Mode::Plain => 0,
+            Mode::Sle => 1,
+            Mode::Tlr => 2,
+        }
+    }
+
+    /// The word of the mode, on a command line and in a report.
+    pub fn word(self) -> &'static str
+        ensures { result.now ≡ mode_word self }
+    {
+        match self {
+            Mode::Plain => "plain",
+            Mode::Sle => "sle",
+            Mode::Tlr => "tlr",
+        }
+    }
+
+    /// The mode of this word, or `None` where it is the word of none.
+    pub fn with_word(word: &str) -> Option<Mode>
+        ensures { result ≡ mode_of word.now }
+    {
+        match word {
+            "plain" => Some(Mode::Plain),
+            "sle" => Some(Mode::Sle),
+            "tlr" => Some(Mode::Tlr),
+            _ => None,
+        }
+    }
 }
 
 /// What a machine is made with.

@@ -10,10 +10,17 @@ pub struct Entry {
     pub outcome: Outcome,
 }
 
-/// A value that keeps a history: the events that were made, in their order, with their outcomes.
+/// A value that keeps a history: what it began with, and the events that were made since, in their order, with
+/// their outcomes.
+///
+/// What it began with is its opening, a list of numbers that no event changes and no call gives. Two values with
+/// one opening have begun alike, so one history goes on from another exactly where their openings are one and its
+/// entries begin with the other's.
 pub trait Chronicled {
-    ghost use Rattle.std.specs.Prelude.{List};
+    ghost use Rattle.std.specs.Prelude.{List, ℕ};
     ghost use Rattle.el_base.specs.declared.entries.Entry.{Entry};
+
+    ghost opening: { Self → List ℕ };
 
     ghost entries: { Self → List Entry };
 

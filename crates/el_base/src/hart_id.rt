@@ -24,6 +24,16 @@ impl HartId {
         }
     }
 
+    /// The hart at this place in a list of one thing a hart.
+    pub fn at(index: usize) -> HartId
+        requires { index < MAX_HARTS }
+        ensures { result.number ≡ index }
+    {
+        HartId {
+            number: index as u8,
+        }
+    }
+
     /// The number that the hart was made of.
     pub fn number(self) -> u8
         ensures { result ≡ self.number }

@@ -1,3 +1,7 @@
+ghost use Rattle.std.specs.Prelude.{◌≡◌, ℕ};
+ghost use Rattle.el_base.specs.Losers.{beaten_by};
+ghost use Rattle.el_base.specs.Winners.{winner_over};
+
 use crate::hart_id::HartId;
 use crate::line::LineAddr;
 use crate::losers::Losers;
@@ -63,4 +67,18 @@ pub enum Outcome {
     Blocked { why: Why, by: HartId },
     /// A message was taken; these sections lost by it.
     Delivered { losers: Losers },
+}
+
+impl Outcome {
+    /// The harts whose sections lost in the event, which are none where the outcome tells of none.
+    pub fn losers(self) -> Losers
+        ensures { (h : ℕ) → beaten_by result h ≡ winner_over self h }
+    {
+        match self {
+            Outcome::Ordered { losers }
+            | Outcome::Served { losers }
+            | Outcome::Delivered { losers } => losers,
+            _ => Losers::none(),
+        }
+    }
 }

@@ -12,7 +12,8 @@ use Rattle.el_base.specs.declared.config.Mode.TheVariants.{Plain, Sle, Tlr}
 use Rattle.el_model.specs.Conflicts.{conflicts_with, meets_bit, stamp_in}
 use Rattle.el_model.specs.Deliver.{after_marker, after_probe, deliver_next, deliver_turn, delivered, forwarded, forwards_on, losers_by, loses_to_origin, nobody, one_lost, probe_losers, taken, told_of, told_on}
 use Rattle.el_model.specs.Face.{face_losers, face_losers_if, faced, faced_if}
-use Rattle.el_model.specs.Losses.{AreNumbered, HartsAreNumbered, restored, standing_of, winner_over}
+use Rattle.el_base.specs.Winners.{winner_over}
+use Rattle.el_model.specs.Losses.{AreNumbered, HartsAreNumbered, restored, standing_of}
 use Rattle.el_model.specs.Next.{kind_turn, next}
 use Rattle.el_base.specs.declared.events.Event.{Event}
 use Rattle.el_base.specs.declared.events.Kind.{Kind}

@@ -10,7 +10,8 @@ use Rattle.el_base.specs.declared.outcomes.Outcome.TheVariants as outcomes
 use Rattle.elf_image.specs.Program.{Program}
 use Rattle.el_model.specs.Causes.{ComesWhere}
 use Rattle.el_model.specs.Deed.{IsDeed}
-use Rattle.el_model.specs.Losses.{HartsAreNumbered, restored, standing_of, winner_over}
+use Rattle.el_base.specs.Winners.{winner_over}
+use Rattle.el_model.specs.Losses.{HartsAreNumbered, restored, standing_of}
 use Rattle.el_model.specs.Next.{after, entries_from, next}
 use Rattle.el_model.specs.Quiet.{AllPlain, AllSilent, has_stamps}
 use Rattle.el_model.specs.State.{ModelState, begin, hart_of}

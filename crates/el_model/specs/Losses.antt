@@ -1,20 +1,10 @@
 -- what is left of a section to a hart that an event names among its losers
 use Rattle.std.specs.Prelude.{ℕ, ◌≡◌, ◌<◌, ◌≤◌, ◌+◌, ◌==◌, Bool, true, List, [], ◌∷◌, length, Option, None, Some, if◌then◌else◌}
 use Rattle.bus_order.specs.Order.{Request}
-use Rattle.el_base.specs.Losers.{beaten_by}
 use Rattle.el_base.specs.declared.config.Mode.{Mode}
 use Rattle.el_base.specs.declared.config.Mode.TheVariants.{Plain, Sle, Tlr}
-use Rattle.el_base.specs.declared.outcomes.Outcome.{Outcome}
-use Rattle.el_base.specs.declared.outcomes.Outcome.TheVariants.{Ordered, Served, Delivered}
 use Rattle.el_model.specs.RollBack.{most_tries}
 use Rattle.el_model.specs.State.{Hart, ModelState, Section, raised_of}
-
--- the hart that a hart lost to in this outcome
-abbrev pub winner_over : Outcome → ℕ → Option ℕ
-winner_over (Ordered losers) h = beaten_by losers h
-winner_over (Served losers) h = beaten_by losers h
-winner_over (Delivered losers) h = beaten_by losers h
-winner_over _ h = None
 
 -- a hart's section, its tries and its fallback flag
 pub record Standing : Type 0 where

@@ -1,7 +1,9 @@
-ghost use Rattle.std.specs.Prelude.{◌≡◌};
+ghost use Rattle.std.specs.Prelude.{◌≡◌, IfOk};
 ghost use Rattle.elf_image.specs.Program.{IsProgram, code_word, program_from};
 
 use crate::code::Code;
+use el_base::NoMemory;
+use std::alloc::Global;
 use std::marker::Model;
 
 /// A program in memory before its first step.
@@ -37,6 +39,19 @@ impl Image {
             harts,
             code,
         }
+    }
+
+    /// An equal image, with a memory of its own. The code is shared.
+    pub fn copy(&self, alloc: Global) -> Result<Image, NoMemory>
+        ensures { IfOk result (λ copy. copy ≡ self.now) }
+    {
+        let mut bytes = Vec::with_capacity(alloc, self.bytes.len())?;
+        bytes.extend_from_slice(self.bytes.as_slice())?;
+        Ok(Image {
+            bytes,
+            code: self.code.share()?,
+            ..*self
+        })
     }
 
     /// The address of the first byte of memory, a multiple of 64.

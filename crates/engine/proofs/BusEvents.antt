@@ -4,7 +4,8 @@ use Rattle.std.specs.Prelude.{IsSome}
 use Rattle.el_base.specs.declared.events.Event.{Event}
 use Rattle.el_base.specs.declared.events.Kind.TheVariants as kinds
 use Rattle.el_model.proofs.Restoring.{losers_restored}
-use Rattle.el_model.specs.Losses.{restored, standing_of, winner_over}
+use Rattle.el_base.specs.Winners.{winner_over}
+use Rattle.el_model.specs.Losses.{restored, standing_of}
 use Rattle.el_model.specs.Next.{next}
 use Rattle.el_model.specs.State.{ModelState, Section, cache_of, hart_of, section_of}
 use Rattle.engine.proofs.Reaching.{loses, numbered, survives_event}

@@ -3,7 +3,8 @@ use Rattle.std.proofs.Common.{◌≡◌, ◌∙◌, ℕ, ◌<◌, [], ◌∷◌,
 use Rattle.std.proofs.lemmas.List.{length-append}
 use Rattle.el_base.specs.declared.events.Event.{Event}
 use Rattle.el_model.proofs.Folds.{state_after-append}
-use Rattle.el_model.specs.Losses.{HartsAreNumbered, winner_over}
+use Rattle.el_base.specs.Winners.{winner_over}
+use Rattle.el_model.specs.Losses.{HartsAreNumbered}
 use Rattle.el_model.specs.Next.{next}
 use Rattle.el_model.specs.State.{ModelState, Section, begin, is_live, section_of}
 use Rattle.engine.specs.Reached.{IsReached}

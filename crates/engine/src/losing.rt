@@ -3,34 +3,12 @@
 ghost use Rattle.std.specs.Prelude.{◌≡◌, ◌≤◌, ◌<◌, ℕ, IsSome, Option, Some, length};
 ghost use Rattle.std.specs.Option.{option_map};
 ghost use Rattle.el_base.specs.Losers.{beaten_by};
-ghost use Rattle.el_model.specs.Losses.{winner_over};
 ghost use Rattle.engine.specs.Parts.{own_at};
 ghost use Rattle.engine.specs.Restored.{AreRestored};
 ghost use Rattle.hart_state.specs.Deeds.{restored_own};
 
-use el_base::{HartId, Losers, Mode, Outcome};
+use el_base::{HartId, Losers, Mode};
 use hart_state::HartState;
-
-/// The losers that an outcome tells; one that tells none has none.
-pub(crate) fn losers_in(outcome: Outcome) -> Losers
-    ensures { (h : ℕ) → beaten_by result h ≡ winner_over outcome h }
-{
-    match outcome {
-        Outcome::Ordered { losers } | Outcome::Served { losers } | Outcome::Delivered { losers } =>
-            losers,
-        _ => Losers::none(),
-    }
-}
-
-/// The hart of a number.
-fn hart_at(number: usize) -> HartId
-    requires { number < 8 }
-    ensures { result.number ≡ number }
-{
-    HartId {
-        number: number as u8,
-    }
-}
 
 /// A hart loses its section, where it has lost to one.
 fn restore(hart: &mut HartState, mode: Mode, winner: Option<HartId>)
@@ -51,7 +29,7 @@ pub(crate) fn restore_all(harts: &mut Vec<HartState>, mode: Mode, losers: Losers
     ensures { AreRestored mode (beaten_by losers) harts.old.items harts.new.items }
 {
     for number in 0..harts.len() {
-        let winner = losers.winner_of(hart_at(number));
+        let winner = losers.winner_of(HartId::at(number));
         restore(&mut harts[number], mode, winner);
     }
 }

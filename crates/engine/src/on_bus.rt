@@ -10,7 +10,7 @@ ghost use Rattle.engine.specs.Reached.{IsReached, Stands};
 ghost use Rattle.snoop.specs.Shows.{IsReady, Shows};
 
 use crate::engine::Engine;
-use crate::losing::{losers_in, restore_all};
+use crate::losing::restore_all;
 use crate::mode_policy::ModePolicy;
 use el_base::{Event, Kind, Outcome};
 
@@ -56,7 +56,7 @@ impl Engine {
             (parts self.new).bus.copies.lines ≡ lines_from state event (parts self.old).bus.copies.lines }
     {
         let outcome = self.pass_to_bus(event);
-        restore_all(&mut self.harts, self.config.mode, losers_in(outcome));
+        restore_all(&mut self.harts, self.config.mode, outcome.losers());
         outcome
     }
 }

@@ -1,4 +1,5 @@
 pub mod Continued
+mod Openings
 mod GoesOn
 mod Promised
 mod InSections

@@ -1,4 +1,5 @@
-pub mod Story
-pub mod Stands
-pub mod Promises
 pub mod MainMemory
+pub mod Opening
+pub mod Promises
+pub mod Stands
+pub mod Story

@@ -7,7 +7,7 @@ use Rattle.el_base.specs.declared.events.Kind.TheVariants as kinds
 use Rattle.el_base.specs.declared.outcomes.Outcome.{Outcome}
 use Rattle.el_base.specs.declared.outcomes.Outcome.TheVariants.{Committed}
 use Rattle.el_model.specs.InSection.{shown_in}
-use Rattle.el_model.specs.Losses.{winner_over}
+use Rattle.el_base.specs.Winners.{winner_over}
 use Rattle.el_model.specs.State.{ModelState, Section, has_request, is_live, section_of}
 use Rattle.el_model.specs.Upcoming.{is_release}
 use Rattle.machine.specs.Story.{Story, state_of}

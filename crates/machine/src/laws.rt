@@ -1,6 +1,9 @@
 //! Laws of stories. Each is the contract of a function that does nothing.
 
 ghost use Rattle.std.specs.Prelude.{◌≡◌, ◌++◌, List};
+ghost use Rattle.el_base.specs.declared.config.Config.{Config};
+ghost use Rattle.elf_image.specs.Program.{Program};
+ghost use Rattle.machine.specs.Opening.{opening_of};
 ghost use Rattle.el_base.specs.declared.events.Event.{Event};
 ghost use Rattle.el_model.specs.Next.{state_after};
 ghost use Rattle.machine.specs.Story.{Story, continued, state_of};
@@ -17,4 +20,11 @@ pub fn continued_story_reaches_the_state_after()
 pub fn stories_go_on_event_by_event()
     ensures { (story : Story) (first second : List Event) →
         continued (continued story first) second ≡ continued story (first ++ second) }
+{}
+
+/// Two machines with one opening were made with the same program and the same configuration.
+#[tactic(auto, using(crate::proofs::Openings::openings_apart))]
+pub fn openings_tell_beginnings()
+    ensures { (program other : Program) (config settings : Config) →
+        opening_of program config ≡ opening_of other settings → (program ≡ other) × (config ≡ settings) }
 {}

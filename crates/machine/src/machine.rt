@@ -54,7 +54,7 @@ ghost use Rattle.step_laws.specs.Counts.{IsSectionShort};
 
 use crate::fault::MakeFault;
 use chronicle::History;
-use el_base::{Config, Entry, Event, HartId, Outcome};
+use el_base::{Chronicled, Config, Entry, Event, HartId, Outcome};
 use elf_image::Image;
 use engine::Engine;
 use rv_alu::HartView;
@@ -276,3 +276,19 @@ impl Machine {
 fn are_bytes(bytes: &[u8])
     ensures { AreBytes bytes.now }
 {}
+
+impl Chronicled for Machine {
+    ghost use Rattle.machine.specs.Opening.{opening_of};
+
+    ghost opening = { λ machine. opening_of machine.program machine.config };
+
+    ghost entries = { λ machine. machine.entries };
+
+    fn length(&self) -> u32 {
+        self.history.length()
+    }
+
+    fn entry(&self, place: u32) -> Entry {
+        self.history.entry(place)
+    }
+}

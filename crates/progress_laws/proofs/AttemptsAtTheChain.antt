@@ -9,7 +9,7 @@ use Rattle.el_model.proofs.Computing.{computing}
 use Rattle.el_model.proofs.Given.{event, stamp}
 use Rattle.el_model.proofs.Rows.ChainOfFour as chain
 use Rattle.el_model.specs.Conflicts.{retains}
-use Rattle.el_model.specs.Losses.{winner_over}
+use Rattle.el_base.specs.Winners.{winner_over}
 use Rattle.el_model.specs.Next.{next, outcomes_from, state_after}
 use Rattle.el_model.specs.State.{ModelState, head_of, is_live, numbers_of}
 use Rattle.removal_laws.specs.Laws.{closes, is_served}

@@ -9,7 +9,7 @@ use Rattle.el_model.proofs.Computing.{computing}
 use Rattle.el_model.proofs.Given.{event, stamp}
 use Rattle.el_model.proofs.Rows.Given.{Worker, machine_of, settings, store_word, swap, usual}
 use Rattle.el_model.specs.Conflicts.{retains}
-use Rattle.el_model.specs.Losses.{winner_over}
+use Rattle.el_base.specs.Winners.{winner_over}
 use Rattle.el_model.specs.Next.{next, state_after}
 use Rattle.el_model.specs.State.{ModelState, head_of}
 use Rattle.removal_laws.specs.Laws.{attempt_of, closes}

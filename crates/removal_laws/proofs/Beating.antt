@@ -16,7 +16,7 @@ use Rattle.el_model.specs.Conflicts.{stamp_in, told_winner}
 use Rattle.el_model.specs.Deed.{Begins, Buffers, Commits, Deed, Misses, Rests, RollsBack, Runs, Waits, outcome_of}
 use Rattle.el_model.specs.Deliver.{after_probe, deliver_next, deliver_turn, delivered, losers_by, loses_to_origin, nobody, one_lost, probe_losers, taken}
 use Rattle.el_model.specs.Face.{Fate, LosesTo, Stays, Unmet, after_fate, face_losers, face_losers_if, faced, faced_hart, faced_if, fate_at, markers_for, winner_in}
-use Rattle.el_model.specs.Losses.{winner_over}
+use Rattle.el_base.specs.Winners.{winner_over}
 use Rattle.el_model.specs.Next.{after, kind_turn, next}
 use Rattle.el_model.specs.Order.{Alone, Behind as Back, InFront, Place, losers_at, order_raised, order_turn, place_for, placed}
 use Rattle.el_model.specs.RollBack.{beaten}

@@ -6,7 +6,8 @@ use Rattle.el_base.specs.declared.events.Event.{Event}
 use Rattle.el_base.specs.declared.events.Kind.{Kind}
 use Rattle.el_base.specs.declared.events.Kind.TheVariants as kinds
 use Rattle.el_model.specs.Deed.{Begins, Buffers, Commits, Deed, Misses, Rests, RollsBack, Runs, Waits, hart_after, outcome_of}
-use Rattle.el_model.specs.Losses.{Standing, restored, standing_of, winner_over}
+use Rattle.el_base.specs.Winners.{winner_over}
+use Rattle.el_model.specs.Losses.{Standing, restored, standing_of}
 use Rattle.el_model.specs.Next.{after, kind_turn, next}
 use Rattle.el_model.specs.Plain.{candidate_of}
 use Rattle.el_model.specs.State.{Hart, ModelState, hart_of, is_live}

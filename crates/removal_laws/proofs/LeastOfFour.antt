@@ -10,7 +10,7 @@ use Rattle.el_model.proofs.Given.{event, request, stamp}
 use Rattle.el_model.proofs.Losing.{no_section_meets}
 use Rattle.el_model.proofs.Rows.ChainOfFour.{first, ordering}
 use Rattle.el_model.specs.Conflicts.{retains}
-use Rattle.el_model.specs.Losses.{winner_over}
+use Rattle.el_base.specs.Winners.{winner_over}
 use Rattle.el_model.specs.Next.{next, state_after}
 use Rattle.el_model.specs.State.{ModelState, hart_of, is_live}
 use Rattle.mail.specs.Mailbox.{Marker, Probe, has_message}

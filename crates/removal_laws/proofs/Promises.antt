@@ -10,7 +10,7 @@ use Rattle.el_base.specs.declared.events.Kind.{Kind}
 use Rattle.el_base.specs.declared.events.Kind.TheVariants as kinds
 use Rattle.el_base.specs.declared.outcomes.Why.TheVariants.{Behind, Locked, Retained}
 use Rattle.el_model.specs.Conflicts.{first_such, holder_of, retainer_of, retains}
-use Rattle.el_model.specs.Losses.{winner_over}
+use Rattle.el_base.specs.Winners.{winner_over}
 use Rattle.el_model.specs.Next.{after, kind_turn, next}
 use Rattle.el_model.specs.Serve.{Free, Obstacle, blocks_if, obstacle_to, other_head, serve_ordered, serve_past, serve_turn}
 use Rattle.el_model.specs.State.{ModelState, hart_of, head_of, is_held, numbers_of, ordered_of, section_of}

@@ -12,7 +12,7 @@ use Rattle.el_base.specs.declared.outcomes.Outcome.TheVariants.{Blocked, Served}
 use Rattle.el_base.specs.declared.outcomes.Why.TheVariants.{Locked}
 use Rattle.elf_image.specs.Program.{Program}
 use Rattle.el_model.specs.Conflicts.{retains}
-use Rattle.el_model.specs.Losses.{winner_over}
+use Rattle.el_base.specs.Winners.{winner_over}
 use Rattle.el_model.specs.Next.{after, next, state_after}
 use Rattle.el_model.specs.State.{ModelState, hart_of, head_of, is_live, ordered_of, ordered_on, section_of}
 use Rattle.mail.specs.Mailbox.{Marker, Probe, has_message}

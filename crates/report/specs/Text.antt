@@ -5,9 +5,8 @@ use Rattle.std.specs.List.{flat_map, range_with_len}
 use Rattle.chronicle.specs.Serial.{serial}
 use Rattle.chronicle.specs.Tally.{tally_of}
 use Rattle.chronicle.specs.declared.tally.Tally.{Tally}
+use Rattle.el_base.specs.Modes.{mode_word}
 use Rattle.el_base.specs.declared.config.Config.{Config}
-use Rattle.el_base.specs.declared.config.Mode.{Mode}
-use Rattle.el_base.specs.declared.config.Mode.TheVariants.{Plain, Sle, Tlr}
 use Rattle.el_base.specs.declared.entries.Entry.{Entry}
 use Rattle.machine.specs.Story.{Story, committed}
 use Rattle.report.specs.Line.{eight_digits, line}
@@ -15,16 +14,11 @@ use Rattle.rv_alu.specs.declared.view.HartStatus.{HartStatus}
 use Rattle.rv_alu.specs.declared.view.HartStatus.TheVariants.{Running, Exited, Trapped}
 use Rattle.rv_flat.specs.FlatState.{status_of}
 
-abbrev pub mode_name : Mode → List ℕ
-mode_name Plain = codes "plain"
-mode_name Sle = codes "sle"
-mode_name Tlr = codes "tlr"
-
 -- the mode, and the numbers of harts and of events
 unfoldable pub first_line : Config → ℕ → List ℕ
 first_line config events =
     line (codes "elide")
-    (mode_name config.mode ∷ codes "harts" ∷ decimal config.harts ∷ codes "events" ∷ decimal events ∷ [])
+    (mode_word config.mode ∷ codes "harts" ∷ decimal config.harts ∷ codes "events" ∷ decimal events ∷ [])
 
 -- how a hart stands
 abbrev pub status_words : HartStatus → List (List ℕ)

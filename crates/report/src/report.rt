@@ -7,13 +7,13 @@ ghost use Rattle.chronicle.specs.Tally.{tally_of};
 ghost use Rattle.report.specs.Counting.{tally_at};
 ghost use Rattle.report.specs.Line.{bytes_of};
 ghost use Rattle.report.specs.Puts.{Puts};
-ghost use Rattle.report.specs.Text.{count_words, first_line, hart_line, hart_lines, last_line, mode_name, report_of};
+ghost use Rattle.report.specs.Text.{count_words, first_line, hart_line, hart_lines, last_line, report_of};
 ghost use Rattle.rv_flat.specs.FlatState.{status_of};
 
 use crate::tallies::{Tallies, tallies_of};
 use crate::word::{Word, put_line};
 use chronicle::Tally;
-use el_base::{Chronicled, Config, HartId, Mode};
+use el_base::{Chronicled, Config, HartId};
 use el_io::{Failed, Sink};
 use machine::Machine;
 use rv_alu::HartStatus;
@@ -56,23 +56,13 @@ fn put_first_line<S: Sink>(sink: &mut S, config: Config, events: u32) -> Result<
         (first_line config events) }
 {
     let words = [
-        Word::Text(mode_name(config.mode)),
+        Word::Text(config.mode.word()),
         Word::Text("harts"),
         Word::Number(config.harts.into()),
         Word::Text("events"),
         Word::Number(events.into()),
     ];
     put_line(sink, "elide", &words, &[])
-}
-
-fn mode_name(mode: Mode) -> &'static str
-    ensures { result.now ≡ mode_name mode }
-{
-    match mode {
-        Mode::Plain => "plain",
-        Mode::Sle => "sle",
-        Mode::Tlr => "tlr",
-    }
 }
 
 fn put_hart_lines<S: Sink>(sink: &mut S, machine: &Machine) -> Result<(), Failed>

@@ -10,7 +10,7 @@ use Rattle.el_base.proofs.MadeLosers.{beaten_by-beyond}
 use Rattle.el_model.specs.Conflicts.{conflicts_with, meets_bit, wins_over}
 use Rattle.el_model.specs.Deliver.{deliver_next, deliver_turn, losers_by, loses_to_origin, nobody, one_lost, probe_losers, taken}
 use Rattle.el_model.specs.Face.{LosesTo, Unmet, deferring_fate, face_losers, face_losers_if, fate_at, winner_in}
-use Rattle.el_model.specs.Losses.{winner_over}
+use Rattle.el_base.specs.Winners.{winner_over}
 use Rattle.el_model.specs.Next.{kind_turn}
 use Rattle.el_model.specs.Order.{Alone, Behind, InFront, Place, before_face, losers_at, order_raised, order_turn, place_for}
 use Rattle.el_model.specs.Serve.{Blocks, Free, Obstacle, obstacle_to, serve_ordered, serve_past, serve_turn, served, with_claim}

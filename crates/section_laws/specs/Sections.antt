@@ -10,7 +10,7 @@ use Rattle.el_base.specs.declared.outcomes.Cause.{Cause}
 use Rattle.el_base.specs.declared.outcomes.Outcome.{Outcome}
 use Rattle.el_base.specs.declared.outcomes.Outcome.TheVariants.{Stalled, Missed, Began, Buffered, Committed, RolledBack, Ran}
 use Rattle.elf_image.specs.Program.{Program}
-use Rattle.el_model.specs.Losses.{winner_over}
+use Rattle.el_base.specs.Winners.{winner_over}
 use Rattle.el_model.specs.Next.{after, entries_from, next, state_after}
 use Rattle.el_model.specs.Plain.{candidate_of}
 use Rattle.el_model.specs.State.{ModelState, begin, is_live}

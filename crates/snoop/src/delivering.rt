@@ -30,7 +30,7 @@ ghost use Rattle.stamp.specs.Stamps as stamps;
 use crate::agent::Agent;
 use crate::agents::{come_behind, hear, post, take_message};
 use crate::bus::Bus;
-use crate::fates::{hart_at, is_before};
+use crate::fates::is_before;
 use bus_order::Request;
 use el_base::{HartId, LineAddr, Losers, Mode, Outcome};
 use mail::Message;
@@ -139,7 +139,7 @@ impl Bus {
         } }
     {
         for number in 0..self.agents.len() {
-            self.pass_one(hart, to, line, hart_at(number));
+            self.pass_one(hart, to, line, HartId::at(number));
         }
     }
 
@@ -295,7 +295,7 @@ fn forward_all(agents: &mut Vec<Agent>, hart: HartId, origin: HartId)
         agents.old.items agents.new.items }
 {
     for number in 0..agents.len() {
-        forward_one(agents, hart, origin, hart_at(number));
+        forward_one(agents, hart, origin, HartId::at(number));
     }
 }
 

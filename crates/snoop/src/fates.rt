@@ -37,16 +37,6 @@ impl Default for Fate {
     }
 }
 
-/// The hart of a number.
-pub fn hart_at(number: usize) -> HartId
-    requires { number < 8 }
-    ensures { result.number ≡ number }
-{
-    HartId {
-        number: number as u8,
-    }
-}
-
 /// In lock removal a section that does not lose to the head may lose to an origin.
 fn told_fate(winner: Option<HartId>) -> Fate
     ensures { numbered_fate result ≡ told_fate (number_of winner) }
@@ -125,7 +115,7 @@ impl Bus {
         let mut number = self.agents.len();
         while number > 0 {
             number -= 1;
-            winner = self.earlier_told(hart, line, hart_at(number), winner);
+            winner = self.earlier_told(hart, line, HartId::at(number), winner);
         }
         winner
     }
@@ -174,7 +164,7 @@ impl Bus {
     {
         let mut fates = ArrayVec::new();
         for number in 0..self.agents.len() {
-            fates.push(self.fate(head, hart_at(number), policy));
+            fates.push(self.fate(head, HartId::at(number), policy));
         }
         fates
     }

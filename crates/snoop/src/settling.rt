@@ -15,7 +15,7 @@ ghost use Rattle.stamp.specs.Stamps.{numbered_stamp};
 use crate::agent::Agent;
 use crate::agents::post;
 use crate::bus::Bus;
-use crate::fates::{Fate, hart_at};
+use crate::fates::Fate;
 use bus_order::Request;
 use coherence::Hierarchy;
 use el_base::{HartId, Losers, Mode};
@@ -59,7 +59,7 @@ pub fn send_markers(agents: &mut Vec<Agent>, to: HartId, fates: &[Fate])
     ensures { agents.new.items ≡ markers_sent 0 fates.now to.number agents.old.items }
 {
     for number in 0..fates.len() {
-        send_marker(agents, hart_at(number), to, fates[number]);
+        send_marker(agents, HartId::at(number), to, fates[number]);
     }
 }
 
@@ -82,7 +82,7 @@ pub fn losers_by(fates: &[Fate]) -> Losers
 {
     let mut losers = Losers::none();
     for number in 0..fates.len() {
-        losers = with_loser(losers, hart_at(number), fates[number]);
+        losers = with_loser(losers, HartId::at(number), fates[number]);
     }
     losers
 }
@@ -119,7 +119,7 @@ impl Bus {
             (kept self.old) (kept self.new) }
     {
         for number in 0..fates.len() {
-            self.settle(head, hart_at(number), fates[number]);
+            self.settle(head, HartId::at(number), fates[number]);
         }
     }
 }

@@ -20,7 +20,6 @@ mod writing_back;
 
 use crate::agent::Agent;
 use crate::bus::Bus;
-use crate::fates::hart_at;
 use bus_order::{Order, Request};
 use coherence::Hierarchy;
 use el_base::{Config, HartId, LineAddr, Mode, Need, Outcome, line_of};
@@ -118,7 +117,7 @@ fn agents(alloc: Global, mode: Mode, told: bool) -> Result<Vec<Agent>, Fail>
 {
     let mut agents = Vec::with_capacity(alloc, 4)?;
     for number in 0..4 {
-        agents.push(agent(alloc, mode, hart_at(number), told && number == 1)?)?;
+        agents.push(agent(alloc, mode, HartId::at(number), told && number == 1)?)?;
     }
     Ok(agents)
 }
@@ -130,7 +129,7 @@ fn agent(alloc: Global, mode: Mode, hart: HartId, told: bool) -> Result<Agent, F
     let mut agent = Agent::make(alloc)?;
     agent.open_attempt(mode, hart);
     if told {
-        agent.tell(hart_at(0));
+        agent.tell(HartId::at(0));
     }
     Ok(agent)
 }
@@ -143,7 +142,7 @@ fn well_formed(hierarchy: &Hierarchy)
         (cache_at (shown hierarchy.now).caches h).residency }
 {
     for number in 0..hierarchy.harts() {
-        hierarchy.cache(hart_at(number)).room(line());
+        hierarchy.cache(HartId::at(number)).room(line());
     }
 }
 

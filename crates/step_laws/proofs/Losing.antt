@@ -13,7 +13,8 @@ use Rattle.el_base.specs.declared.outcomes.Outcome.TheVariants as outcomes
 use Rattle.el_base.specs.declared.config.Mode.{Mode}
 use Rattle.el_base.specs.declared.config.Mode.TheVariants.{Plain, Sle, Tlr}
 use Rattle.el_model.specs.Deed.{Begins, Buffers, Commits, Deed, Misses, Rests, RollsBack, Runs, Waits, hart_after, outcome_of}
-use Rattle.el_model.specs.Losses.{HartsAreNumbered, Standing, lost_in, restored, standing_of, winner_over}
+use Rattle.el_base.specs.Winners.{winner_over}
+use Rattle.el_model.specs.Losses.{HartsAreNumbered, Standing, lost_in, restored, standing_of}
 use Rattle.el_model.specs.Next.{after, kind_turn, next}
 use Rattle.el_model.specs.Plain.{candidate_of}
 use Rattle.el_model.specs.RollBack.{most_tries}

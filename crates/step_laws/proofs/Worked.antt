@@ -12,7 +12,7 @@ use Rattle.el_base.specs.declared.outcomes.Outcome.TheVariants.{Missed, Began, B
 use Rattle.el_model.proofs.Computing.{computing}
 use Rattle.el_model.proofs.Given.{event, lost, section, watch}
 use Rattle.el_model.proofs.Rows.Given.{machine_of, settings, store_byte, store_word, swap, usual}
-use Rattle.el_model.specs.Losses.{winner_over}
+use Rattle.el_base.specs.Winners.{winner_over}
 use Rattle.el_model.specs.Next.{next, outcomes_from, state_after}
 use Rattle.el_model.specs.State.{ModelState, cache_of, hart_of, section_of}
 use Rattle.moesi.specs.declared.letter.Letter.TheVariants.{E, S}

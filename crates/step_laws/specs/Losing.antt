@@ -5,7 +5,7 @@ use Rattle.el_base.specs.declared.config.Config.{Config}
 use Rattle.el_base.specs.declared.events.Event.{Event}
 use Rattle.el_base.specs.declared.events.Kind.TheVariants as kinds
 use Rattle.elf_image.specs.Program.{Program}
-use Rattle.el_model.specs.Losses.{winner_over}
+use Rattle.el_base.specs.Winners.{winner_over}
 use Rattle.el_model.specs.Next.{after, next}
 use Rattle.el_model.specs.State.{ModelState, Section, is_live, section_of}
 use Rattle.section_laws.specs.Sections.{is_committed, is_rolled_back}

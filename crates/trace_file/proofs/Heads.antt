@@ -13,7 +13,8 @@ use Rattle.el_base.specs.declared.config.Config.{Config}
 use Rattle.el_base.specs.declared.file_fault.FileFault.{FileFault}
 use Rattle.trace_file.specs.declared.fault.FaultKind.{FaultKind}
 use Rattle.trace_file.specs.declared.fault.FaultKind.TheVariants.{Short, Magic, Version, Config as config_kind}
-use Rattle.trace_file.specs.Spelling.{head, mode_number}
+use Rattle.el_base.specs.Modes.{mode_number}
+use Rattle.trace_file.specs.Spelling.{head}
 use Rattle.trace_file.specs.FaultKinds.{fault_of}
 use Rattle.trace_file.specs.Faults.{field, wrong, byte_fault, magic_fault, version_fault, settings_fault, number_fault, is_mode, number_at, mode_at, config_at}
 

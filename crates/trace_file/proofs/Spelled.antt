@@ -27,7 +27,8 @@ use Rattle.el_base.specs.declared.config.Mode.TheVariants.{Plain, Sle, Tlr}
 use Rattle.el_base.specs.declared.file_fault.FileFault.{FileFault}
 use Rattle.trace_file.specs.declared.fault.FaultKind.{FaultKind}
 use Rattle.trace_file.specs.declared.fault.FaultKind.TheVariants.{Config as config_kind}
-use Rattle.trace_file.specs.Spelling.{head, spelling, mode_number, event_byte, IsTrace}
+use Rattle.el_base.specs.Modes.{mode_number}
+use Rattle.trace_file.specs.Spelling.{head, spelling, event_byte, IsTrace}
 use Rattle.trace_file.specs.FaultKinds.{fault_of}
 use Rattle.trace_file.specs.Faults.{field, byte_fault, magic_fault, version_fault, settings_fault, number_fault, head_fault, number_at, mode_at, is_mode, is_few, is_event, event_fault, end_fault, trace_fault}
 

@@ -3,10 +3,9 @@ use Rattle.std.specs.Prelude.{ℕ, ◌+◌, ◌*◌, ◌<◌, ◌≤◌, List, [
 use Rattle.byteorder.specs.Endian.{little_bytes}
 use Rattle.el_base.specs.Config.{IsInRange}
 use Rattle.el_base.specs.Kinds.{kind_number}
+use Rattle.el_base.specs.Modes.{mode_number}
 use Rattle.el_base.specs.declared.events.Event.{Event}
 use Rattle.el_base.specs.declared.config.Config.{Config}
-use Rattle.el_base.specs.declared.config.Mode.{Mode}
-use Rattle.el_base.specs.declared.config.Mode.TheVariants.{Plain, Sle, Tlr}
 
 -- "ELTR"
 abbrev pub magic : List ℕ
@@ -15,12 +14,6 @@ magic = 0x45 ∷ 0x4c ∷ 0x54 ∷ 0x52 ∷ []
 -- the version of the format
 abbrev pub version : ℕ
 version = 1
-
--- the byte of a mode
-abbrev pub mode_number : Mode → ℕ
-mode_number Plain = 0
-mode_number Sle = 1
-mode_number Tlr = 2
 
 -- one byte an event
 abbrev pub event_byte : Event → ℕ

@@ -4,23 +4,13 @@ ghost use Rattle.std.specs.Prelude.{◌≡◌, ◌≢◌, ◌+◌, ◌++◌, ◌
 ghost use Rattle.chronicle.specs.Chronicle.{events};
 ghost use Rattle.el_base.specs.Config.{IsInRange};
 ghost use Rattle.el_io.specs.Shelf.{Holds, KeepsOthers, Records};
-ghost use Rattle.trace_file.specs.Spelling.{mode_number, event_byte, head, spelling};
+ghost use Rattle.trace_file.specs.Spelling.{event_byte, head, spelling};
 
 use crate::head::{MAGIC, VERSION};
 use chronicle::History;
-use el_base::{Chronicled, Config, Event, Mode, NoMemory};
+use el_base::{Chronicled, Config, Event, NoMemory};
 use el_io::{Call, Shelf, ShelfFault};
 use std::alloc::Global;
-
-fn mode_number(mode: Mode) -> u8
-    ensures { result ≡ mode_number mode }
-{
-    match mode {
-        Mode::Plain => 0,
-        Mode::Sle => 1,
-        Mode::Tlr => 2,
-    }
-}
 
 fn event_byte(event: Event) -> u8
     ensures { result ≡ event_byte event }
@@ -42,7 +32,7 @@ fn head_bytes(config: &Config, count: u32) -> [u8; 22]
         MAGIC[3],
         VERSION,
         config.harts,
-        mode_number(config.mode),
+        config.mode.number(),
         config.sets,
         config.ways,
         config.lines,

@@ -11,7 +11,7 @@ loop-number-preserved c =
     let fate : numbered_fate c.index-fates-number.result ≡ fate_in known number =
     fate_read known number c.index-fates-number.result (omega arith) c.index-fates-number.is in
     one_loser_more (fate_in known) number c.loop-number.losers c.with_loser-losers.result c.loop-number.invariant
-    (rw (fate, c.hart_at.ensures) at c.with_loser-losers.ensures)
+    (rw (fate, c.at.ensures) at c.with_loser-losers.ensures)
 
 pub returns : goal.returns
 returns c = all_losers c.args.fates.now c.loop-number.number c.loop-number.losers (omega arith) c.requires c.loop-number.invariant

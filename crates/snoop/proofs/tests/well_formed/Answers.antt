@@ -10,7 +10,7 @@ loop-number-preserved c = λ h under.
     let caches = c.args.hierarchy.now.caches.items in
     let number = c.loop-number.number in
     let here : IsWellFormed (cache_at caches number).ways (cache_at caches number).residency =
-    subst (λ cached. IsWellFormed cached.ways cached.residency) (c.cache.ensures ∙ ap (cache_at caches) c.hart_at.ensures)
+    subst (λ cached. IsWellFormed cached.ways cached.residency) (c.cache.ensures ∙ ap (cache_at caches) c.at.ensures)
     c.room.ensures.cached.well_formed in
     elim (cases_eq h number) [
       | inl same ↦ rw same here

@@ -1,7 +1,7 @@
 -- the losers had sections, and the parts are those after the event
 use Rattle.std.proofs.Common.{◌∙◌, ap, refl, sym}
 use Rattle.el_base.specs.Losers.{beaten_by}
-use Rattle.el_model.specs.Losses.{winner_over}
+use Rattle.el_base.specs.Winners.{winner_over}
 use Rattle.engine.proofs.BusEvents.{after_bus, had_section}
 use Rattle.engine.proofs.engine.Engine.on_bus.Goals as goal
 use Rattle.engine.specs.Parts.{parts}
@@ -11,10 +11,10 @@ restore_all-requires-clause-live c g winner inside named =
     had_section (parts c.args.self.now) (parts c.pass_to_bus-outcome.new.self) c.requires.stands c.args.event g winner
     c.pass_to_bus-outcome.ensures.rest_stays inside
     (ap (λ outcome. winner_over outcome g) (sym (c.pass_to_bus-outcome.ensures.outcome c.requires.stands.state c.requires.stands.is_in))
-    ∙ sym (c.losers_in.ensures g) ∙ named)
+    ∙ sym (c.losers.ensures g) ∙ named)
 
 pub returns-clause-state : goal.returns-clause-state
 returns-clause-state c state reached is =
-    after_bus (parts c.args.self.now) (parts c.pass_to_bus-outcome.new.self) _ state c.args.event (beaten_by c.losers_in.result) c.requires.no_step reached is
+    after_bus (parts c.args.self.now) (parts c.pass_to_bus-outcome.new.self) _ state c.args.event (beaten_by c.losers.result) c.requires.no_step reached is
     c.pass_to_bus-outcome.ensures.rest_stays refl (c.pass_to_bus-outcome.ensures.shows state is)
-    (λ g. ap (λ outcome. winner_over outcome g) (sym (c.pass_to_bus-outcome.ensures.outcome state is)) ∙ sym (c.losers_in.ensures g)) c.restore_all.ensures
+    (λ g. ap (λ outcome. winner_over outcome g) (sym (c.pass_to_bus-outcome.ensures.outcome state is)) ∙ sym (c.losers.ensures g)) c.restore_all.ensures

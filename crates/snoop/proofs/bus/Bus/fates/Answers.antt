@@ -8,8 +8,8 @@ use Rattle.snoop.specs.Shows.{kept}
 pub loop-number-preserved : goal.loop-number-preserved
 loop-number-preserved g c =
     rw c.push.ensures.items
-    (one_fate_more (kept c.args.self.now) (numbered c.args.head) c.loop-number.number c.hart_at.result.number _ _
-    c.loop-number.invariant c.hart_at.ensures c.fate.ensures)
+    (one_fate_more (kept c.args.self.now) (numbered c.args.head) c.loop-number.number c.at.result.number _ _
+    c.loop-number.invariant c.at.ensures c.fate.ensures)
 
 pub returns-clause-each : goal.returns-clause-each
 returns-clause-each g c =

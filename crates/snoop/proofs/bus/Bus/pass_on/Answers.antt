@@ -15,4 +15,4 @@ loop-number-preserved c =
     (omega (arith, c.loop-number-test.true, c.len-number-end.ensures))
     (subst (λ (k : ℕ). next ≡ record now {
       agents = probe_sent (passes (agent_at now.agents c.args.hart.number).told now.order c.args.to.number c.args.line.number k) k c.args.to.number now.agents;
-    }) c.hart_at.ensures c.pass_one.ensures))
+    }) c.at.ensures c.pass_one.ensures))

@@ -15,7 +15,7 @@ loop-number-preserved c =
           (omega arith)
           inside
           c.loop-number.invariant.1
-          (rw c.hart_at.ensures at c.earlier_told-winner.ensures),
+          (rw c.at.ensures at c.earlier_told-winner.ensures),
     )
 
 pub returns : goal.returns

@@ -1,0 +1,5 @@
+/// Want of memory, and the value that a call was given, which it hands back as it was.
+#[derive(Debug, Drop)]
+pub struct Kept<T: Drop> {
+    pub value: T,
+}

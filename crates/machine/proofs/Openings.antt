@@ -1,5 +1,5 @@
 -- What an opening tells: two machines with one opening were made with the same program and configuration.
-use Rattle.std.proofs.Common.{◌≡◌, ◌×◌, ℕ, List, [], ◌∷◌, ◌++◌, length, refl, sym, ap, ◌∙◌, absurd, cc, zero, suc}
+use Rattle.std.proofs.Common.{◌≡◌, ℕ, List, [], ◌∷◌, ◌++◌, length, arith, refl}
 use Rattle.std.specs.List.{flat_map}
 use Rattle.el_base.specs.Modes.{mode_number}
 use Rattle.el_base.specs.declared.config.Config.{Config}
@@ -11,25 +11,25 @@ use Rattle.machine.specs.Opening.{config_numbers, counted, opening_of, program_n
 -- lists that begin with parts of one length are the same part by part
 parts_apart : (a b c d : List ℕ) → length a ≡ length b → a ++ c ≡ b ++ d → (a ≡ b) × (c ≡ d)
 parts_apart [] [] c d long same = (refl, same)
-parts_apart [] (y ∷ b) c d long same = grind
-parts_apart (x ∷ a) [] c d long same = grind
+parts_apart [] (y ∷ b) c d long same = grind arith
+parts_apart (x ∷ a) [] c d long same = grind arith
 parts_apart (x ∷ a) (y ∷ b) c d long same =
-    let rest : (a ≡ b) × (c ≡ d) = parts_apart a b c d (grind) (grind) in
-    grind rest
+    let rest : (a ≡ b) × (c ≡ d) = parts_apart a b c d (grind arith) (grind arith) in
+    grind (arith, rest)
 
 counted_apart : (a b c d : List ℕ) → counted a ++ c ≡ counted b ++ d → (a ≡ b) × (c ≡ d)
-counted_apart a b c d same = parts_apart a b c d (grind same) (grind same)
+counted_apart a b c d same = parts_apart a b c d (grind (arith, same)) (grind (arith, same))
 
 segments_apart : (xs ys : List CodeSegment) → length xs ≡ length ys →
     flat_map segment_numbers xs ≡ flat_map segment_numbers ys → xs ≡ ys
 segments_apart [] [] long same = refl
-segments_apart [] (y ∷ ys) long same = grind
-segments_apart (x ∷ xs) [] long same = grind
+segments_apart [] (y ∷ ys) long same = grind arith
+segments_apart (x ∷ xs) [] long same = grind arith
 segments_apart (x ∷ xs) (y ∷ ys) long same =
     let parts : (x.bytes ≡ y.bytes) × (flat_map segment_numbers xs ≡ flat_map segment_numbers ys) =
-        counted_apart x.bytes y.bytes (flat_map segment_numbers xs) (flat_map segment_numbers ys) (grind same) in
-    let rest : xs ≡ ys = segments_apart xs ys (grind long) (grind parts) in
-    grind (same, parts, rest)
+        counted_apart x.bytes y.bytes (flat_map segment_numbers xs) (flat_map segment_numbers ys) (grind (arith, same)) in
+    let rest : xs ≡ ys = segments_apart xs ys (grind (arith, long)) (grind (arith, parts)) in
+    grind (arith, same, parts, rest)
 
 modes_apart : (a b : Mode) → mode_number a ≡ mode_number b → a ≡ b
 modes_apart Plain Plain same = refl
@@ -47,9 +47,9 @@ programs_apart a b same =
     let bytes : (a.bytes ≡ b.bytes)
         × (length a.code ∷ flat_map segment_numbers a.code ≡ length b.code ∷ flat_map segment_numbers b.code) =
         counted_apart a.bytes b.bytes (length a.code ∷ flat_map segment_numbers a.code)
-        (length b.code ∷ flat_map segment_numbers b.code) (grind same) in
-    let code : a.code ≡ b.code = segments_apart a.code b.code (grind bytes) (grind bytes) in
-    grind (same, bytes, code)
+        (length b.code ∷ flat_map segment_numbers b.code) (grind (arith, same)) in
+    let code : a.code ≡ b.code = segments_apart a.code b.code (grind (arith, bytes)) (grind (arith, bytes)) in
+    grind (arith, same, bytes, code)
 
 -- one opening, one beginning
 pub openings_apart : (program other : Program) (config settings : Config) →
@@ -58,5 +58,5 @@ unfolding opening_of
 openings_apart program other config settings same =
     let parts : (config_numbers config ≡ config_numbers settings) × (program_numbers program ≡ program_numbers other) =
         parts_apart (config_numbers config) (config_numbers settings) (program_numbers program) (program_numbers other) refl same in
-    let mode : config.mode ≡ settings.mode = modes_apart config.mode settings.mode (grind parts) in
-    (programs_apart program other (grind parts), grind (parts, mode))
+    let mode : config.mode ≡ settings.mode = modes_apart config.mode settings.mode (grind (arith, parts)) in
+    (programs_apart program other (grind (arith, parts)), grind (arith, parts, mode))

@@ -1,10 +1,10 @@
 #!/usr/bin/env python3
-"""Makes a proof file of el_model from a run of the machine that another program has computed.
+"""Makes a proof file of computed_runs from a run of the machine that another program has computed.
 
-    tools/worked_run.py RUN.json 'What the run shows.' >crates/el_model/proofs/Runs/NAME.antt
+    tools/worked_run.py RUN.json 'What the run shows.' >crates/computed_runs/proofs/Runs/NAME.antt
 
 The file states that the definition gives the run's outcomes and its last state, and proves it by computation.
-A line `pub mod NAME` in crates/el_model/proofs/Runs.antt makes the check read it. RUN.json has
+A line `pub mod NAME` in crates/computed_runs/proofs/Runs.antt makes the check read it. RUN.json has
 
     config  harts, mode (Plain, Sle, Tlr), sets, ways, lines, long
     memory  base and length, in bytes; all bytes are 0 at first
@@ -28,8 +28,8 @@ use Rattle.el_base.specs.declared.outcomes.Need.TheVariants.{Read, Write}
 use Rattle.el_base.specs.declared.outcomes.Outcome.{Outcome}
 use Rattle.el_base.specs.declared.outcomes.Outcome.TheVariants.{Idle, Stalled, Missed, Ran, Began, Buffered, Committed, RolledBack, Ordered, Served, Blocked, Delivered}
 use Rattle.el_base.specs.declared.outcomes.Why.TheVariants.{Behind, Retained, Locked}
-use Rattle.el_model.proofs.Computing.{computing}
-use Rattle.el_model.proofs.Given.{Ending, ending_of, event, first_state, lost, patched, request, section, stamp, watch, way}
+use Rattle.computed_runs.proofs.Computing.{computing}
+use Rattle.computed_runs.proofs.Given.{Ending, ending_of, event, first_state, lost, patched, request, section, stamp, watch, way}
 use Rattle.el_model.specs.Next.{outcomes_from, state_after}
 use Rattle.el_model.specs.State.{Hart, ModelState}
 use Rattle.mail.specs.Mailbox.{Marker, Probe}

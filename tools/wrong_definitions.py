@@ -4,8 +4,8 @@
     tools/wrong_definitions.py [NAME..]
 
 Each file crates/el_model/wrong/NAME.edit has a line 'file:', pairs of lines 'old:' and 'new:', and a line 'run:' with
-the file of crates/el_model/proofs that must refuse it, such as Rows/ChainOfTwo. The definitions and that one run are
-copied to a scratch folder, without any law. As they stand the copy must be proved; with the edit the prover must find
+the file of crates/computed_runs/proofs that must refuse it, such as Rows/ChainOfTwo. The definitions and that one run
+are copied to a scratch folder as one crate, without any law. As they stand the copy must be proved; with the edit the prover must find
 that the run does not come to what it should, and nothing else wrong in the copy. What other runs and the laws say of the
 edit is not tried. The last line is 'N refused, M failed'.
 
@@ -21,6 +21,7 @@ import tempfile
 
 ROOT = pathlib.Path(__file__).resolve().parent.parent
 MODEL = ROOT / "crates" / "el_model"
+RUNS = ROOT / "crates" / "computed_runs" / "proofs"
 LIMIT = 120  # seconds for one check
 
 
@@ -68,12 +69,13 @@ def place(folder, run):
     (model / "src" / "lib.rt").write_text("//! The definitions alone.\n#![tactic(auto)]\n")
     (proofs / group).mkdir(parents=True)
     modules = [name]
-    if (MODEL / "proofs" / group / "Given.antt").exists():
+    if (RUNS / group / "Given.antt").exists():
         modules.insert(0, "Given")
     (proofs / "Lib.antt").write_text(f"pub mod Computing\npub mod Given\npub mod {group}\n")
     (proofs / f"{group}.antt").write_text("".join(f"pub mod {module}\n" for module in modules))
     for file in ("Computing", "Given", *(f"{group}/{module}" for module in modules)):
-        shutil.copy(MODEL / "proofs" / f"{file}.antt", proofs / f"{file}.antt")
+        text = (RUNS / f"{file}.antt").read_text()
+        (proofs / f"{file}.antt").write_text(text.replace("Rattle.computed_runs.", "Rattle.el_model."))
     return model
 
 

@@ -1,5 +1,3 @@
-pub mod Computing
-pub mod Given
 pub mod Tests
 pub mod Keeps
 pub mod Turns
@@ -13,5 +11,3 @@ pub mod Deeds
 pub mod Silent
 pub mod PlainMode
 pub mod FromStart
-pub mod Runs
-pub mod Rows

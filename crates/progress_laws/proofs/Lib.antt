@@ -5,11 +5,6 @@ pub mod Fewer
 pub mod Faced
 pub mod NewBits
 pub mod Over
-pub mod Worked
-pub mod AtTheChain
-pub mod AttemptsAtTheChain
-pub mod AfterRollbacks
-pub mod LaterAttempts
 pub mod AllWait
 pub mod WithoutStamps
 pub mod LeastStamp

@@ -20,6 +20,4 @@ pub mod Throughout
 pub mod Climbing
 pub mod Beating
 pub mod Promises
-pub mod LeastOfFour
-pub mod SecondAttempt
 pub mod Endings

@@ -15,5 +15,3 @@ pub mod Reachable
 pub mod OtherHarts
 pub mod Releasing
 pub mod LoadedBytes
-mod Worked
-mod WorkedProgram

@@ -24,4 +24,3 @@ pub mod Bounded
 pub mod Bounds
 pub mod Boxes
 pub mod Messages
-pub mod FullSet

@@ -9,4 +9,3 @@ mod OthersViews
 mod Lines
 pub mod Committing
 pub mod OfProgram
-mod Worked

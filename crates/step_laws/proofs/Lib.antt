@@ -4,4 +4,3 @@ pub mod Frames
 pub mod Losing
 pub mod Survivors
 pub mod OwnSteps
-mod Worked

@@ -1,0 +1,10 @@
+pub mod Computing
+pub mod Given
+pub mod Rows
+pub mod Runs
+pub mod Progress
+pub mod Removal
+pub mod SectionView
+pub mod Steps
+pub mod Sections
+pub mod PrivateRuns

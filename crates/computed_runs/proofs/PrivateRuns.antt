@@ -1,0 +1,3 @@
+-- worked private runs
+pub mod Worked
+pub mod WorkedProgram

@@ -1,0 +1,239 @@
+-- 4 harts in lock removal, 400 random events: a rollback by Lines, a rollback by Mixed, a section lost as a request takes its place, a serve blocked as Behind, a serve blocked as Locked, a serve blocked as Retained, commits, messages
+use Rattle.std.proofs.Common.{◌≡◌, ℕ, true, false, List, [], ◌∷◌, Some, None, replicate, refl}
+use Rattle.el_base.specs.HartId.{hart_id}
+use Rattle.el_base.specs.LineAddr.{line_addr}
+use Rattle.el_base.specs.declared.config.Config.{Config}
+use Rattle.el_base.specs.declared.config.Mode.TheVariants.{Tlr}
+use Rattle.el_base.specs.declared.events.Event.{Event}
+use Rattle.el_base.specs.declared.events.Kind.TheVariants.{Step, Order, Serve, Deliver}
+use Rattle.el_base.specs.declared.outcomes.Cause.TheVariants.{Lines, Mixed}
+use Rattle.el_base.specs.declared.outcomes.Need.TheVariants.{Read, Write}
+use Rattle.el_base.specs.declared.outcomes.Outcome.{Outcome}
+use Rattle.el_base.specs.declared.outcomes.Outcome.TheVariants.{Idle, Stalled, Missed, Ran, Began, Buffered, Committed, RolledBack, Ordered, Served, Blocked, Delivered}
+use Rattle.el_base.specs.declared.outcomes.Why.TheVariants.{Behind, Retained, Locked}
+use Rattle.computed_runs.proofs.Computing.{computing}
+use Rattle.computed_runs.proofs.Given.{Ending, ending_of, event, first_state, lost, patched, request, watch, way}
+use Rattle.el_model.specs.Next.{outcomes_from, state_after}
+use Rattle.el_model.specs.State.{ModelState}
+use Rattle.moesi.specs.declared.letter.Letter.TheVariants.{M}
+
+abbrev config : Config
+config = record {
+  harts = 4;
+  mode = Tlr;
+  sets = 1;
+  ways = 2;
+  lines = 1;
+  long = 5;
+  steps = 400;
+}
+
+abbrev words : List ℕ
+words =
+    66231 ∷ 1049363 ∷ 2098323 ∷ 328803 ∷ 140682287 ∷ 75671043 ∷ 172067 ∷ 67273619 ∷ 9765987 ∷ 140747823 ∷ 279094307 ∷
+    210936355 ∷ 237603 ∷ 140682287 ∷ 140681251 ∷ 10657827 ∷ 63088131 ∷ 172067 ∷ 4234145903 ∷ []
+
+abbrev first : ModelState
+first = first_state config 65536 384 131072 words
+
+abbrev events : List Event
+events =
+    event Step 3 ∷ event Order 0 ∷ event Step 2 ∷ event Deliver 3 ∷ event Deliver 3 ∷ event Step 3 ∷ event Step 3 ∷
+    event Step 0 ∷ event Step 3 ∷ event Step 1 ∷ event Deliver 3 ∷ event Deliver 2 ∷ event Step 0 ∷ event Step 1 ∷
+    event Step 0 ∷ event Deliver 0 ∷ event Step 1 ∷ event Deliver 2 ∷ event Step 3 ∷ event Order 3 ∷ event Deliver 1 ∷
+    event Serve 2 ∷ event Step 1 ∷ event Step 1 ∷ event Deliver 0 ∷ event Serve 1 ∷ event Order 0 ∷ event Order 3 ∷
+    event Serve 0 ∷ event Serve 2 ∷ event Serve 3 ∷ event Step 2 ∷ event Step 0 ∷ event Step 2 ∷ event Step 3 ∷
+    event Serve 3 ∷ event Step 3 ∷ event Step 0 ∷ event Order 3 ∷ event Order 1 ∷ event Step 2 ∷ event Step 2 ∷
+    event Serve 1 ∷ event Serve 2 ∷ event Step 1 ∷ event Order 0 ∷ event Step 2 ∷ event Deliver 3 ∷ event Deliver 1 ∷
+    event Step 1 ∷ event Serve 0 ∷ event Serve 1 ∷ event Step 2 ∷ event Order 2 ∷ event Serve 2 ∷ event Deliver 2 ∷
+    event Order 0 ∷ event Deliver 3 ∷ event Order 0 ∷ event Step 1 ∷ event Serve 3 ∷ event Deliver 0 ∷
+    event Deliver 3 ∷ event Deliver 0 ∷ event Order 1 ∷ event Serve 1 ∷ event Order 0 ∷ event Deliver 2 ∷
+    event Deliver 2 ∷ event Deliver 3 ∷ event Step 3 ∷ event Serve 1 ∷ event Deliver 3 ∷ event Order 2 ∷
+    event Serve 2 ∷ event Serve 3 ∷ event Order 0 ∷ event Deliver 2 ∷ event Step 3 ∷ event Serve 0 ∷ event Serve 1 ∷
+    event Deliver 1 ∷ event Deliver 2 ∷ event Step 3 ∷ event Deliver 0 ∷ event Order 1 ∷ event Deliver 0 ∷
+    event Deliver 3 ∷ event Serve 2 ∷ event Step 3 ∷ event Step 0 ∷ event Step 0 ∷ event Step 3 ∷ event Step 1 ∷
+    event Serve 3 ∷ event Serve 1 ∷ event Step 3 ∷ event Order 3 ∷ event Deliver 0 ∷ event Step 2 ∷ event Step 1 ∷
+    event Step 1 ∷ event Serve 3 ∷ event Step 2 ∷ event Order 0 ∷ event Order 0 ∷ event Step 1 ∷ event Order 2 ∷
+    event Serve 0 ∷ event Step 1 ∷ event Step 1 ∷ event Serve 2 ∷ event Step 2 ∷ event Deliver 0 ∷ event Step 3 ∷
+    event Step 2 ∷ event Order 1 ∷ event Order 2 ∷ event Serve 0 ∷ event Step 0 ∷ event Step 1 ∷ event Serve 0 ∷
+    event Order 1 ∷ event Deliver 1 ∷ event Order 0 ∷ event Step 1 ∷ event Step 1 ∷ event Step 3 ∷ event Step 0 ∷
+    event Step 2 ∷ event Serve 1 ∷ event Step 1 ∷ event Step 3 ∷ event Serve 1 ∷ event Deliver 0 ∷ event Serve 0 ∷
+    event Step 2 ∷ event Step 1 ∷ event Step 2 ∷ event Deliver 1 ∷ event Serve 3 ∷ event Step 1 ∷ event Order 3 ∷
+    event Order 3 ∷ event Serve 3 ∷ event Deliver 3 ∷ event Step 3 ∷ event Order 2 ∷ event Deliver 0 ∷ event Step 0 ∷
+    event Step 3 ∷ event Step 0 ∷ event Order 0 ∷ event Deliver 1 ∷ event Order 1 ∷ event Deliver 2 ∷ event Serve 0 ∷
+    event Step 3 ∷ event Serve 2 ∷ event Order 3 ∷ event Step 2 ∷ event Deliver 2 ∷ event Deliver 2 ∷ event Serve 3 ∷
+    event Serve 1 ∷ event Order 3 ∷ event Deliver 1 ∷ event Deliver 3 ∷ event Step 2 ∷ event Serve 1 ∷
+    event Deliver 1 ∷ event Deliver 0 ∷ event Serve 3 ∷ event Order 1 ∷ event Step 0 ∷ event Order 0 ∷ event Order 3 ∷
+    event Serve 3 ∷ event Step 2 ∷ event Serve 1 ∷ event Order 2 ∷ event Serve 0 ∷ event Deliver 0 ∷ event Order 3 ∷
+    event Serve 2 ∷ event Serve 0 ∷ event Step 2 ∷ event Step 0 ∷ event Order 0 ∷ event Order 2 ∷ event Serve 3 ∷
+    event Step 0 ∷ event Serve 3 ∷ event Serve 1 ∷ event Step 0 ∷ event Serve 3 ∷ event Serve 2 ∷ event Step 2 ∷
+    event Serve 1 ∷ event Serve 3 ∷ event Order 0 ∷ event Serve 3 ∷ event Step 1 ∷ event Deliver 0 ∷ event Order 2 ∷
+    event Serve 0 ∷ event Order 0 ∷ event Serve 2 ∷ event Order 2 ∷ event Deliver 3 ∷ event Serve 3 ∷ event Serve 0 ∷
+    event Deliver 1 ∷ event Serve 2 ∷ event Step 1 ∷ event Step 3 ∷ event Order 1 ∷ event Order 2 ∷ event Step 0 ∷
+    event Serve 0 ∷ event Deliver 2 ∷ event Serve 1 ∷ event Serve 0 ∷ event Step 0 ∷ event Serve 0 ∷ event Step 1 ∷
+    event Order 0 ∷ event Deliver 0 ∷ event Step 3 ∷ event Order 3 ∷ event Serve 0 ∷ event Serve 3 ∷ event Order 2 ∷
+    event Serve 0 ∷ event Serve 0 ∷ event Step 1 ∷ event Order 1 ∷ event Order 1 ∷ event Order 3 ∷ event Serve 2 ∷
+    event Step 1 ∷ event Serve 1 ∷ event Step 1 ∷ event Serve 1 ∷ event Step 1 ∷ event Order 0 ∷ event Step 0 ∷
+    event Order 1 ∷ event Order 0 ∷ event Step 3 ∷ event Serve 1 ∷ event Serve 0 ∷ event Serve 0 ∷ event Step 0 ∷
+    event Step 1 ∷ event Deliver 3 ∷ event Step 3 ∷ event Serve 1 ∷ event Order 3 ∷ event Serve 2 ∷ event Deliver 3 ∷
+    event Order 0 ∷ event Serve 1 ∷ event Serve 1 ∷ event Step 1 ∷ event Step 2 ∷ event Order 3 ∷ event Step 1 ∷
+    event Step 0 ∷ event Step 2 ∷ event Order 0 ∷ event Order 2 ∷ event Serve 2 ∷ event Order 3 ∷ event Step 0 ∷
+    event Step 2 ∷ event Step 3 ∷ event Deliver 2 ∷ event Order 1 ∷ event Serve 0 ∷ event Serve 3 ∷ event Step 2 ∷
+    event Order 2 ∷ event Serve 2 ∷ event Step 3 ∷ event Order 2 ∷ event Deliver 2 ∷ event Serve 1 ∷ event Serve 0 ∷
+    event Serve 3 ∷ event Step 2 ∷ event Step 3 ∷ event Step 0 ∷ event Order 3 ∷ event Deliver 3 ∷ event Serve 3 ∷
+    event Serve 1 ∷ event Step 1 ∷ event Order 1 ∷ event Step 1 ∷ event Serve 3 ∷ event Step 0 ∷ event Serve 2 ∷
+    event Step 2 ∷ event Order 2 ∷ event Order 0 ∷ event Deliver 2 ∷ event Step 2 ∷ event Deliver 0 ∷ event Serve 0 ∷
+    event Step 3 ∷ event Step 2 ∷ event Order 2 ∷ event Serve 0 ∷ event Order 1 ∷ event Step 0 ∷ event Serve 1 ∷
+    event Step 3 ∷ event Order 0 ∷ event Deliver 2 ∷ event Serve 1 ∷ event Serve 0 ∷ event Serve 2 ∷ event Step 2 ∷
+    event Order 0 ∷ event Step 1 ∷ event Order 2 ∷ event Order 1 ∷ event Order 3 ∷ event Serve 1 ∷ event Serve 2 ∷
+    event Deliver 1 ∷ event Step 0 ∷ event Deliver 2 ∷ event Serve 0 ∷ event Serve 3 ∷ event Deliver 3 ∷
+    event Order 0 ∷ event Serve 3 ∷ event Deliver 3 ∷ event Step 2 ∷ event Serve 1 ∷ event Serve 3 ∷ event Serve 3 ∷
+    event Serve 0 ∷ event Serve 0 ∷ event Step 3 ∷ event Serve 3 ∷ event Step 2 ∷ event Step 1 ∷ event Deliver 1 ∷
+    event Order 3 ∷ event Order 0 ∷ event Order 1 ∷ event Step 2 ∷ event Serve 0 ∷ event Order 2 ∷ event Deliver 2 ∷
+    event Serve 1 ∷ event Deliver 1 ∷ event Serve 0 ∷ event Deliver 1 ∷ event Serve 0 ∷ event Order 3 ∷ event Serve 0 ∷
+    event Deliver 0 ∷ event Serve 1 ∷ event Step 0 ∷ event Deliver 3 ∷ event Step 2 ∷ event Deliver 3 ∷
+    event Deliver 2 ∷ event Order 0 ∷ event Step 3 ∷ event Serve 3 ∷ event Order 3 ∷ event Serve 1 ∷ event Serve 0 ∷
+    event Serve 1 ∷ event Order 2 ∷ event Serve 2 ∷ event Deliver 1 ∷ event Serve 1 ∷ event Serve 2 ∷ event Serve 0 ∷
+    event Step 1 ∷ event Step 2 ∷ event Deliver 0 ∷ event Serve 1 ∷ event Deliver 1 ∷ event Deliver 3 ∷ event Step 2 ∷
+    event Step 3 ∷ event Deliver 0 ∷ event Order 1 ∷ event Step 3 ∷ event Order 0 ∷ event Deliver 3 ∷ event Serve 1 ∷
+    event Serve 1 ∷ []
+
+abbrev expected : List Outcome
+expected =
+    Ran ∷ Idle ∷ Ran ∷ Idle ∷ Idle ∷ Ran ∷ Ran ∷ Ran ∷ Ran ∷ Ran ∷ Idle ∷ Idle ∷ Ran ∷ Ran ∷ Ran ∷ Idle ∷ Ran ∷ Idle ∷
+    Missed (line_addr 1024) Read ∷ Ordered (lost ([])) ∷ Idle ∷ Idle ∷ Ran ∷ Missed (line_addr 1024) Read ∷ Idle ∷
+    Idle ∷ Idle ∷ Idle ∷ Idle ∷ Idle ∷ Served (lost ([])) ∷ Ran ∷ Ran ∷ Ran ∷ Began ∷ Idle ∷
+    Missed (line_addr 1025) Read ∷ Missed (line_addr 1025) Read ∷ Ordered (lost ([])) ∷ Ordered (lost ([])) ∷ Ran ∷
+    Missed (line_addr 1024) Read ∷ Served (lost ([])) ∷ Idle ∷ Began ∷ Ordered (lost ([])) ∷ Stalled ∷ Idle ∷ Idle ∷
+    Missed (line_addr 1025) Read ∷ Blocked Behind (hart_id 3) ∷ Idle ∷ Stalled ∷ Ordered (lost ([])) ∷
+    Served (lost ([])) ∷ Idle ∷ Idle ∷ Idle ∷ Idle ∷ Stalled ∷ Served (lost ([])) ∷ Delivered (lost ([])) ∷
+    Delivered (lost ([])) ∷ Idle ∷ Ordered (lost ([])) ∷ Blocked Behind (hart_id 0) ∷ Idle ∷ Idle ∷ Idle ∷ Idle ∷
+    Buffered ∷ Blocked Behind (hart_id 0) ∷ Idle ∷ Idle ∷ Idle ∷ Idle ∷ Idle ∷ Idle ∷ Committed 3 ∷
+    Served (lost ([])) ∷ Blocked Locked (hart_id 0) ∷ Delivered (lost ([])) ∷ Idle ∷ Ran ∷ Delivered (lost ([])) ∷
+    Idle ∷ Idle ∷ Idle ∷ Idle ∷ Ran ∷ Ran ∷ Missed (line_addr 1024) Write ∷ Began ∷ Stalled ∷ Idle ∷
+    Served (lost ([])) ∷ Missed (line_addr 1028) Write ∷ Ordered (lost ([])) ∷ Idle ∷ Began ∷ Buffered ∷ Committed 3 ∷
+    Served (lost ([])) ∷ Missed (line_addr 1025) Read ∷ Ordered (lost ([])) ∷ Idle ∷ Ran ∷ Ordered (lost ([])) ∷
+    Blocked Retained (hart_id 2) ∷ Ran ∷ Began ∷ Served (lost ([])) ∷ Buffered ∷ Delivered (lost ([])) ∷ Buffered ∷
+    Committed 3 ∷ Idle ∷ Idle ∷ Served (lost ([])) ∷ Ran ∷ Missed (line_addr 1028) Write ∷ Idle ∷
+    Ordered (lost ((3, 1) ∷ [])) ∷ Idle ∷ Idle ∷ Stalled ∷ Stalled ∷ Began ∷ Ran ∷ Ran ∷ Served (lost ([])) ∷
+    Buffered ∷ Missed (line_addr 1028) Write ∷ Idle ∷ Idle ∷ Idle ∷ Ran ∷ RolledBack Lines ∷
+    Missed (line_addr 1028) Write ∷ Idle ∷ Idle ∷ Missed (line_addr 1025) Write ∷ Ordered (lost ([])) ∷ Idle ∷
+    Served (lost ([])) ∷ Idle ∷ Buffered ∷ Ordered (lost ([])) ∷ Idle ∷ Ran ∷ RolledBack Lines ∷ Began ∷ Idle ∷ Idle ∷
+    Ordered (lost ([])) ∷ Delivered (lost ([])) ∷ Idle ∷ Missed (line_addr 1025) Write ∷ Served (lost ([])) ∷
+    Ordered (lost ([])) ∷ Ran ∷ Idle ∷ Idle ∷ Blocked Behind (hart_id 1) ∷ Blocked Retained (hart_id 0) ∷ Idle ∷
+    Delivered (lost ([])) ∷ Delivered (lost ([])) ∷ Missed (line_addr 1027) Write ∷ Blocked Retained (hart_id 0) ∷
+    Delivered (lost ([])) ∷ Delivered (lost ([])) ∷ Blocked Behind (hart_id 1) ∷ Idle ∷ Missed (line_addr 1028) Write ∷
+    Ordered (lost ([])) ∷ Idle ∷ Blocked Behind (hart_id 1) ∷ Stalled ∷ Blocked Retained (hart_id 0) ∷
+    Ordered (lost ([])) ∷ Served (lost ([])) ∷ Delivered (lost ([])) ∷ Idle ∷ Served (lost ([])) ∷ Idle ∷ Ran ∷
+    Buffered ∷ Idle ∷ Idle ∷ Blocked Behind (hart_id 1) ∷ RolledBack Lines ∷ Blocked Behind (hart_id 1) ∷
+    Served (lost ([])) ∷ Missed (line_addr 1025) Write ∷ Blocked Locked (hart_id 1) ∷ Idle ∷
+    Missed (line_addr 1025) Write ∷ Idle ∷ Blocked Locked (hart_id 1) ∷ Ordered (lost ([])) ∷
+    Blocked Locked (hart_id 1) ∷ Ran ∷ Delivered (lost ([])) ∷ Ordered (lost ([])) ∷ Blocked Behind (hart_id 3) ∷
+    Idle ∷ Blocked Behind (hart_id 3) ∷ Idle ∷ Delivered (lost ([])) ∷ Served (lost ([])) ∷
+    Blocked Locked (hart_id 3) ∷ Delivered (lost ([])) ∷ Blocked Behind (hart_id 0) ∷ Missed (line_addr 1028) Write ∷
+    Ran ∷ Ordered (lost ([])) ∷ Idle ∷ Stalled ∷ Served (lost ([])) ∷ Delivered (lost ([])) ∷ Served (lost ([])) ∷
+    Idle ∷ Ran ∷ Idle ∷ Ran ∷ Idle ∷ Delivered (lost ([])) ∷ Missed (line_addr 1028) Write ∷ Ordered (lost ([])) ∷
+    Idle ∷ Served (lost ([])) ∷ Idle ∷ Idle ∷ Idle ∷ Missed (line_addr 1027) Write ∷ Ordered (lost ([])) ∷ Idle ∷
+    Idle ∷ Served (lost ([])) ∷ Stalled ∷ Served (lost ([])) ∷ Ran ∷ Idle ∷ Missed (line_addr 1025) Write ∷ Idle ∷
+    Missed (line_addr 1028) Write ∷ Ordered (lost ([])) ∷ Ordered (lost ([])) ∷ Ran ∷ Blocked Locked (hart_id 2) ∷
+    Served (lost ([])) ∷ Idle ∷ Ran ∷ Stalled ∷ Idle ∷ Missed (line_addr 1027) Write ∷ Blocked Locked (hart_id 2) ∷
+    Ordered (lost ([])) ∷ Idle ∷ Idle ∷ Idle ∷ Blocked Locked (hart_id 2) ∷ Blocked Locked (hart_id 2) ∷ Stalled ∷
+    Ran ∷ Idle ∷ Stalled ∷ Missed (line_addr 1027) Write ∷ Missed (line_addr 1024) Read ∷ Ordered (lost ([])) ∷
+    Ordered (lost ([])) ∷ Served (lost ([])) ∷ Idle ∷ Stalled ∷ Began ∷ Stalled ∷ Idle ∷ Idle ∷
+    Blocked Behind (hart_id 3) ∷ Served (lost ([])) ∷ Missed (line_addr 1026) Write ∷ Ordered (lost ([])) ∷
+    Served (lost ([])) ∷ Ran ∷ Idle ∷ Idle ∷ Served (lost ([])) ∷ Served (lost ([])) ∷ Idle ∷ Buffered ∷
+    Missed (line_addr 1025) Write ∷ Ran ∷ Ordered (lost ([])) ∷ Idle ∷ Blocked Locked (hart_id 1) ∷ Idle ∷ Ran ∷ Idle ∷
+    Missed (line_addr 1024) Read ∷ Served (lost ([])) ∷ Missed (line_addr 1025) Write ∷ Idle ∷ RolledBack Mixed ∷
+    Idle ∷ Ordered (lost ([])) ∷ Idle ∷ Ran ∷ Idle ∷ Blocked Locked (hart_id 3) ∷ Ran ∷ Ran ∷ Idle ∷
+    Served (lost ([])) ∷ Ordered (lost ([])) ∷ Ran ∷ Served (lost ([])) ∷ Missed (line_addr 1024) Write ∷ Idle ∷ Idle ∷
+    Idle ∷ Idle ∷ Idle ∷ Missed (line_addr 1024) Write ∷ Idle ∷ Missed (line_addr 1024) Write ∷ Ordered (lost ([])) ∷
+    Ordered (lost ([])) ∷ Ordered (lost ([])) ∷ Blocked Behind (hart_id 2) ∷ Served (lost ([])) ∷
+    Delivered (lost ([])) ∷ Missed (line_addr 1024) Write ∷ Delivered (lost ([])) ∷ Idle ∷ Blocked Behind (hart_id 1) ∷
+    Delivered (lost ([])) ∷ Ordered (lost ([])) ∷ Blocked Behind (hart_id 1) ∷ Idle ∷ Ran ∷ Served (lost ([])) ∷
+    Blocked Locked (hart_id 1) ∷ Blocked Locked (hart_id 1) ∷ Blocked Behind (hart_id 3) ∷ Blocked Behind (hart_id 3) ∷
+    Stalled ∷ Blocked Locked (hart_id 1) ∷ Missed (line_addr 1024) Read ∷ Missed (line_addr 1024) Read ∷
+    Delivered (lost ([])) ∷ Idle ∷ Idle ∷ Ordered (lost ([])) ∷ Stalled ∷ Blocked Behind (hart_id 3) ∷
+    Ordered (lost ([])) ∷ Delivered (lost ([])) ∷ Blocked Behind (hart_id 3) ∷ Delivered (lost ([])) ∷
+    Blocked Behind (hart_id 3) ∷ Delivered (lost ([])) ∷ Blocked Behind (hart_id 3) ∷ Idle ∷
+    Blocked Behind (hart_id 3) ∷ Delivered (lost ([])) ∷ Blocked Behind (hart_id 3) ∷ Stalled ∷ Delivered (lost ([])) ∷
+    Stalled ∷ Idle ∷ Idle ∷ Idle ∷ Stalled ∷ Served (lost ([])) ∷ Idle ∷ Blocked Behind (hart_id 0) ∷
+    Blocked Locked (hart_id 3) ∷ Blocked Behind (hart_id 0) ∷ Idle ∷ Blocked Behind (hart_id 0) ∷
+    Delivered (lost ([])) ∷ Blocked Behind (hart_id 0) ∷ Blocked Behind (hart_id 0) ∷ Blocked Locked (hart_id 3) ∷
+    Stalled ∷ Stalled ∷ Delivered (lost ([])) ∷ Blocked Behind (hart_id 0) ∷ Idle ∷ Delivered (lost ([])) ∷ Stalled ∷
+    Ran ∷ Delivered (lost ([])) ∷ Idle ∷ Missed (line_addr 1026) Write ∷ Idle ∷ Delivered (lost ([])) ∷
+    Blocked Behind (hart_id 0) ∷ Blocked Behind (hart_id 0) ∷ []
+
+outcomes : outcomes_from first events ≡ expected
+unfolding computing
+outcomes = refl
+
+abbrev last : Ending
+last = record {
+  harts =
+      record {
+        section = None;
+        cache = (way 1025 M false false ∷ way 1027 M false false ∷ []) ∷ [];
+        raised = None;
+        held = None;
+        mail = [];
+        told = 1 ∷ 2 ∷ [];
+        upstream = 3 ∷ [];
+        fallback = true;
+        tries = 0;
+        clock = 1;
+        seen = 0;
+        attempt = None;
+        predictor = record { counters = (patched (replicate 64 2) ([])); watch = None };
+      } ∷ record {
+        section = None;
+        cache = ([]) ∷ [];
+        raised = None;
+        held = None;
+        mail = [];
+        told = 0 ∷ 2 ∷ [];
+        upstream = 0 ∷ [];
+        fallback = false;
+        tries = 0;
+        clock = 2;
+        seen = 0;
+        attempt = None;
+        predictor = record { counters = (patched (replicate 64 2) ((4, 3) ∷ (9, 3) ∷ [])); watch = None };
+      } ∷ record {
+        section = None;
+        cache = (way 1026 M false false ∷ []) ∷ [];
+        raised = None;
+        held = None;
+        mail = [];
+        told = [];
+        upstream = 1 ∷ [];
+        fallback = false;
+        tries = 0;
+        clock = 2;
+        seen = 0;
+        attempt = None;
+        predictor = record { counters = (patched (replicate 64 2) ((4, 3) ∷ (13, 0) ∷ [])); watch = None };
+      } ∷ record {
+        section = None;
+        cache = (way 1024 M false false ∷ []) ∷ [];
+        raised = (Some (request 3 1026 Write None));
+        held = None;
+        mail = [];
+        told = 0 ∷ 1 ∷ 2 ∷ [];
+        upstream = [];
+        fallback = false;
+        tries = 0;
+        clock = 2;
+        seen = 1;
+        attempt = None;
+        predictor = record { counters = (patched (replicate 64 2) ((4, 3) ∷ [])); watch = (Some (watch 131124 65536 2 1)) };
+      } ∷ [];
+  order = (request 0 1024 Write None) ∷ (request 1 1024 Read None) ∷ (request 2 1024 Read None) ∷ [];
+  pcs = 131124 ∷ 131124 ∷ 131136 ∷ 131128 ∷ [];
+  registers =
+      (0 ∷ 0 ∷ 65920 ∷ 0 ∷ 0 ∷ 65536 ∷ 1 ∷ 65600 ∷ 1 ∷ 2 ∷ 0 ∷ 4 ∷ 0 ∷ 0 ∷ 0 ∷ 0 ∷ 0 ∷ 0 ∷ 0 ∷ 0 ∷ 0 ∷ 0 ∷ 0 ∷ 0 ∷ 0 ∷ 0 ∷ 0 ∷ 0 ∷ 0 ∷ 0 ∷ 0 ∷ 0 ∷ []) ∷ (0 ∷ 0 ∷ 384 ∷ 0 ∷ 0 ∷ 65536 ∷ 1 ∷ 65600 ∷ 0 ∷ 2 ∷ 1 ∷ 4 ∷ 0 ∷ 0 ∷ 0 ∷ 0 ∷ 0 ∷ 0 ∷ 0 ∷ 0 ∷ 0 ∷ 0 ∷ 0 ∷ 0 ∷ 0 ∷ 0 ∷ 0 ∷ 0 ∷ 0 ∷ 0 ∷ 0 ∷ 0 ∷ []) ∷ (0 ∷ 0 ∷ 4294902144 ∷ 0 ∷ 0 ∷ 65536 ∷ 1 ∷ 65600 ∷ 0 ∷ 2 ∷ 2 ∷ 4 ∷ 0 ∷ 0 ∷ 0 ∷ 0 ∷ 0 ∷ 0 ∷ 0 ∷ 0 ∷ 0 ∷ 0 ∷ 0 ∷ 0 ∷ 0 ∷ 0 ∷ 0 ∷ 0 ∷ 0 ∷ 0 ∷ 0 ∷ 0 ∷ []) ∷ (0 ∷ 0 ∷ 4294836608 ∷ 0 ∷ 0 ∷ 65536 ∷ 1 ∷ 65600 ∷ 2 ∷ 2 ∷ 3 ∷ 4 ∷ 0 ∷ 0 ∷ 0 ∷ 0 ∷ 0 ∷ 0 ∷ 0 ∷ 0 ∷ 0 ∷ 0 ∷ 0 ∷ 0 ∷ 0 ∷ 0 ∷ 0 ∷ 0 ∷ 0 ∷ 0 ∷ 0 ∷ 0 ∷ []) ∷ [];
+  bytes = patched (replicate 384 0) ((0, 1) ∷ (128, 1) ∷ (196, 2) ∷ []);
+}
+
+ending : ending_of (state_after first events) ≡ last
+unfolding computing
+ending = refl

@@ -1,0 +1,2 @@
+-- a worked section with what code keeps of it
+pub mod Worked

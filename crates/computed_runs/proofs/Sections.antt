@@ -1,0 +1,2 @@
+-- a set full of access bits
+pub mod FullSet

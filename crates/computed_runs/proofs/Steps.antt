@@ -1,0 +1,2 @@
+-- worked steps
+pub mod Worked

@@ -6,7 +6,7 @@ use Rattle.el_base.specs.declared.config.ConfigFault.TheVariants.{Harts, Lines, 
 use Rattle.el_base.specs.declared.config.Mode.TheVariants.{Plain, Sle, Tlr}
 use Rattle.command_line.specs.Numbers.{number_of}
 use Rattle.command_line.specs.Settings.{config_of}
-use Rattle.command_line.specs.Words.{Job, Gen, Replay, Run, RunJob, job_of}
+use Rattle.command_line.specs.Words.{Job, Check, Gen, Replay, Run, RunJob, job_of}
 use Rattle.workload.specs.declared.work.Work.TheVariants.{Bank, Overflow}
 
 -- to run the image `a` with no option
@@ -20,7 +20,9 @@ bare = record {
   lines = None;
   long = None;
   steps = None;
+  threads = None;
   trace = None;
+  cert = None;
 }
 
 abbrev run_a : List (List ℕ) → Option Job
@@ -75,8 +77,28 @@ no_value = refl
 no_such_mode : run_a (codes "--mode" ∷ codes "none" ∷ []) ≡ None
 no_such_mode = refl
 
-no_such_option : run_a (codes "--threads" ∷ codes "5" ∷ []) ≡ None
+no_such_option : run_a (codes "--drivers" ∷ codes "5" ∷ []) ≡ None
 no_such_option = refl
+
+drivers : run_a (codes "--threads" ∷ codes "5" ∷ codes "--trace" ∷ codes "t" ∷ [])
+    ≡ Some (Run (record bare { threads = Some 5; trace = Some (codes "t") }))
+drivers = refl
+
+drivers_without_a_trace : run_a (codes "--threads" ∷ codes "5" ∷ []) ≡ None
+drivers_without_a_trace = refl
+
+no_turns : run_a (codes "--threads" ∷ codes "0" ∷ codes "--trace" ∷ codes "t" ∷ []) ≡ None
+no_turns = refl
+
+certified : run_a (codes "--cert=c" ∷ codes "--trace=t" ∷ [])
+    ≡ Some (Run (record bare { trace = Some (codes "t"); cert = Some (codes "c") }))
+certified = refl
+
+one_name_for_two_files : run_a (codes "--cert=t" ∷ codes "--trace" ∷ codes "t" ∷ []) ≡ None
+one_name_for_two_files = refl
+
+checks : job_of (codes "check" ∷ codes "a" ∷ codes "c" ∷ []) ≡ Some (Check (codes "a") (codes "c"))
+checks = refl
 
 given_twice : run_a (codes "--harts" ∷ codes "1" ∷ codes "--harts=1" ∷ []) ≡ None
 given_twice = refl

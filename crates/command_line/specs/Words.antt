@@ -1,11 +1,12 @@
 -- what the words of a command line ask for
-use Rattle.std.specs.Prelude.{ℕ, List, [], ◌∷◌, String, string_bytes, map, codes, bytes_eq, Option, None, Some, if◌then◌else◌}
+use Rattle.std.specs.Prelude.{ℕ, Bool, true, not, ◌&&◌, ◌||◌, nat_le, List, [], ◌∷◌, String, string_bytes, map, codes, bytes_eq, is_some, Option, None, Some, if◌then◌else◌}
 use Rattle.std.specs.Option.{option_map}
 use Rattle.std.specs.Global.{Global}
 use Rattle.el_base.specs.Modes.{mode_of}
 use Rattle.el_base.specs.declared.config.Mode.{Mode}
 use Rattle.command_line.specs.Fields.{Field, Form, ◌>>=◌, fields_of, value_in}
 use Rattle.command_line.specs.Numbers.{number_of}
+use Rattle.command_line.specs.declared.command.TheConstants.{MAX_TURNS}
 use Rattle.command_line.specs.declared.command.Command.{Command}
 use Rattle.command_line.specs.declared.command.Command.TheVariants as commands
 use Rattle.command_line.specs.declared.command.RunCommand.{RunCommand}
@@ -22,12 +23,16 @@ pub record RunJob : Type 0 where
   pub lines : Option ℕ
   pub long : Option ℕ
   pub steps : Option ℕ
+  pub threads : Option ℕ
   pub trace : Option (List ℕ)
+  pub cert : Option (List ℕ)
 
--- to run an image, to make the events of a trace again on its image, or to write an image of a kind and a number
+-- to run an image, to make the events of a trace again on its image, to judge a certificate of a run of its image,
+-- or to write an image of a kind and a number
 pub data Job : Type 0 where
   Run : (job : RunJob) → Job
   Replay : (image trace : List ℕ) → Job
+  Check : (image certificate : List ℕ) → Job
   Gen : (kind : Work) → (number : ℕ) → (file : List ℕ) → Job
 
 -- the bytes of each word
@@ -39,12 +44,35 @@ abbrev pub optional : {A : Type 0} → (List ℕ → Option A) → Option (List 
 optional means None = Some None
 optional means (Some word) = option_map (λ value. Some value) (means word)
 
--- `IMAGE [--mode plain|sle|tlr] [--harts N] [--sets N] [--ways N] [--lines N] [--long N] [--steps N] [--trace FILE]`
+-- the number of a word that may be the turns of each driver
+abbrev pub in_turns : ℕ → Option ℕ
+in_turns number = if nat_le 1 number && nat_le number MAX_TURNS then Some number else None
+
+abbrev pub turns_of : List ℕ → Option ℕ
+turns_of word = number_of word >>= in_turns
+
+-- drivers are given only beside a trace, which tells what they did
+abbrev pub is_traced : RunJob → Bool
+is_traced job = not (is_some job.threads) || is_some job.trace
+
+-- no file has two contents
+abbrev pub are_apart : Option (List ℕ) → Option (List ℕ) → Bool
+are_apart (Some one) (Some other) = not (bytes_eq one other)
+are_apart (Some one) None = true
+are_apart None other = true
+
+-- a run that can be asked for
+abbrev pub run_asked : RunJob → Option Job
+run_asked job = if is_traced job && are_apart job.trace job.cert then Some (Run job) else None
+
+-- `IMAGE [--mode plain|sle|tlr] [--harts N] [--sets N] [--ways N] [--lines N] [--long N] [--steps N] [--threads TURNS]
+-- [--trace FILE] [--cert FILE]`
 abbrev pub run_form : Form
 run_form = record {
   positionals = codes "image" ∷ [];
   options =
-      codes "mode" ∷ codes "harts" ∷ codes "sets" ∷ codes "ways" ∷ codes "lines" ∷ codes "long" ∷ codes "steps" ∷ codes "trace" ∷ [];
+      codes "mode" ∷ codes "harts" ∷ codes "sets" ∷ codes "ways" ∷ codes "lines" ∷ codes "long" ∷ codes "steps" ∷
+      codes "threads" ∷ codes "trace" ∷ codes "cert" ∷ [];
 }
 
 abbrev pub run_in : List Field → Option Job
@@ -57,7 +85,8 @@ run_in fields = do
   lines ← optional number_of (value_in fields (codes "lines"))
   long ← optional number_of (value_in fields (codes "long"))
   steps ← optional number_of (value_in fields (codes "steps"))
-  Some (Run (record {
+  threads ← optional turns_of (value_in fields (codes "threads"))
+  run_asked (record {
     image = image;
     mode = mode;
     harts = harts;
@@ -66,8 +95,10 @@ run_in fields = do
     lines = lines;
     long = long;
     steps = steps;
+    threads = threads;
     trace = value_in fields (codes "trace");
-  }))
+    cert = value_in fields (codes "cert");
+  })
 
 abbrev pub run_of : List (List ℕ) → Option Job
 run_of words = fields_of run_form words >>= run_in
@@ -84,6 +115,19 @@ replay_in fields = do
 
 abbrev pub replay_of : List (List ℕ) → Option Job
 replay_of words = fields_of replay_form words >>= replay_in
+
+-- `IMAGE CERT`
+abbrev pub check_form : Form
+check_form = record { positionals = codes "image" ∷ codes "cert" ∷ []; options = [] }
+
+abbrev pub check_in : List Field → Option Job
+check_in fields = do
+  image ← value_in fields (codes "image")
+  certificate ← value_in fields (codes "cert")
+  Some (Check image certificate)
+
+abbrev pub check_of : List (List ℕ) → Option Job
+check_of words = fields_of check_form words >>= check_in
 
 -- `KIND NUMBER FILE`
 abbrev pub gen_form : Form
@@ -114,6 +158,7 @@ job_of [] = None
 job_of (name ∷ words) =
     if bytes_eq name (codes "run") then run_of words
     else if bytes_eq name (codes "replay") then replay_of words
+    else if bytes_eq name (codes "check") then check_of words
     else if bytes_eq name (codes "gen") then gen_of words
     else None
 
@@ -128,10 +173,13 @@ run_meaning command = record {
   lines = command.lines;
   long = command.long;
   steps = command.steps;
+  threads = command.threads;
   trace = option_map (λ name. name.now) command.trace;
+  cert = option_map (λ name. name.now) command.certificate;
 }
 
 abbrev pub meaning : Command → Job
 meaning (commands.Run command) = Run (run_meaning command)
 meaning (commands.Replay image trace) = Replay image.now trace.now
+meaning (commands.Check image certificate) = Check image.now certificate.now
 meaning (commands.Gen kind number file) = Gen kind number file.now

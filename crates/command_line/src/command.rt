@@ -1,6 +1,9 @@
 use el_base::Mode;
 use workload::Work;
 
+/// The most turns of each driver.
+pub const MAX_TURNS: u32 = 16_777_216;
+
 /// What a command line asks for.
 #[derive(Clone, Copy, Debug, PartialEq, Eq)]
 pub enum Command<'a> {
@@ -10,6 +13,11 @@ pub enum Command<'a> {
     Replay {
         image: &'a str,
         trace: &'a str,
+    },
+    /// Judge a certificate of a run of its image.
+    Check {
+        image: &'a str,
+        certificate: &'a str,
     },
     /// Write an image of this kind, made from a number, to a file.
     Gen {
@@ -39,6 +47,10 @@ pub struct RunCommand<'a> {
     pub long: Option<u32>,
     /// `--steps`, the most events of the run.
     pub steps: Option<u32>,
+    /// `--threads`, the turns of each driver before the round robin, 1 to 16,777,216.
+    pub threads: Option<u32>,
     /// `--trace`, the file that the trace is to be written to.
     pub trace: Option<&'a str>,
+    /// `--cert`, the file that the certificate of the run is to be written to.
+    pub certificate: Option<&'a str>,
 }

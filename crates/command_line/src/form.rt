@@ -13,13 +13,19 @@ pub(crate) struct Form {
 pub(crate) const RUN: Form = Form {
     positionals: &["image"],
     options: &[
-        "mode", "harts", "sets", "ways", "lines", "long", "steps", "trace",
+        "mode", "harts", "sets", "ways", "lines", "long", "steps", "threads", "trace", "cert",
     ],
 };
 
 /// What `replay` takes.
 pub(crate) const REPLAY: Form = Form {
     positionals: &["image", "trace"],
+    options: &[],
+};
+
+/// What `check` takes.
+pub(crate) const CHECK: Form = Form {
+    positionals: &["image", "cert"],
     options: &[],
 };
 

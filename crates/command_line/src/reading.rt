@@ -2,12 +2,12 @@
 
 ghost use Rattle.std.specs.Prelude.{◌≡◌, None, Some, IfOk, MatchResult, option_map};
 ghost use Rattle.el_base.specs.Modes.{mode_of};
-ghost use Rattle.command_line.specs.Words.{gen_of, job_of, kind_of, meaning, optional, replay_of, run_of, texts};
+ghost use Rattle.command_line.specs.Words.{are_apart, check_of, gen_of, is_traced, job_of, kind_of, meaning, optional, replay_of, run_meaning, run_of, texts, turns_of};
 ghost use Rattle.command_line.specs.Numbers.{number_of};
 
-use crate::command::{Command, RunCommand};
+use crate::command::{Command, MAX_TURNS, RunCommand};
 use crate::fault::WordsFault;
-use crate::form::{GEN, REPLAY, RUN};
+use crate::form::{CHECK, GEN, REPLAY, RUN};
 use crate::matching::Given;
 use crate::numbers::read_number;
 use el_base::Mode;
@@ -26,6 +26,7 @@ pub fn read_words(alloc: Global, words: &[String]) -> Result<Command<'_>, WordsF
     match name.as_str() {
         "run" => read_run(alloc, words),
         "replay" => read_replay(alloc, words),
+        "check" => read_check(alloc, words),
         "gen" => read_gen(alloc, words),
         _ => Err(WordsFault::Usage),
     }
@@ -36,7 +37,7 @@ fn read_run(alloc: Global, words: &[String]) -> Result<Command<'_>, WordsFault>
     ensures refused { result ≡ Err WordsFault.Usage → run_of (texts words.now) ≡ None }
 {
     let given = Given::by_form(alloc, RUN, words)?;
-    Ok(Command::Run(RunCommand {
+    let command = RunCommand {
         image: given.value("image").ok_or(WordsFault::Usage)?,
         mode: read_optional_mode(given.value("mode"))?,
         harts: read_optional_number(given.value("harts"))?,
@@ -45,8 +46,34 @@ fn read_run(alloc: Global, words: &[String]) -> Result<Command<'_>, WordsFault>
         lines: read_optional_number(given.value("lines"))?,
         long: read_optional_number(given.value("long"))?,
         steps: read_optional_number(given.value("steps"))?,
+        threads: read_optional_turns(given.value("threads"))?,
         trace: given.value("trace"),
-    }))
+        certificate: given.value("cert"),
+    };
+    if command.is_traced() && are_apart(command.trace, command.certificate) {
+        Ok(Command::Run(command))
+    } else {
+        Err(WordsFault::Usage)
+    }
+}
+
+impl RunCommand<'_> {
+    /// Whether there is a trace where drivers are asked for, since it alone tells what they did.
+    fn is_traced(self) -> bool
+        ensures { result ≡ is_traced (run_meaning self.entry) }
+    {
+        self.threads.is_none() || self.trace.is_some()
+    }
+}
+
+/// Whether no file would have two contents.
+fn are_apart(one: Option<&str>, other: Option<&str>) -> bool
+    ensures { result ≡ are_apart (option_map (λ name. name.now) one.entry) (option_map (λ name. name.now) other.entry) }
+{
+    match (one, other) {
+        (Some(one), Some(other)) => one != other,
+        _ => true,
+    }
 }
 
 fn read_replay(alloc: Global, words: &[String]) -> Result<Command<'_>, WordsFault>
@@ -57,6 +84,17 @@ fn read_replay(alloc: Global, words: &[String]) -> Result<Command<'_>, WordsFaul
     Ok(Command::Replay {
         image: given.value("image").ok_or(WordsFault::Usage)?,
         trace: given.value("trace").ok_or(WordsFault::Usage)?,
+    })
+}
+
+fn read_check(alloc: Global, words: &[String]) -> Result<Command<'_>, WordsFault>
+    ensures accepted { IfOk result (λ command. check_of (texts words.now) ≡ Some (meaning command)) }
+    ensures refused { result ≡ Err WordsFault.Usage → check_of (texts words.now) ≡ None }
+{
+    let given = Given::by_form(alloc, CHECK, words)?;
+    Ok(Command::Check {
+        image: given.value("image").ok_or(WordsFault::Usage)?,
+        certificate: given.value("cert").ok_or(WordsFault::Usage)?,
     })
 }
 
@@ -83,6 +121,29 @@ fn read_optional_number(word: Option<&str>) -> Result<Option<u32>, WordsFault>
     match word {
         Some(word) => Ok(Some(read_number(word).ok_or(WordsFault::Usage)?)),
         None => Ok(None),
+    }
+}
+
+/// The turns of each driver, where they are given.
+fn read_optional_turns(word: Option<&str>) -> Result<Option<u32>, WordsFault>
+    ensures { MatchResult result
+        (λ turns. optional turns_of (option_map (λ word. word.now) word.entry) ≡ Some turns)
+        (λ fault. (fault ≡ WordsFault.Usage) × (optional turns_of (option_map (λ word. word.now) word.entry) ≡ None)) }
+{
+    match word {
+        Some(word) => Ok(Some(read_turns(word).ok_or(WordsFault::Usage)?)),
+        None => Ok(None),
+    }
+}
+
+fn read_turns(word: &str) -> Option<u32>
+    ensures { result ≡ turns_of word.now }
+{
+    let turns = read_number(word)?;
+    if (1..=MAX_TURNS).contains(&turns) {
+        Some(turns)
+    } else {
+        None
     }
 }
 

@@ -12,7 +12,9 @@ const BARE: RunCommand = RunCommand {
     lines: None,
     long: None,
     steps: None,
+    threads: None,
     trace: None,
+    certificate: None,
 };
 
 fn strings(alloc: Global, words: &[&str]) -> Result<Vec<String>, AllocError> {
@@ -32,7 +34,7 @@ fn in_mode(mode: Mode) -> Command<'static> {
 
 #[test]
 fn command_lines_mean_what_they_say(rt: HostRuntime) -> Result<(), Fail> {
-    let rows: [(&[&str], Command); 11] = [
+    let rows: [(&[&str], Command); 13] = [
         (&["run", "a"], Command::Run(BARE)),
         (
             &[
@@ -63,11 +65,36 @@ fn command_lines_mean_what_they_say(rt: HostRuntime) -> Result<(), Fail> {
                 long: Some(2),
                 steps: Some(33),
                 trace: Some("t"),
+                ..BARE
             }),
         ),
         (&["run", "a", "--mode", "plain"], in_mode(Mode::Plain)),
         (&["run", "--mode=sle", "a"], in_mode(Mode::Sle)),
         (&["run", "a", "--mode=tlr"], in_mode(Mode::Tlr)),
+        (
+            &[
+                "run",
+                "a",
+                "--threads=16777216",
+                "--trace",
+                "t",
+                "--cert",
+                "c",
+            ],
+            Command::Run(RunCommand {
+                threads: Some(16_777_216),
+                trace: Some("t"),
+                certificate: Some("c"),
+                ..BARE
+            }),
+        ),
+        (
+            &["check", "a", "c"],
+            Command::Check {
+                image: "a",
+                certificate: "c",
+            },
+        ),
         (
             &["replay", "a", "t"],
             Command::Replay {
@@ -156,7 +183,7 @@ fn words_that_begin_with_a_dash(rt: HostRuntime) -> Result<(), Fail> {
 
 #[test]
 fn other_words_are_no_command_line(rt: HostRuntime) -> Result<(), Fail> {
-    let rows: [&[&str]; 28] = [
+    let rows: [&[&str]; 32] = [
         &[],
         &["walk", "x"],
         &["--harts=2"],
@@ -170,6 +197,10 @@ fn other_words_are_no_command_line(rt: HostRuntime) -> Result<(), Fail> {
         &["run", "a", "--steps", "4294967296"],
         &["run", "a", "--steps", "00000000001"],
         &["run", "a", "--threads", "5"],
+        &["run", "a", "--threads", "0", "--trace", "t"],
+        &["run", "a", "--threads", "16777217", "--trace", "t"],
+        &["run", "a", "--cert", "t", "--trace", "t"],
+        &["check", "a"],
         &["run", "a", "--mode"],
         &["run", "a", "--mode", "none"],
         &["run", "a", "--mode", "Plain"],

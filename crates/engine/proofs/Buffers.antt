@@ -1,8 +1,8 @@
 -- an instruction of a section may be buffered
 use Rattle.std.proofs.Common.{◌≡◌, ◌∙◌, ℕ, ◌+◌, ◌%◌, ◌<◌, length, slice_index, ◌≤◌, ◌++◌, [], ◌∷◌, Bool, true}
-use Rattle.std.proofs.Common.{false, List, Option, Some, None, not, ◌||◌, inl, inr, refl, ap, sym, subst, arith}
+use Rattle.std.proofs.Common.{false, List, Option, Some, None, is_some, not, ◌||◌, inl, inr, refl, ap, sym, subst, arith}
 use Rattle.cache_sets.proofs.MarkLemmas.{write_bits_of-touched}
-use Rattle.cache_sets.specs.Cache.{is_resident, write_bits_of}
+use Rattle.cache_sets.specs.Cache.{bit_in, has_bit, is_resident, way_of, write_bits_of}
 use Rattle.cache_sets.specs.Cached.{Cached, cached_byte, copy_in}
 use Rattle.cache_sets.specs.Residency.{Way}
 use Rattle.cache_sets.specs.WellFormed.{IsWellFormed}
@@ -21,7 +21,7 @@ use Rattle.el_model.specs.Next as next_events
 use Rattle.el_model.specs.State.{ModelState, Section, begin, cache_of, hart_of, section_of, with_hart}
 use Rattle.el_base.specs.declared.hart_id.HartId.{HartId}
 use Rattle.el_base.specs.declared.line.TheConstants.{LINE_BYTES}
-use Rattle.el_base.specs.declared.outcomes.Need.TheVariants.{Write}
+use Rattle.el_base.specs.declared.outcomes.Need.TheVariants.{Read, Write}
 use Rattle.el_base.specs.declared.outcomes.Outcome.TheVariants.{Buffered}
 use Rattle.coherence.proofs.Fetched.{copy_resident}
 use Rattle.coherence.proofs.Owners.{copy_is}
@@ -30,7 +30,7 @@ use Rattle.engine.proofs.Covering.{IsThere, bits_with, covered_there, formed_wit
 use Rattle.engine.proofs.InsideRules.{says}
 use Rattle.engine.proofs.Misses as misses
 use Rattle.engine.proofs.Stepped.{step_of, turn_is}
-use Rattle.engine.proofs.KeptLive.{KeepsLive, keeps_live, kept_of, next_inside, same_action}
+use Rattle.engine.proofs.KeptLive.{HasBytesOf, KeepsLive, keeps_live, kept_of, next_inside, same_action}
 use Rattle.engine.specs.Acting.{ActsInside, MayAct, cache_in, next_action}
 use Rattle.engine.specs.Covered.{HasItsBitNow, with_its_bit}
 use Rattle.engine.specs.Inside.{FollowsRule}
@@ -48,7 +48,7 @@ use Rattle.section_laws.proofs.Bounds.{written_lines_are_few}
 use Rattle.section_ctl.proofs.Shows.{agrees}
 use Rattle.section_ctl.specs.Calls as calls
 use Rattle.section_ctl.specs.Calls.{ends_section, run_of}
-use Rattle.section_ctl.specs.PrivateRuns.{HasBytesOf, IsKept}
+use Rattle.section_ctl.specs.PrivateRuns.{HasCoveredBytes, IsKept}
 use Rattle.section_view.proofs.ShownBytes.{do_as_shown}
 use Rattle.section_view.specs.KeptRun.{HoldsMarked, section_byte, section_execution}
 use Rattle.section_view.specs.Laws.{AgreeBeside}
@@ -88,6 +88,17 @@ same_memory flat old new same bytes address low resident =
     ap (λ row. slice_index row (address % LINE_BYTES)) (same_bytes old new (line_number address) (same (line_number address)))
     ∙ bytes address low (same_resident old new (line_number address) (same (line_number address)) resident)
 
+-- a line with a bit is there
+resident_with_any : (cache : List (List Way)) (line : ℕ) → has_bit cache line ≡ true → is_resident cache line ≡ true
+resident_with_any cache line bit = by (way_of cache line) bit
+  where
+    by : (way : Option Way) → (bit_in Read way || bit_in Write way) ≡ true → is_some way ≡ true
+    by None bit = absurd cc
+    by (Some way) bit = refl
+
+covered_memory : (flat : FlatState) (cache : Cached) → HasBytesOf flat cache → HasCoveredBytes flat cache
+covered_memory flat cache bytes address low bit = bytes address low (resident_with_any cache.residency (line_number address) bit)
+
 pub can_buffer : (parts : Parts) (h : ℕ) (from : ModelState) (section : Section) (touch : Option Touch) (cache : Cached) →
     FollowsRule parts h from section (Buffers touch) → HasItsBitNow (cache_in parts h) cache touch → CanBuffer parts h from section touch cache
 can_buffer parts h from section touch cache follows now =
@@ -106,7 +117,7 @@ can_buffer parts h from section touch cache follows now =
       run = subst (λ c. IsCoveredRun from.committed h c section) (sym residency)
           (run_kept from.committed h old (with_its_bit old touch) section (bits_with old touch) kept.run);
       keeps = kept.keeps;
-      bytes = same_memory from.committed (cache_in parts h) cache now.copies kept.bytes;
+      bytes = covered_memory from.committed cache (same_memory from.committed (cache_in parts h) cache now.copies kept.bytes);
     } in
     record {
       kept = kept;

@@ -1,5 +1,9 @@
 -- what a hart keeps of its live section, and what comes next in it
-use Rattle.std.proofs.Common.{◌≡◌, ◌∙◌, ℕ, ◌-◌, length, Some, ap, sym, subst}
+use Rattle.std.proofs.Common.{◌≡◌, ◌∙◌, ℕ, ◌-◌, ◌≤◌, length, Some, ap, sym, subst, true}
+use Rattle.cache_sets.specs.Cache.{is_resident}
+use Rattle.cache_sets.specs.Cached.{Cached, cached_byte}
+use Rattle.el_base.specs.Line.{line_number}
+use Rattle.rv_flat.specs.Memory.{byte_in}
 use Rattle.cached_step.proofs.Told.{byte_told}
 use Rattle.cached_step.specs.Memory.{TellsMemory}
 use Rattle.el_model.specs.InSection.{shown_in}
@@ -14,9 +18,8 @@ use Rattle.run_laws.proofs.Reachable.{live_sections_run_covered}
 use Rattle.run_laws.specs.PrivateRun.{IsCoveredRun}
 use Rattle.rv_alu.specs.Action.{action_at}
 use Rattle.rv_alu.specs.declared.action.Action.{Action}
-use Rattle.rv_flat.specs.FlatState.{output_limit, span_of}
+use Rattle.rv_flat.specs.FlatState.{FlatState, output_limit, span_of}
 use Rattle.rv_flat.specs.Step.{action_of}
-use Rattle.section_ctl.specs.PrivateRuns.{HasBytesOf}
 use Rattle.section_ctl.specs.State as sections
 use Rattle.section_ctl.specs.State.{IsLive, SectionState}
 use Rattle.section_view.proofs.Shapes.{comes_to}
@@ -27,6 +30,12 @@ use Rattle.step_rules.specs.Actions.{IsNext}
 
 abbrev pub kept_of : Parts → ℕ → SectionState
 kept_of parts h = (own_at parts.harts h).section
+
+-- each line of memory that a cache has, has the bytes of memory
+abbrev pub HasBytesOf : FlatState → Cached → Type 0
+HasBytesOf memory cache =
+    (address : ℕ) → memory.base ≤ address → is_resident cache.residency (line_number address) ≡ true →
+    cached_byte cache address ≡ byte_in memory.base memory.bytes address
 
 pub record KeepsLive (parts : Parts) (h : ℕ) (from : ModelState) (section : Section) : Type 0 where
   pub run : IsCoveredRun from.committed h (cache_of from h) section

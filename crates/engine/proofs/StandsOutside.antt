@@ -141,18 +141,3 @@ module _ (parts : Parts) (h : ℕ) (state : ModelState) (acts : ActsOutside part
   elides_is mode may mode_is is =
       is ∙ ap (λ m. may_elide m (hart_of (freed state h) h) (committed_pc (own_at parts.harts h))) mode_is
       ∙ ap (λ view. may_elide state.config.mode (hart_of (freed state h) h) view.pc) is_own.view
-
-  -- a watch that stands may count one instruction more
-  pub watch_short : IfSome (own_at parts.harts h).predictor.watch (λ watch. watch.count < 2 ^ 32 - 1)
-  watch_short = by (own_at parts.harts h).predictor.watch there
-    where
-      there : (hart_of state h).predictor.watch ≡ (own_at parts.harts h).predictor.watch
-      there = ap (λ hart. hart.predictor.watch) (sym (freed_here state h inside)) ∙ ap (λ predictor. predictor.watch) (sym is_own.part.predictor)
-
-      by : (watch : Option Watch) → (hart_of state h).predictor.watch ≡ watch → IfSome watch (λ w. w.count < 2 ^ 32 - 1)
-      by None is = tt
-      by (Some watch) is =
-          let reached = acts.may.reached in
-          let short = watches_are_short reached.program reached.config reached.events h watch reached.in_range
-          (ap (λ s. (hart_of s h).predictor.watch) (sym reached.state_is) ∙ is) in
-          omega (arith, short.fewer, at_most 2 65536 reached.config.long (ranges reached.config reached.in_range).long)

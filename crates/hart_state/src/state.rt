@@ -151,7 +151,6 @@ impl HartState {
     /// no watch stood before: a swap that changes its word, in a mode that elides. `swap` is the swap that the
     /// action is, if it is one, with the word that it finds.
     pub fn has_run(&mut self, config: &Config, pc: u32, action: &Action, swap: Option<Swap>)
-        requires can_count { IfSome self.old.predictor.watch (λ watch. watch.count < 2 ^ 32 - 1) }
         ensures ran { (state : ModelState) (h : ℕ) → IsNextStep state h config.now pc action.now swap →
             self.new ≡ ran_own state h self.old }
         ensures rest_stays { self.new ≡ record self.old {
@@ -264,7 +263,6 @@ impl HartState {
 
     /// The watch, if one stands, sees an instruction.
     fn see(&mut self, action: &Action, long: u32)
-        requires can_count { IfSome self.old.predictor.watch (λ watch. watch.count < 2 ^ 32 - 1) }
         ensures seen { (state : ModelState) (h : ℕ) → IsNext action.now state.committed h →
             state.config.long ≡ long → self.new ≡ record self.old {
               predictor = plain.watched state h self.old.predictor self.old.predictor.watch;

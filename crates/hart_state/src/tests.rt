@@ -113,10 +113,7 @@ fn the_fourth_loss_in_a_row_takes_the_lock_where_attempts_have_no_stamps(
 
 /// A candidate at a place runs, which finds 7 in a word and stores 8 there.
 fn run_candidate(hart: &mut HartState, pc: u32, word: u32) -> Result<(), Fail>
-    requires few { IfSome hart.old.predictor.watch (λ watch. watch.count < 100) }
-    ensures rest_stays { hart.new.section ≡ hart.old.section }
-    ensures few { IfSome hart.new.predictor.watch (λ watch. watch.count < 101) }
-    ensures first { hart.old.predictor.watch ≡ None → IfSome hart.new.predictor.watch (λ watch. watch.count < 2) }
+    ensures { hart.new.section ≡ hart.old.section }
 {
     let (action, swap) = swap_of(word, 7, 8)?;
     hart.has_run(&Config::usual(), pc, &action, Some(swap));
@@ -127,8 +124,7 @@ fn run_candidate(hart: &mut HartState, pc: u32, word: u32) -> Result<(), Fail>
 fn roll_back(hart: &mut HartState, found: Reg, cause: Cause)
     requires idle { hart.old.section.live ≡ None }
     requires running { hart.old.section.marks.present.status ≡ Running }
-    ensures idle { hart.new.section.live ≡ None }
-    ensures unwatched { hart.new.predictor.watch ≡ None }
+    ensures { hart.new.section.live ≡ None }
 {
     hart.begin(ACQUIRE, found);
     hart.roll_back(cause);

@@ -1,5 +1,5 @@
 -- the predictor of one hart: counters, and at most one watch
-use Rattle.std.specs.Prelude.{ℕ, ◌+◌, ◌-◌, ◌/◌, ◌%◌, Bool, ◌||◌, List, replicate, slice_index, slice_set, Option, None, Some, min, ◌==◌, if◌then◌else◌}
+use Rattle.std.specs.Prelude.{ℕ, ◌+◌, ◌-◌, ◌/◌, ◌%◌, ◌||◌, List, replicate, slice_index, slice_set, Option, None, Some, min, ◌==◌, if◌then◌else◌}
 use Rattle.pair_table.specs.declared.seen.Seen.{Seen}
 use Rattle.pair_table.specs.declared.verdict.Verdict.{Verdict}
 use Rattle.pair_table.specs.declared.verdict.Verdict.TheVariants.{Up, Down}
@@ -59,19 +59,23 @@ abbrev pub judged : Predictor → Watch → Option Verdict → Predictor
 judged predictor watch (Some verdict) = unwatched (settled predictor watch.pc verdict)
 judged predictor watch None = record predictor { watch = Some watch }
 
+-- how many instructions a watch counts at most; its count stands still there
+abbrev pub most_counted : ℕ
+most_counted = 4294967295
+
 -- the watch after one more instruction
 abbrev pub counting : Watch → Watch
-counting watch = record watch { count = watch.count + 1 }
+counting watch = record watch { count = min (watch.count + 1) most_counted }
 
 -- the verdict that one more instruction gives on the watch, if any stands
 abbrev pub saw_verdict : Option Watch → Seen → ℕ → Option Verdict
 saw_verdict None seen long = None
-saw_verdict (Some watch) seen long = verdict_on seen long (watch.count + 1)
+saw_verdict (Some watch) seen long = verdict_on seen long (counting watch).count
 
 -- the predictor after one more instruction
 abbrev pub saw_with : Predictor → Option Watch → Seen → ℕ → Predictor
 saw_with predictor None seen long = predictor
-saw_with predictor (Some watch) seen long = judged predictor (counting watch) (verdict_on seen long (watch.count + 1))
+saw_with predictor (Some watch) seen long = judged predictor (counting watch) (verdict_on seen long (counting watch).count)
 
 abbrev pub saw_of : Predictor → Seen → ℕ → Predictor
 saw_of predictor seen long = saw_with predictor predictor.watch seen long

@@ -1,4 +1,4 @@
-ghost use Rattle.std.specs.Prelude.{◌≡◌, ◌<◌, ◌≤◌, ◌-◌, ◌^◌, None, IfSome};
+ghost use Rattle.std.specs.Prelude.{◌≡◌, ◌<◌, ◌≤◌, None, IfSome};
 ghost use Rattle.std.specs.Option.{option_map};
 ghost use Rattle.pair_table.specs.Predictor.{
   confidence_of,
@@ -106,18 +106,17 @@ impl PairTable {
     }
 
     /// Counts one more instruction that ran outside of a section, where an acquire is watched, and
-    /// learns what it says of it: `long` is how many instructions a section may have. `None` where no
-    /// acquire is watched and where this instruction does not settle it. An acquire that is settled is
-    /// watched no more.
+    /// learns what it says of it: `long` is how many instructions a section may have. The count stands
+    /// still at 2³² - 1. `None` where no acquire is watched and where this instruction does not settle
+    /// it. An acquire that is settled is watched no more.
     pub fn saw(&mut self, seen: Seen, long: u32) -> Option<Verdict>
-        requires can_count { IfSome self.old.watch (λ watch. watch.count < 2 ^ 32 - 1) }
         ensures verdict { result ≡ saw_verdict self.old.watch seen long }
         ensures exact { self.new ≡ saw_of self.old seen long }
         ensures settled_is_gone { IfSome self.old.watch (λ watch. IfSome result (λ verdict.
             self.new ≡ unwatched (settled self.old watch.pc verdict))) }
     {
         let mut watch = self.watch?;
-        watch.count += 1;
+        watch.count = watch.count.saturating_add(1);
         let verdict = judge(seen, long, watch.count);
         self.conclude(watch, verdict);
         verdict

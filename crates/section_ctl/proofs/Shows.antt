@@ -5,7 +5,7 @@ use Rattle.std.specs.Option.{unwrap_or}
 use Rattle.std.specs.Prelude.{IfSome, IsSome, if◌then◌else◌}
 use Rattle.std.proofs.lemmas.Bool.{cases_eq}
 use Rattle.cache_sets.proofs.CacheLemmas.{way_of-touched}
-use Rattle.cache_sets.specs.Cache.{bit_in, has_bit, is_resident, marked, touched, way_of, write_bit}
+use Rattle.cache_sets.specs.Cache.{bit_in, is_resident, marked, touched, way_of, write_bit}
 use Rattle.cache_sets.specs.Cached.{Cached, bytes_of, cached_byte}
 use Rattle.cache_sets.specs.Residency.{Way}
 use Rattle.el_base.specs.Line.{line_number}
@@ -28,7 +28,7 @@ use Rattle.rv_alu.specs.declared.view.HartStatus.TheVariants.{Running}
 use Rattle.rv_alu.specs.declared.view.HartView.{HartView}
 use Rattle.rv_word.specs.Decoding.{decoded}
 use Rattle.rv_word.specs.declared.reg.Reg.{Reg}
-use Rattle.section_ctl.proofs.Drained.{bytes_or_none, copy_of, resident_with_bit}
+use Rattle.section_ctl.proofs.Drained.{bytes_or_none, copy_of}
 use Rattle.section_view.proofs.Beginning.{begins}
 use Rattle.section_view.proofs.Committing.{commits, released_view_told}
 use Rattle.section_view.proofs.GoingOn.{goes_on}
@@ -39,17 +39,9 @@ use Rattle.section_view.specs.Release.{HasEffect, released_view}
 use Rattle.write_hold.proofs.LookUps.{held_no_line, holds_after_put_other}
 use Rattle.write_hold.specs.Held.{Entry, Held, held, holds}
 use Rattle.section_ctl.specs.Calls.{HasCommitted, HasReleased, HasReleasedBy, HasRun, IsCoveredIn, begun_state, committed_copy, run_of}
-use Rattle.section_ctl.specs.PrivateRuns.{BeginsRun, CommitsCode, CommitsRun, GoesOnRun, HasBytesOf, IsKept, TakesEffect}
+use Rattle.section_ctl.specs.PrivateRuns.{BeginsRun, CommitsCode, CommitsRun, FollowsMemory, GoesOnRun, IsKept, TakesEffect}
 use Rattle.section_ctl.specs.State.{SectionState, section_of}
 use Rattle.section_ctl.specs.declared.live.Live.{Live}
-
--- a line with a bit is there
-resident_with_any : (cache : List (List Way)) (line : ℕ) → has_bit cache line ≡ true → is_resident cache line ≡ true
-resident_with_any cache line bit = by (way_of cache line) bit
-  where
-    by : (way : Option Way) → (bit_in Read way || bit_in Write way) ≡ true → is_some way ≡ true
-    by None bit = absurd cc
-    by (Some way) bit = refl
 
 -- the cache has the committed bytes wherever what comes next touches memory
 pub agrees : (committed : FlatState) (h : ℕ) (state : SectionState) (section : Section) (cache : Cached) → IsKept committed h state section cache →
@@ -61,7 +53,7 @@ agrees committed h state section cache kept covered address there outside =
     let bit = subst (λ a. HasItsBit cache.residency (touch_of a)) access covered.bit in
     let touched = touched_on_bit (span_of committed) cache.residency (touched_by committed view) address (one_line-touched committed view)
     (on_bit cache.residency (touch_of (touched_by committed view)) bit) there in
-    kept.bytes address touched.above (resident_with_any cache.residency (line_number address) touched.bit)
+    kept.bytes address touched.above touched.bit
 
 pub goes_on_run : (old new : SectionState) (section : Section) (cache : Cached) (action : Action) → HasRun old new section (run_of old section cache action) →
     GoesOnRun old new section cache action
@@ -128,15 +120,9 @@ bytes_committed way None left right written there same = absurd cc
 bytes_committed None (Some w) left right written there same = absurd cc
 bytes_committed (Some way) (Some w) left right written there same = ap bytes_or_none same
 
-resident_before : (way other : Option Way) (left right : List ℕ) (written : Bool) → is_some other ≡ true →
-    option_map (copy_of left) other ≡ option_map (committed_copy written) (option_map (copy_of right) way) → is_some way ≡ true
-resident_before way None left right written there same = absurd cc
-resident_before None (Some w) left right written there same = absurd cc
-resident_before (Some way) (Some w) left right written there same = refl
-
 -- the cache has the bytes of memory after a commit
-module _ (committed done : FlatState) (h word : ℕ) (view : HartView) (hold : List Entry) (old new : Cached) (effect : HasEffect committed done h word view hold)
-    (has : HasBytesOf committed old) (marked : HoldsMarked old.residency hold) (puts : HasCommitted old new hold) where
+module _ (committed done : FlatState) (h word : ℕ) (view : HartView) (hold : List Entry) (old new : Cached)
+    (effect : HasEffect committed done h word view hold) (puts : HasCommitted old new hold) where
   -- each byte of memory
   done_byte : (address : ℕ) → committed.base ≤ address →
       byte_in done.base done.bytes address ≡ unwrap_or (held hold address) (byte_in committed.base committed.bytes address)
@@ -145,65 +131,66 @@ module _ (committed done : FlatState) (h word : ℕ) (view : HartView) (hold : L
       ap (λ base. slice_index done.bytes (address - base)) effect.base ∙ effect.bytes (address - committed.base)
       ∙ ap (λ a. unwrap_or (held hold a) (slice_index committed.bytes (address - committed.base))) there
 
-  on_held : (address : ℕ) → committed.base ≤ address → holds hold (line_number address) ≡ true →
-      cached_byte new address ≡ unwrap_or (held hold address) (byte_in committed.base committed.bytes address)
-  on_held address above is =
-      let below : address % LINE_BYTES < LINE_BYTES = omega arith in
-      let there = resident_with_bit old.residency (line_number address) (marked (line_number address) is) in
-      puts.bytes (line_number address) (address % LINE_BYTES) is below ∙ ap (unwrap_or (held hold address)) (has address above there)
+  -- the byte was as it was in memory
+  abbrev Had : ℕ → Type 0
+  Had address = cached_byte old address ≡ byte_in committed.base committed.bytes address
 
-  on_other : (address : ℕ) → committed.base ≤ address → is_resident new.residency (line_number address) ≡ true → holds hold (line_number address) ≡ false →
+  on_held : (address : ℕ) → Had address → holds hold (line_number address) ≡ true →
       cached_byte new address ≡ unwrap_or (held hold address) (byte_in committed.base committed.bytes address)
-  on_other address above there none =
+  on_held address had is =
+      let below : address % LINE_BYTES < LINE_BYTES = omega arith in
+      puts.bytes (line_number address) (address % LINE_BYTES) is below ∙ ap (unwrap_or (held hold address)) had
+
+  on_other : (address : ℕ) → Had address → is_resident new.residency (line_number address) ≡ true → holds hold (line_number address) ≡ false →
+      cached_byte new address ≡ unwrap_or (held hold address) (byte_in committed.base committed.bytes address)
+  on_other address had there none =
       let line : ℕ = line_number address in
       let before = way_of old.residency line in
       let after = way_of new.residency line in
       let same = bytes_committed before after (bytes_of new line) (bytes_of old line) (write_bit old.residency line) there (puts.others line none) in
-      let was = resident_before before after (bytes_of new line) (bytes_of old line) (write_bit old.residency line) there (puts.others line none) in
-      ap (λ bytes. slice_index bytes (address % LINE_BYTES)) same ∙ has address above was
+      ap (λ bytes. slice_index bytes (address % LINE_BYTES)) same ∙ had
       ∙ sym (ap (λ byte. unwrap_or byte (byte_in committed.base committed.bytes address)) (held_no_line hold address none))
 
-  pub done_bytes : HasBytesOf done new
-  done_bytes address from there =
+  pub done_bytes : FollowsMemory committed done old new
+  done_bytes address from there had =
       let above : committed.base ≤ address = subst (λ base. base ≤ address) effect.base from in
-      by above (holds hold (line_number address)) refl ∙ sym (done_byte address above)
+      by (holds hold (line_number address)) refl ∙ sym (done_byte address above)
     where
-      by : committed.base ≤ address → (b : Bool) → holds hold (line_number address) ≡ b →
+      by : (b : Bool) → holds hold (line_number address) ≡ b →
           cached_byte new address ≡ unwrap_or (held hold address) (byte_in committed.base committed.bytes address)
-      by above true is = on_held address above is
-      by above false none = on_other address above there none
+      by true is = on_held address had is
+      by false none = on_other address had there none
 
 -- a section commits
 commits_with : (before after : SectionState) (section : Section) (old new : Cached) (committed : FlatState) (h : ℕ) → AreBytes committed.bytes →
     IsKept committed h before section old → is_release (alone committed h section.count) h section.word section.old ≡ true →
     after.marks.present ≡ view_after (section_execution committed section before.marks.present before.hold.entries (λ at. 0)) before.marks.present →
-    HoldsMarked old.residency before.hold.entries → HasCommitted old new before.hold.entries → TakesEffect committed h before after section new
-commits_with before after section old new committed h bytes kept release present marked puts =
+    HasCommitted old new before.hold.entries → TakesEffect committed h before after section old new
+commits_with before after section old new committed h bytes kept release present puts =
     let done = alone committed h (section.count + 1) in
     let effect = commits committed h old.residency section before.marks.present before.hold.entries (λ at. 0) bytes kept.run kept.keeps release in
     record {
       effect = subst (λ v. HasEffect committed done h section.word v before.hold.entries) (sym present) effect;
-      bytes = done_bytes committed done h section.word _ before.hold.entries old new effect kept.bytes marked puts;
+      bytes = done_bytes committed done h section.word _ before.hold.entries old new effect puts;
     }
 
 pub commits_run : (before after : SectionState) (section : Section) (old new : Cached) (action : Action) → HasReleased before after section action →
-    HoldsMarked old.residency before.hold.entries → HasCommitted old new before.hold.entries → CommitsRun before after section old new action
-commits_run before after section old new action released marked puts committed h bytes kept is release =
+    HasCommitted old new before.hold.entries → CommitsRun before after section old new action
+commits_run before after section old new action released puts committed h bytes kept is release =
     let view = before.marks.present in
     let byte = section_byte before.hold.entries section.word section.new (λ at. 0) in
     let present = ap (λ marks. marks.present) (released.marks (λ at. 0)) ∙ ap (λ a. view_after (perform a view byte) view) is in
-    commits_with before after section old new committed h bytes kept release present marked puts
+    commits_with before after section old new committed h bytes kept release present puts
 
 pub commits_code : (before after : SectionState) (section : Section) (old new : Cached) (code : ℕ) → HasReleasedBy before after section (decoded code) →
-    section.new < 2 ^ 32 → HoldsMarked old.residency before.hold.entries → HasCommitted old new before.hold.entries →
-    CommitsCode before after section old new code
-commits_code before after section old new code released small marked puts committed h bytes kept at release =
+    section.new < 2 ^ 32 → HasCommitted old new before.hold.entries → CommitsCode before after section old new code
+commits_code before after section old new code released small puts committed h bytes kept at release =
     let view = before.marks.present in
     let told = released_view_told committed h old.residency section view before.hold.entries (λ at. 0) kept.run kept.keeps release in
     let same : section.new ≡ section.new % 2 ^ 32 = omega arith in
     let present = ap (λ marks. marks.present) released.marks ∙ ap (released_view (decoded code) view) same
     ∙ ap (λ word. released_view (insn_at word) view (section.new % 2 ^ 32)) (sym at) ∙ sym told in
-    commits_with before after section old new committed h bytes kept release present marked puts
+    commits_with before after section old new committed h bytes kept release present puts
 
 -- what holds of a live section by what does
 pub if_some_map : {A : Type 0} (o : Option A) (P Q : A → Type 0) → ((x : A) → P x → Q x) → IfSome o P → IfSome o Q

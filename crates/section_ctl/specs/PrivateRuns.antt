@@ -1,6 +1,6 @@
 -- what a section's calls make of its private run: the steps of its hart alone, from what is committed on
 use Rattle.std.specs.Prelude.{ℕ, ◌≡◌, ◌≤◌, ◌+◌, true, Some}
-use Rattle.cache_sets.specs.Cache.{is_resident}
+use Rattle.cache_sets.specs.Cache.{has_bit, is_resident}
 use Rattle.cache_sets.specs.Cached.{Cached, cached_byte}
 use Rattle.el_base.specs.Line.{line_number}
 use Rattle.elf_image.specs.Program.{code_word}
@@ -19,17 +19,23 @@ use Rattle.section_ctl.specs.State.{SectionState}
 use Rattle.section_view.specs.KeptRun.{KeepsRun}
 use Rattle.section_view.specs.Release.{HasEffect}
 
--- each line of memory that a cache has, has the bytes of memory
-abbrev pub HasBytesOf : FlatState → Cached → Type 0
-HasBytesOf memory cache =
-    (address : ℕ) → memory.base ≤ address → is_resident cache.residency (line_number address) ≡ true →
+-- each line of memory with a bit in a cache has the bytes of memory there
+abbrev pub HasCoveredBytes : FlatState → Cached → Type 0
+HasCoveredBytes memory cache =
+    (address : ℕ) → memory.base ≤ address → has_bit cache.residency (line_number address) ≡ true →
     cached_byte cache address ≡ byte_in memory.base memory.bytes address
+
+-- each byte of memory that a cache has, and had as it was in memory, is as it is in memory now
+abbrev pub FollowsMemory : FlatState → FlatState → Cached → Cached → Type 0
+FollowsMemory was is old new =
+    (address : ℕ) → is.base ≤ address → is_resident new.residency (line_number address) ≡ true →
+    cached_byte old address ≡ byte_in was.base was.bytes address → cached_byte new address ≡ byte_in is.base is.bytes address
 
 -- the code's view and hold tell what the private run of a section has come to, which its bits cover
 pub record IsKept (committed : FlatState) (h : ℕ) (state : SectionState) (section : Section) (cache : Cached) : Type 0 where
   pub run : IsCoveredRun committed h cache.residency section
   pub keeps : KeepsRun committed h section state.marks.present state.hold.entries
-  pub bytes : HasBytesOf committed cache
+  pub bytes : HasCoveredBytes committed cache
 
 -- where the hart's next instruction in what is committed is this swap, the run of the section that begins is kept
 abbrev pub BeginsRun : SectionState → SectionState → Section → Reg → Type 0
@@ -47,21 +53,22 @@ GoesOnRun before after section cache action =
     KeepsRun committed h (record section { count = section.count + 1 }) after.marks.present after.hold.entries
 
 -- after the commit memory is what the run has come to, with its release: the hart has the view after it, the held bytes are in
--- memory, the other harts have lost their reservations of words on the written lines; and the cache has the bytes of memory
-pub record TakesEffect (committed : FlatState) (h : ℕ) (before after : SectionState) (section : Section) (new : Cached) : Type 0 where
+-- memory, the other harts have lost their reservations of words on the written lines; and the cache has the bytes of memory,
+-- wherever it had them before
+pub record TakesEffect (committed : FlatState) (h : ℕ) (before after : SectionState) (section : Section) (old new : Cached) : Type 0 where
   pub effect : HasEffect committed (alone committed h (section.count + 1)) h section.word after.marks.present before.hold.entries
-  pub bytes : HasBytesOf (alone committed h (section.count + 1)) new
+  pub bytes : FollowsMemory committed (alone committed h (section.count + 1)) old new
 
 -- where this is the action of the release, which comes next, the whole run takes effect
 abbrev pub CommitsRun : SectionState → SectionState → Section → Cached → Cached → Action → Type 0
 CommitsRun before after section old new action =
     (committed : FlatState) (h : ℕ) → AreBytes committed.bytes → IsKept committed h before section old →
     action ≡ action_of committed before.marks.present → is_release (alone committed h section.count) h section.word section.old ≡ true →
-    TakesEffect committed h before after section new
+    TakesEffect committed h before after section old new
 
 -- the same, of the release whose instruction word is the next one
 abbrev pub CommitsCode : SectionState → SectionState → Section → Cached → Cached → ℕ → Type 0
 CommitsCode before after section old new code =
     (committed : FlatState) (h : ℕ) → AreBytes committed.bytes → IsKept committed h before section old →
     code_word committed.code before.marks.present.pc ≡ Some code →
-    is_release (alone committed h section.count) h section.word section.old ≡ true → TakesEffect committed h before after section new
+    is_release (alone committed h section.count) h section.word section.old ≡ true → TakesEffect committed h before after section old new

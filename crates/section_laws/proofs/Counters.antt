@@ -52,7 +52,8 @@ judged_small predictor watch None now = now
 saw_small : (predictor : Predictor) (watch : Option Watch) (seen : Seen) (long : ℕ) → AreCounters predictor.counters →
     AreCounters (saw_with predictor watch seen long).counters
 saw_small predictor None seen long now = now
-saw_small predictor (Some watch) seen long now = judged_small predictor (counting watch) (verdict_on seen long (watch.count + 1)) now
+saw_small predictor (Some watch) seen long now =
+    judged_small predictor (counting watch) (verdict_on seen long (counting watch).count) now
 
 watched_small : (state : ModelState) (h : ℕ) (predictor : Predictor) (watch : Option Watch) → AreCounters predictor.counters →
     AreCounters (watched state h predictor watch).counters

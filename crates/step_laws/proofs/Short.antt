@@ -73,8 +73,11 @@ open_yet false true last none = absurd (cc)
 open_yet false false true none = absurd (cc)
 open_yet false false false none = refl
 
-counted_short : (long : ℕ) (watch : Watch) → (watch.count + 1 == long) ≡ false → IsWatchShort long watch → IsWatchShort long (counting watch)
-counted_short long watch more now = let less = now.fewer in record { some = omega arith; fewer = grind (arith, nat_tests, more, less) }
+counted_short : (long : ℕ) (watch : Watch) → ((counting watch).count == long) ≡ false → IsWatchShort long watch →
+    IsWatchShort long (counting watch)
+counted_short long watch more now =
+    let less = now.fewer in
+    record { some = omega arith; fewer = grind (arith, nat_tests, more, less) }
 
 judged_short : (long : ℕ) (predictor : Predictor) (watch : Watch) (verdict : Option Verdict) → (verdict ≡ None → IsWatchShort long watch) →
     WatchShort long (judged predictor watch verdict).watch
@@ -85,8 +88,10 @@ saw_short : (long : ℕ) (predictor : Predictor) (watch : Option Watch) (seen : 
     WatchShort long (saw_with predictor watch seen long).watch
 saw_short long predictor None seen is now = rw is tt
 saw_short long predictor (Some watch) seen is now =
-    judged_short long predictor (counting watch) (verdict_on seen long (watch.count + 1))
-    (λ none. counted_short long watch (open_yet seen.release (seen.touches || seen.call_or_stop) (watch.count + 1 == long) none) now)
+    let watch_now = counting watch in
+    let settles = seen.touches || seen.call_or_stop in
+    judged_short long predictor watch_now (verdict_on seen long watch_now.count)
+    (λ none. counted_short long watch (open_yet seen.release settles (watch_now.count == long) none) now)
 
 watched_short : (state : ModelState) (h : ℕ) (predictor : Predictor) (watch : Option Watch) → WatchShort state.config.long predictor.watch →
     WatchShort state.config.long (watched state h predictor watch).watch

@@ -1,26 +1,13 @@
 -- the hart learns of its next instruction
-use Rattle.std.proofs.Common.{◌≡◌, ◌∙◌, ◌<◌, ◌-◌, ◌^◌, ap, arith, length, sym, subst}
-use Rattle.std.specs.Prelude.{IfSome, slice_set}
+use Rattle.std.proofs.Common.{◌≡◌, ◌∙◌, ◌<◌, ap, arith, length, sym}
+use Rattle.std.specs.Prelude.{slice_set}
 use Rattle.std.proofs.lemmas.List.{get_or_read}
-use Rattle.engine.proofs.StandsOutside.{action_is, is_own, watch_short}
+use Rattle.engine.proofs.StandsOutside.{action_is, is_own}
 use Rattle.engine.proofs.engine.Engine.learn.Goals as goal
 use Rattle.engine.specs.Parts.{own_at, parts}
 use Rattle.hart_state.specs.Deeds.{ran_own}
 use Rattle.hart_state.specs.Own.{committed_pc, new_own}
 use Rattle.rv_flat.specs.FlatState.{no_hart}
-
-pub has_run-requires : goal.has_run-requires
-has_run-requires c =
-    let now = parts c.args.self.now in
-    let h = c.args.hart.number in
-    let within : c.from.result < length c.args.self.now.harts.items = omega (arith, c.from.ensures, c.requires.some.acts.may.exists) in
-    let same : c.index_mut-own.result.now ≡ own_at now.harts h =
-    get_or_read _ _ _ within c.index_mut-own.ensures.value (new_own no_hart 0) ∙ ap (own_at now.harts) c.from.ensures in
-    record {
-      can_count =
-          subst (λ own. IfSome own.predictor.watch (λ watch. watch.count < 2 ^ 32 - 1)) (sym same)
-          (watch_short now h c.requires.some.from c.requires.some.acts);
-    }
 
 pub returns : goal.returns
 returns c from acts =

@@ -42,4 +42,4 @@ returns-clause-shows c =
     let small : live.new < 4294967296 = search rules in
     at_live old.live c.self.inside.live live (λ section. CommitsCode old new section c.args.sets.now sets c.args.code)
     (ap (λ state. state.live) c.self.view_is) c.in-Some.is
-    (commits_code old new (section_of live) c.args.sets.now sets c.args.code (by_code c) small c.requires.marked c.commit_action.ensures.cache)
+    (commits_code old new (section_of live) c.args.sets.now sets c.args.code (by_code c) small c.commit_action.ensures.cache)

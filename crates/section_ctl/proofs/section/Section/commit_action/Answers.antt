@@ -42,5 +42,5 @@ pub returns-clause-shows : goal.returns-clause-shows
 returns-clause-shows c =
     let puts = subst (λ state. HasCommitted c.args.sets.now c.commit_into.new.sets state.hold.entries) c.self.view_is c.commit_into.ensures.cache in
     if_some_map c.args.self.now.live _ _
-    (λ section released. commits_run c.args.self.now _ section c.args.sets.now c.commit_into.new.sets c.args.action released c.requires.marked puts)
+    (λ section released. commits_run c.args.self.now _ section c.args.sets.now c.commit_into.new.sets c.args.action released puts)
     (returns-clause-released c)

@@ -128,7 +128,8 @@ impl Machine {
     /// Makes one event, and puts it with its outcome behind the history.
     ///
     /// What it keeps of live sections: one ends by its own hart's commit or rollback, or the outcome names its hart
-    /// among the losers; one whose hart did not step shows the same as before; at its release a section takes effect
+    /// among the losers; one whose hart did not step shows the same view, and the same of each byte whose committed value
+    /// stays; at its release a section takes effect
     /// whole. A stamp stays until its attempt closes. In lock removal each loser lost to a hart that waits with a less
     /// stamp, and the least stamp never loses. The last two are the idea of R. Rajwar and J. R. Goodman, 'Transactional
     /// Lock-Free Execution of Lock-Based Programs', ASPLOS 2002, and the first three that of their 'Speculative Lock

@@ -48,7 +48,7 @@ pub record IsUntouched (state new : ModelState) (h : ℕ) (section : Section) : 
   pub same : section_of new h ≡ Some section
   pub shows : ShowsTheSame h section.count state.committed new.committed
 
--- an event of another hart changes nothing that a section shows which is live after it
+-- an event of another hart leaves what a section shows which is live after it
 abbrev pub OtherHartsChangeNothingShown : Type 0
 OtherHartsChangeNothingShown =
     (program : Program) (config : Config) (events : List Event) (event : Event) (h : ℕ) (section : Section) → AreBytes program.bytes →

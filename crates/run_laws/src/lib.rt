@@ -1,5 +1,5 @@
 //! Laws of what live sections show: whatever the events, in every mode, a section's private run is covered by its access
-//! bits, and another hart's event changes nothing that it shows while the section lives.
+//! bits, and another hart's event leaves what it shows while it lives: its view, and each byte whose committed value stays.
 //!
 //! In the definition a live section has no bytes: it shows what the steps of its hart alone come to, from what is
 //! committed now. A machine's code keeps registers and buffered bytes in their place and never runs a section twice;

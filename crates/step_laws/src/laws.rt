@@ -58,7 +58,8 @@ pub fn survivors_keep_bits()
 
 /// From a program whose memory is bytes, in every state that can be reached: a section that is live after such an
 /// event is the same as before with its bits, its private run is covered before and after, what is committed has
-/// changed beside its hart alone, and it shows the same.
+/// changed beside its hart alone, and it shows the same view, and the same of each byte whose
+/// committed value stays.
 pub fn survivors_keep_what_they_show()
     ensures { SurvivorsKeepWhatTheyShow }
 {}

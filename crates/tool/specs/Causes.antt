@@ -21,10 +21,15 @@ use Rattle.tool.specs.declared.stop.Stop.TheVariants.{Refused, Failed}
 abbrev pub writes_to : Option (List ℕ) → List NamedCall
 writes_to name = map (λ given. (Write, given)) (option_to_list name)
 
+-- the writes of what a run writes
+abbrev pub run_writes : RunFiles → List NamedCall
+run_writes files = writes_to files.trace ++ writes_to files.cert
+
 -- the writes that are left to what a command has made
 abbrev pub writes_of : Made → List NamedCall
-writes_of (made.Run machine trace) = writes_to (option_map (λ name. name.now) trace)
+writes_of (made.Run machine trace certified) = run_writes (files_named trace certified)
 writes_of (made.Image bytes file) = writes_to (Some file.now)
+writes_of (made.Judged verdict output) = []
 
 -- these calls of the shelf, under a configuration that has no fault
 abbrev pub calls_under : Option ConfigFault → List NamedCall → List NamedCall
@@ -36,17 +41,19 @@ abbrev pub reads_of : Option Job → List NamedCall
 reads_of None = []
 reads_of (Some (Run job)) = calls_under (config_fault (config_of job)) ((Read, job.image) ∷ [])
 reads_of (Some (Replay image trace)) = (Read, image) ∷ (Read, trace) ∷ []
+reads_of (Some (Check image certificate)) = (Read, image) ∷ (Read, certificate) ∷ []
 reads_of (Some (Gen kind number file)) = []
 
 -- the calls that a run makes of the shelf
 abbrev pub run_calls : RunJob → List NamedCall
-run_calls job = calls_under (config_fault (config_of job)) ((Read, job.image) ∷ writes_to job.trace)
+run_calls job = calls_under (config_fault (config_of job)) ((Read, job.image) ∷ run_writes (run_files job))
 
 -- the calls that a job makes of the shelf
 abbrev pub calls_of : Option Job → List NamedCall
 calls_of None = []
 calls_of (Some (Run job)) = run_calls job
 calls_of (Some (Replay image trace)) = (Read, image) ∷ (Read, trace) ∷ []
+calls_of (Some (Check image certificate)) = (Read, image) ∷ (Read, certificate) ∷ []
 calls_of (Some (Gen kind number file)) = writes_to (Some file)
 
 -- a job whose answer may have bytes for out
@@ -54,12 +61,14 @@ abbrev pub puts_of : Option Job → Bool
 puts_of None = false
 puts_of (Some (Run job)) = true
 puts_of (Some (Replay image trace)) = true
+puts_of (Some (Check image certificate)) = false
 puts_of (Some (Gen kind number file)) = false
 
 -- the same of what a command has made
 abbrev pub is_run : Made → Bool
-is_run (made.Run machine trace) = true
+is_run (made.Run machine trace certified) = true
 is_run (made.Image bytes file) = false
+is_run (made.Judged verdict output) = false
 
 -- the list of a shelf's failed calls got one of these calls at its end, and nothing else
 abbrev pub ListsOne : List NamedCall → List NamedCall → List NamedCall → Type 0

@@ -1,5 +1,5 @@
 -- What was put and written when the program ended with a status.
-use Rattle.std.specs.Prelude.{◌≡◌, ℕ, ◌⊎◌, List, take, Option, None, Some}
+use Rattle.std.specs.Prelude.{◌≡◌, ℕ, ◌⊎◌, List, [], ◌∷◌, take, Option}
 use Rattle.el_io.specs.Shelf.{Contents, Holds, KeepsOthers}
 use Rattle.el_io.specs.Sink.{TookAll, TookPart}
 use Rattle.tool.specs.declared.status.Status.{Status}
@@ -19,25 +19,32 @@ pub record TookSome (before now : Option (List ℕ)) (bytes : List ℕ) : Type 0
   pub count : ℕ
   pub part : TookAll before now (take count bytes)
 
--- a file has these bytes, where one was written, and every other is as it was
-abbrev pub Wrote : Option Contents → Option Contents → Option WrittenFile → Type 0
-Wrote before now None = now ≡ before
-Wrote before now (Some file) = KeepsOthers before now file.name × Holds now file.name file.bytes
+-- a file has these bytes, and every other is as it was
+abbrev pub WroteFile : Option Contents → Option Contents → WrittenFile → Type 0
+WroteFile before now file = KeepsOthers before now file.name × Holds now file.name file.bytes
 
--- a file was to be written, and every other is as it was
-abbrev pub TriedToWrite : Option Contents → Option Contents → Option WrittenFile → Type 0
-TriedToWrite before now None = ⊥
-TriedToWrite before now (Some file) = KeepsOthers before now file.name
+-- these files were written, one after the other
+abbrev pub Wrote : Option Contents → Option Contents → List WrittenFile → Type 0
+Wrote before now [] = now ≡ before
+Wrote before now (file ∷ files) = (between : Option Contents) × WroteFile before between file × Wrote between now files
+
+-- the first of these files were written, or none
+abbrev pub WroteFirst : Option Contents → Option Contents → List WrittenFile → Type 0
+WroteFirst before now [] = now ≡ before
+WroteFirst before now (file ∷ files) =
+    (now ≡ before) ⊎ ((between : Option Contents) × WroteFile before between file × WroteFirst between now files)
+
+-- one of these files was to be written, those before it were, and every other is as it was
+abbrev pub TriedToWrite : Option Contents → Option Contents → List WrittenFile → Type 0
+TriedToWrite before now [] = ⊥
+TriedToWrite before now (file ∷ files) =
+    KeepsOthers before now file.name
+    ⊎ ((between : Option Contents) × WroteFile before between file × TriedToWrite between now files)
 
 -- a fault cut off what was put to a sink
 abbrev pub Untold : Option (List ℕ) → Option (List ℕ) → List ℕ → Fault → Type 0
 Untold before now bytes faults.Device = TookPart before now bytes
 Untold before now bytes faults.NoMemory = now ≡ before
-
--- a fault left a file unwritten
-abbrev pub Unwritten : Option Contents → Option Contents → Option WrittenFile → Fault → Type 0
-Unwritten before now file faults.Device = TriedToWrite before now file
-Unwritten before now file faults.NoMemory = now ≡ before
 
 -- all of an answer was put and written
 pub record PutAll (before now : Told) (answer : Answer) : Type 0 where
@@ -51,13 +58,19 @@ pub record PutOut (before now : Told) (answer : Answer) : Type 0 where
   pub written : now.files ≡ before.files
   pub err : now.err ≡ before.err
 
--- all was put to out, the write of the file failed, and nothing after that
+-- all was put to out, the first of the files were written, and nothing after that
+pub record PutFiles (before now : Told) (answer : Answer) : Type 0 where
+  pub out : TookAll before.out now.out answer.out
+  pub written : WroteFirst before.files now.files answer.written
+  pub err : now.err ≡ before.err
+
+-- all was put to out, the write of a file failed, and nothing after that
 pub record PutFile (before now : Told) (answer : Answer) : Type 0 where
   pub out : TookAll before.out now.out answer.out
   pub written : TriedToWrite before.files now.files answer.written
   pub err : now.err ≡ before.err
 
--- all was put to out, the file was written, and some was put to err
+-- all was put to out, the files were written, and some was put to err
 pub record PutErr (before now : Told) (answer : Answer) : Type 0 where
   pub out : TookAll before.out now.out answer.out
   pub written : Wrote before.files now.files answer.written
@@ -76,6 +89,8 @@ pub record PutNothing (before now : Told) : Type 0 where
 -- a call that ended with this status gave exactly one of these answers; after want of memory or a fault of
 -- a device, it gave nothing or the beginning of one
 abbrev pub Comes : (Answer → Type 0) → Status → Told → Told → Type 0
-Comes Answers NoMemory before now = PutNothing before now ⊎ ((answer : Answer) × Answers answer × PutOut before now answer)
+Comes Answers NoMemory before now =
+    PutNothing before now
+    ⊎ ((answer : Answer) × Answers answer × (PutOut before now answer ⊎ PutFiles before now answer))
 Comes Answers DeviceFault before now = PutNothing before now ⊎ ((answer : Answer) × Answers answer × PutPart before now answer)
 Comes Answers status before now = (answer : Answer) × Answers answer × (status ≡ answer.status) × PutAll before now answer

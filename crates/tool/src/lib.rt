@@ -2,7 +2,7 @@
 //!
 //! It stands on the devices of `el_io`, the words of `command_line`, the images of `elf_image` and of
 //! `workload`, the machine with its drivers, the traces of `trace_file` and the text of `report`.
-//! `specs/Answer.antt` says what the program answers to its words over its files, and [`tool`] promises
+//! `specs/Jobs.antt` says what the program answers to its words over its files, and [`tool`] promises
 //! that exactly this is put and written. `doing` makes what the words ask for, a run that has ended or
 //! an image, `telling` puts and writes it, and `refusal` has every line of a refusal.
 //!

@@ -7,6 +7,7 @@ use Rattle.el_base.specs.declared.config.Config.{Config}
 use Rattle.el_model.specs.Next.{all_stopped, is_over, shown_of, view_in}
 use Rattle.el_model.specs.State.{ModelState, Section, begin, hart_of, new_hart, section_of}
 use Rattle.elf_image.specs.Program.{Program}
+use Rattle.engine.specs.Acting.{next_action}
 use Rattle.engine.specs.Parts.{IsIn, IsOfHart, KeepsSectionOf, Parts, own_at}
 use Rattle.engine.specs.Views.{committed_views, first_own}
 use Rattle.hart_state.proofs.Harts.{new_is}
@@ -14,6 +15,7 @@ use Rattle.hart_state.specs.Own.{HasOwn, Own, new_own}
 use Rattle.reg_mark.specs.Marks.{checkpoint_or, committed_of}
 use Rattle.rv_alu.specs.declared.view.HartView.{HartView}
 use Rattle.rv_flat.specs.FlatState.{first_view, no_hart, start, view_of}
+use Rattle.rv_flat.specs.Step.{action_of}
 use Rattle.section_ctl.specs.State as sections
 use Rattle.section_ctl.specs.State.{SectionState}
 use Rattle.snoop.specs.Shows.{Shows}
@@ -46,6 +48,12 @@ sees_shown parts state h is below =
     let kept = (own_at parts.harts h).section in
     sees state h (section_of state h) kept hart.part.section hart.section
     (subst (sections.Stands kept.marks kept.hold) hart.part.section hart.stands) hart.view
+
+-- what a hart comes to next is what the view that it sees comes to
+pub acts_as_shown : (parts : Parts) (state : ModelState) (h : ℕ) → IsIn parts state → h < length parts.harts →
+    next_action parts h ≡ action_of state.committed (shown_of state h)
+acts_as_shown parts state h is below =
+    rw (is.code, is.span, is.output, sees_shown parts state h is below) refl
 
 -- nothing is held where no section is live
 nothing_held : (live : Option Section) (kept : SectionState) → sections.Stands kept.marks kept.hold live → live ≡ None → kept.hold.entries ≡ []

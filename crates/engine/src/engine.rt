@@ -3,16 +3,18 @@
 ghost use Rattle.std.specs.Prelude.{◌≡◌, ◌<◌, ◌≤◌, ◌↔◌, [], IfOk, IfSome, IsNone, None, false, length};
 ghost use Rattle.el_base.specs.Config.{IsInRange};
 ghost use Rattle.el_model.specs.Next.{all_stopped, is_over, shown_of};
-ghost use Rattle.el_model.specs.State.{ModelState, ordered_of, raised_of, section_of};
+ghost use Rattle.el_model.specs.State.{ModelState, hart_of, ordered_of, raised_of, section_of};
 ghost use Rattle.engine.specs.Acting.{next_action};
 ghost use Rattle.engine.specs.Parts.{IsIn, KeepsSectionOf, committed_at, own_at, parts, present_at, room_in};
 ghost use Rattle.engine.specs.Reached.{Begins, Stands};
 ghost use Rattle.engine.specs.Views.{committed_views};
+ghost use Rattle.hart_state.specs.Own.{HasOwn};
 ghost use Rattle.reg_mark.specs.Marks.{committed_of};
 ghost use Rattle.rv_alu.specs.Footprint.{IsInPlace};
 ghost use Rattle.rv_alu.specs.Span.{holds};
 ghost use Rattle.rv_flat.specs.FlatState.{output_limit, view_of};
 ghost use Rattle.rv_flat.specs.Memory.{byte_in};
+ghost use Rattle.rv_flat.specs.Step.{action_of};
 ghost use Rattle.snoop.specs.Asking.{asking, numbered_asked};
 ghost use Rattle.snoop.specs.Shows.{kept};
 
@@ -115,6 +117,16 @@ impl Engine {
         self.harts[usize::from(hart.number)].section()
     }
 
+    /// What a hart keeps beside the bus.
+    pub fn own(&self, hart: HartId) -> &HartState
+        requires { hart.number < length (parts self.now).harts }
+        ensures exact { result.now ≡ own_at (parts self.now).harts hart.number }
+        ensures state { (state : ModelState) → IsIn (parts self.now) state →
+            HasOwn result.now (hart_of state hart.number) }
+    {
+        &self.harts[usize::from(hart.number)]
+    }
+
     /// The byte at an address of committed memory, or none outside it.
     pub fn byte(&self, address: u32) -> Option<u8>
         requires { Stands (parts self.now) }
@@ -152,9 +164,12 @@ impl Engine {
     }
 
     /// The action that a hart comes to next, as it sees itself.
-    pub(crate) fn next_action(&self, hart: HartId) -> Action
+    #[tactic(auto, using(crate::proofs::Seen::sees_shown, crate::proofs::Seen::acts_as_shown))]
+    pub fn next_action(&self, hart: HartId) -> Action
         requires { hart.number < length (parts self.now).harts }
         ensures value { result ≡ next_action (parts self.now) hart.number }
+        ensures state { (state : ModelState) → IsIn (parts self.now) state →
+            result ≡ action_of state.committed (shown_of state hart.number) }
         ensures in_place { IsInPlace (parts self.now).span (room_in (parts self.now)) result }
     {
         let view = self.harts[usize::from(hart.number)].shown();

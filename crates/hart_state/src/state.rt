@@ -96,6 +96,27 @@ impl HartState {
         &self.section
     }
 
+    /// What the hart has learnt of acquires.
+    pub fn predictor(&self) -> &PairTable
+        ensures { result.now ≡ self.now.predictor }
+    {
+        &self.predictor
+    }
+
+    /// Whether the hart's next candidate acquire takes the lock.
+    pub fn fallback(&self) -> bool
+        ensures { result ≡ self.now.fallback }
+    {
+        self.fallback
+    }
+
+    /// How many sections in a row the hart has lost, without stamps.
+    pub fn tries(&self) -> u8
+        ensures { result ≡ self.now.tries }
+    {
+        self.tries
+    }
+
     /// The committed view: with a live section, that of before its acquire.
     pub fn committed(&self) -> &HartView
         ensures { result.now ≡ committed_of self.now.section.marks }

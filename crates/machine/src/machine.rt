@@ -25,10 +25,11 @@ ghost use Rattle.el_base.specs.declared.config.ConfigFault.{ConfigFault};
 ghost use Rattle.el_base.specs.declared.config.Mode.TheVariants.{Tlr};
 ghost use Rattle.el_model.specs.Next.{is_over, next, shown_of};
 ghost use Rattle.el_model.specs.State as model;
-ghost use Rattle.el_model.specs.State.{cache_of, ordered_of, raised_of, section_of};
+ghost use Rattle.el_model.specs.State.{cache_of, hart_of, ordered_of, raised_of, section_of};
 ghost use Rattle.elf_image.specs.Program.{IsProgram};
 ghost use Rattle.engine.specs.Parts.{parts};
 ghost use Rattle.engine.specs.Reached.{Begins};
+ghost use Rattle.hart_state.specs.Own.{HasOwn};
 ghost use Rattle.machine.specs.MainMemory.{main_lines};
 ghost use Rattle.machine.specs.Promises.{
   EndsAreNamed,
@@ -45,6 +46,7 @@ ghost use Rattle.reg_mark.specs.Marks.{committed_of};
 ghost use Rattle.rv_alu.specs.Span.{holds};
 ghost use Rattle.rv_flat.specs.FlatState.{output_limit, view_of};
 ghost use Rattle.rv_flat.specs.Memory.{AreBytes, byte_in};
+ghost use Rattle.rv_flat.specs.Step.{action_of};
 ghost use Rattle.run_laws.specs.PrivateRun.{IsCoveredRun};
 ghost use Rattle.section_ctl.specs.State as sections;
 ghost use Rattle.section_view.specs.KeptRun.{HoldsMarked, KeepsRun};
@@ -57,7 +59,8 @@ use chronicle::History;
 use el_base::{Chronicled, Config, Entry, Event, HartId, Outcome};
 use elf_image::Image;
 use engine::Engine;
-use rv_alu::HartView;
+use hart_state::HartState;
+use rv_alu::{Action, HartView};
 use section_ctl::{Live, Section};
 use snoop::{Asked, Bus};
 use std::alloc::Global;
@@ -240,6 +243,22 @@ impl Machine {
         ensures shown { result.now.marks.present ≡ shown_of (state_of self.now) hart.number }
     {
         self.engine.section_state(hart)
+    }
+
+    /// What a hart keeps beside the bus: its section, its predictor, its fallback flag and its count of tries.
+    pub fn own(&self, hart: HartId) -> &HartState
+        requires { hart.number < self.now.config.harts }
+        ensures { HasOwn result.now (hart_of (state_of self.now) hart.number) }
+    {
+        self.engine.own(hart)
+    }
+
+    /// What a hart comes to next, by the view that it sees itself.
+    pub fn next_action(&self, hart: HartId) -> Action
+        requires { hart.number < self.now.config.harts }
+        ensures { result ≡ action_of (state_of self.now).committed (shown_of (state_of self.now) hart.number) }
+    {
+        self.engine.next_action(hart)
     }
 
     /// What a hart has asked of the bus.

@@ -1,5 +1,5 @@
 -- What each call of the ring of messages does to the mailbox.
-use Rattle.std.proofs.Common.{◌≡◌, ◌+◌, ◌-◌, ◌<◌, ◌||◌, not, Bool, true, false, cond, List, []}
+use Rattle.std.proofs.Common.{◌≡◌, ℕ, zero, suc, ◌+◌, ◌-◌, ◌<◌, ◌||◌, not, Bool, true, false, cond, List, []}
 use Rattle.std.proofs.Common.{◌∷◌, ◌++◌, length, map, drop, slice_get, refl, ap, sym, subst, ◌∙◌, arith}
 use Rattle.std.specs.List.{list_any}
 use Rattle.std.specs.Option.{option_map}
@@ -71,6 +71,13 @@ known items message there =
 pub oldest_of_items : (items : List messages.Message) → option_map numbered (slice_get items 0) ≡ oldest (map numbered items)
 oldest_of_items [] = refl
 oldest_of_items (first ∷ items) = refl
+
+-- a message at any place
+pub message_of_items : (items : List messages.Message) (place : ℕ) →
+    option_map numbered (slice_get items place) ≡ slice_get (map numbered items) place
+message_of_items [] place = refl
+message_of_items (first ∷ items) zero = refl
+message_of_items (first ∷ items) (suc place) = message_of_items items place
 
 pub others_of_items : (items : List messages.Message) → map numbered (drop 1 items) ≡ without_oldest (map numbered items)
 others_of_items [] = refl

@@ -1,4 +1,4 @@
-ghost use Rattle.std.specs.Prelude.{◌≡◌, ◌≤◌, [], length, IfOk, ◌==◌};
+ghost use Rattle.std.specs.Prelude.{◌≡◌, ◌≤◌, [], length, IfOk, ◌==◌, slice_get};
 ghost use Rattle.std.specs.List.{list_any};
 ghost use Rattle.std.specs.Option.{option_map};
 ghost use Rattle.circular_buffer.specs.Buffer.{buffer};
@@ -60,6 +60,14 @@ impl Mail {
         ensures others_stay { self.new ≡ definition.without_oldest self.old }
     {
         self.messages.pop_front()
+    }
+
+    /// The message at a place, of which the oldest has 0; `None` past the last one.
+    #[tactic(auto, using(crate::proofs::Boxes::message_of_items))]
+    pub fn message(&self, place: usize) -> Option<Message>
+        ensures { option_map definition.numbered result ≡ slice_get self.now place }
+    {
+        self.messages.get(place).copied()
     }
 
     /// Whether there is no message in the box.

@@ -1,6 +1,6 @@
 //! What a hart has at the bus beside its cache.
 
-ghost use Rattle.std.specs.Prelude.{◌≡◌, ◌<◌, ◌==◌, IfOk, None, Some, length, not};
+ghost use Rattle.std.specs.Prelude.{◌≡◌, ◌<◌, ◌==◌, IfOk, None, Some, length, not, slice_get};
 ghost use Rattle.std.specs.Option.{option_map};
 ghost use Rattle.bus_order.specs.Order as order;
 ghost use Rattle.defer_list.specs.HartSet.{has};
@@ -102,6 +102,34 @@ impl Agent {
             Some(held) => held == line,
             None => false,
         }
+    }
+
+    /// The line that the hart holds until its next step, if it holds one.
+    pub fn held(&self) -> Option<LineAddr>
+        ensures { option_map (λ line. line.number) result ≡ self.now.held }
+    {
+        self.held
+    }
+
+    /// The clock of the hart's next attempt.
+    pub fn clock(&self) -> u64
+        ensures { result ≡ self.now.clock }
+    {
+        self.clock
+    }
+
+    /// The greatest clock of another hart's stamp that the hart has met.
+    pub fn seen(&self) -> u64
+        ensures { result ≡ self.now.seen }
+    {
+        self.seen
+    }
+
+    /// The message at a place of the hart's mailbox, of which the oldest has 0; `None` past the last one.
+    pub fn message(&self, place: usize) -> Option<Message>
+        ensures { option_map mailbox.numbered result ≡ slice_get self.now.mail place }
+    {
+        self.mail.message(place)
     }
 
     /// The stamp of the hart's open attempt.

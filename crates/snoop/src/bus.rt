@@ -64,11 +64,18 @@ impl Bus {
     }
 
     /// A hart's agent.
-    pub(crate) fn agent(&self, hart: HartId) -> &Agent
+    pub fn agent(&self, hart: HartId) -> &Agent
         requires { hart.number < length (kept self.now).agents }
         ensures { result.now ≡ agent_at (kept self.now).agents hart.number }
     {
         &self.agents[usize::from(hart.number)]
+    }
+
+    /// The order of requests.
+    pub fn requests(&self) -> &Order
+        ensures { result.now ≡ (kept self.now).order }
+    {
+        &self.order
     }
 
     /// What a hart has asked: the request that it has raised, or else the one that it has in the order.

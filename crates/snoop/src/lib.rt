@@ -26,6 +26,7 @@ mod serving;
 mod settling;
 mod wanting;
 
+pub use agent::Agent;
 pub use asked::Asked;
 pub use bus::Bus;
 

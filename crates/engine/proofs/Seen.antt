@@ -1,5 +1,5 @@
 -- what is seen of the parts is what the state shows, and the parts before the first event
-use Rattle.std.proofs.Common.{◌≡◌, ◌∙◌, ℕ, ◌+◌, ◌<◌, [], length, map, Option, None, Some, refl, ap, sym, subst, zero-add}
+use Rattle.std.proofs.Common.{◌≡◌, ◌∙◌, ℕ, ◌+◌, ◌-◌, ◌<◌, List, [], length, map, Option, None, Some, refl, ap, sym, subst, zero-add}
 use Rattle.std.specs.List.{range_with_len}
 use Rattle.std.proofs.lemmas.List.{ext_get_or, get_or-map, get_or-replicate, length-map, length-replicate}
 use Rattle.std.proofs.lemmas.List.FromFn.{get_or-map-range_with_len, length-map-range_with_len}
@@ -8,13 +8,16 @@ use Rattle.el_model.specs.Next.{all_stopped, is_over, shown_of, view_in}
 use Rattle.el_model.specs.State.{ModelState, Section, begin, hart_of, new_hart, section_of}
 use Rattle.elf_image.specs.Program.{Program}
 use Rattle.engine.specs.Acting.{next_action}
-use Rattle.engine.specs.Parts.{IsIn, IsOfHart, KeepsSectionOf, Parts, own_at}
+use Rattle.engine.specs.Parts.{IsIn, IsOfHart, KeepsSectionOf, Parts, own_at, room_in}
 use Rattle.engine.specs.Views.{committed_views, first_own}
 use Rattle.hart_state.proofs.Harts.{new_is}
 use Rattle.hart_state.specs.Own.{HasOwn, Own, new_own}
 use Rattle.reg_mark.specs.Marks.{checkpoint_or, committed_of}
+use Rattle.rv_alu.specs.Footprint.{IsInPlace}
+use Rattle.rv_alu.specs.declared.action.Action.{Action}
+use Rattle.rv_alu.specs.declared.span.Span.{Span}
 use Rattle.rv_alu.specs.declared.view.HartView.{HartView}
-use Rattle.rv_flat.specs.FlatState.{first_view, no_hart, start, view_of}
+use Rattle.rv_flat.specs.FlatState.{first_view, no_hart, output_limit, room_of, span_of, start, view_of}
 use Rattle.rv_flat.specs.Step.{action_of}
 use Rattle.section_ctl.specs.State as sections
 use Rattle.section_ctl.specs.State.{SectionState}
@@ -54,6 +57,14 @@ pub acts_as_shown : (parts : Parts) (state : ModelState) (h : ℕ) → IsIn part
     next_action parts h ≡ action_of state.committed (shown_of state h)
 acts_as_shown parts state h is below =
     rw (is.code, is.span, is.output, sees_shown parts state h is below) refl
+
+pub acts_in_place : (parts : Parts) (state : ModelState) (action : Action) → IsIn parts state →
+    IsInPlace parts.span (room_in parts) action → IsInPlace (span_of state.committed) (room_of state.committed) action
+acts_in_place parts state action is placed =
+    let InSpan : Span → Type 0 = λ span. IsInPlace span (room_of state.committed) action in
+    let InRoom : ℕ → Type 0 = λ room. IsInPlace parts.span room action in
+    let room : room_in parts ≡ room_of state.committed = ap (λ (output : List ℕ). output_limit - length output) is.output in
+    subst InSpan is.span (subst InRoom room placed)
 
 -- nothing is held where no section is live
 nothing_held : (live : Option Section) (kept : SectionState) → sections.Stands kept.marks kept.hold live → live ≡ None → kept.hold.entries ≡ []

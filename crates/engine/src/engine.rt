@@ -12,7 +12,7 @@ ghost use Rattle.hart_state.specs.Own.{HasOwn};
 ghost use Rattle.reg_mark.specs.Marks.{committed_of};
 ghost use Rattle.rv_alu.specs.Footprint.{IsInPlace};
 ghost use Rattle.rv_alu.specs.Span.{holds};
-ghost use Rattle.rv_flat.specs.FlatState.{output_limit, view_of};
+ghost use Rattle.rv_flat.specs.FlatState.{output_limit, room_of, span_of, view_of};
 ghost use Rattle.rv_flat.specs.Memory.{byte_in};
 ghost use Rattle.rv_flat.specs.Step.{action_of};
 ghost use Rattle.snoop.specs.Asking.{asking, numbered_asked};
@@ -164,12 +164,14 @@ impl Engine {
     }
 
     /// The action that a hart comes to next, as it sees itself.
-    #[tactic(auto, using(crate::proofs::Seen::sees_shown, crate::proofs::Seen::acts_as_shown))]
+    #[tactic(auto, using(crate::proofs::Seen::sees_shown, crate::proofs::Seen::acts_as_shown, crate::proofs::Seen::acts_in_place))]
     pub fn next_action(&self, hart: HartId) -> Action
         requires { hart.number < length (parts self.now).harts }
         ensures value { result ≡ next_action (parts self.now) hart.number }
         ensures state { (state : ModelState) → IsIn (parts self.now) state →
             result ≡ action_of state.committed (shown_of state hart.number) }
+        ensures placed { (state : ModelState) → IsIn (parts self.now) state →
+            IsInPlace (span_of state.committed) (room_of state.committed) result }
         ensures in_place { IsInPlace (parts self.now).span (room_in (parts self.now)) result }
     {
         let view = self.harts[usize::from(hart.number)].shown();

@@ -43,8 +43,9 @@ ghost use Rattle.machine.specs.Promises.{
 };
 ghost use Rattle.machine.specs.Story.{IsOneRun, committed, continued, history_of, left_of, memory_of, state_of};
 ghost use Rattle.reg_mark.specs.Marks.{committed_of};
+ghost use Rattle.rv_alu.specs.Footprint.{IsInPlace};
 ghost use Rattle.rv_alu.specs.Span.{holds};
-ghost use Rattle.rv_flat.specs.FlatState.{output_limit, view_of};
+ghost use Rattle.rv_flat.specs.FlatState.{output_limit, room_of, view_of};
 ghost use Rattle.rv_flat.specs.Memory.{AreBytes, byte_in};
 ghost use Rattle.rv_flat.specs.Step.{action_of};
 ghost use Rattle.run_laws.specs.PrivateRun.{IsCoveredRun};
@@ -256,7 +257,8 @@ impl Machine {
     /// What a hart comes to next, by the view that it sees itself.
     pub fn next_action(&self, hart: HartId) -> Action
         requires { hart.number < self.now.config.harts }
-        ensures { result ≡ action_of (state_of self.now).committed (shown_of (state_of self.now) hart.number) }
+        ensures exact { result ≡ action_of (state_of self.now).committed (shown_of (state_of self.now) hart.number) }
+        ensures in_place { IsInPlace (memory_of self.now.program) (room_of (state_of self.now).committed) result }
     {
         self.engine.next_action(hart)
     }

@@ -1,0 +1,218 @@
+-- Fields with and without a fault.
+use Rattle.std.proofs.Common.{◌≡◌, ℕ, ◌+◌, ◌*◌, ◌≤◌, ◌<◌, Bool, true, false, not, cond, ◌==◌, ◌||◌, ltb, List, [], ◌∷◌, length, get_or, Option, Some, None, refl, sym, ap, ◌∙◌, arith}
+use Rattle.std.proofs.lemmas.Bool.{le-ltb, ltb-false}
+use Rattle.std.proofs.lemmas.Bool.Decides.{nat_tests}
+use Rattle.std.specs.Option.{option_or}
+use Rattle.el_base.specs.Config.{within}
+use Rattle.el_base.specs.Firsts.{first_of, some_if}
+use Rattle.el_base.specs.declared.file_fault.FileFault.{FileFault}
+use Rattle.el_base.specs.declared.hart_id.TheConstants.{MAX_HARTS}
+use Rattle.run_check.specs.declared.fault.FaultKind.{FaultKind}
+use Rattle.run_check.specs.declared.fault.FaultKind.TheVariants as kinds
+use Rattle.run_check.specs.FaultKinds.{fault_of}
+use Rattle.run_check.specs.Faults.{count_at, field, hart_at, harts_of, head_fault, line_at, line_count_fault, line_fault, line_place, number_at, output_fault, stretch_fault, stretch_place, tail_fault, view_fault, view_wrong, wrong}
+use Rattle.run_check.specs.Rules.{count_wrong, hart_wrong, line_wrong, most_lines}
+use Rattle.rv_flat.specs.FlatState.{output_limit}
+
+-- ---- what no fault says
+
+pub or_none : (a b : Option FileFault) → option_or a b ≡ None → (a ≡ None) × (b ≡ None)
+or_none None b none = (refl, none)
+or_none (Some fault) b none = absurd cc
+
+pub if_none : (wrong : Bool) (kind : FaultKind) (place : ℕ) → some_if wrong (fault_of kind place) ≡ None → wrong ≡ false
+if_none true kind place none = absurd cc
+if_none false kind place none = refl
+
+neither : (short : Bool) (x : FileFault) (fault : Option FileFault) → cond short (Some x) fault ≡ None →
+    (short ≡ false) × (fault ≡ None)
+neither true x fault none = absurd cc
+neither false x fault none = (refl, none)
+
+pub field_none : (file : List ℕ) (end : ℕ) (fault : Option FileFault) → field file end fault ≡ None →
+    (end ≤ length file) × (fault ≡ None)
+unfolding field
+field_none file end fault none =
+    let e = neither (ltb (length file) end) (fault_of kinds.Short (length file)) fault none in
+    (ltb-false (length file) end e.0, e.1)
+
+pub field_right : (file : List ℕ) (end : ℕ) (wrong : Bool) (kind : FaultKind) (place : ℕ) →
+    field file end (some_if wrong (fault_of kind place)) ≡ None → (end ≤ length file) × (wrong ≡ false)
+field_right file end wrong kind place none =
+    let e = field_none file end (some_if wrong (fault_of kind place)) none in
+    (e.0, if_none wrong kind place e.1)
+
+-- ---- what has none
+
+pub field_passes : (file : List ℕ) (end : ℕ) (fault : Option FileFault) → end ≤ length file → fault ≡ None →
+    field file end fault ≡ None
+unfolding field
+field_passes file end fault whole none = rw (le-ltb (length file) end whole) none
+
+pub passes_if : (wrong : Bool) (kind : FaultKind) (place : ℕ) → wrong ≡ false → some_if wrong (fault_of kind place) ≡ None
+passes_if true kind place e = absurd cc
+passes_if false kind place e = refl
+
+pub right_passes : (file : List ℕ) (end : ℕ) (wrong : Bool) (kind : FaultKind) (place : ℕ) → end ≤ length file → wrong ≡ false →
+    field file end (some_if wrong (fault_of kind place)) ≡ None
+right_passes file end wrong kind place whole right = field_passes file end _ whole (passes_if wrong kind place right)
+
+pub both_none : (a b : Option FileFault) → a ≡ None → b ≡ None → option_or a b ≡ None
+both_none a b none none' = ap (λ (x : Option FileFault). option_or x b) none ∙ none'
+
+-- ---- the items
+
+pub record StretchRight (file : List ℕ) (harts index : ℕ) : Type 0 where
+  pub hart : hart_wrong harts (hart_at file) index ≡ false
+  pub count : count_wrong (count_at file) index ≡ false
+  pub whole : stretch_place index + 5 ≤ length file
+
+pub stretch_right : (file : List ℕ) (harts index : ℕ) → stretch_fault file harts index ≡ None → StretchRight file harts index
+unfolding stretch_fault
+stretch_right file harts index none =
+    let place = stretch_place index in
+    let e = or_none _ _ none in
+    let hart = field_right file (place + 1) (hart_wrong harts (hart_at file) index) kinds.Stretch place e.0 in
+    let count = field_right file (place + 5) (count_wrong (count_at file) index) kinds.Stretch place e.1 in
+    record { hart = hart.1; count = count.1; whole = count.0 }
+
+pub stretch_passes : (file : List ℕ) (harts index : ℕ) → StretchRight file harts index → stretch_fault file harts index ≡ None
+unfolding stretch_fault
+stretch_passes file harts index r =
+    let place = stretch_place index in
+    let whole = r.whole in
+    both_none _ _
+    (right_passes file (place + 1) (hart_wrong harts (hart_at file) index) kinds.Stretch place (omega arith) r.hart)
+    (right_passes file (place + 5) (count_wrong (count_at file) index) kinds.Stretch place (omega arith) r.count)
+
+pub record LineRight (file : List ℕ) (lines index : ℕ) : Type 0 where
+  pub number : line_wrong (line_at file lines) index ≡ false
+  pub whole : line_place lines index + 68 ≤ length file
+
+pub line_right : (file : List ℕ) (lines index : ℕ) → line_fault file lines index ≡ None → LineRight file lines index
+unfolding line_fault
+line_right file lines index none =
+    let place = line_place lines index in
+    let e = or_none _ _ none in
+    let number = field_right file (place + 4) (line_wrong (line_at file lines) index) kinds.Lines place e.0 in
+    let bytes = field_none file (place + 68) None e.1 in
+    record { number = number.1; whole = bytes.0 }
+
+pub line_passes : (file : List ℕ) (lines index : ℕ) → LineRight file lines index → line_fault file lines index ≡ None
+unfolding line_fault
+line_passes file lines index r =
+    let place = line_place lines index in
+    let whole = r.whole in
+    both_none _ _
+    (right_passes file (place + 4) (line_wrong (line_at file lines) index) kinds.Lines place (omega arith) r.number)
+    (field_passes file (place + 68) None (omega arith) refl)
+
+pub view_right : (file : List ℕ) (views hart place : ℕ) → place ≡ views + 138 * hart → view_fault file views hart ≡ None →
+    (place + 138 ≤ length file) × (view_wrong file place ≡ false)
+unfolding view_fault
+view_right file views hart place is none =
+    rw is (field_right file (views + 138 * hart + 138) (view_wrong file (views + 138 * hart)) kinds.View (views + 138 * hart) none)
+
+pub view_passes : (file : List ℕ) (views hart : ℕ) → views + 138 * hart + 138 ≤ length file → view_wrong file (views + 138 * hart) ≡ false →
+    view_fault file views hart ≡ None
+unfolding view_fault
+view_passes file views hart whole right =
+    right_passes file (views + 138 * hart + 138) (view_wrong file (views + 138 * hart)) kinds.View (views + 138 * hart) whole right
+
+-- ---- the other fields
+
+same_of : (x wanted : ℕ) → not (x == wanted) ≡ false → x ≡ wanted
+same_of x wanted e = grind (arith, nat_tests)
+
+wrong_none : (file : List ℕ) (place wanted : ℕ) (kind : FaultKind) → wrong file place wanted kind ≡ None →
+    get_or file place 0 ≡ wanted
+wrong_none file place wanted kind none =
+    same_of (get_or file place 0) wanted (if_none (not (get_or file place 0 == wanted)) kind place none)
+
+pub record HeadRight (file : List ℕ) : Type 0 where
+  pub first : get_or file 0 0 ≡ 0x45
+  pub second : get_or file 1 0 ≡ 0x4c
+  pub third : get_or file 2 0 ≡ 0x43
+  pub fourth : get_or file 3 0 ≡ 0x54
+  pub version : get_or file 4 0 ≡ 1
+  pub some_hart : 1 ≤ harts_of file
+  pub few_harts : harts_of file ≤ 8
+  pub whole : 10 ≤ length file
+
+within_of : (n : ℕ) → not (within 1 MAX_HARTS n) ≡ false → (1 ≤ n) × (n ≤ 8)
+within_of n e = grind (arith, nat_tests)
+
+pub head_right : (file : List ℕ) → head_fault file ≡ None → HeadRight file
+unfolding head_fault
+head_right file none =
+    let third = wrong file 3 0x54 kinds.Magic ∷ [] in
+    let second = wrong file 2 0x43 kinds.Magic ∷ third in
+    let first = wrong file 1 0x4c kinds.Magic ∷ second in
+    let letters = first_of (wrong file 0 0x45 kinds.Magic ∷ first) in
+    let harts-wrong = not (within 1 MAX_HARTS (harts_of file)) in
+    let behind = field file 10 None ∷ [] in
+    let harts = field file 6 (some_if harts-wrong (fault_of kinds.Harts 5)) ∷ behind in
+    let version = field file 5 (wrong file 4 1 kinds.Version) ∷ harts in
+    let e0 = or_none (field file 4 letters) (first_of version) none in
+    let e1 = or_none (field file 5 (wrong file 4 1 kinds.Version)) (first_of harts) e0.1 in
+    let e2 = or_none (field file 6 (some_if harts-wrong (fault_of kinds.Harts 5))) (first_of behind) e1.1 in
+    let e3 = or_none (field file 10 None) None e2.1 in
+    let m = field_none file 4 letters e0.0 in
+    let m0 = or_none (wrong file 0 0x45 kinds.Magic) (first_of first) m.1 in
+    let m1 = or_none (wrong file 1 0x4c kinds.Magic) (first_of second) m0.1 in
+    let m2 = or_none (wrong file 2 0x43 kinds.Magic) (first_of third) m1.1 in
+    let m3 = or_none (wrong file 3 0x54 kinds.Magic) None m2.1 in
+    let v = field_none file 5 (wrong file 4 1 kinds.Version) e1.0 in
+    let h = within_of (harts_of file) (field_right file 6 harts-wrong kinds.Harts 5 e2.0).1 in
+    record {
+      first = wrong_none file 0 0x45 kinds.Magic m0.0;
+      second = wrong_none file 1 0x4c kinds.Magic m1.0;
+      third = wrong_none file 2 0x43 kinds.Magic m2.0;
+      fourth = wrong_none file 3 0x54 kinds.Magic m3.0;
+      version = wrong_none file 4 1 kinds.Version v.1;
+      some_hart = h.0;
+      few_harts = h.1;
+      whole = (field_none file 10 None e3.0).0;
+    }
+
+not_over : (limit n : ℕ) → ltb limit n ≡ false → n ≤ limit
+not_over limit n e = ltb-false limit n e
+
+pub output_right : (file : List ℕ) (place : ℕ) → output_fault file place ≡ None →
+    (number_at file place ≤ output_limit) × (place + 4 + number_at file place ≤ length file)
+unfolding output_fault
+output_right file place none =
+    let e = or_none _ _ none in
+    let len = field_right file (place + 4) (ltb output_limit (number_at file place)) kinds.Output place e.0 in
+    (not_over output_limit (number_at file place) len.1, (field_none file (place + 4 + number_at file place) None e.1).0)
+
+pub output_passes : (file : List ℕ) (place len : ℕ) → number_at file place ≡ len → len ≤ output_limit →
+    place + 4 + len ≤ length file → output_fault file place ≡ None
+unfolding output_fault
+output_passes file place len is few whole =
+    let short : place + 4 + number_at file place ≤ length file = rw is whole in
+    let most : number_at file place ≤ output_limit = rw is few in
+    both_none _ _
+    (right_passes file (place + 4) (ltb output_limit (number_at file place)) kinds.Output place (omega arith) (le-ltb output_limit (number_at file place) most))
+    (field_passes file (place + 4 + number_at file place) None short refl)
+
+pub line_count_right : (file : List ℕ) (place : ℕ) → line_count_fault file place ≡ None →
+    (number_at file place ≤ most_lines) × (place + 4 ≤ length file)
+unfolding line_count_fault
+line_count_right file place none =
+    let e = field_right file (place + 4) (ltb most_lines (number_at file place)) kinds.Lines place none in
+    (not_over most_lines (number_at file place) e.1, e.0)
+
+pub line_count_passes : (file : List ℕ) (place : ℕ) → number_at file place ≤ most_lines → place + 4 ≤ length file →
+    line_count_fault file place ≡ None
+unfolding line_count_fault
+line_count_passes file place few whole =
+    right_passes file (place + 4) (ltb most_lines (number_at file place)) kinds.Lines place whole (le-ltb most_lines (number_at file place) few)
+
+pub tail_right : (file : List ℕ) (end : ℕ) → tail_fault file end ≡ None → length file ≤ end
+unfolding tail_fault
+tail_right file end none = not_over end (length file) (if_none (ltb end (length file)) kinds.Tail end none)
+
+pub tail_passes : (file : List ℕ) (end : ℕ) → length file ≤ end → tail_fault file end ≡ None
+unfolding tail_fault
+tail_passes file end over = passes_if (ltb end (length file)) kinds.Tail end (le-ltb end (length file) over)

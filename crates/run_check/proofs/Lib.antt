@@ -1,0 +1,16 @@
+pub mod CertificateRules
+pub mod Codes
+pub mod FieldFaults
+pub mod FirstBelow
+pub mod Gathering
+pub mod Items
+pub mod Judged
+pub mod Pieces
+pub mod ReachedStates
+pub mod Registers
+pub mod RulesSame
+pub mod Runs
+pub mod Spelled
+pub mod Verdicts
+pub mod Walk
+pub mod WrittenHolds

@@ -1,0 +1,10 @@
+-- one item more
+use Rattle.std.proofs.Common.{zero-add}
+use Rattle.std.proofs.lemmas.List.FromFn.{map-range_with_len_more}
+use Rattle.run_check.specs.Faults.{stretch_at}
+use Rattle.run_check.proofs.reading.stretches_of.Goals as goal
+
+pub loop-index-preserved : goal.loop-index-preserved
+loop-index-preserved c =
+    rw (map-range_with_len_more (stretch_at c.args.file.now) 0 c.loop-index.index c.loop-index.index (zero-add c.loop-index.index))
+    (rw (← c.loop-index.invariant, ← c.stretch_at.ensures) c.in_ok-push.ensures.items)

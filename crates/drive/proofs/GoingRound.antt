@@ -30,13 +30,29 @@ none_made story = record {
 }
 
 -- what stands in a list with one element more
-slice_get_push : {X : Type 0} (xs : List X) (x : X) (i : ℕ) (y : X) → slice_get (xs ++ x ∷ []) i ≡ Some y →
+pub slice_get_push : {X : Type 0} (xs : List X) (x : X) (i : ℕ) (y : X) → slice_get (xs ++ x ∷ []) i ≡ Some y →
     (slice_get xs i ≡ Some y) ⊎ ((i ≡ length xs) × (x ≡ y))
 slice_get_push [] x zero y found = inr (refl, cc)
 slice_get_push [] x (suc i) y found = cc
 slice_get_push (first ∷ xs) x zero y found = inl found
 slice_get_push (first ∷ xs) x (suc i) y found =
     elim (slice_get_push xs x i y found) [ inl here ↦ inl here | inr last ↦ inr (ap suc last.0, last.1) ]
+
+-- where every hart has not stopped at any of some events, nor after them, it has not at any of one event more
+pub going_more : (before now : Story) (made : List Event) (event : Event) → now ≡ continued before made → is_over (state_of now) ≡ false →
+    ((i : ℕ) → i < length made → is_over (state_after (state_of before) (take i made)) ≡ false) →
+    (i : ℕ) → i < length (made ++ event ∷ []) → is_over (state_after (state_of before) (take i (made ++ event ∷ []))) ≡ false
+going_more before now made event story runs going i within =
+    let up_to : i ≤ length made = omega (arith, length-append made (event ∷ [])) in
+    let part : take i (made ++ event ∷ []) ≡ take i made = take-append-le i made (event ∷ []) up_to in
+    rw part (elim (cases_order i (length made)) [
+      | inl last ↦
+          ap (λ n. is_over (state_after (state_of before) (take n made))) last
+          ∙ ap (λ list. is_over (state_after (state_of before) list)) (take-length made)
+          ∙ ap is_over (sym (ap state_of story ∙ state_of_continued before made)) ∙ runs
+      | inr (inl earlier) ↦ going i earlier
+      | inr (inr past) ↦ absurd (omega arith)
+    ])
 
 -- the state that a round has reached
 reached : (before now : Story) (place : ℕ) (round : GoesRound before now place) → state_of now ≡ state_after (state_of before) round.made
@@ -55,17 +71,7 @@ one_made before now later place event round runs turn more = record {
             let At : ℕ → Type 0 = λ n. IsEventAt before.config.harts n other in
             subst At (sym (last.0 ∙ round.count)) (subst (λ (e : Event). IsEventAt before.config.harts place e) last.1 turn)
       ];
-  going = λ i within.
-      let up_to : i ≤ length round.made = omega (arith, length-append round.made (event ∷ [])) in
-      let part : take i (round.made ++ event ∷ []) ≡ take i round.made = take-append-le i round.made (event ∷ []) up_to in
-      rw part (elim (cases_order i (length round.made)) [
-        | inl last ↦
-            ap (λ n. is_over (state_after (state_of before) (take n round.made))) last
-            ∙ ap (λ made. is_over (state_after (state_of before) made)) (take-length round.made)
-            ∙ ap is_over (sym (reached before now place round)) ∙ runs
-        | inr (inl earlier) ↦ round.going i earlier
-        | inr (inr past) ↦ absurd (omega arith)
-      ]);
+  going = going_more before now round.made event round.story runs round.going;
 }
 
 -- a step is left where fewer were made than were left

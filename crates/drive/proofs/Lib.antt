@@ -1,3 +1,5 @@
 mod Steps
 mod GoingRound
 mod RoundRobins
+mod Turning
+mod Ending

@@ -1,3 +1,4 @@
 pub mod RoundRobin
+pub mod Turns
 pub mod Drivers
 pub mod Laws

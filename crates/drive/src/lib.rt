@@ -9,11 +9,16 @@
 
 mod following;
 mod laws;
+mod round;
 mod rounds;
+mod threads;
 
 pub use following::follow;
 pub use laws::one_round_robin;
 pub use rounds::round_robin;
+pub use threads::by_threads;
 
 #[cfg(test)]
 mod tests;
+#[cfg(test)]
+mod thread_tests;

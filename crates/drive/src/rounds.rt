@@ -49,7 +49,7 @@ fn turn_at(harts: u8, place: u32) -> Event
 }
 
 /// The kind at a place: each hart's turn has one event of each kind.
-fn kind_at(place: u32) -> Kind
+pub(crate) fn kind_at(place: u32) -> Kind
     ensures { kind_number result ≡ place % 4 }
 {
     Kind::with_number((place % 4) as u8).unwrap()

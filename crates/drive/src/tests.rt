@@ -23,13 +23,19 @@ fn hart(number: u8) -> Result<HartId, Fail> {
     Ok(HartId::new(number).ok_or("no such hart")?)
 }
 
-fn machine(rt: &impl Abort, alloc: Global, harts: u8, steps: u32) -> Result<Machine, Fail> {
+pub(crate) fn machine(
+    rt: &impl Abort,
+    alloc: Global,
+    harts: u8,
+    mode: Mode,
+    steps: u32,
+) -> Result<Machine, Fail> {
     assert!(rt; (1..=8).contains(&harts));
     let image = load(alloc, &FILE, harts).map_err(|_| "no image")?;
     assert_eq!(rt; image.harts(), harts);
     let config = Config {
         harts,
-        mode: Mode::Plain,
+        mode,
         steps,
         ..Config::usual()
     };
@@ -55,7 +61,7 @@ fn a_round_robin_runs_to_the_end(rt: HostRuntime) -> Result<(), Fail> {
         (1, 1, 1, 1, false, b""),
         (2, 100, 85, 18, true, b"A\nA\n"),
     ] {
-        let mut machine = machine(&rt, rt.alloc(), harts, steps)?;
+        let mut machine = machine(&rt, rt.alloc(), harts, Mode::Plain, steps)?;
         round_robin(&mut machine);
         assert_eq!(rt; machine.history().length(), events);
         assert_eq!(rt; machine.history().serial_len(), instructions);
@@ -69,7 +75,7 @@ fn a_round_robin_runs_to_the_end(rt: HostRuntime) -> Result<(), Fail> {
 /// The first events of two harts, with what came of them.
 #[test]
 fn a_round_robin_goes_by_harts_and_kinds(rt: HostRuntime) -> Result<(), Fail> {
-    let mut machine = machine(&rt, rt.alloc(), 2, 10)?;
+    let mut machine = machine(&rt, rt.alloc(), 2, Mode::Plain, 10)?;
     round_robin(&mut machine);
     assert_eq!(rt; machine.history().length(), 10);
     let turns = [
@@ -97,7 +103,7 @@ fn a_round_robin_goes_by_harts_and_kinds(rt: HostRuntime) -> Result<(), Fail> {
 /// Exactly the given events are made.
 #[test]
 fn given_events_are_followed(rt: HostRuntime) -> Result<(), Fail> {
-    let mut machine = machine(&rt, rt.alloc(), 2, 10)?;
+    let mut machine = machine(&rt, rt.alloc(), 2, Mode::Plain, 10)?;
     let second = hart(1)?;
     let events = [
         Event {
@@ -122,7 +128,7 @@ fn given_events_are_followed(rt: HostRuntime) -> Result<(), Fail> {
 /// To follow nothing leaves a machine as it is.
 #[test]
 fn nothing_is_followed(rt: HostRuntime) -> Result<(), Fail> {
-    let mut machine = machine(&rt, rt.alloc(), 1, 10)?;
+    let mut machine = machine(&rt, rt.alloc(), 1, Mode::Plain, 10)?;
     follow(&mut machine, &[]);
     assert_eq!(rt; machine.history().length(), 0);
     assert_eq!(rt; machine.steps_left(), 10);

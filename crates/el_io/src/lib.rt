@@ -9,6 +9,9 @@
 //! and fail where they are told to; `FolderShelf` and `StreamSink` are the edge to real files and
 //! streams, whose own behaviour is trusted.
 //!
+//! Beside them stands [`Gate`], which the drivers of a run on threads pass before each turn, and
+//! [`OpenGate`], which keeps none of them.
+//!
 //! Where a doc comment names no other source, its rule is this project's profile.
 #![tactic(auto)]
 
@@ -16,6 +19,7 @@ mod failure_list;
 mod failure_plan;
 mod files;
 mod folder_shelf;
+mod gate;
 mod mem_shelf;
 mod mem_sink;
 mod shelf;
@@ -25,6 +29,7 @@ mod sure_shelf;
 mod sure_sink;
 
 pub use folder_shelf::FolderShelf;
+pub use gate::{Gate, OpenGate};
 pub use mem_shelf::MemShelf;
 pub use mem_sink::MemSink;
 pub use shelf::{Call, Shelf, ShelfFault};

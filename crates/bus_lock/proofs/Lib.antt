@@ -1,0 +1,6 @@
+pub mod Beginnings
+mod Shares
+mod Sums
+mod Keeps
+mod Parts
+mod Ends

@@ -1,0 +1,114 @@
+//! A lock from `make` to `close`, and one turn at it.
+ghost use Rattle.std.specs.Prelude.{◌≡◌, ◌+◌, ◌<◌, ◌^◌, [], ◌∷◌, IfOk, IfErr, None, true, length};
+ghost use mathlib.Core.List.{IsPrefix};
+ghost use Rattle.bus_lock.specs.Locks.{lock_id, started_with};
+ghost use Rattle.bus_lock.specs.Passes.{Account, AreThePlaces};
+ghost use Rattle.bus_lock.specs.Steps.{at_rest, first_account, waiting};
+
+use crate::held::Held;
+use crate::lock::BusLock;
+use crate::pass::Pass;
+use crate::rule::{Draw, Look, NEXT, SERVING};
+use crate::view::View;
+use atomic_table::{Refused, Seat, Table};
+use crossbeam_utils::Backoff;
+use el_base::{Chronicled, Kept};
+use std::alloc::Global;
+use std::snapshot::Snapshot;
+use std::sync::Wait;
+
+impl<M: Chronicled + Drop> BusLock<M> {
+    /// A lock round a value, and its only pass. It takes all memory that the lock ever needs. The error is
+    /// want of memory, with the value.
+    pub fn make(alloc: Global, state: M) -> Result<(BusLock<M>, Pass), Kept<M>>
+        ensures made { IfOk result (λ made. started_with made.0 ≡ state) }
+        ensures pass { IfOk result (λ made. made.1 ≡ first_account (lock_id made.0) (M.opening state) (M.entries state)) }
+        ensures refused { IfErr result (λ refused. refused.value ≡ state) }
+    {
+        let start = Snapshot::of(&state);
+        let count = u64::from(state.length());
+        let Ok(mut slots) = Vec::with_capacity(alloc, 1) else {
+            return Err(Kept { value: state });
+        };
+        slots.push_reserved(Some(state));
+        match Table::new(alloc, &[0, 0, count], slots, &start) {
+            Ok((table, seat)) => Ok((BusLock { table }, Pass::of_seat(seat))),
+            Err(Refused { mut slots }) => Err(Kept {
+                value: slots.pop().unwrap().unwrap(),
+            }),
+        }
+    }
+
+    /// Waits for this pass's turn, and takes the value out. The history found begins with the one that
+    /// the pass had seen. Where 2^64 - 1 tickets were drawn, it does not return.
+    pub fn hold<R: Wait>(&self, rt: &R, pass: Pass) -> Held<'_, M>
+        requires { pass.lock ≡ lock_id self.now }
+        ensures pass { result.pass ≡ record pass { seen = M.entries result.value } }
+        ensures begins { IsPrefix pass.seen (M.entries result.value) }
+        ensures opening { M.opening result.value ≡ pass.opening }
+    {
+        let mut seat = pass.into_seat();
+        let ticket = self.draw(rt, &mut seat);
+        let value = self.wait_for_turn(rt, &mut seat, ticket);
+        Held::of(self, seat, value, ticket)
+    }
+
+    /// Draws the next ticket.
+    fn draw<R: Wait>(&self, rt: &R, seat: &mut Seat<Option<M>, View>) -> u64
+        requires seat { seat.old.table_id ≡ lock_id self.now }
+        requires rests { (pass : Account) × (seat.old.me ≡ (at_rest pass, [])) }
+        ensures same { seat.new.table_id ≡ seat.old.table_id }
+        ensures drawn { seat.new.me ≡ (record seat.old.me.0 { ticket = result + 1 }, []) }
+        ensures not_the_last { result + 1 < 2 ^ 64 }
+    {
+        let backoff = Backoff::new();
+        for _ in rt.forever() {
+            let next = self.table.shared.peek(NEXT);
+            if next < u64::MAX {
+                let found = self
+                    .table
+                    .shared
+                    .compare_exchange::<Draw>(seat, NEXT, next, next + 1);
+                if found == next {
+                    return next;
+                }
+            }
+            backoff.snooze();
+        }
+        unreachable!()
+    }
+
+    /// Waits until the ticket is served, and takes the value out.
+    fn wait_for_turn<R: Wait>(&self, rt: &R, seat: &mut Seat<Option<M>, View>, ticket: u64) -> M
+        requires seat { seat.old.table_id ≡ lock_id self.now }
+        requires waits { (pass : Account) × (seat.old.me ≡ (waiting pass (ticket + 1), [])) }
+        ensures same { seat.new.table_id ≡ seat.old.table_id }
+        ensures turn { seat.new.me ≡ (record seat.old.me.0 { turn = true; seen = M.entries result }, (0, None) ∷ []) }
+        ensures begins { IsPrefix seat.old.me.0.seen (M.entries result) }
+        ensures opening { M.opening result ≡ seat.old.me.0.opening }
+    {
+        let backoff = Backoff::new();
+        for _ in rt.forever() {
+            if self.table.shared.load::<Look>(seat, SERVING) == ticket {
+                return self.table.shared.exchange(seat, 0, None).unwrap();
+            }
+            backoff.snooze();
+        }
+        unreachable!()
+    }
+
+    /// Ends the lock, and gives its value.
+    pub fn close(self, pass: Pass) -> M
+        requires own { pass.lock ≡ lock_id self }
+        requires only { pass.share ≡ [] }
+        ensures entries { M.entries result ≡ pass.seen }
+        ensures opening { M.opening result ≡ pass.opening }
+        ensures places { AreThePlaces pass.places (length (M.entries (started_with self))) (length (M.entries result)) }
+    {
+        let BusLock { table } = self;
+        let mut closed = table.close_with(pass.into_seat());
+        let value = closed.take(0).unwrap();
+        closed.free();
+        value
+    }
+}

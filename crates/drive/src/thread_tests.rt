@@ -1,0 +1,144 @@
+//! Drivers on threads, over the small program of the other tests.
+use super::*;
+use crate::tests::machine;
+use el_base::{Chronicled, HartId, Kind, Mode, Outcome};
+use el_io::{Gate, OpenGate};
+use machine::Machine;
+use std::process::Abort;
+use std::sync::Wait;
+use std::sync::atomic::AtomicBool;
+use std::sync::atomic::Ordering::SeqCst;
+use std::test::Fail;
+use std::thread::yield_now;
+
+const KINDS: [Kind; 4] = [Kind::Step, Kind::Order, Kind::Serve, Kind::Deliver];
+
+/// How often a driver looks for the other one before it goes on alone.
+const LOOKS: u32 = 1_000_000;
+
+/// A gate in which two drivers wait for one another before their first turns.
+struct Meeting {
+    first: Corner,
+    second: Corner,
+}
+
+/// Whether a driver has come to the gate, and whether it has found the other one there.
+struct Corner {
+    here: AtomicBool,
+    met: AtomicBool,
+}
+
+impl Corner {
+    fn new() -> Corner {
+        Corner {
+            here: AtomicBool::new(false),
+            met: AtomicBool::new(false),
+        }
+    }
+
+    fn meet(&self, other: &Corner) {
+        self.here.store(true, SeqCst);
+        for _ in 0..LOOKS {
+            if other.here.load(SeqCst) {
+                self.met.store(true, SeqCst);
+                return;
+            }
+            yield_now();
+        }
+    }
+}
+
+impl Gate for Meeting {
+    fn pass<R: Wait>(&self, _rt: &R, driver: HartId, turn: u32) {
+        if turn > 0 {
+            return;
+        }
+        if driver.number == 0 {
+            self.first.meet(&self.second);
+        } else {
+            self.second.meet(&self.first);
+        }
+    }
+}
+
+/// That the events of each hart are its turns, in order, and as many as are wanted.
+fn is_by_turns(rt: &impl Abort, machine: &Machine, turns: u32) {
+    let mut next = [0u32; 8];
+    for place in 0..machine.history().length() {
+        let event = machine.history().entry(place).event;
+        let made = &mut next[usize::from(event.hart.number)];
+        assert_eq!(rt; event.kind, KINDS[(*made % 4) as usize]);
+        *made = made.saturating_add(1);
+    }
+    for hart in 0..machine.config().harts {
+        assert_eq!(rt; next[usize::from(hart)], turns);
+    }
+}
+
+/// Four turns of one driver, on a hart whose first instruction runs at once.
+#[test]
+fn four_turns_are_one_of_each_kind(rt: HostRuntime) -> Result<(), Fail> {
+    let machine = machine(&rt, rt.alloc(), 1, Mode::Tlr, 100)?;
+    let Ok(machine) = by_threads(&rt, rt.alloc(), machine, 4, &OpenGate::new()) else {
+        return Err("no memory".into());
+    };
+    let outcomes = [Outcome::Ran, Outcome::Idle, Outcome::Idle, Outcome::Idle];
+    assert_eq!(rt; machine.history().length(), 4);
+    is_by_turns(&rt, &machine, 4);
+    for (place, outcome) in outcomes.iter().enumerate() {
+        assert!(rt; place < 4);
+        assert_eq!(rt; machine.history().entry(place as u32).outcome, *outcome);
+    }
+    Ok(())
+}
+
+/// Whatever the drivers have left of the program, a round robin brings it to its end, and each hart has written its
+/// line.
+#[test]
+fn a_round_robin_goes_on_from_drivers(rt: HostRuntime) -> Result<(), Fail> {
+    for mode in [Mode::Plain, Mode::Sle, Mode::Tlr] {
+        for harts in [1, 2, 8] {
+            let machine = machine(&rt, rt.alloc(), harts, mode, 10_000)?;
+            let Ok(mut machine) = by_threads(&rt, rt.alloc(), machine, 20, &OpenGate::new()) else {
+                return Err("no memory".into());
+            };
+            is_by_turns(&rt, &machine, 20);
+            round_robin(&mut machine);
+            assert!(rt; machine.over());
+            assert_eq!(rt;
+                machine.output(),
+                &b"A\nA\nA\nA\nA\nA\nA\nA\n"[..2 * usize::from(harts)]
+            );
+        }
+    }
+    Ok(())
+}
+
+/// Drivers are inside at once: each of two waits for the other before its first turn, and meets it.
+#[test]
+fn two_drivers_meet(rt: HostRuntime) -> Result<(), Fail> {
+    let machine = machine(&rt, rt.alloc(), 2, Mode::Tlr, 100)?;
+    let gate = Meeting {
+        first: Corner::new(),
+        second: Corner::new(),
+    };
+    let Ok(machine) = by_threads(&rt, rt.alloc(), machine, 8, &gate) else {
+        return Err("no memory".into());
+    };
+    is_by_turns(&rt, &machine, 8);
+    assert!(rt; gate.first.met.load(SeqCst));
+    assert!(rt; gate.second.met.load(SeqCst));
+    Ok(())
+}
+
+/// Far more turns than the machine has steps.
+#[test]
+fn drivers_end_with_the_last_step(rt: HostRuntime) -> Result<(), Fail> {
+    let machine = machine(&rt, rt.alloc(), 2, Mode::Tlr, 10)?;
+    let Ok(machine) = by_threads(&rt, rt.alloc(), machine, 16_777_216, &OpenGate::new()) else {
+        return Err("no memory".into());
+    };
+    assert_eq!(rt; machine.history().length(), 10);
+    assert_eq!(rt; machine.steps_left(), 0);
+    Ok(())
+}

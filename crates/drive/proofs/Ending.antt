@@ -1,7 +1,7 @@
 -- drivers that have no more turn to make, and what that says of the machine after all of them
-use Rattle.std.proofs.Common.{◌≡◌, ◌≢◌, ℕ, zero, suc, ◌+◌, ◌-◌, ◌<◌, ◌≤◌, ◌⊎◌, true, false, List, [], ◌∷◌, ◌++◌, length, take, sym, refl, ap, ◌∙◌, subst, inl, inr, ⊎_elim, arith, length-append}
+use Rattle.std.proofs.Common.{◌≡◌, ◌≢◌, ℕ, zero, suc, ◌+◌, ◌-◌, ◌<◌, ◌≤◌, ◌⊎◌, true, false, List, [], ◌∷◌, ◌++◌, length, drop, take, sym, refl, ap, ◌∙◌, subst, inl, inr, ⊎_elim, arith, length-append}
 use Rattle.std.proofs.Math.Seq.{take-append_seam}
-use Rattle.std.proofs.lemmas.List.{append-nil}
+use Rattle.std.proofs.lemmas.List.{append-nil, length-drop, length-map}
 use Rattle.std.proofs.lemmas.List.Elements.{filter-append}
 use Rattle.std.specs.Prelude.{IsTrue}
 use mathlib.Core.List.{IsPrefix}
@@ -122,13 +122,18 @@ all_settled start seen (suc harts) good were =
 
 -- the machine after all drivers
 finished : (start : RoundStory) (seen : List Entry) → start.base ≡ length start.now.entries → IsPrefix start.now.entries seen →
-    IsRound (round_at start seen) → WereEnded start 0 start.now.config.harts seen → MakesTurns start.turns start.now (round_at start seen).now
-finished start seen base begins good were =
+    IsRound (round_at start seen) → WereEnded start 0 start.now.config.harts seen → length seen ≤ start.now.config.steps →
+    MakesTurns start.turns start.now (round_at start seen).now
+finished start seen base begins good were within =
     let old : take start.base seen ≡ start.now.entries =
     ap (λ n. take n seen) base ∙ (ap (take (length start.now.entries)) (sym begins.1) ∙ take-append_seam start.now.entries begins.0) in
     let before : before_of (round_at start seen) ≡ start.now = ap (λ list. record start.now { entries = list }) old in record {
       made = made_in (round_at start seen);
       by_turns = subst (λ (b : Story). GoesByTurns start.turns b (round_at start seen).now (made_in (round_at start seen))) before good.by_turns;
+      steps =
+          let made = length-map (drop start.base seen) (λ (entry : Entry). entry.event) in
+          let behind = length-drop start.base seen in
+          omega (arith, made, behind, base, within);
       all = all_settled start seen start.now.config.harts good were;
     }
 
@@ -136,8 +141,8 @@ finished start seen base begins good were =
 pub closed_after_all : (machine : Story) (turns harts : ℕ) (start closed : RoundStory) (first seen : List Entry) → OpeningsTell →
     start ≡ record { base = length machine.entries; turns = turns; now = machine } → harts ≡ machine.config.harts → first ≡ machine.entries →
     IsPrefix first seen → IsRound (round_at start seen) → WereEnded start 0 harts seen → round_opening closed ≡ round_opening start →
-    closed.now.entries ≡ seen → MakesTurns turns machine closed.now
-closed_after_all machine turns harts start closed first seen tell is all begun begins good were opening entries =
+    closed.now.entries ≡ seen → length closed.now.entries ≤ closed.now.config.steps → MakesTurns turns machine closed.now
+closed_after_all machine turns harts start closed first seen tell is all begun begins good were opening entries within =
     let from : RoundStory = record { base = length machine.entries; turns = turns; now = machine } in
     let same : closed ≡ round_at from seen =
     same_round start closed tell opening ∙ (ap (round_at start) entries ∙ ap (λ (s : RoundStory). round_at s seen) is) in
@@ -145,4 +150,6 @@ closed_after_all machine turns harts start closed first seen tell is all begun b
     let were' : WereEnded from 0 machine.config.harts seen =
     subst (λ (s : RoundStory). WereEnded s 0 machine.config.harts seen) is (subst (λ n. WereEnded start 0 n seen) all were) in
     let begins' : IsPrefix machine.entries seen = subst (λ (l : List Entry). IsPrefix l seen) begun begins in
-    subst (MakesTurns turns machine) (ap (λ (r : RoundStory). r.now) (sym same)) (finished from seen refl begins' good' were')
+    subst (MakesTurns turns machine) (ap (λ (r : RoundStory). r.now) (sym same)) 
+    (finished from seen refl begins' good' were'
+    (subst (λ (r : RoundStory). length r.now.entries ≤ r.now.config.steps) same within))

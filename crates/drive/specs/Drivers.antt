@@ -1,5 +1,5 @@
 -- what drivers make of a machine
-use Rattle.std.specs.Prelude.{ℕ, ◌≡◌, ◌<◌, ◌⊎◌, List, length}
+use Rattle.std.specs.Prelude.{ℕ, ◌≡◌, ◌<◌, ◌≤◌, ◌⊎◌, List, length}
 use Rattle.el_base.specs.declared.events.Event.{Event}
 use Rattle.drive.specs.RoundRobin.{IsRoundRobin}
 use Rattle.drive.specs.Turns.{GoesByTurns, IsAtItsEnd, of_hart}
@@ -16,4 +16,5 @@ pub record MakesRoundRobin (before later : Story) : Type 0 where
 pub record MakesTurns (turns : ℕ) (before later : Story) : Type 0 where
   pub made : List Event
   pub by_turns : GoesByTurns turns before later made
+  pub steps : length made ≤ left_of before
   pub all : ((hart : ℕ) → hart < before.config.harts → length (of_hart hart made) ≡ turns) ⊎ IsAtItsEnd later

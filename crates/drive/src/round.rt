@@ -88,6 +88,7 @@ impl Round {
     pub(crate) fn into_machine(self) -> Machine
         ensures story { result ≡ self.now }
         ensures round { IsRound self }
+        ensures within { length result.entries ≤ result.config.steps }
     {
         let Round {
             machine,
@@ -95,6 +96,7 @@ impl Round {
             turns: _,
             made: _,
         } = self;
+        prove!(machine.history().length() <= machine.config().steps);
         machine
     }
 }

@@ -1,4 +1,4 @@
-use Rattle.std.proofs.Common.{ap, sym, subst, ◌∙◌}
+use Rattle.std.proofs.Common.{ap, length, sym, subst, ◌∙◌, ◌≤◌}
 use Rattle.bus_lock.specs.Locks.{started_with}
 use Rattle.drive.proofs.Ending.{closed_after_all}
 use Rattle.drive.specs.Drivers.{MakesTurns}
@@ -16,4 +16,5 @@ returns-clause-made g c =
     subst (MakesTurns c.args.turns c.args.machine) (sym c.into_machine-2.ensures.story)
     (closed_after_all c.args.machine c.args.turns _ start c.close.result _ _ c.openings_tell_beginnings.ensures is
     (ap (λ s. s.harts) c.config-harts.ensures.exact) begun c.drive_all-pass.ensures.seen c.drive_all-pass.ensures.round
-    c.drive_all-pass.ensures.ended opening c.close.ensures.entries)
+    c.drive_all-pass.ensures.ended opening c.close.ensures.entries
+    (subst (λ (m : Story). length m.entries ≤ m.config.steps) c.into_machine-2.ensures.story c.into_machine-2.ensures.within))

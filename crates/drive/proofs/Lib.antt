@@ -1,4 +1,4 @@
-mod Steps
+pub mod Steps
 mod GoingRound
 mod RoundRobins
 mod Turning

@@ -17,12 +17,14 @@ const KINDS: [Kind; 4] = [Kind::Step, Kind::Order, Kind::Serve, Kind::Deliver];
 const LOOKS: u32 = 1_000_000;
 
 /// A gate in which two drivers wait for one another before their first turns.
+#[derive(Drop)]
 struct Meeting {
     first: Corner,
     second: Corner,
 }
 
 /// Whether a driver has come to the gate, and whether it has found the other one there.
+#[derive(Drop)]
 struct Corner {
     here: AtomicBool,
     met: AtomicBool,

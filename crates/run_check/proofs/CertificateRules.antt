@@ -210,14 +210,14 @@ record Fits (program : Program) (memory : List ℕ) (end : ℕ) : Type 0 where
 changed_where : (program : Program) (memory : List ℕ) (end : ℕ) (xs : List Patch) (is-changed : Bool) → Fits program memory (suc end) →
     ((k : ℕ) → k < length xs → LineRule program xs end k) → length xs ≤ end →
     ((k : ℕ) → k < length (xs ++ cond is-changed (patch_of program memory end ∷ []) []) →
-        LineRule program (xs ++ cond is-changed (patch_of program memory end ∷ []) []) (suc end) k)
+    LineRule program (xs ++ cond is-changed (patch_of program memory end ∷ []) []) (suc end) k)
     × (length (xs ++ cond is-changed (patch_of program memory end ∷ []) []) ≤ suc end)
 changed_where program memory end xs true f each few =
     let whole = f.whole in
     let numbers = f.numbers in
     let y = patch_of program memory end in (
       one_line_more program xs y end each (line_addr-number (program.base / 64 + end) (omega arith))
-      (length-take-le 64 (drop (64 * end) memory) (omega (arith, length-drop (64 * end) memory))),
+          (length-take-le 64 (drop (64 * end) memory) (omega (arith, length-drop (64 * end) memory))),
       omega (arith, length-append xs (y ∷ [])),
     )
 changed_where program memory end xs false f each few =

@@ -166,7 +166,7 @@ view_piece file place fits long right =
     ∙ ap (flat_map (little_bytes 4)) (sym (registers_behind file place))
     in
     let ends : take 10 (drop (place + 128) file) ≡
-        take 5 (drop (place + 128) file) ++ take 5 (drop (place + 133) file) =
+    take 5 (drop (place + 128) file) ++ take 5 (drop (place + 133) file) =
     piece_sum (place + 128) 5 5 file ∙ ap (λ (n : ℕ). take 5 (drop (place + 128) file) ++ take 5 (drop n file)) (omega arith)
     in
     let behind : take 134 (drop (place + 4) file) ≡ take 124 (drop (place + 4) file) ++ take 10 (drop (place + 128) file) =

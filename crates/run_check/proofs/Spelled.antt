@@ -387,9 +387,9 @@ view_is file place view is s =
     ap (status_at (get_or file (place + 133) 0) (number_at file (place + 134))) pc ∙ status.0
     in (
       ap (λ x. view_of_parts x (registers_at file place) (reserved_at (get_or file (place + 128) 0) (number_at file (place + 129))) (status_at (get_or file (place + 133) 0) (number_at file (place + 134)) (number_at file place))) pc
-      ∙ ap (λ x. view_of_parts view.pc x (reserved_at (get_or file (place + 128) 0) (number_at file (place + 129))) (status_at (get_or file (place + 133) 0) (number_at file (place + 134)) (number_at file place))) regs
-      ∙ ap (λ x. view_of_parts view.pc view.regs x (status_at (get_or file (place + 133) 0) (number_at file (place + 134)) (number_at file place))) reserved.0
-      ∙ ap (λ x. view_of_parts view.pc view.regs view.reserved x) status-is,
+          ∙ ap (λ x. view_of_parts view.pc x (reserved_at (get_or file (place + 128) 0) (number_at file (place + 129))) (status_at (get_or file (place + 133) 0) (number_at file (place + 134)) (number_at file place))) regs
+          ∙ ap (λ x. view_of_parts view.pc view.regs x (status_at (get_or file (place + 133) 0) (number_at file (place + 134)) (number_at file place))) reserved.0
+          ∙ ap (λ x. view_of_parts view.pc view.regs view.reserved x) status-is,
       rw (reserved.1, status.1) refl,
     )
 

@@ -156,7 +156,7 @@ none_between program lines memory index next to line w behind low high =
 pub walk_to : (program : Program) (lines : List Patch) (memory : List ℕ) (index next to : ℕ) → Walked program lines memory index next →
     ((i : ℕ) → index ≤ i → i < length lines → to ≤ line_in lines i) →
     ((address : ℕ) → 64 * next ≤ address → address < 64 * to → IsInside program address →
-        byte_in program.base memory address ≡ byte_in program.base program.bytes address) →
+    byte_in program.base memory address ≡ byte_in program.base program.bytes address) →
     (line : ℕ) → line < to → LineHolds program lines memory line
 walk_to program lines memory index next to w behind same line high =
     elim (cases_lt line next) [
@@ -175,7 +175,7 @@ pub walk_stops : (program : Program) (lines : List Patch) (memory : List ℕ) (i
 walk_stops program lines memory index next to found w behind end low high differ same =
     let base = w.from_base in (
       image_line_fails program lines memory found (found / 64) refl
-      (none_between program lines memory index next to (found / 64) w behind (omega arith) (omega arith)) (omega arith, omega arith) differ,
+          (none_between program lines memory index next to (found / 64) w behind (omega arith) (omega arith)) (omega arith, omega arith) differ,
       λ line before.
           walk_to program lines memory index next (found / 64) w (λ i past within. let b = behind i past within in omega arith)
           (λ address from until inside. same address from (omega arith)) line before,
@@ -280,9 +280,9 @@ pub other_line : {lines : List Patch} {index line : ℕ} {patch : Patch} (progra
     (¬ LineHolds program lines memory line) × ((k : ℕ) → k < line → LineHolds program lines memory k)
 other_line {lines} {index} {line} {patch} program memory next to end at w up a is far same under low differ =
     let above = on_or_above w a in (
-  patch_line_fails program lines memory line at patch (found_at up a) (omega arith, omega arith) low differ,
-  below_line program memory next to end w up a is far same,
-)
+      patch_line_fails program lines memory line at patch (found_at up a) (omega arith, omega arith) low differ,
+      below_line program memory next to end w up a is far same,
+    )
 
 -- a line of the certificate that memory has
 pub walk_on : {lines : List Patch} {index line : ℕ} {patch : Patch} (program : Program) (memory : List ℕ) (next to end : ℕ) →
@@ -294,26 +294,26 @@ pub walk_on : {lines : List Patch} {index line : ℕ} {patch : Patch} (program :
 walk_on {lines} {index} {line} {patch} program memory next to end w up a is far same under bytes =
     let above = on_or_above w a in
     record {
-  from_base = omega arith;
-  to_end = omega arith;
-  below =
-      λ k low.
-      elim (cases_lt k line) [
-        | inl before ↦ below_line program memory next to end w up a is far same k before
-        | inr past ↦
-            let this : line ≡ k = omega arith in
-            subst (LineHolds program lines memory) this
-            (patch_line_holds program lines memory line patch (found_at up a) (omega arith, omega arith) bytes)
-      ];
-  passed =
-      λ i low.
-      let here = number_at_index a in
-      elim (cases_lt i index) [
-        | inl before ↦ let less = up i index before a.within in omega (arith, here)
-        | inr past ↦ let this : i ≡ index = omega arith in rw this (omega (arith, here))
-      ];
-  above = w.above;
-}
+      from_base = omega arith;
+      to_end = omega arith;
+      below =
+          λ k low.
+          elim (cases_lt k line) [
+            | inl before ↦ below_line program memory next to end w up a is far same k before
+            | inr past ↦
+                let this : line ≡ k = omega arith in
+                subst (LineHolds program lines memory) this
+                (patch_line_holds program lines memory line patch (found_at up a) (omega arith, omega arith) bytes)
+          ];
+      passed =
+          λ i low.
+          let here = number_at_index a in
+          elim (cases_lt i index) [
+            | inl before ↦ let less = up i index before a.within in omega (arith, here)
+            | inr past ↦ let this : i ≡ index = omega arith in rw this (omega (arith, here))
+          ];
+      above = w.above;
+    }
 
 -- behind the last line of the certificate
 pub walk_ends : (program : Program) (lines : List Patch) (memory : List ℕ) (index next end : ℕ) → Walked program lines memory index next →

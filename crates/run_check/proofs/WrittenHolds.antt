@@ -102,8 +102,7 @@ one_more program memory end true is small f =
     )
 one_more program memory end false is small f =
     let xs = changed_below program memory end in
-    rw append-nil
-    (
+    rw append-nil (
       λ index low differs.
           elim (cases_lt index end) [
             | inl before ↦ f.here index before differs

@@ -74,7 +74,11 @@ fn view_at<R: Reached>(reached: &R, hart: HartId) -> HartView
 }
 
 /// The views of all harts.
-fn views_of<R: Reached>(alloc: Global, image: &Image, reached: &R) -> Result<Vec<HartView>, NoMemory>
+fn views_of<R: Reached>(
+    alloc: Global,
+    image: &Image,
+    reached: &R,
+) -> Result<Vec<HartView>, NoMemory>
     requires { IsStateOf image.now (R.state reached.now) }
     ensures exact { IfOk result (λ views. views.items ≡ (R.state reached.now).harts) }
     ensures valid { IfOk result (λ views. (hart : ℕ) → hart < length (R.state reached.now).harts →
@@ -103,11 +107,5 @@ pub fn certify<C: Chronicled, R: Reached>(
     let views = views_of(alloc, image, reached)?;
     let output = Vec::from_slice(alloc, reached.output())?;
     let lines = changed_lines(alloc, image, reached)?;
-    Ok(Certificate::new(
-        image.harts(),
-        stretches,
-        views,
-        output,
-        lines,
-    ))
+    Ok(Certificate::new(image.harts(), stretches, views, output, lines))
 }

@@ -19,7 +19,7 @@ use rv_flat::{Flat, HartView};
 use std::alloc::Global;
 
 /// The steps of a stretch.
-fn run_stretch(flat: &mut Flat, stretch: Stretch)
+pub fn run_stretch(flat: &mut Flat, stretch: Stretch)
     requires { stretch.hart.number < length flat.old.harts }
     ensures ran { flat.new ≡ run flat.old (steps_in stretch) }
     ensures harts { length flat.new.harts ≡ length flat.old.harts }
@@ -100,7 +100,7 @@ fn first_unlike(flat: &Flat, image: &Image, from: u32, to: u32) -> Option<u32>
     ensures first { IfSome result (λ found. (from ≤ found) × (found < to)
         × (byte_in image.now.base flat.now.bytes found ≢ byte_in image.now.base image.now.bytes found)
         × ((address : ℕ) → from ≤ address → address < found →
-            byte_in image.now.base flat.now.bytes address ≡ byte_in image.now.base image.now.bytes address)) }
+        byte_in image.now.base flat.now.bytes address ≡ byte_in image.now.base image.now.bytes address)) }
 {
     let base = image.base();
     let bytes = image.bytes();

@@ -3,9 +3,29 @@
 ghost use Rattle.std.specs.Prelude.{◌≡◌, ℕ, ◌+◌, ◌*◌, ◌<◌, ◌≤◌, ◌||◌, None, Some, false, length, slice_index, IfErr, IfOk, OnOk};
 ghost use Rattle.rv_flat.specs.FlatState.{output_limit};
 ghost use Rattle.run_check.specs.Faults.{
-  certificate_fault, count_at, first_below, hart_at, harts_of, head_fault, line_at, line_count, line_count_fault, line_fault,
-  line_place, lines_place, number_at, output_fault, output_length, output_place, stretch_count, stretch_fault, stretch_place,
-  tail_fault, view_fault, view_place, view_wrong
+  certificate_fault,
+  count_at,
+  first_below,
+  hart_at,
+  harts_of,
+  head_fault,
+  line_at,
+  line_count,
+  line_count_fault,
+  line_fault,
+  line_place,
+  lines_place,
+  number_at,
+  output_fault,
+  output_length,
+  output_place,
+  stretch_count,
+  stretch_fault,
+  stretch_place,
+  tail_fault,
+  view_fault,
+  view_place,
+  view_wrong,
 };
 ghost use Rattle.run_check.specs.Rules.{hart_wrong, line_limit, line_wrong, most_lines, most_steps, reservation_wrong, status_wrong, steps_before};
 

@@ -1,4 +1,11 @@
-//! Certificates.
+//! Certificates: what a run of a program came to, with its serial order, for plain memory to judge.
+//!
+//! It stands on the plain machine of `rv_flat`, the images of `elf_image`, the histories of `chronicle` and the
+//! shelves of `el_io`, and on no cache, bus or section. A file is a certificate or has one first fault. `check` runs
+//! the serial order on plain memory and answers `Holds` exactly where the views, the output and the memory of the
+//! certificate come of it. What `write_certificate` writes of a run's history, and of what was reached, holds.
+//!
+//! Where a doc comment names no other source, its rule is this project's profile.
 #![tactic(auto)]
 
 mod certifying;
@@ -8,8 +15,8 @@ mod fault;
 mod fields;
 mod judging;
 mod laws;
-mod reading;
 mod reached;
+mod reading;
 mod stretches;
 mod verdict;
 mod writing;
@@ -19,10 +26,11 @@ pub use checking::check;
 pub use content::{Certificate, Patch, Stretch};
 pub use fault::{CertFault, FaultKind, fault_name};
 pub use judging::MAX_FILE_BYTES;
-pub use laws::{
-    grammar, one_verdict, reached_states_can_be_certified, written_certificates_hold,
-};
-pub use reading::read_certificate;
+pub use laws::{grammar, one_verdict, reached_states_can_be_certified, written_certificates_hold};
 pub use reached::Reached;
+pub use reading::read_certificate;
 pub use verdict::{Difference, Verdict, difference_name};
 pub use writing::write_certificate;
+
+#[cfg(test)]
+mod tests;

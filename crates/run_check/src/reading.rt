@@ -4,9 +4,32 @@ ghost use Rattle.std.specs.Prelude.{◌≡◌, ℕ, List, ◌+◌, ◌*◌, ◌<
 ghost use Rattle.el_base.specs.declared.hart_id.TheConstants.{MAX_HARTS};
 ghost use Rattle.run_check.specs.Content.{Content};
 ghost use Rattle.run_check.specs.Faults.{
-  certificate_fault, content_of, count_at, hart_at, harts_of, line_at, line_count, line_place, lines_at, lines_place, number_at, output_at,
-  output_length, output_place, patch_at, registers_at, reserved_at, status_at, stretch_at, stretch_count, stretch_place, stretches_at,
-  view_at, view_place, view_wrong, views_at
+  certificate_fault,
+  content_of,
+  count_at,
+  hart_at,
+  harts_of,
+  line_at,
+  line_count,
+  line_place,
+  lines_at,
+  lines_place,
+  number_at,
+  output_at,
+  output_length,
+  output_place,
+  patch_at,
+  registers_at,
+  reserved_at,
+  status_at,
+  stretch_at,
+  stretch_count,
+  stretch_place,
+  stretches_at,
+  view_at,
+  view_place,
+  view_wrong,
+  views_at,
 };
 ghost use Rattle.run_check.specs.Rules.{line_limit, most_lines, most_steps, status_wrong};
 ghost use Rattle.run_check.specs.Spelling.{spelling, IsCertificate};
@@ -200,13 +223,7 @@ fn built(alloc: Global, file: &[u8], counts: Counts) -> Result<Certificate, NoMe
     let output = output_of(alloc, file, output_place, counts.output)?;
     let lines_place = output_place + 4 + counts.output;
     let lines = lines_of(alloc, file, lines_place, counts.lines)?;
-    Ok(Certificate::new(
-        counts.harts,
-        stretches,
-        views,
-        output,
-        lines,
-    ))
+    Ok(Certificate::new(counts.harts, stretches, views, output, lines))
 }
 
 /// The certificate that the file spells, or its first fault. It takes no memory before the whole file was

@@ -1,0 +1,30 @@
+-- the letters of a line, one hart after another
+use Rattle.std.proofs.Common.{◌≡◌, ◌∙◌, ℕ, ◌+◌, ◌<◌, ◌≤◌, List, length, set, get_or, ap, arith, inl, inr, length-set}
+use Rattle.std.proofs.lemmas.Grind.{get_or-set_at}
+use Rattle.std.proofs.lemmas.List.{get_or-set_other}
+use Rattle.lab.proofs.Tracking.{equal_or}
+use Rattle.moesi.specs.declared.letter.Letter.{Letter}
+use Rattle.moesi.specs.declared.letter.Letter.TheVariants.{I}
+
+-- the letters of the first harts are those that are wanted
+abbrev pub AreBelow : (ℕ → Letter) → ℕ → List Letter → ℕ → Type 0
+AreBelow wanted harts letters k =
+    (length letters ≡ 8) × ((h : ℕ) → h < k → h < harts → get_or letters h I ≡ wanted h)
+
+pub letter_put : (wanted : ℕ → Letter) (harts : ℕ) (letters : List Letter) (k place : ℕ) (letter : Letter) → k < 8 → place ≡ k →
+    letter ≡ wanted k → AreBelow wanted harts letters k → AreBelow wanted harts (set letters place letter) (k + 1)
+letter_put wanted harts letters k place letter below at is before =
+    (length-set letters place letter ∙ before.0, λ h inside there. by h inside there)
+  where
+    by : (h : ℕ) → h < k + 1 → h < harts → get_or (set letters place letter) h I ≡ wanted h
+    by h inside there =
+        elim (equal_or h k) [
+          | inl same ↦
+              let size = before.0 in
+              get_or-set_at letters place h letter I (omega arith) (omega arith) ∙ is ∙ ap wanted (omega arith)
+          | inr other ↦ get_or-set_other letters place h letter I (omega arith) ∙ before.1 h (omega arith) there
+        ]
+
+pub letter_passed : (wanted : ℕ → Letter) (harts : ℕ) (letters : List Letter) (k : ℕ) → harts ≤ k →
+    AreBelow wanted harts letters k → AreBelow wanted harts letters (k + 1)
+letter_passed wanted harts letters k past before = (before.0, λ h inside there. before.1 h (omega arith) there)

@@ -1,0 +1,11 @@
+pub mod Ends
+pub mod Growing
+pub mod Living
+pub mod Tracking
+pub mod Noting
+pub mod Balance
+pub mod Counting
+pub mod Following
+pub mod Rows
+pub mod Classes
+pub mod Lettering

@@ -1,0 +1,19 @@
+//! What a run tells: its sections, its locks, its lines, and what each event did.
+//!
+//! It stands on `machine`. A run is followed once, event by event, and everything that is told of it is a definition
+//! over its story: a section is told from the event that began it to the first event that ended it (`specs/Tries.antt`),
+//! and each number of a table is a count over those sections or over the history.
+//!
+//! Where a doc comment names no other source, its rule is this project's profile.
+#![tactic(auto)]
+
+mod follow;
+mod laws;
+mod locks;
+mod showing;
+mod tries;
+
+pub use follow::watch;
+pub use laws::{rows_sum_to_the_report, sections_are_those_of_the_report};
+pub use showing::{Letters, Shown, Sight, What, show};
+pub use tries::{Acquire, Ended, Tries, Try};

@@ -1,0 +1,4 @@
+pub mod Fields
+pub mod Sections
+pub mod Entries
+pub mod Known

@@ -33,6 +33,7 @@ image() {
 
 runtime=("$here/runtime/runtime.c" "$here/runtime/arithmetic.c")
 image hello "$here/hello/hello.S"
+image courtesy "$here/courtesy/courtesy.S"
 image table "$here/table/table.c" "${runtime[@]}"
 image counter "$here/counter/counter.c" "${runtime[@]}"
 

@@ -45,6 +45,54 @@ draws() {
     rm -f "$image"
 }
 
+# certifies IMAGE HARTS: in each mode a certificate of a run of the image holds, by `check`, and by the page of Python
+# that shares no code with it, where python3 is there
+certifies() {
+    local certificate mode said
+    certificate=$(mktemp) || exit 1
+    for mode in plain sle tlr; do
+        ./elide run "$1" --harts "$2" --mode "$mode" --cert "$certificate" > /dev/null 2>&1
+        said=$(./elide check "$1" "$certificate" 2>&1)
+        case $? in
+            0) passed=$((passed + 1)) ;;
+            *)
+                echo "examples: the certificate of $1 on $2 harts in $mode fails: $said"
+                failed=$((failed + 1))
+                ;;
+        esac
+        if command -v python3 > /dev/null; then
+            if [ "$(python3 tools/check_certificate.py "$1" "$certificate")" = "$said" ]; then
+                passed=$((passed + 1))
+            else
+                echo "examples: two checkers differ on $1 on $2 harts in $mode"
+                failed=$((failed + 1))
+            fi
+        fi
+    done
+    rm -f "$certificate"
+}
+
+# drives: two courteous harts go on for ever in step, and come to their end by drivers on threads; the trace that such a
+# run writes is replayed with the same bytes
+drives() {
+    local image=examples/courtesy/courtesy.elf trace out report replayed
+    trace=$(mktemp) || exit 1
+    ./elide run "$image" --harts 2 --mode plain --steps 100000 > /dev/null 2>&1
+    [ $? -eq 3 ] || { echo "examples: courtesy comes to its end in step"; failed=$((failed + 1)); }
+    for harts in 1 2; do
+        out=$(./elide run "$image" --harts $harts --threads 40000 --trace "$trace" 2> "$trace.err")
+        report=$(cat "$trace.err")
+        replayed=$(./elide replay "$image" "$trace" 2> "$trace.err")
+        if [ "$out" = "$replayed" ] && [ "$report" = "$(cat "$trace.err")" ]; then
+            passed=$((passed + 1))
+        else
+            echo "examples: the replay of a run by $harts drivers says something else"
+            failed=$((failed + 1))
+        fi
+    done
+    rm -f "$trace" "$trace.err"
+}
+
 # refuses LINE WORD..: these words are refused with this line, and nothing is put to standard output
 refuses() {
     local line=$1 all
@@ -82,6 +130,12 @@ case $? in
         failed=$((failed + 1))
         ;;
 esac
+for harts in 1 2 8; do
+    for image in hello/hello table/table counter/counter locks/accounts; do
+        certifies "examples/$image.elf" $harts
+    done
+done
+drives
 draws counter 1 00000064 000000c8 00000190 00000320
 draws bank 7 0000fa00 0000fa00 0000fa00 0000fa00
 draws buckets 3 000000c8 00000190 00000320 00000640

@@ -8,40 +8,43 @@ source_is_newer() {
     [ -n "$newer" ]
 }
 
-# The libraries of this repository that a crate stands on, each with the longest chain of such libraries below it.
-libraries_below() {
+# The lines of crates.txt of the libraries of this repository that a crate stands on.
+lines_below() {
     awk -v top="$1" '
-        /^[a-z]/ { split($0, line, ":"); uses[line[1]] = line[2] }
-        function rank(crate,    names, count, i, below, most) {
-            if (crate in ranks) return ranks[crate]
+        /^[a-z]/ { split($0, parts, ":"); uses[parts[1]] = parts[2]; line[parts[1]] = $0 }
+        function reach(crate,    names, count, i) {
+            if (crate in reached) return
+            reached[crate] = 1
             count = split(uses[crate], names, " ")
-            most = 0
-            for (i = 1; i <= count; i++)
-                if (names[i] in uses) { below = rank(names[i]) + 1; if (below > most) most = below }
-            return ranks[crate] = most
+            for (i = 1; i <= count; i++) if (names[i] in uses) reach(names[i])
         }
-        END { rank(top); for (crate in ranks) if (crate != top) print ranks[crate], crate }
-    ' "$root/crates.txt" | sort -n
+        END { reach(top); for (crate in reached) if (crate != top) print line[crate] }
+    ' "$root/crates.txt"
 }
 
-# Proves and builds the libraries below a crate: those of one rank stand on none of each other, so they go side by side.
-build_below() {
-    libraries=$(libraries_below "$1")
-    for rank in $(printf '%s\n' "$libraries" | cut -d ' ' -f 1 | uniq); do
-        printf '%s\n' "$libraries" | awk -v rank="$rank" '$1 == rank { print $2 }' |
-            xargs -P "$(nproc 2>/dev/null || echo 2)" -I '{}' sh -c \
-                'cd "$1/crates/$2" && echo "proving $2" && rt lib >/dev/null' sh "$root" '{}' || return 1
+# Proves the libraries below a crate in a copy of their sources, side by side where none stands on the other. The kit
+# keeps what it proves there, and a build in this checkout begins with it while the copy is there.
+prove_below() {
+    mkdir "$copy/crates" && cp "$root/HANDLES" "$copy" && lines_below "$1" >"$copy/crates.txt" || return 1
+    for library in $(cut -d : -f 1 "$copy/crates.txt"); do
+        mkdir "$copy/crates/$library" || return 1
+        for part in src specs proofs; do
+            [ ! -d "$root/crates/$library/$part" ] || cp -R "$root/crates/$library/$part" "$copy/crates/$library" || return 1
+        done
     done
+    (cd "$copy" && rt all check --jobs "$(nproc 2>/dev/null || echo 2)") | grep '^== '
+    # What is refused there is said once more, and in full, by the build.
 }
 
 # `rt run` builds the program and runs it once, here on words that end well. The program then gets the time at which
 # the build began, so that a source that was saved since is still newer.
 build() {
     echo "$1: building" >&2
-    started=$(mktemp) || return 1
-    build_below "$1" >&2 && (cd "$root/crates/$1" && rt run -- $2) >&2 && touch -r "$started" "$root/crates/$1/out/$1"
+    copy=$(mktemp -d) && started=$(mktemp) || return 1
+    prove_below "$1" >&2
+    (cd "$root/crates/$1" && rt run -- $2) >&2 && touch -r "$started" "$root/crates/$1/out/$1"
     built=$?
-    rm -f "$started"
+    rm -rf "$copy" "$started"
     return $built
 }
 

@@ -4,7 +4,7 @@
 //! call's status.
 #![tactic(auto)]
 
-use el_io::{FolderShelf, StreamSink};
+use el_io::{FolderShelf, OpenGate, StreamSink};
 use std::process::ExitCode;
 use std::{env, io};
 use tool::{Status, tool};
@@ -20,7 +20,16 @@ fn main(rt: HostRuntime) -> ExitCode {
     let mut shelf = FolderShelf::new(&rt, rt.alloc());
     let mut out = StreamSink::new(rt.stdout());
     let mut err = StreamSink::new(rt.stderr());
-    let status = tool(&rt, rt.alloc(), &words, &mut shelf, &mut out, &mut err);
+    let gate = OpenGate::new();
+    let status = tool(
+        &rt,
+        rt.alloc(),
+        &words,
+        &mut shelf,
+        &mut out,
+        &mut err,
+        &gate,
+    );
     ExitCode::from(status.number())
 }
 

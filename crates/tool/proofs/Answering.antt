@@ -10,7 +10,7 @@ use Rattle.tool.specs.declared.refusal.Refusal.TheVariants.{Config}
 use Rattle.tool.specs.declared.stop.Stop.{Stop}
 use Rattle.tool.specs.declared.stop.Stop.TheVariants.{Refused, Failed}
 use Rattle.tool.specs.Answer.{refused}
-use Rattle.tool.specs.Jobs.{IsReplayAnswer, IsRunAnswer}
+use Rattle.tool.specs.Jobs.{IsCheckAnswer, IsReplayAnswer, IsRunAnswer}
 use Rattle.tool.specs.Stopping.{StopsRead, StopsWith}
 use Rattle.tool.proofs.Files.{some_file}
 
@@ -28,3 +28,17 @@ image_unread image trace told (Refused refusal) stopped =
     let file : (bytes : List ℕ) × Holds told trace bytes = some_file told trace in
     record { image = stopped.0; trace = file.0; image_file = stopped.1; trace_file = file.1; exact = rw stopped.2 refl }
 image_unread image trace told (Failed fault) stopped = tt
+
+-- an image that is too big is refused whatever the certificate
+pub image_unchecked : (image certificate : List ℕ) (told : Option Contents) (stop : Stop) →
+    StopsRead told image file_limit stop → StopsWith (IsCheckAnswer image certificate told) stop
+image_unchecked image certificate told (Refused refusal) stopped =
+    let file : (bytes : List ℕ) × Holds told certificate bytes = some_file told certificate in
+    record {
+      image = stopped.0;
+      certificate = file.0;
+      image_file = stopped.1;
+      certificate_file = file.1;
+      exact = rw stopped.2 refl;
+    }
+image_unchecked image certificate told (Failed fault) stopped = tt

@@ -11,7 +11,9 @@ use Rattle.trace_file.specs.Faults.{config_at}
 use Rattle.trace_file.specs.Spelling.{spelling}
 use Rattle.tool.specs.declared.refusal.Refusal.TheVariants.{TooBig}
 use Rattle.tool.specs.Refusals.{size_refusal}
-use Rattle.tool.specs.Stopping.{IsTraceOf}
+use Rattle.run_check.specs.Content.{Content}
+use Rattle.run_check.specs.Faults.{harts_of}
+use Rattle.tool.specs.Stopping.{IsCertificateOf, IsTraceOf}
 
 -- there is always some
 pub some_file : (told : Option Contents) (name : List ℕ) → (file : List ℕ) × Holds told name file
@@ -44,3 +46,7 @@ spelled_harts file config made spelled = ap (λ bytes. slice_index bytes 5) spel
 
 pub harts_of_trace : (file : List ℕ) (config : Config) (made : List Event) → IsTraceOf file config made → (config_at file).harts ≡ config.harts
 harts_of_trace file config made trace = spelled_harts file config made trace.spelled
+
+-- and a certificate
+pub harts_of_certificate : (file : List ℕ) (content : Content) → IsCertificateOf file content → harts_of file ≡ content.harts
+harts_of_certificate file content certificate = ap (λ bytes. slice_index bytes 5) certificate.spelled

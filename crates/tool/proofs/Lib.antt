@@ -1,7 +1,10 @@
 pub mod Answering
+pub mod Certifying
 pub mod Failing
 pub mod Files
 pub mod Putting
 pub mod Repeating
+pub mod Running
 pub mod Succeeding
 pub mod Worked
+pub mod Writing

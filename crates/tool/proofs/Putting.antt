@@ -1,16 +1,33 @@
 -- What was put and written of an answer.
-use Rattle.std.proofs.Common.{◌≡◌, ℕ, List, [], length, take, take_all, Option, None, Some, refl, ap, ◌∙◌, inl, inr, arith}
-use Rattle.el_io.specs.Shelf.{NamedCall}
+use Rattle.std.proofs.Common.{◌≡◌, ℕ, List, [], ◌∷◌, ◌++◌, length, map, take, take_all, Option, None, Some, true, refl, ap, subst, ◌∙◌, inl, inr, arith}
+use Rattle.std.proofs.lemmas.List.{map-append}
+use Rattle.el_io.specs.Shelf.{Contents, NamedCall}
 use Rattle.el_io.specs.Sink.{TookAll}
+use Rattle.el_io.specs.declared.shelf.Call.TheVariants.{Write}
 use Rattle.machine.specs.Story.{Story}
 use Rattle.tool.specs.declared.stop.Fault.{Fault}
 use Rattle.tool.specs.declared.stop.Fault.TheVariants.{Device, NoMemory}
-use Rattle.tool.specs.Answer.{Answer, ended}
-use Rattle.tool.specs.Causes.{Failures, FaultLists, writes_to}
-use Rattle.tool.specs.Comes.{Comes, PutFile, Told, TookSome, Unwritten}
-use Rattle.tool.specs.Faults.{Faulted, WriteFailed}
+use Rattle.tool.specs.Answer.{Answer, RunFiles, WrittenFile, certified_by, files_of, where_named, written_by}
+use Rattle.tool.specs.Causes.{Caused, Failures, ListsOne, run_writes, writes_to}
+use Rattle.tool.specs.Comes.{Comes, Told, TookSome}
+use Rattle.tool.specs.Faults.{Faulted, Unwritten}
 use Rattle.tool.specs.Statuses.{status_of_fault}
 use Rattle.tool.specs.Telling.{Only}
+use Rattle.tool.proofs.Writing.{tried, unwritten_lists, write_of}
+
+-- the writes of the files of a run
+writes_where_named : (written : List ℕ → WrittenFile) (name : Option (List ℕ)) →
+    ((given : List ℕ) → (written given).name ≡ given) → map write_of (where_named written name) ≡ writes_to name
+writes_where_named written None same = refl
+writes_where_named written (Some given) same = ap (λ (one : List ℕ). (Write, one) ∷ []) (same given)
+
+pub writes_named : (files : RunFiles) (story : Story) → map write_of (files_of files story) ≡ run_writes files
+writes_named files story =
+    map-append write_of (where_named (written_by story) files.trace) (where_named (certified_by story) files.cert)
+    ∙ ap (λ (calls : List NamedCall). calls ++ map write_of (where_named (certified_by story) files.cert))
+    (writes_where_named (written_by story) files.trace (λ given. refl))
+    ∙ ap (λ (calls : List NamedCall). writes_to files.trace ++ calls)
+    (writes_where_named (certified_by story) files.cert (λ given. refl))
 
 -- all bytes are some of them
 pub took_all : (before now : Option (List ℕ)) (bytes : List ℕ) → TookAll before now bytes → TookSome before now bytes
@@ -18,25 +35,41 @@ took_all before now bytes took =
     let whole : take (length bytes) bytes ≡ bytes = grind (arith, take_all) in
     record { count = length bytes; part = rw whole took }
 
--- a file that was not written leaves an answer cut off behind its output
-pub unwritten_comes : (before now : Told) (answer : Answer) (fault : Fault) → TookAll before.out now.out answer.out →
-    Unwritten before.files now.files answer.written fault → now.err ≡ before.err →
-    Comes (Only answer) (status_of_fault fault) before now
-unwritten_comes before now answer Device took unwritten same =
-    inr (answer, refl, inr (inl (record { out = took; written = unwritten; err = same })))
-unwritten_comes before now answer NoMemory took same_files same =
-    inr (answer, refl, record { out = took_all before.out now.out answer.out took; written = same_files; err = same })
+-- files that were not all written leave an answer cut off behind its output
+pub unwritten_comes : (had has : List NamedCall) (before now : Told) (answer : Answer) (fault : Fault) →
+    TookAll before.out now.out answer.out → Unwritten answer.written had has before.files now.files fault →
+    now.err ≡ before.err → Comes (Only answer) (status_of_fault fault) before now
+unwritten_comes had has before now answer Device took failed same =
+    inr (
+      answer,
+      refl,
+      inr (inl (record {
+        out = took;
+        written = tried answer.written had has before.files now.files failed;
+        err = same;
+      })),
+    )
+unwritten_comes had has before now answer NoMemory took kept same =
+    inr (answer, refl, inr (record { out = took; written = kept.1; err = same }))
 
 -- a write that failed cuts an answer off at its file
-pub unwritten_faults : (had has : Failures) (before now : Told) (trace : Option (List ℕ)) (story : Story) (fault : Fault) →
-    TookAll before.out now.out (ended trace story).out →
-    Unwritten before.files now.files (ended trace story).written fault → now.err ≡ before.err →
-    FaultLists (writes_to trace) had.shelf has.shelf fault → has ≡ record had { shelf = has.shelf } →
-    Faulted [] (Only (ended trace story)) (status_of_fault fault) had has before now
-unwritten_faults had has before now trace story NoMemory took same_files same lists others = tt
-unwritten_faults had has before now None story Device took unwritten same lists others = absurd unwritten
-unwritten_faults had has before now (Some name) story Device took unwritten same (inr none) others = absurd none
-unwritten_faults had has before now (Some name) story Device took unwritten same (inl listed) others =
-    let failed : WriteFailed (ended (Some name) story).written had has = others ∙ ap (λ (calls : List NamedCall). record had { shelf = calls }) listed in
-    let cut : PutFile before now (ended (Some name) story) = record { out = took; written = unwritten; err = same } in
-    inr (ended (Some name) story, refl, inr (inl (failed, cut)))
+pub unwritten_faults : (had has : Failures) (before now : Told) (answer : Answer) (fault : Fault) →
+    TookAll before.out now.out answer.out → Unwritten answer.written had.shelf has.shelf before.files now.files fault →
+    now.err ≡ before.err → has ≡ record had { shelf = has.shelf } →
+    Faulted [] (Only answer) (status_of_fault fault) had has before now
+unwritten_faults had has before now answer NoMemory took kept same others = tt
+unwritten_faults had has before now answer Device took failed same others =
+    inr (answer, refl, inr (inl (record { out = took; written = failed; failed = others; err = same })))
+
+-- and it is one of the writes of the run
+pub unwritten_causes : (had has : Failures) (before now : Option Contents) (files : RunFiles) (story : Story) (fault : Fault) →
+    Unwritten (files_of files story) had.shelf has.shelf before now fault → has ≡ record had { shelf = has.shelf } →
+    Caused (run_writes files) true (status_of_fault fault) had has
+unwritten_causes had has before now files story Device failed others =
+    inl (
+      subst (λ calls. ListsOne calls had.shelf has.shelf) (writes_named files story)
+          (unwritten_lists (files_of files story) had.shelf has.shelf before now Device failed),
+      others,
+    )
+unwritten_causes had has before now files story NoMemory kept others =
+    others ∙ ap (λ (calls : List NamedCall). record had { shelf = calls }) kept.0

@@ -1,8 +1,9 @@
 -- A replay of the trace that a run wrote says what the run said.
-use Rattle.std.proofs.Common.{◌≡◌, ℕ, ◌+◌, ◌/◌, ◌<◌, ◌≤◌, false, nat_lt, List, [], ◌∷◌, length, get_or, Option, None, Some, refl, ap, sym, subst, ◌∙◌, arith}
-use Rattle.std.specs.Prelude.{All}
+use Rattle.std.proofs.Common.{◌≡◌, ℕ, ◌+◌, ◌/◌, ◌<◌, ◌≤◌, ◌-◌, false, nat_lt, List, [], ◌∷◌, ◌++◌, length, get_or, Option, None, Some, refl, ap, sym, subst, ◌∙◌, arith}
+use Rattle.std.specs.Prelude.{All, slice_get}
+use Rattle.std.proofs.lemmas.List.Elements.{All-append}
 use Rattle.std.specs.Option.{option_map, option_map_or, option_or}
-use Rattle.std.proofs.lemmas.List.{length-map}
+use Rattle.std.proofs.lemmas.List.{length-append, length-map}
 use Rattle.std.proofs.lemmas.Option.{slice_get-get_or}
 use Rattle.std.proofs.Math.Nat.{mod-lt}
 use Rattle.std.proofs.lemmas.Bool.Decides.{nat_tests}
@@ -18,13 +19,14 @@ use Rattle.el_model.specs.State.{ModelState}
 use Rattle.elf_image.specs.Limits.{file_limit}
 use Rattle.elf_image.specs.Loaded.{program_of}
 use Rattle.elf_image.specs.Program.{Program}
-use Rattle.machine.specs.Story.{Story, continued, state_of}
+use Rattle.machine.proofs.Continued.{continued_twice, left_of_continued, nothing_more}
+use Rattle.machine.specs.Story.{Story, continued, left_of, state_of}
 use Rattle.trace_file.specs.Faults.{config_at}
 use Rattle.trace_file.specs.Spelling.{IsTrace, event_byte, spelling}
 use Rattle.trace_file.proofs.Spelled.{no_fault, one_spelling}
 use Rattle.tool.specs.declared.refusal.Refusal.{Refusal}
-use Rattle.tool.specs.Answer.{Answer, WrittenFile, ended, written_by}
-use Rattle.tool.specs.Jobs.{FollowAnswer, ReplayAnswer, RoundRobinAnswer, RunAnswer, UnlessRefused, first_story}
+use Rattle.tool.specs.Answer.{Answer, RunFiles, WrittenFile, certified_by, ended, files_of, no_files, where_named, written_by}
+use Rattle.tool.specs.Jobs.{DriversMade, FollowAnswer, MakesRun, RanAnswer, ReplayAnswer, RunAnswer, UnlessRefused, first_story, run_files}
 use Rattle.tool.specs.Laws.{SaysTheSame}
 use Rattle.tool.proofs.Files.{spelled_harts}
 use Rattle.tool.specs.Refusals.{config_refusal, image_refusal, replay_refusal, run_refusal, size_refusal, trace_limit, trace_refusal}
@@ -55,59 +57,116 @@ map_none f None none = refl
 map_none f (Some found) none = absurd cc
 
 -- no refusal writes a file
-not-refused : (found : Option Refusal) (Answers : Answer → Type 0) (answer : Answer) (file : WrittenFile) → answer.written ≡ Some file →
-    UnlessRefused found Answers answer → (found ≡ None) × Answers answer
+not-refused : (found : Option Refusal) (Answers : Answer → Type 0) (answer : Answer) (file : WrittenFile) →
+    slice_get answer.written 0 ≡ Some file → UnlessRefused found Answers answer → (found ≡ None) × Answers answer
 not-refused None Answers answer file written is = (refl, is)
 not-refused (Some refusal) Answers answer file written is =
-    let none : None ≡ Some file = sym (ap (λ (one : Answer). one.written) is) ∙ written in
+    let none : None ≡ Some file = sym (ap (λ (one : Answer). slice_get one.written 0) is) ∙ written in
     absurd cc
 
--- the file that was written spells the story
-written-story : (trace : Option (List ℕ)) (story : Story) (file : WrittenFile) → option_map (written_by story) trace ≡ Some file →
-    file.bytes ≡ spelling story.config (events story.entries)
-written-story None story file e = absurd cc
-written-story (Some name) story file e = ap (λ (written : Option WrittenFile). option_map_or (λ (one : WrittenFile). one.bytes) written []) (sym e)
+-- the first file that a run with a trace writes spells its story
+written-story : (files : RunFiles) (name : List ℕ) (story : Story) (file : WrittenFile) → files.trace ≡ Some name →
+    slice_get (files_of files story) 0 ≡ Some file → file.bytes ≡ spelling story.config (events story.entries)
+written-story files name story file named written =
+    let first : Some (written_by story name) ≡ Some file =
+    sym (ap (λ (trace : Option (List ℕ)). slice_get (where_named (written_by story) trace ++ where_named (certified_by story) files.cert) 0) named)
+    ∙ written in
+    ap (λ (one : Option WrittenFile). option_map_or (λ (given : WrittenFile). given.bytes) one []) (sym first)
 
--- a run under a configuration of these events of a program, which wrote the file that spells them
-record Ran (image : List ℕ) (file : WrittenFile) (ran : Answer) : Type 0 where
+-- what drivers have made of a program before its first event
+record Drove (config : Config) (before driven : Story) : Type 0 where
+  made : List Event
+  story : driven ≡ continued before made
+  steps : length made ≤ left_of before
+  harts : All (λ event. event.hart.number < config.harts) made
+
+drove : (threads : Option ℕ) (before driven : Story) → DriversMade threads before driven → Drove before.config before driven
+drove None before driven same = record {
+  made = [];
+  story = same ∙ sym (nothing_more before);
+  steps = omega arith;
+  harts = λ k d within. absurd (omega (arith, within));
+}
+drove (Some turns) before driven drivers = record {
+  made = drivers.made;
+  story = drivers.by_turns.story;
+  steps = drivers.steps;
+  harts = drivers.by_turns.exist;
+}
+
+-- a run under a configuration of these events of a program, and a file that spells them
+record Ran (image bytes : List ℕ) (ran : Answer) : Type 0 where
   config : Config
   made : List Event
-  trace : Option (List ℕ)
+  files : RunFiles
   is_trace : IsTrace config made
-  spelled : file.bytes ≡ spelling config made
+  spelled : bytes ≡ spelling config made
   small : size_refusal file_limit image ≡ None
   accepted : image_refusal image config.harts ≡ None
-  exact : ran ≡ ended trace (continued (first_story (program_of image config.harts) config) made)
+  exact : ran ≡ ended files (continued (first_story (program_of image config.harts) config) made)
 
-run-ran : (job : RunJob) (image : List ℕ) (file : WrittenFile) (ran : Answer) → RunAnswer job image ran → ran.written ≡ Some file → Ran image file ran
-run-ran job image file ran answers written =
+-- all the events of a run
+record Made (config : Config) (before later : Story) : Type 0 where
+  made : List Event
+  story : later ≡ continued before made
+  steps : length made ≤ left_of before
+  harts : All (λ event. event.hart.number < config.harts) made
+
+all-made : (threads : Option ℕ) (before later : Story) → 1 ≤ before.config.harts → MakesRun threads before later →
+    Made before.config before later
+all-made threads before later some run =
+    let first : Drove before.config before run.driven = drove threads before run.driven run.drivers in
+    let then = run.round_robin in
+    let config : run.driven.config ≡ before.config = ap (λ (story : Story). story.config) first.story in
+    let left : left_of run.driven ≡ left_of before - length first.made =
+    ap left_of first.story ∙ left_of_continued before first.made in
+    let few : length then.made ≤ left_of run.driven = then.round_robin.steps in
+    let first_few : length first.made ≤ left_of before = first.steps in
+    let others : All (λ event. event.hart.number < before.config.harts) then.made =
+    harts-made (state_of run.driven) before.config.harts _ then.made some
+    (subst (λ (settings : Config). IsRoundRobin (state_of run.driven) settings.harts (left_of run.driven) then.made) config
+    then.round_robin) in
+    record {
+      made = first.made ++ then.made;
+      story =
+          then.story ∙ ap (λ (story : Story). continued story then.made) first.story
+          ∙ continued_twice before first.made then.made;
+      steps = omega (arith, length-append first.made then.made, left, few, first_few);
+      harts = All-append (λ (event : Event). event.hart.number < before.config.harts) first.made then.made first.harts others;
+    }
+
+run-ran : (job : RunJob) (image name bytes : List ℕ) (ran : Answer) → job.trace ≡ Some name → RunAnswer job image ran →
+    slice_get ran.written 0 ≡ Some (record { name = name; bytes = bytes }) → Ran image bytes ran
+run-ran job image name bytes ran named answers written =
     let config : Config = config_of job in
     let p : Program = program_of image config.harts in
-    let done = not-refused (run_refusal job image) (RoundRobinAnswer config job.trace p) ran file written answers in
+    let file : WrittenFile = record { name = name; bytes = bytes } in
+    let done = not-refused (run_refusal job image) (RanAnswer job p config) ran file written answers in
     let configured = or_none (config_refusal config) (option_or (size_refusal file_limit image) (option_or (image_refusal image config.harts) None)) done.0 in
     let sized = or_none (size_refusal file_limit image) (option_or (image_refusal image config.harts) None) configured.1 in
     let accepted = or_none (image_refusal image config.harts) None sized.1 in
     let in_range = map_none _ _ configured.0 in
     let inside = ranges config in_range in
-    let round = done.1.round_robin in
     let begins : Story = first_story p config in
-    let story : Story = continued begins round.made in
-    let as_written : option_map (written_by story) job.trace ≡ Some file =
-    sym (ap (λ (one : Answer). one.written) (done.1.exact ∙ ap (ended job.trace) round.story)) ∙ written in
-    let few : length round.made ≤ config.steps = omega (arith, round.round_robin.steps) in
+    let all : Made config begins done.1.later =
+    all-made job.threads begins done.1.later (at_least 1 8 config.harts inside.harts) done.1.run in
+    let story : Story = continued begins all.made in
+    let exact : ran ≡ ended (run_files job) story = done.1.exact ∙ ap (ended (run_files job)) all.story in
+    let as_written : slice_get (files_of (run_files job) story) 0 ≡ Some file =
+    sym (ap (λ (one : Answer). slice_get one.written 0) exact) ∙ written in
+    let steps : length all.made ≤ left_of begins = all.steps in
+    let few : length all.made ≤ config.steps = omega (arith, steps) in
     record {
       config = config;
-      made = round.made;
-      trace = job.trace;
-      is_trace = record {
-        in_range = in_range;
-        few = few;
-        harts = harts-made (state_of begins) config.harts _ round.made (at_least 1 8 config.harts inside.harts) round.round_robin;
-      };
-      spelled = written-story job.trace story file as_written ∙ ap (spelling config) (events-entries (state_of begins) round.made);
+      made = all.made;
+      files = run_files job;
+      is_trace = record { in_range = in_range; few = few; harts = all.harts };
+      spelled =
+          written-story (run_files job) name story file named as_written
+          ∙ ap (spelling config) (events-entries (state_of begins) all.made);
       small = sized.0;
       accepted = accepted.0;
-      exact = done.1.exact ∙ ap (ended job.trace) round.story;
+      exact = exact;
     }
 
 -- What a replay of it has
@@ -133,24 +192,24 @@ replay-accepted image trace harts a b c e d = rw (a, b, c, e, d) refl
 
 -- the answer of a run of these events
 same-events : (image : List ℕ) (config other : Config) (made others : List Event) (answer : Answer) → config ≡ other → made ≡ others →
-    answer ≡ ended None (continued (first_story (program_of image other.harts) other) others)
-    → answer ≡ ended None (continued (first_story (program_of image config.harts) config) made)
+    answer ≡ ended no_files (continued (first_story (program_of image other.harts) other) others)
+    → answer ≡ ended no_files (continued (first_story (program_of image config.harts) config) made)
 same-events image config other made others answer c m exact = rw (c, m) exact
 
--- so a replay of the file that a run wrote says what the run said
-pub repeats : (job : RunJob) (image : List ℕ) (file : WrittenFile) (ran replayed : Answer) → RunAnswer job image ran →
-    ran.written ≡ Some file → ReplayAnswer image file.bytes replayed → SaysTheSame ran replayed
-repeats job image file ran replayed answers written replay =
-    let r : Ran image file ran = run-ran job image file ran answers written in
-    let none : replay_refusal image file.bytes ≡ None =
-    replay-accepted image file.bytes r.config.harts r.small (trace-fits r.config r.made file.bytes r.is_trace r.spelled)
-    (ap (option_map _) (no_fault r.config r.made file.bytes r.is_trace r.spelled))
-    (spelled_harts file.bytes r.config r.made r.spelled) r.accepted in
-    let P : Option Refusal → Type 0 = λ found. UnlessRefused found (FollowAnswer image file.bytes) replayed in
-    let followed : FollowAnswer image file.bytes replayed = subst P none replay in
+-- so a replay of the trace that a run wrote says what the run said
+pub repeats : (job : RunJob) (image name bytes : List ℕ) (ran replayed : Answer) → job.trace ≡ Some name → RunAnswer job image ran →
+    slice_get ran.written 0 ≡ Some (record { name = name; bytes = bytes }) → ReplayAnswer image bytes replayed → SaysTheSame ran replayed
+repeats job image name bytes ran replayed named answers written replay =
+    let r : Ran image bytes ran = run-ran job image name bytes ran named answers written in
+    let none : replay_refusal image bytes ≡ None =
+    replay-accepted image bytes r.config.harts r.small (trace-fits r.config r.made bytes r.is_trace r.spelled)
+    (ap (option_map _) (no_fault r.config r.made bytes r.is_trace r.spelled))
+    (spelled_harts bytes r.config r.made r.spelled) r.accepted in
+    let P : Option Refusal → Type 0 = λ found. UnlessRefused found (FollowAnswer image bytes) replayed in
+    let followed : FollowAnswer image bytes replayed = subst P none replay in
     let same : (r.config ≡ followed.config) × (r.made ≡ followed.made) =
     one_spelling r.config followed.config r.made followed.made r.is_trace followed.is_trace (sym r.spelled ∙ followed.spelled) in
-    let played : replayed ≡ ended None (continued (first_story (program_of image r.config.harts) r.config) r.made) =
+    let played : replayed ≡ ended no_files (continued (first_story (program_of image r.config.harts) r.config) r.made) =
     same-events image r.config followed.config r.made followed.made replayed same.0 same.1 followed.exact in
     record {
       status = ap (λ (answer : Answer). answer.status) r.exact ∙ sym (ap (λ (answer : Answer). answer.status) played);

@@ -1,6 +1,8 @@
 -- Files that are written one after the other.
-use Rattle.std.proofs.Common.{◌≡◌, List, [], ◌∷◌, ◌++◌, map, Option, inl, inr, subst}
-use Rattle.el_io.specs.Shelf.{Contents, NamedCall}
+use Rattle.std.proofs.Common.{◌≡◌, ◌≢◌, List, [], ◌∷◌, ◌++◌, map, Option, Err, inl, inr, refl, subst}
+use Rattle.el_io.specs.Shelf.{Contents, Holds, KeepsOthers, NamedCall, Records}
+use Rattle.el_io.specs.declared.shelf.ShelfFault.{ShelfFault}
+use Rattle.el_io.specs.declared.shelf.ShelfFault.TheVariants as shelf_faults
 use Rattle.el_io.specs.declared.shelf.Call.TheVariants.{Write}
 use Rattle.tool.specs.declared.stop.Fault.{Fault}
 use Rattle.tool.specs.declared.stop.Fault.TheVariants.{Device, NoMemory}
@@ -8,6 +10,7 @@ use Rattle.tool.specs.Answer.{WrittenFile}
 use Rattle.tool.specs.Causes.{FaultLists, ListsOne}
 use Rattle.tool.specs.Comes.{TriedToWrite, WroteFile, WroteFirst, Wrote}
 use Rattle.tool.specs.Faults.{Unwritten, WriteFailed}
+use Rattle.tool.specs.Stopping.{fault_of_shelf}
 
 -- files and then others
 pub wrote_both : (files others : List WrittenFile) (before between now : Option Contents) →
@@ -80,3 +83,15 @@ pub unwritten_lists : (files : List WrittenFile) (had has : List NamedCall) (bef
     Unwritten files had has before now fault → FaultLists (map write_of files) had has fault
 unwritten_lists files had has before now Device failed = listed files had has before now failed
 unwritten_lists files had has before now NoMemory kept = kept.0
+
+-- one file
+pub one_written : (file : WrittenFile) (before now : Option Contents) → KeepsOthers before now file.name →
+    Holds now file.name file.bytes → Wrote before now (file ∷ [])
+one_written file before now keeps holds = (now, (keeps, holds), refl)
+
+pub one_unwritten : (file : WrittenFile) (fault : ShelfFault) (had has : List NamedCall) (before now : Option Contents) →
+    KeepsOthers before now file.name → (fault ≡ shelf_faults.NoMemory → now ≡ before) → (fault ≢ shelf_faults.TooBig) →
+    Records {T = Unit {0}} (Err fault) had has (Write, file.name) → Unwritten (file ∷ []) had has before now (fault_of_shelf fault)
+one_unwritten file shelf_faults.Failed had has before now keeps same never listed = inl (listed, keeps)
+one_unwritten file shelf_faults.TooBig had has before now keeps same never listed = absurd (never refl)
+one_unwritten file shelf_faults.NoMemory had has before now keeps same never listed = (listed, inl (same refl))

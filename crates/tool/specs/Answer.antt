@@ -1,16 +1,20 @@
 -- What the program puts and writes, and how it ends.
-use Rattle.std.specs.Prelude.{ℕ, List, [], length, Option, None, Some}
-use Rattle.std.specs.Option.{option_map}
+use Rattle.std.specs.Prelude.{◌≡◌, ℕ, List, [], ◌∷◌, ◌++◌, length, Option, None, IfSome}
+use Rattle.std.specs.Option.{option_map, option_to_list}
 use Rattle.chronicle.specs.Chronicle.{events}
 use Rattle.machine.specs.Story.{Story, committed}
+use Rattle.run_check.specs.Certified.{certificate_of}
+use Rattle.run_check.specs.Spelling as certificates
+use Rattle.run_check.specs.declared.verdict.Verdict.{Verdict}
+use Rattle.run_check.specs.declared.verdict.Verdict.TheVariants as verdicts
 use Rattle.trace_file.specs.Spelling.{spelling}
 use Rattle.tool.specs.declared.made.Made.{Made}
 use Rattle.tool.specs.declared.made.Made.TheVariants as made
 use Rattle.tool.specs.declared.refusal.Refusal.{Refusal}
 use Rattle.tool.specs.declared.status.Status.{Status}
-use Rattle.tool.specs.declared.status.Status.TheVariants.{Done, Refused}
+use Rattle.tool.specs.declared.status.Status.TheVariants.{Done, Refused, Rejected}
 use Rattle.tool.specs.Ending.{ending}
-use Rattle.tool.specs.Messages.{line_of, written_line}
+use Rattle.tool.specs.Messages.{fails_line, holds_line, line_of, written_line}
 use Rattle.report.specs.Text.{report_of}
 
 -- a file that the program writes
@@ -37,6 +41,11 @@ refused refusal = line_alone Refused (line_of refusal)
 -- the trace that a run writes, under the name that was given
 abbrev pub written_by : Story → List ℕ → WrittenFile
 written_by story name = record { name = name; bytes = spelling story.config (events story.entries) }
+
+-- the certificate that a run writes, under the name that was given
+abbrev pub certified_by : Story → List ℕ → WrittenFile
+certified_by story name =
+    record { name = name; bytes = certificates.spelling (certificate_of story.program story.entries (committed story)) }
 
 -- the names of the files that a run writes, where they were given: its trace and its certificate
 pub record RunFiles : Type 0 where
@@ -72,7 +81,24 @@ generated file image = record {
   written = record { name = file; bytes = image } ∷ [];
 }
 
+-- a certificate holds or fails, and its line says so, with the length of the output that it tells
+abbrev pub judged : Verdict → ℕ → Answer
+judged (verdicts.Holds serial) output = line_alone Done (holds_line serial output)
+judged (verdicts.Fails number place) output = line_alone Rejected (fails_line number place)
+
+-- the files of these names
+abbrev pub files_named : Option (List ℕ) → Option (List ℕ) → RunFiles
+files_named trace cert = record { trace = trace; cert = cert }
+
 -- the answer that has been made
 abbrev pub answer_of : Made → Answer
-answer_of (made.Run machine trace) = ended (option_map (λ name. name.now) trace) machine
+answer_of (made.Run machine trace certified) =
+    ended (files_named (option_map (λ name. name.now) trace) (option_map (λ copy. copy.name.now) certified)) machine
 answer_of (made.Image bytes file) = generated file.now bytes.items
+answer_of (made.Judged verdict output) = judged verdict output
+
+-- the copy of an image that a certificate is written with is of the machine's program
+abbrev pub CopiesProgram : Made → Type 0
+CopiesProgram (made.Run machine trace certified) = IfSome certified (λ copy. copy.image ≡ machine.program)
+CopiesProgram (made.Image bytes file) = Unit {0}
+CopiesProgram (made.Judged verdict output) = Unit {0}

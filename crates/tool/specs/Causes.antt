@@ -2,12 +2,14 @@
 use Rattle.std.specs.Prelude.{◌≡◌, ℕ, ◌⊎◌, Bool, true, false, List, [], ◌∷◌, ◌++◌, map, Option, None, Some}
 use Rattle.std.specs.Option.{option_map, option_to_list}
 use Rattle.command_line.specs.Settings.{config_of}
-use Rattle.command_line.specs.Words.{Job, Run, Replay, Gen, RunJob}
+use Rattle.command_line.specs.Words.{Job, Run, Replay, Check, Gen, RunJob}
 use Rattle.el_base.specs.Config.{config_fault}
 use Rattle.el_base.specs.declared.config.ConfigFault.{ConfigFault}
 use Rattle.el_io.specs.Counts.{one_more}
 use Rattle.el_io.specs.Shelf.{NamedCall}
 use Rattle.el_io.specs.declared.shelf.Call.TheVariants.{Read, Write}
+use Rattle.tool.specs.Answer.{RunFiles, files_named}
+use Rattle.tool.specs.Jobs.{run_files}
 use Rattle.tool.specs.declared.made.Made.{Made}
 use Rattle.tool.specs.declared.made.Made.TheVariants as made
 use Rattle.tool.specs.declared.status.Status.{Status}
@@ -27,7 +29,8 @@ run_writes files = writes_to files.trace ++ writes_to files.cert
 
 -- the writes that are left to what a command has made
 abbrev pub writes_of : Made → List NamedCall
-writes_of (made.Run machine trace certified) = run_writes (files_named trace certified)
+writes_of (made.Run machine trace certified) =
+    run_writes (files_named (option_map (λ name. name.now) trace) (option_map (λ copy. copy.name.now) certified))
 writes_of (made.Image bytes file) = writes_to (Some file.now)
 writes_of (made.Judged verdict output) = []
 

@@ -1,8 +1,8 @@
 -- What the program answers to its words, over files.
 use Rattle.std.specs.Prelude.{◌≡◌, ◌≤◌, ℕ, List, [], length, Option, None, Some, MatchOption}
 use Rattle.command_line.specs.Settings.{config_of}
-use Rattle.command_line.specs.Words.{Job, Run, Replay, Gen, RunJob, job_of}
-use Rattle.drive.specs.Drivers.{MakesRoundRobin}
+use Rattle.command_line.specs.Words.{Job, Run, Replay, Check, Gen, RunJob, job_of}
+use Rattle.drive.specs.Drivers.{MakesRoundRobin, MakesTurns}
 use Rattle.el_base.specs.declared.events.Event.{Event}
 use Rattle.el_base.specs.declared.config.Config.{Config}
 use Rattle.el_io.specs.Shelf.{Contents, Holds}
@@ -11,22 +11,42 @@ use Rattle.elf_image.specs.Limits.{file_limit}
 use Rattle.elf_image.specs.Loaded.{program_of}
 use Rattle.elf_image.specs.Program.{Program}
 use Rattle.machine.specs.Story.{Story, continued}
+use Rattle.run_check.specs.Check.{IsVerdict}
+use Rattle.run_check.specs.Content.{Content}
+use Rattle.run_check.specs.Spelling as certificates
+use Rattle.run_check.specs.Spelling.{IsCertificate}
+use Rattle.run_check.specs.declared.verdict.Verdict.{Verdict}
 use Rattle.trace_file.specs.Spelling.{IsTrace, spelling}
 use Rattle.workload.specs.Image.{number_in}
 use Rattle.tool.specs.declared.refusal.Refusal.{Refusal}
 use Rattle.tool.specs.declared.refusal.Refusal.TheVariants.{Usage}
-use Rattle.tool.specs.Answer.{Answer, ended, generated, refused}
-use Rattle.tool.specs.Refusals.{replay_refusal, run_refusal}
+use Rattle.tool.specs.Answer.{Answer, RunFiles, ended, generated, judged, no_files, refused}
+use Rattle.tool.specs.Refusals.{check_refusal, replay_refusal, run_refusal}
 
 -- the story of a program under a configuration, before its first event
 abbrev pub first_story : Program → Config → Story
 first_story program config = record { program = program; config = config; entries = [] }
 
--- a run of a program by a round robin of its harts
-pub record RoundRobinAnswer (config : Config) (trace : Option (List ℕ)) (program : Program) (answer : Answer) : Type 0 where
+-- the files that a run is to write
+abbrev pub run_files : RunJob → RunFiles
+run_files job = record { trace = job.trace; cert = job.cert }
+
+-- the drivers of a run have made so many turns each, where there are any
+abbrev pub DriversMade : Option ℕ → Story → Story → Type 0
+DriversMade None before later = later ≡ before
+DriversMade (Some turns) before later = MakesTurns turns before later
+
+-- a run: by drivers, where so many turns of each are asked for, and then by a round robin of its harts
+pub record MakesRun (threads : Option ℕ) (before later : Story) : Type 0 where
+  pub driven : Story
+  pub drivers : DriversMade threads before driven
+  pub round_robin : MakesRoundRobin driven later
+
+-- a run of a program under a configuration
+pub record RanAnswer (job : RunJob) (program : Program) (config : Config) (answer : Answer) : Type 0 where
   pub later : Story
-  pub round_robin : MakesRoundRobin (first_story program config) later
-  pub exact : answer ≡ ended trace later
+  pub run : MakesRun job.threads (first_story program config) later
+  pub exact : answer ≡ ended (run_files job) later
 
 -- the events that a trace spells, made on an image
 pub record FollowAnswer (image trace : List ℕ) (answer : Answer) : Type 0 where
@@ -34,7 +54,7 @@ pub record FollowAnswer (image trace : List ℕ) (answer : Answer) : Type 0 wher
   pub made : List Event
   pub is_trace : IsTrace config made
   pub spelled : trace ≡ spelling config made
-  pub exact : answer ≡ ended None (continued (first_story (program_of image config.harts) config) made)
+  pub exact : answer ≡ ended no_files (continued (first_story (program_of image config.harts) config) made)
 
 -- the answer to a job: its first refusal, or else what it comes to
 abbrev pub UnlessRefused : Option Refusal → (Answer → Type 0) → Answer → Type 0
@@ -43,12 +63,24 @@ UnlessRefused found Answers answer = MatchOption found (Answers answer) (λ refu
 -- to run an image file
 abbrev pub RunAnswer : RunJob → List ℕ → Answer → Type 0
 RunAnswer job image answer =
-    UnlessRefused (run_refusal job image)
-    (RoundRobinAnswer (config_of job) job.trace (program_of image (config_of job).harts)) answer
+    UnlessRefused (run_refusal job image) (RanAnswer job (program_of image (config_of job).harts) (config_of job)) answer
 
 -- to replay a trace on an image file
 abbrev pub ReplayAnswer : List ℕ → List ℕ → Answer → Type 0
 ReplayAnswer image trace answer = UnlessRefused (replay_refusal image trace) (FollowAnswer image trace) answer
+
+-- to judge a certificate of a run of an image
+pub record VerdictAnswer (image certificate : List ℕ) (answer : Answer) : Type 0 where
+  pub content : Content
+  pub is_certificate : IsCertificate content
+  pub spelled : certificate ≡ certificates.spelling content
+  pub verdict : Verdict
+  pub is_verdict : IsVerdict (program_of image content.harts) content verdict
+  pub exact : answer ≡ judged verdict (length content.output)
+
+abbrev pub CheckAnswer : List ℕ → List ℕ → Answer → Type 0
+CheckAnswer image certificate answer =
+    UnlessRefused (check_refusal image certificate) (VerdictAnswer image certificate) answer
 
 -- the same over the files that a shelf tells, or over any bytes at each read where it tells none
 pub record IsRunAnswer (job : RunJob) (told : Option Contents) (answer : Answer) : Type 0 where
@@ -63,6 +95,13 @@ pub record IsReplayAnswer (image_name trace_name : List ℕ) (told : Option Cont
   pub trace_file : Holds told trace_name trace
   pub exact : ReplayAnswer image trace answer
 
+pub record IsCheckAnswer (image_name certificate_name : List ℕ) (told : Option Contents) (answer : Answer) : Type 0 where
+  pub image : List ℕ
+  pub certificate : List ℕ
+  pub image_file : Holds told image_name image
+  pub certificate_file : Holds told certificate_name certificate
+  pub exact : CheckAnswer image certificate answer
+
 -- to write an image with this number to a file, whatever its kind: the image is what `workload` promises that it builds
 pub record IsGenAnswer (number : ℕ) (file : List ℕ) (answer : Answer) : Type 0 where
   pub image : List ℕ
@@ -76,6 +115,7 @@ abbrev pub JobAnswer : Option Contents → Option Job → Answer → Type 0
 JobAnswer told None answer = answer ≡ refused Usage
 JobAnswer told (Some (Run job)) answer = IsRunAnswer job told answer
 JobAnswer told (Some (Replay image trace)) answer = IsReplayAnswer image trace told answer
+JobAnswer told (Some (Check image certificate)) answer = IsCheckAnswer image certificate told answer
 JobAnswer told (Some (Gen kind number file)) answer = IsGenAnswer number file answer
 
 -- an answer to these words

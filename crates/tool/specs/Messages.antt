@@ -7,6 +7,8 @@ use Rattle.el_base.specs.declared.file_fault.FileFault.{FileFault}
 use Rattle.elf_image.specs.FaultKinds as image_faults
 use Rattle.tool.specs.declared.refusal.Refusal.{Refusal}
 use Rattle.tool.specs.declared.refusal.Refusal.TheVariants as refusals
+use Rattle.run_check.specs.Differences.{difference_name}
+use Rattle.run_check.specs.FaultKinds as certificate_faults
 use Rattle.trace_file.specs.FaultKinds as trace_faults
 
 -- the number and the name of a fault of a configuration
@@ -37,8 +39,20 @@ line_of refusals.Usage =
 line_of (refusals.Config fault) = config_line fault
 line_of (refusals.TooBig limit) = codes "file too big: limit " ++ decimal limit ++ newline
 line_of (refusals.Image fault) = fault_line (codes "image") fault (unwrap_or (image_faults.fault_name fault.number) [])
+line_of (refusals.Certificate fault) =
+    fault_line (codes "certificate") fault (unwrap_or (certificate_faults.fault_name fault.number) [])
 line_of (refusals.Trace fault) = fault_line (codes "trace") fault (unwrap_or (trace_faults.fault_name fault.number) [])
 
 -- the line that says how many bytes a file was written with, with its newline
 abbrev pub written_line : ℕ → List ℕ
 written_line count = codes "wrote " ++ decimal count ++ codes " bytes" ++ newline
+
+-- the line of a certificate that holds: the steps of its serial order, and the bytes of its output
+abbrev pub holds_line : ℕ → ℕ → List ℕ
+holds_line serial output = codes "certificate holds, serial " ++ decimal serial ++ codes " out " ++ decimal output ++ newline
+
+-- the line of one that fails: what differs first, and where
+abbrev pub fails_line : ℕ → ℕ → List ℕ
+fails_line number place =
+    codes "certificate fails " ++ decimal number ++ codes " " ++ unwrap_or (difference_name number) [] ++ codes " at "
+    ++ decimal place ++ newline

@@ -8,13 +8,18 @@ use Rattle.el_base.specs.Firsts.{first_of, some_if}
 use Rattle.el_base.specs.declared.config.Config as settings
 use Rattle.elf_image.specs.Faults.{fault}
 use Rattle.elf_image.specs.Limits.{file_limit}
+use Rattle.run_check.specs.Faults.{certificate_fault, harts_of}
 use Rattle.trace_file.specs.Faults.{config_at, trace_fault}
 use Rattle.tool.specs.declared.refusal.Refusal.{Refusal}
-use Rattle.tool.specs.declared.refusal.Refusal.TheVariants.{Config, TooBig, Image, Trace}
+use Rattle.tool.specs.declared.refusal.Refusal.TheVariants.{Config, TooBig, Image, Trace, Certificate}
 
 -- the most bytes that a trace may have
 abbrev pub trace_limit : ℕ
 trace_limit = 16777238
+
+-- the most bytes that a certificate may have
+abbrev pub certificate_limit : ℕ
+certificate_limit = 118490210
 
 -- a configuration has a field out of its range
 abbrev pub config_refusal : settings.Config → Option Refusal
@@ -31,6 +36,10 @@ image_refusal file harts = option_map Image (fault file harts)
 -- a file is no trace
 abbrev pub trace_refusal : List ℕ → Option Refusal
 trace_refusal file = option_map (λ found. Trace (record { number = found.number; place = found.place })) (trace_fault file)
+
+-- a file is no certificate
+abbrev pub certificate_refusal : List ℕ → Option Refusal
+certificate_refusal file = option_map Certificate (certificate_fault file)
 
 -- of a run of an image file
 abbrev pub run_refusal : RunJob → List ℕ → Option Refusal
@@ -49,4 +58,14 @@ replay_refusal image trace =
     ∷ size_refusal trace_limit trace
     ∷ trace_refusal trace
     ∷ image_refusal image (config_at trace).harts
+    ∷ [])
+
+-- of a certificate and an image file
+abbrev pub check_refusal : List ℕ → List ℕ → Option Refusal
+check_refusal image certificate =
+    first_of
+    (size_refusal file_limit image
+    ∷ size_refusal certificate_limit certificate
+    ∷ certificate_refusal certificate
+    ∷ image_refusal image (harts_of certificate)
     ∷ [])

@@ -12,6 +12,12 @@ use Rattle.elf_image.specs.declared.loader.ImageFault.{ImageFault}
 use Rattle.elf_image.specs.declared.loader.ImageFault.TheVariants as image_faults
 use Rattle.machine.specs.declared.fault.MakeFault.{MakeFault}
 use Rattle.machine.specs.declared.fault.MakeFault.TheVariants as make_faults
+use Rattle.run_check.specs.Content.{Content}
+use Rattle.run_check.specs.Faults.{certificate_fault, harts_of}
+use Rattle.run_check.specs.Spelling as certificates
+use Rattle.run_check.specs.Spelling.{IsCertificate}
+use Rattle.run_check.specs.declared.fault.CertFault.{CertFault}
+use Rattle.run_check.specs.declared.fault.CertFault.TheVariants as certificate_faults
 use Rattle.trace_file.specs.Faults.{config_at, trace_fault}
 use Rattle.trace_file.specs.Spelling.{IsTrace, spelling}
 use Rattle.trace_file.specs.declared.fault.TraceFault.{TraceFault}
@@ -23,7 +29,7 @@ use Rattle.tool.specs.declared.stop.Fault.TheVariants.{Device, NoMemory}
 use Rattle.tool.specs.declared.stop.Stop.{Stop}
 use Rattle.tool.specs.declared.stop.Stop.TheVariants.{Refused, Failed}
 use Rattle.tool.specs.Answer.{Answer, refused}
-use Rattle.tool.specs.Refusals.{image_refusal, size_refusal, trace_refusal}
+use Rattle.tool.specs.Refusals.{certificate_refusal, image_refusal, size_refusal, trace_refusal}
 
 -- how each error of a callee stops a command
 abbrev pub stop_of_words_fault : WordsFault → Stop
@@ -37,6 +43,11 @@ stop_of_image_fault image_faults.NoMemory = Failed NoMemory
 abbrev pub stop_of_trace_fault : TraceFault → Stop
 stop_of_trace_fault (trace_faults.Bad number place) = Refused (refusals.Trace (record { number = number; place = place }))
 stop_of_trace_fault trace_faults.NoMemory = Failed NoMemory
+
+abbrev pub stop_of_certificate_fault : CertFault → Stop
+stop_of_certificate_fault (certificate_faults.Bad number place) =
+    Refused (refusals.Certificate (record { number = number; place = place }))
+stop_of_certificate_fault certificate_faults.NoMemory = Failed NoMemory
 
 abbrev pub stop_of_make_fault : MakeFault → Stop
 stop_of_make_fault (make_faults.Config fault) = Refused (refusals.Config fault)
@@ -54,15 +65,30 @@ pub record IsTraceOf (file : List ℕ) (config : Config) (made : List Event) : T
   pub is_trace : IsTrace config made
   pub spelled : file ≡ spelling config made
 
+-- a certificate, and what it spells
+pub record IsCertificateOf (file : List ℕ) (content : Content) : Type 0 where
+  pub accepted : certificate_fault file ≡ None
+  pub is_certificate : IsCertificate content
+  pub spelled : file ≡ certificates.spelling content
+
 -- the refusals of a replay of files within their limits
 abbrev pub follow_refusal : List ℕ → List ℕ → Option Refusal
 follow_refusal image trace = first_of (trace_refusal trace ∷ image_refusal image (config_at trace).harts ∷ [])
+
+-- the refusals of the judging of files within their limits
+abbrev pub verdict_refusal : List ℕ → List ℕ → Option Refusal
+verdict_refusal image certificate =
+    first_of (certificate_refusal certificate ∷ image_refusal image (harts_of certificate) ∷ [])
 
 -- this refusal, or want of memory
 abbrev pub StopsBy : Option Refusal → Stop → Type 0
 StopsBy found (Refused refusal) = found ≡ Some refusal
 StopsBy found (Failed Device) = ⊥
 StopsBy found (Failed NoMemory) = Unit {0}
+
+-- want of memory alone
+abbrev pub OnlyMemory : Stop → Type 0
+OnlyMemory stop = stop ≡ Failed NoMemory
 
 -- a refusal for the size of a file that the shelf may hold, or a fault
 abbrev pub StopsRead : Option Contents → List ℕ → ℕ → Stop → Type 0

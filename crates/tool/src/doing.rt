@@ -1,41 +1,46 @@
-//! What a command does before anything is put: it reads its files and makes a machine that it runs, or
-//! it builds an image.
-ghost use Rattle.std.specs.Prelude.{◌≡◌, ◌≤◌, ◌∷◌, [], List, None, IfOk, MatchResult, length};
+//! What a command does before anything is put: it reads its files and makes a machine that it runs, it judges a
+//! certificate, or it builds an image.
+ghost use Rattle.std.specs.Prelude.{◌≡◌, ◌≤◌, ◌∷◌, [], List, None, IfErr, IfOk, IfSome, MatchResult, length, option_map, true, false};
 ghost use Rattle.command_line.specs.Settings.{config_of};
 ghost use Rattle.command_line.specs.Words.{job_of, run_meaning, texts};
-ghost use Rattle.drive.specs.Drivers.{MakesRoundRobin};
 ghost use Rattle.el_base.specs.Config.{IsInRange, config_fault};
 ghost use Rattle.el_io.specs.Shelf.{Holds, NamedCall};
 ghost use Rattle.el_io.specs.declared.shelf.Call.TheVariants.{Read};
 ghost use Rattle.elf_image.specs.Faults.{fault};
 ghost use Rattle.elf_image.specs.Limits.{file_limit};
 ghost use Rattle.elf_image.specs.Loaded.{program_of};
+ghost use Rattle.run_check.specs.Faults.{harts_of};
 ghost use Rattle.trace_file.specs.Faults.{config_at};
-ghost use Rattle.tool.specs.Answer.{answer_of, ended};
-ghost use Rattle.tool.specs.Causes.{ListsOne, StopLists, calls_of, calls_under, is_run, puts_of, reads_of, writes_of};
-ghost use Rattle.tool.specs.Jobs.{FollowAnswer, IsAnswer, IsReplayAnswer, IsRunAnswer, first_story};
-ghost use Rattle.tool.specs.Refusals.{image_refusal, trace_refusal};
-ghost use Rattle.tool.specs.Stopping.{IsTraceOf, StopsBy, StopsRead, StopsWith, follow_refusal};
+ghost use Rattle.tool.specs.Answer.{CopiesProgram, answer_of, ended, judged, no_files};
+ghost use Rattle.tool.specs.Causes.{ListsOne, StopLists, calls_of, calls_under, is_run, puts_of, reads_of, run_writes, writes_of};
+ghost use Rattle.tool.specs.Jobs.{DriversMade, FollowAnswer, IsAnswer, IsCheckAnswer, IsReplayAnswer, IsRunAnswer, MakesRun, RanAnswer, first_story, VerdictAnswer, run_files};
+ghost use Rattle.tool.specs.Refusals.{certificate_refusal, image_refusal, trace_refusal};
+ghost use Rattle.tool.specs.Stopping.{IsCertificateOf, IsTraceOf, OnlyMemory, StopsBy, StopsRead, StopsWith, follow_refusal, verdict_refusal};
 
-use crate::made::Made;
+use crate::made::{Certified, Made};
 use crate::refusal::Refusal;
 use crate::stop::{Fault, Stop};
 use command_line::{Command, RunCommand, read_words};
-use drive::{follow, round_robin};
+use drive::{by_threads, follow, round_robin};
 use el_base::Config;
-use el_io::{Shelf, ShelfFault};
+use el_io::{Gate, Shelf, ShelfFault};
 use elf_image::{IMAGE_FILE_LIMIT, Image, load};
 use machine::Machine;
+use run_check::{Certificate, check, read_certificate};
 use std::alloc::Global;
+use std::sync::Wait;
+use std::thread::Threads;
 use trace_file::{MAX_FILE_BYTES, Trace, read_trace};
 use workload::build;
 
 /// Does what the words ask for, as far as it puts and writes nothing. The words are those after the
 /// program's name.
-pub(crate) fn obey<'a, S: Shelf>(
+pub(crate) fn obey<'a, R: Threads + Wait + Sync, S: Shelf, G: Gate + Sync>(
+    runtime: &R,
     alloc: Global,
     words: &'a [String],
     shelf: &mut S,
+    gate: &G,
 ) -> Result<Made<'a>, Stop>
     ensures files_stay { S.told shelf.new ≡ S.told shelf.old }
     ensures answers { let Answers = IsAnswer (texts words.entry.now) (S.told shelf.old) in
@@ -47,16 +52,16 @@ pub(crate) fn obey<'a, S: Shelf>(
         ListsOne (writes_of made) before now →
         ListsOne (calls_of (job_of (texts words.entry.now))) before now) }
     ensures puts { IfOk result (λ made. is_run made ≡ puts_of (job_of (texts words.entry.now))) }
+    ensures copied { IfOk result CopiesProgram }
 {
     match read_words(alloc, words)? {
-        Command::Run(command) => Ok(Made::Run {
-            machine: run(alloc, shelf, command)?,
-            trace: command.trace,
-        }),
+        Command::Run(command) => run(runtime, alloc, shelf, command, gate),
         Command::Replay { image, trace } => Ok(Made::Run {
             machine: replay(alloc, shelf, image, trace)?,
             trace: None,
+            certified: None,
         }),
+        Command::Check { image, certificate } => judge(alloc, shelf, image, certificate),
         Command::Gen { kind, number, file } => Ok(Made::Image {
             bytes: build(alloc, kind, number)?,
             file,
@@ -64,23 +69,170 @@ pub(crate) fn obey<'a, S: Shelf>(
     }
 }
 
-/// Runs an image by a round robin of its harts.
+/// Runs an image.
 #[tactic(auto, using(crate::proofs::Answering::config_refused))]
-fn run<S: Shelf>(alloc: Global, shelf: &mut S, command: RunCommand<'_>) -> Result<Machine, Stop>
+fn run<'a, R: Threads + Wait + Sync, S: Shelf, G: Gate + Sync>(
+    runtime: &R,
+    alloc: Global,
+    shelf: &mut S,
+    command: RunCommand<'a>,
+    gate: &G,
+) -> Result<Made<'a>, Stop>
     ensures files_stay { S.told shelf.new ≡ S.told shelf.old }
     ensures in_range { IfOk result (λ _. IsInRange (config_of (run_meaning command.entry))) }
-    ensures answers { let job = run_meaning command.entry in
-        let Answers = IsRunAnswer job (S.told shelf.old) in
-        MatchResult result (λ machine. Answers (ended job.trace machine)) (StopsWith Answers) }
+    ensures answers { let Answers = IsRunAnswer (run_meaning command.entry) (S.told shelf.old) in
+        MatchResult result (λ made. Answers (answer_of made)) (StopsWith Answers) }
     ensures calls { let job = run_meaning command.entry in
         let calls = calls_under (config_fault (config_of job)) ((Read, job.image) ∷ []) in
         MatchResult result
         (λ _. S.failures shelf.new ≡ S.failures shelf.old)
         (StopLists calls (S.failures shelf.old) (S.failures shelf.new)) }
+    ensures writes { IfOk result (λ made. writes_of made ≡ run_writes (run_files (run_meaning command.entry))) }
+    ensures puts { IfOk result (λ made. is_run made ≡ true) }
+    ensures copied { IfOk result CopiesProgram }
 {
     let config = command.config()?;
     let file = read_file(alloc, shelf, command.image, IMAGE_FILE_LIMIT)?;
-    run_image(alloc, file, config)
+    run_file(runtime, alloc, file, command, config, gate)
+}
+
+/// Runs the image in a file. The file is given back.
+#[tactic(auto, using(crate::proofs::Running::copies_what_ran, crate::proofs::Running::same_files))]
+fn run_file<'a, R: Threads + Wait + Sync, G: Gate + Sync>(
+    runtime: &R,
+    alloc: Global,
+    file: Vec<u8>,
+    command: RunCommand<'a>,
+    config: Config,
+    gate: &G,
+) -> Result<Made<'a>, Stop>
+    requires within_limit { length file.items ≤ file_limit }
+    requires in_range { IsInRange config }
+    ensures { let job = run_meaning command.entry in
+        let program = program_of file.items config.harts in
+        MatchResult result
+        (λ made. (fault file.items config.harts ≡ None)
+        × RanAnswer job program config (answer_of made)
+        × (writes_of made ≡ run_writes (run_files job)) × (is_run made ≡ true) × CopiesProgram made)
+        (StopsBy (image_refusal file.items config.harts)) }
+{
+    let image = image_of(alloc, file, config.harts)?;
+    let certified = copied(alloc, &image, command.certificate)?;
+    Ok(Made::Run {
+        machine: run_image(runtime, alloc, image, config, command.threads, gate)?,
+        trace: command.trace,
+        certified,
+    })
+}
+
+/// What the certificate of a run of an image is written with, where a name was given.
+fn copied<'a>(
+    alloc: Global,
+    image: &Image,
+    name: Option<&'a str>,
+) -> Result<Option<Certified<'a>>, Stop>
+    ensures copies { IfOk result (λ certified. IfSome certified (λ copy. copy.image ≡ image.now)) }
+    ensures named { IfOk result (λ certified.
+        option_map (λ copy. copy.name.now) certified ≡ option_map (λ name. name.now) name.entry) }
+    ensures refused { IfErr result OnlyMemory }
+{
+    match name {
+        Some(name) => Ok(Some(Certified {
+            image: image.copy(alloc)?,
+            name,
+        })),
+        None => Ok(None),
+    }
+}
+
+/// Runs an image by drivers on threads, where so many turns of each are asked for, and then by a round robin of its
+/// harts.
+fn run_image<R: Threads + Wait + Sync, G: Gate + Sync>(
+    runtime: &R,
+    alloc: Global,
+    image: Image,
+    config: Config,
+    threads: Option<u32>,
+    gate: &G,
+) -> Result<Machine, Stop>
+    requires in_range { IsInRange config }
+    requires one_hart_each { image.harts ≡ config.harts }
+    ensures { MatchResult result
+        (MakesRun threads (first_story image config))
+        OnlyMemory }
+{
+    let machine = Machine::make(alloc, image, config)?;
+    let mut machine = driven(runtime, alloc, machine, threads, gate)?;
+    round_robin(&mut machine);
+    Ok(machine)
+}
+
+/// A machine after so many turns of each driver, where there are to be any.
+fn driven<R: Threads + Wait + Sync, G: Gate + Sync>(
+    runtime: &R,
+    alloc: Global,
+    machine: Machine,
+    threads: Option<u32>,
+    gate: &G,
+) -> Result<Machine, Stop>
+    ensures { MatchResult result
+        (DriversMade threads machine)
+        OnlyMemory }
+{
+    match threads {
+        Some(turns) => Ok(by_threads(runtime, alloc, machine, turns, gate)?),
+        None => Ok(machine),
+    }
+}
+
+/// Judges a certificate of a run of an image.
+#[tactic(auto, using(crate::proofs::Answering::image_unchecked))]
+fn judge<'a, S: Shelf>(
+    alloc: Global,
+    shelf: &mut S,
+    image: &str,
+    certificate: &str,
+) -> Result<Made<'a>, Stop>
+    ensures files_stay { S.told shelf.new ≡ S.told shelf.old }
+    ensures answers { let Answers = IsCheckAnswer image.now certificate.now (S.told shelf.old) in
+        MatchResult result (λ made. Answers (answer_of made)) (StopsWith Answers) }
+    ensures calls { let calls = (Read, image.now) ∷ (Read, certificate.now) ∷ [] in
+        MatchResult result
+        (λ _. S.failures shelf.new ≡ S.failures shelf.old)
+        (StopLists calls (S.failures shelf.old) (S.failures shelf.new)) }
+    ensures writes { IfOk result (λ made. writes_of made ≡ []) }
+    ensures puts { IfOk result (λ made. is_run made ≡ false) }
+    ensures copied { IfOk result CopiesProgram }
+{
+    let image = read_file(alloc, shelf, image, IMAGE_FILE_LIMIT)?;
+    let certificate = read_file(alloc, shelf, certificate, run_check::MAX_FILE_BYTES)?;
+    judge_files(alloc, image, certificate)
+}
+
+/// Judges the certificate in a file over the image in another.
+fn judge_files<'a>(alloc: Global, image: Vec<u8>, certificate: Vec<u8>) -> Result<Made<'a>, Stop>
+    requires { length image.items ≤ file_limit }
+    ensures { MatchResult result
+        (λ made. (verdict_refusal image.items certificate.items ≡ None)
+        × VerdictAnswer image.items certificate.items (answer_of made)
+        × (writes_of made ≡ []) × (is_run made ≡ false) × CopiesProgram made)
+        (StopsBy (verdict_refusal image.items certificate.items)) }
+{
+    let certificate = certificate_of(alloc, certificate)?;
+    let image = image_of(alloc, image, certificate.harts())?;
+    Ok(Made::Judged {
+        verdict: check(alloc, &image, &certificate)?,
+        output: certificate.output().len(),
+    })
+}
+
+/// The certificate in a file. The file is given back.
+#[tactic(auto, using(crate::proofs::Files::harts_of_certificate))]
+fn certificate_of(alloc: Global, file: Vec<u8>) -> Result<Certificate, Stop>
+    ensures exact { MatchResult result (IsCertificateOf file.items) (StopsBy (certificate_refusal file.items)) }
+    ensures harts { IfOk result (λ certificate. harts_of file.items ≡ certificate.harts) }
+{
+    Ok(read_certificate(alloc, file.as_slice())?)
 }
 
 /// Makes the events of a trace again, on an image.
@@ -88,7 +240,7 @@ fn run<S: Shelf>(alloc: Global, shelf: &mut S, command: RunCommand<'_>) -> Resul
 fn replay<S: Shelf>(alloc: Global, shelf: &mut S, image: &str, trace: &str) -> Result<Machine, Stop>
     ensures files_stay { S.told shelf.new ≡ S.told shelf.old }
     ensures answers { let Answers = IsReplayAnswer image.now trace.now (S.told shelf.old) in
-        MatchResult result (λ machine. Answers (ended None machine)) (StopsWith Answers) }
+        MatchResult result (λ machine. Answers (ended no_files machine)) (StopsWith Answers) }
     ensures calls { let calls = (Read, image.now) ∷ (Read, trace.now) ∷ [] in
         MatchResult result
         (λ _. S.failures shelf.new ≡ S.failures shelf.old)
@@ -122,27 +274,12 @@ fn read_file<S: Shelf>(
     }
 }
 
-/// Runs the image in a file by a round robin of its harts.
-fn run_image(alloc: Global, file: Vec<u8>, config: Config) -> Result<Machine, Stop>
-    requires within_limit { length file.items ≤ file_limit }
-    requires in_range { IsInRange config }
-    ensures { MatchResult result
-        (λ machine. (fault file.items config.harts ≡ None)
-        × MakesRoundRobin (first_story (program_of file.items config.harts) config) machine)
-        (StopsBy (image_refusal file.items config.harts)) }
-{
-    let image = image_of(alloc, file, config.harts)?;
-    let mut machine = Machine::make(alloc, image, config)?;
-    round_robin(&mut machine);
-    Ok(machine)
-}
-
 /// Makes the events that a trace spells, on the image in a file.
 fn follow_trace(alloc: Global, image: Vec<u8>, trace: Vec<u8>) -> Result<Machine, Stop>
     requires { length image.items ≤ file_limit }
     ensures { MatchResult result
         (λ machine. (follow_refusal image.items trace.items ≡ None)
-        × FollowAnswer image.items trace.items (ended None machine))
+        × FollowAnswer image.items trace.items (ended no_files machine))
         (StopsBy (follow_refusal image.items trace.items)) }
 {
     let trace = trace_of(alloc, trace)?;

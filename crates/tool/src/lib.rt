@@ -10,6 +10,7 @@
 #![tactic(auto)]
 
 mod doing;
+mod ended;
 mod ending;
 mod laws;
 mod made;

@@ -21,6 +21,8 @@ pub(crate) enum Refusal {
     Image(FileFault),
     /// The first fault of a trace.
     Trace(FileFault),
+    /// The first fault of a certificate.
+    Certificate(FileFault),
 }
 
 impl Refusal {
@@ -33,7 +35,7 @@ impl Refusal {
             Refusal::Usage => String::from_str(alloc, USAGE),
             Refusal::Config(fault) => config_line(alloc, fault),
             Refusal::TooBig { limit } => format!(in alloc; "file too big: limit {limit}\n"),
-            // Each number that `load` answers with has a name, and so has each of `read_trace`.
+            // Each number that `load`, `read_trace` and `read_certificate` answer with has a name.
             Refusal::Image(fault) => {
                 let name = elf_image::fault_name(fault.number).unwrap_or("");
                 fault_line(alloc, "image", fault, name)
@@ -41,6 +43,10 @@ impl Refusal {
             Refusal::Trace(fault) => {
                 let name = trace_file::fault_name(fault.number).unwrap_or("");
                 fault_line(alloc, "trace", fault, name)
+            }
+            Refusal::Certificate(fault) => {
+                let name = run_check::fault_name(fault.number).unwrap_or("");
+                fault_line(alloc, "certificate", fault, name)
             }
         }
     }

@@ -7,7 +7,7 @@ use crate::stop::Fault;
 /// How the program ends.
 #[derive(Clone, Copy, Debug, PartialEq, Eq)]
 pub enum Status {
-    /// Every hart exited with code 0, or an image was written.
+    /// Every hart exited with code 0, an image was written, or a certificate holds.
     Done = 0,
     /// Every hart has stopped, and not all exited with code 0.
     HartFailed = 1,
@@ -19,6 +19,8 @@ pub enum Status {
     DeviceFault = 4,
     /// Want of memory.
     NoMemory = 5,
+    /// A certificate fails.
+    Rejected = 7,
 }
 
 impl Status {

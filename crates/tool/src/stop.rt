@@ -3,10 +3,11 @@ ghost use Rattle.std.specs.Prelude.{◌≡◌};
 
 use crate::refusal::Refusal;
 use command_line::WordsFault;
-use el_base::{ConfigFault, FileFault, NoMemory};
+use el_base::{ConfigFault, FileFault, Kept, NoMemory};
 use el_io::{Failed, ShelfFault};
 use elf_image::ImageFault;
-use machine::MakeFault;
+use machine::{Machine, MakeFault};
+use run_check::CertFault;
 use std::alloc::AllocError;
 use trace_file::TraceFault;
 
@@ -96,6 +97,21 @@ impl From<TraceFault> for Stop {
     }
 }
 
+impl From<CertFault> for Stop {
+    ghost use Rattle.tool.specs.Stopping.{stop_of_certificate_fault};
+
+    ghost from_gives = { λ fault stop. stop ≡ stop_of_certificate_fault fault };
+
+    fn from(fault: CertFault) -> Stop {
+        match fault {
+            CertFault::Bad { number, place } => {
+                Refusal::Certificate(FileFault { number, place }).into()
+            }
+            CertFault::NoMemory => Fault::NoMemory.into(),
+        }
+    }
+}
+
 impl From<MakeFault> for Stop {
     ghost use Rattle.tool.specs.Stopping.{stop_of_make_fault};
 
@@ -106,6 +122,17 @@ impl From<MakeFault> for Stop {
             MakeFault::Config { fault } => fault.into(),
             MakeFault::NoMemory => Fault::NoMemory.into(),
         }
+    }
+}
+
+impl From<Kept<Machine>> for Stop {
+    ghost use Rattle.tool.specs.declared.stop.Fault.TheVariants as faults;
+    ghost use Rattle.tool.specs.declared.stop.Stop.TheVariants as stops;
+
+    ghost from_gives = { λ _ stop. stop ≡ stops.Failed faults.NoMemory };
+
+    fn from(_refused: Kept<Machine>) -> Stop {
+        Fault::NoMemory.into()
     }
 }
 

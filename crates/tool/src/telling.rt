@@ -1,23 +1,25 @@
 //! What a command puts and writes at its end.
-ghost use Rattle.std.specs.Prelude.{◌≡◌, ℕ, true, false, List, [], Option, Some, IfOk, MatchResult, string_bytes};
+ghost use Rattle.std.specs.Prelude.{◌≡◌, ℕ, true, false, List, [], ◌∷◌, Option, Some, IfOk, IfSome, MatchResult, string_bytes};
 ghost use Rattle.std.specs.Option.{option_map};
 ghost use Rattle.el_io.specs.Sink.{TookAll};
-ghost use Rattle.tool.specs.Answer.{answer_of, ended, generated, written_by};
-ghost use Rattle.tool.specs.Causes.{Caused, FaultCounts, FaultLists, is_run, writes_of, writes_to};
-ghost use Rattle.tool.specs.Comes.{Comes, Untold, Unwritten, Wrote};
+ghost use Rattle.tool.specs.Answer.{CopiesProgram, answer_of, certified_by, ended, files_named, files_of, generated, judged, where_named, written_by};
+ghost use Rattle.tool.specs.Causes.{Caused, FaultCounts, is_run, run_writes, writes_of, writes_to};
+ghost use Rattle.tool.specs.Comes.{Comes, Untold};
 ghost use Rattle.tool.specs.Faults.{Faulted};
 ghost use Rattle.tool.specs.Messages.{line_of, written_line as line_of_written};
 ghost use Rattle.tool.specs.Statuses.{status_of};
-ghost use Rattle.tool.specs.Telling.{Only};
+ghost use Rattle.tool.specs.Telling.{Only, Writes};
 
+use crate::ended::Ended;
 use crate::ending::ending;
-use crate::made::Made;
+use crate::made::{Certified, Made};
 use crate::refusal::Refusal;
 use crate::status::Status;
 use crate::stop::Fault;
 use el_io::{Shelf, Sink, put_all};
 use machine::Machine;
 use report::write_report;
+use run_check::{Verdict, write_certificate};
 use std::alloc::{AllocError, Global};
 use trace_file::write_trace;
 
@@ -29,6 +31,7 @@ pub(crate) fn tell<S: Shelf, O: Sink, E: Sink>(
     out: &mut O,
     err: &mut E,
 ) -> Result<Status, Fault>
+    requires copied { CopiesProgram made }
     ensures exact { Comes (Only (answer_of made.entry)) (status_of result)
         (record { out = O.taken out.old; err = E.taken err.old; files = S.told shelf.old })
         (record { out = O.taken out.new; err = E.taken err.new; files = S.told shelf.new }) }
@@ -42,36 +45,43 @@ pub(crate) fn tell<S: Shelf, O: Sink, E: Sink>(
         (record { out = O.taken out.new; err = E.taken err.new; files = S.told shelf.new }) }
 {
     match made {
-        Made::Run { machine, trace } => tell_run(alloc, &machine, trace, shelf, out, err),
+        Made::Run {
+            machine,
+            trace,
+            certified,
+        } => tell_run(alloc, &machine, trace, certified, shelf, out, err),
         Made::Image { bytes, file } => tell_image(alloc, bytes, file, shelf, err),
+        Made::Judged { verdict, output } => tell_verdict(alloc, verdict, output, err),
     }
 }
 
-/// Puts the output of a run that has ended, writes its trace where a name was given, and puts its
-/// report, in this order.
-#[tactic(auto, using(crate::proofs::Putting::unwritten_comes, crate::proofs::Putting::unwritten_faults))]
+/// Puts the output of a run that has ended, writes its trace and its certificate where names were given, and puts
+/// its report, in this order.
+#[tactic(auto, using(crate::proofs::Putting::unwritten_comes, crate::proofs::Putting::unwritten_faults, crate::proofs::Putting::unwritten_causes))]
 fn tell_run<S: Shelf, O: Sink, E: Sink>(
     alloc: Global,
     machine: &Machine,
     trace: Option<&str>,
+    certified: Option<Certified<'_>>,
     shelf: &mut S,
     out: &mut O,
     err: &mut E,
 ) -> Result<Status, Fault>
-    ensures exact { Comes (Only (ended (option_map (λ name. name.now) trace.entry) machine.now)) (status_of result)
+    requires copied { IfSome certified (λ copy. copy.image ≡ machine.now.program) }
+    ensures exact { Comes (Only (ended (files_named (option_map (λ name. name.now) trace.entry) (option_map (λ copy. copy.name.now) certified.entry)) machine.now)) (status_of result)
         (record { out = O.taken out.old; err = E.taken err.old; files = S.told shelf.old })
         (record { out = O.taken out.new; err = E.taken err.new; files = S.told shelf.new }) }
-    ensures cause { Caused (writes_to (option_map (λ name. name.now) trace.entry)) true (status_of result)
+    ensures cause { Caused (run_writes (files_named (option_map (λ name. name.now) trace.entry) (option_map (λ copy. copy.name.now) certified.entry))) true (status_of result)
         (record { shelf = S.failures shelf.old; out = O.faults out.old; err = E.faults err.old })
         (record { shelf = S.failures shelf.new; out = O.faults out.new; err = E.faults err.new }) }
-    ensures fault { Faulted [] (Only (ended (option_map (λ name. name.now) trace.entry) machine.now)) (status_of result)
+    ensures fault { Faulted [] (Only (ended (files_named (option_map (λ name. name.now) trace.entry) (option_map (λ copy. copy.name.now) certified.entry)) machine.now)) (status_of result)
         (record { shelf = S.failures shelf.old; out = O.faults out.old; err = E.faults err.old })
         (record { shelf = S.failures shelf.new; out = O.faults out.new; err = E.faults err.new })
         (record { out = O.taken out.old; err = E.taken err.old; files = S.told shelf.old })
         (record { out = O.taken out.new; err = E.taken err.new; files = S.told shelf.new }) }
 {
     put_all(out, machine.output())?;
-    write_where_named(alloc, machine, trace, shelf)?;
+    write_files(alloc, machine, trace, certified, shelf)?;
     write_report(err, machine)?;
     Ok(ending(machine))
 }
@@ -111,6 +121,49 @@ fn written_line(alloc: Global, count: usize) -> Result<String, AllocError>
     Ok(line)
 }
 
+/// Puts what was found of a certificate.
+fn tell_verdict<E: Sink>(
+    alloc: Global,
+    verdict: Verdict,
+    output: usize,
+    err: &mut E,
+) -> Result<Status, Fault>
+    ensures told { MatchResult result
+        (λ status. (status ≡ (judged verdict output).status)
+        × TookAll (E.taken err.old) (E.taken err.new) (judged verdict output).err)
+        (Untold (E.taken err.old) (E.taken err.new) (judged verdict output).err) }
+    ensures cause { MatchResult result
+        (λ _. E.faults err.new ≡ E.faults err.old)
+        (FaultCounts (E.faults err.old) (E.faults err.new)) }
+{
+    let line = verdict_line(alloc, verdict, output)?;
+    put_all(err, line.as_bytes())?;
+    Ok(match verdict {
+        Verdict::Holds { .. } => Status::Done,
+        Verdict::Fails { .. } => Status::Rejected,
+    })
+}
+
+/// The line of what was found of a certificate, with the length of the output that it tells.
+fn verdict_line(alloc: Global, verdict: Verdict, output: usize) -> Result<String, AllocError>
+    ensures { IfOk result (λ line. string_bytes line ≡ (judged verdict output).err) }
+{
+    match verdict {
+        Verdict::Holds { serial } => {
+            let mut line = format!(in alloc; "certificate holds, serial {serial}")?;
+            writeln!(line, " out {output}")?;
+            Ok(line)
+        }
+        Verdict::Fails { number, place } => {
+            let mut line = format!(in alloc; "certificate fails {number} ")?;
+            // Each number that `check` answers with has a name.
+            line.push_str(run_check::difference_name(number).unwrap_or(""))?;
+            writeln!(line, " at {place}")?;
+            Ok(line)
+        }
+    }
+}
+
 /// Puts the line of a refusal.
 pub(crate) fn tell_refusal<E: Sink>(
     alloc: Global,
@@ -129,22 +182,79 @@ pub(crate) fn tell_refusal<E: Sink>(
     Ok(Status::Refused)
 }
 
-/// Writes the trace of a run, where a name was given.
-fn write_where_named<S: Shelf>(
+/// Writes the trace of a run and then its certificate, where names were given.
+#[tactic(auto, using(crate::proofs::Writing::wrote_both, crate::proofs::Writing::unwritten_behind, crate::proofs::Writing::unwritten_before))]
+fn write_files<S: Shelf>(
     alloc: Global,
     machine: &Machine,
     trace: Option<&str>,
+    certified: Option<Certified<'_>>,
     shelf: &mut S,
 ) -> Result<(), Fault>
-    ensures written { MatchResult result
-        (λ _. Wrote (S.told shelf.old) (S.told shelf.new) (option_map (written_by machine.now) (option_map (λ name. name.now) trace.entry)))
-        (Unwritten (S.told shelf.old) (S.told shelf.new) (option_map (written_by machine.now) (option_map (λ name. name.now) trace.entry))) }
-    ensures calls { MatchResult result
-        (λ _. S.failures shelf.new ≡ S.failures shelf.old)
-        (FaultLists (writes_to (option_map (λ name. name.now) trace.entry)) (S.failures shelf.old) (S.failures shelf.new)) }
+    requires copied { IfSome certified (λ copy. copy.image ≡ machine.now.program) }
+    ensures { Writes result (files_of (files_named (option_map (λ name. name.now) trace.entry) (option_map (λ copy. copy.name.now) certified.entry)) machine.now)
+        (S.failures shelf.old) (S.failures shelf.new) (S.told shelf.old) (S.told shelf.new) }
 {
-    if let Some(name) = trace {
+    write_trace_to(alloc, machine, trace, shelf)?;
+    write_certificate_to(alloc, machine, certified, shelf)
+}
+
+/// Writes the trace of a run, where a name was given.
+#[tactic(auto, using(crate::proofs::Writing::one_written, crate::proofs::Writing::one_unwritten))]
+fn write_trace_to<S: Shelf>(
+    alloc: Global,
+    machine: &Machine,
+    name: Option<&str>,
+    shelf: &mut S,
+) -> Result<(), Fault>
+    ensures { Writes result (where_named (written_by machine.now) (option_map (λ name. name.now) name.entry))
+        (S.failures shelf.old) (S.failures shelf.new) (S.told shelf.old) (S.told shelf.new) }
+{
+    if let Some(name) = name {
         write_trace(alloc, shelf, name, &machine.config(), machine.history())?;
     }
+    Ok(())
+}
+
+/// Writes the certificate of a run, where a copy of its image was kept for it.
+fn write_certificate_to<S: Shelf>(
+    alloc: Global,
+    machine: &Machine,
+    certified: Option<Certified<'_>>,
+    shelf: &mut S,
+) -> Result<(), Fault>
+    requires copied { IfSome certified (λ copy. copy.image ≡ machine.now.program) }
+    ensures { Writes result (where_named (certified_by machine.now) (option_map (λ copy. copy.name.now) certified.entry))
+        (S.failures shelf.old) (S.failures shelf.new) (S.told shelf.old) (S.told shelf.new) }
+{
+    match certified {
+        Some(copy) => certify(alloc, machine, copy, shelf),
+        None => Ok(()),
+    }
+}
+
+/// Writes the certificate of a run, with a copy of its image.
+#[tactic(auto, using(crate::proofs::Writing::one_written, crate::proofs::Writing::one_unwritten))]
+fn certify<S: Shelf>(
+    alloc: Global,
+    machine: &Machine,
+    copy: Certified<'_>,
+    shelf: &mut S,
+) -> Result<(), Fault>
+    requires copied { copy.image ≡ machine.now.program }
+    ensures { Writes result (certified_by machine.now copy.entry.name.now ∷ [])
+        (S.failures shelf.old) (S.failures shelf.new) (S.told shelf.old) (S.told shelf.new) }
+{
+    let Certified { image, name } = copy;
+    let config = machine.config();
+    prove!(image.harts() == config.harts);
+    write_certificate(
+        alloc,
+        shelf,
+        name,
+        &image,
+        machine.history(),
+        &Ended { machine },
+    )?;
     Ok(())
 }

@@ -10,8 +10,10 @@ use crate::doing::obey;
 use crate::status::Status;
 use crate::stop::{Fault, Stop};
 use crate::telling::{tell, tell_refusal};
-use el_io::{Shelf, Sink};
+use el_io::{Gate, Shelf, Sink};
 use std::alloc::Global;
+use std::sync::Wait;
+use std::thread::Threads;
 
 /// Does what the words ask for, over the shelf's files, and puts what there is to say to `out` and
 /// `err`. The words are those after the program's name.
@@ -24,14 +26,16 @@ use std::alloc::Global;
 /// in err. Nothing says when want of memory comes. After it there is nothing, or the beginning of an
 /// answer's output.
 ///
-/// The runtime is for calls that start threads or wait, of which there is none so far.
-pub fn tool<R, S: Shelf, O: Sink, E: Sink>(
-    _runtime: &R,
+/// Where drivers on threads are asked for, each passes `gate` before each of its turns, and the call may wait.
+/// Without them it starts no thread and waits for nothing.
+pub fn tool<R: Threads + Wait + Sync, S: Shelf, O: Sink, E: Sink, G: Gate + Sync>(
+    runtime: &R,
     alloc: Global,
     words: &[String],
     shelf: &mut S,
     out: &mut O,
     err: &mut E,
+    gate: &G,
 ) -> Status
     ensures exact { Comes (IsAnswer (texts words.now) (S.told shelf.old)) result
         (record { out = O.taken out.old; err = E.taken err.old; files = S.told shelf.old })
@@ -45,20 +49,22 @@ pub fn tool<R, S: Shelf, O: Sink, E: Sink>(
         (record { out = O.taken out.old; err = E.taken err.old; files = S.told shelf.old })
         (record { out = O.taken out.new; err = E.taken err.new; files = S.told shelf.new }) }
 {
-    match answer(alloc, words, shelf, out, err) {
+    match answer(runtime, alloc, words, shelf, out, err, gate) {
         Ok(status) => status,
         Err(fault) => fault.into(),
     }
 }
 
 /// Answers the words: with what they ask for, or with the line of their refusal.
-#[tactic(auto, using(crate::proofs::Failing::reads_are_calls))]
-fn answer<S: Shelf, O: Sink, E: Sink>(
+#[tactic(auto, using(crate::proofs::Failing::reads_are_calls, crate::proofs::Failing::faulted_by))]
+fn answer<R: Threads + Wait + Sync, S: Shelf, O: Sink, E: Sink, G: Gate + Sync>(
+    runtime: &R,
     alloc: Global,
     words: &[String],
     shelf: &mut S,
     out: &mut O,
     err: &mut E,
+    gate: &G,
 ) -> Result<Status, Fault>
     ensures exact { Comes (IsAnswer (texts words.now) (S.told shelf.old)) (status_of result)
         (record { out = O.taken out.old; err = E.taken err.old; files = S.told shelf.old })
@@ -72,7 +78,7 @@ fn answer<S: Shelf, O: Sink, E: Sink>(
         (record { out = O.taken out.old; err = E.taken err.old; files = S.told shelf.old })
         (record { out = O.taken out.new; err = E.taken err.new; files = S.told shelf.new }) }
 {
-    match obey(alloc, words, shelf) {
+    match obey(runtime, alloc, words, shelf, gate) {
         Ok(made) => tell(alloc, made, shelf, out, err),
         Err(Stop::Refused(refusal)) => tell_refusal(alloc, refusal, err),
         Err(Stop::Failed(fault)) => Err(fault),

@@ -1,6 +1,6 @@
 //! One device call fails at a time.
 use crate::support::{HELLO, REPORT, TRACE, strings};
-use el_io::{MemShelf, MemSink};
+use el_io::{MemShelf, MemSink, OpenGate};
 use std::test::Fail;
 use tool::tool;
 
@@ -109,7 +109,15 @@ fn nothing_more_is_put_after_a_fault(rt: HostRuntime) -> Result<(), Fail> {
         let mut out = MemSink::make(rt.alloc(), 256, 1, row.out)?;
         let mut err = MemSink::make(rt.alloc(), 256, 1024, row.err)?;
         let words = strings(rt.alloc(), row.words)?;
-        let status = tool(&rt, rt.alloc(), &words, &mut shelf, &mut out, &mut err);
+        let status = tool(
+            &rt,
+            rt.alloc(),
+            &words,
+            &mut shelf,
+            &mut out,
+            &mut err,
+            &OpenGate::new(),
+        );
         assert_eq!(rt; status.number(), 4, "{words:?}");
         assert_eq!(rt; out.taken(), row.put.as_bytes(), "{words:?}");
         assert_eq!(rt; err.taken(), b"".as_slice(), "{words:?}");
@@ -132,7 +140,15 @@ fn a_failed_output_leaves_the_trace_unwritten(rt: HostRuntime) -> Result<(), Fai
         let mut out = MemSink::make(rt.alloc(), 256, 256, failing)?;
         let mut err = MemSink::make(rt.alloc(), 256, 256, &[1])?;
         let words = strings(rt.alloc(), RUN_WITH_TRACE)?;
-        let status = tool(&rt, rt.alloc(), &words, &mut shelf, &mut out, &mut err);
+        let status = tool(
+            &rt,
+            rt.alloc(),
+            &words,
+            &mut shelf,
+            &mut out,
+            &mut err,
+            &OpenGate::new(),
+        );
         assert_eq!(rt; status.number(), 4);
         assert_eq!(rt; shelf.contents("t"), wanted);
         assert_eq!(rt; err.taken(), b"".as_slice());
@@ -157,7 +173,15 @@ fn an_image_is_written_before_its_length_is_told(rt: HostRuntime) -> Result<(), 
         let mut out = MemSink::make(rt.alloc(), 256, 256, &[1])?;
         let mut err = MemSink::make(rt.alloc(), 256, 256, err)?;
         let words = strings(rt.alloc(), GEN)?;
-        let status = tool(&rt, rt.alloc(), &words, &mut shelf, &mut out, &mut err);
+        let status = tool(
+            &rt,
+            rt.alloc(),
+            &words,
+            &mut shelf,
+            &mut out,
+            &mut err,
+            &OpenGate::new(),
+        );
         assert_eq!(rt; status.number(), number);
         assert_eq!(rt; out.taken(), b"".as_slice());
         assert_eq!(rt; shelf.contents("t") != b"old".as_slice(), is_written);
@@ -176,7 +200,15 @@ fn short_puts_are_put_on(rt: HostRuntime) -> Result<(), Fail> {
     let mut out = MemSink::make(rt.alloc(), 256, 1, &[])?;
     let mut err = MemSink::make(rt.alloc(), 256, 1, &[])?;
     let words = strings(rt.alloc(), RUN)?;
-    let status = tool(&rt, rt.alloc(), &words, &mut shelf, &mut out, &mut err);
+    let status = tool(
+        &rt,
+        rt.alloc(),
+        &words,
+        &mut shelf,
+        &mut out,
+        &mut err,
+        &OpenGate::new(),
+    );
     assert_eq!(rt; status.number(), 0);
     assert_eq!(rt; out.taken(), b"A\n".as_slice());
     assert_eq!(rt; err.taken(), REPORT.as_bytes());

@@ -7,6 +7,8 @@
 #![tactic(auto)]
 
 #[cfg(test)]
+mod certificates;
+#[cfg(test)]
 mod devices;
 #[cfg(test)]
 mod generated;

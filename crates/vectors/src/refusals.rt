@@ -1,6 +1,6 @@
 //! What is refused, each with its one line.
 use crate::support::{Ending, HELLO, TRACE, USAGE, answer, changed, resized, strings};
-use el_io::{MemShelf, MemSink};
+use el_io::{MemShelf, MemSink, OpenGate};
 use std::alloc::{AllocError, Global};
 use std::test::Fail;
 use tool::tool;
@@ -83,7 +83,15 @@ fn a_refused_configuration_reads_no_file(rt: HostRuntime) -> Result<(), Fail> {
     let mut out = MemSink::make(rt.alloc(), 256, 256, &[])?;
     let mut err = MemSink::make(rt.alloc(), 256, 256, &[])?;
     let words = strings(rt.alloc(), &["run", "a", "--harts", "9"])?;
-    let status = tool(&rt, rt.alloc(), &words, &mut shelf, &mut out, &mut err);
+    let status = tool(
+        &rt,
+        rt.alloc(),
+        &words,
+        &mut shelf,
+        &mut out,
+        &mut err,
+        &OpenGate::new(),
+    );
     assert_eq!(rt; status.number(), 2);
     assert_eq!(rt; err.taken(), b"config fault 1 Harts\n".as_slice());
     Ok(())

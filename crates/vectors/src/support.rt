@@ -1,5 +1,5 @@
 //! The worked files, and a run of the program over files in memory.
-use el_io::{SureShelf, SureSink};
+use el_io::{OpenGate, SureShelf, SureSink};
 use std::alloc::{AllocError, Global};
 use std::test::Fail;
 use tool::{Status, tool};
@@ -147,7 +147,15 @@ pub fn answer(
     let mut out = SureSink::make(rt.alloc(), 1024)?;
     let mut err = SureSink::make(rt.alloc(), 2048)?;
     let words = strings(rt.alloc(), words)?;
-    let status = tool(rt, rt.alloc(), &words, &mut shelf, &mut out, &mut err);
+    let status = tool(
+        rt,
+        rt.alloc(),
+        &words,
+        &mut shelf,
+        &mut out,
+        &mut err,
+        &OpenGate::new(),
+    );
     Ok(Ending {
         status,
         out: Vec::from_slice(rt.alloc(), out.taken())?,

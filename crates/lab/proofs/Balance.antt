@@ -1,5 +1,5 @@
 -- one event of a run: a section that was live or begins has ended, or is live
-use Rattle.std.proofs.Common.{◌≡◌, ◌∙◌, ◌+◌, ◌==◌, ◌&&◌, ℕ, zero, suc, Bool, true, false, cond, List, [], ◌∷◌, ◌++◌, is_some, refl, ap, sym, arith}
+use Rattle.std.proofs.Common.{◌≡◌, ◌∙◌, ◌+◌, ◌==◌, ◌&&◌, ℕ, Bool, cond, List, [], ◌∷◌, ◌++◌, is_some, ap, arith}
 use Rattle.el_base.specs.Config.{IsInRange}
 use Rattle.el_base.specs.Winners.{winner_over}
 use Rattle.el_base.specs.declared.config.Config.{Config}
@@ -8,8 +8,8 @@ use Rattle.el_base.specs.declared.events.Event.{Event}
 use Rattle.el_base.specs.declared.outcomes.Outcome.{Outcome}
 use Rattle.elf_image.specs.Program.{Program}
 use Rattle.el_model.proofs.Folds.{entries_from-append, state_after-append}
-use Rattle.el_model.specs.Next.{after, entries_from, next, state_after}
-use Rattle.el_model.specs.State.{ModelState, begin, is_live}
+use Rattle.el_model.specs.Next.{after, entries_from, next}
+use Rattle.el_model.specs.State.{begin, is_live}
 use Rattle.section_laws.proofs.Accounts.{begun_sections_are_accounted_for}
 use Rattle.section_laws.specs.Sections.{begins, commits, count_of, is_began, is_committed, is_rolled_back, loses, rolls_back}
 

@@ -8,7 +8,7 @@ use Rattle.std.proofs.lemmas.List.Elements.{All-head, All-more, All-tail, All-we
 use Rattle.std.proofs.lemmas.List.Folds.{list_any-append}
 use Rattle.std.proofs.lemmas.List.Sums.{sum_by-cons}
 use Rattle.std.proofs.lemmas.Map.Keys.{IsDistinct-push}
-use Rattle.chronicle.specs.Tally.{nothing, tally_of}
+use Rattle.chronicle.specs.Tally.{nothing}
 use Rattle.chronicle.specs.declared.tally.Tally.{Tally}
 use Rattle.el_model.specs.Next.{entries_from}
 use Rattle.el_model.specs.State.{begin}

@@ -1,5 +1,5 @@
 -- the sections of a run counted, one event after another
-use Rattle.std.proofs.Common.{◌≡◌, ◌≢◌, ◌∙◌, ◌+◌, ◌*◌, ◌≤◌, append_assoc, eq-eqb, ◌==◌, ◌&&◌, ℕ, Bool, true, false, cond, List, [], ◌∷◌, ◌++◌, Option, None, Some, is_some, length, map, refl, ap, sym, subst, arith}
+use Rattle.std.proofs.Common.{◌≡◌, ◌∙◌, ◌+◌, ◌*◌, ◌≤◌, append_assoc, eq-eqb, ◌==◌, ◌&&◌, ℕ, Bool, true, false, cond, List, [], ◌∷◌, ◌++◌, Option, None, Some, is_some, length, map, refl, ap, sym, subst, arith}
 use Rattle.std.specs.Prelude.{sum_by}
 use Rattle.std.proofs.lemmas.Bool.Decides.{nat_tests}
 use Rattle.std.proofs.lemmas.List.{append-nil}
@@ -22,7 +22,7 @@ use Rattle.el_model.specs.Next.{after, entries_from, next}
 use Rattle.el_model.specs.State.{ModelState, Section, begin, is_live, new_hart, section_of}
 use Rattle.lab.proofs.Balance.{Balanced, balanced, one}
 use Rattle.lab.proofs.Growing.{tries_from-push}
-use Rattle.lab.specs.Counts.{SectionsAreThoseOfTheReport, TellTheSame, of_end, of_section, total_of}
+use Rattle.lab.specs.Counts.{SectionsAreThoseOfTheReport, of_end, of_section, total_of}
 use Rattle.lab.specs.Tries as model
 use Rattle.lab.specs.Tries.{Moment, begun_as, begun_in, end_in, ended_by, first_end, lost_end, moment_of, noted, own_end, tries_from}
 use Rattle.lab.specs.declared.tries.Ended.{Ended}

@@ -1,5 +1,5 @@
 -- following a story, event by event
-use Rattle.std.proofs.Common.{◌≡◌, ◌∙◌, ◌⊎◌, ◌==◌, true, false, cond, ℕ, ◌+◌, ◌-◌, ◌<◌, ◌≤◌, List, [], ◌∷◌, ◌++◌, length, map, take, get_or, refl, ap, sym, subst, arith, length-append}
+use Rattle.std.proofs.Common.{◌≡◌, ◌∙◌, ◌⊎◌, ◌==◌, true, false, cond, ℕ, ◌+◌, ◌-◌, ◌<◌, ◌≤◌, List, [], ◌∷◌, ◌++◌, length, take, get_or, ap, sym, subst, arith, length-append}
 use Rattle.std.specs.Prelude.{IsSome, slice_index}
 use Rattle.std.proofs.Math.Nat.{le_of_lt}
 use Rattle.std.proofs.lemmas.List.{length-take-le, take_more}
@@ -12,7 +12,7 @@ use Rattle.el_model.specs.State.{ModelState, is_live}
 use Rattle.lab.proofs.Growing.{tries_from-push}
 use Rattle.lab.proofs.Living.{still_live}
 use Rattle.lab.proofs.Noting.{map_same}
-use Rattle.lab.specs.Tries.{AreLive, Moment, begun_in, end_in, ended_by, first_end, lost_end, moment_of, noted, own_end, ran_in, tries_from}
+use Rattle.lab.specs.Tries.{AreLive, Moment, begun_in, ended_by, first_end, lost_end, moment_of, noted, own_end, ran_in, tries_from}
 use Rattle.lab.specs.declared.tries.Ended.TheVariants.{Live}
 use Rattle.lab.specs.declared.tries.Try.{Try}
 use Rattle.machine.proofs.Continued.{continued_more, left_of_continued, state_of_continued}

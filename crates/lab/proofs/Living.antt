@@ -1,6 +1,6 @@
 -- the sections that are live in the list are those of the state
-use Rattle.std.proofs.Common.{◌≡◌, ◌≢◌, ℕ, ◌+◌, ◌∙◌, ◌==◌, ◌⊎◌, inl, inr, true, false, Bool, cond, List, [], ◌∷◌, ◌++◌, Option, Some, None, length, map, refl, ap, eq-eqb}
-use Rattle.std.specs.Prelude.{All, IsSome, is_some}
+use Rattle.std.proofs.Common.{◌≡◌, ◌≢◌, ℕ, ◌∙◌, ◌==◌, ◌⊎◌, inl, inr, true, false, Bool, cond, List, [], Option, Some, None, map, refl, ap, eq-eqb}
+use Rattle.std.specs.Prelude.{IsSome, is_some}
 use Rattle.std.proofs.lemmas.List.Elements.{All-append, All-map, All-nil, All-cons, All-weaker}
 use Rattle.el_base.specs.Winners.{winner_over}
 use Rattle.el_base.specs.declared.events.Event.{Event}
@@ -10,7 +10,7 @@ use Rattle.el_base.specs.declared.outcomes.Outcome.TheVariants as outcomes
 use Rattle.el_model.proofs.Coming.{by_their_rules}
 use Rattle.el_model.specs.Next.{next}
 use Rattle.el_model.specs.State.{ModelState, Section, is_live, section_of}
-use Rattle.lab.specs.Tries.{AreLive, HasNone, Moment, begun_as, begun_in, end_in, ended_by, first_end, lost_end, moment_of, noted, of_section, own_end, ran_in}
+use Rattle.lab.specs.Tries.{AreLive, HasNone, Moment, begun_as, end_in, ended_by, first_end, lost_end, moment_of, noted, of_section, own_end, ran_in}
 use Rattle.lab.specs.declared.tries.Ended.{Ended}
 use Rattle.lab.specs.declared.tries.Ended.TheVariants.{Live, Committed, LostTo, RolledBack}
 use Rattle.lab.specs.declared.tries.Try.{Try}

@@ -1,14 +1,10 @@
 -- the row of an acquire, one section after another
-use Rattle.std.proofs.Common.{◌≡◌, ◌∙◌, ℕ, ◌+◌, ◌<◌, ◌==◌, ◌&&◌, ◌||◌, Bool, true, false, cond, List, [], ◌∷◌, ◌++◌, Option, Some, None, length, take, get_or, slice_get, refl, ap, sym, subst, arith}
-use Rattle.std.specs.Cmp.{IsEquivalence}
-use Rattle.std.specs.List.{IsDistinct, list_any}
+use Rattle.std.proofs.Common.{◌≡◌, ◌∙◌, ℕ, ◌+◌, ◌<◌, List, [], ◌∷◌, ◌++◌, length, take, get_or, refl, ap, sym}
 use Rattle.std.proofs.lemmas.List.{take_more}
-use Rattle.std.proofs.lemmas.List.Folds.{list_any-append}
 use Rattle.std.proofs.lemmas.List.Sums.{sum_by_push}
 use Rattle.chronicle.proofs.Tallies.{none_small, plus_small, sum_fits}
 use Rattle.chronicle.specs.Tally.{nothing, plus}
-use Rattle.chronicle.specs.declared.tally.Tally.{Tally}
-use Rattle.lab.specs.Locks.{AreAcquiresOf, of_acquire, same_acquire, tally_at}
+use Rattle.lab.specs.Locks.{of_acquire, tally_at}
 use Rattle.lab.specs.declared.tries.Acquire.{Acquire}
 use Rattle.lab.specs.declared.tries.Try.{Try}
 

@@ -1,5 +1,5 @@
 -- what sections count for in the report
-use Rattle.std.specs.Prelude.{ℕ, ◌≡◌, ◌==◌, ◌&&◌, Bool, true, false, List, sum_by, if◌then◌else◌}
+use Rattle.std.specs.Prelude.{ℕ, ◌≡◌, ◌==◌, List, sum_by, if◌then◌else◌}
 use Rattle.chronicle.specs.Tally.{nothing, tally_of}
 use Rattle.chronicle.specs.declared.tally.Tally.{Tally}
 use Rattle.el_base.specs.Config.{IsInRange}

@@ -1,11 +1,11 @@
 -- What a run has made, from its parts.
-use Rattle.std.proofs.Common.{◌≡◌, ◌∙◌, ℕ, List, Option, None, Some, refl, ap, sym}
+use Rattle.std.proofs.Common.{◌≡◌, ◌∙◌, ℕ, List, Option, None, Some, ap, sym}
 use Rattle.std.specs.Prelude.{IfSome}
 use Rattle.elf_image.specs.Program.{Program}
 use Rattle.el_base.specs.declared.config.Config.{Config}
 use Rattle.machine.specs.Story.{Story}
 use Rattle.tool.specs.declared.made.Certified.{Certified}
-use Rattle.tool.specs.Answer.{RunFiles, ended, files_named}
+use Rattle.tool.specs.Answer.{ended, files_named}
 use Rattle.tool.specs.Jobs.{DriversMade, MakesRun, first_story}
 
 drivers_keep : (threads : Option ℕ) (before driven : Story) → DriversMade threads before driven → driven.program ≡ before.program

@@ -8,7 +8,7 @@ use Rattle.tool.specs.declared.stop.Fault.{Fault}
 use Rattle.tool.specs.declared.stop.Fault.TheVariants.{Device, NoMemory}
 use Rattle.tool.specs.Answer.{WrittenFile}
 use Rattle.tool.specs.Causes.{FaultLists, ListsOne}
-use Rattle.tool.specs.Comes.{TriedToWrite, WroteFile, WroteFirst, Wrote}
+use Rattle.tool.specs.Comes.{TriedToWrite, WroteFirst, Wrote}
 use Rattle.tool.specs.Faults.{Unwritten, WriteFailed}
 use Rattle.tool.specs.Stopping.{fault_of_shelf}
 

@@ -1,5 +1,5 @@
 -- one event, noted
-use Rattle.std.proofs.Common.{◌≡◌, ◌∙◌, ap, length, sym}
+use Rattle.std.proofs.Common.{◌∙◌, ap, length, sym}
 use Rattle.std.proofs.lemmas.Result.{on_ok_weaker}
 use Rattle.lab.proofs.Following.{noted_moment, step_keeps}
 use Rattle.lab.proofs.Living.{none_before}

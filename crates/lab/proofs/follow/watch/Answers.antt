@@ -1,5 +1,4 @@
 -- one event after another
-use Rattle.std.proofs.Common.{◌∙◌}
 use Rattle.lab.proofs.Following.{one_followed, one_left, tries_more}
 use Rattle.lab.proofs.follow.watch.Goals as goal
 

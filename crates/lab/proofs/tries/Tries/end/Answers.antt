@@ -1,5 +1,5 @@
 -- the one live section of the hart ends, where there is one
-use Rattle.std.proofs.Common.{◌≡◌, ◌∙◌, None, Some, ap, get_or, map, set, sym}
+use Rattle.std.proofs.Common.{◌≡◌, ◌∙◌, Some, ap, map, set, sym}
 use Rattle.std.proofs.lemmas.List.{get_or_read}
 use Rattle.lab.proofs.Tracking.{none_at, none_ended, one_ended}
 use Rattle.lab.proofs.tries.Tries.end.Goals as goal

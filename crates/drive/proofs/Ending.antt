@@ -150,6 +150,6 @@ closed_after_all machine turns harts start closed first seen tell is all begun b
     let were' : WereEnded from 0 machine.config.harts seen =
     subst (λ (s : RoundStory). WereEnded s 0 machine.config.harts seen) is (subst (λ n. WereEnded start 0 n seen) all were) in
     let begins' : IsPrefix machine.entries seen = subst (λ (l : List Entry). IsPrefix l seen) begun begins in
-    subst (MakesTurns turns machine) (ap (λ (r : RoundStory). r.now) (sym same)) 
+    subst (MakesTurns turns machine) (ap (λ (r : RoundStory). r.now) (sym same))
     (finished from seen refl begins' good' were'
     (subst (λ (r : RoundStory). length r.now.entries ≤ r.now.config.steps) same within))

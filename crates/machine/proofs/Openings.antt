@@ -27,7 +27,7 @@ segments_apart [] (y ∷ ys) long same = grind arith
 segments_apart (x ∷ xs) [] long same = grind arith
 segments_apart (x ∷ xs) (y ∷ ys) long same =
     let parts : (x.bytes ≡ y.bytes) × (flat_map segment_numbers xs ≡ flat_map segment_numbers ys) =
-        counted_apart x.bytes y.bytes (flat_map segment_numbers xs) (flat_map segment_numbers ys) (grind (arith, same)) in
+    counted_apart x.bytes y.bytes (flat_map segment_numbers xs) (flat_map segment_numbers ys) (grind (arith, same)) in
     let rest : xs ≡ ys = segments_apart xs ys (grind (arith, long)) (grind (arith, parts)) in
     grind (arith, same, parts, rest)
 
@@ -45,9 +45,9 @@ modes_apart Tlr Sle same = absurd cc
 programs_apart : (a b : Program) → program_numbers a ≡ program_numbers b → a ≡ b
 programs_apart a b same =
     let bytes : (a.bytes ≡ b.bytes)
-        × (length a.code ∷ flat_map segment_numbers a.code ≡ length b.code ∷ flat_map segment_numbers b.code) =
-        counted_apart a.bytes b.bytes (length a.code ∷ flat_map segment_numbers a.code)
-        (length b.code ∷ flat_map segment_numbers b.code) (grind (arith, same)) in
+    × (length a.code ∷ flat_map segment_numbers a.code ≡ length b.code ∷ flat_map segment_numbers b.code) =
+    counted_apart a.bytes b.bytes (length a.code ∷ flat_map segment_numbers a.code)
+    (length b.code ∷ flat_map segment_numbers b.code) (grind (arith, same)) in
     let code : a.code ≡ b.code = segments_apart a.code b.code (grind (arith, bytes)) (grind (arith, bytes)) in
     grind (arith, same, bytes, code)
 
@@ -57,6 +57,6 @@ pub openings_apart : (program other : Program) (config settings : Config) →
 unfolding opening_of
 openings_apart program other config settings same =
     let parts : (config_numbers config ≡ config_numbers settings) × (program_numbers program ≡ program_numbers other) =
-        parts_apart (config_numbers config) (config_numbers settings) (program_numbers program) (program_numbers other) refl same in
+    parts_apart (config_numbers config) (config_numbers settings) (program_numbers program) (program_numbers other) refl same in
     let mode : config.mode ≡ settings.mode = modes_apart config.mode settings.mode (grind (arith, parts)) in
     (programs_apart program other (grind (arith, parts)), grind (arith, parts, mode))

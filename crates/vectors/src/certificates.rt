@@ -1,10 +1,16 @@
 //! Certificates of runs, what is found of them, and what stands after a call that failed.
-use crate::support::{HELLO, REPORT, answer, changed, ended, resized, strings};
+use crate::support::{Ending, HELLO, REPORT, TRACE, answer, changed, resized, strings};
 use el_io::{MemShelf, MemSink, OpenGate};
 use std::test::Fail;
 use tool::tool;
 
+/// Whether the program ended with this status and put these bytes.
+fn ended(ending: &Ending, status: u8, out: &[u8], err: &[u8]) -> bool {
+    ending.status.number() == status && ending.out.as_slice() == out && ending.err.as_slice() == err
+}
+
 /// A byte of the certificate that is written over, and what is found then.
+#[derive(Clone, Copy)]
 struct Found {
     place: usize,
     value: u8,
@@ -15,7 +21,7 @@ struct Found {
 /// The certificate has nine steps in one stretch, one view, two bytes of output, and no line.
 #[test]
 fn a_certificate_is_written_and_judged(rt: HostRuntime) -> Result<(), Fail> {
-    let ran = answer(&rt, &["run", "a", "--cert", "t"], &HELLO, &[])?;
+    let ran = answer(&rt, rt.alloc(), &["run", "a", "--cert", "t"], &HELLO, &[])?;
     assert!(rt; ended(&ran, 0, b"A\n", REPORT.as_bytes()));
     assert_eq!(rt; ran.written.len(), 163);
     let begins = [
@@ -51,7 +57,7 @@ fn a_certificate_is_written_and_judged(rt: HostRuntime) -> Result<(), Fail> {
     ];
     for row in rows {
         let certificate = changed(rt.alloc(), &ran.written, row.place, row.value)?;
-        let found = answer(&rt, &["check", "a", "t"], &HELLO, &certificate)?;
+        let found = answer(&rt, rt.alloc(), &["check", "a", "t"], &HELLO, &certificate)?;
         assert!(rt;
             ended(&found, row.status, &[], row.line.as_bytes()),
             "{}",
@@ -59,7 +65,7 @@ fn a_certificate_is_written_and_judged(rt: HostRuntime) -> Result<(), Fail> {
         );
     }
     let short = resized(rt.alloc(), &ran.written, 162, 0)?;
-    let found = answer(&rt, &["check", "a", "t"], &HELLO, &short)?;
+    let found = answer(&rt, rt.alloc(), &["check", "a", "t"], &HELLO, &short)?;
     let line = "certificate fault 1 Short at byte 162\n";
     assert!(rt; ended(&found, 2, &[], line.as_bytes()));
     Ok(())
@@ -69,13 +75,14 @@ fn a_certificate_is_written_and_judged(rt: HostRuntime) -> Result<(), Fail> {
 #[test]
 fn a_run_goes_on_behind_its_drivers(rt: HostRuntime) -> Result<(), Fail> {
     let words = ["run", "a", "--threads", "4", "--trace", "t"];
-    let ran = answer(&rt, &words, &HELLO, &[])?;
+    let ran = answer(&rt, rt.alloc(), &words, &HELLO, &[])?;
     assert!(rt; ended(&ran, 0, b"A\n", REPORT.as_bytes()));
-    assert_eq!(rt; ran.written.as_slice(), crate::support::TRACE.as_slice());
+    assert_eq!(rt; ran.written.as_slice(), TRACE.as_slice());
     Ok(())
 }
 
 /// The call of the shelf that fails, and what was put to out by then.
+#[derive(Clone, Copy)]
 struct Failing {
     words: &'static [&'static str],
     call: u32,

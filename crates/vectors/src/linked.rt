@@ -55,7 +55,7 @@ fn linked(alloc: Global) -> Result<Vec<u8>, AllocError> {
 #[test]
 fn each_hart_has_a_stack_of_its_own(rt: HostRuntime) -> Result<(), Fail> {
     let image = linked(rt.alloc())?;
-    let ending = answer(&rt, &["run", "a", "--harts", "8"], &image, &[])?;
+    let ending = answer(&rt, rt.alloc(), &["run", "a", "--harts", "8"], &image, &[])?;
     let stacks: [u32; 8] = [
         0x91840, 0x81840, 0x71840, 0x61840, 0x51840, 0x41840, 0x31840, 0x21840,
     ];

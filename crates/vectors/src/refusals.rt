@@ -36,7 +36,7 @@ const OUTSIDE_THE_GRAMMAR: [&[&str]; 20] = [
 #[test]
 fn words_outside_the_grammar_are_the_usage_line(rt: HostRuntime) -> Result<(), Fail> {
     for words in OUTSIDE_THE_GRAMMAR {
-        let ending = answer(&rt, words, &HELLO, &TRACE)?;
+        let ending = answer(&rt, rt.alloc(), words, &HELLO, &TRACE)?;
         assert!(rt; is_refused(&ending, USAGE), "{words:?}");
     }
     Ok(())
@@ -70,7 +70,7 @@ const CONFIGURATIONS: [(&[&str], &str); 12] = [
 #[test]
 fn configurations_are_judged_before_files(rt: HostRuntime) -> Result<(), Fail> {
     for (words, line) in CONFIGURATIONS {
-        let ending = answer(&rt, words, &[], &[])?;
+        let ending = answer(&rt, rt.alloc(), words, &[], &[])?;
         assert!(rt; is_refused(&ending, line), "{words:?}");
     }
     Ok(())
@@ -106,7 +106,7 @@ fn cut_images_fault_where_they_end_or_point_outside(rt: HostRuntime) -> Result<(
             52..=83 => String::from_str(rt.alloc(), "image fault 9 Table at byte 28\n")?,
             _ => String::from_str(rt.alloc(), "image fault 11 Segment at byte 56\n")?,
         };
-        let ending = answer(&rt, &["run", "a"], &image, &[])?;
+        let ending = answer(&rt, rt.alloc(), &["run", "a"], &image, &[])?;
         assert!(rt; is_refused(&ending, line.as_str()), "cut to {length}");
     }
     Ok(())
@@ -145,7 +145,7 @@ const CHANGED_IMAGES: [(usize, &[u8], &str); 10] = [
 fn changed_images_have_their_first_fault(rt: HostRuntime) -> Result<(), Fail> {
     for (place, bytes, line) in CHANGED_IMAGES {
         let image = patched(rt.alloc(), place, bytes)?;
-        let ending = answer(&rt, &["run", "a"], &image, &[])?;
+        let ending = answer(&rt, rt.alloc(), &["run", "a"], &image, &[])?;
         assert!(rt; is_refused(&ending, line), "{place}: {bytes:?}");
     }
     Ok(())
@@ -159,13 +159,13 @@ fn zeros(alloc: Global, count: usize) -> Result<Vec<u8>, AllocError> {
 #[test]
 fn files_over_their_limits_are_refused(rt: HostRuntime) -> Result<(), Fail> {
     let image = zeros(rt.alloc(), 33_554_433)?;
-    let ending = answer(&rt, &["run", "a"], &image, &[])?;
+    let ending = answer(&rt, rt.alloc(), &["run", "a"], &image, &[])?;
     assert!(rt;
         is_refused(&ending, "file too big: limit 33554432\n"),
         "an image"
     );
     let trace = zeros(rt.alloc(), 16_777_239)?;
-    let ending = answer(&rt, &["replay", "a", "t"], &HELLO, &trace)?;
+    let ending = answer(&rt, rt.alloc(), &["replay", "a", "t"], &HELLO, &trace)?;
     assert!(rt;
         is_refused(&ending, "file too big: limit 16777238\n"),
         "a trace"
@@ -178,7 +178,7 @@ fn changed_traces_have_their_first_fault(rt: HostRuntime) -> Result<(), Fail> {
     for length in 0..59usize {
         let trace = resized(rt.alloc(), &TRACE, length, 0)?;
         let line = format!(in rt.alloc(); "trace fault 1 Short at byte {length}\n")?;
-        let ending = answer(&rt, &["replay", "a", "t"], &HELLO, &trace)?;
+        let ending = answer(&rt, rt.alloc(), &["replay", "a", "t"], &HELLO, &trace)?;
         assert!(rt; is_refused(&ending, line.as_str()), "cut to {length}");
     }
     let rows: [(usize, u8, &str); 6] = [
@@ -191,11 +191,11 @@ fn changed_traces_have_their_first_fault(rt: HostRuntime) -> Result<(), Fail> {
     ];
     for (place, value, line) in rows {
         let trace = changed(rt.alloc(), &TRACE, place, value)?;
-        let ending = answer(&rt, &["replay", "a", "t"], &HELLO, &trace)?;
+        let ending = answer(&rt, rt.alloc(), &["replay", "a", "t"], &HELLO, &trace)?;
         assert!(rt; is_refused(&ending, line), "byte {place} set to {value}");
     }
     let longer = resized(rt.alloc(), &TRACE, 59, 1)?;
-    let ending = answer(&rt, &["replay", "a", "t"], &HELLO, &longer)?;
+    let ending = answer(&rt, rt.alloc(), &["replay", "a", "t"], &HELLO, &longer)?;
     assert!(rt;
         is_refused(&ending, "trace fault 6 Tail at byte 59\n"),
         "one byte more"
@@ -205,9 +205,9 @@ fn changed_traces_have_their_first_fault(rt: HostRuntime) -> Result<(), Fail> {
 
 #[test]
 fn a_trace_is_judged_before_its_image(rt: HostRuntime) -> Result<(), Fail> {
-    let ending = answer(&rt, &["replay", "a", "t"], &[], &[])?;
+    let ending = answer(&rt, rt.alloc(), &["replay", "a", "t"], &[], &[])?;
     assert!(rt; is_refused(&ending, "trace fault 1 Short at byte 0\n"));
-    let ending = answer(&rt, &["replay", "a", "t"], &[], &TRACE)?;
+    let ending = answer(&rt, rt.alloc(), &["replay", "a", "t"], &[], &TRACE)?;
     assert!(rt; is_refused(&ending, "image fault 1 Short at byte 0\n"));
     Ok(())
 }

@@ -128,7 +128,7 @@ const WORKED_IMAGE: [(&[&str], u8, &str, &str, &[(u32, &str, &str)], &str); 11] 
 fn the_worked_image_prints_and_exits(rt: HostRuntime) -> Result<(), Fail> {
     for (words, number, out, first, harts, last) in WORKED_IMAGE {
         let err = report_of(rt.alloc(), first, harts, last)?;
-        let ending = answer(&rt, words, &HELLO, &[])?;
+        let ending = answer(&rt, rt.alloc(), words, &HELLO, &[])?;
         assert_eq!(rt; ending.status.number(), number, "{words:?}");
         assert_eq!(rt; ending.out.as_slice(), out.as_bytes(), "{words:?}");
         assert_eq!(rt; ending.err.as_slice(), err.as_bytes(), "{words:?}");
@@ -139,7 +139,7 @@ fn the_worked_image_prints_and_exits(rt: HostRuntime) -> Result<(), Fail> {
 #[test]
 fn total_store_order_is_no_fault(rt: HostRuntime) -> Result<(), Fail> {
     let image = changed(rt.alloc(), &HELLO, 36, 0x10)?;
-    let ending = answer(&rt, &["run", "a"], &image, &[])?;
+    let ending = answer(&rt, rt.alloc(), &["run", "a"], &image, &[])?;
     assert_eq!(rt; ending.status.number(), 0);
     assert_eq!(rt; ending.out.as_slice(), b"A\n".as_slice());
     assert_eq!(rt; ending.err.as_slice(), REPORT.as_bytes());
@@ -200,7 +200,13 @@ fn programs_end_as_their_harts_do(rt: HostRuntime) -> Result<(), Fail> {
     for (code, harts, number, out, first, stands, last) in PROGRAMS {
         let err = report_of(rt.alloc(), first, stands, last)?;
         let image = image_of(rt.alloc(), code)?;
-        let ending = answer(&rt, &["run", "a", "--harts", harts], &image, &[])?;
+        let ending = answer(
+            &rt,
+            rt.alloc(),
+            &["run", "a", "--harts", harts],
+            &image,
+            &[],
+        )?;
         assert_eq!(rt; ending.status.number(), number, "{code:?} on {harts}");
         assert_eq!(rt; ending.out.as_slice(), out, "{code:?} on {harts}");
         assert_eq!(rt;
@@ -236,7 +242,7 @@ fn a_program_that_never_ends_uses_up_its_steps(rt: HostRuntime) -> Result<(), Fa
     let image = image_of(rt.alloc(), &LOOPS)?;
     for (words, first, stands, last) in rows {
         let err = report_of(rt.alloc(), first, stands, last)?;
-        let ending = answer(&rt, words, &image, &[])?;
+        let ending = answer(&rt, rt.alloc(), words, &image, &[])?;
         assert_eq!(rt; ending.status.number(), 3, "{words:?}");
         assert_eq!(rt; ending.out.as_slice(), b"".as_slice(), "{words:?}");
         assert_eq!(rt; ending.err.as_slice(), err.as_bytes(), "{words:?}");

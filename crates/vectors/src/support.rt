@@ -1,7 +1,9 @@
 //! The worked files, and a run of the program over files in memory.
 use el_io::{OpenGate, SureShelf, SureSink};
 use std::alloc::{AllocError, Global};
+use std::sync::Wait;
 use std::test::Fail;
+use std::thread::Threads;
 use tool::{Status, tool};
 
 /// An image that prints 'A' and a newline and exits with 0: 9 instructions in one segment at 0x10000,
@@ -129,27 +131,25 @@ pub struct Ending {
 }
 
 /// The program's answer to these words, where the file `a` is an image and `t` a trace.
-pub fn answer(
-    rt: &HostRuntime,
+pub fn answer<R: Threads + Wait + Sync>(
+    rt: &R,
+    alloc: Global,
     words: &[&str],
     image: &[u8],
     trace: &[u8],
 ) -> Result<Ending, Fail> {
-    let names = [
-        String::from_str(rt.alloc(), "a")?,
-        String::from_str(rt.alloc(), "t")?,
-    ];
+    let names = [String::from_str(alloc, "a")?, String::from_str(alloc, "t")?];
     let contents = [
-        Vec::from_slice(rt.alloc(), image)?,
-        Vec::from_slice(rt.alloc(), trace)?,
+        Vec::from_slice(alloc, image)?,
+        Vec::from_slice(alloc, trace)?,
     ];
-    let mut shelf = SureShelf::make(rt.alloc(), &names, &contents)?;
-    let mut out = SureSink::make(rt.alloc(), 1024)?;
-    let mut err = SureSink::make(rt.alloc(), 2048)?;
-    let words = strings(rt.alloc(), words)?;
+    let mut shelf = SureShelf::make(alloc, &names, &contents)?;
+    let mut out = SureSink::make(alloc, 1024)?;
+    let mut err = SureSink::make(alloc, 2048)?;
+    let words = strings(alloc, words)?;
     let status = tool(
         rt,
-        rt.alloc(),
+        alloc,
         &words,
         &mut shelf,
         &mut out,
@@ -158,8 +158,8 @@ pub fn answer(
     );
     Ok(Ending {
         status,
-        out: Vec::from_slice(rt.alloc(), out.taken())?,
-        err: Vec::from_slice(rt.alloc(), err.taken())?,
-        written: Vec::from_slice(rt.alloc(), shelf.contents("t"))?,
+        out: Vec::from_slice(alloc, out.taken())?,
+        err: Vec::from_slice(alloc, err.taken())?,
+        written: Vec::from_slice(alloc, shelf.contents("t"))?,
     })
 }

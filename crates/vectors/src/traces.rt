@@ -4,9 +4,9 @@ use std::test::Fail;
 
 #[test]
 fn a_run_writes_its_trace_and_its_replay_is_the_same(rt: HostRuntime) -> Result<(), Fail> {
-    let ran = answer(&rt, &["run", "a", "--trace", "t"], &HELLO, &[])?;
+    let ran = answer(&rt, rt.alloc(), &["run", "a", "--trace", "t"], &HELLO, &[])?;
     assert_eq!(rt; ran.written.as_slice(), TRACE.as_slice());
-    let played = answer(&rt, &["replay", "a", "t"], &HELLO, &ran.written)?;
+    let played = answer(&rt, rt.alloc(), &["replay", "a", "t"], &HELLO, &ran.written)?;
     assert_eq!(rt; played.status, ran.status);
     assert_eq!(rt; played.out.as_slice(), ran.out.as_slice());
     assert_eq!(rt; played.err.as_slice(), ran.err.as_slice());
@@ -19,11 +19,11 @@ fn a_run_writes_its_trace_and_its_replay_is_the_same(rt: HostRuntime) -> Result<
 // In both modes that have sections each hart begins some.
 #[test]
 fn a_replay_of_sections_says_what_the_run_said(rt: HostRuntime) -> Result<(), Fail> {
-    let image = answer(&rt, &["gen", "counter", "1", "t"], &[], &[])?.written;
+    let image = answer(&rt, rt.alloc(), &["gen", "counter", "1", "t"], &[], &[])?.written;
     for mode in ["sle", "tlr"] {
         let words = ["run", "a", "--mode", mode, "--harts", "4", "--trace", "t"];
-        let ran = answer(&rt, &words, &image, &[])?;
-        let played = answer(&rt, &["replay", "a", "t"], &image, &ran.written)?;
+        let ran = answer(&rt, rt.alloc(), &words, &image, &[])?;
+        let played = answer(&rt, rt.alloc(), &["replay", "a", "t"], &image, &ran.written)?;
         let report = String::from_utf8_lossy(rt.alloc(), &ran.err)?;
         assert!(rt; !report.contains("began 0 "), "{report}");
         assert_eq!(rt; ran.status.number(), 0, "{mode}");
@@ -66,7 +66,7 @@ fn a_replay_ends_where_its_trace_does(rt: HostRuntime) -> Result<(), Fail> {
     ];
     for (trace, number, first, hart, last) in rows {
         let report = report_of(rt.alloc(), first, &[hart], last)?;
-        let played = answer(&rt, &["replay", "a", "t"], &HELLO, trace)?;
+        let played = answer(&rt, rt.alloc(), &["replay", "a", "t"], &HELLO, trace)?;
         assert_eq!(rt; played.status.number(), number, "{report}");
         assert_eq!(rt; played.out.as_slice(), b"A\n".as_slice(), "{report}");
         assert_eq!(rt; played.err.as_slice(), report.as_bytes());

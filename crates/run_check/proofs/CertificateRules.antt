@@ -1,10 +1,9 @@
 -- The certificate of a history and of a state keeps the rules.
-use Rattle.std.proofs.Common.{◌≡◌, ◌≢◌, ℕ, zero, suc, ◌+◌, ◌-◌, ◌*◌, ◌/◌, ◌%◌, ◌≤◌, ◌<◌, Bool, true, false, not, cond, ◌==◌, List, [], ◌∷◌, ◌++◌, length, get_or, map, take, drop, Option, Some, None, refl, sym, ap, subst, ◌∙◌, append_assoc, arith, add-one, inl, inr}
-use Rattle.std.specs.List.{flat_map}
-use Rattle.std.specs.Prelude.{replicate, slice_index, slice_index_or, All}
+use Rattle.std.proofs.Common.{◌≡◌, ◌≢◌, ℕ, zero, suc, ◌+◌, ◌-◌, ◌*◌, ◌/◌, ◌≤◌, ◌<◌, Bool, true, false, cond, ◌==◌, List, [], ◌∷◌, ◌++◌, length, drop, refl, sym, ap, subst, ◌∙◌, arith, add-one, inl, inr}
+use Rattle.std.specs.Prelude.{replicate, slice_index_or, All}
 use Rattle.std.proofs.lemmas.Bool.{cases_lt}
 use Rattle.std.proofs.lemmas.Bool.Decides.{nat_tests}
-use Rattle.std.proofs.lemmas.List.{append-nil, get_or_append_left, get_or_at, length-append, length-drop, length-replicate, length-take-le}
+use Rattle.std.proofs.lemmas.List.{append-nil, get_or_append_left, get_or_at, length-append, length-drop, length-take-le}
 use Rattle.el_base.proofs.HartIds.{hart_id-number}
 use Rattle.el_base.proofs.Lines.{line_addr-number}
 use Rattle.el_base.specs.HartId.{hart_id}
@@ -15,7 +14,7 @@ use Rattle.chronicle.specs.Chronicle.{events}
 use Rattle.chronicle.specs.Serial.{effects, serial}
 use Rattle.elf_image.specs.Program.{IsProgram, Program}
 use Rattle.rv_flat.specs.FlatState.{FlatState, no_hart}
-use Rattle.run_check.specs.Certified.{certificate_of, changed, changed_below, changed_lines, line_of_memory, patch_of, step_before, stretches_of, IsCode, IsHistoryOf, IsStateOf}
+use Rattle.run_check.specs.Certified.{certificate_of, changed, changed_below, changed_lines, patch_of, step_before, stretches_of, IsCode, IsHistoryOf, IsStateOf}
 use Rattle.run_check.specs.Content.{steps_in, written_out}
 use Rattle.run_check.specs.Rules.{count_wrong, hart_wrong, line_wrong, most_steps, steps_before}
 use Rattle.run_check.specs.Spelling.{count_in, hart_in, line_in, patch_in, IsCertificate, IsView}

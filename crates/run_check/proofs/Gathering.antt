@@ -1,7 +1,7 @@
 -- The lines of memory.
 use Rattle.rv_flat.specs.Memory.{byte_in}
-use Rattle.std.specs.Prelude.{IfSome, slice_index}
-use Rattle.std.proofs.Common.{◌≡◌, ℕ, ◌+◌, ◌-◌, ◌*◌, ◌/◌, ◌%◌, ◌≤◌, ◌<◌, Bool, true, false, not, cond, List, [], ◌∷◌, ◌++◌, Option, Some, None, set, below_more, get_or-set_other, get_or-set_same, length, get_or, take, drop, refl, sym, ap, ◌∙◌, arith, add-one}
+use Rattle.std.specs.Prelude.{IfSome}
+use Rattle.std.proofs.Common.{◌≡◌, ℕ, ◌+◌, ◌-◌, ◌*◌, ◌/◌, ◌%◌, ◌≤◌, ◌<◌, Bool, true, false, not, cond, List, [], ◌∷◌, ◌++◌, Option, Some, None, set, below_more, get_or-set_other, get_or-set_same, length, get_or, take, drop, sym, ap, ◌∙◌, arith, add-one}
 use Rattle.std.proofs.lemmas.List.{append-nil, ext_get_or, get_or-drop, get_or-take, length-drop, length-take-le}
 use Rattle.std.specs.Str.{bytes_eq}
 use Rattle.el_base.specs.Line.{line_number}

@@ -1,5 +1,5 @@
 -- The items that are read of a file.
-use Rattle.std.proofs.Common.{◌≡◌, ℕ, ◌+◌, ◌<◌, ◌^◌, List, length, take, drop, refl, sym, ap, subst, ◌∙◌, arith}
+use Rattle.std.proofs.Common.{◌≡◌, ℕ, ◌<◌, ◌^◌, List, sym, ap, subst, ◌∙◌}
 use Rattle.el_base.proofs.HartIds.{same_hart, hart_id-number}
 use Rattle.el_base.proofs.Lines.{same_line, line_addr-number}
 use Rattle.el_base.specs.HartId.{hart_id}

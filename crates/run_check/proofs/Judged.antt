@@ -1,29 +1,24 @@
 -- A file without a fault is the spelling of the certificate that its fields say.
-use Rattle.std.proofs.Common.{◌≡◌, ℕ, zero, suc, ◌+◌, ◌-◌, ◌*◌, ◌≤◌, ◌<◌, Bool, true, false, cond, List, [], ◌∷◌, ◌++◌, length, map, get_or, take, drop, Option, Some, None, refl, sym, ap, subst, ◌∙◌, append_assoc, arith, inl, inr}
+use Rattle.std.proofs.Common.{◌≡◌, ℕ, zero, suc, ◌+◌, ◌-◌, ◌*◌, ◌≤◌, ◌<◌, Bool, true, false, cond, List, [], ◌∷◌, ◌++◌, length, map, get_or, take, drop, Some, None, refl, sym, ap, ◌∙◌, arith, inl, inr}
 use Rattle.std.specs.List.{flat_map, range_with_len}
-use Rattle.std.specs.Prelude.{slice_index, slice_index_or, ◌==◌, ◌||◌}
-use Rattle.std.specs.Option.{option_or}
+use Rattle.std.specs.Prelude.{◌==◌, ◌||◌}
 use Rattle.std.proofs.lemmas.Bool.{cases_lt}
 use Rattle.std.proofs.lemmas.Bool.Decides.{nat_tests}
-use Rattle.std.proofs.lemmas.List.{append-nil, drop-drop, drop_all, get_or_past, length-take-le, length-drop, take_all}
+use Rattle.std.proofs.lemmas.List.{append-nil, drop_all, get_or_past, length-take-le, length-drop}
 use Rattle.std.proofs.lemmas.List.FromFn.{fill_by_all, get_or-map-range_with_len, length-map-range_with_len}
 use Rattle.byteorder.specs.Endian.{little_bytes}
 use Rattle.el_base.proofs.HartIds.{hart_id-number}
 use Rattle.el_base.proofs.Lines.{line_addr-number}
-use Rattle.el_base.specs.HartId.{hart_id}
-use Rattle.el_base.specs.LineAddr.{line_addr}
 use Rattle.el_base.specs.Firsts.{first_of}
-use Rattle.rv_alu.specs.declared.view.HartView.{HartView}
 use Rattle.rv_flat.specs.FlatState.{no_hart, output_limit}
 use Rattle.run_check.specs.declared.content.Patch.{Patch}
 use Rattle.run_check.specs.declared.content.Stretch.{Stretch}
-use Rattle.run_check.specs.Content.{Content}
 use Rattle.run_check.specs.Faults.{certificate_fault, content_of, count_at, first_below, hart_at, harts_of, head_fault, line_at, line_count, line_count_fault, line_fault, line_place, lines_at, lines_place, number_at, output_fault, output_at, output_length, output_place, patch_at, register_at, registers_at, reserved_at, status_at, stretch_at, stretch_count, stretch_fault, stretch_place, stretches_at, tail_fault, view_at, view_fault, view_place, view_wrong, views_at}
-use Rattle.run_check.specs.Rules.{count_wrong, hart_wrong, line_wrong, most_lines, reservation_wrong, status_wrong, line_limit}
+use Rattle.run_check.specs.Rules.{most_lines, reservation_wrong, status_wrong, line_limit}
 use Rattle.run_check.specs.Spelling.{count_in, hart_in, head_bytes, line_in, lines_bytes, output_bytes, patch_bytes, patch_in, reserved_bytes, spelling, status_bytes, stretch_bytes, view_bytes, IsCertificate, IsReserved, IsStatus, IsView}
 use Rattle.run_check.proofs.FieldFaults.{HeadRight, LineRight, StretchRight, head_right, line_count_right, line_right, or_none, output_right, stretch_right, tail_right, view_right}
 use Rattle.run_check.proofs.FirstBelow.{none_each}
-use Rattle.run_check.proofs.Pieces.{IsBytes, byte_piece, items_piece, number_piece, number_small, piece_sum, split_at, take_sum}
+use Rattle.run_check.proofs.Pieces.{IsBytes, byte_piece, items_piece, number_piece, number_small, piece_sum, split_at}
 use Rattle.run_check.proofs.RulesSame.{hart_below, line_below, same_count_rule, same_hart_rule, same_line_rule}
 
 -- what is known of a file without a fault
@@ -153,7 +148,8 @@ view_piece file place fits long right =
     ∙ ap (λ (l : List ℕ). get_or file (place + 128) 0 ∷ l) (number_piece file (place + 129) fits (omega arith))
     ∙ reserved_spelled (get_or file (place + 128) 0) (number_at file (place + 129)) wrongs.0
     in
-    let status : take 5 (drop (place + 133) file) ≡ status_bytes (status_at (get_or file (place + 133) 0) (number_at file (place + 134)) (number_at file place)) =
+    let status : take 5 (drop (place + 133) file) ≡
+    status_bytes (status_at (get_or file (place + 133) 0) (number_at file (place + 134)) (number_at file place)) =
     piece_sum (place + 133) 1 4 file
     ∙ ap (λ (l : List ℕ). l ++ take 4 (drop (place + 133 + 1) file)) (byte_piece file (place + 133) (omega arith))
     ∙ ap (λ (n : ℕ). get_or file (place + 133) 0 ∷ take 4 (drop n file)) (omega arith)
@@ -185,10 +181,26 @@ letters_spelled file fits r =
     let byte : (k : ℕ) → k < 10 → take 1 (drop k file) ≡ get_or file k 0 ∷ [] = λ k within. byte_piece file k (omega arith) in
     split_at 0 6 file
     ∙ ap (λ (l : List ℕ). l ++ drop 6 file)
-    (piece_sum 0 1 5 file ∙ ap (λ (l : List ℕ). take 1 file ++ l) (piece_sum 1 1 4 file ∙ ap (λ (l : List ℕ). take 1 (drop 1 file) ++ l) (piece_sum 2 1 3 file ∙ ap (λ (l : List ℕ). take 1 (drop 2 file) ++ l) (piece_sum 3 1 2 file ∙ ap (λ (l : List ℕ). take 1 (drop 3 file) ++ l) (piece_sum 4 1 1 file)))))
-    ∙ ap (λ (l : List ℕ). (take 1 file ++ (take 1 (drop 1 file) ++ (take 1 (drop 2 file) ++ (take 1 (drop 3 file) ++ (take 1 (drop 4 file) ++ take 1 (drop 5 file)))))) ++ l)
+    (piece_sum 0 1 5 file ∙ ap (λ (l : List ℕ). take 1 file ++ l)
+    (piece_sum 1 1 4 file ∙ ap (λ (l : List ℕ). take 1 (drop 1 file) ++ l)
+    (piece_sum 2 1 3 file ∙ ap (λ (l : List ℕ). take 1 (drop 2 file) ++ l)
+    (piece_sum 3 1 2 file ∙ ap (λ (l : List ℕ). take 1 (drop 3 file) ++ l) (piece_sum 4 1 1 file)))))
+    ∙ ap (λ (l : List ℕ).
+    (take 1 file ++ (take 1 (drop 1 file) ++ (take 1 (drop 2 file) ++ (take 1 (drop 3 file) ++ (take 1 (drop 4 file) ++ take 1 (drop 5 file)))))) ++ l)
     (split_at 6 4 file ∙ ap (λ (l : List ℕ). l ++ drop 10 file) (number_piece file 6 fits (omega arith)))
-    ∙ rw (byte 0 (omega arith), byte 1 (omega arith), byte 2 (omega arith), byte 3 (omega arith), byte 4 (omega arith), byte 5 (omega arith), r.first, r.second, r.third, r.fourth, r.version) refl
+    ∙ rw (
+      byte 0 (omega arith),
+      byte 1 (omega arith),
+      byte 2 (omega arith),
+      byte 3 (omega arith),
+      byte 4 (omega arith),
+      byte 5 (omega arith),
+      r.first,
+      r.second,
+      r.third,
+      r.fourth,
+      r.version,
+    ) refl
 
 stretches_spelled : (file : List ℕ) → IsBytes file → Faultless file →
     drop 10 file ≡ flat_map stretch_bytes (stretches_at file) ++ drop (view_place file 0) file
@@ -259,7 +271,8 @@ whole_spelled file fits f =
     let stretches = stretches_spelled file fits f ∙ ap (λ (l : List ℕ). flat_map stretch_bytes (stretches_at file) ++ l) views in
     letters_spelled file fits f.head
     ∙ ap (λ (l : List ℕ). head_bytes (harts_of file) (stretch_count file) ++ l) stretches
-    ∙ ap (λ (n : ℕ). head_bytes (harts_of file) n ++ (flat_map stretch_bytes (stretches_at file) ++ (flat_map view_bytes (views_at file) ++ (output_bytes (output_at file) ++ lines_bytes (lines_at file))))) (sym many)
+    ∙ ap (λ (n : ℕ).
+    head_bytes (harts_of file) n ++ (flat_map stretch_bytes (stretches_at file) ++ (flat_map view_bytes (views_at file) ++ (output_bytes (output_at file) ++ lines_bytes (lines_at file))))) (sym many)
 
 -- ---- what is spelled keeps the rules
 

@@ -1,16 +1,13 @@
 -- A run of a program reaches states whose trapped harts stand at their traps, and whose output is within its limit.
-use Rattle.std.proofs.Common.{◌≡◌, ◌≢◌, ℕ, zero, suc, ◌+◌, ◌-◌, ◌*◌, ◌≤◌, ◌<◌, Bool, true, false, List, [], ◌∷◌, ◌++◌, length, map, take, drop, Option, Some, None, refl, sym, ap, subst, ◌∙◌, arith, inl, inr, ◌⊎◌}
-use Rattle.std.specs.Prelude.{IfSome, slice_index_or}
-use Rattle.std.specs.List.{range_with_len}
+use Rattle.std.proofs.Common.{◌≡◌, ◌≢◌, ℕ, ◌-◌, ◌≤◌, ◌<◌, List, [], ◌∷◌, length, drop, Option, Some, None, refl, arith, inl, inr, ◌⊎◌}
+use Rattle.std.specs.Prelude.{IfSome}
 use Rattle.std.proofs.lemmas.Bool.{cases_eq}
 use Rattle.std.proofs.lemmas.List.{length-append, length-take}
 use Rattle.std.proofs.lemmas.List.FromFn.{get_or-map-range_with_len, length-map-range_with_len}
-use Rattle.el_base.specs.Line.{line_number}
-use Rattle.elf_image.specs.Program.{IsProgram, Program, code_word}
+use Rattle.elf_image.specs.Program.{Program, code_word}
 use Rattle.rv_alu.specs.Action.{action_at, action_of, insn_action_of}
-use Rattle.rv_alu.specs.Execution.{Append, Execution, Goes, Stops, append_in, executed, perform, view_after}
+use Rattle.rv_alu.specs.Execution.{Append, append_in, executed, perform, view_after}
 use Rattle.rv_alu.specs.Footprint.{IsInPlace}
-use Rattle.rv_alu.specs.Reservations.{unreserved}
 use Rattle.rv_alu.proofs.Footprints.{fits}
 use Rattle.rv_alu.specs.declared.action.Action.{Action}
 use Rattle.rv_alu.specs.declared.action.Action.TheVariants as actions
@@ -26,7 +23,7 @@ use Rattle.rv_flat.specs.FlatState.{FlatState, first_view, no_hart, output_limit
 use Rattle.rv_flat.specs.Laws.{footprint_of, seen_after}
 use Rattle.rv_flat.specs.Memory.{byte_in, piece_of}
 use Rattle.rv_flat.specs.Run.{run}
-use Rattle.rv_flat.specs.Step.{appended_by, applied, execution_of, flat}
+use Rattle.rv_flat.specs.Step.{appended_by, execution_of, flat}
 use Rattle.rv_flat.proofs.StepLaws.{keeps_others, keeps_shape, own_view, running, still}
 use Rattle.run_check.specs.Certified.{IsStateOf, StandsAtTrap}
 use Rattle.run_check.proofs.Runs.{reached_base, reached_harts, reached_size}
@@ -82,7 +79,8 @@ step_at_traps state hart at other within =
             | inl same ↦
                 let inside : hart < length state.harts = omega arith in
                 rw (same, own_view state hart inside runs)
-                (executed_at_trap (code_word state.code (view_of state hart).pc) (view_of state hart) (span_of state) (room_of state) (byte_in state.base state.bytes) runs)
+                (executed_at_trap (code_word state.code (view_of state hart).pc) (view_of state hart) (span_of state) (room_of state)
+                (byte_in state.base state.bytes) runs)
             | inr apart ↦ rw (keeps_others state hart other apart) (seen_at_trap (footprint_of state hart) (view_of state other) (at other there))
           ]
       | inr stopped ↦ rw (still state hart stopped) (at other there)

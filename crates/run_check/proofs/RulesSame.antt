@@ -1,7 +1,7 @@
 -- A rule on items says the same of two lists that have the same items there.
-use Rattle.std.proofs.Common.{◌≡◌, ℕ, zero, suc, ◌+◌, ◌-◌, ◌≤◌, ◌<◌, refl, arith, ap, ◌∙◌, Bool, false, true}
+use Rattle.std.proofs.Common.{◌≡◌, ℕ, zero, suc, ◌-◌, ◌<◌, refl, arith, false}
 use Rattle.std.proofs.lemmas.Bool.Decides.{nat_tests}
-use Rattle.run_check.specs.Rules.{count_wrong, hart_wrong, line_wrong, line_limit, most_steps, steps_before}
+use Rattle.run_check.specs.Rules.{count_wrong, hart_wrong, line_wrong, line_limit, steps_before}
 
 pub same_hart_rule : (harts : ℕ) (f g : ℕ → ℕ) (index : ℕ) → f index ≡ g index → f (index - 1) ≡ g (index - 1) →
     hart_wrong harts f index ≡ hart_wrong harts g index

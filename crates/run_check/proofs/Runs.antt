@@ -1,7 +1,7 @@
 -- Runs of stretches.
 use Rattle.std.proofs.Common.{◌≡◌, ◌≢◌, ℕ, zero, suc, ◌+◌, ◌≤◌, ◌<◌, List, [], ◌∷◌, ◌++◌, length, get_or, take, Option, Some, refl, sym, ap, subst, ◌∙◌, arith, add-one}
-use Rattle.std.specs.List.{flat_map, slice_get}
-use Rattle.std.specs.Prelude.{replicate, slice_index_or}
+use Rattle.std.specs.List.{slice_get}
+use Rattle.std.specs.Prelude.{slice_index_or}
 use Rattle.std.proofs.lemmas.List.{append-nil, length-append, length-replicate, take_all, take_more}
 use Rattle.std.proofs.lemmas.List.Concat.{flat_map-append}
 use Rattle.std.proofs.lemmas.Option.{slice_get-get_or, slice_get_read}
@@ -15,7 +15,7 @@ use Rattle.rv_flat.proofs.StepLaws.{alone_sum, keeps_shape, run_append}
 use Rattle.el_base.specs.HartId.{hart_id}
 use Rattle.run_check.specs.Content.{steps_in, written_out}
 use Rattle.run_check.specs.Rules.{steps_before}
-use Rattle.run_check.specs.Spelling.{count_in, hart_in}
+use Rattle.run_check.specs.Spelling.{count_in}
 use Rattle.run_check.specs.declared.content.Stretch.{Stretch}
 
 -- what two reads gave
@@ -72,7 +72,9 @@ length_written xs (suc i) within =
     ∙ omega (arith, before, length-replicate stretch.count stretch.hart.number)
 
 pub length_all_written : (xs : List Stretch) → length (written_out xs) ≡ steps_before (count_in xs) (length xs)
-length_all_written xs = ap (λ (l : List Stretch). length (written_out l)) (sym (take_all (length xs) xs (omega arith))) ∙ length_written xs (length xs) (omega arith)
+length_all_written xs =
+    ap (λ (l : List Stretch). length (written_out l)) (sym (take_all (length xs) xs (omega arith)))
+    ∙ length_written xs (length xs) (omega arith)
 
 -- what a run keeps
 pub record RunKeeps (before after : FlatState) : Type 0 where

@@ -1,11 +1,9 @@
 -- A certificate that is spelled has no fault, and its fields say what was spelled.
-use Rattle.std.proofs.Common.{◌≡◌, ℕ, zero, suc, ◌+◌, ◌-◌, ◌*◌, ◌^◌, ◌≤◌, ◌<◌, Bool, true, false, not, cond, List, [], ◌∷◌, ◌++◌, length, map, get_or, take, drop, Option, Some, None, refl, sym, ap, subst, ◌∙◌, append_assoc, arith, inl, inr}
+use Rattle.std.proofs.Common.{◌≡◌, ℕ, zero, suc, ◌+◌, ◌-◌, ◌*◌, ◌≤◌, ◌<◌, false, not, List, [], ◌∷◌, ◌++◌, length, map, get_or, take, drop, Option, Some, None, refl, sym, ap, subst, ◌∙◌, append_assoc, arith}
 use Rattle.std.specs.List.{flat_map, range_with_len}
-use Rattle.std.specs.Prelude.{slice_index, slice_index_or, ◌==◌, ◌||◌}
-use Rattle.std.proofs.lemmas.Bool.{cases_lt}
 use Rattle.std.proofs.lemmas.Bool.Decides.{nat_tests}
-use Rattle.std.proofs.lemmas.List.{append-nil, drop-drop, drop_at, get_or-drop, length-append, length-drop, length-take-le, take_at}
-use Rattle.std.proofs.lemmas.List.FromFn.{fill_by_all, length-map-range_with_len}
+use Rattle.std.proofs.lemmas.List.{append-nil, drop-drop, drop_at, get_or-drop, length-append, length-drop, take_at}
+use Rattle.std.proofs.lemmas.List.FromFn.{fill_by_all}
 use Rattle.byteorder.specs.Endian.{little_bytes}
 use Rattle.byteorder.specs.Numbers.{little_number-reads_back}
 use Rattle.el_base.specs.Config.{within}
@@ -20,14 +18,14 @@ use Rattle.run_check.specs.declared.content.Patch.{Patch}
 use Rattle.run_check.specs.declared.content.Stretch.{Stretch}
 use Rattle.run_check.specs.declared.fault.FaultKind.TheVariants as kinds
 use Rattle.run_check.specs.Content.{Content}
-use Rattle.run_check.specs.Faults.{certificate_fault, content_of, count_at, first_below, hart_at, harts_of, head_fault, line_at, line_count, line_count_fault, line_fault, line_place, lines_place, number_at, output_fault, output_length, output_place, patch_at, register_at, registers_at, reserved_at, status_at, stretch_at, stretch_count, stretch_fault, stretch_place, tail_fault, view_at, view_fault, view_place, view_wrong, wrong}
-use Rattle.run_check.specs.Rules.{count_wrong, hart_wrong, line_wrong, most_lines, most_steps, reservation_wrong, status_wrong, steps_before, line_limit}
-use Rattle.run_check.specs.Spelling.{count_in, hart_in, head_bytes, line_in, lines_bytes, output_bytes, patch_bytes, patch_in, reserved_bytes, spelling, status_bytes, stretch_bytes, view_bytes, IsCertificate, IsReserved, IsStatus, IsView}
-use Rattle.run_check.proofs.FieldFaults.{LineRight, StretchRight, both_none, field_passes, line_count_passes, line_passes, output_passes, right_passes, stretch_passes, tail_passes, view_passes}
+use Rattle.run_check.specs.Faults.{certificate_fault, content_of, count_at, hart_at, harts_of, head_fault, line_at, line_count, line_fault, line_place, lines_place, number_at, output_length, output_place, patch_at, register_at, registers_at, reserved_at, status_at, stretch_at, stretch_count, stretch_fault, stretch_place, view_at, view_fault, view_place, view_wrong}
+use Rattle.run_check.specs.Rules.{count_wrong, most_lines, most_steps, reservation_wrong, status_wrong, steps_before}
+use Rattle.run_check.specs.Spelling.{count_in, hart_in, line_in, lines_bytes, output_bytes, patch_bytes, patch_in, reserved_bytes, spelling, status_bytes, stretch_bytes, view_bytes, IsCertificate, IsReserved, IsStatus, IsView}
+use Rattle.run_check.proofs.FieldFaults.{both_none, field_passes, line_count_passes, line_passes, output_passes, right_passes, stretch_passes, tail_passes, view_passes}
 use Rattle.run_check.proofs.FirstBelow.{each_none}
 use Rattle.run_check.proofs.Items.{patch_is, stretch_is}
 use Rattle.run_check.proofs.Pieces.{behind_all, item_behind}
-use Rattle.run_check.proofs.RulesSame.{hart_below, line_below, same_count_rule, same_hart_rule, same_line_rule}
+use Rattle.run_check.proofs.RulesSame.{line_below, same_count_rule, same_hart_rule, same_line_rule}
 
 -- ---- what stands at a place
 
@@ -385,10 +383,12 @@ view_is file place view is s =
     let status = status_is file (place + 133) (place + 134) view.pc view.status next' is.status p.status in
     let status-is : status_at (get_or file (place + 133) 0) (number_at file (place + 134)) (number_at file place) ≡ view.status =
     ap (status_at (get_or file (place + 133) 0) (number_at file (place + 134))) pc ∙ status.0
-    in (
-      ap (λ x. view_of_parts x (registers_at file place) (reserved_at (get_or file (place + 128) 0) (number_at file (place + 129))) (status_at (get_or file (place + 133) 0) (number_at file (place + 134)) (number_at file place))) pc
-          ∙ ap (λ x. view_of_parts view.pc x (reserved_at (get_or file (place + 128) 0) (number_at file (place + 129))) (status_at (get_or file (place + 133) 0) (number_at file (place + 134)) (number_at file place))) regs
-          ∙ ap (λ x. view_of_parts view.pc view.regs x (status_at (get_or file (place + 133) 0) (number_at file (place + 134)) (number_at file place))) reserved.0
+    in
+    let r = reserved_at (get_or file (place + 128) 0) (number_at file (place + 129)) in
+    let t = status_at (get_or file (place + 133) 0) (number_at file (place + 134)) (number_at file place) in (
+      ap (λ x. view_of_parts x (registers_at file place) r t) pc
+          ∙ ap (λ x. view_of_parts view.pc x r t) regs
+          ∙ ap (λ x. view_of_parts view.pc view.regs x t) reserved.0
           ∙ ap (λ x. view_of_parts view.pc view.regs view.reserved x) status-is,
       rw (reserved.1, status.1) refl,
     )
@@ -468,9 +468,14 @@ no_fault c is p =
     let o-stands : Stands file (output_place file) (output_part c) = record { rest = []; is = p.output ∙ sym (append-nil _) } in
     let o-front = front (output_bytes c.output) (lines_part c) o-stands in
     let o-whole : output_place file + 4 + length c.output ≤ length file =
-    omega (arith, inside o-front (omega (arith, length-append (little_bytes 4 (length c.output)) c.output)), length-append (little_bytes 4 (length c.output)) c.output)
+    omega (
+      arith,
+      inside o-front (omega (arith, length-append (little_bytes 4 (length c.output)) c.output)),
+      length-append (little_bytes 4 (length c.output)) c.output,
+    )
     in
-    let l-stands : Stands file (lines_place file) (little_bytes 4 (length c.lines) ++ flat_map patch_bytes c.lines) = record { rest = []; is = p.lines ∙ sym (append-nil _) } in
+    let l-stands : Stands file (lines_place file) (little_bytes 4 (length c.lines) ++ flat_map patch_bytes c.lines) =
+    record { rest = []; is = p.lines ∙ sym (append-nil _) } in
     let l-whole = inside (front (little_bytes 4 (length c.lines)) (flat_map patch_bytes c.lines) l-stands) (omega arith) in
     let l-few : number_at file (lines_place file) ≤ most_lines = rw p.lines_are is.few_lines in
     both_none _ _ (head_passes c is p)
@@ -516,9 +521,12 @@ read_is c is p =
     let patch = patch_in c.lines k in
     patch_is patch.line (line_at file (lines_place file) k) patch.bytes _ (sym (line_is c is p k low)) (sym (line_bytes_are c is p k low))))
     in
-    ap (λ x. content_from c.harts x (map (λ hart. view_at file (view_place file hart)) (range_with_len 0 c.harts)) (take (output_length file) (drop (output_place file + 4) file)) (map (patch_at file (lines_place file)) (range_with_len 0 (line_count file)))) stretches
-    ∙ ap (λ x. content_from c.harts c.stretches x (take (output_length file) (drop (output_place file + 4) file)) (map (patch_at file (lines_place file)) (range_with_len 0 (line_count file)))) views
-    ∙ ap (λ x. content_from c.harts c.stretches c.views x (map (patch_at file (lines_place file)) (range_with_len 0 (line_count file)))) output
+    let v = map (λ hart. view_at file (view_place file hart)) (range_with_len 0 c.harts) in
+    let o = take (output_length file) (drop (output_place file + 4) file) in
+    let l = map (patch_at file (lines_place file)) (range_with_len 0 (line_count file)) in
+    ap (λ x. content_from c.harts x v o l) stretches
+    ∙ ap (λ x. content_from c.harts c.stretches x o l) views
+    ∙ ap (λ x. content_from c.harts c.stretches c.views x l) output
     ∙ ap (λ x. content_from c.harts c.stretches c.views c.output x) lines
 
 pub spelled : (c : Content) → IsCertificate c → (certificate_fault (spelling c) ≡ None) × (content_of (spelling c) ≡ c)

@@ -1,10 +1,10 @@
 -- The verdict on a certificate.
-use Rattle.std.proofs.Common.{◌≡◌, ◌≢◌, ℕ, ◌<◌, refl, sym, ap, subst, ◌∙◌, arith, inl, inr}
+use Rattle.std.proofs.Common.{◌≡◌, ℕ, ◌<◌, refl, sym, subst, arith, inl, inr}
 use Rattle.std.proofs.lemmas.Bool.{cases_lt}
 use Rattle.elf_image.specs.Program.{Program}
 use Rattle.rv_flat.specs.FlatState.{FlatState}
 use Rattle.std.specs.List.{slice_get}
-use Rattle.run_check.specs.Check.{reached, Agrees, CertificateHolds, IsFirst, IsVerdict, LineHolds}
+use Rattle.run_check.specs.Check.{reached, Agrees, CertificateHolds, IsFirst, LineHolds}
 use Rattle.run_check.specs.Content.{Content}
 use Rattle.run_check.specs.Differences.{number_of}
 use Rattle.run_check.specs.declared.verdict.Difference.{Difference}
@@ -70,7 +70,8 @@ pub memory_first : (program : Program) (content : Content) (state : FlatState) (
     ¬ LineHolds program content.lines state.bytes line → ((k : ℕ) → k < line → LineHolds program content.lines state.bytes k) →
     IsFirst program content Memory line
 memory_first program content state line is views output here below =
-    let earlier : (other : Difference) (at : ℕ) → number_of other < 3 → Agrees other program content state at = earlier_agrees program content state views output in
+    let earlier : (other : Difference) (at : ℕ) → number_of other < 3 → Agrees other program content state at =
+    earlier_agrees program content state views output in
     record {
       earlier = λ other at low. subst (λ s. Agrees other program content s at) is (earlier other at low);
       before = λ at low. subst (λ (s : FlatState). LineHolds program content.lines s.bytes at) is (below at low);

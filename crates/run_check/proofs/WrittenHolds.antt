@@ -1,30 +1,26 @@
 -- The certificate of a history and of the state that a run of its serial order reaches holds.
-use Rattle.std.proofs.Common.{◌≡◌, ◌≢◌, ℕ, zero, suc, ◌+◌, ◌-◌, ◌*◌, ◌/◌, ◌%◌, ◌≤◌, ◌<◌, Bool, true, false, not, cond, ◌==◌, List, [], ◌∷◌, ◌++◌, length, get_or, take, drop, Option, Some, None, refl, sym, ap, subst, ◌∙◌, arith, inl, inr}
+use Rattle.std.proofs.Common.{◌≡◌, ◌≢◌, ℕ, zero, suc, ◌+◌, ◌-◌, ◌*◌, ◌/◌, ◌%◌, ◌≤◌, ◌<◌, Bool, true, false, not, cond, ◌==◌, List, [], ◌∷◌, ◌++◌, length, get_or, drop, Option, Some, None, refl, sym, ap, subst, ◌∙◌, arith, inl, inr}
 use Rattle.std.specs.Str.{bytes_eq}
 use Rattle.std.proofs.lemmas.Slice.Eq.{bytes_eq-Decides}
 use Rattle.std.proofs.lemmas.Bool.{cases_lt}
 use Rattle.std.proofs.lemmas.Bool.Decides.{nat_tests}
 use Rattle.std.proofs.lemmas.List.{append-nil, get_or-drop, get_or-take}
-use Rattle.std.specs.Prelude.{All, slice_index, slice_index_or}
-use Rattle.std.specs.List.{slice_get}
+use Rattle.std.specs.Prelude.{All}
 use Rattle.chronicle.specs.Chronicle.{events}
 use Rattle.chronicle.specs.Serial.{serial}
-use Rattle.el_base.specs.Line.{line_number}
-use Rattle.el_base.specs.LineAddr.{line_addr}
 use Rattle.el_base.proofs.Lines.{line_addr-number}
 use Rattle.el_base.specs.declared.entries.Entry.{Entry}
 use Rattle.elf_image.specs.Program.{IsProgram, Program}
 use Rattle.rv_flat.specs.FlatState.{FlatState, start}
 use Rattle.rv_flat.specs.Memory.{byte_in}
 use Rattle.rv_flat.specs.Run.{run}
-use Rattle.run_check.specs.Certified.{certificate_of, changed, changed_below, changed_lines, line_of_memory, patch_of, stretches_of}
-use Rattle.run_check.specs.Check.{byte_from, patch_of_line, reached, said_byte, Agrees, CertificateHolds, IsInside, LineHolds}
-use Rattle.run_check.specs.Content.{Content, written_out}
+use Rattle.run_check.specs.Certified.{certificate_of, changed, changed_below, changed_lines, line_of_memory, patch_of}
+use Rattle.run_check.specs.Check.{byte_from, patch_of_line, reached, Agrees, CertificateHolds, LineHolds}
+use Rattle.run_check.specs.Content.{written_out}
 use Rattle.run_check.specs.declared.content.Patch.{Patch}
 use Rattle.run_check.specs.declared.verdict.Difference.{Difference}
 use Rattle.run_check.specs.declared.verdict.Difference.TheVariants.{View, Output, Memory}
-use Rattle.run_check.proofs.CertificateRules.{Below, serial_below, stretches_written, weaker}
-use Rattle.run_check.proofs.Runs.{reached_size}
+use Rattle.run_check.proofs.CertificateRules.{serial_below, stretches_written, weaker}
 
 -- ---- a line among those that differ
 
@@ -146,7 +142,9 @@ not_false false e = absurd cc
 -- two lines that compare as equal have the same bytes
 same_line : (program : Program) (memory : List ℕ) (index : ℕ) → changed program memory index ≡ false →
     line_of_memory memory index ≡ line_of_memory program.bytes index
-same_line program memory index is = bytes_same (line_of_memory memory index) (line_of_memory program.bytes index) (not_false (bytes_eq (line_of_memory memory index) (line_of_memory program.bytes index)) is)
+same_line program memory index is =
+    bytes_same (line_of_memory memory index) (line_of_memory program.bytes index)
+    (not_false (bytes_eq (line_of_memory memory index) (line_of_memory program.bytes index)) is)
 
 byte_of_line : (memory : List ℕ) (index at : ℕ) → at < 64 → get_or (line_of_memory memory index) at 0 ≡ get_or memory (64 * index + at) 0
 byte_of_line memory index at low = get_or-take 64 (drop (64 * index) memory) at 0 low ∙ get_or-drop (64 * index) memory at 0

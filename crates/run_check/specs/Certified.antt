@@ -10,7 +10,6 @@ use Rattle.el_base.specs.declared.line.TheConstants.{LINE_BYTES}
 use Rattle.elf_image.specs.Program.{Program}
 use Rattle.rv_alu.specs.declared.view.HartStatus.{HartStatus}
 use Rattle.rv_alu.specs.declared.view.HartStatus.TheVariants.{Running, Exited, Trapped}
-use Rattle.rv_alu.specs.declared.view.HartView.{HartView}
 use Rattle.rv_flat.specs.FlatState.{FlatState, output_limit, view_of}
 use Rattle.run_check.specs.Content.{Content}
 use Rattle.run_check.specs.Rules.{most_steps}

@@ -1,5 +1,5 @@
 -- What a certificate says.
-use Rattle.std.specs.Prelude.{ℕ, ◌*◌, List, replicate}
+use Rattle.std.specs.Prelude.{ℕ, List, replicate}
 use Rattle.std.specs.List.{flat_map}
 use Rattle.rv_alu.specs.declared.view.HartView.{HartView}
 use Rattle.run_check.specs.declared.content.Patch.{Patch}

@@ -1,4 +1,4 @@
-use Rattle.std.proofs.Common.{◌≡◌, ◌≤◌, ◌<◌, ℕ, List, length, sym, ap, subst, ◌∙◌}
+use Rattle.std.proofs.Common.{◌≡◌, ℕ, List, sym, ap, subst, ◌∙◌}
 use Rattle.el_base.specs.declared.entries.Entry.{Entry}
 use Rattle.chronicle.specs.Serial.{serial}
 use Rattle.elf_image.specs.Program.{Program}

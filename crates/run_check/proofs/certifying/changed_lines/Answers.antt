@@ -1,4 +1,4 @@
-use Rattle.std.proofs.Common.{◌≡◌, ◌+◌, ◌*◌, ◌-◌, ◌∙◌, arith, ap, not, Bool, take, drop}
+use Rattle.std.proofs.Common.{◌≡◌, ◌+◌, ◌*◌, ◌-◌, ◌∙◌, arith, ap, not}
 use Rattle.run_check.specs.Certified.{changed}
 use Rattle.run_check.proofs.Gathering.{changed_is, image_line, line_passed, line_pushed, patch_gathered}
 use Rattle.run_check.proofs.certifying.changed_lines.Goals as goal

@@ -1,4 +1,4 @@
-use Rattle.std.proofs.Common.{length, arith, ◌∙◌, length-set, refl}
+use Rattle.std.proofs.Common.{arith, ◌∙◌, length-set, refl}
 use Rattle.run_check.proofs.Gathering.{byte_got, byte_set, line_is}
 use Rattle.run_check.proofs.certifying.line_at.Goals as goal
 

@@ -1,5 +1,4 @@
-use Rattle.std.proofs.Common.{◌≡◌, ◌≢◌, ℕ, ◌+◌, ◌*◌, ◌/◌, ◌≤◌, ◌<◌, List, [], min, length, sym, ap, subst, ◌∙◌, arith, get_or, refl}
-use Rattle.std.specs.Prelude.{slice_index}
+use Rattle.std.proofs.Common.{◌≡◌, ℕ, ◌+◌, ◌*◌, ◌/◌, ◌<◌, [], min, length, sym, ap, ◌∙◌, arith, refl}
 use Rattle.std.proofs.lemmas.List.{get_or_read}
 use Rattle.el_base.specs.LineAddr.{line_addr}
 use Rattle.rv_flat.specs.Memory.{byte_in}

@@ -1,4 +1,3 @@
-use Rattle.std.proofs.Common.{◌≡◌, ℕ, ◌*◌, ◌≤◌, ◌<◌, length}
 use Rattle.run_check.proofs.Walk.{Walked}
 use Rattle.run_check.proofs.checking.first_line.Given as goal
 

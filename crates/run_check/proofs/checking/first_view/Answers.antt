@@ -1,9 +1,6 @@
-use Rattle.std.proofs.Common.{◌≡◌, ℕ, ◌<◌, ◌≤◌, List, length, get_or, Some, below_more, arith, subst, sym, ap, ◌∙◌, inl, inr}
+use Rattle.std.proofs.Common.{length, Some, below_more, arith, sym, ap, ◌∙◌, inl, inr}
 use Rattle.std.proofs.lemmas.Bool.{cases_lt}
-use Rattle.std.proofs.lemmas.Option.{slice_get-get_or, slice_get_past, slice_get_read}
-use Rattle.std.specs.List.{slice_get}
-use Rattle.rv_alu.specs.declared.view.HartView.{HartView}
-use Rattle.rv_flat.specs.FlatState.{no_hart}
+use Rattle.std.proofs.lemmas.Option.{slice_get_past}
 use Rattle.run_check.proofs.Runs.{both_read, some_differ}
 use Rattle.run_check.proofs.checking.first_view.Goals as goal
 

@@ -1,5 +1,5 @@
-use Rattle.std.proofs.Common.{◌∙◌, sym, arith, get_or, ap, length, refl, ◌≡◌}
-use Rattle.std.proofs.lemmas.List.{get_or_read, take_all}
+use Rattle.std.proofs.Common.{◌∙◌, sym, arith, length, ◌≡◌}
+use Rattle.std.proofs.lemmas.List.{get_or_read}
 use Rattle.el_base.specs.HartId.{hart_id}
 use Rattle.run_check.specs.declared.content.Stretch.{Stretch}
 use Rattle.run_check.proofs.Runs.{length_all_written, steps_at, step_counts, stretch_more}

@@ -1,11 +1,8 @@
-use Rattle.std.proofs.Common.{◌≡◌, ◌<◌, ℕ, length, sym, ap, subst, ◌∙◌, arith, refl, List}
-use Rattle.elf_image.specs.Program.{Program}
+use Rattle.std.proofs.Common.{◌≡◌, ◌<◌, ℕ, length, sym, ap, subst, ◌∙◌, refl}
 use Rattle.rv_flat.specs.FlatState.{FlatState}
-use Rattle.run_check.specs.Check.{reached, Agrees, IsFirst, IsVerdict, LineHolds}
-use Rattle.run_check.specs.Content.{Content, written_out}
-use Rattle.run_check.specs.Differences.{number_of}
-use Rattle.run_check.specs.declared.verdict.Difference.{Difference}
-use Rattle.run_check.specs.declared.verdict.Difference.TheVariants.{View, Output, Memory}
+use Rattle.run_check.specs.Check.{IsVerdict, LineHolds}
+use Rattle.run_check.specs.Content.{written_out}
+use Rattle.run_check.specs.declared.verdict.Difference.TheVariants.{Memory}
 use Rattle.run_check.proofs.Runs.{reached_base, reached_harts, reached_size}
 use Rattle.std.specs.List.{slice_get}
 use Rattle.run_check.proofs.Verdicts.{memory_first}

@@ -7,7 +7,10 @@ use Rattle.run_check.proofs.reading.views_of.Goals as goal
 pub loop-hart-preserved : goal.loop-hart-preserved
 loop-hart-preserved c =
     let file = c.args.file.now in
-    let is = c.view_at.ensures ∙ ap (λ n. view_at file (c.args.views + 138 * n)) c.from-in-loop-hart.ensures ∙ ap (λ n. view_at file (n + 138 * c.loop-hart.hart)) c.requires.place in
+    let is =
+    c.view_at.ensures
+    ∙ ap (λ n. view_at file (c.args.views + 138 * n)) c.from-in-loop-hart.ensures
+    ∙ ap (λ n. view_at file (n + 138 * c.loop-hart.hart)) c.requires.place in
     rw (map-range_with_len_more (λ hart. view_at file (view_place file hart)) 0 c.loop-hart.hart c.loop-hart.hart (zero-add c.loop-hart.hart))
     (rw (← c.loop-hart.invariant, ← is) c.in_ok-push.ensures.items)
 

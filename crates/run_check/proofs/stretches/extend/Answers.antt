@@ -1,4 +1,4 @@
-use Rattle.std.proofs.Common.{◌≡◌, ◌++◌, List, arith, sym, ap, subst, ◌∙◌}
+use Rattle.std.proofs.Common.{◌++◌, arith, sym, ap, subst, ◌∙◌}
 use Rattle.std.specs.Prelude.{replicate}
 use Rattle.run_check.specs.Certified.{with_pending, IsCode}
 use Rattle.run_check.specs.Content.{written_out}

@@ -1,4 +1,4 @@
-use Rattle.std.proofs.Common.{◌≡◌, ◌++◌, ℕ, List, length, take, ◌+◌, arith, sym, ap, subst, ◌∙◌}
+use Rattle.std.proofs.Common.{◌++◌, ℕ, List, length, take, ◌+◌, arith, sym, ap, ◌∙◌}
 use Rattle.std.specs.Prelude.{replicate}
 use Rattle.std.proofs.lemmas.List.{length-append, length-replicate}
 use Rattle.chronicle.specs.Serial.{effects, serial}
@@ -47,7 +47,9 @@ returns g c =
     let pending = c.loop-place.pending in
     code_is items c.match-pending.stretches.items pending entries c.loop-place.place
     (elim c.match-pending.branch [
-      | in-Some+in_ok-push w ↦ ap (λ v. v.items) w.stretches-is ∙ pushed_pending items w.push.new.self.items w.in-Some.last pending w.in-Some.is w.in_ok-push.ensures.items
+      | in-Some+in_ok-push w ↦
+          ap (λ v. v.items) w.stretches-is
+          ∙ pushed_pending items w.push.new.self.items w.in-Some.last pending w.in-Some.is w.in_ok-push.ensures.items
       | in_default w ↦ ap (λ v. v.items) w.stretches-is ∙ sym (ap (with_pending items) w.in_default.is)
     ])
     c.loop-place.invariant.code c.loop-place.invariant.written (omega (arith, c.loop-place-test.false, c.length-place-end.ensures))

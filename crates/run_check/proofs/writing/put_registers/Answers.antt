@@ -1,6 +1,4 @@
-use Rattle.std.proofs.Common.{◌≡◌, ◌++◌, ◌+◌, ◌-◌, List, ℕ, arith, ap, sym, ◌∙◌, [], ◌∷◌, take, drop, get_or}
-use Rattle.std.specs.List.{flat_map}
-use Rattle.byteorder.specs.Endian.{little_bytes}
+use Rattle.std.proofs.Common.{arith}
 use Rattle.run_check.proofs.Registers.{register_more}
 use Rattle.run_check.proofs.writing.put_registers.Goals as goal
 

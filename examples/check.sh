@@ -79,18 +79,34 @@ drives() {
     trace=$(mktemp) || exit 1
     ./elide run "$image" --harts 2 --mode plain --steps 100000 > /dev/null 2>&1
     [ $? -eq 3 ] || { echo "examples: courtesy comes to its end in step"; failed=$((failed + 1)); }
-    for harts in 1 2; do
-        out=$(./elide run "$image" --harts $harts --threads 40000 --trace "$trace" 2> "$trace.err")
-        report=$(cat "$trace.err")
-        replayed=$(./elide replay "$image" "$trace" 2> "$trace.err")
-        if [ "$out" = "$replayed" ] && [ "$report" = "$(cat "$trace.err")" ]; then
-            passed=$((passed + 1))
-        else
-            echo "examples: the replay of a run by $harts drivers says something else"
-            failed=$((failed + 1))
-        fi
+    for harts in 1 2 8; do
+        for mode in plain sle tlr; do
+            out=$(./elide run examples/counter/counter.elf --harts $harts --mode $mode --threads 500 --trace "$trace" 2> "$trace.err")
+            report=$(cat "$trace.err")
+            replayed=$(./elide replay examples/counter/counter.elf "$trace" 2> "$trace.err")
+            if [ "$out" = "$((100 * harts))" ] && [ "$out" = "$replayed" ] && [ "$report" = "$(cat "$trace.err")" ]; then
+                passed=$((passed + 1))
+            else
+                echo "examples: a run by $harts drivers in $mode, or its replay, went wrong"
+                failed=$((failed + 1))
+            fi
+        done
     done
     rm -f "$trace" "$trace.err"
+}
+
+# changes: with each byte of a certificate changed by one, both checkers say the same
+changes() {
+    local certificate
+    command -v python3 > /dev/null || return
+    certificate=$(mktemp) || exit 1
+    ./elide run examples/hello/hello.elf --cert "$certificate" > /dev/null 2>&1
+    if python3 examples/changed_certificates.py examples/hello/hello.elf "$certificate"; then
+        passed=$((passed + 1))
+    else
+        failed=$((failed + 1))
+    fi
+    rm -f "$certificate"
 }
 
 # refuses LINE WORD..: these words are refused with this line, and nothing is put to standard output
@@ -136,6 +152,7 @@ for harts in 1 2 8; do
     done
 done
 drives
+changes
 draws counter 1 00000064 000000c8 00000190 00000320
 draws bank 7 0000fa00 0000fa00 0000fa00 0000fa00
 draws buckets 3 000000c8 00000190 00000320 00000640

@@ -1,5 +1,5 @@
-# Builds a program of this repository where that has to be done, and runs it. Read by ./elide and ./elide-lab, which
-# set `root` to the folder that they lie in.
+# Builds a program of this repository where that has to be done, and runs it. Read by ./elide, which sets `root` to the
+# folder that it lies in.
 
 # Whether a source is newer than what was built of it.
 source_is_newer() {

@@ -26,10 +26,10 @@ use Rattle.el_base.specs.declared.events.Kind.TheVariants.{Step, Order, Serve, D
 use Rattle.el_base.specs.declared.outcomes.Cause.TheVariants.{Room, Lines, Long, Call, Mixed}
 use Rattle.el_base.specs.declared.outcomes.Need.TheVariants.{Read, Write}
 use Rattle.el_base.specs.declared.outcomes.Outcome.{Outcome}
-use Rattle.el_base.specs.declared.outcomes.Outcome.TheVariants.{Idle, Stalled, Missed, Ran, Began, Buffered, Committed, RolledBack, Ordered, Served, Blocked, Delivered}
+use Rattle.el_base.specs.declared.outcomes.Outcome.TheVariants.{Idle, Stalled, Missed, Ran, Began, Buffered, Committed, RolledBack, Blocked, Delivered, Armed, LetGo}
 use Rattle.el_base.specs.declared.outcomes.Why.TheVariants.{Behind, Retained, Locked}
 use Rattle.computed_runs.proofs.Computing.{computing}
-use Rattle.computed_runs.proofs.Given.{Ending, ending_of, event, first_state, lost, patched, request, section, stamp, watch, way}
+use Rattle.computed_runs.proofs.Given.{Ending, ending_of, event, first_state, lost, ordered_with, patched, request, section, served_with, stamp, watch, way}
 use Rattle.el_model.specs.Next.{outcomes_from, state_after}
 use Rattle.el_model.specs.State.{Hart, ModelState}
 use Rattle.mail.specs.Mailbox.{Marker, Probe}
@@ -71,13 +71,21 @@ def outcome(parts):
         return f"RolledBack {rest[0]}"
     if name == "Blocked":
         return f"Blocked {rest[0]} (hart_id {rest[1]})"
-    if name in ("Ordered", "Served", "Delivered"):
-        return f"{name} ({losers(rest[0])})"
+    if name == "LetGo":
+        return f"LetGo {rest[0]}"
+    if name == "Delivered":
+        return f"Delivered (lost {pairs(rest[0])})"
+    if name in ("Ordered", "Served"):
+        losers, freed = rest if len(rest) == 2 else (rest[0], [])
+        return f"{name.lower()}_with {pairs(losers)} {pairs(freed)}"
     return name
 
 
-def losers(pairs):
-    return "lost (" + items(f"({loser}, {winner})" for loser, winner in pairs) + ")"
+def pairs(pairs_of_harts):
+    """Pairs as a list: of losers and winners, or of freed harts and their numbers of instructions."""
+    if not pairs_of_harts:
+        return "[]"
+    return "(" + items(f"({hart}, {other})" for hart, other in pairs_of_harts) + ")"
 
 
 def stamp(value):

@@ -1,11 +1,11 @@
 -- What a history says of one hart: sums over its entries.
-use Rattle.std.specs.Prelude.{ℕ, ◌+◌, ◌*◌, ◌^◌, Bool, false, List, [], ◌∷◌, ◌==◌, if◌then◌else◌, IsTrue, nat_lt, nat_le, sum_by, is_some}
+use Rattle.std.specs.Prelude.{ℕ, ◌+◌, ◌*◌, ◌^◌, Bool, List, [], ◌∷◌, ◌==◌, if◌then◌else◌, IsTrue, nat_lt, nat_le, sum_by, is_some}
 use Rattle.std.specs.List.{list_all}
-use Rattle.el_base.specs.Losers.{beaten_by}
+use Rattle.el_base.specs.Winners.{winner_over}
 use Rattle.el_base.specs.declared.entries.Entry.{Entry}
 use Rattle.el_base.specs.declared.outcomes.Cause.TheVariants.{Room, Lines, Long, Call, Mixed}
 use Rattle.el_base.specs.declared.outcomes.Outcome.{Outcome}
-use Rattle.el_base.specs.declared.outcomes.Outcome.TheVariants.{Stalled, Missed, Ran, Began, Committed, RolledBack, Ordered, Served, Blocked, Delivered}
+use Rattle.el_base.specs.declared.outcomes.Outcome.TheVariants.{Stalled, Missed, Ran, Began, Committed, RolledBack, Blocked}
 use Rattle.chronicle.specs.Serial.{most_effects}
 use Rattle.chronicle.specs.declared.tally.Tally.{Tally}
 
@@ -44,10 +44,7 @@ of_outcome _ = nothing
 
 -- whether a section of this hart lost in an event of this outcome
 abbrev pub has_lost : ℕ → Outcome → Bool
-has_lost hart (Ordered losers) = is_some (beaten_by losers hart)
-has_lost hart (Served losers) = is_some (beaten_by losers hart)
-has_lost hart (Delivered losers) = is_some (beaten_by losers hart)
-has_lost hart _ = false
+has_lost hart outcome = is_some (winner_over outcome hart)
 
 -- what an event counts for in the tally of this hart, which may lose in events of any hart
 unfoldable pub of_entry : ℕ → Entry → Tally

@@ -1,6 +1,6 @@
-ghost use Rattle.std.specs.Prelude.{◌≡◌, ◌∷◌, ◌++◌, [], ◌≤◌, length, IfOk};
+ghost use Rattle.std.specs.Prelude.{◌≡◌, ℕ, ◌∷◌, ◌++◌, [], ◌≤◌, length, IfOk};
 ghost use Rattle.chronicle.specs.Chronicle.{Chronicle, spare_of};
-ghost use Rattle.chronicle.specs.Serial.{effects, most_effects, serial};
+ghost use Rattle.chronicle.specs.Serial.{most_effects, serial, taking_effect};
 ghost use Rattle.chronicle.specs.Tally.{tally_of};
 
 use crate::tally::Tally;
@@ -54,8 +54,8 @@ impl History {
         self.entries.push_reserved(entry);
     }
 
-    /// The length of the serial order: one for each instruction that ran outside of a section, and
-    /// the count of each commit.
+    /// The length of the serial order: one for each instruction that ran outside of a section, the count
+    /// of each commit and of each letting go, and those of the harts that an order or a serve let go.
     pub fn serial_len(&self) -> u64
         ensures { result ≡ length (serial self.now.entries) }
     {
@@ -95,14 +95,15 @@ impl Chronicled for History {
     }
 }
 
-/// How many instructions took effect with this outcome.
+/// How many instructions took effect in an event of this outcome.
 fn effects(outcome: Outcome) -> u64
-    ensures exact { result ≡ effects outcome }
+    ensures exact { (h : ℕ) → result ≡ length (taking_effect h outcome) }
     ensures small { result ≤ most_effects }
 {
     match outcome {
         Outcome::Ran => 1,
-        Outcome::Committed { count } => count.into(),
+        Outcome::Committed { count } | Outcome::LetGo { count } => count.into(),
+        Outcome::Ordered { freed, .. } | Outcome::Served { freed, .. } => freed.total(),
         _ => 0,
     }
 }

@@ -88,7 +88,9 @@ impl Tally {
             | Outcome::Buffered
             | Outcome::Ordered { .. }
             | Outcome::Served { .. }
-            | Outcome::Delivered { .. } => nothing,
+            | Outcome::Delivered { .. }
+            | Outcome::Armed
+            | Outcome::LetGo { .. } => nothing,
         }
     }
 
@@ -142,9 +144,5 @@ impl Tally {
 fn has_lost(hart: HartId, outcome: Outcome) -> bool
     ensures { result ≡ has_lost hart.number outcome }
 {
-    match outcome {
-        Outcome::Ordered { losers } | Outcome::Served { losers } | Outcome::Delivered { losers } =>
-            { losers.winner_of(hart).is_some() }
-        _ => false,
-    }
+    outcome.losers().winner_of(hart).is_some()
 }

@@ -1,6 +1,7 @@
 use super::*;
 use el_base::{
-    Cause, Chronicled, Entry, Event, HartId, Kind, LineAddr, Losers, Need, Outcome, Why, line_of,
+    Cause, Chronicled, Entry, Event, Freed, HartId, Kind, LineAddr, Losers, Need, Outcome, Why,
+    line_of,
 };
 use std::test::Fail;
 
@@ -24,9 +25,11 @@ fn a_plain_run_is_told(rt: HostRuntime) -> Result<(), Fail> {
             },
             21 => Outcome::Ordered {
                 losers: Losers::none(),
+                freed: Freed::none(),
             },
             22 => Outcome::Served {
                 losers: Losers::none(),
+                freed: Freed::none(),
             },
             _ if kind == Kind::Step => Outcome::Ran,
             _ => Outcome::Idle,
@@ -79,6 +82,7 @@ fn each_outcome_has_its_count(rt: HostRuntime) -> Result<(), Fail> {
             second,
             Outcome::Ordered {
                 losers: Losers::none().with(first, second),
+                freed: Freed::none(),
             },
         ),
         (
@@ -94,6 +98,7 @@ fn each_outcome_has_its_count(rt: HostRuntime) -> Result<(), Fail> {
             second,
             Outcome::Served {
                 losers: Losers::none().with(first, second),
+                freed: Freed::none(),
             },
         ),
         (
@@ -181,5 +186,34 @@ fn a_history_of_no_places_is_full(rt: HostRuntime) -> Result<(), Fail> {
         (history.length(), history.spare(), history.serial_len()),
         (0, 0, 0)
     );
+    Ok(())
+}
+
+/// What a hart kept private since an `LR.W` counts where it takes effect, for whoever lets it go.
+#[test]
+fn what_was_let_go_counts_in_the_serial_order(rt: HostRuntime) -> Result<(), Fail> {
+    let (first, third) = (hart(0)?, hart(2)?);
+    let losers = Losers::none();
+    let freed = Freed::none().with(first, 2).with(third, 15);
+    let outcomes = [
+        Outcome::Armed,
+        Outcome::LetGo { count: 3 },
+        Outcome::Ordered { losers, freed },
+        Outcome::Served {
+            losers,
+            freed: Freed::none().with(third, 1),
+        },
+    ];
+    let mut history = History::make(rt.alloc(), 4)?;
+    for outcome in outcomes {
+        let event = Event {
+            kind: Kind::Step,
+            hart: hart(1)?,
+        };
+        assert!(rt; history.spare() >= 1);
+        history.push(Entry { event, outcome });
+    }
+    assert_eq!(rt; history.serial_len(), 21);
+    assert_eq!(rt; history.tally(third), Tally::default());
     Ok(())
 }

@@ -5,13 +5,17 @@ use Rattle.std.specs.List.{range_with_len}
 use Rattle.bus_order.specs.Order.{Request}
 use Rattle.cache_sets.specs.Residency.{Way}
 use Rattle.defer_list.specs.HartSet.{has}
+use Rattle.el_base.specs.Freed.{freed_of}
 use Rattle.el_base.specs.HartId.{hart_id}
 use Rattle.el_base.specs.Losers.{losers_of}
 use Rattle.el_base.specs.declared.config.Config.{Config}
 use Rattle.el_base.specs.declared.events.Event.{Event}
 use Rattle.el_base.specs.declared.events.Kind.{Kind}
+use Rattle.el_base.specs.declared.freed.Freed.{Freed}
 use Rattle.el_base.specs.declared.losers.Losers.{Losers}
 use Rattle.el_base.specs.declared.outcomes.Need.{Need}
+use Rattle.el_base.specs.declared.outcomes.Outcome.{Outcome}
+use Rattle.el_base.specs.declared.outcomes.Outcome.TheVariants.{Ordered, Served}
 use Rattle.el_model.specs.State.{Hart, ModelState, Section, new_hart}
 use Rattle.moesi.specs.declared.letter.Letter.{Letter}
 use Rattle.pair_table.specs.Predictor.{Watch}
@@ -45,6 +49,21 @@ winner_in ((loser, winner) ∷ others) h = if loser == h then Some winner else w
 
 abbrev pub lost : List (ℕ × ℕ) → Losers
 lost pairs = losers_of (winner_in pairs)
+
+-- the count of a hart, in a list of freed harts with their counts
+abbrev pub count_among : List (ℕ × ℕ) → ℕ → ℕ
+count_among [] h = 0
+count_among ((hart, count) ∷ others) h = if hart == h then count else count_among others h
+
+abbrev pub freed : List (ℕ × ℕ) → Freed
+freed pairs = freed_of (count_among pairs)
+
+-- a request took its place, or was served: who lost to whom, and who was let go with how many instructions
+abbrev pub ordered_with : List (ℕ × ℕ) → List (ℕ × ℕ) → Outcome
+ordered_with losers let_go = Ordered (lost losers) (freed let_go)
+
+abbrev pub served_with : List (ℕ × ℕ) → List (ℕ × ℕ) → Outcome
+served_with losers let_go = Served (lost losers) (freed let_go)
 
 -- a list with other numbers at some places
 abbrev pub patched : List ℕ → List (ℕ × ℕ) → List ℕ

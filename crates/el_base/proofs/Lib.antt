@@ -1,5 +1,6 @@
 pub mod Belows
 pub mod BitSets
+pub mod FreedOrder
 pub mod HartIds
 pub mod Lines
 pub mod MadeLosers

@@ -1,5 +1,5 @@
 -- Look-ups, filters, places and counts of lists: what std's lemmas leave out.
-use Rattle.std.proofs.Common.{◌≡◌, ℕ, zero, suc, ◌+◌, ◌<◌, ◌≤◌, ◌==◌, nat_lt, Bool, true, false, not, cond, List, [], ◌∷◌, ◌++◌, length, map, reverse, take, drop, Option, None, Some, refl, ap, sym, ◌∙◌, le_refl, arith}
+use Rattle.std.proofs.Common.{◌≡◌, ℕ, zero, suc, ◌+◌, ◌<◌, ◌≤◌, ◌==◌, nat_lt, Bool, true, false, not, cond, List, [], ◌∷◌, ◌++◌, length, map, reverse, take, drop, None, Some, refl, ap, sym, ◌∙◌, le_refl, arith}
 use Rattle.std.specs.List.{find, filter, list_any, count_by, prefix_len, position, position_or_len, slice_get, insert, remove}
 use Rattle.std.specs.Option.{option_map, unwrap_or}
 use Rattle.std.proofs.lemmas.List.{reverse-append}

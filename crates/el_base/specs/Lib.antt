@@ -1,6 +1,7 @@
 pub mod Below
 pub mod Config
 pub mod Firsts
+pub mod Freed
 pub mod HartId
 pub mod Harts
 pub mod Kinds
@@ -8,4 +9,6 @@ pub mod Line
 pub mod LineAddr
 pub mod Losers
 pub mod Modes
+pub mod NibblePairs
+pub mod Nibbles
 pub mod Winners

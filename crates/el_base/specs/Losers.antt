@@ -1,41 +1,43 @@
 -- The losers of an event.
-use Rattle.std.specs.Prelude.{ℕ, ◌≤◌, List, [], ◌∷◌, Option, None, Some, ◌&&◌, if◌then◌else◌, nat_lt, slice_index, map, min, refl}
-use Rattle.std.proofs.Common.{lit≤, zero, suc}
-use Rattle.std.proofs.Math.Nat.{min-le_right}
+use Rattle.std.specs.Prelude.{ℕ, ◌≤◌, List, [], ◌∷◌, Option, None, Some, if◌then◌else◌, nat_lt, slice_index, map, min}
+use Rattle.std.proofs.Common.{arith, lit≤, zero, suc}
+use Rattle.std.proofs.lemmas.Bool.Decides.{nat_tests}
+use Rattle.el_base.specs.NibblePairs.{pairs_within}
+use Rattle.el_base.specs.Nibbles.{first_eight, nibble_of, nibbles_to}
 use Rattle.el_base.specs.declared.hart_id.TheConstants.{MAX_HARTS}
 use Rattle.el_base.specs.declared.losers.Losers.{Losers}
 
+-- the winner that a number stands for: nobody, or the hart of the number before it
+abbrev pub decoded_winner : ℕ → Option ℕ
+decoded_winner zero = None
+decoded_winner (suc winner) = Some winner
+
 -- the number of the hart that this hart lost to, if it lost
 abbrev pub beaten_by : Losers → ℕ → Option ℕ
-beaten_by losers h =
-    if nat_lt h MAX_HARTS && nat_lt (slice_index losers.winners h) MAX_HARTS then Some (slice_index losers.winners h)
-    else None
+beaten_by losers h = decoded_winner (nibble_of losers.winners h)
 
--- what stands for a winner: its number, or the number of harts for nobody and for what no hart has
+-- the number that stands for a winner; for what no hart is, that of nobody
 abbrev pub winner_code : Option ℕ → ℕ
-winner_code None = MAX_HARTS
-winner_code (Some winner) = min winner MAX_HARTS
+winner_code None = 0
+winner_code (Some winner) = if nat_lt winner MAX_HARTS then suc winner else 0
 
-winner_code_small : (winner : Option ℕ) → winner_code winner ≤ MAX_HARTS
-winner_code_small None = lit≤ tt
-winner_code_small (Some winner) = min-le_right winner MAX_HARTS
+code_small : (winner : Option ℕ) → min (winner_code winner) 15 ≤ MAX_HARTS
+code_small None = lit≤ tt
+code_small (Some winner) = grind (arith, nat_tests)
 
-pub winner_codes_small : (winners : List (Option ℕ)) (h : ℕ) → slice_index (map winner_code winners) h ≤ MAX_HARTS
-winner_codes_small [] h = lit≤ tt
-winner_codes_small (winner ∷ winners) zero = winner_code_small winner
-winner_codes_small (winner ∷ winners) (suc h) = winner_codes_small winners h
+pub codes_small : (winners : List (Option ℕ)) (h : ℕ) →
+    min (slice_index (map winner_code winners) h) 15 ≤ MAX_HARTS
+codes_small [] h = lit≤ tt
+codes_small (winner ∷ winners) zero = code_small winner
+codes_small (winner ∷ winners) (suc h) = codes_small winners h
 
--- the losers of whom harts 0 to 7 lost to these harts
-abbrev pub losers_to : Option ℕ → Option ℕ → Option ℕ → Option ℕ → Option ℕ → Option ℕ → Option ℕ → Option ℕ → Losers
-losers_to a b c d e f g h =
-    let winners = a ∷ b ∷ c ∷ d ∷ e ∷ f ∷ g ∷ h ∷ [] in
-    record {
-      winners = map winner_code winners;
-      one_place_each = refl;
-      winner_or_nobody = λ hart _. winner_codes_small winners hart;
-    }
+-- the losers of whom the first eight of a list say whom they lost to
+abbrev pub losers_to : List (Option ℕ) → Losers
+losers_to winners = record {
+  winners = nibbles_to (map winner_code winners);
+  winners_are_harts = pairs_within MAX_HARTS (slice_index (map winner_code winners)) (codes_small winners);
+}
 
 -- the losers of whom each hart lost to the hart that the map gives for it
 abbrev pub losers_of : (ℕ → Option ℕ) → Losers
-losers_of winner =
-    losers_to (winner 0) (winner 1) (winner 2) (winner 3) (winner 4) (winner 5) (winner 6) (winner 7)
+losers_of winner = losers_to (first_eight winner)

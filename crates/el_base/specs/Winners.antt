@@ -6,7 +6,7 @@ use Rattle.el_base.specs.declared.outcomes.Outcome.TheVariants.{Ordered, Served,
 
 -- the hart that a hart lost to in this outcome
 abbrev pub winner_over : Outcome → ℕ → Option ℕ
-winner_over (Ordered losers) h = beaten_by losers h
-winner_over (Served losers) h = beaten_by losers h
+winner_over (Ordered losers freed) h = beaten_by losers h
+winner_over (Served losers freed) h = beaten_by losers h
 winner_over (Delivered losers) h = beaten_by losers h
 winner_over _ h = None

@@ -1,22 +1,16 @@
-ghost use Rattle.std.specs.Prelude.{◌≡◌, ℕ, ◌==◌, ◌<◌, ◌≤◌, if◌then◌else◌, None, Some, length, slice_index};
+ghost use Rattle.std.specs.Prelude.{◌≡◌, ℕ, ◌==◌, ◌≤◌, if◌then◌else◌, None, Some};
 ghost use Rattle.std.specs.Option.{option_map};
-ghost use Rattle.el_base.specs.declared.hart_id.TheConstants.{MAX_HARTS};
+ghost use Rattle.el_base.specs.Nibbles.{nibble_of};
 
-use crate::hart_id::{HartId, MAX_HARTS};
-
-/// Stands in the place of a hart that has not lost.
-const NOBODY: u8 = MAX_HARTS;
+use crate::hart_id::HartId;
+use crate::nibbles::Nibbles;
 
 /// The harts whose sections lost in one event, each with the hart that it lost to.
-///
-/// A history keeps one of these an event, so it has to be small: eight bytes, where as many
-/// `Option<HartId>` would take sixteen.
 #[derive(Clone, Copy, Debug, PartialEq, Eq)]
 pub struct Losers {
-    /// At each hart its winner's number, or `NOBODY`.
-    winners: [u8; MAX_HARTS as usize],
-    pub ghost one_place_each: { length winners ≡ MAX_HARTS },
-    pub ghost winner_or_nobody: { (h : ℕ) → h < MAX_HARTS → slice_index winners h ≤ MAX_HARTS },
+    /// At each hart one more than its winner's number, or 0 where it has not lost.
+    winners: Nibbles,
+    pub ghost winners_are_harts: { (h : ℕ) → nibble_of winners h ≤ 8 },
 }
 
 impl Losers {
@@ -27,7 +21,7 @@ impl Losers {
         ensures { (h : ℕ) → beaten_by result h ≡ None }
     {
         Losers {
-            winners: [NOBODY; MAX_HARTS as usize],
+            winners: Nibbles::zero(),
         }
     }
 
@@ -36,16 +30,17 @@ impl Losers {
         ensures { (h : ℕ) →
             beaten_by result h ≡ (if h == loser.number then Some winner.number else beaten_by self h) }
     {
-        let mut winners = self.winners;
-        winners[loser.number as usize] = winner.number;
-        Losers { winners }
+        Losers {
+            winners: self.winners.with(loser, winner.number + 1),
+        }
     }
 
     /// The hart that `loser` lost to, or `None` where it has not lost.
     pub fn winner_of(self, loser: HartId) -> Option<HartId>
         ensures { option_map (λ hart. hart.number) result ≡ beaten_by self loser.number }
     {
-        HartId::new(self.winners[loser.number as usize])
+        let number = self.winners.at(loser).checked_sub(1)?;
+        HartId::new(number)
     }
 
     /// Losers are told apart by their winners alone.

@@ -2,6 +2,7 @@ ghost use Rattle.std.specs.Prelude.{◌≡◌, ℕ};
 ghost use Rattle.el_base.specs.Losers.{beaten_by};
 ghost use Rattle.el_base.specs.Winners.{winner_over};
 
+use crate::freed::Freed;
 use crate::hart_id::HartId;
 use crate::line::LineAddr;
 use crate::losers::Losers;
@@ -59,14 +60,20 @@ pub enum Outcome {
     Committed { count: u32 },
     /// A section left nothing behind, and its hart stands before the acquire again.
     RolledBack { cause: Cause },
-    /// A request took its place in the order; these sections lost to it.
-    Ordered { losers: Losers },
-    /// A request was served; these sections lost to the next one for its line.
-    Served { losers: Losers },
+    /// A request took its place in the order; these sections lost to it, and these harts were let go by it.
+    Ordered { losers: Losers, freed: Freed },
+    /// A request was served; these sections lost to the next one for its line, and these harts were let go
+    /// by that.
+    Served { losers: Losers, freed: Freed },
     /// A request was not served, because of the hart `by`.
     Blocked { why: Why, by: HartId },
     /// A message was taken; these sections lost by it.
     Delivered { losers: Losers },
+    /// An `LR.W` ran, and what its hart runs from it on is kept private until an `SC.W` elides the acquire.
+    Armed,
+    /// The `count` instructions that the hart kept private since its `LR.W` took effect, and none is private
+    /// any more.
+    LetGo { count: u32 },
 }
 
 impl Outcome {
@@ -75,8 +82,8 @@ impl Outcome {
         ensures { (h : ℕ) → beaten_by result h ≡ winner_over self h }
     {
         match self {
-            Outcome::Ordered { losers }
-            | Outcome::Served { losers }
+            Outcome::Ordered { losers, .. }
+            | Outcome::Served { losers, .. }
             | Outcome::Delivered { losers } => losers,
             _ => Losers::none(),
         }

@@ -70,6 +70,20 @@ fn a_hart_has_the_last_winner_given(rt: HostRuntime) -> Result<(), Fail> {
 }
 
 #[test]
+fn a_hart_is_freed_with_the_last_count_given(rt: HostRuntime) -> Result<(), Fail> {
+    let first = HartId::new(0).ok_or("no hart 0")?;
+    let third = HartId::new(2).ok_or("no hart 2")?;
+    let last = HartId::new(7).ok_or("no hart 7")?;
+    let freed = Freed::none().with(third, 15).with(last, 1).with(third, 4);
+    for (hart, count) in [(first, 0), (third, 4), (last, 1)] {
+        assert_eq!(rt; Freed::none().count_of(hart), 0);
+        assert_eq!(rt; freed.count_of(hart), count);
+    }
+    assert_eq!(rt; freed, Freed::none().with(last, 1).with(third, 4));
+    Ok(())
+}
+
+#[test]
 fn each_field_has_its_range(rt: HostRuntime) {
     let usual = Config::usual();
     let rows = [
@@ -167,7 +181,8 @@ fn the_first_fault_is_answered(rt: HostRuntime) {
 
 #[test]
 fn an_entry_takes_16_bytes(rt: HostRuntime) {
-    assert_eq!(rt; size_of::<Losers>(), 8);
+    assert_eq!(rt; size_of::<Losers>(), 4);
+    assert_eq!(rt; size_of::<Freed>(), 4);
     assert_eq!(rt; size_of::<Entry>(), 16);
 }
 

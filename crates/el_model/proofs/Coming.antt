@@ -2,13 +2,14 @@
 use Rattle.std.proofs.Common.{◌≡◌, ◌∙◌, ℕ, Bool, true, false, List, [], ◌∷◌, Option, Some, None, refl, ap, sym, subst, inl, inr, if◌then◌else◌}
 use Rattle.std.specs.Prelude.{◌↔◌, ◌⊎◌}
 use Rattle.bus_order.specs.Order.{Request}
+use Rattle.el_base.specs.Freed.{no_one_freed}
 use Rattle.el_base.specs.LineAddr.{line_addr}
 use Rattle.el_base.specs.declared.events.Event.{Event}
 use Rattle.el_base.specs.declared.events.Kind.{Kind}
 use Rattle.el_base.specs.declared.events.Kind.TheVariants as kinds
 use Rattle.el_base.specs.declared.outcomes.Need.{Need}
 use Rattle.el_base.specs.declared.outcomes.Outcome.{Outcome}
-use Rattle.el_base.specs.declared.outcomes.Outcome.TheVariants.{Idle, Stalled, Missed, Ran, Began, Buffered, Committed, RolledBack, Ordered, Served, Blocked, Delivered}
+use Rattle.el_base.specs.declared.outcomes.Outcome.TheVariants.{Idle, Stalled, Missed, Ran, Began, Buffered, Committed, RolledBack, Ordered, Served, Blocked, Delivered, Armed, LetGo}
 use Rattle.el_model.specs.Causes.{ComesWhere, Goes, GoesInside, GoesOutside, NothingToDo, Waits}
 use Rattle.el_model.specs.Deliver.{deliver_next, deliver_turn}
 use Rattle.el_model.specs.InSection as inside
@@ -74,13 +75,13 @@ status_told state event step (Trapped cause pc) is = inl (record { step = step; 
 order_told : (state : ModelState) (event : Event) → event.kind ≡ kinds.Order → (raised : Option Request) →
     raised_of state event.hart.number ≡ raised → Told state event (order_raised state raised)
 order_told state event order None is = inr (inl (record { order = order; nothing = is }))
-order_told state event order (Some request) is = record { request = request; order = order; raised = is; losers_are = refl }
+order_told state event order (Some request) is = record { request = request; order = order; raised = is; losers_are = refl; freed_are = refl }
 
 past_told : (state : ModelState) (event : Event) → event.kind ≡ kinds.Serve → (request : Request) →
     ordered_of state event.hart.number ≡ Some request → (obstacle : Obstacle) → obstacle_to state request ≡ obstacle →
     Told state event (serve_past state request obstacle)
 past_told state event serve request ordered Free is =
-    record { request = request; serve = serve; ordered = ordered; free = is; losers_are = refl }
+    record { request = request; serve = serve; ordered = ordered; free = is; losers_are = refl; freed_are = refl }
 past_told state event serve request ordered (Blocks why by) is =
     record { request = request; hart = by; serve = serve; ordered = ordered; obstacle = is; by_is = refl }
 
@@ -186,17 +187,22 @@ comes state event (Committed count) (section, is, w) =
     ∙ ap Committed (sym is)
 comes state event (RolledBack cause) (section, w) =
     ap (λ turn. turn.outcome) (section_comes state event section (inside.RollsBack cause) w.goes w.inside w.rule_is)
-comes state event (Ordered losers) w =
-    ap (λ turn. turn.outcome) (order_comes state event (Some w.request) w.order w.raised) ∙ ap Ordered (sym w.losers_are)
-comes state event (Served losers) w =
+comes state event (Ordered losers freed) w =
+    ap (λ turn. turn.outcome) (order_comes state event (Some w.request) w.order w.raised)
+    ∙ ap (λ l. Ordered l no_one_freed) (sym w.losers_are)
+    ∙ ap (λ f. Ordered losers f) (sym w.freed_are)
+comes state event (Served losers freed) w =
     ap (λ turn. turn.outcome) (serve_comes state event (Some w.request) w.serve w.ordered)
-    ∙ ap (λ obstacle. (serve_past state w.request obstacle).outcome) w.free ∙ ap Served (sym w.losers_are)
+    ∙ ap (λ obstacle. (serve_past state w.request obstacle).outcome) w.free ∙ ap (λ l. Served l no_one_freed) (sym w.losers_are)
+    ∙ ap (λ f. Served losers f) (sym w.freed_are)
 comes state event (Blocked why by) w =
     ap (λ turn. turn.outcome) (serve_comes state event (Some w.request) w.serve w.ordered)
     ∙ ap (λ obstacle. (serve_past state w.request obstacle).outcome) w.obstacle ∙ ap (Blocked why) (sym w.by_is)
 comes state event (Delivered losers) w =
     ap (λ turn. turn.outcome) (deliver_comes state event (w.message ∷ w.others) w.deliver w.mail)
     ∙ ap Delivered (sym w.losers_are)
+comes state event Armed w = elim w [ ]
+comes state event (LetGo count) w = elim w [ ]
 
 pub by_their_rules : (state : ModelState) (event : Event) (outcome : Outcome) →
     ((next state event).outcome ≡ outcome) ↔ ComesWhere state event outcome

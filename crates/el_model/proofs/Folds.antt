@@ -1,7 +1,7 @@
 -- lists of events, by induction
-use Rattle.std.proofs.Common.{◌≡◌, suc, List, ◌∷◌, ◌++◌, [], length, map, replicate, refl, ◌∙◌, ap, sym}
+use Rattle.std.proofs.Common.{◌≡◌, suc, List, ◌∷◌, ◌++◌, [], length, map, refl, ◌∙◌, ap, sym}
 use Rattle.chronicle.specs.Chronicle.{events}
-use Rattle.chronicle.specs.Serial.{effects, serial}
+use Rattle.chronicle.specs.Serial.{serial, taking_effect}
 use Rattle.el_base.specs.declared.events.Event.{Event}
 use Rattle.el_model.specs.Next.{entries_from, next, outcomes_from, state_after}
 use Rattle.el_model.specs.State.{ModelState}
@@ -54,5 +54,5 @@ serial_run state (event ∷ events) =
     serial_run (next state event).state events
     ∙ ap (λ committed. run committed (serial (entries_from (next state event).state events))) (next_effect state event)
     ∙ sym
-    (run_append state.committed (replicate (effects (next state event).outcome) event.hart.number)
+    (run_append state.committed (taking_effect event.hart.number (next state event).outcome)
     (serial (entries_from (next state event).state events)))

@@ -1,8 +1,9 @@
 -- what every turn keeps, and what takes effect in it
-use Rattle.std.proofs.Common.{◌≡◌, ◌∙◌, ℕ, List, [], ◌∷◌, Option, Some, None, replicate, refl, ap, sym}
+use Rattle.std.proofs.Common.{◌≡◌, ◌∙◌, ℕ, List, [], ◌∷◌, Option, Some, None, refl, ap, sym}
 use Rattle.bus_order.specs.Order.{Request, appended, in_front_of, tail_of}
-use Rattle.chronicle.specs.Serial.{effects}
+use Rattle.chronicle.specs.Serial.{taking_effect}
 use Rattle.defer_list.specs.HartSet.{has}
+use Rattle.el_base.proofs.FreedOrder.{no_one_in_order}
 use Rattle.el_base.specs.declared.events.Event.{Event}
 use Rattle.el_base.specs.declared.events.Kind.{Kind}
 use Rattle.el_base.specs.declared.events.Kind.TheVariants as kinds
@@ -26,10 +27,10 @@ use Rattle.rv_flat.specs.Run.{run}
 -- an event of the bus keeps what is committed, and runs no instruction
 pub record Calm (state : ModelState) (turn : Turn) : Type 0 where
   pub keeps : Keeps state turn.state
-  pub no_effect : effects turn.outcome ≡ 0
+  pub no_effect : (h : ℕ) → taking_effect h turn.outcome ≡ []
 
 still : (state : ModelState) → Calm state (record { state = state; outcome = Idle })
-still state = record { keeps = keeps_all state; no_effect = refl }
+still state = record { keeps = keeps_all state; no_effect = λ h. refl }
 
 pub placed_last_keeps : (state : ModelState) (request : Request) → Keeps state (placed_last state request)
 placed_last_keeps state request =
@@ -50,7 +51,10 @@ placed_keeps state request Alone = keeps_twice (placed_last_keeps state request)
 
 raised_calm : (state : ModelState) (raised : Option Request) → Calm state (order_raised state raised)
 raised_calm state None = still state
-raised_calm state (Some request) = record { keeps = placed_keeps state request (place_for state request); no_effect = refl }
+raised_calm state (Some request) = record {
+  keeps = placed_keeps state request (place_for state request);
+  no_effect = λ h. no_one_in_order;
+}
 
 pub order_calm : (state : ModelState) (h : ℕ) → Calm state (order_turn state h)
 unfolding order_turn
@@ -59,9 +63,9 @@ order_calm state h = raised_calm state (raised_of state h)
 past_calm : (state : ModelState) (request : Request) (obstacle : Obstacle) → Calm state (serve_past state request obstacle)
 past_calm state request Free = record {
   keeps = keeps_twice (keeps_served state request) (keeps_faced_if _ (head_of (served state request) request.line));
-  no_effect = refl;
+  no_effect = λ h. no_one_in_order;
 }
-past_calm state request (Blocks why by) = record { keeps = keeps_all state; no_effect = refl }
+past_calm state request (Blocks why by) = record { keeps = keeps_all state; no_effect = λ h. refl }
 
 ordered_calm : (state : ModelState) (request : Option Request) → Calm state (serve_ordered state request)
 ordered_calm state None = still state
@@ -82,7 +86,7 @@ next_calm : (state : ModelState) (h : ℕ) (mail : List Message) → Calm state 
 next_calm state h [] = still state
 next_calm state h (message ∷ others) = record {
   keeps = keeps_twice (keeps_with_hart state h _) (message_keeps (taken state h others) h message);
-  no_effect = refl;
+  no_effect = λ h. refl;
 }
 
 pub deliver_calm : (state : ModelState) (h : ℕ) → Calm state (deliver_turn state h)
@@ -91,11 +95,11 @@ deliver_calm state h = next_calm state h (hart_of state h).mail
 
 -- the committed state after a turn is that after the instructions that took effect in it
 abbrev pub TakesEffect : ModelState → ℕ → Turn → Type 0
-TakesEffect state h turn = turn.state.committed ≡ run state.committed (replicate (effects turn.outcome) h)
+TakesEffect state h turn = turn.state.committed ≡ run state.committed (taking_effect h turn.outcome)
 
 calm_effect : (state : ModelState) (h : ℕ) (turn : Turn) → Calm state turn → TakesEffect state h turn
 calm_effect state h turn calm =
-    calm.keeps.committed ∙ sym (ap (λ count. run state.committed (replicate count h)) calm.no_effect)
+    calm.keeps.committed ∙ sym (ap (run state.committed) (calm.no_effect h))
 
 plain_effect : (state : ModelState) (h : ℕ) (rule : PlainRule) → TakesEffect state h (by_plain_rule state h rule)
 unfolding by_plain_rule

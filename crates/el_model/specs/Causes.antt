@@ -1,15 +1,17 @@
 -- where each outcome comes
 use Rattle.std.specs.Prelude.{◌≡◌, ◌≢◌, ◌⊎◌, ◌+◌, ℕ, true, false, List, [], ◌∷◌, Option, None, Some}
 use Rattle.bus_order.specs.Order.{Request}
+use Rattle.el_base.specs.Freed.{no_one_freed}
 use Rattle.el_base.specs.HartId.{hart_id}
 use Rattle.el_base.specs.LineAddr.{line_addr}
 use Rattle.el_base.specs.declared.events.Event.{Event}
 use Rattle.el_base.specs.declared.events.Kind.TheVariants as kinds
+use Rattle.el_base.specs.declared.freed.Freed.{Freed}
 use Rattle.el_base.specs.declared.hart_id.HartId.{HartId}
 use Rattle.el_base.specs.declared.losers.Losers.{Losers}
 use Rattle.el_base.specs.declared.outcomes.Need.{Need}
 use Rattle.el_base.specs.declared.outcomes.Outcome.{Outcome}
-use Rattle.el_base.specs.declared.outcomes.Outcome.TheVariants.{Idle, Stalled, Missed, Ran, Began, Buffered, Committed, RolledBack, Ordered, Served, Blocked, Delivered}
+use Rattle.el_base.specs.declared.outcomes.Outcome.TheVariants.{Idle, Stalled, Missed, Ran, Began, Buffered, Committed, RolledBack, Ordered, Served, Blocked, Delivered, Armed, LetGo}
 use Rattle.el_base.specs.declared.outcomes.Why.{Why}
 use Rattle.mail.specs.Mailbox.{Message}
 use Rattle.el_model.specs.Deliver.{message_losers}
@@ -75,19 +77,21 @@ pub record MissesLine (state : ModelState) (event : Event) (line : ℕ) (need : 
   pub by_rule : GoesOutside state event (outside.Misses line need) ⊎ ((section : Section) × GoesInside state event section (inside.Misses line need))
 
 -- a request takes its place
-pub record TakesPlace (state : ModelState) (event : Event) (losers : Losers) : Type 0 where
+pub record TakesPlace (state : ModelState) (event : Event) (losers : Losers) (freed : Freed) : Type 0 where
   pub request : Request
   pub order : event.kind ≡ kinds.Order
   pub raised : raised_of state event.hart.number ≡ Some request
   pub losers_are : losers ≡ order_losers state request
+  pub freed_are : freed ≡ no_one_freed
 
 -- a request is served, as nothing is in its way
-pub record IsServed (state : ModelState) (event : Event) (losers : Losers) : Type 0 where
+pub record IsServed (state : ModelState) (event : Event) (losers : Losers) (freed : Freed) : Type 0 where
   pub request : Request
   pub serve : event.kind ≡ kinds.Serve
   pub ordered : ordered_of state event.hart.number ≡ Some request
   pub free : obstacle_to state request ≡ Free
   pub losers_are : losers ≡ serve_losers state request
+  pub freed_are : freed ≡ no_one_freed
 
 -- something is in its way
 pub record IsBlocked (state : ModelState) (event : Event) (why : Why) (by : HartId) : Type 0 where
@@ -118,7 +122,10 @@ ComesWhere state event Buffered =
 ComesWhere state event (Committed count) =
     (section : Section) × (count ≡ section.count + 1) × GoesInside state event section inside.Commits
 ComesWhere state event (RolledBack cause) = (section : Section) × GoesInside state event section (inside.RollsBack cause)
-ComesWhere state event (Ordered losers) = TakesPlace state event losers
-ComesWhere state event (Served losers) = IsServed state event losers
+ComesWhere state event (Ordered losers freed) = TakesPlace state event losers freed
+ComesWhere state event (Served losers freed) = IsServed state event losers freed
 ComesWhere state event (Blocked why by) = IsBlocked state event why by
 ComesWhere state event (Delivered losers) = TakesMessage state event losers
+-- no hart keeps what it runs from an LR on
+ComesWhere state event Armed = ⊥
+ComesWhere state event (LetGo count) = ⊥

@@ -5,6 +5,7 @@ use Rattle.cache_sets.specs.Cache.{has_bit}
 use Rattle.el_base.specs.declared.config.Mode.{Mode}
 use Rattle.el_base.specs.declared.config.Mode.TheVariants.{Plain, Sle, Tlr}
 use Rattle.el_base.specs.declared.outcomes.Outcome.TheVariants.{Ordered}
+use Rattle.el_base.specs.Freed.{no_one_freed}
 use Rattle.el_base.specs.Losers.{losers_of}
 use Rattle.el_base.specs.declared.losers.Losers.{Losers}
 use Rattle.el_model.specs.Face.{face_losers, faced}
@@ -77,7 +78,7 @@ abbrev pub order_raised : ModelState → Option Request → Turn
 order_raised state None = idle state
 order_raised state (Some request) = record {
   state = placed state request (place_for state request);
-  outcome = Ordered (order_losers state request);
+  outcome = Ordered (order_losers state request) no_one_freed;
 }
 
 unfoldable pub order_turn : ModelState → ℕ → Turn

@@ -5,6 +5,7 @@ use Rattle.bus_order.specs.Order.{Request, removed}
 use Rattle.cache_sets.specs.Cache.{filled_with, is_resident, letter_of, lettered, marked, touched, without_line}
 use Rattle.cache_sets.specs.Residency.{Way}
 use Rattle.defer_list.specs.HartSet.{excluded}
+use Rattle.el_base.specs.Freed.{no_one_freed}
 use Rattle.el_base.specs.HartId.{hart_id}
 use Rattle.el_base.specs.declared.losers.Losers.{Losers}
 use Rattle.el_base.specs.declared.outcomes.Need.{Need}
@@ -114,7 +115,7 @@ serve_losers state request =
 abbrev pub served_turn : ModelState → Request → Turn
 served_turn state request = record {
   state = let after = served state request in faced_if after (head_of after request.line);
-  outcome = Served (serve_losers state request);
+  outcome = Served (serve_losers state request) no_one_freed;
 }
 
 abbrev pub serve_past : ModelState → Request → Obstacle → Turn

@@ -83,7 +83,7 @@ for_request bus state h shows below (Some request) =
 
 as_outcome : (bus : Kept) (state : ModelState) (h : ℕ) → Shows bus state → h < length state.harts → (outcome : Outcome) →
     lines_served bus h outcome ≡ with_committed state.committed bus.copies.lines (back_as state h outcome)
-as_outcome bus state h shows below (outcomes.Served losers) =
+as_outcome bus state h shows below (outcomes.Served losers freed) =
     for_request bus state h shows below (request_of bus.order h)
     ∙ ap (λ order. with_committed state.committed bus.copies.lines (back_for state h (request_of order h))) shows.order
 as_outcome bus state h shows below outcomes.Idle = refl
@@ -94,9 +94,11 @@ as_outcome bus state h shows below outcomes.Began = refl
 as_outcome bus state h shows below outcomes.Buffered = refl
 as_outcome bus state h shows below (outcomes.Committed count) = refl
 as_outcome bus state h shows below (outcomes.RolledBack cause) = refl
-as_outcome bus state h shows below (outcomes.Ordered losers) = refl
+as_outcome bus state h shows below (outcomes.Ordered losers freed) = refl
 as_outcome bus state h shows below (outcomes.Blocked why by) = refl
 as_outcome bus state h shows below (outcomes.Delivered losers) = refl
+as_outcome bus state h shows below outcomes.Armed = refl
+as_outcome bus state h shows below (outcomes.LetGo count) = refl
 
 -- the event is the service of the hart's request
 pub serve_is : (state : ModelState) (event : Event) → event.kind ≡ kinds.Serve →

@@ -33,7 +33,7 @@ back_for state h (Some request) =
 
 -- and by the outcome: where nothing was served, none is
 abbrev pub back_as : ModelState → ℕ → Outcome → Option ℕ
-back_as state h (Served losers) = back_for state h (ordered_of state h)
+back_as state h (Served losers freed) = back_for state h (ordered_of state h)
 back_as state h _ = None
 
 abbrev pub back_by : ModelState → ℕ → Outcome → Kind → Option ℕ

@@ -77,11 +77,13 @@ end_counts true place ran (outcomes.RolledBack Long) after h = refl
 end_counts true place ran (outcomes.RolledBack Call) after h = refl
 end_counts true place ran (outcomes.RolledBack Mixed) after h = refl
 end_counts true place ran (outcomes.Blocked why by) after h = refl
-end_counts true place ran (outcomes.Ordered losers) after h = loss_counts true place ran after (winner_over (outcomes.Ordered losers) h)
-end_counts true place ran (outcomes.Served losers) after h = loss_counts true place ran after (winner_over (outcomes.Served losers) h)
+end_counts true place ran outcomes.Armed after h = refl
+end_counts true place ran (outcomes.LetGo count) after h = refl
+end_counts true place ran (outcomes.Ordered losers freed) after h = loss_counts true place ran after (winner_over (outcomes.Ordered losers freed) h)
+end_counts true place ran (outcomes.Served losers freed) after h = loss_counts true place ran after (winner_over (outcomes.Served losers freed) h)
 end_counts true place ran (outcomes.Delivered losers) after h = loss_counts true place ran after (winner_over (outcomes.Delivered losers) h)
-end_counts false place ran (outcomes.Ordered losers) after h = loss_counts false place ran after (winner_over (outcomes.Ordered losers) h)
-end_counts false place ran (outcomes.Served losers) after h = loss_counts false place ran after (winner_over (outcomes.Served losers) h)
+end_counts false place ran (outcomes.Ordered losers freed) after h = loss_counts false place ran after (winner_over (outcomes.Ordered losers freed) h)
+end_counts false place ran (outcomes.Served losers freed) after h = loss_counts false place ran after (winner_over (outcomes.Served losers freed) h)
 end_counts false place ran (outcomes.Delivered losers) after h = loss_counts false place ran after (winner_over (outcomes.Delivered losers) h)
 end_counts false place ran _ after h = refl
 
@@ -96,11 +98,11 @@ loss_lives false place ran after (Some winner) = refl
 end_lives : (own : Bool) (place ran : ℕ) (outcome : Outcome) (after : ModelState) (h : ℕ) →
     one (is_live_end (end_by own place ran outcome after (winner_over outcome h)))
     + (one (own && is_committed outcome) + one (own && is_rolled_back outcome) + one (is_some (winner_over outcome h))) ≡ 1
-end_lives true place ran (outcomes.Ordered losers) after h = loss_lives true place ran after (winner_over (outcomes.Ordered losers) h)
-end_lives true place ran (outcomes.Served losers) after h = loss_lives true place ran after (winner_over (outcomes.Served losers) h)
+end_lives true place ran (outcomes.Ordered losers freed) after h = loss_lives true place ran after (winner_over (outcomes.Ordered losers freed) h)
+end_lives true place ran (outcomes.Served losers freed) after h = loss_lives true place ran after (winner_over (outcomes.Served losers freed) h)
 end_lives true place ran (outcomes.Delivered losers) after h = loss_lives true place ran after (winner_over (outcomes.Delivered losers) h)
-end_lives false place ran (outcomes.Ordered losers) after h = loss_lives false place ran after (winner_over (outcomes.Ordered losers) h)
-end_lives false place ran (outcomes.Served losers) after h = loss_lives false place ran after (winner_over (outcomes.Served losers) h)
+end_lives false place ran (outcomes.Ordered losers freed) after h = loss_lives false place ran after (winner_over (outcomes.Ordered losers freed) h)
+end_lives false place ran (outcomes.Served losers freed) after h = loss_lives false place ran after (winner_over (outcomes.Served losers freed) h)
 end_lives false place ran (outcomes.Delivered losers) after h = loss_lives false place ran after (winner_over (outcomes.Delivered losers) h)
 end_lives true place ran _ after h = refl
 end_lives false place ran _ after h = refl

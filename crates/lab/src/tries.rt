@@ -133,8 +133,8 @@ impl Tries {
                 let at = place;
                 self.end(event.hart, Ended::RolledBack { at, ran, cause });
             }
-            Outcome::Ordered { losers }
-            | Outcome::Served { losers }
+            Outcome::Ordered { losers, .. }
+            | Outcome::Served { losers, .. }
             | Outcome::Delivered { losers } => {
                 self.lose(machine, place, ran, losers);
             }
@@ -143,7 +143,9 @@ impl Tries {
             | Outcome::Missed { .. }
             | Outcome::Ran
             | Outcome::Buffered
-            | Outcome::Blocked { .. } => (),
+            | Outcome::Blocked { .. }
+            | Outcome::Armed
+            | Outcome::LetGo { .. } => (),
         }
         Ok(())
     }

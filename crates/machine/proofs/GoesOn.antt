@@ -3,7 +3,7 @@ use Rattle.std.proofs.Common.{◌≡◌, ◌∙◌, ℕ, ◌+◌, ◌≤◌, ◌
 use Rattle.std.proofs.lemmas.List.Elements.{All-push}
 use Rattle.std.proofs.lemmas.List.{length-map, map-append}
 use Rattle.std.proofs.lemmas.List.FromFn.{length-map-range_with_len}
-use Rattle.std.specs.Prelude.{map}
+use Rattle.std.specs.Prelude.{All, map}
 use Rattle.chronicle.specs.Chronicle.{Chronicle, events}
 use Rattle.chronicle.specs.Serial.{serial}
 use Rattle.el_base.specs.Config.{IsInRange}
@@ -22,7 +22,9 @@ use Rattle.engine.specs.Reached as engine
 use Rattle.engine.specs.Reached.{IsReached}
 use Rattle.machine.proofs.Continued.{state_of_continued}
 use Rattle.machine.proofs.MainLines.{first_lines, more_lines}
+use Rattle.machine.proofs.Recording.{outcomes_can_be_recorded}
 use Rattle.machine.specs.MainMemory.{main_lines}
+use Rattle.machine.specs.Recording.{CanBeRecorded}
 use Rattle.machine.specs.Stands.{IsGiven, Stands}
 use Rattle.machine.specs.Story.{IsOneRun, Story, committed, continued, left_of, memory_of, state_of}
 use Rattle.rv_flat.specs.FlatState.{FlatState, first_view, span_of, start}
@@ -147,6 +149,14 @@ is_one_run story parts room stands =
 -- the same of the story that a machine is seen as
 pub one_run : (story now : Story) (parts : Parts) (room : ℕ) → Stands story parts room → story ≡ now → IsOneRun now
 one_run story now parts room stands same = subst IsOneRun same (is_one_run story parts room stands)
+
+-- and each outcome can be recorded
+pub recordable : (story now : Story) (parts : Parts) (room : ℕ) → Stands story parts room → story ≡ now →
+    All (CanBeRecorded now.config.harts now.config.long) (map (λ entry. entry.outcome) now.entries)
+recordable story now parts room stands same =
+    let given = subst (λ s. IsGiven s room) same stands.given in
+    rw (one_run story now parts room stands same).outcomes
+    (outcomes_can_be_recorded now.program now.config (events now.entries) given.one_hart_each given.in_range)
 
 pub now_lines : (story now : Story) (parts : Parts) (room : ℕ) → Stands story parts room → story ≡ now →
     parts.bus.copies.lines ≡ main_lines now

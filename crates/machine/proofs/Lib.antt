@@ -6,3 +6,4 @@ mod InSections
 mod There
 mod Readiness
 mod MainLines
+pub mod Recording

@@ -4,6 +4,7 @@ ghost use Rattle.std.specs.Prelude.{◌≡◌, ◌++◌, List};
 ghost use Rattle.el_base.specs.declared.config.Config.{Config};
 ghost use Rattle.elf_image.specs.Program.{Program};
 ghost use Rattle.machine.specs.Opening.{opening_of};
+ghost use Rattle.machine.specs.Recording.{OutcomesCanBeRecorded};
 ghost use Rattle.el_base.specs.declared.events.Event.{Event};
 ghost use Rattle.el_model.specs.Next.{state_after};
 ghost use Rattle.machine.specs.Story.{Story, continued, state_of};
@@ -27,4 +28,12 @@ pub fn stories_go_on_event_by_event()
 pub fn openings_tell_beginnings()
     ensures { (program other : Program) (config settings : Config) →
         opening_of program config ≡ opening_of other settings → (program ≡ other) × (config ≡ settings) }
+{}
+
+/// From a program with as many harts as its configuration has, where that is in range, whatever the events: each outcome
+/// can be recorded in a trace. A commit has 1 to `long` instructions, each hart that lost, that won or that is in the
+/// way is one of the machine's, and nobody is let go.
+#[tactic(auto, using(crate::proofs::Recording::outcomes_can_be_recorded))]
+pub fn outcomes_can_be_recorded()
+    ensures { OutcomesCanBeRecorded }
 {}

@@ -17,7 +17,8 @@ mod ready;
 
 pub use fault::MakeFault;
 pub use laws::{
-    continued_story_reaches_the_state_after, openings_tell_beginnings, stories_go_on_event_by_event,
+    continued_story_reaches_the_state_after, openings_tell_beginnings, outcomes_can_be_recorded,
+    stories_go_on_event_by_event,
 };
 pub use machine::Machine;
 pub use snoop::Asked;

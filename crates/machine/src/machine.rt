@@ -16,6 +16,7 @@ ghost use Rattle.std.specs.Prelude.{
   None,
   Err,
   length,
+  map,
   false,
   option_map,
 };
@@ -41,6 +42,7 @@ ghost use Rattle.machine.specs.Promises.{
   StampsStay,
   change,
 };
+ghost use Rattle.machine.specs.Recording.{CanBeRecorded};
 ghost use Rattle.machine.specs.Story.{IsOneRun, committed, continued, history_of, left_of, memory_of, state_of};
 ghost use Rattle.reg_mark.specs.Marks.{committed_of};
 ghost use Rattle.rv_alu.specs.Footprint.{IsInPlace};
@@ -171,10 +173,12 @@ impl Machine {
         self.history.spare()
     }
 
-    /// The events that were made, with their outcomes.
+    /// The events that were made, with their outcomes, each of which can be recorded in a trace.
     pub fn history(&self) -> &History
         ensures exact { result.now ≡ history_of self.now }
         ensures one_run { IsOneRun self.now }
+        ensures recordable { All (CanBeRecorded self.now.config.harts self.now.config.long)
+            (map (λ entry. entry.outcome) self.now.entries) }
         ensures within { length self.now.entries ≤ self.now.config.steps }
         ensures harts_exist { All (λ event. event.hart.number < self.now.config.harts) (events self.now.entries) }
     {

@@ -1,8 +1,8 @@
 use super::*;
 use cache_sets::Letter;
 use el_base::{
-    Chronicled, Config, ConfigFault, Entry, Event, HartId, Kind, LineAddr, Losers, Mode, Need,
-    Outcome, Why, line_of,
+    Chronicled, Config, ConfigFault, Entry, Event, Freed, HartId, Kind, LineAddr, Losers, Mode,
+    Need, Outcome, Why, line_of,
 };
 use elf_image::{Image, load};
 use rv_alu::HartStatus;
@@ -118,12 +118,14 @@ fn printed() -> LineAddr {
 fn ordered() -> Outcome {
     Outcome::Ordered {
         losers: Losers::none(),
+        freed: Freed::none(),
     }
 }
 
 fn served() -> Outcome {
     Outcome::Served {
         losers: Losers::none(),
+        freed: Freed::none(),
     }
 }
 

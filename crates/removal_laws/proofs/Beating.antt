@@ -1,17 +1,16 @@
 -- the losers of an event lost to harts that wait with less stamps
-use Rattle.std.proofs.Common.{◌≡◌, ◌≢◌, ◌∙◌, ◌<◌, ◌≤◌, ◌==◌, ◌&&◌, ℕ, zero, suc, Bool, true, false, List, [], ◌∷◌, length, Option, None, Some, is_some, cond, ltb, min, refl, ap, sym, inl, inr, ◌⊎◌, arith, subst, if◌then◌else◌}
-use Rattle.std.proofs.lemmas.Bool.{ltb-true}
+use Rattle.std.proofs.Common.{◌≡◌, ◌≢◌, ◌∙◌, ◌<◌, ◌≤◌, ◌==◌, ◌&&◌, ℕ, Bool, true, false, List, [], ◌∷◌, length, Option, None, Some, is_some, refl, ap, sym, inl, inr, ◌⊎◌, subst, if◌then◌else◌}
 use Rattle.bus_order.specs.Order.{Request, request_of}
 use Rattle.bus_order.proofs.LookUps.{number_of_test, other_test, own_test}
 use Rattle.bus_order.proofs.Queues.{hart_of_request_of}
 use Rattle.cache_sets.specs.Cache.{has_bit}
 use Rattle.defer_list.specs.HartSet.{has}
-use Rattle.el_base.specs.Losers.{beaten_by, losers_of, winner_code}
+use Rattle.el_base.specs.Losers.{beaten_by, losers_of}
 use Rattle.el_base.specs.declared.events.Event.{Event}
 use Rattle.el_base.specs.declared.events.Kind.{Kind}
 use Rattle.el_base.specs.declared.events.Kind.TheVariants as kinds
 use Rattle.el_base.specs.declared.outcomes.Why.TheVariants.{Behind}
-use Rattle.el_base.proofs.MadeLosers.{beaten_by-beyond}
+use Rattle.el_base.proofs.MadeLosers.{named_by_map}
 use Rattle.el_model.specs.Conflicts.{stamp_in, told_winner}
 use Rattle.el_model.specs.Deed.{Begins, Buffers, Commits, Deed, Misses, Rests, RollsBack, Runs, Waits, outcome_of}
 use Rattle.el_model.specs.Deliver.{after_probe, deliver_next, deliver_turn, delivered, losers_by, loses_to_origin, nobody, one_lost, probe_losers, taken}
@@ -43,32 +42,8 @@ use Rattle.section_laws.proofs.Numbered.{raised_exists}
 use Rattle.section_laws.proofs.Waiting.{free_of_order}
 use Rattle.stamp.specs.Stamps.{Stamp, is_before}
 
--- a winner that is named is the one that the map gives
-decided : (winner : Option ℕ) (w : ℕ) → cond (ltb (winner_code winner) 8) (Some (winner_code winner)) None ≡ Some w → winner ≡ Some w
-decided None w is = absurd (cc)
-decided (Some winner) w is = by (ltb (min winner 8) 8) refl is
-  where
-    by : (below : Bool) → ltb (min winner 8) 8 ≡ below → cond below (Some (min winner 8)) None ≡ Some w → Some winner ≡ Some w
-    by true below is =
-        let small = ltb-true (min winner 8) 8 below in
-        let same : min winner 8 ≡ winner = omega (arith, small) in
-        ap Some (sym same) ∙ is
-    by false past is = absurd (cc)
-
-named : (winner : ℕ → Option ℕ) (h w : ℕ) → beaten_by (losers_of winner) h ≡ Some w → winner h ≡ Some w
-named winner zero w is = decided (winner 0) w is
-named winner (suc zero) w is = decided (winner 1) w is
-named winner (suc (suc zero)) w is = decided (winner 2) w is
-named winner (suc (suc (suc zero))) w is = decided (winner 3) w is
-named winner (suc (suc (suc (suc zero)))) w is = decided (winner 4) w is
-named winner (suc (suc (suc (suc (suc zero))))) w is = decided (winner 5) w is
-named winner (suc (suc (suc (suc (suc (suc zero)))))) w is = decided (winner 6) w is
-named winner (suc (suc (suc (suc (suc (suc (suc zero))))))) w is = decided (winner 7) w is
-named winner (suc (suc (suc (suc (suc (suc (suc (suc h)))))))) w is =
-    some_none (sym is ∙ beaten_by-beyond (losers_of winner) (suc (suc (suc (suc (suc (suc (suc (suc h)))))))) (omega arith))
-
 nobody_named : {X : Type 0} (h w : ℕ) → beaten_by (losers_of (λ k. None)) h ≡ Some w → X
-nobody_named h w is = some_none (sym (named (λ k. None) h w is))
+nobody_named h w is = some_none (sym (named_by_map (λ k. None) h w is))
 
 -- the request by which a winner won
 record WonOn (state : ModelState) (line winner : ℕ) (attempt : Option Stamp) : Type 0 where
@@ -115,7 +90,7 @@ face_beats : (state : ModelState) (head : Request) (g winner : ℕ) → Facing s
     LosesToEarlier (faced state head) g winner
 unfolding face_losers
 face_beats state head g winner facing is =
-    by (fate_at state head g) refl (fate_is state head g (hart_of state g) facing.mode) (named (λ h. winner_in (fate_at state head h)) g winner is)
+    by (fate_at state head g) refl (fate_is state head g (hart_of state g) facing.mode) (named_by_map (λ h. winner_in (fate_at state head h)) g winner is)
   where
     lost_to : fate_at state head g ≡ LosesTo winner → Lost state head g (hart_of state g) winner → LosesToEarlier (faced state head) g winner
     lost_to fate lost =
@@ -206,7 +181,7 @@ serve_beats state h (Some request) is grounds standing g winner lost =
 
 -- a message is delivered
 one_named : (h origin g w : ℕ) → beaten_by (one_lost h origin) g ≡ Some w → (g ≡ h) × (w ≡ origin)
-one_named h origin g w is = by (g == h) refl (named (λ k. if k == h then Some origin else None) g w is)
+one_named h origin g w is = by (g == h) refl (named_by_map (λ k. if k == h then Some origin else None) g w is)
   where
     by : (own : Bool) → (g == h) ≡ own → (if own then Some origin else None) ≡ Some w → (g ≡ h) × (w ≡ origin)
     by true same is = (number_of_test g h same, sym (some_same is))

@@ -1,5 +1,5 @@
 -- the laws of lock removal
-use Rattle.std.specs.Prelude.{ℕ, ◌≡◌, ◌≢◌, ◌<◌, ◌≤◌, ◌+◌, ◌==◌, ◌&&◌, ◌||◌, ◌⊎◌, Bool, true, false, List, [], ◌∷◌, Option, None, Some}
+use Rattle.std.specs.Prelude.{ℕ, ◌≡◌, ◌≢◌, ◌<◌, ◌≤◌, ◌==◌, ◌&&◌, ◌||◌, ◌⊎◌, Bool, true, false, List, [], ◌∷◌, Option, None, Some}
 use Rattle.bus_order.specs.Order.{Request}
 use Rattle.el_base.specs.Config.{IsInRange}
 use Rattle.el_base.specs.HartId.{hart_id}
@@ -141,7 +141,7 @@ LaterThanDeferredHeads =
 
 -- an outcome of a served request
 abbrev pub is_served : Outcome → Bool
-is_served (Served losers) = true
+is_served (Served losers freed) = true
 is_served _ = false
 
 -- a hart without a live section that holds the line is in the way

@@ -112,8 +112,8 @@ step_by state h g deed many does (inr apart) = rw (other_test h g (λ same. apar
 no_end : (own : Bool) (outcome : Outcome) (g : ℕ) (was now : Bool) → IsOfBus outcome →
     one was ≡ one (is_some (winner_over outcome g)) + one now → Balanced own outcome g was now
 no_end true outcomes.Idle g was now bus same = omega (arith, same)
-no_end true (outcomes.Ordered losers) g was now bus same = omega (arith, same)
-no_end true (outcomes.Served losers) g was now bus same = omega (arith, same)
+no_end true (outcomes.Ordered losers freed) g was now bus same = omega (arith, same)
+no_end true (outcomes.Served losers freed) g was now bus same = omega (arith, same)
 no_end true (outcomes.Blocked why by) g was now bus same = omega (arith, same)
 no_end true (outcomes.Delivered losers) g was now bus same = omega (arith, same)
 no_end true outcomes.Stalled g was now bus same = elim bus [ ]
@@ -123,6 +123,8 @@ no_end true outcomes.Began g was now bus same = elim bus [ ]
 no_end true outcomes.Buffered g was now bus same = elim bus [ ]
 no_end true (outcomes.Committed count) g was now bus same = elim bus [ ]
 no_end true (outcomes.RolledBack cause) g was now bus same = elim bus [ ]
+no_end true outcomes.Armed g was now bus same = elim bus [ ]
+no_end true (outcomes.LetGo count) g was now bus same = elim bus [ ]
 no_end false outcome g was now bus same = omega (arith, same)
 
 lost_section : (mode : Mode) (old : Standing) → (lost_in mode old).section ≡ None

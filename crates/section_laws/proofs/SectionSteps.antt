@@ -152,8 +152,8 @@ untrusted mode hart pc was trusted =
 -- how an event of the bus may come out
 abbrev pub IsOfBus : Outcome → Type 0
 IsOfBus outcomes.Idle = Unit {0}
-IsOfBus (outcomes.Ordered losers) = Unit {0}
-IsOfBus (outcomes.Served losers) = Unit {0}
+IsOfBus (outcomes.Ordered losers freed) = Unit {0}
+IsOfBus (outcomes.Served losers freed) = Unit {0}
 IsOfBus (outcomes.Blocked why by) = Unit {0}
 IsOfBus (outcomes.Delivered losers) = Unit {0}
 IsOfBus _ = ⊥

@@ -3,7 +3,7 @@ use Rattle.std.proofs.Common.{◌≡◌, ◌≢◌, ◌≤◌, ◌+◌, ℕ, zer
 use Rattle.std.specs.Prelude.{slice_index_or, slice_set}
 use Rattle.std.proofs.lemmas.List.{length-append, length-replicate}
 use Rattle.bus_order.specs.Order.{Request}
-use Rattle.chronicle.specs.Serial.{effects, serial}
+use Rattle.chronicle.specs.Serial.{serial, taking_effect}
 use Rattle.el_base.specs.declared.config.Config.{Config}
 use Rattle.el_base.specs.declared.events.Event.{Event}
 use Rattle.el_base.specs.declared.events.Kind.{Kind}
@@ -52,7 +52,7 @@ candidate_section pc had_watch None hart = refl
 candidate_section pc had_watch (Some swap) hart = refl
 
 deed_runs : (state : ModelState) (h : ℕ) (deed : Deed) → DoesWhere state h deed →
-    run_in (hart_after state h deed (hart_of state h)).section + effects (outcome_of deed) ≤ run_in (section_of state h) + 1
+    run_in (hart_after state h deed (hart_of state h)).section + length (taking_effect h (outcome_of deed)) ≤ run_in (section_of state h) + 1
 deed_runs state h Rests does = omega arith
 deed_runs state h Waits does = omega arith
 deed_runs state h (Misses line need) does = omega arith
@@ -64,13 +64,17 @@ deed_runs state h (Runs touch) does =
 deed_runs state h (Begins swap) does = omega arith
 deed_runs state h (Buffers section touch) does =
     let live = ap run_in does.goes.goes_on.is_short.inside.live in omega (arith, live)
-deed_runs state h (Commits section) does = let live = ap run_in does.goes_on.is_short.inside.live in omega (arith, live)
+deed_runs state h (Commits section) does =
+    let live = ap run_in does.goes_on.is_short.inside.live in
+    let own = length-replicate (section.count + 1) h in
+    omega (arith, live, own)
 deed_runs state h (RollsBack section cause) does = omega arith
 
 abbrev Counts : ModelState → ModelState → ℕ → Type 0
 Counts state new ran = weight new.harts + ran ≤ weight state.harts + 1
 
-step_counts : (state : ModelState) (h : ℕ) → Counts state (step_turn state h).state (effects (step_turn state h).outcome)
+step_counts : (state : ModelState) (h : ℕ) →
+    Counts state (step_turn state h).state (length (taking_effect h (step_turn state h).outcome))
 step_counts state h =
     let step = step_deed state h in
     let runs = deed_runs state h step.deed step.where_it in
@@ -103,22 +107,23 @@ runs_no_more old = record {
 }
 
 bus_counts : (state : ModelState) (h : ℕ) (kind : Kind) → kind ≢ kinds.Step → Calm state (kind_turn state h kind) →
-    Counts state (kind_turn state h kind).state (effects (kind_turn state h kind).outcome)
+    Counts state (kind_turn state h kind).state (length (taking_effect h (kind_turn state h kind).outcome))
 bus_counts state h kind bus calm =
     let less =
     weight_less state.harts (kind_turn state h kind).state.harts (new_hart 0) calm.keeps.count
     (bus_keeps (runs_no_more state) state h kind bus (λ g. omega arith)) in
-    let none = calm.no_effect in
+    let none = ap length (calm.no_effect h) in
     omega (arith, less, none)
 
 kind_counts : (state : ModelState) (h : ℕ) (kind : Kind) →
-    Counts state (kind_turn state h kind).state (effects (kind_turn state h kind).outcome)
+    Counts state (kind_turn state h kind).state (length (taking_effect h (kind_turn state h kind).outcome))
 kind_counts state h kinds.Step = step_counts state h
 kind_counts state h kinds.Order = bus_counts state h kinds.Order (λ same. absurd (cc)) (order_calm state h)
 kind_counts state h kinds.Serve = bus_counts state h kinds.Serve (λ same. absurd (cc)) (serve_calm state h)
 kind_counts state h kinds.Deliver = bus_counts state h kinds.Deliver (λ same. absurd (cc)) (deliver_calm state h)
 
-next_counts : (state : ModelState) (event : Event) → Counts state (next state event).state (effects (next state event).outcome)
+next_counts : (state : ModelState) (event : Event) →
+    Counts state (next state event).state (length (taking_effect event.hart.number (next state event).outcome))
 unfolding next
 next_counts state event = kind_counts state event.hart.number event.kind
 
@@ -128,10 +133,9 @@ all_count state [] = omega arith
 all_count state (event ∷ events) =
     let rest = all_count (next state event).state events in
     let now = next_counts state event in
-    let ran = replicate (effects (next state event).outcome) event.hart.number in
+    let ran = taking_effect event.hart.number (next state event).outcome in
     let sum = length-append ran (serial (entries_from (next state event).state events)) in
-    let own = length-replicate (effects (next state event).outcome) event.hart.number in
-    omega (arith, rest, now, sum, own)
+    omega (arith, rest, now, sum)
 
 new_weight : (count sets : ℕ) → weight (replicate count (new_hart sets)) ≡ 0
 new_weight zero sets = refl

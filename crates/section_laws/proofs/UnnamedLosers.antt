@@ -1,12 +1,12 @@
 -- a hart without a section is named among no losers
-use Rattle.std.proofs.Common.{◌≡◌, ◌≢◌, ◌∙◌, ℕ, zero, suc, Bool, true, false, ◌&&◌, not, ◌==◌, List, [], ◌∷◌, Option, None, Some, is_some, cond, ltb, refl, ap, sym, arith, if◌then◌else◌}
+use Rattle.std.proofs.Common.{◌≡◌, ◌≢◌, ◌∙◌, ℕ, Bool, true, false, ◌&&◌, not, ◌==◌, List, [], ◌∷◌, Option, None, Some, is_some, refl, ap, sym, arith, if◌then◌else◌}
 use Rattle.std.proofs.lemmas.Bool.Decides.{nat_tests}
 use Rattle.bus_order.specs.Order.{Request}
 use Rattle.defer_list.specs.HartSet.{has}
-use Rattle.el_base.specs.Losers.{beaten_by, losers_of, winner_code}
+use Rattle.el_base.specs.Losers.{beaten_by}
 use Rattle.el_base.specs.declared.events.Kind.{Kind}
 use Rattle.el_base.specs.declared.events.Kind.TheVariants as kinds
-use Rattle.el_base.proofs.MadeLosers.{beaten_by-beyond}
+use Rattle.el_base.proofs.MadeLosers.{unnamed_by_map}
 use Rattle.el_model.specs.Conflicts.{conflicts_with, meets_bit, wins_over}
 use Rattle.el_model.specs.Deliver.{deliver_next, deliver_turn, losers_by, loses_to_origin, nobody, one_lost, probe_losers, taken}
 use Rattle.el_model.specs.Face.{LosesTo, Unmet, deferring_fate, face_losers, face_losers_if, fate_at, winner_in}
@@ -22,23 +22,6 @@ use Rattle.section_laws.proofs.EachHart.{each_with}
 use Rattle.section_laws.proofs.EachKept.{BusKept}
 use Rattle.section_laws.proofs.Moves.{before_keeps, served_keeps}
 use Rattle.stamp.specs.Stamps.{is_before}
-
--- losers that are made of a map name no winner for a hart for which the map gives none
-undecided : (winner : Option ℕ) → winner ≡ None → cond (ltb (winner_code winner) 8) (Some (winner_code winner)) None ≡ None
-undecided None none = refl
-undecided (Some winner) none = absurd (cc)
-
-unnamed : (winner : ℕ → Option ℕ) (h : ℕ) → winner h ≡ None → beaten_by (losers_of winner) h ≡ None
-unnamed winner zero none = undecided (winner 0) none
-unnamed winner (suc zero) none = undecided (winner 1) none
-unnamed winner (suc (suc zero)) none = undecided (winner 2) none
-unnamed winner (suc (suc (suc zero))) none = undecided (winner 3) none
-unnamed winner (suc (suc (suc (suc zero)))) none = undecided (winner 4) none
-unnamed winner (suc (suc (suc (suc (suc zero))))) none = undecided (winner 5) none
-unnamed winner (suc (suc (suc (suc (suc (suc zero)))))) none = undecided (winner 6) none
-unnamed winner (suc (suc (suc (suc (suc (suc (suc zero))))))) none = undecided (winner 7) none
-unnamed winner (suc (suc (suc (suc (suc (suc (suc (suc h)))))))) none =
-    beaten_by-beyond (losers_of winner) (suc (suc (suc (suc (suc (suc (suc (suc h)))))))) (omega arith)
 
 -- a hart that has no section yet still has none
 abbrev pub StaysOutside : ModelState → ℕ → Hart → Type 0
@@ -79,7 +62,7 @@ unmet state head g none =
 
 face_unnamed : (state : ModelState) (head : Request) (g : ℕ) → section_of state g ≡ None → beaten_by (face_losers state head) g ≡ None
 unfolding face_losers
-face_unnamed state head g none = unnamed (λ h. winner_in (fate_at state head h)) g (unmet state head g none)
+face_unnamed state head g none = unnamed_by_map (λ h. winner_in (fate_at state head h)) g (unmet state head g none)
 
 before_outside : (state : ModelState) (request : Request) (place : Place) (g : ℕ) → section_of state g ≡ None →
     section_of (before_face state request place) g ≡ None
@@ -92,7 +75,7 @@ place_unnamed : (state : ModelState) (request : Request) (place : Place) (g : �
     beaten_by (losers_at state request place) g ≡ None
 place_unnamed state request InFront g none =
     face_unnamed (before_face state request InFront) request g (before_outside state request InFront g none)
-place_unnamed state request Behind g none = unnamed (λ h. None) g refl
+place_unnamed state request Behind g none = unnamed_by_map (λ h. None) g refl
 place_unnamed state request Alone g none =
     face_unnamed (before_face state request Alone) request g (before_outside state request Alone g none)
 
@@ -102,7 +85,7 @@ raised_unnamed state None g none = refl
 raised_unnamed state (Some request) g none = place_unnamed state request (place_for state request) g none
 
 head_unnamed : (state : ModelState) (head : Option Request) (g : ℕ) → section_of state g ≡ None → beaten_by (face_losers_if state head) g ≡ None
-head_unnamed state None g none = unnamed (λ h. None) g refl
+head_unnamed state None g none = unnamed_by_map (λ h. None) g refl
 head_unnamed state (Some head) g none = face_unnamed state head g none
 
 served_outside : (state : ModelState) (request : Request) (g : ℕ) → section_of state g ≡ None → section_of (served state request) g ≡ None
@@ -138,7 +121,7 @@ no_loss state h (Some request) none =
 one_unnamed : (state : ModelState) (h origin : ℕ) (request : Option Request) (g : ℕ) (loses : Bool) → loses_to_origin state h request ≡ loses →
     section_of state g ≡ None → (own : Bool) → (g == h) ≡ own →
     beaten_by (if loses then one_lost h origin else nobody) g ≡ None
-one_unnamed state h origin request g false loses none own is = unnamed (λ k. None) g refl
+one_unnamed state h origin request g false loses none own is = unnamed_by_map (λ k. None) g refl
 one_unnamed state h origin request g true loses none true is =
     let same : g ≡ h = grind (arith, nat_tests, is) in
     differs (sym loses ∙ no_loss state h request (ap (section_of state) (sym same) ∙ none))
@@ -146,14 +129,14 @@ one_unnamed state h origin request g true loses none true is =
     differs : {X : Type 0} → true ≡ false → X
     differs wrong = absurd (cc)
 one_unnamed state h origin request g true loses none false is =
-    unnamed (λ k. if k == h then Some origin else None) g (ap (λ test. if test then Some origin else None) is)
+    unnamed_by_map (λ k. if k == h then Some origin else None) g (ap (λ test. if test then Some origin else None) is)
 
 message_unnamed : (state : ModelState) (h : ℕ) (message : Message) (g : ℕ) → section_of state g ≡ None →
     beaten_by (losers_by state h message) g ≡ None
-message_unnamed state h (Marker sender) g none = unnamed (λ k. None) g refl
+message_unnamed state h (Marker sender) g none = unnamed_by_map (λ k. None) g refl
 message_unnamed state h (Probe origin) g none =
     by_test (λ losers. beaten_by losers g ≡ None) (has (hart_of state h).told origin) nobody
-    (probe_losers state h origin (ordered_of state origin)) (λ known. unnamed (λ k. None) g refl)
+    (probe_losers state h origin (ordered_of state origin)) (λ known. unnamed_by_map (λ k. None) g refl)
     (λ new. one_unnamed state h origin (ordered_of state origin) g _ refl none (g == h) refl)
 
 mail_unnamed : (state : ModelState) (h : ℕ) (mail : List Message) (g : ℕ) → section_of state g ≡ None →

@@ -13,5 +13,5 @@ lines_for copies h (Some request) = lines_after h request.line copies
 
 -- by the outcome: where nothing was served, each line is as it was
 abbrev pub lines_served : Kept → ℕ → Outcome → List (List ℕ)
-lines_served bus h (Served losers) = lines_for bus.copies h (request_of bus.order h)
+lines_served bus h (Served losers freed) = lines_for bus.copies h (request_of bus.order h)
 lines_served bus h _ = bus.copies.lines

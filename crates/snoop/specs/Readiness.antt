@@ -13,7 +13,7 @@ NothingBlocks state (Some request) = obstacle_to state request ≡ Free
 
 -- whether an outcome tells that a request was served
 abbrev pub is_served : Outcome → Bool
-is_served (Served losers) = true
+is_served (Served losers freed) = true
 is_served _ = false
 
 -- whether an outcome tells that a message was taken

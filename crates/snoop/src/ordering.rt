@@ -26,7 +26,7 @@ use crate::agents::{post, unraise};
 use crate::bus::Bus;
 use crate::meeting::meets_section;
 use bus_order::Request;
-use el_base::{HartId, Losers, Mode, Need, Outcome};
+use el_base::{Freed, HartId, Losers, Mode, Need, Outcome};
 use mail::Message;
 use policy::Policy;
 
@@ -190,6 +190,7 @@ impl Bus {
         match self.agent(hart).raised() {
             Some(request) => Outcome::Ordered {
                 losers: self.place(request, policy),
+                freed: Freed::none(),
             },
             None => Outcome::Idle,
         }

@@ -21,7 +21,7 @@ use crate::bus::Bus;
 use crate::obstacle::Obstacle;
 use bus_order::Request;
 use coherence::Hierarchy;
-use el_base::{HartId, LineAddr, Losers, Outcome};
+use el_base::{Freed, HartId, LineAddr, Losers, Outcome};
 use policy::Policy;
 
 impl Bus {
@@ -67,6 +67,7 @@ impl Bus {
         match self.obstacle_to(request) {
             Obstacle::Free => Outcome::Served {
                 losers: self.serve_free(request, policy),
+                freed: Freed::none(),
             },
             Obstacle::Blocks { why, by } => Outcome::Blocked { why, by },
         }

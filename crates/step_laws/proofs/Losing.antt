@@ -1,13 +1,10 @@
 -- only live sections are lost, and a section ends by its own hart's commit or rollback or by a loss
-use Rattle.std.proofs.Common.{◌≡◌, ◌≢◌, ◌∙◌, ◌<◌, ◌+◌, ◌==◌, ℕ, Bool, true, false, ◌&&◌, Option, None, Some, is_some, refl}
-use Rattle.std.proofs.Common.{ap, sym, subst, inl, inr, ◌⊎◌, if◌then◌else◌}
-use Rattle.std.specs.Prelude.{nat_lt, slice_index}
-use Rattle.std.proofs.lemmas.Bool.{ltb-true}
-use Rattle.el_base.specs.Losers.{beaten_by}
+use Rattle.std.proofs.Common.{◌≡◌, ◌≢◌, ◌∙◌, ◌<◌, ◌+◌, ◌==◌, ℕ, true, false, Option, None, Some, is_some, refl}
+use Rattle.std.proofs.Common.{ap, sym, subst, inl, inr, ◌⊎◌}
+use Rattle.el_base.proofs.MadeLosers.{winner_below}
 use Rattle.el_base.specs.declared.events.Event.{Event}
 use Rattle.el_base.specs.declared.events.Kind.{Kind}
 use Rattle.el_base.specs.declared.events.Kind.TheVariants as kinds
-use Rattle.el_base.specs.declared.losers.Losers.{Losers}
 use Rattle.el_base.specs.declared.outcomes.Outcome.{Outcome}
 use Rattle.el_base.specs.declared.outcomes.Outcome.TheVariants as outcomes
 use Rattle.el_base.specs.declared.config.Mode.{Mode}
@@ -35,15 +32,6 @@ use Rattle.step_laws.specs.Losing.{EndsItself, IsBeaten, LosesItsSection, OnlyLi
 none_some : {A X : Type 0} {x : A} → None ≡ Some x → X
 none_some wrong = absurd (cc)
 
--- a winner is one of the harts that a machine may have
-found_small : (here below : Bool) (n winner : ℕ) → nat_lt n 8 ≡ below → (if here && below then Some n else None) ≡ Some winner → winner < 8
-found_small true true n winner is found = let e : n ≡ winner = cc in subst (λ k. k < 8) e (ltb-true n 8 is)
-found_small true false n winner is found = absurd (cc)
-found_small false below n winner is found = absurd (cc)
-
-beaten_small : (losers : Losers) (h winner : ℕ) → beaten_by losers h ≡ Some winner → winner < 8
-beaten_small losers h winner found = found_small (nat_lt h 8) _ (slice_index losers.winners h) winner refl found
-
 winner_small : (outcome : Outcome) (h winner : ℕ) → winner_over outcome h ≡ Some winner → winner < 8
 winner_small outcomes.Idle h winner names = none_some names
 winner_small outcomes.Stalled h winner names = none_some names
@@ -53,10 +41,12 @@ winner_small outcomes.Began h winner names = none_some names
 winner_small outcomes.Buffered h winner names = none_some names
 winner_small (outcomes.Committed count) h winner names = none_some names
 winner_small (outcomes.RolledBack cause) h winner names = none_some names
-winner_small (outcomes.Ordered losers) h winner names = beaten_small losers h winner names
-winner_small (outcomes.Served losers) h winner names = beaten_small losers h winner names
+winner_small (outcomes.Ordered losers freed) h winner names = winner_below losers h winner names
+winner_small (outcomes.Served losers freed) h winner names = winner_below losers h winner names
 winner_small (outcomes.Blocked why by) h winner names = none_some names
-winner_small (outcomes.Delivered losers) h winner names = beaten_small losers h winner names
+winner_small (outcomes.Delivered losers) h winner names = winner_below losers h winner names
+winner_small outcomes.Armed h winner names = none_some names
+winner_small (outcomes.LetGo count) h winner names = none_some names
 
 -- a step names no losers
 deed_unnamed : (deed : Deed) (g : ℕ) → winner_over (outcome_of deed) g ≡ None

@@ -16,8 +16,8 @@ pub fn told(alloc: Global, outcome: Outcome) -> Result<String, AllocError> {
             let number = by.number;
             format!(in alloc; "[\"Blocked\",\"{why:?}\",{number}]")
         }
-        Outcome::Ordered { losers } => with_losers(alloc, "Ordered", losers),
-        Outcome::Served { losers } => with_losers(alloc, "Served", losers),
+        Outcome::Ordered { losers, .. } => with_losers(alloc, "Ordered", losers),
+        Outcome::Served { losers, .. } => with_losers(alloc, "Served", losers),
         Outcome::Delivered { losers } => with_losers(alloc, "Delivered", losers),
         other => format!(in alloc; "[\"{other:?}\"]"),
     }

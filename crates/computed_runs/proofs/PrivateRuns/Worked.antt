@@ -9,9 +9,9 @@ use Rattle.el_base.specs.declared.events.Event.{Event}
 use Rattle.el_base.specs.declared.events.Kind.TheVariants.{Step, Order, Serve}
 use Rattle.el_base.specs.declared.outcomes.Need.TheVariants.{Read, Write}
 use Rattle.el_base.specs.declared.outcomes.Outcome.{Outcome}
-use Rattle.el_base.specs.declared.outcomes.Outcome.TheVariants.{Missed, Began, Buffered, Committed, Ordered, Served}
+use Rattle.el_base.specs.declared.outcomes.Outcome.TheVariants.{Missed, Began, Buffered, Committed}
 use Rattle.computed_runs.proofs.Computing.{computing}
-use Rattle.computed_runs.proofs.Given.{event, lost, patched, section}
+use Rattle.computed_runs.proofs.Given.{event, ordered_with, patched, section, served_with}
 use Rattle.computed_runs.proofs.Rows.Given.{machine_of, settings, store_byte, store_word, swap, usual}
 use Rattle.el_model.specs.Next.{outcomes_from, state_after}
 use Rattle.el_model.specs.State.{ModelState, cache_of, section_of}
@@ -42,9 +42,9 @@ commit = event Step 1
 
 abbrev expected : List Outcome
 expected =
-    Missed (line_addr 1024) Read ∷ Ordered (lost ([])) ∷ Served (lost ([])) ∷ Began ∷ Missed (line_addr 1024) Read ∷ Ordered (lost ([])) ∷
-    Served (lost ([])) ∷ Began ∷ Missed (line_addr 1025) Write ∷ Ordered (lost ([])) ∷ Served (lost ([])) ∷ Buffered ∷
-    Missed (line_addr 1026) Write ∷ Ordered (lost ([])) ∷ Served (lost ([])) ∷ Buffered ∷ []
+    Missed (line_addr 1024) Read ∷ ordered_with [] [] ∷ served_with [] [] ∷ Began ∷ Missed (line_addr 1024) Read ∷
+    ordered_with [] [] ∷ served_with [] [] ∷ Began ∷ Missed (line_addr 1025) Write ∷ ordered_with [] [] ∷ served_with [] [] ∷ Buffered ∷
+    Missed (line_addr 1026) Write ∷ ordered_with [] [] ∷ served_with [] [] ∷ Buffered ∷ []
 
 outcomes : outcomes_from first before ≡ expected
 unfolding computing

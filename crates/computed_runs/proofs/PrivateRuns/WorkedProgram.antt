@@ -5,9 +5,9 @@ use Rattle.el_base.specs.LineAddr.{line_addr}
 use Rattle.el_base.specs.declared.config.Config.{Config}
 use Rattle.el_base.specs.declared.config.Mode.TheVariants.{Sle}
 use Rattle.el_base.specs.declared.outcomes.Need.TheVariants.{Read}
-use Rattle.el_base.specs.declared.outcomes.Outcome.TheVariants.{Began, Missed, Ordered, Ran, Served}
+use Rattle.el_base.specs.declared.outcomes.Outcome.TheVariants.{Began, Missed, Ran}
 use Rattle.computed_runs.proofs.Computing.{computing}
-use Rattle.computed_runs.proofs.Given.{lost, section}
+use Rattle.computed_runs.proofs.Given.{ordered_with, section, served_with}
 use Rattle.computed_runs.proofs.Rows.Given.{settings}
 use Rattle.el_model.specs.Next.{after, outcomes}
 use Rattle.el_model.specs.State.{cache_of, section_of}
@@ -19,7 +19,7 @@ abbrev config : Config
 config = settings 1 Sle 16 4 16 2000
 
 outcomes_are : outcomes program config events
-    ≡ Ran ∷ Ran ∷ Missed (line_addr 1024) Read ∷ Ordered (lost ([])) ∷ Served (lost ([])) ∷ Began ∷ []
+    ≡ Ran ∷ Ran ∷ Missed (line_addr 1024) Read ∷ ordered_with [] [] ∷ served_with [] [] ∷ Began ∷ []
 unfolding computing
 outcomes_are = refl
 

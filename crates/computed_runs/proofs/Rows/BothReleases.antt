@@ -6,9 +6,9 @@ use Rattle.el_base.specs.declared.events.Event.{Event}
 use Rattle.el_base.specs.declared.events.Kind.TheVariants.{Step, Order, Serve}
 use Rattle.el_base.specs.declared.outcomes.Need.TheVariants.{Read}
 use Rattle.el_base.specs.declared.outcomes.Outcome.{Outcome}
-use Rattle.el_base.specs.declared.outcomes.Outcome.TheVariants.{Missed, Began, Committed, Ordered, Served}
+use Rattle.el_base.specs.declared.outcomes.Outcome.TheVariants.{Missed, Began, Committed}
 use Rattle.computed_runs.proofs.Computing.{computing}
-use Rattle.computed_runs.proofs.Given.{event, lost}
+use Rattle.computed_runs.proofs.Given.{event, ordered_with, served_with}
 use Rattle.computed_runs.proofs.Rows.Given.{machine_of, settings, store_word, swap, usual}
 use Rattle.el_model.specs.Next.{outcomes_from}
 use Rattle.el_model.specs.State.{ModelState}
@@ -24,7 +24,7 @@ events =
 
 abbrev expected : List Outcome
 expected =
-    Missed (line_addr 1024) Read ∷ Ordered (lost ([])) ∷ Served (lost ([])) ∷ Began ∷ Committed 2 ∷ Began ∷
+    Missed (line_addr 1024) Read ∷ ordered_with [] [] ∷ served_with [] [] ∷ Began ∷ Committed 2 ∷ Began ∷
     Committed 2 ∷ []
 
 outcomes : outcomes_from first events ≡ expected

@@ -8,9 +8,9 @@ use Rattle.el_base.specs.declared.events.Event.{Event}
 use Rattle.el_base.specs.declared.events.Kind.TheVariants.{Step, Order, Serve}
 use Rattle.el_base.specs.declared.outcomes.Need.TheVariants.{Read}
 use Rattle.el_base.specs.declared.outcomes.Outcome.{Outcome}
-use Rattle.el_base.specs.declared.outcomes.Outcome.TheVariants.{Missed, Ran, Began, Buffered, Committed, Ordered, Served}
+use Rattle.el_base.specs.declared.outcomes.Outcome.TheVariants.{Missed, Ran, Began, Buffered, Committed}
 use Rattle.computed_runs.proofs.Computing.{computing}
-use Rattle.computed_runs.proofs.Given.{event, lost, way}
+use Rattle.computed_runs.proofs.Given.{event, ordered_with, served_with, way}
 use Rattle.computed_runs.proofs.Rows.Given.{load_word, machine_of, settings, store_byte, store_word, swap, usual}
 use Rattle.el_model.specs.Next.{outcomes_from, state_after}
 use Rattle.el_model.specs.State.{ModelState, cache_of}
@@ -28,8 +28,8 @@ events =
 
 abbrev expected : List Outcome
 expected =
-    Missed (line_addr 1024) Read ∷ Ordered (lost ([])) ∷ Served (lost ([])) ∷ Ran ∷ Missed (line_addr 1025) Read ∷
-    Ordered (lost ([])) ∷ Served (lost ([])) ∷ Ran ∷ Began ∷ Buffered ∷ Committed 3 ∷ []
+    Missed (line_addr 1024) Read ∷ ordered_with [] [] ∷ served_with [] [] ∷ Ran ∷ Missed (line_addr 1025) Read ∷
+    ordered_with [] [] ∷ served_with [] [] ∷ Ran ∷ Began ∷ Buffered ∷ Committed 3 ∷ []
 
 outcomes : outcomes_from first events ≡ expected
 unfolding computing

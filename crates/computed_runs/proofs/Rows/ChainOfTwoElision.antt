@@ -6,9 +6,9 @@ use Rattle.el_base.specs.declared.events.Event.{Event}
 use Rattle.el_base.specs.declared.events.Kind.TheVariants.{Step, Order, Serve}
 use Rattle.el_base.specs.declared.outcomes.Need.TheVariants.{Read, Write}
 use Rattle.el_base.specs.declared.outcomes.Outcome.{Outcome}
-use Rattle.el_base.specs.declared.outcomes.Outcome.TheVariants.{Missed, Began, Buffered, Ordered, Served}
+use Rattle.el_base.specs.declared.outcomes.Outcome.TheVariants.{Missed, Began, Buffered}
 use Rattle.computed_runs.proofs.Computing.{computing}
-use Rattle.computed_runs.proofs.Given.{event, lost}
+use Rattle.computed_runs.proofs.Given.{event, ordered_with, served_with}
 use Rattle.computed_runs.proofs.Rows.Given.{load_word, machine_of, settings, store_word, swap, usual}
 use Rattle.el_model.specs.Next.{outcomes_from}
 use Rattle.el_model.specs.State.{ModelState}
@@ -26,9 +26,9 @@ events =
 
 abbrev expected : List Outcome
 expected =
-    Missed (line_addr 1024) Read ∷ Ordered (lost ([])) ∷ Served (lost ([])) ∷ Began ∷ Missed (line_addr 1025) Read ∷
-    Ordered (lost ([])) ∷ Served (lost ([])) ∷ Buffered ∷ Missed (line_addr 1024) Read ∷ Ordered (lost ([])) ∷
-    Served (lost ([])) ∷ Began ∷ Missed (line_addr 1025) Write ∷ Ordered (lost ((0, 1) ∷ [])) ∷ []
+    Missed (line_addr 1024) Read ∷ ordered_with [] [] ∷ served_with [] [] ∷ Began ∷ Missed (line_addr 1025) Read ∷
+    ordered_with [] [] ∷ served_with [] [] ∷ Buffered ∷ Missed (line_addr 1024) Read ∷ ordered_with [] [] ∷
+    served_with [] [] ∷ Began ∷ Missed (line_addr 1025) Write ∷ ordered_with ((0, 1) ∷ []) [] ∷ []
 
 outcomes : outcomes_from first events ≡ expected
 unfolding computing

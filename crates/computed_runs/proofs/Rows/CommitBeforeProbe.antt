@@ -6,9 +6,9 @@ use Rattle.el_base.specs.declared.events.Event.{Event}
 use Rattle.el_base.specs.declared.events.Kind.TheVariants.{Step, Order, Serve, Deliver}
 use Rattle.el_base.specs.declared.outcomes.Need.TheVariants.{Read, Write}
 use Rattle.el_base.specs.declared.outcomes.Outcome.{Outcome}
-use Rattle.el_base.specs.declared.outcomes.Outcome.TheVariants.{Idle, Missed, Began, Buffered, Committed, Ordered, Served, Delivered}
+use Rattle.el_base.specs.declared.outcomes.Outcome.TheVariants.{Idle, Missed, Began, Buffered, Committed, Delivered}
 use Rattle.computed_runs.proofs.Computing.{computing}
-use Rattle.computed_runs.proofs.Given.{event, lost}
+use Rattle.computed_runs.proofs.Given.{event, lost, ordered_with, served_with}
 use Rattle.computed_runs.proofs.Rows.Given.{machine_of, settings, store_word, swap, usual}
 use Rattle.el_model.specs.Next.{outcomes_from}
 use Rattle.el_model.specs.State.{ModelState}
@@ -32,15 +32,15 @@ events =
 
 abbrev expected : List Outcome
 expected =
-    Missed (line_addr 1024) Read ∷ Ordered (lost ([])) ∷ Served (lost ([])) ∷ Began ∷ Missed (line_addr 1024) Read ∷
-    Ordered (lost ([])) ∷ Served (lost ([])) ∷ Began ∷ Missed (line_addr 1024) Read ∷ Ordered (lost ([])) ∷
-    Served (lost ([])) ∷ Began ∷ Missed (line_addr 1024) Read ∷ Ordered (lost ([])) ∷ Served (lost ([])) ∷ Began ∷
-    Missed (line_addr 1025) Write ∷ Ordered (lost ([])) ∷ Served (lost ([])) ∷ Buffered ∷
+    Missed (line_addr 1024) Read ∷ ordered_with [] [] ∷ served_with [] [] ∷ Began ∷ Missed (line_addr 1024) Read ∷
+    ordered_with [] [] ∷ served_with [] [] ∷ Began ∷ Missed (line_addr 1024) Read ∷ ordered_with [] [] ∷
+    served_with [] [] ∷ Began ∷ Missed (line_addr 1024) Read ∷ ordered_with [] [] ∷ served_with [] [] ∷ Began ∷
+    Missed (line_addr 1025) Write ∷ ordered_with [] [] ∷ served_with [] [] ∷ Buffered ∷
     Missed (line_addr 1025) Write ∷ Missed (line_addr 1025) Write ∷ Missed (line_addr 1025) Write ∷
-    Ordered (lost ([])) ∷ Ordered (lost ([])) ∷ Ordered (lost ([])) ∷ Delivered (lost ([])) ∷ Delivered (lost ([])) ∷
-    Delivered (lost ([])) ∷ Delivered (lost ([])) ∷ Delivered (lost ([])) ∷ Delivered (lost ([])) ∷
-    Delivered (lost ([])) ∷ Delivered (lost ([])) ∷ Committed 3 ∷ Served (lost ((2, 0) ∷ [])) ∷
-    Served (lost ((3, 0) ∷ [])) ∷ Served (lost ([])) ∷ Idle ∷ []
+    ordered_with [] [] ∷ ordered_with [] [] ∷ ordered_with [] [] ∷ Delivered (lost []) ∷ Delivered (lost []) ∷
+    Delivered (lost []) ∷ Delivered (lost []) ∷ Delivered (lost []) ∷ Delivered (lost []) ∷
+    Delivered (lost []) ∷ Delivered (lost []) ∷ Committed 3 ∷ served_with ((2, 0) ∷ []) [] ∷
+    served_with ((3, 0) ∷ []) [] ∷ served_with [] [] ∷ Idle ∷ []
 
 outcomes : outcomes_from first events ≡ expected
 unfolding computing

@@ -6,9 +6,9 @@ use Rattle.el_base.specs.declared.events.Event.{Event}
 use Rattle.el_base.specs.declared.events.Kind.TheVariants.{Step, Order, Serve}
 use Rattle.el_base.specs.declared.outcomes.Need.TheVariants.{Read, Write}
 use Rattle.el_base.specs.declared.outcomes.Outcome.{Outcome}
-use Rattle.el_base.specs.declared.outcomes.Outcome.TheVariants.{Missed, Ran, Began, Ordered, Served}
+use Rattle.el_base.specs.declared.outcomes.Outcome.TheVariants.{Missed, Ran, Began}
 use Rattle.computed_runs.proofs.Computing.{computing}
-use Rattle.computed_runs.proofs.Given.{event, lost}
+use Rattle.computed_runs.proofs.Given.{event, ordered_with, served_with}
 use Rattle.computed_runs.proofs.Rows.Given.{machine_of, settings, store_beyond, swap, usual}
 use Rattle.el_model.specs.Next.{outcomes_from}
 use Rattle.el_model.specs.State.{ModelState}
@@ -34,14 +34,14 @@ events =
 
 abbrev expected : List Outcome
 expected =
-    Missed (line_addr 1024) Read ∷ Ordered (lost ([])) ∷ Served (lost ([])) ∷ Began ∷ Missed (line_addr 1024) Write ∷
-    Ordered (lost ((0, 1) ∷ [])) ∷ Served (lost ([])) ∷ Ran ∷ Missed (line_addr 1024) Read ∷ Ordered (lost ([])) ∷
-    Served (lost ([])) ∷ Began ∷ Missed (line_addr 1024) Write ∷ Ordered (lost ((0, 1) ∷ [])) ∷ Served (lost ([])) ∷
-    Ran ∷ Missed (line_addr 1024) Read ∷ Ordered (lost ([])) ∷ Served (lost ([])) ∷ Began ∷
-    Missed (line_addr 1024) Write ∷ Ordered (lost ((0, 1) ∷ [])) ∷ Served (lost ([])) ∷ Ran ∷
-    Missed (line_addr 1024) Read ∷ Ordered (lost ([])) ∷ Served (lost ([])) ∷ Began ∷ Missed (line_addr 1024) Write ∷
-    Ordered (lost ((0, 1) ∷ [])) ∷ Served (lost ([])) ∷ Ran ∷ Missed (line_addr 1024) Write ∷ Ordered (lost ([])) ∷
-    Served (lost ([])) ∷ Ran ∷ []
+    Missed (line_addr 1024) Read ∷ ordered_with [] [] ∷ served_with [] [] ∷ Began ∷ Missed (line_addr 1024) Write ∷
+    ordered_with ((0, 1) ∷ []) [] ∷ served_with [] [] ∷ Ran ∷ Missed (line_addr 1024) Read ∷ ordered_with [] [] ∷
+    served_with [] [] ∷ Began ∷ Missed (line_addr 1024) Write ∷ ordered_with ((0, 1) ∷ []) [] ∷ served_with [] [] ∷
+    Ran ∷ Missed (line_addr 1024) Read ∷ ordered_with [] [] ∷ served_with [] [] ∷ Began ∷
+    Missed (line_addr 1024) Write ∷ ordered_with ((0, 1) ∷ []) [] ∷ served_with [] [] ∷ Ran ∷
+    Missed (line_addr 1024) Read ∷ ordered_with [] [] ∷ served_with [] [] ∷ Began ∷ Missed (line_addr 1024) Write ∷
+    ordered_with ((0, 1) ∷ []) [] ∷ served_with [] [] ∷ Ran ∷ Missed (line_addr 1024) Write ∷ ordered_with [] [] ∷
+    served_with [] [] ∷ Ran ∷ []
 
 outcomes : outcomes_from first events ≡ expected
 unfolding computing

@@ -8,9 +8,9 @@ use Rattle.el_base.specs.declared.events.Kind.TheVariants.{Step, Order, Serve}
 use Rattle.el_base.specs.declared.outcomes.Cause.TheVariants.{Room}
 use Rattle.el_base.specs.declared.outcomes.Need.TheVariants.{Read}
 use Rattle.el_base.specs.declared.outcomes.Outcome.{Outcome}
-use Rattle.el_base.specs.declared.outcomes.Outcome.TheVariants.{Missed, Began, Buffered, Committed, RolledBack, Ordered, Served}
+use Rattle.el_base.specs.declared.outcomes.Outcome.TheVariants.{Missed, Began, Buffered, Committed, RolledBack}
 use Rattle.computed_runs.proofs.Computing.{computing}
-use Rattle.computed_runs.proofs.Given.{event, lost}
+use Rattle.computed_runs.proofs.Given.{event, ordered_with, served_with}
 use Rattle.computed_runs.proofs.Rows.Given.{load_word, machine_of, settings, store_word, swap, usual}
 use Rattle.el_model.specs.Next.{outcomes_from}
 use Rattle.el_model.specs.State.{ModelState}
@@ -33,10 +33,10 @@ events =
 
 abbrev expected : List Outcome
 expected =
-    Missed (line_addr 1024) Read ∷ Ordered (lost ([])) ∷ Served (lost ([])) ∷ Began ∷ Missed (line_addr 1025) Read ∷
-    Ordered (lost ([])) ∷ Served (lost ([])) ∷ Buffered ∷ Committed 3 ∷ Began ∷ Missed (line_addr 1026) Read ∷
-    Ordered (lost ([])) ∷ Served (lost ([])) ∷ Buffered ∷ Committed 3 ∷ Began ∷ Missed (line_addr 1025) Read ∷
-    Ordered (lost ([])) ∷ Served (lost ([])) ∷ Buffered ∷ RolledBack Room ∷ []
+    Missed (line_addr 1024) Read ∷ ordered_with [] [] ∷ served_with [] [] ∷ Began ∷ Missed (line_addr 1025) Read ∷
+    ordered_with [] [] ∷ served_with [] [] ∷ Buffered ∷ Committed 3 ∷ Began ∷ Missed (line_addr 1026) Read ∷
+    ordered_with [] [] ∷ served_with [] [] ∷ Buffered ∷ Committed 3 ∷ Began ∷ Missed (line_addr 1025) Read ∷
+    ordered_with [] [] ∷ served_with [] [] ∷ Buffered ∷ RolledBack Room ∷ []
 
 outcomes : outcomes_from first events ≡ expected
 unfolding computing

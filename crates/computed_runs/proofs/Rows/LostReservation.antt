@@ -8,9 +8,9 @@ use Rattle.el_base.specs.declared.events.Event.{Event}
 use Rattle.el_base.specs.declared.events.Kind.TheVariants.{Step, Order, Serve}
 use Rattle.el_base.specs.declared.outcomes.Need.TheVariants.{Read}
 use Rattle.el_base.specs.declared.outcomes.Outcome.{Outcome}
-use Rattle.el_base.specs.declared.outcomes.Outcome.TheVariants.{Missed, Ran, Began, Committed, Ordered, Served}
+use Rattle.el_base.specs.declared.outcomes.Outcome.TheVariants.{Missed, Ran, Began, Committed}
 use Rattle.computed_runs.proofs.Computing.{computing}
-use Rattle.computed_runs.proofs.Given.{event, lost}
+use Rattle.computed_runs.proofs.Given.{event, ordered_with, served_with}
 use Rattle.computed_runs.proofs.Rows.Given.{load_reserved, machine_of, settings, store_conditional, store_word, swap, usual}
 use Rattle.el_model.specs.Next.{outcomes_from, state_after}
 use Rattle.el_model.specs.State.{ModelState}
@@ -29,8 +29,8 @@ tlr_events =
 
 abbrev tlr_expected : List Outcome
 tlr_expected =
-    Missed (line_addr 1024) Read ∷ Ordered (lost ([])) ∷ Served (lost ([])) ∷ Ran ∷ Missed (line_addr 1024) Read ∷
-    Ordered (lost ([])) ∷ Served (lost ([])) ∷ Began ∷ Committed 2 ∷ Ran ∷ []
+    Missed (line_addr 1024) Read ∷ ordered_with [] [] ∷ served_with [] [] ∷ Ran ∷ Missed (line_addr 1024) Read ∷
+    ordered_with [] [] ∷ served_with [] [] ∷ Began ∷ Committed 2 ∷ Ran ∷ []
 
 tlr_outcomes : outcomes_from tlr tlr_events ≡ tlr_expected
 unfolding computing
@@ -53,8 +53,8 @@ sle_events =
 
 abbrev sle_expected : List Outcome
 sle_expected =
-    Missed (line_addr 1024) Read ∷ Ordered (lost ([])) ∷ Served (lost ([])) ∷ Ran ∷ Missed (line_addr 1024) Read ∷
-    Ordered (lost ([])) ∷ Served (lost ([])) ∷ Began ∷ Committed 2 ∷ Ran ∷ []
+    Missed (line_addr 1024) Read ∷ ordered_with [] [] ∷ served_with [] [] ∷ Ran ∷ Missed (line_addr 1024) Read ∷
+    ordered_with [] [] ∷ served_with [] [] ∷ Began ∷ Committed 2 ∷ Ran ∷ []
 
 sle_outcomes : outcomes_from sle sle_events ≡ sle_expected
 unfolding computing

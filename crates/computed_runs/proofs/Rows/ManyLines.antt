@@ -8,9 +8,9 @@ use Rattle.el_base.specs.declared.events.Kind.TheVariants.{Step, Order, Serve}
 use Rattle.el_base.specs.declared.outcomes.Cause.TheVariants.{Lines}
 use Rattle.el_base.specs.declared.outcomes.Need.TheVariants.{Read, Write}
 use Rattle.el_base.specs.declared.outcomes.Outcome.{Outcome}
-use Rattle.el_base.specs.declared.outcomes.Outcome.TheVariants.{Missed, Ran, Began, Buffered, Committed, RolledBack, Ordered, Served}
+use Rattle.el_base.specs.declared.outcomes.Outcome.TheVariants.{Missed, Ran, Began, Buffered, Committed, RolledBack}
 use Rattle.computed_runs.proofs.Computing.{computing}
-use Rattle.computed_runs.proofs.Given.{event, lost}
+use Rattle.computed_runs.proofs.Given.{event, ordered_with, served_with}
 use Rattle.computed_runs.proofs.Rows.Given.{machine_of, settings, store_beyond, store_word, swap, usual}
 use Rattle.el_model.specs.Next.{outcomes_from}
 use Rattle.el_model.specs.State.{ModelState}
@@ -43,22 +43,22 @@ large_events =
 
 abbrev large_expected : List Outcome
 large_expected =
-    Missed (line_addr 1024) Read ∷ Ordered (lost ([])) ∷ Served (lost ([])) ∷ Began ∷ Missed (line_addr 1025) Write ∷
-    Ordered (lost ([])) ∷ Served (lost ([])) ∷ Buffered ∷ Missed (line_addr 1026) Write ∷ Ordered (lost ([])) ∷
-    Served (lost ([])) ∷ Buffered ∷ Missed (line_addr 1027) Write ∷ Ordered (lost ([])) ∷ Served (lost ([])) ∷
-    Buffered ∷ Missed (line_addr 1028) Write ∷ Ordered (lost ([])) ∷ Served (lost ([])) ∷ Buffered ∷
-    Missed (line_addr 1029) Write ∷ Ordered (lost ([])) ∷ Served (lost ([])) ∷ Buffered ∷
-    Missed (line_addr 1030) Write ∷ Ordered (lost ([])) ∷ Served (lost ([])) ∷ Buffered ∷
-    Missed (line_addr 1031) Write ∷ Ordered (lost ([])) ∷ Served (lost ([])) ∷ Buffered ∷
-    Missed (line_addr 1032) Write ∷ Ordered (lost ([])) ∷ Served (lost ([])) ∷ Buffered ∷
-    Missed (line_addr 1033) Write ∷ Ordered (lost ([])) ∷ Served (lost ([])) ∷ Buffered ∷
-    Missed (line_addr 1034) Write ∷ Ordered (lost ([])) ∷ Served (lost ([])) ∷ Buffered ∷
-    Missed (line_addr 1035) Write ∷ Ordered (lost ([])) ∷ Served (lost ([])) ∷ Buffered ∷
-    Missed (line_addr 1036) Write ∷ Ordered (lost ([])) ∷ Served (lost ([])) ∷ Buffered ∷
-    Missed (line_addr 1037) Write ∷ Ordered (lost ([])) ∷ Served (lost ([])) ∷ Buffered ∷
-    Missed (line_addr 1038) Write ∷ Ordered (lost ([])) ∷ Served (lost ([])) ∷ Buffered ∷
-    Missed (line_addr 1039) Write ∷ Ordered (lost ([])) ∷ Served (lost ([])) ∷ Buffered ∷
-    Missed (line_addr 1040) Write ∷ Ordered (lost ([])) ∷ Served (lost ([])) ∷ Buffered ∷ RolledBack Lines ∷ Ran ∷ []
+    Missed (line_addr 1024) Read ∷ ordered_with [] [] ∷ served_with [] [] ∷ Began ∷ Missed (line_addr 1025) Write ∷
+    ordered_with [] [] ∷ served_with [] [] ∷ Buffered ∷ Missed (line_addr 1026) Write ∷ ordered_with [] [] ∷
+    served_with [] [] ∷ Buffered ∷ Missed (line_addr 1027) Write ∷ ordered_with [] [] ∷ served_with [] [] ∷
+    Buffered ∷ Missed (line_addr 1028) Write ∷ ordered_with [] [] ∷ served_with [] [] ∷ Buffered ∷
+    Missed (line_addr 1029) Write ∷ ordered_with [] [] ∷ served_with [] [] ∷ Buffered ∷
+    Missed (line_addr 1030) Write ∷ ordered_with [] [] ∷ served_with [] [] ∷ Buffered ∷
+    Missed (line_addr 1031) Write ∷ ordered_with [] [] ∷ served_with [] [] ∷ Buffered ∷
+    Missed (line_addr 1032) Write ∷ ordered_with [] [] ∷ served_with [] [] ∷ Buffered ∷
+    Missed (line_addr 1033) Write ∷ ordered_with [] [] ∷ served_with [] [] ∷ Buffered ∷
+    Missed (line_addr 1034) Write ∷ ordered_with [] [] ∷ served_with [] [] ∷ Buffered ∷
+    Missed (line_addr 1035) Write ∷ ordered_with [] [] ∷ served_with [] [] ∷ Buffered ∷
+    Missed (line_addr 1036) Write ∷ ordered_with [] [] ∷ served_with [] [] ∷ Buffered ∷
+    Missed (line_addr 1037) Write ∷ ordered_with [] [] ∷ served_with [] [] ∷ Buffered ∷
+    Missed (line_addr 1038) Write ∷ ordered_with [] [] ∷ served_with [] [] ∷ Buffered ∷
+    Missed (line_addr 1039) Write ∷ ordered_with [] [] ∷ served_with [] [] ∷ Buffered ∷
+    Missed (line_addr 1040) Write ∷ ordered_with [] [] ∷ served_with [] [] ∷ Buffered ∷ RolledBack Lines ∷ Ran ∷ []
 
 large_outcomes : outcomes_from large large_events ≡ large_expected
 unfolding computing
@@ -92,22 +92,22 @@ fits_events =
 
 abbrev fits_expected : List Outcome
 fits_expected =
-    Missed (line_addr 1024) Read ∷ Ordered (lost ([])) ∷ Served (lost ([])) ∷ Began ∷ Missed (line_addr 1025) Write ∷
-    Ordered (lost ([])) ∷ Served (lost ([])) ∷ Buffered ∷ Missed (line_addr 1026) Write ∷ Ordered (lost ([])) ∷
-    Served (lost ([])) ∷ Buffered ∷ Missed (line_addr 1027) Write ∷ Ordered (lost ([])) ∷ Served (lost ([])) ∷
-    Buffered ∷ Missed (line_addr 1028) Write ∷ Ordered (lost ([])) ∷ Served (lost ([])) ∷ Buffered ∷
-    Missed (line_addr 1029) Write ∷ Ordered (lost ([])) ∷ Served (lost ([])) ∷ Buffered ∷
-    Missed (line_addr 1030) Write ∷ Ordered (lost ([])) ∷ Served (lost ([])) ∷ Buffered ∷
-    Missed (line_addr 1031) Write ∷ Ordered (lost ([])) ∷ Served (lost ([])) ∷ Buffered ∷
-    Missed (line_addr 1032) Write ∷ Ordered (lost ([])) ∷ Served (lost ([])) ∷ Buffered ∷
-    Missed (line_addr 1033) Write ∷ Ordered (lost ([])) ∷ Served (lost ([])) ∷ Buffered ∷
-    Missed (line_addr 1034) Write ∷ Ordered (lost ([])) ∷ Served (lost ([])) ∷ Buffered ∷
-    Missed (line_addr 1035) Write ∷ Ordered (lost ([])) ∷ Served (lost ([])) ∷ Buffered ∷
-    Missed (line_addr 1036) Write ∷ Ordered (lost ([])) ∷ Served (lost ([])) ∷ Buffered ∷
-    Missed (line_addr 1037) Write ∷ Ordered (lost ([])) ∷ Served (lost ([])) ∷ Buffered ∷
-    Missed (line_addr 1038) Write ∷ Ordered (lost ([])) ∷ Served (lost ([])) ∷ Buffered ∷
-    Missed (line_addr 1039) Write ∷ Ordered (lost ([])) ∷ Served (lost ([])) ∷ Buffered ∷
-    Missed (line_addr 1040) Write ∷ Ordered (lost ([])) ∷ Served (lost ([])) ∷ Buffered ∷ Committed 18 ∷ []
+    Missed (line_addr 1024) Read ∷ ordered_with [] [] ∷ served_with [] [] ∷ Began ∷ Missed (line_addr 1025) Write ∷
+    ordered_with [] [] ∷ served_with [] [] ∷ Buffered ∷ Missed (line_addr 1026) Write ∷ ordered_with [] [] ∷
+    served_with [] [] ∷ Buffered ∷ Missed (line_addr 1027) Write ∷ ordered_with [] [] ∷ served_with [] [] ∷
+    Buffered ∷ Missed (line_addr 1028) Write ∷ ordered_with [] [] ∷ served_with [] [] ∷ Buffered ∷
+    Missed (line_addr 1029) Write ∷ ordered_with [] [] ∷ served_with [] [] ∷ Buffered ∷
+    Missed (line_addr 1030) Write ∷ ordered_with [] [] ∷ served_with [] [] ∷ Buffered ∷
+    Missed (line_addr 1031) Write ∷ ordered_with [] [] ∷ served_with [] [] ∷ Buffered ∷
+    Missed (line_addr 1032) Write ∷ ordered_with [] [] ∷ served_with [] [] ∷ Buffered ∷
+    Missed (line_addr 1033) Write ∷ ordered_with [] [] ∷ served_with [] [] ∷ Buffered ∷
+    Missed (line_addr 1034) Write ∷ ordered_with [] [] ∷ served_with [] [] ∷ Buffered ∷
+    Missed (line_addr 1035) Write ∷ ordered_with [] [] ∷ served_with [] [] ∷ Buffered ∷
+    Missed (line_addr 1036) Write ∷ ordered_with [] [] ∷ served_with [] [] ∷ Buffered ∷
+    Missed (line_addr 1037) Write ∷ ordered_with [] [] ∷ served_with [] [] ∷ Buffered ∷
+    Missed (line_addr 1038) Write ∷ ordered_with [] [] ∷ served_with [] [] ∷ Buffered ∷
+    Missed (line_addr 1039) Write ∷ ordered_with [] [] ∷ served_with [] [] ∷ Buffered ∷
+    Missed (line_addr 1040) Write ∷ ordered_with [] [] ∷ served_with [] [] ∷ Buffered ∷ Committed 18 ∷ []
 
 fits_outcomes : outcomes_from fits fits_events ≡ fits_expected
 unfolding computing

@@ -9,10 +9,10 @@ use Rattle.el_base.specs.declared.events.Event.{Event}
 use Rattle.el_base.specs.declared.events.Kind.TheVariants.{Step, Order, Serve}
 use Rattle.el_base.specs.declared.outcomes.Need.TheVariants.{Read}
 use Rattle.el_base.specs.declared.outcomes.Outcome.{Outcome}
-use Rattle.el_base.specs.declared.outcomes.Outcome.TheVariants.{Missed, Ran, Ordered, Served, Blocked}
+use Rattle.el_base.specs.declared.outcomes.Outcome.TheVariants.{Missed, Ran, Blocked}
 use Rattle.el_base.specs.declared.outcomes.Why.TheVariants.{Behind, Locked}
 use Rattle.computed_runs.proofs.Computing.{computing}
-use Rattle.computed_runs.proofs.Given.{bytes_of, event, lost, patched, way}
+use Rattle.computed_runs.proofs.Given.{bytes_of, event, ordered_with, patched, served_with, way}
 use Rattle.computed_runs.proofs.Rows.Given.{settings}
 use Rattle.el_model.specs.Next.{outcomes_from, state_after}
 use Rattle.el_model.specs.State.{ModelState, cache_of, new_hart}
@@ -47,8 +47,8 @@ events =
 abbrev expected : List Outcome
 expected =
     Ran ∷ Ran ∷ Ran ∷ Ran ∷ Ran ∷ Missed (line_addr 1025) Read ∷ Ran ∷ Ran ∷ Ran ∷ Ran ∷ Ran ∷
-    Missed (line_addr 1025) Read ∷ Ordered (lost ([])) ∷ Ordered (lost ([])) ∷ Blocked Behind (hart_id 0) ∷
-    Served (lost ([])) ∷ Blocked Locked (hart_id 0) ∷ Ran ∷ Served (lost ([])) ∷ Ran ∷ []
+    Missed (line_addr 1025) Read ∷ ordered_with [] [] ∷ ordered_with [] [] ∷ Blocked Behind (hart_id 0) ∷
+    served_with [] [] ∷ Blocked Locked (hart_id 0) ∷ Ran ∷ served_with [] [] ∷ Ran ∷ []
 
 outcomes : outcomes_from first events ≡ expected
 unfolding computing

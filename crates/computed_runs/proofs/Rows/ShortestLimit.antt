@@ -8,9 +8,9 @@ use Rattle.el_base.specs.declared.events.Kind.TheVariants.{Step, Order, Serve}
 use Rattle.el_base.specs.declared.outcomes.Cause.TheVariants.{Long}
 use Rattle.el_base.specs.declared.outcomes.Need.TheVariants.{Read}
 use Rattle.el_base.specs.declared.outcomes.Outcome.{Outcome}
-use Rattle.el_base.specs.declared.outcomes.Outcome.TheVariants.{Missed, Ran, Began, Buffered, Committed, RolledBack, Ordered, Served}
+use Rattle.el_base.specs.declared.outcomes.Outcome.TheVariants.{Missed, Ran, Began, Buffered, Committed, RolledBack}
 use Rattle.computed_runs.proofs.Computing.{computing}
-use Rattle.computed_runs.proofs.Given.{event, lost}
+use Rattle.computed_runs.proofs.Given.{event, ordered_with, served_with}
 use Rattle.computed_runs.proofs.Rows.Given.{load_word, machine_of, settings, store_word, swap, usual}
 use Rattle.el_model.specs.Next.{outcomes_from}
 use Rattle.el_model.specs.State.{ModelState}
@@ -27,7 +27,7 @@ events =
 
 abbrev expected : List Outcome
 expected =
-    Missed (line_addr 1024) Read ∷ Ordered (lost ([])) ∷ Served (lost ([])) ∷ Began ∷ Committed 2 ∷ Began ∷
+    Missed (line_addr 1024) Read ∷ ordered_with [] [] ∷ served_with [] [] ∷ Began ∷ Committed 2 ∷ Began ∷
     Buffered ∷ RolledBack Long ∷ Ran ∷ []
 
 outcomes : outcomes_from first events ≡ expected

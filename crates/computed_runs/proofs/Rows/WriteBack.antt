@@ -7,9 +7,9 @@ use Rattle.el_base.specs.declared.events.Event.{Event}
 use Rattle.el_base.specs.declared.events.Kind.TheVariants.{Step, Order, Serve}
 use Rattle.el_base.specs.declared.outcomes.Need.TheVariants.{Read, Write}
 use Rattle.el_base.specs.declared.outcomes.Outcome.{Outcome}
-use Rattle.el_base.specs.declared.outcomes.Outcome.TheVariants.{Missed, Ran, Ordered, Served}
+use Rattle.el_base.specs.declared.outcomes.Outcome.TheVariants.{Missed, Ran}
 use Rattle.computed_runs.proofs.Computing.{computing}
-use Rattle.computed_runs.proofs.Given.{event, lost, way}
+use Rattle.computed_runs.proofs.Given.{event, ordered_with, served_with, way}
 use Rattle.computed_runs.proofs.Rows.Given.{load_word, machine_of, settings, store_byte, usual}
 use Rattle.el_model.specs.Next.{outcomes_from, state_after}
 use Rattle.el_model.specs.State.{ModelState, cache_of}
@@ -26,8 +26,8 @@ events =
 
 abbrev expected : List Outcome
 expected =
-    Missed (line_addr 1024) Write ∷ Ordered (lost ([])) ∷ Served (lost ([])) ∷ Ran ∷ Missed (line_addr 1025) Read ∷
-    Ordered (lost ([])) ∷ Served (lost ([])) ∷ []
+    Missed (line_addr 1024) Write ∷ ordered_with [] [] ∷ served_with [] [] ∷ Ran ∷ Missed (line_addr 1025) Read ∷
+    ordered_with [] [] ∷ served_with [] [] ∷ []
 
 outcomes : outcomes_from first events ≡ expected
 unfolding computing

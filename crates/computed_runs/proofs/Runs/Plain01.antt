@@ -8,10 +8,10 @@ use Rattle.el_base.specs.declared.events.Event.{Event}
 use Rattle.el_base.specs.declared.events.Kind.TheVariants.{Step, Order, Serve, Deliver}
 use Rattle.el_base.specs.declared.outcomes.Need.TheVariants.{Read, Write}
 use Rattle.el_base.specs.declared.outcomes.Outcome.{Outcome}
-use Rattle.el_base.specs.declared.outcomes.Outcome.TheVariants.{Idle, Stalled, Missed, Ran, Ordered, Served, Blocked}
+use Rattle.el_base.specs.declared.outcomes.Outcome.TheVariants.{Idle, Stalled, Missed, Ran, Blocked}
 use Rattle.el_base.specs.declared.outcomes.Why.TheVariants.{Behind, Locked}
 use Rattle.computed_runs.proofs.Computing.{computing}
-use Rattle.computed_runs.proofs.Given.{Ending, ending_of, event, first_state, lost, patched, way}
+use Rattle.computed_runs.proofs.Given.{Ending, ending_of, event, first_state, ordered_with, patched, served_with, way}
 use Rattle.el_model.specs.Next.{outcomes_from, state_after}
 use Rattle.el_model.specs.State.{ModelState}
 use Rattle.moesi.specs.declared.letter.Letter.TheVariants.{M, E}
@@ -58,20 +58,19 @@ events =
 abbrev expected : List Outcome
 expected =
     Ran ∷ Ran ∷ Idle ∷ Ran ∷ Idle ∷ Idle ∷ Ran ∷ Ran ∷ Ran ∷ Ran ∷ Missed (line_addr 1027) Write ∷ Idle ∷ Idle ∷ Idle ∷
-    Ordered (lost ([])) ∷ Idle ∷ Ran ∷ Ran ∷ Idle ∷ Ran ∷ Missed (line_addr 1025) Write ∷ Served (lost ([])) ∷
-    Ordered (lost ([])) ∷ Served (lost ([])) ∷ Ran ∷ Missed (line_addr 1024) Read ∷ Ran ∷ Idle ∷ Ordered (lost ([])) ∷
-    Idle ∷ Idle ∷ Missed (line_addr 1027) Write ∷ Served (lost ([])) ∷ Idle ∷ Idle ∷ Idle ∷ Idle ∷ Ran ∷ Idle ∷
-    Ordered (lost ([])) ∷ Idle ∷ Idle ∷ Missed (line_addr 1025) Write ∷ Idle ∷ Ordered (lost ([])) ∷
-    Served (lost ([])) ∷ Ran ∷ Missed (line_addr 1024) Read ∷ Idle ∷ Served (lost ([])) ∷ Idle ∷ Ordered (lost ([])) ∷
-    Idle ∷ Idle ∷ Served (lost ([])) ∷ Ran ∷ Idle ∷ Idle ∷ Idle ∷ Missed (line_addr 1025) Write ∷ Ordered (lost ([])) ∷
-    Blocked Locked (hart_id 1) ∷ Idle ∷ Idle ∷ Blocked Locked (hart_id 1) ∷ Ran ∷ Idle ∷ Stalled ∷ Idle ∷ Idle ∷ Idle ∷
-    Served (lost ([])) ∷ Missed (line_addr 1024) Write ∷ Ran ∷ Ordered (lost ([])) ∷ Idle ∷ Idle ∷
-    Missed (line_addr 1024) Write ∷ Idle ∷ Stalled ∷ Ordered (lost ([])) ∷ Blocked Behind (hart_id 1) ∷
-    Blocked Behind (hart_id 1) ∷ Blocked Behind (hart_id 1) ∷ Idle ∷ Blocked Behind (hart_id 1) ∷
-    Blocked Behind (hart_id 1) ∷ Idle ∷ Stalled ∷ Blocked Behind (hart_id 1) ∷ Served (lost ([])) ∷ Ran ∷
-    Served (lost ([])) ∷ Missed (line_addr 1027) Write ∷ Ran ∷ Ordered (lost ([])) ∷ Idle ∷ Ran ∷ Served (lost ([])) ∷
-    Ran ∷ Idle ∷ Ran ∷ Missed (line_addr 1024) Write ∷ Ordered (lost ([])) ∷ Missed (line_addr 1029) Read ∷
-    Ordered (lost ([])) ∷ Served (lost ([])) ∷ Idle ∷ Served (lost ([])) ∷ Ran ∷ []
+    ordered_with [] [] ∷ Idle ∷ Ran ∷ Ran ∷ Idle ∷ Ran ∷ Missed (line_addr 1025) Write ∷ served_with [] [] ∷ ordered_with [] [] ∷
+    served_with [] [] ∷ Ran ∷ Missed (line_addr 1024) Read ∷ Ran ∷ Idle ∷ ordered_with [] [] ∷ Idle ∷ Idle ∷
+    Missed (line_addr 1027) Write ∷ served_with [] [] ∷ Idle ∷ Idle ∷ Idle ∷ Idle ∷ Ran ∷ Idle ∷ ordered_with [] [] ∷ Idle ∷
+    Idle ∷ Missed (line_addr 1025) Write ∷ Idle ∷ ordered_with [] [] ∷ served_with [] [] ∷ Ran ∷ Missed (line_addr 1024) Read ∷
+    Idle ∷ served_with [] [] ∷ Idle ∷ ordered_with [] [] ∷ Idle ∷ Idle ∷ served_with [] [] ∷ Ran ∷ Idle ∷ Idle ∷ Idle ∷
+    Missed (line_addr 1025) Write ∷ ordered_with [] [] ∷ Blocked Locked (hart_id 1) ∷ Idle ∷ Idle ∷
+    Blocked Locked (hart_id 1) ∷ Ran ∷ Idle ∷ Stalled ∷ Idle ∷ Idle ∷ Idle ∷ served_with [] [] ∷
+    Missed (line_addr 1024) Write ∷ Ran ∷ ordered_with [] [] ∷ Idle ∷ Idle ∷ Missed (line_addr 1024) Write ∷ Idle ∷
+    Stalled ∷ ordered_with [] [] ∷ Blocked Behind (hart_id 1) ∷ Blocked Behind (hart_id 1) ∷ Blocked Behind (hart_id 1) ∷
+    Idle ∷ Blocked Behind (hart_id 1) ∷ Blocked Behind (hart_id 1) ∷ Idle ∷ Stalled ∷ Blocked Behind (hart_id 1) ∷
+    served_with [] [] ∷ Ran ∷ served_with [] [] ∷ Missed (line_addr 1027) Write ∷ Ran ∷ ordered_with [] [] ∷ Idle ∷ Ran ∷
+    served_with [] [] ∷ Ran ∷ Idle ∷ Ran ∷ Missed (line_addr 1024) Write ∷ ordered_with [] [] ∷ Missed (line_addr 1029) Read ∷
+    ordered_with [] [] ∷ served_with [] [] ∷ Idle ∷ served_with [] [] ∷ Ran ∷ []
 
 outcomes : outcomes_from first events ≡ expected
 unfolding computing

@@ -8,10 +8,10 @@ use Rattle.el_base.specs.declared.events.Event.{Event}
 use Rattle.el_base.specs.declared.events.Kind.TheVariants.{Step, Order, Serve, Deliver}
 use Rattle.el_base.specs.declared.outcomes.Need.TheVariants.{Read, Write}
 use Rattle.el_base.specs.declared.outcomes.Outcome.{Outcome}
-use Rattle.el_base.specs.declared.outcomes.Outcome.TheVariants.{Idle, Stalled, Missed, Ran, Ordered, Served, Blocked}
+use Rattle.el_base.specs.declared.outcomes.Outcome.TheVariants.{Idle, Stalled, Missed, Ran, Blocked}
 use Rattle.el_base.specs.declared.outcomes.Why.TheVariants.{Behind, Locked}
 use Rattle.computed_runs.proofs.Computing.{computing}
-use Rattle.computed_runs.proofs.Given.{Ending, ending_of, event, first_state, lost, patched, request, way}
+use Rattle.computed_runs.proofs.Given.{Ending, ending_of, event, first_state, ordered_with, patched, request, served_with, way}
 use Rattle.el_model.specs.Next.{outcomes_from, state_after}
 use Rattle.el_model.specs.State.{ModelState}
 use Rattle.moesi.specs.declared.letter.Letter.TheVariants.{M}
@@ -79,33 +79,31 @@ events =
 abbrev expected : List Outcome
 expected =
     Idle ∷ Ran ∷ Ran ∷ Ran ∷ Idle ∷ Ran ∷ Ran ∷ Ran ∷ Idle ∷ Idle ∷ Idle ∷ Ran ∷ Ran ∷ Idle ∷ Idle ∷ Ran ∷ Ran ∷ Ran ∷
-    Missed (line_addr 1025) Write ∷ Ran ∷ Missed (line_addr 1025) Write ∷ Idle ∷ Ordered (lost ([])) ∷
-    Ordered (lost ([])) ∷ Idle ∷ Stalled ∷ Served (lost ([])) ∷ Idle ∷ Blocked Locked (hart_id 1) ∷
-    Blocked Locked (hart_id 1) ∷ Blocked Locked (hart_id 1) ∷ Missed (line_addr 1025) Write ∷ Idle ∷
-    Blocked Locked (hart_id 1) ∷ Ran ∷ Ordered (lost ([])) ∷ Served (lost ([])) ∷ Blocked Locked (hart_id 0) ∷
-    Stalled ∷ Idle ∷ Idle ∷ Blocked Locked (hart_id 0) ∷ Ran ∷ Missed (line_addr 1028) Write ∷
-    Missed (line_addr 1028) Write ∷ Idle ∷ Idle ∷ Served (lost ([])) ∷ Ordered (lost ([])) ∷ Ran ∷ Idle ∷ Idle ∷
-    Missed (line_addr 1028) Write ∷ Ordered (lost ([])) ∷ Idle ∷ Served (lost ([])) ∷ Ordered (lost ([])) ∷ Ran ∷
-    Idle ∷ Missed (line_addr 1024) Read ∷ Blocked Behind (hart_id 0) ∷ Served (lost ([])) ∷ Ran ∷ Served (lost ([])) ∷
-    Idle ∷ Idle ∷ Idle ∷ Missed (line_addr 1024) Read ∷ Ran ∷ Idle ∷ Missed (line_addr 1024) Read ∷ Idle ∷ Idle ∷
-    Ordered (lost ([])) ∷ Ordered (lost ([])) ∷ Ordered (lost ([])) ∷ Served (lost ([])) ∷ Blocked Locked (hart_id 0) ∷
+    Missed (line_addr 1025) Write ∷ Ran ∷ Missed (line_addr 1025) Write ∷ Idle ∷ ordered_with [] [] ∷ ordered_with [] [] ∷ Idle ∷
+    Stalled ∷ served_with [] [] ∷ Idle ∷ Blocked Locked (hart_id 1) ∷ Blocked Locked (hart_id 1) ∷
+    Blocked Locked (hart_id 1) ∷ Missed (line_addr 1025) Write ∷ Idle ∷ Blocked Locked (hart_id 1) ∷ Ran ∷
+    ordered_with [] [] ∷ served_with [] [] ∷ Blocked Locked (hart_id 0) ∷ Stalled ∷ Idle ∷ Idle ∷ Blocked Locked (hart_id 0) ∷
+    Ran ∷ Missed (line_addr 1028) Write ∷ Missed (line_addr 1028) Write ∷ Idle ∷ Idle ∷ served_with [] [] ∷ ordered_with [] [] ∷
+    Ran ∷ Idle ∷ Idle ∷ Missed (line_addr 1028) Write ∷ ordered_with [] [] ∷ Idle ∷ served_with [] [] ∷ ordered_with [] [] ∷ Ran ∷
+    Idle ∷ Missed (line_addr 1024) Read ∷ Blocked Behind (hart_id 0) ∷ served_with [] [] ∷ Ran ∷ served_with [] [] ∷ Idle ∷
+    Idle ∷ Idle ∷ Missed (line_addr 1024) Read ∷ Ran ∷ Idle ∷ Missed (line_addr 1024) Read ∷ Idle ∷ Idle ∷
+    ordered_with [] [] ∷ ordered_with [] [] ∷ ordered_with [] [] ∷ served_with [] [] ∷ Blocked Locked (hart_id 0) ∷
     Blocked Locked (hart_id 0) ∷ Blocked Behind (hart_id 2) ∷ Ran ∷ Ran ∷ Blocked Behind (hart_id 2) ∷
-    Blocked Behind (hart_id 2) ∷ Served (lost ([])) ∷ Ran ∷ Ran ∷ Idle ∷ Served (lost ([])) ∷ Ran ∷
-    Missed (line_addr 1024) Write ∷ Ran ∷ Idle ∷ Idle ∷ Ran ∷ Idle ∷ Idle ∷ Stalled ∷ Ordered (lost ([])) ∷ Idle ∷
-    Served (lost ([])) ∷ Idle ∷ Missed (line_addr 1024) Read ∷ Idle ∷ Idle ∷ Ran ∷ Ordered (lost ([])) ∷ Idle ∷ Ran ∷
-    Ran ∷ Served (lost ([])) ∷ Idle ∷ Ran ∷ Idle ∷ Idle ∷ Idle ∷ Idle ∷ Idle ∷ Ran ∷ Idle ∷ Idle ∷ Ran ∷ Idle ∷ Idle ∷
-    Ran ∷ Idle ∷ Idle ∷ Idle ∷ Idle ∷ Missed (line_addr 1024) Write ∷ Idle ∷ Idle ∷ Idle ∷ Idle ∷ Ordered (lost ([])) ∷
-    Idle ∷ Idle ∷ Idle ∷ Idle ∷ Idle ∷ Served (lost ([])) ∷ Idle ∷ Idle ∷ Idle ∷ Idle ∷ Idle ∷ Idle ∷ Idle ∷ Idle ∷
-    Idle ∷ Idle ∷ Ran ∷ Idle ∷ Idle ∷ Idle ∷ Idle ∷ Idle ∷ Idle ∷ Ran ∷ Idle ∷ Ran ∷ Idle ∷ Idle ∷ Idle ∷ Idle ∷ Idle ∷
-    Idle ∷ Idle ∷ Idle ∷ Idle ∷ Ran ∷ Idle ∷ Idle ∷ Idle ∷ Idle ∷ Idle ∷ Idle ∷ Missed (line_addr 1025) Write ∷ Idle ∷
-    Idle ∷ Idle ∷ Idle ∷ Ordered (lost ([])) ∷ Served (lost ([])) ∷ Idle ∷ Ran ∷ Idle ∷ Idle ∷ Idle ∷ Idle ∷ Idle ∷
-    Idle ∷ Idle ∷ Idle ∷ Missed (line_addr 1028) Write ∷ Idle ∷ Idle ∷ Idle ∷ Idle ∷ Ordered (lost ([])) ∷ Idle ∷
-    Idle ∷ Served (lost ([])) ∷ Ran ∷ Idle ∷ Missed (line_addr 1024) Read ∷ Ordered (lost ([])) ∷ Served (lost ([])) ∷
-    Idle ∷ Idle ∷ Idle ∷ Idle ∷ Idle ∷ Idle ∷ Idle ∷ Idle ∷ Idle ∷ Idle ∷ Idle ∷ Idle ∷ Idle ∷ Idle ∷ Ran ∷ Idle ∷
-    Idle ∷ Idle ∷ Idle ∷ Idle ∷ Ran ∷ Ran ∷ Ran ∷ Idle ∷ Ran ∷ Ran ∷ Idle ∷ Ran ∷ Missed (line_addr 1025) Write ∷
-    Idle ∷ Idle ∷ Idle ∷ Idle ∷ Ordered (lost ([])) ∷ Served (lost ([])) ∷ Idle ∷ Ran ∷ Idle ∷ Idle ∷
-    Missed (line_addr 1028) Write ∷ Idle ∷ Idle ∷ Ordered (lost ([])) ∷ Idle ∷ Idle ∷ Idle ∷ Idle ∷ Idle ∷ Idle ∷
-    Stalled ∷ Idle ∷ Idle ∷ []
+    Blocked Behind (hart_id 2) ∷ served_with [] [] ∷ Ran ∷ Ran ∷ Idle ∷ served_with [] [] ∷ Ran ∷ Missed (line_addr 1024) Write ∷
+    Ran ∷ Idle ∷ Idle ∷ Ran ∷ Idle ∷ Idle ∷ Stalled ∷ ordered_with [] [] ∷ Idle ∷ served_with [] [] ∷ Idle ∷
+    Missed (line_addr 1024) Read ∷ Idle ∷ Idle ∷ Ran ∷ ordered_with [] [] ∷ Idle ∷ Ran ∷ Ran ∷ served_with [] [] ∷ Idle ∷ Ran ∷
+    Idle ∷ Idle ∷ Idle ∷ Idle ∷ Idle ∷ Ran ∷ Idle ∷ Idle ∷ Ran ∷ Idle ∷ Idle ∷ Ran ∷ Idle ∷ Idle ∷ Idle ∷ Idle ∷
+    Missed (line_addr 1024) Write ∷ Idle ∷ Idle ∷ Idle ∷ Idle ∷ ordered_with [] [] ∷ Idle ∷ Idle ∷ Idle ∷ Idle ∷ Idle ∷
+    served_with [] [] ∷ Idle ∷ Idle ∷ Idle ∷ Idle ∷ Idle ∷ Idle ∷ Idle ∷ Idle ∷ Idle ∷ Idle ∷ Ran ∷ Idle ∷ Idle ∷ Idle ∷
+    Idle ∷ Idle ∷ Idle ∷ Ran ∷ Idle ∷ Ran ∷ Idle ∷ Idle ∷ Idle ∷ Idle ∷ Idle ∷ Idle ∷ Idle ∷ Idle ∷ Idle ∷ Ran ∷ Idle ∷
+    Idle ∷ Idle ∷ Idle ∷ Idle ∷ Idle ∷ Missed (line_addr 1025) Write ∷ Idle ∷ Idle ∷ Idle ∷ Idle ∷ ordered_with [] [] ∷
+    served_with [] [] ∷ Idle ∷ Ran ∷ Idle ∷ Idle ∷ Idle ∷ Idle ∷ Idle ∷ Idle ∷ Idle ∷ Idle ∷ Missed (line_addr 1028) Write ∷
+    Idle ∷ Idle ∷ Idle ∷ Idle ∷ ordered_with [] [] ∷ Idle ∷ Idle ∷ served_with [] [] ∷ Ran ∷ Idle ∷
+    Missed (line_addr 1024) Read ∷ ordered_with [] [] ∷ served_with [] [] ∷ Idle ∷ Idle ∷ Idle ∷ Idle ∷ Idle ∷ Idle ∷ Idle ∷
+    Idle ∷ Idle ∷ Idle ∷ Idle ∷ Idle ∷ Idle ∷ Idle ∷ Ran ∷ Idle ∷ Idle ∷ Idle ∷ Idle ∷ Idle ∷ Ran ∷ Ran ∷ Ran ∷ Idle ∷
+    Ran ∷ Ran ∷ Idle ∷ Ran ∷ Missed (line_addr 1025) Write ∷ Idle ∷ Idle ∷ Idle ∷ Idle ∷ ordered_with [] [] ∷ served_with [] [] ∷
+    Idle ∷ Ran ∷ Idle ∷ Idle ∷ Missed (line_addr 1028) Write ∷ Idle ∷ Idle ∷ ordered_with [] [] ∷ Idle ∷ Idle ∷ Idle ∷
+    Idle ∷ Idle ∷ Idle ∷ Stalled ∷ Idle ∷ Idle ∷ []
 
 outcomes : outcomes_from first events ≡ expected
 unfolding computing

@@ -9,10 +9,10 @@ use Rattle.el_base.specs.declared.events.Kind.TheVariants.{Step, Order, Serve, D
 use Rattle.el_base.specs.declared.outcomes.Cause.TheVariants.{Long}
 use Rattle.el_base.specs.declared.outcomes.Need.TheVariants.{Read, Write}
 use Rattle.el_base.specs.declared.outcomes.Outcome.{Outcome}
-use Rattle.el_base.specs.declared.outcomes.Outcome.TheVariants.{Idle, Stalled, Missed, Ran, Began, Buffered, RolledBack, Ordered, Served, Blocked}
+use Rattle.el_base.specs.declared.outcomes.Outcome.TheVariants.{Idle, Stalled, Missed, Ran, Began, Buffered, RolledBack, Blocked}
 use Rattle.el_base.specs.declared.outcomes.Why.TheVariants.{Locked}
 use Rattle.computed_runs.proofs.Computing.{computing}
-use Rattle.computed_runs.proofs.Given.{Ending, ending_of, event, first_state, lost, patched, request, way}
+use Rattle.computed_runs.proofs.Given.{Ending, ending_of, event, first_state, ordered_with, patched, request, served_with, way}
 use Rattle.el_model.specs.Next.{outcomes_from, state_after}
 use Rattle.el_model.specs.State.{ModelState}
 use Rattle.moesi.specs.declared.letter.Letter.TheVariants.{M, O, S}
@@ -67,25 +67,24 @@ events =
 abbrev expected : List Outcome
 expected =
     Idle ∷ Ran ∷ Ran ∷ Idle ∷ Ran ∷ Ran ∷ Ran ∷ Ran ∷ Idle ∷ Idle ∷ Ran ∷ Idle ∷ Ran ∷ Ran ∷ Ran ∷ Idle ∷ Ran ∷ Idle ∷
-    Idle ∷ Ran ∷ Ran ∷ Idle ∷ Missed (line_addr 1024) Read ∷ Idle ∷ Ran ∷ Idle ∷ Ordered (lost ([])) ∷ Idle ∷
-    Served (lost ([])) ∷ Idle ∷ Began ∷ Idle ∷ Idle ∷ Idle ∷ Idle ∷ Ran ∷ Ran ∷ Ran ∷ Missed (line_addr 1024) Read ∷
-    Missed (line_addr 1025) Read ∷ Idle ∷ Ordered (lost ([])) ∷ Buffered ∷ Idle ∷ Idle ∷ Missed (line_addr 1025) Read ∷
-    Ordered (lost ([])) ∷ Served (lost ([])) ∷ Idle ∷ Missed (line_addr 1024) Read ∷ Idle ∷ Served (lost ([])) ∷ Idle ∷
-    Began ∷ Ran ∷ Ran ∷ Ordered (lost ([])) ∷ Idle ∷ Idle ∷ Ran ∷ Idle ∷ Ordered (lost ([])) ∷ Idle ∷ Buffered ∷ Ran ∷
-    Idle ∷ Served (lost ([])) ∷ Idle ∷ Served (lost ([])) ∷ Idle ∷ Missed (line_addr 1025) Write ∷ Began ∷ Idle ∷
-    Buffered ∷ Missed (line_addr 1025) Read ∷ Idle ∷ Ordered (lost ([])) ∷ Idle ∷ Served (lost ([])) ∷ Idle ∷ Idle ∷
-    Stalled ∷ RolledBack Long ∷ Buffered ∷ Idle ∷ Missed (line_addr 1025) Read ∷ Stalled ∷ Idle ∷
-    Missed (line_addr 1024) Write ∷ Idle ∷ Ordered (lost ([])) ∷ Served (lost ([])) ∷ Buffered ∷
-    Ordered (lost ((2, 1) ∷ (3, 1) ∷ [])) ∷ Idle ∷ Served (lost ([])) ∷ Missed (line_addr 1024) Read ∷ Idle ∷ Stalled ∷
-    Idle ∷ Missed (line_addr 1024) Read ∷ Idle ∷ Ordered (lost ([])) ∷ Ordered (lost ([])) ∷ Ran ∷ Idle ∷ Idle ∷ Ran ∷
-    Served (lost ([])) ∷ Ran ∷ Ran ∷ Ran ∷ Ordered (lost ([])) ∷ Missed (line_addr 1025) Read ∷ Idle ∷ Idle ∷ Ran ∷
-    Idle ∷ Idle ∷ Ran ∷ Stalled ∷ Idle ∷ Served (lost ([])) ∷ Blocked Locked (hart_id 3) ∷ Idle ∷
-    Missed (line_addr 1024) Write ∷ Ran ∷ Ran ∷ Ordered (lost ([])) ∷ Served (lost ([])) ∷ Stalled ∷
-    Missed (line_addr 1024) Write ∷ Served (lost ([])) ∷ Ordered (lost ([])) ∷ Ordered (lost ([])) ∷ Ran ∷ Idle ∷ Ran ∷
-    Idle ∷ Blocked Locked (hart_id 3) ∷ Ran ∷ Blocked Locked (hart_id 3) ∷ Ran ∷ Idle ∷ Served (lost ([])) ∷ Ran ∷
-    Idle ∷ Served (lost ([])) ∷ Missed (line_addr 1025) Write ∷ Ran ∷ Idle ∷ Idle ∷ Idle ∷ Stalled ∷ Ran ∷ Idle ∷
-    Idle ∷ Ran ∷ Idle ∷ Missed (line_addr 1025) Read ∷ Idle ∷ Ordered (lost ([])) ∷ Stalled ∷
-    Missed (line_addr 1025) Read ∷ Stalled ∷ Served (lost ([])) ∷ Ordered (lost ([])) ∷ Ran ∷ Ran ∷ Idle ∷ []
+    Idle ∷ Ran ∷ Ran ∷ Idle ∷ Missed (line_addr 1024) Read ∷ Idle ∷ Ran ∷ Idle ∷ ordered_with [] [] ∷ Idle ∷ served_with [] [] ∷
+    Idle ∷ Began ∷ Idle ∷ Idle ∷ Idle ∷ Idle ∷ Ran ∷ Ran ∷ Ran ∷ Missed (line_addr 1024) Read ∷
+    Missed (line_addr 1025) Read ∷ Idle ∷ ordered_with [] [] ∷ Buffered ∷ Idle ∷ Idle ∷ Missed (line_addr 1025) Read ∷
+    ordered_with [] [] ∷ served_with [] [] ∷ Idle ∷ Missed (line_addr 1024) Read ∷ Idle ∷ served_with [] [] ∷ Idle ∷ Began ∷ Ran ∷
+    Ran ∷ ordered_with [] [] ∷ Idle ∷ Idle ∷ Ran ∷ Idle ∷ ordered_with [] [] ∷ Idle ∷ Buffered ∷ Ran ∷ Idle ∷ served_with [] [] ∷
+    Idle ∷ served_with [] [] ∷ Idle ∷ Missed (line_addr 1025) Write ∷ Began ∷ Idle ∷ Buffered ∷
+    Missed (line_addr 1025) Read ∷ Idle ∷ ordered_with [] [] ∷ Idle ∷ served_with [] [] ∷ Idle ∷ Idle ∷ Stalled ∷
+    RolledBack Long ∷ Buffered ∷ Idle ∷ Missed (line_addr 1025) Read ∷ Stalled ∷ Idle ∷ Missed (line_addr 1024) Write ∷
+    Idle ∷ ordered_with [] [] ∷ served_with [] [] ∷ Buffered ∷ ordered_with ((2, 1) ∷ (3, 1) ∷ []) [] ∷ Idle ∷ served_with [] [] ∷
+    Missed (line_addr 1024) Read ∷ Idle ∷ Stalled ∷ Idle ∷ Missed (line_addr 1024) Read ∷ Idle ∷ ordered_with [] [] ∷
+    ordered_with [] [] ∷ Ran ∷ Idle ∷ Idle ∷ Ran ∷ served_with [] [] ∷ Ran ∷ Ran ∷ Ran ∷ ordered_with [] [] ∷
+    Missed (line_addr 1025) Read ∷ Idle ∷ Idle ∷ Ran ∷ Idle ∷ Idle ∷ Ran ∷ Stalled ∷ Idle ∷ served_with [] [] ∷
+    Blocked Locked (hart_id 3) ∷ Idle ∷ Missed (line_addr 1024) Write ∷ Ran ∷ Ran ∷ ordered_with [] [] ∷ served_with [] [] ∷
+    Stalled ∷ Missed (line_addr 1024) Write ∷ served_with [] [] ∷ ordered_with [] [] ∷ ordered_with [] [] ∷ Ran ∷ Idle ∷ Ran ∷ Idle ∷
+    Blocked Locked (hart_id 3) ∷ Ran ∷ Blocked Locked (hart_id 3) ∷ Ran ∷ Idle ∷ served_with [] [] ∷ Ran ∷ Idle ∷
+    served_with [] [] ∷ Missed (line_addr 1025) Write ∷ Ran ∷ Idle ∷ Idle ∷ Idle ∷ Stalled ∷ Ran ∷ Idle ∷ Idle ∷ Ran ∷
+    Idle ∷ Missed (line_addr 1025) Read ∷ Idle ∷ ordered_with [] [] ∷ Stalled ∷ Missed (line_addr 1025) Read ∷ Stalled ∷
+    served_with [] [] ∷ ordered_with [] [] ∷ Ran ∷ Ran ∷ Idle ∷ []
 
 outcomes : outcomes_from first events ≡ expected
 unfolding computing

@@ -9,10 +9,10 @@ use Rattle.el_base.specs.declared.events.Kind.TheVariants.{Step, Order, Serve, D
 use Rattle.el_base.specs.declared.outcomes.Cause.TheVariants.{Room, Call}
 use Rattle.el_base.specs.declared.outcomes.Need.TheVariants.{Read, Write}
 use Rattle.el_base.specs.declared.outcomes.Outcome.{Outcome}
-use Rattle.el_base.specs.declared.outcomes.Outcome.TheVariants.{Idle, Stalled, Missed, Ran, Began, Buffered, RolledBack, Ordered, Served, Blocked}
+use Rattle.el_base.specs.declared.outcomes.Outcome.TheVariants.{Idle, Stalled, Missed, Ran, Began, Buffered, RolledBack, Blocked}
 use Rattle.el_base.specs.declared.outcomes.Why.TheVariants.{Behind, Locked}
 use Rattle.computed_runs.proofs.Computing.{computing}
-use Rattle.computed_runs.proofs.Given.{Ending, ending_of, event, first_state, lost, patched, request, way}
+use Rattle.computed_runs.proofs.Given.{Ending, ending_of, event, first_state, ordered_with, patched, request, served_with, way}
 use Rattle.el_model.specs.Next.{outcomes_from, state_after}
 use Rattle.el_model.specs.State.{ModelState}
 use Rattle.moesi.specs.declared.letter.Letter.TheVariants.{M, O, S}
@@ -80,38 +80,35 @@ events =
 abbrev expected : List Outcome
 expected =
     Idle ∷ Ran ∷ Ran ∷ Ran ∷ Idle ∷ Ran ∷ Ran ∷ Ran ∷ Idle ∷ Idle ∷ Idle ∷ Ran ∷ Ran ∷ Idle ∷ Idle ∷ Ran ∷ Ran ∷ Ran ∷
-    Missed (line_addr 1025) Read ∷ Ran ∷ Missed (line_addr 1025) Read ∷ Idle ∷ Ordered (lost ([])) ∷
-    Ordered (lost ([])) ∷ Idle ∷ Stalled ∷ Served (lost ([])) ∷ Idle ∷ Blocked Locked (hart_id 1) ∷
-    Blocked Locked (hart_id 1) ∷ Blocked Locked (hart_id 1) ∷ Missed (line_addr 1025) Read ∷ Idle ∷
-    Blocked Locked (hart_id 1) ∷ Began ∷ Ordered (lost ([])) ∷ Served (lost ([])) ∷ Blocked Locked (hart_id 0) ∷
-    Stalled ∷ Idle ∷ Idle ∷ Blocked Locked (hart_id 0) ∷ Began ∷ Missed (line_addr 1028) Write ∷
-    Missed (line_addr 1028) Write ∷ Idle ∷ Idle ∷ Served (lost ([])) ∷ Ordered (lost ([])) ∷ Began ∷ Idle ∷ Idle ∷
-    Missed (line_addr 1028) Write ∷ Ordered (lost ([])) ∷ Idle ∷ Served (lost ((1, 0) ∷ [])) ∷ Ordered (lost ([])) ∷
-    Began ∷ Idle ∷ Missed (line_addr 1028) Write ∷ Blocked Behind (hart_id 0) ∷ Served (lost ((0, 2) ∷ [])) ∷ Began ∷
-    Served (lost ([])) ∷ Idle ∷ Idle ∷ Idle ∷ Missed (line_addr 1028) Write ∷ Buffered ∷ Idle ∷ RolledBack Room ∷
-    Missed (line_addr 1025) Write ∷ Ordered (lost ((0, 2) ∷ (1, 2) ∷ [])) ∷ Idle ∷ Ordered (lost ([])) ∷ Idle ∷
-    Stalled ∷ Stalled ∷ Served (lost ([])) ∷ Idle ∷ Ordered (lost ([])) ∷ Blocked Behind (hart_id 0) ∷
-    Blocked Behind (hart_id 0) ∷ Blocked Behind (hart_id 0) ∷ Idle ∷ Ran ∷ Idle ∷ Idle ∷ Served (lost ([])) ∷
-    Missed (line_addr 1025) Read ∷ Idle ∷ Idle ∷ Served (lost ([])) ∷ Ordered (lost ([])) ∷ Idle ∷ Idle ∷ Idle ∷
-    Missed (line_addr 1025) Read ∷ Stalled ∷ Idle ∷ Served (lost ([])) ∷ Missed (line_addr 1025) Write ∷
-    Ordered (lost ([])) ∷ Ordered (lost ([])) ∷ Stalled ∷ Blocked Behind (hart_id 1) ∷ Idle ∷ Stalled ∷
-    Served (lost ([])) ∷ Blocked Locked (hart_id 1) ∷ Missed (line_addr 1025) Write ∷ Ordered (lost ([])) ∷
-    Blocked Behind (hart_id 0) ∷ Stalled ∷ Idle ∷ Missed (line_addr 1028) Write ∷ Idle ∷ Served (lost ([])) ∷
-    Ordered (lost ([])) ∷ Stalled ∷ Served (lost ([])) ∷ Stalled ∷ Idle ∷ Ran ∷ Idle ∷ Ran ∷
-    Missed (line_addr 1028) Write ∷ Idle ∷ Stalled ∷ Ordered (lost ([])) ∷ Idle ∷ Missed (line_addr 1024) Read ∷
-    Served (lost ([])) ∷ Idle ∷ Idle ∷ Idle ∷ Idle ∷ Stalled ∷ Ran ∷ Ordered (lost ([])) ∷ Idle ∷ Served (lost ([])) ∷
-    Idle ∷ Missed (line_addr 1028) Write ∷ Ordered (lost ([])) ∷ Served (lost ([])) ∷ Blocked Locked (hart_id 0) ∷
-    Idle ∷ Stalled ∷ Ran ∷ Missed (line_addr 1024) Read ∷ Ordered (lost ([])) ∷ Blocked Locked (hart_id 2) ∷ Ran ∷
-    Idle ∷ Idle ∷ Idle ∷ Ran ∷ Idle ∷ Idle ∷ Served (lost ([])) ∷ Idle ∷ Served (lost ([])) ∷ Idle ∷ Ran ∷ Ran ∷ Ran ∷
-    Ran ∷ Idle ∷ Idle ∷ Idle ∷ Ran ∷ Idle ∷ Idle ∷ Idle ∷ Idle ∷ Missed (line_addr 1024) Read ∷ Stalled ∷ Idle ∷ Idle ∷
-    Ordered (lost ([])) ∷ Served (lost ([])) ∷ Idle ∷ Ran ∷ Ran ∷ Idle ∷ Idle ∷ Idle ∷ Ran ∷ Ran ∷ Began ∷ Idle ∷
-    Idle ∷ Ran ∷ Idle ∷ Idle ∷ Idle ∷ Idle ∷ Began ∷ Buffered ∷ Idle ∷ Idle ∷ Idle ∷ Idle ∷ Idle ∷ Idle ∷ Buffered ∷
-    Idle ∷ Idle ∷ Buffered ∷ RolledBack Call ∷ Missed (line_addr 1024) Write ∷ Idle ∷ Idle ∷ Idle ∷
-    Ordered (lost ((1, 0) ∷ [])) ∷ Idle ∷ Idle ∷ Served (lost ([])) ∷ Idle ∷ Missed (line_addr 1024) Read ∷ Idle ∷
-    Ordered (lost ([])) ∷ Idle ∷ Blocked Locked (hart_id 0) ∷ Blocked Locked (hart_id 0) ∷ Idle ∷
-    Blocked Locked (hart_id 0) ∷ Ran ∷ Idle ∷ Idle ∷ Idle ∷ Idle ∷ Served (lost ([])) ∷ Idle ∷ Idle ∷ Ran ∷ Idle ∷
-    Ran ∷ Idle ∷ Idle ∷ Idle ∷ Idle ∷ Missed (line_addr 1024) Write ∷ Idle ∷ Idle ∷ Ordered (lost ([])) ∷ Idle ∷ Idle ∷
-    Idle ∷ Idle ∷ Idle ∷ Idle ∷ Stalled ∷ Idle ∷ Idle ∷ Idle ∷ Idle ∷ Idle ∷ Idle ∷ []
+    Missed (line_addr 1025) Read ∷ Ran ∷ Missed (line_addr 1025) Read ∷ Idle ∷ ordered_with [] [] ∷ ordered_with [] [] ∷ Idle ∷
+    Stalled ∷ served_with [] [] ∷ Idle ∷ Blocked Locked (hart_id 1) ∷ Blocked Locked (hart_id 1) ∷
+    Blocked Locked (hart_id 1) ∷ Missed (line_addr 1025) Read ∷ Idle ∷ Blocked Locked (hart_id 1) ∷ Began ∷
+    ordered_with [] [] ∷ served_with [] [] ∷ Blocked Locked (hart_id 0) ∷ Stalled ∷ Idle ∷ Idle ∷ Blocked Locked (hart_id 0) ∷
+    Began ∷ Missed (line_addr 1028) Write ∷ Missed (line_addr 1028) Write ∷ Idle ∷ Idle ∷ served_with [] [] ∷
+    ordered_with [] [] ∷ Began ∷ Idle ∷ Idle ∷ Missed (line_addr 1028) Write ∷ ordered_with [] [] ∷ Idle ∷
+    served_with ((1, 0) ∷ []) [] ∷ ordered_with [] [] ∷ Began ∷ Idle ∷ Missed (line_addr 1028) Write ∷
+    Blocked Behind (hart_id 0) ∷ served_with ((0, 2) ∷ []) [] ∷ Began ∷ served_with [] [] ∷ Idle ∷ Idle ∷ Idle ∷
+    Missed (line_addr 1028) Write ∷ Buffered ∷ Idle ∷ RolledBack Room ∷ Missed (line_addr 1025) Write ∷
+    ordered_with ((0, 2) ∷ (1, 2) ∷ []) [] ∷ Idle ∷ ordered_with [] [] ∷ Idle ∷ Stalled ∷ Stalled ∷ served_with [] [] ∷ Idle ∷
+    ordered_with [] [] ∷ Blocked Behind (hart_id 0) ∷ Blocked Behind (hart_id 0) ∷ Blocked Behind (hart_id 0) ∷ Idle ∷ Ran ∷
+    Idle ∷ Idle ∷ served_with [] [] ∷ Missed (line_addr 1025) Read ∷ Idle ∷ Idle ∷ served_with [] [] ∷ ordered_with [] [] ∷ Idle ∷
+    Idle ∷ Idle ∷ Missed (line_addr 1025) Read ∷ Stalled ∷ Idle ∷ served_with [] [] ∷ Missed (line_addr 1025) Write ∷
+    ordered_with [] [] ∷ ordered_with [] [] ∷ Stalled ∷ Blocked Behind (hart_id 1) ∷ Idle ∷ Stalled ∷ served_with [] [] ∷
+    Blocked Locked (hart_id 1) ∷ Missed (line_addr 1025) Write ∷ ordered_with [] [] ∷ Blocked Behind (hart_id 0) ∷ Stalled ∷
+    Idle ∷ Missed (line_addr 1028) Write ∷ Idle ∷ served_with [] [] ∷ ordered_with [] [] ∷ Stalled ∷ served_with [] [] ∷ Stalled ∷
+    Idle ∷ Ran ∷ Idle ∷ Ran ∷ Missed (line_addr 1028) Write ∷ Idle ∷ Stalled ∷ ordered_with [] [] ∷ Idle ∷
+    Missed (line_addr 1024) Read ∷ served_with [] [] ∷ Idle ∷ Idle ∷ Idle ∷ Idle ∷ Stalled ∷ Ran ∷ ordered_with [] [] ∷ Idle ∷
+    served_with [] [] ∷ Idle ∷ Missed (line_addr 1028) Write ∷ ordered_with [] [] ∷ served_with [] [] ∷ Blocked Locked (hart_id 0) ∷
+    Idle ∷ Stalled ∷ Ran ∷ Missed (line_addr 1024) Read ∷ ordered_with [] [] ∷ Blocked Locked (hart_id 2) ∷ Ran ∷ Idle ∷
+    Idle ∷ Idle ∷ Ran ∷ Idle ∷ Idle ∷ served_with [] [] ∷ Idle ∷ served_with [] [] ∷ Idle ∷ Ran ∷ Ran ∷ Ran ∷ Ran ∷ Idle ∷ Idle ∷
+    Idle ∷ Ran ∷ Idle ∷ Idle ∷ Idle ∷ Idle ∷ Missed (line_addr 1024) Read ∷ Stalled ∷ Idle ∷ Idle ∷ ordered_with [] [] ∷
+    served_with [] [] ∷ Idle ∷ Ran ∷ Ran ∷ Idle ∷ Idle ∷ Idle ∷ Ran ∷ Ran ∷ Began ∷ Idle ∷ Idle ∷ Ran ∷ Idle ∷ Idle ∷ Idle ∷
+    Idle ∷ Began ∷ Buffered ∷ Idle ∷ Idle ∷ Idle ∷ Idle ∷ Idle ∷ Idle ∷ Buffered ∷ Idle ∷ Idle ∷ Buffered ∷
+    RolledBack Call ∷ Missed (line_addr 1024) Write ∷ Idle ∷ Idle ∷ Idle ∷ ordered_with ((1, 0) ∷ []) [] ∷ Idle ∷ Idle ∷
+    served_with [] [] ∷ Idle ∷ Missed (line_addr 1024) Read ∷ Idle ∷ ordered_with [] [] ∷ Idle ∷ Blocked Locked (hart_id 0) ∷
+    Blocked Locked (hart_id 0) ∷ Idle ∷ Blocked Locked (hart_id 0) ∷ Ran ∷ Idle ∷ Idle ∷ Idle ∷ Idle ∷ served_with [] [] ∷
+    Idle ∷ Idle ∷ Ran ∷ Idle ∷ Ran ∷ Idle ∷ Idle ∷ Idle ∷ Idle ∷ Missed (line_addr 1024) Write ∷ Idle ∷ Idle ∷
+    ordered_with [] [] ∷ Idle ∷ Idle ∷ Idle ∷ Idle ∷ Idle ∷ Idle ∷ Stalled ∷ Idle ∷ Idle ∷ Idle ∷ Idle ∷ Idle ∷ Idle ∷ []
 
 outcomes : outcomes_from first events ≡ expected
 unfolding computing

@@ -9,10 +9,10 @@ use Rattle.el_base.specs.declared.events.Kind.TheVariants.{Step, Order, Serve, D
 use Rattle.el_base.specs.declared.outcomes.Cause.TheVariants.{Call}
 use Rattle.el_base.specs.declared.outcomes.Need.TheVariants.{Read, Write}
 use Rattle.el_base.specs.declared.outcomes.Outcome.{Outcome}
-use Rattle.el_base.specs.declared.outcomes.Outcome.TheVariants.{Idle, Stalled, Missed, Ran, Began, Buffered, Committed, RolledBack, Ordered, Served, Blocked}
+use Rattle.el_base.specs.declared.outcomes.Outcome.TheVariants.{Idle, Stalled, Missed, Ran, Began, Buffered, Committed, RolledBack, Blocked}
 use Rattle.el_base.specs.declared.outcomes.Why.TheVariants.{Behind, Locked}
 use Rattle.computed_runs.proofs.Computing.{computing}
-use Rattle.computed_runs.proofs.Given.{Ending, ending_of, event, first_state, lost, patched, way}
+use Rattle.computed_runs.proofs.Given.{Ending, ending_of, event, first_state, ordered_with, patched, served_with, way}
 use Rattle.el_model.specs.Next.{outcomes_from, state_after}
 use Rattle.el_model.specs.State.{ModelState}
 use Rattle.moesi.specs.declared.letter.Letter.TheVariants.{M, S}
@@ -105,27 +105,26 @@ events =
 abbrev expected : List Outcome
 expected =
     Ran ∷ Ran ∷ Idle ∷ Ran ∷ Ran ∷ Idle ∷ Ran ∷ Idle ∷ Ran ∷ Ran ∷ Idle ∷ Ran ∷ Ran ∷ Ran ∷
-    Missed (line_addr 1026) Read ∷ Ran ∷ Ran ∷ Missed (line_addr 1024) Read ∷ Ordered (lost ([])) ∷
-    Ordered (lost ([])) ∷ Idle ∷ Served (lost ([])) ∷ Began ∷ Idle ∷ Missed (line_addr 1026) Read ∷ Idle ∷
-    Missed (line_addr 1024) Read ∷ Stalled ∷ Idle ∷ Ordered (lost ([])) ∷ Ordered (lost ([])) ∷ Idle ∷ Idle ∷ Stalled ∷
-    Stalled ∷ Stalled ∷ Served (lost ([])) ∷ Served (lost ([])) ∷ Ran ∷ Idle ∷ Served (lost ([])) ∷ Buffered ∷
-    Committed 3 ∷ Idle ∷ Missed (line_addr 1024) Write ∷ Idle ∷ Began ∷ Idle ∷ Missed (line_addr 1026) Read ∷ Idle ∷
-    Idle ∷ Began ∷ Ordered (lost ([])) ∷ RolledBack Call ∷ Idle ∷ Ordered (lost ((0, 1) ∷ [])) ∷ Served (lost ([])) ∷
-    Missed (line_addr 1024) Write ∷ Missed (line_addr 1024) Read ∷ Stalled ∷ Idle ∷ Ordered (lost ([])) ∷
-    Blocked Behind (hart_id 1) ∷ Idle ∷ Ordered (lost ([])) ∷ Blocked Behind (hart_id 1) ∷ Blocked Behind (hart_id 1) ∷
-    Blocked Behind (hart_id 1) ∷ Blocked Behind (hart_id 1) ∷ Stalled ∷ Blocked Behind (hart_id 1) ∷ Idle ∷ Idle ∷
-    Idle ∷ Served (lost ([])) ∷ Blocked Locked (hart_id 1) ∷ Ran ∷ Blocked Behind (hart_id 0) ∷ Stalled ∷
-    Served (lost ([])) ∷ Idle ∷ Missed (line_addr 1024) Read ∷ Idle ∷ Idle ∷ Missed (line_addr 1024) Read ∷
-    Ordered (lost ([])) ∷ Idle ∷ Blocked Behind (hart_id 2) ∷ Ordered (lost ([])) ∷ Blocked Behind (hart_id 2) ∷ Idle ∷
-    Served (lost ([])) ∷ Ran ∷ Ran ∷ Idle ∷ Idle ∷ Idle ∷ Served (lost ([])) ∷ Missed (line_addr 1024) Write ∷
-    Served (lost ([])) ∷ Ordered (lost ([])) ∷ Idle ∷ Idle ∷ Idle ∷ Blocked Locked (hart_id 0) ∷
+    Missed (line_addr 1026) Read ∷ Ran ∷ Ran ∷ Missed (line_addr 1024) Read ∷ ordered_with [] [] ∷ ordered_with [] [] ∷ Idle ∷
+    served_with [] [] ∷ Began ∷ Idle ∷ Missed (line_addr 1026) Read ∷ Idle ∷ Missed (line_addr 1024) Read ∷ Stalled ∷ Idle ∷
+    ordered_with [] [] ∷ ordered_with [] [] ∷ Idle ∷ Idle ∷ Stalled ∷ Stalled ∷ Stalled ∷ served_with [] [] ∷ served_with [] [] ∷ Ran ∷
+    Idle ∷ served_with [] [] ∷ Buffered ∷ Committed 3 ∷ Idle ∷ Missed (line_addr 1024) Write ∷ Idle ∷ Began ∷ Idle ∷
+    Missed (line_addr 1026) Read ∷ Idle ∷ Idle ∷ Began ∷ ordered_with [] [] ∷ RolledBack Call ∷ Idle ∷
+    ordered_with ((0, 1) ∷ []) [] ∷ served_with [] [] ∷ Missed (line_addr 1024) Write ∷ Missed (line_addr 1024) Read ∷ Stalled ∷
+    Idle ∷ ordered_with [] [] ∷ Blocked Behind (hart_id 1) ∷ Idle ∷ ordered_with [] [] ∷ Blocked Behind (hart_id 1) ∷
+    Blocked Behind (hart_id 1) ∷ Blocked Behind (hart_id 1) ∷ Blocked Behind (hart_id 1) ∷ Stalled ∷
+    Blocked Behind (hart_id 1) ∷ Idle ∷ Idle ∷ Idle ∷ served_with [] [] ∷ Blocked Locked (hart_id 1) ∷ Ran ∷
+    Blocked Behind (hart_id 0) ∷ Stalled ∷ served_with [] [] ∷ Idle ∷ Missed (line_addr 1024) Read ∷ Idle ∷ Idle ∷
+    Missed (line_addr 1024) Read ∷ ordered_with [] [] ∷ Idle ∷ Blocked Behind (hart_id 2) ∷ ordered_with [] [] ∷
+    Blocked Behind (hart_id 2) ∷ Idle ∷ served_with [] [] ∷ Ran ∷ Ran ∷ Idle ∷ Idle ∷ Idle ∷ served_with [] [] ∷
+    Missed (line_addr 1024) Write ∷ served_with [] [] ∷ ordered_with [] [] ∷ Idle ∷ Idle ∷ Idle ∷ Blocked Locked (hart_id 0) ∷
     Blocked Locked (hart_id 0) ∷ Idle ∷ Blocked Locked (hart_id 0) ∷ Blocked Locked (hart_id 0) ∷ Idle ∷
-    Blocked Locked (hart_id 0) ∷ Missed (line_addr 1024) Write ∷ Served (lost ([])) ∷ Idle ∷ Stalled ∷ Idle ∷ Ran ∷
-    Ordered (lost ([])) ∷ Idle ∷ Idle ∷ Idle ∷ Idle ∷ Idle ∷ Ran ∷ Idle ∷ Idle ∷ Idle ∷ Served (lost ([])) ∷ Ran ∷
-    Idle ∷ Idle ∷ Idle ∷ Idle ∷ Ran ∷ Idle ∷ Idle ∷ Idle ∷ Idle ∷ Idle ∷ Ran ∷ Idle ∷ Idle ∷ Idle ∷ Idle ∷ Idle ∷
-    Idle ∷ Idle ∷ Began ∷ Idle ∷ Idle ∷ Idle ∷ Idle ∷ Idle ∷ Idle ∷ Idle ∷ Idle ∷ Idle ∷ Idle ∷ Idle ∷ Idle ∷ Idle ∷
-    Idle ∷ Idle ∷ Idle ∷ Idle ∷ Idle ∷ Idle ∷ Idle ∷ Idle ∷ Idle ∷ RolledBack Call ∷ Idle ∷ Idle ∷ Idle ∷ Ran ∷ Idle ∷
-    Idle ∷ Idle ∷ Idle ∷ Idle ∷ Idle ∷ Idle ∷ Idle ∷ Idle ∷ Idle ∷ Ran ∷ Idle ∷ Idle ∷ Idle ∷ Idle ∷ Idle ∷ Idle ∷
+    Blocked Locked (hart_id 0) ∷ Missed (line_addr 1024) Write ∷ served_with [] [] ∷ Idle ∷ Stalled ∷ Idle ∷ Ran ∷
+    ordered_with [] [] ∷ Idle ∷ Idle ∷ Idle ∷ Idle ∷ Idle ∷ Ran ∷ Idle ∷ Idle ∷ Idle ∷ served_with [] [] ∷ Ran ∷ Idle ∷ Idle ∷
+    Idle ∷ Idle ∷ Ran ∷ Idle ∷ Idle ∷ Idle ∷ Idle ∷ Idle ∷ Ran ∷ Idle ∷ Idle ∷ Idle ∷ Idle ∷ Idle ∷ Idle ∷ Idle ∷
+    Began ∷ Idle ∷ Idle ∷ Idle ∷ Idle ∷ Idle ∷ Idle ∷ Idle ∷ Idle ∷ Idle ∷ Idle ∷ Idle ∷ Idle ∷ Idle ∷ Idle ∷ Idle ∷
+    Idle ∷ Idle ∷ Idle ∷ Idle ∷ Idle ∷ Idle ∷ Idle ∷ RolledBack Call ∷ Idle ∷ Idle ∷ Idle ∷ Ran ∷ Idle ∷ Idle ∷ Idle ∷
+    Idle ∷ Idle ∷ Idle ∷ Idle ∷ Idle ∷ Idle ∷ Idle ∷ Ran ∷ Idle ∷ Idle ∷ Idle ∷ Idle ∷ Idle ∷ Idle ∷ Idle ∷ Idle ∷
     Idle ∷ Idle ∷ Idle ∷ Idle ∷ Idle ∷ Idle ∷ Idle ∷ Idle ∷ Idle ∷ Idle ∷ Idle ∷ Idle ∷ Idle ∷ Idle ∷ Idle ∷ Idle ∷
     Idle ∷ Idle ∷ Idle ∷ Idle ∷ Idle ∷ Idle ∷ Idle ∷ Idle ∷ Idle ∷ Idle ∷ Idle ∷ Idle ∷ Idle ∷ Idle ∷ Idle ∷ Idle ∷
     Idle ∷ Idle ∷ Idle ∷ Idle ∷ Idle ∷ Idle ∷ Idle ∷ Idle ∷ Idle ∷ Idle ∷ Idle ∷ Idle ∷ Idle ∷ Idle ∷ Idle ∷ Idle ∷
@@ -141,7 +140,7 @@ expected =
     Idle ∷ Idle ∷ Idle ∷ Idle ∷ Idle ∷ Idle ∷ Idle ∷ Idle ∷ Idle ∷ Idle ∷ Idle ∷ Idle ∷ Idle ∷ Idle ∷ Idle ∷ Idle ∷
     Idle ∷ Idle ∷ Idle ∷ Idle ∷ Idle ∷ Idle ∷ Idle ∷ Idle ∷ Idle ∷ Idle ∷ Idle ∷ Idle ∷ Idle ∷ Idle ∷ Idle ∷ Idle ∷
     Idle ∷ Idle ∷ Idle ∷ Idle ∷ Idle ∷ Idle ∷ Idle ∷ Idle ∷ Idle ∷ Idle ∷ Idle ∷ Idle ∷ Idle ∷ Idle ∷ Idle ∷ Idle ∷
-    Idle ∷ Idle ∷ Idle ∷ Idle ∷ Idle ∷ Idle ∷ Idle ∷ Idle ∷ []
+    Idle ∷ Idle ∷ Idle ∷ Idle ∷ Idle ∷ Idle ∷ []
 
 outcomes : outcomes_from first events ≡ expected
 unfolding computing

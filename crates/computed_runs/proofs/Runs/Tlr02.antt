@@ -9,10 +9,10 @@ use Rattle.el_base.specs.declared.events.Kind.TheVariants.{Step, Order, Serve, D
 use Rattle.el_base.specs.declared.outcomes.Cause.TheVariants.{Room}
 use Rattle.el_base.specs.declared.outcomes.Need.TheVariants.{Read, Write}
 use Rattle.el_base.specs.declared.outcomes.Outcome.{Outcome}
-use Rattle.el_base.specs.declared.outcomes.Outcome.TheVariants.{Idle, Stalled, Missed, Ran, Began, Buffered, RolledBack, Ordered, Served, Blocked, Delivered}
+use Rattle.el_base.specs.declared.outcomes.Outcome.TheVariants.{Idle, Stalled, Missed, Ran, Began, Buffered, RolledBack, Blocked, Delivered}
 use Rattle.el_base.specs.declared.outcomes.Why.TheVariants.{Behind, Retained, Locked}
 use Rattle.computed_runs.proofs.Computing.{computing}
-use Rattle.computed_runs.proofs.Given.{Ending, ending_of, event, first_state, lost, patched, request, section, stamp, way}
+use Rattle.computed_runs.proofs.Given.{Ending, ending_of, event, first_state, lost, ordered_with, patched, request, section, served_with, stamp, way}
 use Rattle.el_model.specs.Next.{outcomes_from, state_after}
 use Rattle.el_model.specs.State.{ModelState}
 use Rattle.mail.specs.Mailbox.{Marker}
@@ -66,27 +66,26 @@ abbrev expected : List Outcome
 expected =
     Ran ∷ Ran ∷ Ran ∷ Ran ∷ Ran ∷ Ran ∷ Idle ∷ Idle ∷ Idle ∷ Idle ∷ Ran ∷ Ran ∷ Ran ∷ Ran ∷ Idle ∷ Idle ∷ Idle ∷ Ran ∷
     Ran ∷ Idle ∷ Idle ∷ Ran ∷ Ran ∷ Idle ∷ Missed (line_addr 1025) Read ∷ Ran ∷ Missed (line_addr 1025) Read ∷
-    Missed (line_addr 1025) Read ∷ Ran ∷ Missed (line_addr 1025) Read ∷ Ordered (lost ([])) ∷ Ordered (lost ([])) ∷
-    Blocked Behind (hart_id 3) ∷ Ordered (lost ([])) ∷ Stalled ∷ Ordered (lost ([])) ∷ Blocked Behind (hart_id 3) ∷
-    Blocked Behind (hart_id 3) ∷ Delivered (lost ([])) ∷ Served (lost ([])) ∷ Delivered (lost ([])) ∷
-    Delivered (lost ([])) ∷ Delivered (lost ([])) ∷ Blocked Locked (hart_id 3) ∷ Blocked Behind (hart_id 1) ∷ Began ∷
-    Stalled ∷ Stalled ∷ Blocked Behind (hart_id 1) ∷ Missed (line_addr 1024) Write ∷ Idle ∷ Ordered (lost ([])) ∷
-    Delivered (lost ([])) ∷ Blocked Behind (hart_id 1) ∷ Stalled ∷ Served (lost ([])) ∷ Delivered (lost ([])) ∷ Idle ∷
-    Idle ∷ Served (lost ([])) ∷ Idle ∷ Idle ∷ Blocked Locked (hart_id 1) ∷ Idle ∷ Delivered (lost ([])) ∷
-    Delivered (lost ([])) ∷ Began ∷ Stalled ∷ Missed (line_addr 1024) Write ∷ Served (lost ([])) ∷ Buffered ∷
-    Ordered (lost ((3, 1) ∷ [])) ∷ Began ∷ Missed (line_addr 1024) Write ∷ Idle ∷ Ordered (lost ([])) ∷
-    Served (lost ([])) ∷ Stalled ∷ Began ∷ Delivered (lost ([])) ∷ Missed (line_addr 1024) Write ∷
-    Delivered (lost ([])) ∷ Began ∷ Idle ∷ Ordered (lost ([])) ∷ Delivered (lost ([])) ∷ Delivered (lost ([])) ∷
-    Blocked Behind (hart_id 1) ∷ Idle ∷ Blocked Behind (hart_id 1) ∷ Blocked Behind (hart_id 1) ∷ Served (lost ([])) ∷
-    Missed (line_addr 1024) Write ∷ Buffered ∷ RolledBack Room ∷ Delivered (lost ([])) ∷ Idle ∷ Ordered (lost ([])) ∷
-    Delivered (lost ([])) ∷ Delivered (lost ([])) ∷ Stalled ∷ Served (lost ((2, 0) ∷ [])) ∷ Idle ∷ Served (lost ([])) ∷
-    Delivered (lost ([])) ∷ Buffered ∷ Began ∷ Idle ∷ RolledBack Room ∷ Idle ∷ Idle ∷ Idle ∷
-    Missed (line_addr 1024) Write ∷ Missed (line_addr 1025) Write ∷ Delivered (lost ([])) ∷ Delivered (lost ([])) ∷
-    Missed (line_addr 1025) Write ∷ Stalled ∷ Stalled ∷ Idle ∷ Idle ∷ Idle ∷ Stalled ∷ Idle ∷ Idle ∷
-    Served (lost ([])) ∷ Ordered (lost ([])) ∷ Blocked Retained (hart_id 2) ∷ Idle ∷ Blocked Retained (hart_id 2) ∷
-    Ordered (lost ((3, 2) ∷ [])) ∷ Idle ∷ Blocked Retained (hart_id 2) ∷ Blocked Retained (hart_id 2) ∷
+    Missed (line_addr 1025) Read ∷ Ran ∷ Missed (line_addr 1025) Read ∷ ordered_with [] [] ∷ ordered_with [] [] ∷
+    Blocked Behind (hart_id 3) ∷ ordered_with [] [] ∷ Stalled ∷ ordered_with [] [] ∷ Blocked Behind (hart_id 3) ∷
+    Blocked Behind (hart_id 3) ∷ Delivered (lost []) ∷ served_with [] [] ∷ Delivered (lost []) ∷ Delivered (lost []) ∷
+    Delivered (lost []) ∷ Blocked Locked (hart_id 3) ∷ Blocked Behind (hart_id 1) ∷ Began ∷ Stalled ∷ Stalled ∷
+    Blocked Behind (hart_id 1) ∷ Missed (line_addr 1024) Write ∷ Idle ∷ ordered_with [] [] ∷ Delivered (lost []) ∷
+    Blocked Behind (hart_id 1) ∷ Stalled ∷ served_with [] [] ∷ Delivered (lost []) ∷ Idle ∷ Idle ∷ served_with [] [] ∷ Idle ∷
+    Idle ∷ Blocked Locked (hart_id 1) ∷ Idle ∷ Delivered (lost []) ∷ Delivered (lost []) ∷ Began ∷ Stalled ∷
+    Missed (line_addr 1024) Write ∷ served_with [] [] ∷ Buffered ∷ ordered_with ((3, 1) ∷ []) [] ∷ Began ∷
+    Missed (line_addr 1024) Write ∷ Idle ∷ ordered_with [] [] ∷ served_with [] [] ∷ Stalled ∷ Began ∷ Delivered (lost []) ∷
+    Missed (line_addr 1024) Write ∷ Delivered (lost []) ∷ Began ∷ Idle ∷ ordered_with [] [] ∷ Delivered (lost []) ∷
+    Delivered (lost []) ∷ Blocked Behind (hart_id 1) ∷ Idle ∷ Blocked Behind (hart_id 1) ∷
+    Blocked Behind (hart_id 1) ∷ served_with [] [] ∷ Missed (line_addr 1024) Write ∷ Buffered ∷ RolledBack Room ∷
+    Delivered (lost []) ∷ Idle ∷ ordered_with [] [] ∷ Delivered (lost []) ∷ Delivered (lost []) ∷ Stalled ∷
+    served_with ((2, 0) ∷ []) [] ∷ Idle ∷ served_with [] [] ∷ Delivered (lost []) ∷ Buffered ∷ Began ∷ Idle ∷ RolledBack Room ∷
+    Idle ∷ Idle ∷ Idle ∷ Missed (line_addr 1024) Write ∷ Missed (line_addr 1025) Write ∷ Delivered (lost []) ∷
+    Delivered (lost []) ∷ Missed (line_addr 1025) Write ∷ Stalled ∷ Stalled ∷ Idle ∷ Idle ∷ Idle ∷ Stalled ∷ Idle ∷
+    Idle ∷ served_with [] [] ∷ ordered_with [] [] ∷ Blocked Retained (hart_id 2) ∷ Idle ∷ Blocked Retained (hart_id 2) ∷
+    ordered_with ((3, 2) ∷ []) [] ∷ Idle ∷ Blocked Retained (hart_id 2) ∷ Blocked Retained (hart_id 2) ∷
     Missed (line_addr 1025) Read ∷ Stalled ∷ Blocked Retained (hart_id 2) ∷ Blocked Retained (hart_id 2) ∷
-    Ordered (lost ([])) ∷ Idle ∷ []
+    ordered_with [] [] ∷ Idle ∷ []
 
 outcomes : outcomes_from first events ≡ expected
 unfolding computing

@@ -9,10 +9,10 @@ use Rattle.el_base.specs.declared.events.Kind.TheVariants.{Step, Order, Serve, D
 use Rattle.el_base.specs.declared.outcomes.Cause.TheVariants.{Call}
 use Rattle.el_base.specs.declared.outcomes.Need.TheVariants.{Read, Write}
 use Rattle.el_base.specs.declared.outcomes.Outcome.{Outcome}
-use Rattle.el_base.specs.declared.outcomes.Outcome.TheVariants.{Idle, Stalled, Missed, Ran, Began, RolledBack, Ordered, Served, Blocked, Delivered}
+use Rattle.el_base.specs.declared.outcomes.Outcome.TheVariants.{Idle, Stalled, Missed, Ran, Began, RolledBack, Blocked, Delivered}
 use Rattle.el_base.specs.declared.outcomes.Why.TheVariants.{Behind, Retained, Locked}
 use Rattle.computed_runs.proofs.Computing.{computing}
-use Rattle.computed_runs.proofs.Given.{Ending, ending_of, event, first_state, lost, patched, way}
+use Rattle.computed_runs.proofs.Given.{Ending, ending_of, event, first_state, lost, ordered_with, patched, served_with, way}
 use Rattle.el_model.specs.Next.{outcomes_from, state_after}
 use Rattle.el_model.specs.State.{ModelState}
 use Rattle.moesi.specs.declared.letter.Letter.TheVariants.{M}
@@ -84,19 +84,18 @@ events =
 abbrev expected : List Outcome
 expected =
     Ran ∷ Idle ∷ Idle ∷ Ran ∷ Ran ∷ Ran ∷ Ran ∷ Ran ∷ Ran ∷ Ran ∷ Idle ∷ Ran ∷ Ran ∷ Missed (line_addr 1024) Read ∷
-    Ran ∷ Idle ∷ Missed (line_addr 1024) Read ∷ Ordered (lost ([])) ∷ Idle ∷ Idle ∷ Served (lost ([])) ∷ Ran ∷ Idle ∷
-    Missed (line_addr 1024) Read ∷ Idle ∷ Idle ∷ Ordered (lost ([])) ∷ Idle ∷ Ordered (lost ([])) ∷
-    Missed (line_addr 1024) Read ∷ Began ∷ Blocked Behind (hart_id 0) ∷ Idle ∷ Served (lost ([])) ∷
-    Blocked Locked (hart_id 0) ∷ Began ∷ Served (lost ([])) ∷ Ordered (lost ([])) ∷ Idle ∷ RolledBack Call ∷ Began ∷
-    RolledBack Call ∷ Served (lost ([])) ∷ Idle ∷ Idle ∷ Idle ∷ Idle ∷ Began ∷ RolledBack Call ∷
-    Missed (line_addr 1024) Write ∷ Missed (line_addr 1024) Write ∷ Ordered (lost ([])) ∷ Idle ∷
+    Ran ∷ Idle ∷ Missed (line_addr 1024) Read ∷ ordered_with [] [] ∷ Idle ∷ Idle ∷ served_with [] [] ∷ Ran ∷ Idle ∷
+    Missed (line_addr 1024) Read ∷ Idle ∷ Idle ∷ ordered_with [] [] ∷ Idle ∷ ordered_with [] [] ∷ Missed (line_addr 1024) Read ∷
+    Began ∷ Blocked Behind (hart_id 0) ∷ Idle ∷ served_with [] [] ∷ Blocked Locked (hart_id 0) ∷ Began ∷ served_with [] [] ∷
+    ordered_with [] [] ∷ Idle ∷ RolledBack Call ∷ Began ∷ RolledBack Call ∷ served_with [] [] ∷ Idle ∷ Idle ∷ Idle ∷ Idle ∷
+    Began ∷ RolledBack Call ∷ Missed (line_addr 1024) Write ∷ Missed (line_addr 1024) Write ∷ ordered_with [] [] ∷ Idle ∷
     Blocked Retained (hart_id 1) ∷ Missed (line_addr 1024) Write ∷ Blocked Retained (hart_id 1) ∷ Idle ∷
-    Blocked Retained (hart_id 1) ∷ RolledBack Call ∷ Ordered (lost ([])) ∷ Idle ∷ Delivered (lost ([])) ∷
-    Blocked Behind (hart_id 2) ∷ Served (lost ([])) ∷ Missed (line_addr 1024) Write ∷ Idle ∷ Ran ∷ Served (lost ([])) ∷
-    Idle ∷ Ran ∷ Idle ∷ Ordered (lost ([])) ∷ Idle ∷ Blocked Locked (hart_id 3) ∷ Blocked Locked (hart_id 3) ∷ Idle ∷
-    Ran ∷ Idle ∷ Ran ∷ Idle ∷ Ordered (lost ([])) ∷ Delivered (lost ([])) ∷ Stalled ∷ Delivered (lost ([])) ∷ Idle ∷
-    Idle ∷ Idle ∷ Idle ∷ Stalled ∷ Idle ∷ Idle ∷ Idle ∷ Served (lost ([])) ∷ Idle ∷ Blocked Locked (hart_id 0) ∷ Ran ∷
-    Served (lost ([])) ∷ Idle ∷ Idle ∷ Ran ∷ Ran ∷ Idle ∷ Ran ∷ Idle ∷ Idle ∷ Idle ∷ Idle ∷ Idle ∷ Idle ∷ Idle ∷ Idle ∷
+    Blocked Retained (hart_id 1) ∷ RolledBack Call ∷ ordered_with [] [] ∷ Idle ∷ Delivered (lost []) ∷
+    Blocked Behind (hart_id 2) ∷ served_with [] [] ∷ Missed (line_addr 1024) Write ∷ Idle ∷ Ran ∷ served_with [] [] ∷ Idle ∷
+    Ran ∷ Idle ∷ ordered_with [] [] ∷ Idle ∷ Blocked Locked (hart_id 3) ∷ Blocked Locked (hart_id 3) ∷ Idle ∷ Ran ∷ Idle ∷
+    Ran ∷ Idle ∷ ordered_with [] [] ∷ Delivered (lost []) ∷ Stalled ∷ Delivered (lost []) ∷ Idle ∷ Idle ∷ Idle ∷ Idle ∷
+    Stalled ∷ Idle ∷ Idle ∷ Idle ∷ served_with [] [] ∷ Idle ∷ Blocked Locked (hart_id 0) ∷ Ran ∷ served_with [] [] ∷ Idle ∷
+    Idle ∷ Ran ∷ Ran ∷ Idle ∷ Ran ∷ Idle ∷ Idle ∷ Idle ∷ Idle ∷ Idle ∷ Idle ∷ Idle ∷ Idle ∷ Idle ∷ Idle ∷ Idle ∷ Idle ∷
     Idle ∷ Idle ∷ Idle ∷ Idle ∷ Idle ∷ Idle ∷ Idle ∷ Idle ∷ Idle ∷ Idle ∷ Idle ∷ Idle ∷ Idle ∷ Idle ∷ Idle ∷ Idle ∷
     Idle ∷ Idle ∷ Idle ∷ Idle ∷ Idle ∷ Idle ∷ Idle ∷ Idle ∷ Idle ∷ Idle ∷ Idle ∷ Idle ∷ Idle ∷ Idle ∷ Idle ∷ Idle ∷
     Idle ∷ Idle ∷ Idle ∷ Idle ∷ Idle ∷ Idle ∷ Idle ∷ Idle ∷ Idle ∷ Idle ∷ Idle ∷ Idle ∷ Idle ∷ Idle ∷ Idle ∷ Idle ∷
@@ -107,8 +106,7 @@ expected =
     Idle ∷ Idle ∷ Idle ∷ Idle ∷ Idle ∷ Idle ∷ Idle ∷ Idle ∷ Idle ∷ Idle ∷ Idle ∷ Idle ∷ Idle ∷ Idle ∷ Idle ∷ Idle ∷
     Idle ∷ Idle ∷ Idle ∷ Idle ∷ Idle ∷ Idle ∷ Idle ∷ Idle ∷ Idle ∷ Idle ∷ Idle ∷ Idle ∷ Idle ∷ Idle ∷ Idle ∷ Idle ∷
     Idle ∷ Idle ∷ Idle ∷ Idle ∷ Idle ∷ Idle ∷ Idle ∷ Idle ∷ Idle ∷ Idle ∷ Idle ∷ Idle ∷ Idle ∷ Idle ∷ Idle ∷ Idle ∷
-    Idle ∷ Idle ∷ Idle ∷ Idle ∷ Idle ∷ Idle ∷ Idle ∷ Idle ∷ Idle ∷ Idle ∷ Idle ∷ Idle ∷ Idle ∷ Idle ∷ Idle ∷ Idle ∷
-    Idle ∷ Idle ∷ Idle ∷ []
+    Idle ∷ Idle ∷ Idle ∷ Idle ∷ Idle ∷ Idle ∷ Idle ∷ Idle ∷ Idle ∷ Idle ∷ Idle ∷ Idle ∷ Idle ∷ Idle ∷ Idle ∷ []
 
 outcomes : outcomes_from first events ≡ expected
 unfolding computing

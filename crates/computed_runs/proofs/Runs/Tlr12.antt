@@ -9,10 +9,10 @@ use Rattle.el_base.specs.declared.events.Kind.TheVariants.{Step, Order, Serve, D
 use Rattle.el_base.specs.declared.outcomes.Cause.TheVariants.{Call}
 use Rattle.el_base.specs.declared.outcomes.Need.TheVariants.{Read, Write}
 use Rattle.el_base.specs.declared.outcomes.Outcome.{Outcome}
-use Rattle.el_base.specs.declared.outcomes.Outcome.TheVariants.{Idle, Stalled, Missed, Ran, Began, Buffered, Committed, RolledBack, Ordered, Served, Blocked, Delivered}
+use Rattle.el_base.specs.declared.outcomes.Outcome.TheVariants.{Idle, Stalled, Missed, Ran, Began, Buffered, Committed, RolledBack, Blocked, Delivered}
 use Rattle.el_base.specs.declared.outcomes.Why.TheVariants.{Behind, Retained, Locked}
 use Rattle.computed_runs.proofs.Computing.{computing}
-use Rattle.computed_runs.proofs.Given.{Ending, ending_of, event, first_state, lost, patched, way}
+use Rattle.computed_runs.proofs.Given.{Ending, ending_of, event, first_state, lost, ordered_with, patched, served_with, way}
 use Rattle.el_model.specs.Next.{outcomes_from, state_after}
 use Rattle.el_model.specs.State.{ModelState}
 use Rattle.moesi.specs.declared.letter.Letter.TheVariants.{M, S}
@@ -106,27 +106,26 @@ events =
 abbrev expected : List Outcome
 expected =
     Ran ∷ Ran ∷ Idle ∷ Ran ∷ Ran ∷ Idle ∷ Ran ∷ Idle ∷ Ran ∷ Ran ∷ Idle ∷ Ran ∷ Ran ∷ Ran ∷
-    Missed (line_addr 1026) Read ∷ Ran ∷ Ran ∷ Missed (line_addr 1024) Read ∷ Ordered (lost ([])) ∷
-    Ordered (lost ([])) ∷ Idle ∷ Served (lost ([])) ∷ Began ∷ Idle ∷ Missed (line_addr 1026) Read ∷ Idle ∷
-    Missed (line_addr 1024) Read ∷ Stalled ∷ Idle ∷ Ordered (lost ([])) ∷ Ordered (lost ([])) ∷ Idle ∷ Idle ∷
-    Delivered (lost ([])) ∷ Delivered (lost ([])) ∷ Stalled ∷ Served (lost ([])) ∷ Stalled ∷ Idle ∷ Idle ∷ Idle ∷
-    Served (lost ([])) ∷ Idle ∷ Idle ∷ Stalled ∷ Began ∷ Ran ∷ Missed (line_addr 1024) Write ∷ Idle ∷ Idle ∷
-    Ordered (lost ([])) ∷ Idle ∷ Served (lost ([])) ∷ Delivered (lost ([])) ∷ Missed (line_addr 1026) Read ∷
-    Delivered (lost ([])) ∷ Delivered (lost ([])) ∷ Idle ∷ Delivered (lost ([])) ∷ Blocked Retained (hart_id 0) ∷
-    Buffered ∷ Idle ∷ Ordered (lost ([])) ∷ Served (lost ([])) ∷ Buffered ∷ Idle ∷ Blocked Retained (hart_id 0) ∷
-    Idle ∷ Committed 3 ∷ Idle ∷ Missed (line_addr 1024) Read ∷ Committed 3 ∷ Ordered (lost ([])) ∷
-    Blocked Behind (hart_id 1) ∷ Blocked Behind (hart_id 1) ∷ Missed (line_addr 1024) Read ∷
-    Blocked Behind (hart_id 1) ∷ Idle ∷ Ordered (lost ([])) ∷ Delivered (lost ([])) ∷ Idle ∷ Delivered (lost ([])) ∷
-    Idle ∷ Delivered (lost ([])) ∷ Blocked Behind (hart_id 1) ∷ Blocked Behind (hart_id 1) ∷ Delivered (lost ([])) ∷
-    Served (lost ([])) ∷ Stalled ∷ Delivered (lost ([])) ∷ Idle ∷ Idle ∷ Ran ∷ Idle ∷ Idle ∷ Idle ∷ Idle ∷
-    Delivered (lost ([])) ∷ Idle ∷ Idle ∷ Stalled ∷ Idle ∷ Served (lost ([])) ∷ Blocked Locked (hart_id 2) ∷ Idle ∷
-    Idle ∷ Idle ∷ Idle ∷ Idle ∷ Began ∷ RolledBack Call ∷ Began ∷ Served (lost ([])) ∷ RolledBack Call ∷
-    Missed (line_addr 1024) Write ∷ Missed (line_addr 1024) Write ∷ Idle ∷ Idle ∷ Began ∷ Ordered (lost ([])) ∷
-    RolledBack Call ∷ Ordered (lost ([])) ∷ Delivered (lost ([])) ∷ Delivered (lost ([])) ∷
-    Missed (line_addr 1024) Write ∷ Ordered (lost ([])) ∷ Served (lost ([])) ∷ Blocked Locked (hart_id 1) ∷
-    Delivered (lost ([])) ∷ Idle ∷ Delivered (lost ([])) ∷ Ran ∷ Served (lost ([])) ∷ Delivered (lost ([])) ∷ Idle ∷
-    Blocked Locked (hart_id 2) ∷ Blocked Locked (hart_id 2) ∷ Ran ∷ Idle ∷ Idle ∷ Idle ∷ Ran ∷ Served (lost ([])) ∷
-    Ran ∷ Idle ∷ Idle ∷ Idle ∷ Ran ∷ Idle ∷ Idle ∷ Idle ∷ Idle ∷ Idle ∷ Idle ∷ Idle ∷ Ran ∷ Idle ∷ Idle ∷ Idle ∷ Idle ∷
+    Missed (line_addr 1026) Read ∷ Ran ∷ Ran ∷ Missed (line_addr 1024) Read ∷ ordered_with [] [] ∷ ordered_with [] [] ∷ Idle ∷
+    served_with [] [] ∷ Began ∷ Idle ∷ Missed (line_addr 1026) Read ∷ Idle ∷ Missed (line_addr 1024) Read ∷ Stalled ∷ Idle ∷
+    ordered_with [] [] ∷ ordered_with [] [] ∷ Idle ∷ Idle ∷ Delivered (lost []) ∷ Delivered (lost []) ∷ Stalled ∷
+    served_with [] [] ∷ Stalled ∷ Idle ∷ Idle ∷ Idle ∷ served_with [] [] ∷ Idle ∷ Idle ∷ Stalled ∷ Began ∷ Ran ∷
+    Missed (line_addr 1024) Write ∷ Idle ∷ Idle ∷ ordered_with [] [] ∷ Idle ∷ served_with [] [] ∷ Delivered (lost []) ∷
+    Missed (line_addr 1026) Read ∷ Delivered (lost []) ∷ Delivered (lost []) ∷ Idle ∷ Delivered (lost []) ∷
+    Blocked Retained (hart_id 0) ∷ Buffered ∷ Idle ∷ ordered_with [] [] ∷ served_with [] [] ∷ Buffered ∷ Idle ∷
+    Blocked Retained (hart_id 0) ∷ Idle ∷ Committed 3 ∷ Idle ∷ Missed (line_addr 1024) Read ∷ Committed 3 ∷
+    ordered_with [] [] ∷ Blocked Behind (hart_id 1) ∷ Blocked Behind (hart_id 1) ∷ Missed (line_addr 1024) Read ∷
+    Blocked Behind (hart_id 1) ∷ Idle ∷ ordered_with [] [] ∷ Delivered (lost []) ∷ Idle ∷ Delivered (lost []) ∷ Idle ∷
+    Delivered (lost []) ∷ Blocked Behind (hart_id 1) ∷ Blocked Behind (hart_id 1) ∷ Delivered (lost []) ∷
+    served_with [] [] ∷ Stalled ∷ Delivered (lost []) ∷ Idle ∷ Idle ∷ Ran ∷ Idle ∷ Idle ∷ Idle ∷ Idle ∷
+    Delivered (lost []) ∷ Idle ∷ Idle ∷ Stalled ∷ Idle ∷ served_with [] [] ∷ Blocked Locked (hart_id 2) ∷ Idle ∷ Idle ∷
+    Idle ∷ Idle ∷ Idle ∷ Began ∷ RolledBack Call ∷ Began ∷ served_with [] [] ∷ RolledBack Call ∷
+    Missed (line_addr 1024) Write ∷ Missed (line_addr 1024) Write ∷ Idle ∷ Idle ∷ Began ∷ ordered_with [] [] ∷
+    RolledBack Call ∷ ordered_with [] [] ∷ Delivered (lost []) ∷ Delivered (lost []) ∷ Missed (line_addr 1024) Write ∷
+    ordered_with [] [] ∷ served_with [] [] ∷ Blocked Locked (hart_id 1) ∷ Delivered (lost []) ∷ Idle ∷ Delivered (lost []) ∷
+    Ran ∷ served_with [] [] ∷ Delivered (lost []) ∷ Idle ∷ Blocked Locked (hart_id 2) ∷ Blocked Locked (hart_id 2) ∷ Ran ∷
+    Idle ∷ Idle ∷ Idle ∷ Ran ∷ served_with [] [] ∷ Ran ∷ Idle ∷ Idle ∷ Idle ∷ Ran ∷ Idle ∷ Idle ∷ Idle ∷ Idle ∷ Idle ∷
+    Idle ∷ Idle ∷ Ran ∷ Idle ∷ Idle ∷ Idle ∷ Idle ∷ Idle ∷ Idle ∷ Idle ∷ Idle ∷ Idle ∷ Idle ∷ Idle ∷ Idle ∷ Idle ∷
     Idle ∷ Idle ∷ Idle ∷ Idle ∷ Idle ∷ Idle ∷ Idle ∷ Idle ∷ Idle ∷ Idle ∷ Idle ∷ Idle ∷ Idle ∷ Idle ∷ Idle ∷ Idle ∷
     Idle ∷ Idle ∷ Idle ∷ Idle ∷ Idle ∷ Idle ∷ Idle ∷ Idle ∷ Idle ∷ Idle ∷ Idle ∷ Idle ∷ Idle ∷ Idle ∷ Idle ∷ Idle ∷
     Idle ∷ Idle ∷ Idle ∷ Idle ∷ Idle ∷ Idle ∷ Idle ∷ Idle ∷ Idle ∷ Idle ∷ Idle ∷ Idle ∷ Idle ∷ Idle ∷ Idle ∷ Idle ∷
@@ -143,8 +142,7 @@ expected =
     Idle ∷ Idle ∷ Idle ∷ Idle ∷ Idle ∷ Idle ∷ Idle ∷ Idle ∷ Idle ∷ Idle ∷ Idle ∷ Idle ∷ Idle ∷ Idle ∷ Idle ∷ Idle ∷
     Idle ∷ Idle ∷ Idle ∷ Idle ∷ Idle ∷ Idle ∷ Idle ∷ Idle ∷ Idle ∷ Idle ∷ Idle ∷ Idle ∷ Idle ∷ Idle ∷ Idle ∷ Idle ∷
     Idle ∷ Idle ∷ Idle ∷ Idle ∷ Idle ∷ Idle ∷ Idle ∷ Idle ∷ Idle ∷ Idle ∷ Idle ∷ Idle ∷ Idle ∷ Idle ∷ Idle ∷ Idle ∷
-    Idle ∷ Idle ∷ Idle ∷ Idle ∷ Idle ∷ Idle ∷ Idle ∷ Idle ∷ Idle ∷ Idle ∷ Idle ∷ Idle ∷ Idle ∷ Idle ∷ Idle ∷ Idle ∷
-    Idle ∷ Idle ∷ Idle ∷ Idle ∷ Idle ∷ Idle ∷ Idle ∷ Idle ∷ []
+    Idle ∷ Idle ∷ Idle ∷ Idle ∷ Idle ∷ Idle ∷ Idle ∷ Idle ∷ Idle ∷ Idle ∷ Idle ∷ Idle ∷ Idle ∷ Idle ∷ Idle ∷ []
 
 outcomes : outcomes_from first events ≡ expected
 unfolding computing

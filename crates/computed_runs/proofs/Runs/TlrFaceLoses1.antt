@@ -9,10 +9,10 @@ use Rattle.el_base.specs.declared.events.Kind.TheVariants.{Step, Order, Serve, D
 use Rattle.el_base.specs.declared.outcomes.Cause.TheVariants.{Long}
 use Rattle.el_base.specs.declared.outcomes.Need.TheVariants.{Read, Write}
 use Rattle.el_base.specs.declared.outcomes.Outcome.{Outcome}
-use Rattle.el_base.specs.declared.outcomes.Outcome.TheVariants.{Idle, Stalled, Missed, Ran, Began, Buffered, Committed, RolledBack, Ordered, Served, Blocked, Delivered}
+use Rattle.el_base.specs.declared.outcomes.Outcome.TheVariants.{Idle, Stalled, Missed, Ran, Began, Buffered, Committed, RolledBack, Blocked, Delivered}
 use Rattle.el_base.specs.declared.outcomes.Why.TheVariants.{Behind, Retained, Locked}
 use Rattle.computed_runs.proofs.Computing.{computing}
-use Rattle.computed_runs.proofs.Given.{Ending, ending_of, event, first_state, lost, patched, request, stamp, watch, way}
+use Rattle.computed_runs.proofs.Given.{Ending, ending_of, event, first_state, lost, ordered_with, patched, request, served_with, stamp, watch, way}
 use Rattle.el_model.specs.Next.{outcomes_from, state_after}
 use Rattle.el_model.specs.State.{ModelState}
 use Rattle.mail.specs.Mailbox.{Probe}
@@ -102,66 +102,62 @@ events =
 abbrev expected : List Outcome
 expected =
     Idle ∷ Idle ∷ Ran ∷ Ran ∷ Idle ∷ Idle ∷ Ran ∷ Idle ∷ Idle ∷ Ran ∷ Ran ∷ Idle ∷ Idle ∷ Ran ∷ Idle ∷ Ran ∷ Idle ∷
-    Ran ∷ Idle ∷ Ran ∷ Ran ∷ Ran ∷ Ran ∷ Missed (line_addr 1025) Read ∷ Idle ∷ Ordered (lost ([])) ∷
-    Missed (line_addr 1025) Read ∷ Idle ∷ Served (lost ([])) ∷ Ran ∷ Missed (line_addr 1025) Read ∷
-    Ordered (lost ([])) ∷ Ran ∷ Idle ∷ Ran ∷ Began ∷ Ordered (lost ([])) ∷ Missed (line_addr 1024) Write ∷
-    Blocked Behind (hart_id 1) ∷ Served (lost ([])) ∷ Idle ∷ Idle ∷ Ran ∷ Delivered (lost ([])) ∷ Idle ∷ Idle ∷
-    Ordered (lost ([])) ∷ Delivered (lost ([])) ∷ Idle ∷ Idle ∷ Served (lost ([])) ∷ Began ∷ Idle ∷
-    Served (lost ([])) ∷ Idle ∷ Idle ∷ Began ∷ Missed (line_addr 1024) Write ∷ Idle ∷ Idle ∷ Idle ∷ Idle ∷ Idle ∷
-    Missed (line_addr 1024) Write ∷ Idle ∷ Ordered (lost ((2, 1) ∷ [])) ∷ Served (lost ([])) ∷
-    Missed (line_addr 1025) Read ∷ Idle ∷ Idle ∷ Ordered (lost ([])) ∷ Buffered ∷ Idle ∷ Blocked Retained (hart_id 1) ∷
-    Idle ∷ Ordered (lost ([])) ∷ Idle ∷ Served (lost ([])) ∷ Blocked Retained (hart_id 1) ∷ Buffered ∷ Began ∷
-    Buffered ∷ Missed (line_addr 1024) Write ∷ Buffered ∷ Stalled ∷ Blocked Retained (hart_id 1) ∷
-    Ordered (lost ([])) ∷ Delivered (lost ([])) ∷ Delivered (lost ([])) ∷ Blocked Behind (hart_id 3) ∷ Idle ∷
-    Delivered (lost ([])) ∷ Buffered ∷ Idle ∷ Idle ∷ Blocked Behind (hart_id 3) ∷ Buffered ∷ RolledBack Long ∷ Began ∷
-    Idle ∷ Served (lost ((3, 2) ∷ [])) ∷ Idle ∷ Idle ∷ Missed (line_addr 1025) Write ∷ Served (lost ([])) ∷ Idle ∷
-    Missed (line_addr 1024) Write ∷ Idle ∷ Ordered (lost ([])) ∷ Idle ∷ Idle ∷ Blocked Retained (hart_id 0) ∷
-    Missed (line_addr 1025) Read ∷ Idle ∷ Buffered ∷ Delivered (lost ([])) ∷ Idle ∷ Idle ∷ Delivered (lost ([])) ∷
-    Ordered (lost ([])) ∷ Delivered (lost ([])) ∷ Idle ∷ Delivered (lost ([])) ∷ Idle ∷ Blocked Behind (hart_id 1) ∷
-    Delivered (lost ([])) ∷ Blocked Behind (hart_id 1) ∷ Blocked Retained (hart_id 0) ∷ Delivered (lost ([])) ∷
-    Ordered (lost ((2, 0) ∷ [])) ∷ Idle ∷ Missed (line_addr 1025) Read ∷ Delivered (lost ([])) ∷
-    Delivered (lost ([])) ∷ Blocked Retained (hart_id 0) ∷ Blocked Behind (hart_id 1) ∷ Idle ∷ Idle ∷ Idle ∷ Idle ∷
-    Idle ∷ Idle ∷ Ordered (lost ([])) ∷ Idle ∷ Blocked Behind (hart_id 1) ∷ Blocked Behind (hart_id 1) ∷
-    Blocked Behind (hart_id 1) ∷ Delivered (lost ([])) ∷ Blocked Retained (hart_id 0) ∷ Served (lost ([])) ∷
-    Delivered (lost ([])) ∷ Idle ∷ Buffered ∷ Idle ∷ Buffered ∷ Idle ∷ Delivered (lost ([])) ∷
-    Blocked Behind (hart_id 1) ∷ Blocked Behind (hart_id 1) ∷ Blocked Behind (hart_id 1) ∷ Blocked Behind (hart_id 1) ∷
-    Delivered (lost ([])) ∷ Blocked Behind (hart_id 1) ∷ Blocked Behind (hart_id 1) ∷ Blocked Retained (hart_id 0) ∷
-    Idle ∷ Idle ∷ Idle ∷ Idle ∷ Blocked Retained (hart_id 0) ∷ Blocked Behind (hart_id 1) ∷ Buffered ∷ Buffered ∷
-    Blocked Behind (hart_id 1) ∷ Blocked Behind (hart_id 1) ∷ Delivered (lost ([])) ∷ Blocked Behind (hart_id 1) ∷
-    Idle ∷ Blocked Behind (hart_id 1) ∷ Blocked Behind (hart_id 1) ∷ Idle ∷ Blocked Behind (hart_id 1) ∷
+    Ran ∷ Idle ∷ Ran ∷ Ran ∷ Ran ∷ Ran ∷ Missed (line_addr 1025) Read ∷ Idle ∷ ordered_with [] [] ∷
+    Missed (line_addr 1025) Read ∷ Idle ∷ served_with [] [] ∷ Ran ∷ Missed (line_addr 1025) Read ∷ ordered_with [] [] ∷ Ran ∷
+    Idle ∷ Ran ∷ Began ∷ ordered_with [] [] ∷ Missed (line_addr 1024) Write ∷ Blocked Behind (hart_id 1) ∷ served_with [] [] ∷
+    Idle ∷ Idle ∷ Ran ∷ Delivered (lost []) ∷ Idle ∷ Idle ∷ ordered_with [] [] ∷ Delivered (lost []) ∷ Idle ∷ Idle ∷
+    served_with [] [] ∷ Began ∷ Idle ∷ served_with [] [] ∷ Idle ∷ Idle ∷ Began ∷ Missed (line_addr 1024) Write ∷ Idle ∷ Idle ∷
+    Idle ∷ Idle ∷ Idle ∷ Missed (line_addr 1024) Write ∷ Idle ∷ ordered_with ((2, 1) ∷ []) [] ∷ served_with [] [] ∷
+    Missed (line_addr 1025) Read ∷ Idle ∷ Idle ∷ ordered_with [] [] ∷ Buffered ∷ Idle ∷ Blocked Retained (hart_id 1) ∷
+    Idle ∷ ordered_with [] [] ∷ Idle ∷ served_with [] [] ∷ Blocked Retained (hart_id 1) ∷ Buffered ∷ Began ∷ Buffered ∷
+    Missed (line_addr 1024) Write ∷ Buffered ∷ Stalled ∷ Blocked Retained (hart_id 1) ∷ ordered_with [] [] ∷
+    Delivered (lost []) ∷ Delivered (lost []) ∷ Blocked Behind (hart_id 3) ∷ Idle ∷ Delivered (lost []) ∷
+    Buffered ∷ Idle ∷ Idle ∷ Blocked Behind (hart_id 3) ∷ Buffered ∷ RolledBack Long ∷ Began ∷ Idle ∷
+    served_with ((3, 2) ∷ []) [] ∷ Idle ∷ Idle ∷ Missed (line_addr 1025) Write ∷ served_with [] [] ∷ Idle ∷
+    Missed (line_addr 1024) Write ∷ Idle ∷ ordered_with [] [] ∷ Idle ∷ Idle ∷ Blocked Retained (hart_id 0) ∷
+    Missed (line_addr 1025) Read ∷ Idle ∷ Buffered ∷ Delivered (lost []) ∷ Idle ∷ Idle ∷ Delivered (lost []) ∷
+    ordered_with [] [] ∷ Delivered (lost []) ∷ Idle ∷ Delivered (lost []) ∷ Idle ∷ Blocked Behind (hart_id 1) ∷
+    Delivered (lost []) ∷ Blocked Behind (hart_id 1) ∷ Blocked Retained (hart_id 0) ∷ Delivered (lost []) ∷
+    ordered_with ((2, 0) ∷ []) [] ∷ Idle ∷ Missed (line_addr 1025) Read ∷ Delivered (lost []) ∷ Delivered (lost []) ∷
+    Blocked Retained (hart_id 0) ∷ Blocked Behind (hart_id 1) ∷ Idle ∷ Idle ∷ Idle ∷ Idle ∷ Idle ∷ Idle ∷
+    ordered_with [] [] ∷ Idle ∷ Blocked Behind (hart_id 1) ∷ Blocked Behind (hart_id 1) ∷ Blocked Behind (hart_id 1) ∷
+    Delivered (lost []) ∷ Blocked Retained (hart_id 0) ∷ served_with [] [] ∷ Delivered (lost []) ∷ Idle ∷ Buffered ∷
+    Idle ∷ Buffered ∷ Idle ∷ Delivered (lost []) ∷ Blocked Behind (hart_id 1) ∷ Blocked Behind (hart_id 1) ∷
+    Blocked Behind (hart_id 1) ∷ Blocked Behind (hart_id 1) ∷ Delivered (lost []) ∷ Blocked Behind (hart_id 1) ∷
+    Blocked Behind (hart_id 1) ∷ Blocked Retained (hart_id 0) ∷ Idle ∷ Idle ∷ Idle ∷ Idle ∷
+    Blocked Retained (hart_id 0) ∷ Blocked Behind (hart_id 1) ∷ Buffered ∷ Buffered ∷ Blocked Behind (hart_id 1) ∷
+    Blocked Behind (hart_id 1) ∷ Delivered (lost []) ∷ Blocked Behind (hart_id 1) ∷ Idle ∷
+    Blocked Behind (hart_id 1) ∷ Blocked Behind (hart_id 1) ∷ Idle ∷ Blocked Behind (hart_id 1) ∷
     Blocked Behind (hart_id 1) ∷ Buffered ∷ Blocked Retained (hart_id 0) ∷ Idle ∷ Idle ∷ Stalled ∷ Idle ∷ Buffered ∷
     Blocked Retained (hart_id 0) ∷ Stalled ∷ Idle ∷ Idle ∷ Idle ∷ Idle ∷ Blocked Retained (hart_id 0) ∷ Idle ∷
-    RolledBack Long ∷ Served (lost ([])) ∷ Ran ∷ Missed (line_addr 1024) Write ∷ Idle ∷ Missed (line_addr 1025) Write ∷
-    Idle ∷ Blocked Behind (hart_id 3) ∷ Ordered (lost ([])) ∷ Blocked Behind (hart_id 3) ∷ Delivered (lost ([])) ∷
-    Ordered (lost ([])) ∷ Blocked Behind (hart_id 3) ∷ Blocked Behind (hart_id 3) ∷ Delivered (lost ([])) ∷
-    Blocked Behind (hart_id 3) ∷ Stalled ∷ Served (lost ([])) ∷ Delivered (lost ([])) ∷ Delivered (lost ([])) ∷
-    Delivered (lost ([])) ∷ Ran ∷ Idle ∷ Served (lost ([])) ∷ Idle ∷ Blocked Locked (hart_id 3) ∷
-    Missed (line_addr 1025) Write ∷ Served (lost ([])) ∷ Ordered (lost ([])) ∷ Ran ∷ Blocked Locked (hart_id 2) ∷
-    Began ∷ Delivered (lost ([])) ∷ Idle ∷ Delivered (lost ([])) ∷ Blocked Behind (hart_id 0) ∷ Idle ∷ Idle ∷ Idle ∷
-    Buffered ∷ Blocked Locked (hart_id 2) ∷ Buffered ∷ Blocked Behind (hart_id 0) ∷ Idle ∷ Idle ∷
-    Missed (line_addr 1025) Write ∷ Idle ∷ Served (lost ([])) ∷ Idle ∷ Blocked Locked (hart_id 0) ∷ Stalled ∷ Ran ∷
-    Served (lost ([])) ∷ Idle ∷ Idle ∷ Idle ∷ Ordered (lost ([])) ∷ Idle ∷ Missed (line_addr 1024) Write ∷ Stalled ∷
-    Committed 4 ∷ Ran ∷ Served (lost ([])) ∷ Ordered (lost ([])) ∷ Idle ∷ Idle ∷ Missed (line_addr 1024) Write ∷ Idle ∷
-    Served (lost ([])) ∷ Ran ∷ Idle ∷ Ran ∷ Ran ∷ Idle ∷ Ran ∷ Ordered (lost ([])) ∷ Missed (line_addr 1024) Write ∷
-    Ordered (lost ([])) ∷ Stalled ∷ Delivered (lost ([])) ∷ Delivered (lost ([])) ∷ Served (lost ([])) ∷
-    Missed (line_addr 1024) Write ∷ Ran ∷ Served (lost ([])) ∷ Ran ∷ Ordered (lost ([])) ∷
-    Missed (line_addr 1024) Read ∷ Ran ∷ Served (lost ([])) ∷ Ran ∷ Ran ∷ Missed (line_addr 1025) Read ∷
-    Ordered (lost ([])) ∷ Missed (line_addr 1024) Read ∷ Ordered (lost ([])) ∷ Ran ∷ Ordered (lost ([])) ∷ Idle ∷
-    Served (lost ([])) ∷ Idle ∷ Idle ∷ Idle ∷ Missed (line_addr 1025) Write ∷ Stalled ∷ Served (lost ([])) ∷
-    Delivered (lost ([])) ∷ Idle ∷ Idle ∷ Ran ∷ Ordered (lost ([])) ∷ Delivered (lost ([])) ∷ Idle ∷ Stalled ∷ Ran ∷
-    Blocked Locked (hart_id 3) ∷ Served (lost ([])) ∷ Idle ∷ Blocked Locked (hart_id 3) ∷
-    Missed (line_addr 1025) Read ∷ Idle ∷ Ordered (lost ([])) ∷ Idle ∷ Ran ∷ Blocked Locked (hart_id 3) ∷
-    Served (lost ([])) ∷ Idle ∷ Missed (line_addr 1024) Write ∷ Served (lost ([])) ∷ Missed (line_addr 1024) Write ∷
-    Missed (line_addr 1025) Write ∷ Idle ∷ Ordered (lost ([])) ∷ Idle ∷ Missed (line_addr 1024) Write ∷
-    Ordered (lost ([])) ∷ Stalled ∷ Served (lost ([])) ∷ Stalled ∷ Idle ∷ Idle ∷ Idle ∷ Idle ∷ Idle ∷ Idle ∷
-    Ordered (lost ([])) ∷ Ordered (lost ([])) ∷ Idle ∷ Ran ∷ Ran ∷ Idle ∷ Served (lost ([])) ∷ Ran ∷ Idle ∷ Idle ∷
-    Ran ∷ Idle ∷ Ran ∷ Stalled ∷ Idle ∷ Served (lost ([])) ∷ Ran ∷ Ran ∷ Idle ∷ Delivered (lost ([])) ∷ Idle ∷
-    Served (lost ([])) ∷ Ran ∷ Ran ∷ Missed (line_addr 1025) Read ∷ Missed (line_addr 1024) Write ∷ Ran ∷ Stalled ∷
-    Ran ∷ Stalled ∷ Missed (line_addr 1025) Read ∷ Ordered (lost ([])) ∷ Stalled ∷ Served (lost ([])) ∷
-    Ordered (lost ([])) ∷ Blocked Locked (hart_id 3) ∷ Idle ∷ Idle ∷ Missed (line_addr 1025) Write ∷
-    Ordered (lost ([])) ∷ Ran ∷ Ordered (lost ([])) ∷ Idle ∷ Idle ∷ Served (lost ([])) ∷ Served (lost ([])) ∷ Idle ∷
-    Stalled ∷ Idle ∷ Ran ∷ Stalled ∷ Idle ∷ Delivered (lost ([])) ∷ Idle ∷ Missed (line_addr 1025) Write ∷ Stalled ∷
-    Missed (line_addr 1025) Write ∷ []
+    RolledBack Long ∷ served_with [] [] ∷ Ran ∷ Missed (line_addr 1024) Write ∷ Idle ∷ Missed (line_addr 1025) Write ∷
+    Idle ∷ Blocked Behind (hart_id 3) ∷ ordered_with [] [] ∷ Blocked Behind (hart_id 3) ∷ Delivered (lost []) ∷
+    ordered_with [] [] ∷ Blocked Behind (hart_id 3) ∷ Blocked Behind (hart_id 3) ∷ Delivered (lost []) ∷
+    Blocked Behind (hart_id 3) ∷ Stalled ∷ served_with [] [] ∷ Delivered (lost []) ∷ Delivered (lost []) ∷
+    Delivered (lost []) ∷ Ran ∷ Idle ∷ served_with [] [] ∷ Idle ∷ Blocked Locked (hart_id 3) ∷
+    Missed (line_addr 1025) Write ∷ served_with [] [] ∷ ordered_with [] [] ∷ Ran ∷ Blocked Locked (hart_id 2) ∷ Began ∷
+    Delivered (lost []) ∷ Idle ∷ Delivered (lost []) ∷ Blocked Behind (hart_id 0) ∷ Idle ∷ Idle ∷ Idle ∷ Buffered ∷
+    Blocked Locked (hart_id 2) ∷ Buffered ∷ Blocked Behind (hart_id 0) ∷ Idle ∷ Idle ∷ Missed (line_addr 1025) Write ∷
+    Idle ∷ served_with [] [] ∷ Idle ∷ Blocked Locked (hart_id 0) ∷ Stalled ∷ Ran ∷ served_with [] [] ∷ Idle ∷ Idle ∷ Idle ∷
+    ordered_with [] [] ∷ Idle ∷ Missed (line_addr 1024) Write ∷ Stalled ∷ Committed 4 ∷ Ran ∷ served_with [] [] ∷ ordered_with [] [] ∷
+    Idle ∷ Idle ∷ Missed (line_addr 1024) Write ∷ Idle ∷ served_with [] [] ∷ Ran ∷ Idle ∷ Ran ∷ Ran ∷ Idle ∷ Ran ∷
+    ordered_with [] [] ∷ Missed (line_addr 1024) Write ∷ ordered_with [] [] ∷ Stalled ∷ Delivered (lost []) ∷
+    Delivered (lost []) ∷ served_with [] [] ∷ Missed (line_addr 1024) Write ∷ Ran ∷ served_with [] [] ∷ Ran ∷ ordered_with [] [] ∷
+    Missed (line_addr 1024) Read ∷ Ran ∷ served_with [] [] ∷ Ran ∷ Ran ∷ Missed (line_addr 1025) Read ∷ ordered_with [] [] ∷
+    Missed (line_addr 1024) Read ∷ ordered_with [] [] ∷ Ran ∷ ordered_with [] [] ∷ Idle ∷ served_with [] [] ∷ Idle ∷ Idle ∷ Idle ∷
+    Missed (line_addr 1025) Write ∷ Stalled ∷ served_with [] [] ∷ Delivered (lost []) ∷ Idle ∷ Idle ∷ Ran ∷
+    ordered_with [] [] ∷ Delivered (lost []) ∷ Idle ∷ Stalled ∷ Ran ∷ Blocked Locked (hart_id 3) ∷ served_with [] [] ∷ Idle ∷
+    Blocked Locked (hart_id 3) ∷ Missed (line_addr 1025) Read ∷ Idle ∷ ordered_with [] [] ∷ Idle ∷ Ran ∷
+    Blocked Locked (hart_id 3) ∷ served_with [] [] ∷ Idle ∷ Missed (line_addr 1024) Write ∷ served_with [] [] ∷
+    Missed (line_addr 1024) Write ∷ Missed (line_addr 1025) Write ∷ Idle ∷ ordered_with [] [] ∷ Idle ∷
+    Missed (line_addr 1024) Write ∷ ordered_with [] [] ∷ Stalled ∷ served_with [] [] ∷ Stalled ∷ Idle ∷ Idle ∷ Idle ∷ Idle ∷
+    Idle ∷ Idle ∷ ordered_with [] [] ∷ ordered_with [] [] ∷ Idle ∷ Ran ∷ Ran ∷ Idle ∷ served_with [] [] ∷ Ran ∷ Idle ∷ Idle ∷ Ran ∷
+    Idle ∷ Ran ∷ Stalled ∷ Idle ∷ served_with [] [] ∷ Ran ∷ Ran ∷ Idle ∷ Delivered (lost []) ∷ Idle ∷ served_with [] [] ∷ Ran ∷
+    Ran ∷ Missed (line_addr 1025) Read ∷ Missed (line_addr 1024) Write ∷ Ran ∷ Stalled ∷ Ran ∷ Stalled ∷
+    Missed (line_addr 1025) Read ∷ ordered_with [] [] ∷ Stalled ∷ served_with [] [] ∷ ordered_with [] [] ∷
+    Blocked Locked (hart_id 3) ∷ Idle ∷ Idle ∷ Missed (line_addr 1025) Write ∷ ordered_with [] [] ∷ Ran ∷ ordered_with [] [] ∷
+    Idle ∷ Idle ∷ served_with [] [] ∷ served_with [] [] ∷ Idle ∷ Stalled ∷ Idle ∷ Ran ∷ Stalled ∷ Idle ∷ Delivered (lost []) ∷
+    Idle ∷ Missed (line_addr 1025) Write ∷ Stalled ∷ Missed (line_addr 1025) Write ∷ []
 
 outcomes : outcomes_from first events ≡ expected
 unfolding computing

@@ -9,10 +9,10 @@ use Rattle.el_base.specs.declared.events.Kind.TheVariants.{Step, Order, Serve, D
 use Rattle.el_base.specs.declared.outcomes.Cause.TheVariants.{Lines, Mixed}
 use Rattle.el_base.specs.declared.outcomes.Need.TheVariants.{Read, Write}
 use Rattle.el_base.specs.declared.outcomes.Outcome.{Outcome}
-use Rattle.el_base.specs.declared.outcomes.Outcome.TheVariants.{Idle, Stalled, Missed, Ran, Began, Buffered, Committed, RolledBack, Ordered, Served, Blocked, Delivered}
+use Rattle.el_base.specs.declared.outcomes.Outcome.TheVariants.{Idle, Stalled, Missed, Ran, Began, Buffered, Committed, RolledBack, Blocked, Delivered}
 use Rattle.el_base.specs.declared.outcomes.Why.TheVariants.{Behind, Retained, Locked}
 use Rattle.computed_runs.proofs.Computing.{computing}
-use Rattle.computed_runs.proofs.Given.{Ending, ending_of, event, first_state, lost, patched, request, watch, way}
+use Rattle.computed_runs.proofs.Given.{Ending, ending_of, event, first_state, lost, ordered_with, patched, request, served_with, watch, way}
 use Rattle.el_model.specs.Next.{outcomes_from, state_after}
 use Rattle.el_model.specs.State.{ModelState}
 use Rattle.moesi.specs.declared.letter.Letter.TheVariants.{M}
@@ -101,66 +101,61 @@ events =
 abbrev expected : List Outcome
 expected =
     Ran ∷ Idle ∷ Ran ∷ Idle ∷ Idle ∷ Ran ∷ Ran ∷ Ran ∷ Ran ∷ Ran ∷ Idle ∷ Idle ∷ Ran ∷ Ran ∷ Ran ∷ Idle ∷ Ran ∷ Idle ∷
-    Missed (line_addr 1024) Read ∷ Ordered (lost ([])) ∷ Idle ∷ Idle ∷ Ran ∷ Missed (line_addr 1024) Read ∷ Idle ∷
-    Idle ∷ Idle ∷ Idle ∷ Idle ∷ Idle ∷ Served (lost ([])) ∷ Ran ∷ Ran ∷ Ran ∷ Began ∷ Idle ∷
-    Missed (line_addr 1025) Read ∷ Missed (line_addr 1025) Read ∷ Ordered (lost ([])) ∷ Ordered (lost ([])) ∷ Ran ∷
-    Missed (line_addr 1024) Read ∷ Served (lost ([])) ∷ Idle ∷ Began ∷ Ordered (lost ([])) ∷ Stalled ∷ Idle ∷ Idle ∷
-    Missed (line_addr 1025) Read ∷ Blocked Behind (hart_id 3) ∷ Idle ∷ Stalled ∷ Ordered (lost ([])) ∷
-    Served (lost ([])) ∷ Idle ∷ Idle ∷ Idle ∷ Idle ∷ Stalled ∷ Served (lost ([])) ∷ Delivered (lost ([])) ∷
-    Delivered (lost ([])) ∷ Idle ∷ Ordered (lost ([])) ∷ Blocked Behind (hart_id 0) ∷ Idle ∷ Idle ∷ Idle ∷ Idle ∷
-    Buffered ∷ Blocked Behind (hart_id 0) ∷ Idle ∷ Idle ∷ Idle ∷ Idle ∷ Idle ∷ Idle ∷ Committed 3 ∷
-    Served (lost ([])) ∷ Blocked Locked (hart_id 0) ∷ Delivered (lost ([])) ∷ Idle ∷ Ran ∷ Delivered (lost ([])) ∷
-    Idle ∷ Idle ∷ Idle ∷ Idle ∷ Ran ∷ Ran ∷ Missed (line_addr 1024) Write ∷ Began ∷ Stalled ∷ Idle ∷
-    Served (lost ([])) ∷ Missed (line_addr 1028) Write ∷ Ordered (lost ([])) ∷ Idle ∷ Began ∷ Buffered ∷ Committed 3 ∷
-    Served (lost ([])) ∷ Missed (line_addr 1025) Read ∷ Ordered (lost ([])) ∷ Idle ∷ Ran ∷ Ordered (lost ([])) ∷
-    Blocked Retained (hart_id 2) ∷ Ran ∷ Began ∷ Served (lost ([])) ∷ Buffered ∷ Delivered (lost ([])) ∷ Buffered ∷
-    Committed 3 ∷ Idle ∷ Idle ∷ Served (lost ([])) ∷ Ran ∷ Missed (line_addr 1028) Write ∷ Idle ∷
-    Ordered (lost ((3, 1) ∷ [])) ∷ Idle ∷ Idle ∷ Stalled ∷ Stalled ∷ Began ∷ Ran ∷ Ran ∷ Served (lost ([])) ∷
-    Buffered ∷ Missed (line_addr 1028) Write ∷ Idle ∷ Idle ∷ Idle ∷ Ran ∷ RolledBack Lines ∷
-    Missed (line_addr 1028) Write ∷ Idle ∷ Idle ∷ Missed (line_addr 1025) Write ∷ Ordered (lost ([])) ∷ Idle ∷
-    Served (lost ([])) ∷ Idle ∷ Buffered ∷ Ordered (lost ([])) ∷ Idle ∷ Ran ∷ RolledBack Lines ∷ Began ∷ Idle ∷ Idle ∷
-    Ordered (lost ([])) ∷ Delivered (lost ([])) ∷ Idle ∷ Missed (line_addr 1025) Write ∷ Served (lost ([])) ∷
-    Ordered (lost ([])) ∷ Ran ∷ Idle ∷ Idle ∷ Blocked Behind (hart_id 1) ∷ Blocked Retained (hart_id 0) ∷ Idle ∷
-    Delivered (lost ([])) ∷ Delivered (lost ([])) ∷ Missed (line_addr 1027) Write ∷ Blocked Retained (hart_id 0) ∷
-    Delivered (lost ([])) ∷ Delivered (lost ([])) ∷ Blocked Behind (hart_id 1) ∷ Idle ∷ Missed (line_addr 1028) Write ∷
-    Ordered (lost ([])) ∷ Idle ∷ Blocked Behind (hart_id 1) ∷ Stalled ∷ Blocked Retained (hart_id 0) ∷
-    Ordered (lost ([])) ∷ Served (lost ([])) ∷ Delivered (lost ([])) ∷ Idle ∷ Served (lost ([])) ∷ Idle ∷ Ran ∷
-    Buffered ∷ Idle ∷ Idle ∷ Blocked Behind (hart_id 1) ∷ RolledBack Lines ∷ Blocked Behind (hart_id 1) ∷
-    Served (lost ([])) ∷ Missed (line_addr 1025) Write ∷ Blocked Locked (hart_id 1) ∷ Idle ∷
-    Missed (line_addr 1025) Write ∷ Idle ∷ Blocked Locked (hart_id 1) ∷ Ordered (lost ([])) ∷
-    Blocked Locked (hart_id 1) ∷ Ran ∷ Delivered (lost ([])) ∷ Ordered (lost ([])) ∷ Blocked Behind (hart_id 3) ∷
-    Idle ∷ Blocked Behind (hart_id 3) ∷ Idle ∷ Delivered (lost ([])) ∷ Served (lost ([])) ∷
-    Blocked Locked (hart_id 3) ∷ Delivered (lost ([])) ∷ Blocked Behind (hart_id 0) ∷ Missed (line_addr 1028) Write ∷
-    Ran ∷ Ordered (lost ([])) ∷ Idle ∷ Stalled ∷ Served (lost ([])) ∷ Delivered (lost ([])) ∷ Served (lost ([])) ∷
-    Idle ∷ Ran ∷ Idle ∷ Ran ∷ Idle ∷ Delivered (lost ([])) ∷ Missed (line_addr 1028) Write ∷ Ordered (lost ([])) ∷
-    Idle ∷ Served (lost ([])) ∷ Idle ∷ Idle ∷ Idle ∷ Missed (line_addr 1027) Write ∷ Ordered (lost ([])) ∷ Idle ∷
-    Idle ∷ Served (lost ([])) ∷ Stalled ∷ Served (lost ([])) ∷ Ran ∷ Idle ∷ Missed (line_addr 1025) Write ∷ Idle ∷
-    Missed (line_addr 1028) Write ∷ Ordered (lost ([])) ∷ Ordered (lost ([])) ∷ Ran ∷ Blocked Locked (hart_id 2) ∷
-    Served (lost ([])) ∷ Idle ∷ Ran ∷ Stalled ∷ Idle ∷ Missed (line_addr 1027) Write ∷ Blocked Locked (hart_id 2) ∷
-    Ordered (lost ([])) ∷ Idle ∷ Idle ∷ Idle ∷ Blocked Locked (hart_id 2) ∷ Blocked Locked (hart_id 2) ∷ Stalled ∷
-    Ran ∷ Idle ∷ Stalled ∷ Missed (line_addr 1027) Write ∷ Missed (line_addr 1024) Read ∷ Ordered (lost ([])) ∷
-    Ordered (lost ([])) ∷ Served (lost ([])) ∷ Idle ∷ Stalled ∷ Began ∷ Stalled ∷ Idle ∷ Idle ∷
-    Blocked Behind (hart_id 3) ∷ Served (lost ([])) ∷ Missed (line_addr 1026) Write ∷ Ordered (lost ([])) ∷
-    Served (lost ([])) ∷ Ran ∷ Idle ∷ Idle ∷ Served (lost ([])) ∷ Served (lost ([])) ∷ Idle ∷ Buffered ∷
-    Missed (line_addr 1025) Write ∷ Ran ∷ Ordered (lost ([])) ∷ Idle ∷ Blocked Locked (hart_id 1) ∷ Idle ∷ Ran ∷ Idle ∷
-    Missed (line_addr 1024) Read ∷ Served (lost ([])) ∷ Missed (line_addr 1025) Write ∷ Idle ∷ RolledBack Mixed ∷
-    Idle ∷ Ordered (lost ([])) ∷ Idle ∷ Ran ∷ Idle ∷ Blocked Locked (hart_id 3) ∷ Ran ∷ Ran ∷ Idle ∷
-    Served (lost ([])) ∷ Ordered (lost ([])) ∷ Ran ∷ Served (lost ([])) ∷ Missed (line_addr 1024) Write ∷ Idle ∷ Idle ∷
-    Idle ∷ Idle ∷ Idle ∷ Missed (line_addr 1024) Write ∷ Idle ∷ Missed (line_addr 1024) Write ∷ Ordered (lost ([])) ∷
-    Ordered (lost ([])) ∷ Ordered (lost ([])) ∷ Blocked Behind (hart_id 2) ∷ Served (lost ([])) ∷
-    Delivered (lost ([])) ∷ Missed (line_addr 1024) Write ∷ Delivered (lost ([])) ∷ Idle ∷ Blocked Behind (hart_id 1) ∷
-    Delivered (lost ([])) ∷ Ordered (lost ([])) ∷ Blocked Behind (hart_id 1) ∷ Idle ∷ Ran ∷ Served (lost ([])) ∷
-    Blocked Locked (hart_id 1) ∷ Blocked Locked (hart_id 1) ∷ Blocked Behind (hart_id 3) ∷ Blocked Behind (hart_id 3) ∷
-    Stalled ∷ Blocked Locked (hart_id 1) ∷ Missed (line_addr 1024) Read ∷ Missed (line_addr 1024) Read ∷
-    Delivered (lost ([])) ∷ Idle ∷ Idle ∷ Ordered (lost ([])) ∷ Stalled ∷ Blocked Behind (hart_id 3) ∷
-    Ordered (lost ([])) ∷ Delivered (lost ([])) ∷ Blocked Behind (hart_id 3) ∷ Delivered (lost ([])) ∷
-    Blocked Behind (hart_id 3) ∷ Delivered (lost ([])) ∷ Blocked Behind (hart_id 3) ∷ Idle ∷
-    Blocked Behind (hart_id 3) ∷ Delivered (lost ([])) ∷ Blocked Behind (hart_id 3) ∷ Stalled ∷ Delivered (lost ([])) ∷
-    Stalled ∷ Idle ∷ Idle ∷ Idle ∷ Stalled ∷ Served (lost ([])) ∷ Idle ∷ Blocked Behind (hart_id 0) ∷
+    Missed (line_addr 1024) Read ∷ ordered_with [] [] ∷ Idle ∷ Idle ∷ Ran ∷ Missed (line_addr 1024) Read ∷ Idle ∷ Idle ∷
+    Idle ∷ Idle ∷ Idle ∷ Idle ∷ served_with [] [] ∷ Ran ∷ Ran ∷ Ran ∷ Began ∷ Idle ∷ Missed (line_addr 1025) Read ∷
+    Missed (line_addr 1025) Read ∷ ordered_with [] [] ∷ ordered_with [] [] ∷ Ran ∷ Missed (line_addr 1024) Read ∷ served_with [] [] ∷
+    Idle ∷ Began ∷ ordered_with [] [] ∷ Stalled ∷ Idle ∷ Idle ∷ Missed (line_addr 1025) Read ∷ Blocked Behind (hart_id 3) ∷
+    Idle ∷ Stalled ∷ ordered_with [] [] ∷ served_with [] [] ∷ Idle ∷ Idle ∷ Idle ∷ Idle ∷ Stalled ∷ served_with [] [] ∷
+    Delivered (lost []) ∷ Delivered (lost []) ∷ Idle ∷ ordered_with [] [] ∷ Blocked Behind (hart_id 0) ∷ Idle ∷ Idle ∷
+    Idle ∷ Idle ∷ Buffered ∷ Blocked Behind (hart_id 0) ∷ Idle ∷ Idle ∷ Idle ∷ Idle ∷ Idle ∷ Idle ∷ Committed 3 ∷
+    served_with [] [] ∷ Blocked Locked (hart_id 0) ∷ Delivered (lost []) ∷ Idle ∷ Ran ∷ Delivered (lost []) ∷ Idle ∷
+    Idle ∷ Idle ∷ Idle ∷ Ran ∷ Ran ∷ Missed (line_addr 1024) Write ∷ Began ∷ Stalled ∷ Idle ∷ served_with [] [] ∷
+    Missed (line_addr 1028) Write ∷ ordered_with [] [] ∷ Idle ∷ Began ∷ Buffered ∷ Committed 3 ∷ served_with [] [] ∷
+    Missed (line_addr 1025) Read ∷ ordered_with [] [] ∷ Idle ∷ Ran ∷ ordered_with [] [] ∷ Blocked Retained (hart_id 2) ∷ Ran ∷
+    Began ∷ served_with [] [] ∷ Buffered ∷ Delivered (lost []) ∷ Buffered ∷ Committed 3 ∷ Idle ∷ Idle ∷ served_with [] [] ∷
+    Ran ∷ Missed (line_addr 1028) Write ∷ Idle ∷ ordered_with ((3, 1) ∷ []) [] ∷ Idle ∷ Idle ∷ Stalled ∷ Stalled ∷ Began ∷
+    Ran ∷ Ran ∷ served_with [] [] ∷ Buffered ∷ Missed (line_addr 1028) Write ∷ Idle ∷ Idle ∷ Idle ∷ Ran ∷ RolledBack Lines ∷
+    Missed (line_addr 1028) Write ∷ Idle ∷ Idle ∷ Missed (line_addr 1025) Write ∷ ordered_with [] [] ∷ Idle ∷ served_with [] [] ∷
+    Idle ∷ Buffered ∷ ordered_with [] [] ∷ Idle ∷ Ran ∷ RolledBack Lines ∷ Began ∷ Idle ∷ Idle ∷ ordered_with [] [] ∷
+    Delivered (lost []) ∷ Idle ∷ Missed (line_addr 1025) Write ∷ served_with [] [] ∷ ordered_with [] [] ∷ Ran ∷ Idle ∷ Idle ∷
+    Blocked Behind (hart_id 1) ∷ Blocked Retained (hart_id 0) ∷ Idle ∷ Delivered (lost []) ∷ Delivered (lost []) ∷
+    Missed (line_addr 1027) Write ∷ Blocked Retained (hart_id 0) ∷ Delivered (lost []) ∷ Delivered (lost []) ∷
+    Blocked Behind (hart_id 1) ∷ Idle ∷ Missed (line_addr 1028) Write ∷ ordered_with [] [] ∷ Idle ∷
+    Blocked Behind (hart_id 1) ∷ Stalled ∷ Blocked Retained (hart_id 0) ∷ ordered_with [] [] ∷ served_with [] [] ∷
+    Delivered (lost []) ∷ Idle ∷ served_with [] [] ∷ Idle ∷ Ran ∷ Buffered ∷ Idle ∷ Idle ∷ Blocked Behind (hart_id 1) ∷
+    RolledBack Lines ∷ Blocked Behind (hart_id 1) ∷ served_with [] [] ∷ Missed (line_addr 1025) Write ∷
+    Blocked Locked (hart_id 1) ∷ Idle ∷ Missed (line_addr 1025) Write ∷ Idle ∷ Blocked Locked (hart_id 1) ∷
+    ordered_with [] [] ∷ Blocked Locked (hart_id 1) ∷ Ran ∷ Delivered (lost []) ∷ ordered_with [] [] ∷
+    Blocked Behind (hart_id 3) ∷ Idle ∷ Blocked Behind (hart_id 3) ∷ Idle ∷ Delivered (lost []) ∷ served_with [] [] ∷
+    Blocked Locked (hart_id 3) ∷ Delivered (lost []) ∷ Blocked Behind (hart_id 0) ∷ Missed (line_addr 1028) Write ∷
+    Ran ∷ ordered_with [] [] ∷ Idle ∷ Stalled ∷ served_with [] [] ∷ Delivered (lost []) ∷ served_with [] [] ∷ Idle ∷ Ran ∷ Idle ∷
+    Ran ∷ Idle ∷ Delivered (lost []) ∷ Missed (line_addr 1028) Write ∷ ordered_with [] [] ∷ Idle ∷ served_with [] [] ∷ Idle ∷
+    Idle ∷ Idle ∷ Missed (line_addr 1027) Write ∷ ordered_with [] [] ∷ Idle ∷ Idle ∷ served_with [] [] ∷ Stalled ∷ served_with [] [] ∷
+    Ran ∷ Idle ∷ Missed (line_addr 1025) Write ∷ Idle ∷ Missed (line_addr 1028) Write ∷ ordered_with [] [] ∷ ordered_with [] [] ∷
+    Ran ∷ Blocked Locked (hart_id 2) ∷ served_with [] [] ∷ Idle ∷ Ran ∷ Stalled ∷ Idle ∷ Missed (line_addr 1027) Write ∷
+    Blocked Locked (hart_id 2) ∷ ordered_with [] [] ∷ Idle ∷ Idle ∷ Idle ∷ Blocked Locked (hart_id 2) ∷
+    Blocked Locked (hart_id 2) ∷ Stalled ∷ Ran ∷ Idle ∷ Stalled ∷ Missed (line_addr 1027) Write ∷
+    Missed (line_addr 1024) Read ∷ ordered_with [] [] ∷ ordered_with [] [] ∷ served_with [] [] ∷ Idle ∷ Stalled ∷ Began ∷ Stalled ∷
+    Idle ∷ Idle ∷ Blocked Behind (hart_id 3) ∷ served_with [] [] ∷ Missed (line_addr 1026) Write ∷ ordered_with [] [] ∷
+    served_with [] [] ∷ Ran ∷ Idle ∷ Idle ∷ served_with [] [] ∷ served_with [] [] ∷ Idle ∷ Buffered ∷ Missed (line_addr 1025) Write ∷
+    Ran ∷ ordered_with [] [] ∷ Idle ∷ Blocked Locked (hart_id 1) ∷ Idle ∷ Ran ∷ Idle ∷ Missed (line_addr 1024) Read ∷
+    served_with [] [] ∷ Missed (line_addr 1025) Write ∷ Idle ∷ RolledBack Mixed ∷ Idle ∷ ordered_with [] [] ∷ Idle ∷ Ran ∷ Idle ∷
+    Blocked Locked (hart_id 3) ∷ Ran ∷ Ran ∷ Idle ∷ served_with [] [] ∷ ordered_with [] [] ∷ Ran ∷ served_with [] [] ∷
+    Missed (line_addr 1024) Write ∷ Idle ∷ Idle ∷ Idle ∷ Idle ∷ Idle ∷ Missed (line_addr 1024) Write ∷ Idle ∷
+    Missed (line_addr 1024) Write ∷ ordered_with [] [] ∷ ordered_with [] [] ∷ ordered_with [] [] ∷ Blocked Behind (hart_id 2) ∷
+    served_with [] [] ∷ Delivered (lost []) ∷ Missed (line_addr 1024) Write ∷ Delivered (lost []) ∷ Idle ∷
+    Blocked Behind (hart_id 1) ∷ Delivered (lost []) ∷ ordered_with [] [] ∷ Blocked Behind (hart_id 1) ∷ Idle ∷ Ran ∷
+    served_with [] [] ∷ Blocked Locked (hart_id 1) ∷ Blocked Locked (hart_id 1) ∷ Blocked Behind (hart_id 3) ∷
+    Blocked Behind (hart_id 3) ∷ Stalled ∷ Blocked Locked (hart_id 1) ∷ Missed (line_addr 1024) Read ∷
+    Missed (line_addr 1024) Read ∷ Delivered (lost []) ∷ Idle ∷ Idle ∷ ordered_with [] [] ∷ Stalled ∷
+    Blocked Behind (hart_id 3) ∷ ordered_with [] [] ∷ Delivered (lost []) ∷ Blocked Behind (hart_id 3) ∷
+    Delivered (lost []) ∷ Blocked Behind (hart_id 3) ∷ Delivered (lost []) ∷ Blocked Behind (hart_id 3) ∷ Idle ∷
+    Blocked Behind (hart_id 3) ∷ Delivered (lost []) ∷ Blocked Behind (hart_id 3) ∷ Stalled ∷ Delivered (lost []) ∷
+    Stalled ∷ Idle ∷ Idle ∷ Idle ∷ Stalled ∷ served_with [] [] ∷ Idle ∷ Blocked Behind (hart_id 0) ∷
     Blocked Locked (hart_id 3) ∷ Blocked Behind (hart_id 0) ∷ Idle ∷ Blocked Behind (hart_id 0) ∷
-    Delivered (lost ([])) ∷ Blocked Behind (hart_id 0) ∷ Blocked Behind (hart_id 0) ∷ Blocked Locked (hart_id 3) ∷
-    Stalled ∷ Stalled ∷ Delivered (lost ([])) ∷ Blocked Behind (hart_id 0) ∷ Idle ∷ Delivered (lost ([])) ∷ Stalled ∷
-    Ran ∷ Delivered (lost ([])) ∷ Idle ∷ Missed (line_addr 1026) Write ∷ Idle ∷ Delivered (lost ([])) ∷
+    Delivered (lost []) ∷ Blocked Behind (hart_id 0) ∷ Blocked Behind (hart_id 0) ∷ Blocked Locked (hart_id 3) ∷
+    Stalled ∷ Stalled ∷ Delivered (lost []) ∷ Blocked Behind (hart_id 0) ∷ Idle ∷ Delivered (lost []) ∷ Stalled ∷
+    Ran ∷ Delivered (lost []) ∷ Idle ∷ Missed (line_addr 1026) Write ∷ Idle ∷ Delivered (lost []) ∷
     Blocked Behind (hart_id 0) ∷ Blocked Behind (hart_id 0) ∷ []
 
 outcomes : outcomes_from first events ≡ expected

@@ -9,10 +9,10 @@ use Rattle.el_base.specs.declared.events.Kind.TheVariants.{Step, Order, Serve, D
 use Rattle.el_base.specs.declared.outcomes.Cause.TheVariants.{Long}
 use Rattle.el_base.specs.declared.outcomes.Need.TheVariants.{Read, Write}
 use Rattle.el_base.specs.declared.outcomes.Outcome.{Outcome}
-use Rattle.el_base.specs.declared.outcomes.Outcome.TheVariants.{Idle, Stalled, Missed, Ran, Began, Buffered, Committed, RolledBack, Ordered, Served, Blocked, Delivered}
+use Rattle.el_base.specs.declared.outcomes.Outcome.TheVariants.{Idle, Stalled, Missed, Ran, Began, Buffered, Committed, RolledBack, Blocked, Delivered}
 use Rattle.el_base.specs.declared.outcomes.Why.TheVariants.{Behind, Retained, Locked}
 use Rattle.computed_runs.proofs.Computing.{computing}
-use Rattle.computed_runs.proofs.Given.{Ending, ending_of, event, first_state, lost, patched, request, section, stamp, way}
+use Rattle.computed_runs.proofs.Given.{Ending, ending_of, event, first_state, lost, ordered_with, patched, request, section, served_with, stamp, way}
 use Rattle.el_model.specs.Next.{outcomes_from, state_after}
 use Rattle.el_model.specs.State.{ModelState}
 use Rattle.mail.specs.Mailbox.{Marker}
@@ -102,73 +102,71 @@ events =
 abbrev expected : List Outcome
 expected =
     Idle ∷ Ran ∷ Idle ∷ Ran ∷ Idle ∷ Idle ∷ Ran ∷ Ran ∷ Ran ∷ Ran ∷ Idle ∷ Ran ∷ Ran ∷ Ran ∷ Idle ∷
-    Missed (line_addr 1025) Read ∷ Idle ∷ Idle ∷ Idle ∷ Ran ∷ Ordered (lost ([])) ∷ Ran ∷ Ran ∷ Ran ∷ Idle ∷ Ran ∷
-    Served (lost ([])) ∷ Ran ∷ Idle ∷ Ran ∷ Idle ∷ Idle ∷ Began ∷ Missed (line_addr 1025) Read ∷
-    Missed (line_addr 1025) Read ∷ Missed (line_addr 1025) Read ∷ Ordered (lost ([])) ∷ Ordered (lost ([])) ∷
-    Blocked Behind (hart_id 1) ∷ Idle ∷ Stalled ∷ Idle ∷ Ordered (lost ([])) ∷ Blocked Behind (hart_id 1) ∷
-    Served (lost ([])) ∷ Blocked Behind (hart_id 0) ∷ Stalled ∷ Blocked Locked (hart_id 1) ∷ Idle ∷
-    Blocked Behind (hart_id 0) ∷ Began ∷ Missed (line_addr 1026) Write ∷ Stalled ∷ Served (lost ([])) ∷
-    Blocked Locked (hart_id 0) ∷ Idle ∷ Ordered (lost ([])) ∷ Idle ∷ Idle ∷ Delivered (lost ([])) ∷ Stalled ∷
-    Blocked Locked (hart_id 0) ∷ Delivered (lost ([])) ∷ Blocked Locked (hart_id 0) ∷ Served (lost ([])) ∷ Began ∷
-    Idle ∷ Missed (line_addr 1026) Write ∷ Idle ∷ Stalled ∷ Served (lost ([])) ∷ Idle ∷ Idle ∷ Idle ∷
-    Ordered (lost ((3, 0) ∷ [])) ∷ Began ∷ Served (lost ([])) ∷ Missed (line_addr 1026) Write ∷ Idle ∷ Buffered ∷
-    Began ∷ Missed (line_addr 1026) Write ∷ Ordered (lost ([])) ∷ Ordered (lost ([])) ∷ Blocked Behind (hart_id 1) ∷
-    Delivered (lost ([])) ∷ Delivered (lost ([])) ∷ Blocked Retained (hart_id 0) ∷ Idle ∷ Delivered (lost ([])) ∷
-    Missed (line_addr 1026) Write ∷ Blocked Behind (hart_id 1) ∷ Delivered (lost ([])) ∷ Stalled ∷ Buffered ∷
-    Committed 4 ∷ Served (lost ([])) ∷ Blocked Retained (hart_id 1) ∷ Missed (line_addr 1024) Read ∷
-    Blocked Retained (hart_id 1) ∷ Idle ∷ Ordered (lost ([])) ∷ Stalled ∷ Idle ∷ Blocked Retained (hart_id 1) ∷
-    Blocked Behind (hart_id 3) ∷ Blocked Retained (hart_id 1) ∷ Stalled ∷ Stalled ∷ Buffered ∷ Delivered (lost ([])) ∷
-    Idle ∷ Idle ∷ Delivered (lost ([])) ∷ Delivered (lost ([])) ∷ Idle ∷ Delivered (lost ([])) ∷
-    Delivered (lost ([])) ∷ Blocked Behind (hart_id 3) ∷ Idle ∷ Blocked Behind (hart_id 3) ∷ Stalled ∷ Idle ∷
-    Ordered (lost ([])) ∷ Blocked Retained (hart_id 1) ∷ Served (lost ([])) ∷ Idle ∷ Blocked Retained (hart_id 1) ∷
-    Blocked Retained (hart_id 1) ∷ Blocked Retained (hart_id 1) ∷ Idle ∷ Began ∷ Buffered ∷
-    Missed (line_addr 1025) Write ∷ Delivered (lost ([])) ∷ Blocked Retained (hart_id 1) ∷ Idle ∷ Ordered (lost ([])) ∷
-    Buffered ∷ Blocked Retained (hart_id 1) ∷ Idle ∷ Blocked Retained (hart_id 1) ∷ Blocked Retained (hart_id 1) ∷
-    Blocked Behind (hart_id 3) ∷ Blocked Retained (hart_id 1) ∷ Idle ∷ Blocked Behind (hart_id 3) ∷
-    Blocked Behind (hart_id 3) ∷ Idle ∷ Committed 4 ∷ Stalled ∷ Stalled ∷ Missed (line_addr 1024) Read ∷
-    Delivered (lost ([])) ∷ Delivered (lost ([])) ∷ Delivered (lost ([])) ∷ Served (lost ((3, 2) ∷ [])) ∷
-    Blocked Retained (hart_id 2) ∷ Idle ∷ Missed (line_addr 1025) Read ∷ Delivered (lost ([])) ∷ Ordered (lost ([])) ∷
-    Delivered (lost ([])) ∷ Served (lost ([])) ∷ Stalled ∷ Buffered ∷ Delivered (lost ([])) ∷ Stalled ∷
-    Delivered (lost ([])) ∷ Blocked Behind (hart_id 0) ∷ Blocked Retained (hart_id 2) ∷ Blocked Retained (hart_id 2) ∷
-    Ordered (lost ([])) ∷ Stalled ∷ Served (lost ([])) ∷ Blocked Retained (hart_id 2) ∷ Blocked Behind (hart_id 0) ∷
-    Blocked Behind (hart_id 0) ∷ Idle ∷ Delivered (lost ([])) ∷ Delivered (lost ([])) ∷ Blocked Behind (hart_id 0) ∷
-    Delivered (lost ([])) ∷ Idle ∷ Blocked Retained (hart_id 2) ∷ Blocked Retained (hart_id 2) ∷
-    Blocked Behind (hart_id 0) ∷ Stalled ∷ Idle ∷ Stalled ∷ Idle ∷ Blocked Retained (hart_id 2) ∷ Idle ∷ Buffered ∷
-    Began ∷ Idle ∷ Buffered ∷ Idle ∷ Committed 4 ∷ Idle ∷ Missed (line_addr 1024) Read ∷
-    Missed (line_addr 1025) Write ∷ Ordered (lost ([])) ∷ Idle ∷ Idle ∷ Idle ∷ Blocked Behind (hart_id 0) ∷ Idle ∷
-    Ordered (lost ([])) ∷ Blocked Behind (hart_id 0) ∷ Served (lost ((0, 3) ∷ [])) ∷ Served (lost ([])) ∷ Began ∷
-    Blocked Locked (hart_id 3) ∷ Idle ∷ Buffered ∷ Delivered (lost ([])) ∷ Delivered (lost ([])) ∷ Served (lost ([])) ∷
-    Missed (line_addr 1025) Write ∷ Idle ∷ Blocked Locked (hart_id 3) ∷ Idle ∷ Missed (line_addr 1025) Read ∷ Idle ∷
-    Ordered (lost ([])) ∷ Delivered (lost ([])) ∷ Ordered (lost ([])) ∷ Blocked Behind (hart_id 1) ∷
-    Served (lost ((1, 0) ∷ [])) ∷ Delivered (lost ([])) ∷ Delivered (lost ([])) ∷ Began ∷ Served (lost ((0, 3) ∷ [])) ∷
-    Began ∷ Idle ∷ Served (lost ([])) ∷ Idle ∷ Idle ∷ Began ∷ Idle ∷ Buffered ∷ Began ∷ Idle ∷ Buffered ∷
-    Missed (line_addr 1025) Write ∷ Ordered (lost ([])) ∷ Missed (line_addr 1026) Write ∷ Ordered (lost ([])) ∷
-    Stalled ∷ Idle ∷ Buffered ∷ Missed (line_addr 1025) Write ∷ Served (lost ([])) ∷ Buffered ∷
-    Missed (line_addr 1025) Write ∷ Stalled ∷ Ordered (lost ([])) ∷ Delivered (lost ([])) ∷ Idle ∷ Buffered ∷ Idle ∷
-    Blocked Behind (hart_id 1) ∷ Idle ∷ Idle ∷ Idle ∷ Committed 4 ∷ Delivered (lost ([])) ∷ Idle ∷ Idle ∷ Stalled ∷
-    Ordered (lost ([])) ∷ Delivered (lost ([])) ∷ Blocked Behind (hart_id 1) ∷ Blocked Behind (hart_id 1) ∷
-    Served (lost ([])) ∷ Buffered ∷ Buffered ∷ Delivered (lost ([])) ∷ Blocked Behind (hart_id 2) ∷ Idle ∷ Idle ∷
-    Stalled ∷ Blocked Retained (hart_id 1) ∷ Delivered (lost ([])) ∷ Buffered ∷ Missed (line_addr 1024) Read ∷
-    Blocked Behind (hart_id 2) ∷ Delivered (lost ((1, 0) ∷ [])) ∷ Served (lost ((2, 0) ∷ [])) ∷ Began ∷ Buffered ∷
-    Ordered (lost ([])) ∷ Began ∷ Idle ∷ Stalled ∷ Idle ∷ Missed (line_addr 1025) Write ∷ Served (lost ([])) ∷
-    Buffered ∷ Missed (line_addr 1025) Write ∷ Ordered (lost ([])) ∷ Idle ∷ Idle ∷ Idle ∷ Served (lost ([])) ∷
-    Delivered (lost ([])) ∷ Blocked Retained (hart_id 0) ∷ Idle ∷ Stalled ∷ Idle ∷ Blocked Retained (hart_id 0) ∷
-    Delivered (lost ([])) ∷ Buffered ∷ Blocked Retained (hart_id 0) ∷ Idle ∷ Idle ∷ Ordered (lost ([])) ∷ Idle ∷ Idle ∷
-    Buffered ∷ Stalled ∷ Blocked Retained (hart_id 0) ∷ Delivered (lost ([])) ∷ Began ∷ Idle ∷
-    Blocked Retained (hart_id 0) ∷ Idle ∷ Delivered (lost ([])) ∷ Delivered (lost ([])) ∷ Buffered ∷
-    Missed (line_addr 1025) Write ∷ Blocked Behind (hart_id 1) ∷ Buffered ∷ Idle ∷ Idle ∷ Ordered (lost ([])) ∷
-    Stalled ∷ Stalled ∷ RolledBack Long ∷ Stalled ∷ Delivered (lost ([])) ∷ Blocked Behind (hart_id 1) ∷ Idle ∷ Idle ∷
-    Idle ∷ Blocked Behind (hart_id 1) ∷ Idle ∷ Idle ∷ Blocked Behind (hart_id 1) ∷ Blocked Behind (hart_id 1) ∷
-    Served (lost ([])) ∷ Blocked Behind (hart_id 2) ∷ Missed (line_addr 1024) Write ∷ Delivered (lost ([])) ∷
-    Delivered (lost ([])) ∷ Buffered ∷ Blocked Retained (hart_id 1) ∷ Blocked Retained (hart_id 1) ∷ Stalled ∷
-    Delivered (lost ([])) ∷ Idle ∷ Blocked Behind (hart_id 2) ∷ Blocked Retained (hart_id 1) ∷ Buffered ∷ Buffered ∷
-    Idle ∷ Idle ∷ Delivered (lost ([])) ∷ Blocked Retained (hart_id 1) ∷ RolledBack Long ∷ Idle ∷
-    Missed (line_addr 1024) Write ∷ Ordered (lost ([])) ∷ Stalled ∷ Idle ∷ Served (lost ([])) ∷ Ordered (lost ([])) ∷
-    Idle ∷ Buffered ∷ Blocked Retained (hart_id 2) ∷ Blocked Retained (hart_id 2) ∷ Buffered ∷ Stalled ∷
-    Blocked Retained (hart_id 2) ∷ Blocked Behind (hart_id 0) ∷ Buffered ∷ Delivered (lost ([])) ∷
-    Blocked Retained (hart_id 2) ∷ RolledBack Long ∷ Delivered (lost ([])) ∷ Missed (line_addr 1024) Write ∷
-    Delivered (lost ([])) ∷ Delivered (lost ([])) ∷ Served (lost ([])) ∷ Blocked Retained (hart_id 3) ∷
-    Delivered (lost ([])) ∷ Ordered (lost ([])) ∷ Blocked Retained (hart_id 3) ∷ Idle ∷ []
+    Missed (line_addr 1025) Read ∷ Idle ∷ Idle ∷ Idle ∷ Ran ∷ ordered_with [] [] ∷ Ran ∷ Ran ∷ Ran ∷ Idle ∷ Ran ∷
+    served_with [] [] ∷ Ran ∷ Idle ∷ Ran ∷ Idle ∷ Idle ∷ Began ∷ Missed (line_addr 1025) Read ∷
+    Missed (line_addr 1025) Read ∷ Missed (line_addr 1025) Read ∷ ordered_with [] [] ∷ ordered_with [] [] ∷
+    Blocked Behind (hart_id 1) ∷ Idle ∷ Stalled ∷ Idle ∷ ordered_with [] [] ∷ Blocked Behind (hart_id 1) ∷ served_with [] [] ∷
+    Blocked Behind (hart_id 0) ∷ Stalled ∷ Blocked Locked (hart_id 1) ∷ Idle ∷ Blocked Behind (hart_id 0) ∷ Began ∷
+    Missed (line_addr 1026) Write ∷ Stalled ∷ served_with [] [] ∷ Blocked Locked (hart_id 0) ∷ Idle ∷ ordered_with [] [] ∷ Idle ∷
+    Idle ∷ Delivered (lost []) ∷ Stalled ∷ Blocked Locked (hart_id 0) ∷ Delivered (lost []) ∷
+    Blocked Locked (hart_id 0) ∷ served_with [] [] ∷ Began ∷ Idle ∷ Missed (line_addr 1026) Write ∷ Idle ∷ Stalled ∷
+    served_with [] [] ∷ Idle ∷ Idle ∷ Idle ∷ ordered_with ((3, 0) ∷ []) [] ∷ Began ∷ served_with [] [] ∷
+    Missed (line_addr 1026) Write ∷ Idle ∷ Buffered ∷ Began ∷ Missed (line_addr 1026) Write ∷ ordered_with [] [] ∷
+    ordered_with [] [] ∷ Blocked Behind (hart_id 1) ∷ Delivered (lost []) ∷ Delivered (lost []) ∷
+    Blocked Retained (hart_id 0) ∷ Idle ∷ Delivered (lost []) ∷ Missed (line_addr 1026) Write ∷
+    Blocked Behind (hart_id 1) ∷ Delivered (lost []) ∷ Stalled ∷ Buffered ∷ Committed 4 ∷ served_with [] [] ∷
+    Blocked Retained (hart_id 1) ∷ Missed (line_addr 1024) Read ∷ Blocked Retained (hart_id 1) ∷ Idle ∷ ordered_with [] [] ∷
+    Stalled ∷ Idle ∷ Blocked Retained (hart_id 1) ∷ Blocked Behind (hart_id 3) ∷ Blocked Retained (hart_id 1) ∷
+    Stalled ∷ Stalled ∷ Buffered ∷ Delivered (lost []) ∷ Idle ∷ Idle ∷ Delivered (lost []) ∷
+    Delivered (lost []) ∷ Idle ∷ Delivered (lost []) ∷ Delivered (lost []) ∷ Blocked Behind (hart_id 3) ∷ Idle ∷
+    Blocked Behind (hart_id 3) ∷ Stalled ∷ Idle ∷ ordered_with [] [] ∷ Blocked Retained (hart_id 1) ∷ served_with [] [] ∷ Idle ∷
+    Blocked Retained (hart_id 1) ∷ Blocked Retained (hart_id 1) ∷ Blocked Retained (hart_id 1) ∷ Idle ∷ Began ∷
+    Buffered ∷ Missed (line_addr 1025) Write ∷ Delivered (lost []) ∷ Blocked Retained (hart_id 1) ∷ Idle ∷
+    ordered_with [] [] ∷ Buffered ∷ Blocked Retained (hart_id 1) ∷ Idle ∷ Blocked Retained (hart_id 1) ∷
+    Blocked Retained (hart_id 1) ∷ Blocked Behind (hart_id 3) ∷ Blocked Retained (hart_id 1) ∷ Idle ∷
+    Blocked Behind (hart_id 3) ∷ Blocked Behind (hart_id 3) ∷ Idle ∷ Committed 4 ∷ Stalled ∷ Stalled ∷
+    Missed (line_addr 1024) Read ∷ Delivered (lost []) ∷ Delivered (lost []) ∷ Delivered (lost []) ∷
+    served_with ((3, 2) ∷ []) [] ∷ Blocked Retained (hart_id 2) ∷ Idle ∷ Missed (line_addr 1025) Read ∷
+    Delivered (lost []) ∷ ordered_with [] [] ∷ Delivered (lost []) ∷ served_with [] [] ∷ Stalled ∷ Buffered ∷
+    Delivered (lost []) ∷ Stalled ∷ Delivered (lost []) ∷ Blocked Behind (hart_id 0) ∷
+    Blocked Retained (hart_id 2) ∷ Blocked Retained (hart_id 2) ∷ ordered_with [] [] ∷ Stalled ∷ served_with [] [] ∷
+    Blocked Retained (hart_id 2) ∷ Blocked Behind (hart_id 0) ∷ Blocked Behind (hart_id 0) ∷ Idle ∷
+    Delivered (lost []) ∷ Delivered (lost []) ∷ Blocked Behind (hart_id 0) ∷ Delivered (lost []) ∷ Idle ∷
+    Blocked Retained (hart_id 2) ∷ Blocked Retained (hart_id 2) ∷ Blocked Behind (hart_id 0) ∷ Stalled ∷ Idle ∷
+    Stalled ∷ Idle ∷ Blocked Retained (hart_id 2) ∷ Idle ∷ Buffered ∷ Began ∷ Idle ∷ Buffered ∷ Idle ∷ Committed 4 ∷
+    Idle ∷ Missed (line_addr 1024) Read ∷ Missed (line_addr 1025) Write ∷ ordered_with [] [] ∷ Idle ∷ Idle ∷ Idle ∷
+    Blocked Behind (hart_id 0) ∷ Idle ∷ ordered_with [] [] ∷ Blocked Behind (hart_id 0) ∷ served_with ((0, 3) ∷ []) [] ∷
+    served_with [] [] ∷ Began ∷ Blocked Locked (hart_id 3) ∷ Idle ∷ Buffered ∷ Delivered (lost []) ∷
+    Delivered (lost []) ∷ served_with [] [] ∷ Missed (line_addr 1025) Write ∷ Idle ∷ Blocked Locked (hart_id 3) ∷ Idle ∷
+    Missed (line_addr 1025) Read ∷ Idle ∷ ordered_with [] [] ∷ Delivered (lost []) ∷ ordered_with [] [] ∷
+    Blocked Behind (hart_id 1) ∷ served_with ((1, 0) ∷ []) [] ∷ Delivered (lost []) ∷ Delivered (lost []) ∷ Began ∷
+    served_with ((0, 3) ∷ []) [] ∷ Began ∷ Idle ∷ served_with [] [] ∷ Idle ∷ Idle ∷ Began ∷ Idle ∷ Buffered ∷ Began ∷ Idle ∷
+    Buffered ∷ Missed (line_addr 1025) Write ∷ ordered_with [] [] ∷ Missed (line_addr 1026) Write ∷ ordered_with [] [] ∷
+    Stalled ∷ Idle ∷ Buffered ∷ Missed (line_addr 1025) Write ∷ served_with [] [] ∷ Buffered ∷
+    Missed (line_addr 1025) Write ∷ Stalled ∷ ordered_with [] [] ∷ Delivered (lost []) ∷ Idle ∷ Buffered ∷ Idle ∷
+    Blocked Behind (hart_id 1) ∷ Idle ∷ Idle ∷ Idle ∷ Committed 4 ∷ Delivered (lost []) ∷ Idle ∷ Idle ∷ Stalled ∷
+    ordered_with [] [] ∷ Delivered (lost []) ∷ Blocked Behind (hart_id 1) ∷ Blocked Behind (hart_id 1) ∷ served_with [] [] ∷
+    Buffered ∷ Buffered ∷ Delivered (lost []) ∷ Blocked Behind (hart_id 2) ∷ Idle ∷ Idle ∷ Stalled ∷
+    Blocked Retained (hart_id 1) ∷ Delivered (lost []) ∷ Buffered ∷ Missed (line_addr 1024) Read ∷
+    Blocked Behind (hart_id 2) ∷ Delivered (lost ((1, 0) ∷ [])) ∷ served_with ((2, 0) ∷ []) [] ∷ Began ∷ Buffered ∷
+    ordered_with [] [] ∷ Began ∷ Idle ∷ Stalled ∷ Idle ∷ Missed (line_addr 1025) Write ∷ served_with [] [] ∷ Buffered ∷
+    Missed (line_addr 1025) Write ∷ ordered_with [] [] ∷ Idle ∷ Idle ∷ Idle ∷ served_with [] [] ∷ Delivered (lost []) ∷
+    Blocked Retained (hart_id 0) ∷ Idle ∷ Stalled ∷ Idle ∷ Blocked Retained (hart_id 0) ∷ Delivered (lost []) ∷
+    Buffered ∷ Blocked Retained (hart_id 0) ∷ Idle ∷ Idle ∷ ordered_with [] [] ∷ Idle ∷ Idle ∷ Buffered ∷ Stalled ∷
+    Blocked Retained (hart_id 0) ∷ Delivered (lost []) ∷ Began ∷ Idle ∷ Blocked Retained (hart_id 0) ∷ Idle ∷
+    Delivered (lost []) ∷ Delivered (lost []) ∷ Buffered ∷ Missed (line_addr 1025) Write ∷
+    Blocked Behind (hart_id 1) ∷ Buffered ∷ Idle ∷ Idle ∷ ordered_with [] [] ∷ Stalled ∷ Stalled ∷ RolledBack Long ∷
+    Stalled ∷ Delivered (lost []) ∷ Blocked Behind (hart_id 1) ∷ Idle ∷ Idle ∷ Idle ∷ Blocked Behind (hart_id 1) ∷
+    Idle ∷ Idle ∷ Blocked Behind (hart_id 1) ∷ Blocked Behind (hart_id 1) ∷ served_with [] [] ∷ Blocked Behind (hart_id 2) ∷
+    Missed (line_addr 1024) Write ∷ Delivered (lost []) ∷ Delivered (lost []) ∷ Buffered ∷
+    Blocked Retained (hart_id 1) ∷ Blocked Retained (hart_id 1) ∷ Stalled ∷ Delivered (lost []) ∷ Idle ∷
+    Blocked Behind (hart_id 2) ∷ Blocked Retained (hart_id 1) ∷ Buffered ∷ Buffered ∷ Idle ∷ Idle ∷
+    Delivered (lost []) ∷ Blocked Retained (hart_id 1) ∷ RolledBack Long ∷ Idle ∷ Missed (line_addr 1024) Write ∷
+    ordered_with [] [] ∷ Stalled ∷ Idle ∷ served_with [] [] ∷ ordered_with [] [] ∷ Idle ∷ Buffered ∷ Blocked Retained (hart_id 2) ∷
+    Blocked Retained (hart_id 2) ∷ Buffered ∷ Stalled ∷ Blocked Retained (hart_id 2) ∷ Blocked Behind (hart_id 0) ∷
+    Buffered ∷ Delivered (lost []) ∷ Blocked Retained (hart_id 2) ∷ RolledBack Long ∷ Delivered (lost []) ∷
+    Missed (line_addr 1024) Write ∷ Delivered (lost []) ∷ Delivered (lost []) ∷ served_with [] [] ∷
+    Blocked Retained (hart_id 3) ∷ Delivered (lost []) ∷ ordered_with [] [] ∷ Blocked Retained (hart_id 3) ∷ Idle ∷ []
 
 outcomes : outcomes_from first events ≡ expected
 unfolding computing

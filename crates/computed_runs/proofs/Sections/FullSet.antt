@@ -8,10 +8,10 @@ use Rattle.el_base.specs.declared.config.Mode.TheVariants.{Sle}
 use Rattle.el_base.specs.declared.events.Event.{Event}
 use Rattle.el_base.specs.declared.events.Kind.TheVariants.{Step, Order, Serve}
 use Rattle.el_base.specs.declared.outcomes.Need.TheVariants.{Read}
-use Rattle.el_base.specs.declared.outcomes.Outcome.TheVariants.{Began, Missed, Ordered, Ran, Served}
+use Rattle.el_base.specs.declared.outcomes.Outcome.TheVariants.{Began, Missed, Ran}
 use Rattle.elf_image.specs.Program.{Program}
 use Rattle.computed_runs.proofs.Computing.{computing}
-use Rattle.computed_runs.proofs.Given.{bytes_of, event, lost}
+use Rattle.computed_runs.proofs.Given.{bytes_of, event, ordered_with, served_with}
 use Rattle.computed_runs.proofs.Rows.Given.{code_at, settings, swap}
 use Rattle.el_model.specs.Next.{after, outcomes}
 use Rattle.el_model.specs.State.{cache_of}
@@ -40,7 +40,7 @@ events = event Step 0 ∷ event Step 0 ∷ event Step 0 ∷ event Order 0 ∷ ev
 
 -- the swap begins a section, with its line in the only way
 outcomes_are : outcomes program config events
-    ≡ Ran ∷ Ran ∷ Missed (line_addr 1024) Read ∷ Ordered (lost ([])) ∷ Served (lost ([])) ∷ Began ∷ []
+    ≡ Ran ∷ Ran ∷ Missed (line_addr 1024) Read ∷ ordered_with [] [] ∷ served_with [] [] ∷ Began ∷ []
 unfolding computing
 outcomes_are = refl
 

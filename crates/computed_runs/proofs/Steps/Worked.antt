@@ -8,9 +8,9 @@ use Rattle.el_base.specs.declared.events.Event.{Event}
 use Rattle.el_base.specs.declared.events.Kind.TheVariants.{Step, Order, Serve}
 use Rattle.el_base.specs.declared.outcomes.Cause.TheVariants.{Long}
 use Rattle.el_base.specs.declared.outcomes.Need.TheVariants.{Read, Write}
-use Rattle.el_base.specs.declared.outcomes.Outcome.TheVariants.{Missed, Began, Buffered, RolledBack, Ran, Ordered, Served}
+use Rattle.el_base.specs.declared.outcomes.Outcome.TheVariants.{Missed, Began, Buffered, RolledBack, Ran}
 use Rattle.computed_runs.proofs.Computing.{computing}
-use Rattle.computed_runs.proofs.Given.{event, lost, section, watch}
+use Rattle.computed_runs.proofs.Given.{event, ordered_with, section, served_with, watch}
 use Rattle.computed_runs.proofs.Rows.Given.{machine_of, settings, store_byte, store_word, swap, usual}
 use Rattle.el_base.specs.Winners.{winner_over}
 use Rattle.el_model.specs.Next.{next, outcomes_from, state_after}
@@ -28,8 +28,8 @@ to_its_longest =
     event Step 0 ∷ event Order 0 ∷ event Serve 0 ∷ event Step 0 ∷ event Step 0 ∷ event Order 0 ∷ event Serve 0 ∷ event Step 0 ∷ []
 
 to_its_longest_outcomes : outcomes_from alone_first to_its_longest
-    ≡ Missed (line_addr 1024) Read ∷ Ordered (lost ([])) ∷ Served (lost ([])) ∷ Began ∷ Missed (line_addr 1025) Write
-    ∷ Ordered (lost ([])) ∷ Served (lost ([])) ∷ Buffered ∷ []
+    ≡ Missed (line_addr 1024) Read ∷ ordered_with [] [] ∷ served_with [] [] ∷ Began ∷ Missed (line_addr 1025) Write
+    ∷ ordered_with [] [] ∷ served_with [] [] ∷ Buffered ∷ []
 unfolding computing
 to_its_longest_outcomes = refl
 
@@ -88,7 +88,7 @@ abbrev to_the_write : List Event
 to_the_write = event Step 0 ∷ event Order 0 ∷ event Serve 0 ∷ event Step 0 ∷ event Step 1 ∷ []
 
 to_the_write_outcomes : outcomes_from both_first to_the_write
-    ≡ Missed (line_addr 1024) Read ∷ Ordered (lost ([])) ∷ Served (lost ([])) ∷ Began ∷ Missed (line_addr 1024) Write ∷ []
+    ≡ Missed (line_addr 1024) Read ∷ ordered_with [] [] ∷ served_with [] [] ∷ Began ∷ Missed (line_addr 1024) Write ∷ []
 unfolding computing
 to_the_write_outcomes = refl
 
@@ -123,7 +123,7 @@ ordered = state_after sharing_first to_the_read
 abbrev shared : ModelState
 shared = (next ordered (event Serve 1)).state
 
-is_served : (next ordered (event Serve 1)).outcome ≡ Served (lost ([]))
+is_served : (next ordered (event Serve 1)).outcome ≡ served_with [] []
 unfolding computing
 is_served = refl
 

@@ -6,7 +6,7 @@ ghost use Rattle.snoop.specs.Shows.{IsReady, kept};
 
 use super::*;
 use cache_sets::Letter;
-use el_base::Losers;
+use el_base::{Freed, Losers};
 
 /// The line after the first one of memory.
 pub(super) fn next_line() -> LineAddr {
@@ -26,6 +26,7 @@ fn losers(pairs: &[(u8, u8)]) -> Result<Losers, Fail> {
 pub(super) fn ordered(pairs: &[(u8, u8)]) -> Result<Option<Outcome>, Fail> {
     Ok(Some(Outcome::Ordered {
         losers: losers(pairs)?,
+        freed: Freed::none(),
     }))
 }
 
@@ -33,6 +34,7 @@ pub(super) fn ordered(pairs: &[(u8, u8)]) -> Result<Option<Outcome>, Fail> {
 pub(super) fn served(pairs: &[(u8, u8)]) -> Result<Option<Outcome>, Fail> {
     Ok(Some(Outcome::Served {
         losers: losers(pairs)?,
+        freed: Freed::none(),
     }))
 }
 

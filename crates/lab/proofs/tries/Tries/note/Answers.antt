@@ -26,5 +26,7 @@ returns-in-Idle c =
       | inr (inr (inl (line, need, e))) ↦ nothing _ e (λ h. refl) (λ h. refl) (λ begun. refl)
       | inr (inr (inr (inl e))) ↦ nothing _ e (λ h. refl) (λ h. refl) (λ begun. refl)
       | inr (inr (inr (inr (inl e)))) ↦ nothing _ e (λ h. refl) (λ h. refl) (λ begun. refl)
-      | inr (inr (inr (inr (inr (why, by, e))))) ↦ nothing _ e (λ h. refl) (λ h. refl) (λ begun. refl)
+      | inr (inr (inr (inr (inr (inl (why, by, e)))))) ↦ nothing _ e (λ h. refl) (λ h. refl) (λ begun. refl)
+      | inr (inr (inr (inr (inr (inr (inl e)))))) ↦ nothing _ e (λ h. refl) (λ h. refl) (λ begun. refl)
+      | inr (inr (inr (inr (inr (inr (inr (count, e))))))) ↦ nothing _ e (λ h. refl) (λ h. refl) (λ begun. refl)
     ]

@@ -32,3 +32,11 @@ returns-clause-shows c = λ state shows.
     (probe_shows (kept c.hear_of-losers.new.self) (kept c.forward.new.self) state c.args.hart.number c.args.origin.number
     (option_map numbered c.of-request.result)
     (c.hear_of-losers.ensures.shows state shows) c.forward.ensures)
+
+pub returns-clause-losers : goal.returns-clause-losers
+returns-clause-losers c = λ state shows.
+    let request = c.of-request.ensures ∙ ap (λ order. request_of order c.args.origin.number) shows.order in
+    c.hear_of-losers.ensures.losers state shows
+    ∙ ap (probe_losers state c.args.hart.number c.args.origin.number) request
+    ∙ ap (λ known. if known then nobody else probe_losers state c.args.hart.number c.args.origin.number (ordered_of state c.args.origin.number))
+    (sym c.if-knows.false ∙ c.knows.ensures ∙ ap (λ agent. has agent.told c.args.origin.number) (c.agent.ensures ∙ shows.agents c.args.hart.number))

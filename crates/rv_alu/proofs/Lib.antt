@@ -1,3 +1,4 @@
 pub mod Footprints
 pub mod Executions
 mod Worked
+mod Products

@@ -37,6 +37,35 @@ shift_with_zeros = refl
 shift_with_the_sign : alu_of alus.Sra 0x80000000 31 ≡ 0xffffffff
 shift_with_the_sign = refl
 
+-- products: the least number squared, and -1 by the greatest unsigned number
+upper_word_signed : alu_of alus.Mulh 0x80000000 0x80000000 ≡ 0x40000000
+upper_word_signed = refl
+
+upper_word_mixed : alu_of alus.Mulhsu 0xffffffff 0xffffffff ≡ 0xffffffff
+upper_word_mixed = refl
+
+upper_word_unsigned : alu_of alus.Mulhu 0xffffffff 0xffffffff ≡ 0xfffffffe
+upper_word_unsigned = refl
+
+-- -7 divided by 2, and by 0, and the least number divided by -1
+quotient_toward_zero : alu_of alus.Div 0xfffffff9 2 ≡ 0xfffffffd
+quotient_toward_zero = refl
+
+remainder_with_its_sign : alu_of alus.Rem 0xfffffff9 2 ≡ 0xffffffff
+remainder_with_its_sign = refl
+
+division_by_zero : alu_of alus.Div 0xfffffff9 0 ≡ 0xffffffff
+division_by_zero = refl
+
+remainder_by_zero : alu_of alus.Rem 0xfffffff9 0 ≡ 0xfffffff9
+remainder_by_zero = refl
+
+quotient_too_large : alu_of alus.Div 0x80000000 0xffffffff ≡ 0x80000000
+quotient_too_large = refl
+
+remainder_of_the_same : alu_of alus.Rem 0x80000000 0xffffffff ≡ 0
+remainder_of_the_same = refl
+
 -- branches
 equal_is_not_less : taken_of tests.Lt 7 7 ≡ false
 equal_is_not_less = refl

@@ -1,6 +1,6 @@
--- the results of RV32IA's operations on words of 32 bits, which are numbers below 2 ^ 32
-use Rattle.std.specs.Prelude.{ℕ, ℤ, Bool, ◌+◌, ◌-◌, ◌*◌, ◌/◌, ◌%◌, ◌^◌, ◌==◌, nat_lt, not, if◌then◌else◌, bit_and, bit_or, bit_xor, int_lt, min, max}
-use Rattle.std.specs.Int.{cast_signed, cast_unsigned, int_shr, w32}
+-- the results of RV32IMA's operations on words of 32 bits, which are numbers below 2 ^ 32
+use Rattle.std.specs.Prelude.{ℕ, ℤ, pos, ◌*ℤ◌, Bool, ◌+◌, ◌-◌, ◌*◌, ◌/◌, ◌%◌, ◌^◌, ◌==◌, nat_lt, not, if◌then◌else◌, bit_and, bit_or, bit_xor, int_lt, int_div, int_rem, min, max}
+use Rattle.std.specs.Int.{cast_signed, cast_unsigned, int_shr, w32, w64}
 use Rattle.rv_word.specs.declared.insn.Alu.{Alu}
 use Rattle.rv_word.specs.declared.insn.Alu.TheVariants as alus
 use Rattle.rv_word.specs.declared.insn.Test.{Test}
@@ -30,6 +30,27 @@ plus left right = (left + right) % 2 ^ 32
 abbrev pub moved_of : ℕ → ℤ → ℕ
 moved_of word offset = plus word (cast_unsigned w32 offset)
 
+-- the upper word of a product of two words, which is a number of 64 bits in two's complement
+abbrev pub upper_word_of : ℤ → ℕ
+upper_word_of product = cast_unsigned w64 product / 2 ^ 32
+
+-- the quotient rounds toward zero and the remainder has the sign of the dividend; a division by zero gives
+-- all ones and leaves the dividend. Signed, the least number divided by -1 is 2 ^ 31: the word of the least
+-- number again
+abbrev pub quotient_of : ℕ → ℕ → ℕ
+quotient_of left right = if right == 0 then 2 ^ 32 - 1 else left / right
+
+abbrev pub remainder_of : ℕ → ℕ → ℕ
+remainder_of left right = if right == 0 then left else left % right
+
+abbrev pub signed_quotient_of : ℕ → ℕ → ℕ
+signed_quotient_of left right =
+    if right == 0 then 2 ^ 32 - 1 else cast_unsigned w32 (int_div (signed left) (signed right))
+
+abbrev pub signed_remainder_of : ℕ → ℕ → ℕ
+signed_remainder_of left right =
+    if right == 0 then left else cast_unsigned w32 (int_rem (signed left) (signed right))
+
 -- the result of a register operation; shifts take the low five bits of the right word, and `Sra` fills
 -- with the sign
 abbrev pub alu_of : Alu → ℕ → ℕ → ℕ
@@ -43,6 +64,14 @@ alu_of alus.Srl left right = left / 2 ^ (right % 32)
 alu_of alus.Sra left right = cast_unsigned w32 (int_shr (signed left) (right % 32))
 alu_of alus.Or left right = bit_or left right
 alu_of alus.And left right = bit_and left right
+alu_of alus.Mul left right = left * right % 2 ^ 32
+alu_of alus.Mulh left right = upper_word_of (signed left *ℤ signed right)
+alu_of alus.Mulhsu left right = upper_word_of (signed left *ℤ pos right)
+alu_of alus.Mulhu left right = left * right / 2 ^ 32
+alu_of alus.Div left right = signed_quotient_of left right
+alu_of alus.Divu left right = quotient_of left right
+alu_of alus.Rem left right = signed_remainder_of left right
+alu_of alus.Remu left right = remainder_of left right
 
 -- whether a branch is taken
 abbrev pub taken_of : Test → ℕ → ℕ → Bool

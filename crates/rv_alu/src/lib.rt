@@ -1,4 +1,4 @@
-//! What an RV32IA instruction does to one hart, over any memory.
+//! What an RV32IMA instruction does to one hart, over any memory.
 //!
 //! The crate stands on the instructions of `rv_word` and the lines of `el_base`. An instruction is
 //! one value: [`Action::at`] reads its registers and makes its checks (none of this needs memory),
@@ -6,9 +6,9 @@
 //! to the hart's view and tells what is left to store and to append to the output. Beside that stand
 //! the registers and the view of a hart and the results of the operations (`alu`, `taken`, `amo`,
 //! `extend`). Every call is total, takes no memory and equals its definition in `specs/`, which is
-//! in the terms of the RISC-V unprivileged manual, chapter 2 and the chapter 'A Standard Extension
-//! for Atomic Instructions'. What the manual leaves to the system is this project's profile:
-//! misaligned accesses trap, a trap stops its hart, and there are two system calls, write and exit.
+//! in the terms of the RISC-V unprivileged manual, chapter 2 and the chapters on the M and A
+//! extensions. What the manual leaves to the system is this project's profile: misaligned accesses
+//! trap, a trap stops its hart, and there are two system calls, write and exit.
 //!
 //! The definition of `access`, `alu`, `taken`, `amo` and `extend` has the name with `_of` behind it; that
 //! of `touched` and of a method has its own name, but for [`Action::at`] and [`Action::of`], which have

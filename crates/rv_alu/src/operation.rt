@@ -1,11 +1,13 @@
-ghost use Rattle.std.specs.Prelude.{◌≡◌, ◌*◌, ◌^◌, ◌<◌, ◌≤◌};
-ghost use Rattle.rv_alu.specs.Operation.{alu_of, amo_of, extend_of, moved_of, sign_extended_of, taken_of};
+ghost use Rattle.std.specs.Prelude.{◌≡◌, ◌*◌, ◌^◌, ◌<◌, ◌≤◌, pos, ◌*ℤ◌};
+ghost use Rattle.rv_alu.specs.Operation.{alu_of, amo_of, extend_of, moved_of, sign_extended_of, signed, signed_quotient_of, signed_remainder_of, taken_of, upper_word_of};
 
 use rv_word::{Alu, AmoOp, LoadWidth, Test};
 
 /// The result of a register operation (RISC-V unprivileged manual, chapter 2, 'Integer
-/// Computational Instructions'). Sums and differences wrap; shifts take the low five bits of
-/// `right`.
+/// Computational Instructions', and chapter 'M Standard Extension for Integer Multiplication and
+/// Division'). Sums, differences and the lower word of a product wrap; shifts take the low five bits
+/// of `right`. A quotient is rounded toward zero. A division by zero gives all ones and leaves
+/// `left`; the least number divided by -1 gives itself and leaves 0.
 pub fn alu(op: Alu, left: u32, right: u32) -> u32
     ensures { result ≡ alu_of op left right }
 {
@@ -20,6 +22,57 @@ pub fn alu(op: Alu, left: u32, right: u32) -> u32
         Alu::Sra => left.cast_signed().wrapping_shr(right).cast_unsigned(),
         Alu::Or => left | right,
         Alu::And => left & right,
+        Alu::Mul => left.wrapping_mul(right),
+        Alu::Mulh => upper_of_signed(left, right),
+        Alu::Mulhsu => upper_of_mixed(left, right),
+        Alu::Mulhu => ((u64::from(left) * u64::from(right)) >> 32) as u32,
+        Alu::Div => signed_quotient(left, right),
+        Alu::Divu => left.checked_div(right).unwrap_or(u32::MAX),
+        Alu::Rem => signed_remainder(left, right),
+        Alu::Remu => left.checked_rem(right).unwrap_or(left),
+    }
+}
+
+/// The upper word of the product of two signed words.
+fn upper_of_signed(left: u32, right: u32) -> u32
+    ensures { result ≡ upper_word_of (signed left *ℤ signed right) }
+{
+    upper_word(i64::from(left.cast_signed()) * i64::from(right.cast_signed()))
+}
+
+/// The upper word of the product of a signed word and an unsigned one.
+fn upper_of_mixed(left: u32, right: u32) -> u32
+    ensures { result ≡ upper_word_of (signed left *ℤ pos right) }
+{
+    upper_word(i64::from(left.cast_signed()) * i64::from(right))
+}
+
+/// The upper 32 bits of a product.
+fn upper_word(product: i64) -> u32
+    ensures { result ≡ upper_word_of product }
+{
+    (product.cast_unsigned() >> 32) as u32
+}
+
+fn signed_quotient(left: u32, right: u32) -> u32
+    ensures { result ≡ signed_quotient_of left right }
+{
+    if right == 0 {
+        u32::MAX
+    } else {
+        let quotient = left.cast_signed().wrapping_div(right.cast_signed());
+        quotient.cast_unsigned()
+    }
+}
+
+fn signed_remainder(left: u32, right: u32) -> u32
+    ensures { result ≡ signed_remainder_of left right }
+{
+    if right == 0 {
+        left
+    } else {
+        let remainder = left.cast_signed().wrapping_rem(right.cast_signed());
+        remainder.cast_unsigned()
     }
 }
 

@@ -291,7 +291,15 @@ fn a_label_that_is_not_used_needs_no_place(rt: HostRuntime) -> Result<(), Fail> 
     let _unused = asm.label()?;
     asm.insn(Insn::Ecall)?;
     asm.insn(Insn::Fence)?;
+    // mul x10,x11,x12
+    asm.insn(Insn::Op {
+        op: Alu::Mul,
+        rd: x(10),
+        rs1: x(11),
+        rs2: x(12),
+    })?;
     let words = asm.finish()?;
-    assert_eq!(rt; words.as_slice(), [0x0000_0073, 0x0ff0_000f].as_slice());
+    let wanted = [0x0000_0073, 0x0ff0_000f, 0x02c5_8533];
+    assert_eq!(rt; words.as_slice(), wanted.as_slice());
     Ok(())
 }

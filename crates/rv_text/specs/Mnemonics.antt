@@ -1,7 +1,7 @@
 -- The mnemonics, as GNU objdump writes them.
 use Rattle.std.specs.Prelude.{ℕ, List, codes}
 use Rattle.rv_word.specs.declared.insn.Alu.{Alu}
-use Rattle.rv_word.specs.declared.insn.Alu.TheVariants.{Add, Sub, Sll, Slt, Sltu, Xor, Srl, Sra, Or, And}
+use Rattle.rv_word.specs.declared.insn.Alu.TheVariants.{Add, Sub, Sll, Slt, Sltu, Xor, Srl, Sra, Or, And, Mul, Mulh, Mulhsu, Mulhu, Div, Divu, Rem, Remu}
 use Rattle.rv_word.specs.declared.insn.AmoOp.{AmoOp}
 use Rattle.rv_word.specs.declared.insn.AmoOp.TheVariants as amos
 use Rattle.rv_word.specs.declared.insn.LoadWidth.{LoadWidth}
@@ -24,6 +24,14 @@ alu_name Srl = codes "srl"
 alu_name Sra = codes "sra"
 alu_name Or = codes "or"
 alu_name And = codes "and"
+alu_name Mul = codes "mul"
+alu_name Mulh = codes "mulh"
+alu_name Mulhsu = codes "mulhsu"
+alu_name Mulhu = codes "mulhu"
+alu_name Div = codes "div"
+alu_name Divu = codes "divu"
+alu_name Rem = codes "rem"
+alu_name Remu = codes "remu"
 
 abbrev pub alu_immediate_name : Alu → List ℕ
 alu_immediate_name Slt = codes "slti"

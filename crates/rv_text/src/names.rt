@@ -33,6 +33,14 @@ pub(crate) fn alu_name(op: Alu) -> &'static str
         Alu::Sra => "sra",
         Alu::Or => "or",
         Alu::And => "and",
+        Alu::Mul => "mul",
+        Alu::Mulh => "mulh",
+        Alu::Mulhsu => "mulhsu",
+        Alu::Mulhu => "mulhu",
+        Alu::Div => "div",
+        Alu::Divu => "divu",
+        Alu::Rem => "rem",
+        Alu::Remu => "remu",
     }
 }
 

@@ -86,7 +86,7 @@ const ACCESSES: [Row; 20] = [
     (0x1_013c, 0x0000_2223, "sw zero,4(zero)"),
 ];
 
-const OPERATIONS: [Row; 58] = [
+const OPERATIONS: [Row; 67] = [
     (0x1_0140, 0x0000_0013, "nop"),
     (0x1_0144, 0x0000_0513, "li a0,0"),
     (0x1_0148, 0x0005_8513, "mv a0,a1"),
@@ -145,6 +145,15 @@ const OPERATIONS: [Row; 58] = [
     (0x1_035c, 0x0000_3033, "snez zero,zero"),
     (0x1_0360, 0x0000_3533, "snez a0,zero"),
     (0x1_0364, 0x00c5_b033, "sltu zero,a1,a2"),
+    (0x1_0368, 0x02c5_8533, "mul a0,a1,a2"),
+    (0x1_036c, 0x02c5_9533, "mulh a0,a1,a2"),
+    (0x1_0370, 0x02c5_a533, "mulhsu a0,a1,a2"),
+    (0x1_0374, 0x02c5_b533, "mulhu a0,a1,a2"),
+    (0x1_0378, 0x02c5_c533, "div a0,a1,a2"),
+    (0x1_037c, 0x02c5_d533, "divu a0,a1,a2"),
+    (0x1_0380, 0x02c5_e533, "rem a0,a1,a2"),
+    (0x1_0384, 0x02c5_f533, "remu a0,a1,a2"),
+    (0x1_0388, 0x03f0_0033, "mul zero,zero,t6"),
 ];
 
 const ATOMICS: [Row; 34] = [
@@ -251,6 +260,7 @@ fn other_words(rt: HostRuntime) -> Result<(), Fail> {
         (0, 0, ".4byte 0x0"),
         (0, 0xffff_ffff, ".4byte 0xffffffff"),
         (0, 0x0000_100f, ".4byte 0x100f"),
+        (0, 0x0400_0033, ".4byte 0x4000033"),
         (0, 0x0ff5_050f, "fence"),
         (0, 0x8ff0_000f, "fence"),
     ];

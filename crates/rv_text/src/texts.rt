@@ -9,7 +9,7 @@ use crate::targets::{moved, target};
 use rv_word::{Insn, Reg, decode};
 use std::fmt;
 
-/// The text of the word at an address. A word that is no instruction of RV32I or its A extension is written as four
+/// The text of the word at an address. A word that is no instruction of RV32I or its M or A extension is written as four
 /// bytes of data.
 #[derive(Clone, Copy, Debug, PartialEq, Eq)]
 pub struct Text {

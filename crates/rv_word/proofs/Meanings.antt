@@ -1,7 +1,7 @@
 use Rattle.std.proofs.Common.{◌≡◌, ℕ, Some, arith, IsTrue}
 use Rattle.std.proofs.lemmas.Grind.{common_steps}
 use Rattle.rv_word.specs.declared.insn.Alu.{Alu}
-use Rattle.rv_word.specs.declared.insn.Alu.TheVariants.{Add, Sub, Sll, Slt, Sltu, Xor, Srl, Sra, Or, And}
+use Rattle.rv_word.specs.declared.insn.Alu.TheVariants.{Add, Sub, Sll, Slt, Sltu, Xor, Srl, Sra, Or, And, Mul, Mulh, Mulhsu, Mulhu, Div, Divu, Rem, Remu}
 use Rattle.rv_word.specs.declared.insn.Insn.{Insn}
 use Rattle.rv_word.specs.declared.insn.Insn.TheVariants.{Lui, Auipc, Jal, Jalr, Branch, Load, Store, OpImm, Op, Fence, Ecall, Ebreak, Lr, Sc, Amo}
 use Rattle.rv_word.specs.Arithmetic.{is_op_row, is_op_imm_row, op_at, op_imm_at}
@@ -21,6 +21,14 @@ op_at-row word Srl row = grind (arith, common_steps)
 op_at-row word Sra row = grind (arith, common_steps)
 op_at-row word Or row = grind (arith, common_steps)
 op_at-row word And row = grind (arith, common_steps)
+op_at-row word Mul row = grind (arith, common_steps)
+op_at-row word Mulh row = grind (arith, common_steps)
+op_at-row word Mulhsu row = grind (arith, common_steps)
+op_at-row word Mulhu row = grind (arith, common_steps)
+op_at-row word Div row = grind (arith, common_steps)
+op_at-row word Divu row = grind (arith, common_steps)
+op_at-row word Rem row = grind (arith, common_steps)
+op_at-row word Remu row = grind (arith, common_steps)
 
 op_imm_at-row : (word : ℕ) (op : Alu) → IsTrue (is_op_imm_row word op) → op_imm_at word ≡ Some op
 unfolding op_imm_at
@@ -34,6 +42,14 @@ op_imm_at-row word Srl row = grind (arith, common_steps)
 op_imm_at-row word Sra row = grind (arith, common_steps)
 op_imm_at-row word Or row = grind (arith, common_steps)
 op_imm_at-row word And row = grind (arith, common_steps)
+op_imm_at-row word Mul row = grind (arith, common_steps)
+op_imm_at-row word Mulh row = grind (arith, common_steps)
+op_imm_at-row word Mulhsu row = grind (arith, common_steps)
+op_imm_at-row word Mulhu row = grind (arith, common_steps)
+op_imm_at-row word Div row = grind (arith, common_steps)
+op_imm_at-row word Divu row = grind (arith, common_steps)
+op_imm_at-row word Rem row = grind (arith, common_steps)
+op_imm_at-row word Remu row = grind (arith, common_steps)
 
 -- the instruction that a word means is the one that `decoded` gives
 pub decoded_means : (word : ℕ) (insn : Insn) → Means word insn → decoded word ≡ Some insn

@@ -9,7 +9,7 @@ use Rattle.rv_word.specs.Load.{load_code}
 use Rattle.rv_word.specs.Store.{store_code}
 use Rattle.rv_word.specs.Atomic.{amo_code}
 
--- the word means the instruction: the listing of RV32I and of its A extension (RISC-V unprivileged
+-- the word means the instruction: the listing of RV32I and of its M and A extensions (RISC-V unprivileged
 -- manual, chapter 'RV32/64G Instruction Set Listings'). Every FENCE is one and the same, whatever
 -- it orders; a word that fits no row means nothing
 abbrev pub Means : ℕ → Insn → Type 0

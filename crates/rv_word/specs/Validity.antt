@@ -11,7 +11,8 @@ FitsSignedBits width z = (negsuc (2 ^ (width - 1) - 1) ≤ℤ z) × (z <ℤ pos 
 abbrev pub IsEven : ℤ → Type 0
 IsEven z = unsigned_abs z % 2 ≡ 0
 
--- the immediates that an operation may have: a shift's are 0 to 31, and subtraction has none
+-- the immediates that an operation may have: a shift's are 0 to 31; subtraction, and the
+-- operations of the M extension, have none
 abbrev pub IsOpImmediate : Alu → ℤ → Type 0
 IsOpImmediate Sll imm = (pos 0 ≤ℤ imm) × (imm <ℤ pos 32)
 IsOpImmediate Srl imm = (pos 0 ≤ℤ imm) × (imm <ℤ pos 32)

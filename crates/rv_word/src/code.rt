@@ -1,5 +1,5 @@
 //! The code of each operation, as it stands in funct3, funct5 or funct7.
-ghost use Rattle.std.specs.Prelude.{◌≡◌, ◌≢◌, ◌<◌, ◌^◌, ◌↔◌, IsTrue, Some};
+ghost use Rattle.std.specs.Prelude.{◌≡◌, ◌<◌, ◌^◌, ◌↔◌, IsTrue, Some};
 ghost use Rattle.rv_word.specs.Arithmetic.{is_op_row, op_at, is_op_imm_row, op_imm_at};
 ghost use Rattle.rv_word.specs.Comparison.{test_code, test_at};
 ghost use Rattle.rv_word.specs.Load.{load_code, load_width_at};
@@ -161,6 +161,14 @@ impl Alu {
             (0b101, 0b0100000) => Some(Alu::Sra),
             (0b110, 0b0000000) => Some(Alu::Or),
             (0b111, 0b0000000) => Some(Alu::And),
+            (0b000, 0b0000001) => Some(Alu::Mul),
+            (0b001, 0b0000001) => Some(Alu::Mulh),
+            (0b010, 0b0000001) => Some(Alu::Mulhsu),
+            (0b011, 0b0000001) => Some(Alu::Mulhu),
+            (0b100, 0b0000001) => Some(Alu::Div),
+            (0b101, 0b0000001) => Some(Alu::Divu),
+            (0b110, 0b0000001) => Some(Alu::Rem),
+            (0b111, 0b0000001) => Some(Alu::Remu),
             _ => None,
         }
     }
@@ -168,7 +176,6 @@ impl Alu {
     #[tactic(auto, unfolding(crate::specs::Arithmetic::op_imm_at))]
     pub(crate) fn from_op_imm(word: u32) -> Option<Alu>
         ensures has_that_row { (op : Alu) → (result ≡ Some op) ↔ IsTrue (is_op_imm_row word op) }
-        ensures never_sub { result ≢ Some Alu.Sub }
         ensures exact { result ≡ op_imm_at word }
     {
         match funct3(word) {

@@ -15,7 +15,7 @@ use crate::opcode::{
 };
 
 /// The instruction that the word means, or none where it means none (RISC-V unprivileged manual,
-/// chapter 'RV32/64G Instruction Set Listings', RV32I and RV32A). A `FENCE` is one whatever its
+/// chapter 'RV32/64G Instruction Set Listings', RV32I, RV32M and RV32A). A `FENCE` is one whatever its
 /// other fields; a `FENCE.I`, a CSR instruction and a compressed one are none.
 #[tactic(auto, using(crate::proofs::Meanings::one_meaning), unfolding(crate::specs::Decoding::decoded))]
 pub fn decode(word: u32) -> Option<Insn>

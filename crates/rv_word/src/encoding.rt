@@ -90,7 +90,7 @@ fn op_imm_word(op: Alu, rd: Reg, rs1: Reg, imm: i32) -> u32
         Alu::Sra => shift_form(rd, 0b101, rs1, imm, 0b0100000),
         Alu::Or => i_form(OP_IMM, rd, 0b110, rs1, imm),
         Alu::And => i_form(OP_IMM, rd, 0b111, rs1, imm),
-        Alu::Sub => unreachable!(),
+        _ => unreachable!(),
     }
 }
 
@@ -109,5 +109,13 @@ fn op_word(op: Alu, rd: Reg, rs1: Reg, rs2: Reg) -> u32
         Alu::Sra => r_form(OP, rd, 0b101, rs1, rs2, 0b0100000),
         Alu::Or => r_form(OP, rd, 0b110, rs1, rs2, 0b0000000),
         Alu::And => r_form(OP, rd, 0b111, rs1, rs2, 0b0000000),
+        Alu::Mul => r_form(OP, rd, 0b000, rs1, rs2, 0b0000001),
+        Alu::Mulh => r_form(OP, rd, 0b001, rs1, rs2, 0b0000001),
+        Alu::Mulhsu => r_form(OP, rd, 0b010, rs1, rs2, 0b0000001),
+        Alu::Mulhu => r_form(OP, rd, 0b011, rs1, rs2, 0b0000001),
+        Alu::Div => r_form(OP, rd, 0b100, rs1, rs2, 0b0000001),
+        Alu::Divu => r_form(OP, rd, 0b101, rs1, rs2, 0b0000001),
+        Alu::Rem => r_form(OP, rd, 0b110, rs1, rs2, 0b0000001),
+        Alu::Remu => r_form(OP, rd, 0b111, rs1, rs2, 0b0000001),
     }
 }

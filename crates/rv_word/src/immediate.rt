@@ -1,6 +1,6 @@
-ghost use Rattle.std.specs.Prelude.{◌≡◌, ◌≢◌, ℕ, ◌%◌, ◌^◌, ◌<◌, ◌≤◌};
+ghost use Rattle.std.specs.Prelude.{◌≡◌, ℕ, ◌%◌, ◌^◌, ◌<◌, ◌≤◌, IsTrue};
 ghost use Rattle.rv_word.specs.Immediate.{signed, imm_i, imm_s, imm_b, imm_u, imm_j};
-ghost use Rattle.rv_word.specs.Arithmetic.{op_immediate};
+ghost use Rattle.rv_word.specs.Arithmetic.{is_op_imm_row, op_immediate};
 ghost use Rattle.rv_word.specs.Validity.{FitsSignedBits, IsEven, IsOpImmediate};
 
 use crate::field::field_at;
@@ -86,7 +86,7 @@ pub(crate) fn j_immediate(word: u32) -> i32
 /// The immediate of an operation on a register and an immediate.
 pub(crate) fn op_immediate_of(word: u32, op: Alu) -> i32
     ensures exact { result ≡ op_immediate word op }
-    ensures fits { op ≢ Alu.Sub → IsOpImmediate op result }
+    ensures fits { IsTrue (is_op_imm_row word op) → IsOpImmediate op result }
 {
     match op {
         Alu::Sll | Alu::Srl | Alu::Sra => field_at(word, 20, 5) as i32,

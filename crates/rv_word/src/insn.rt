@@ -1,7 +1,9 @@
 use crate::reg::Reg;
 
 /// What an integer instruction computes (RISC-V unprivileged manual, chapter 2, 'Integer
-/// Computational Instructions'). `Op` has all ten; `OpImm` has no `Sub`.
+/// Computational Instructions', and from `Mul` on the chapter 'M Standard Extension for Integer
+/// Multiplication and Division'). `Op` has all of them; `OpImm` has no `Sub`, no multiplication and
+/// no division.
 #[derive(Clone, Copy, Debug, PartialEq, Eq)]
 pub enum Alu {
     Add,
@@ -14,6 +16,14 @@ pub enum Alu {
     Sra,
     Or,
     And,
+    Mul,
+    Mulh,
+    Mulhsu,
+    Mulhu,
+    Div,
+    Divu,
+    Rem,
+    Remu,
 }
 
 /// What a conditional branch compares (chapter 2, 'Conditional Branches'). `Lt` and `Ge` compare
@@ -62,8 +72,8 @@ pub enum AmoOp {
     Maxu,
 }
 
-/// An instruction of RV32I or of its A extension, with the fields of its word (RISC-V unprivileged
-/// manual, chapter 2 and 'A Standard Extension for Atomic Instructions'; that all fences are one is
+/// An instruction of RV32I or of its M or A extension, with the fields of its word (RISC-V
+/// unprivileged manual, chapter 2 and the chapters on these extensions; that all fences are one is
 /// this project's profile). A branch's or jump's `offset` is in bytes from the instruction's own
 /// address; that of `Jalr`, of a load and of a store is in bytes from rs1.
 #[derive(Clone, Copy, Debug, PartialEq, Eq)]
@@ -110,7 +120,8 @@ pub enum Insn {
         rs2: Reg,
         offset: i32,
     },
-    /// `imm` is from -2048 to 2047, and from 0 to 31 where `op` is a shift. `op` is never `Sub`.
+    /// `imm` is from -2048 to 2047, and from 0 to 31 where `op` is a shift. `op` is none of `Sub`,
+    /// the multiplications and the divisions.
     OpImm {
         op: Alu,
         rd: Reg,

@@ -1,5 +1,5 @@
-//! The instruction words of RV32I and its A extension: `Insn` names each instruction with its
-//! fields, `decode` reads a word and `encode` writes one.
+//! The instruction words of RV32I and its M and A extensions: `Insn` names each instruction with
+//! its fields, `decode` reads a word and `encode` writes one.
 //!
 //! It stands on std alone, takes no memory, and promises that both are the manual's listing, read
 //! in either direction: that is the relation `Means` of `specs/Meaning.antt`, one clause for each

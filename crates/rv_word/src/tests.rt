@@ -1,4 +1,4 @@
-//! Words from the assembler `riscv64-unknown-elf-as -march=rv32ia` of GNU binutils 2.40, each with
+//! Words from the assembler `riscv64-unknown-elf-as -march=rv32ima` of GNU binutils 2.40, each with
 //! what its disassembler reads in it.
 use crate::{
     Alu, AmoOp, Insn, LoadWidth, Reg, StoreWidth, Test, decode, decode_encoded, encode,
@@ -259,6 +259,23 @@ fn operations_between_registers(rt: HostRuntime) {
         (0x0104_6bb3, Alu::Or, 23, 8, 16),
         (0x015e_f733, Alu::And, 14, 29, 21),
         (0x0124_fb33, Alu::And, 22, 9, 18),
+        (0x03ea_02b3, Alu::Mul, 5, 20, 30),
+        (0x0200_0fb3, Alu::Mul, 31, 0, 0),
+        (0x03da_9333, Alu::Mulh, 6, 21, 29),
+        (0x0220_9f33, Alu::Mulh, 30, 1, 2),
+        (0x03cb_23b3, Alu::Mulhsu, 7, 22, 28),
+        (0x0241_2eb3, Alu::Mulhsu, 29, 2, 4),
+        (0x03bb_b433, Alu::Mulhu, 8, 23, 27),
+        (0x0261_be33, Alu::Mulhu, 28, 3, 6),
+        (0x03ac_44b3, Alu::Div, 9, 24, 26),
+        (0x0282_4db3, Alu::Div, 27, 4, 8),
+        (0x039c_d533, Alu::Divu, 10, 25, 25),
+        (0x02a2_dd33, Alu::Divu, 26, 5, 10),
+        (0x038d_65b3, Alu::Rem, 11, 26, 24),
+        (0x02c3_6cb3, Alu::Rem, 25, 6, 12),
+        (0x037d_f633, Alu::Remu, 12, 27, 23),
+        (0x02e3_fc33, Alu::Remu, 24, 7, 14),
+        (0x02c5_8533, Alu::Mul, 10, 11, 12),
     ] {
         agree(
             &rt,
@@ -390,10 +407,6 @@ fn no_instruction(rt: HostRuntime) {
         (0x3020_0073, "mret"),
         (0x1020_0073, "sret"),
         (0x1220_8073, "sfence.vma x1,x2"),
-        (0x0273_02b3, "mul x5,x6,x7"),
-        (0x0273_32b3, "mulhu x5,x6,x7"),
-        (0x02a4_c433, "div x8,x9,x10"),
-        (0x02d6_75b3, "remu x11,x12,x13"),
         (0x0041_2087, "flw f1,4(x2)"),
         (0x0011_2227, "fsw f1,4(x2)"),
         (0x0031_70d3, "fadd.s f1,f2,f3"),
@@ -407,6 +420,8 @@ fn no_instruction(rt: HostRuntime) {
         (0x0013_129b, "slliw x5,x6,0x1"),
         (0x0073_02bb, "addw x5,x6,x7"),
         (0x4073_02bb, "subw x5,x6,x7"),
+        (0x0273_02bb, "mulw x5,x6,x7"),
+        (0x0273_72bb, "remuw x5,x6,x7"),
         (0x0203_1293, "slli x5,x6,0x20"),
         (0x4213_5293, "srai x5,x6,0x21"),
         (0x0063_b2af, "amoadd.d x5,x6,(x7)"),
@@ -425,6 +440,8 @@ fn no_instruction(rt: HostRuntime) {
         (0xc01e_5393, "srai with bit 31"),
         (0x401b_13b3, "sll with the funct7 of sub"),
         (0x41ac_14b3, "sll with the funct7 of sra"),
+        (0x04c5_8533, "add or mul with funct7 0000010"),
+        (0x42c5_c533, "div with the bit of sub"),
         (0x0002_90e7, "jalr with funct3 001"),
         (0x00b5_2063, "branch with funct3 010"),
         (0x00b5_3063, "branch with funct3 011"),
@@ -539,6 +556,8 @@ fn validity(rt: HostRuntime) {
         (Alu::Srl, -1, false),
         (Alu::Sra, 32, false),
         (Alu::Sub, 0, false),
+        (Alu::Mul, 0, false),
+        (Alu::Remu, 1, false),
     ] {
         assert_eq!(rt;
             Insn::OpImm { op, rd, rs1, imm }.is_valid(),

@@ -5,7 +5,7 @@ use crate::insn::{Alu, Insn};
 
 impl Insn {
     /// Whether a word means this instruction: its immediate fits its form, a shift's amount is 0
-    /// to 31, and there is no `Sub` with an immediate.
+    /// to 31, and there is no `Sub`, multiplication or division with an immediate.
     pub fn is_valid(self) -> bool
         ensures exact { IsTrue result ↔ Valid self }
     {
@@ -16,13 +16,17 @@ impl Insn {
             Insn::Jalr { offset, .. } | Insn::Load { offset, .. } | Insn::Store { offset, .. } => {
                 fits_signed_bits(offset, 12)
             }
-            Insn::OpImm { op: Alu::Sub, .. } => false,
             Insn::OpImm {
                 op: Alu::Sll | Alu::Srl | Alu::Sra,
                 imm,
                 ..
             } => 0 <= imm && imm < 32,
-            Insn::OpImm { imm, .. } => fits_signed_bits(imm, 12),
+            Insn::OpImm {
+                op: Alu::Add | Alu::Slt | Alu::Sltu | Alu::Xor | Alu::Or | Alu::And,
+                imm,
+                ..
+            } => fits_signed_bits(imm, 12),
+            Insn::OpImm { .. } => false,
             Insn::Op { .. } | Insn::Fence | Insn::Ecall | Insn::Ebreak => true,
             Insn::Lr { .. } | Insn::Sc { .. } | Insn::Amo { .. } => true,
         }

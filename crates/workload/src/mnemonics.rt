@@ -118,6 +118,25 @@ pub fn sb(rs2: Reg, offset: i32, rs1: Reg) -> Insn
     }
 }
 
+pub fn lr_w(rd: Reg, rs1: Reg) -> Insn
+    ensures { result ≡ Insn.Lr rd rs1 false false }
+{
+    let (aq, rl) = (false, false);
+    Insn::Lr { rd, rs1, aq, rl }
+}
+
+pub fn sc_w(rd: Reg, rs2: Reg, rs1: Reg) -> Insn
+    ensures { result ≡ Insn.Sc rd rs1 rs2 false false }
+{
+    Insn::Sc {
+        rd,
+        rs1,
+        rs2,
+        aq: false,
+        rl: false,
+    }
+}
+
 pub fn amoswap_w_aq(rd: Reg, rs2: Reg, rs1: Reg) -> Insn
     ensures { result ≡ Insn.Amo AmoOp.Swap rd rs1 rs2 true false }
 {

@@ -6,7 +6,7 @@ ghost use Rattle.workload.specs.Extent.{HasRoom, grown};
 
 use crate::layout::{DATA_START, NUMBER};
 use crate::mnemonics::{
-    add, addi, amoswap_w_aq, amoswap_w_rl, andi, lui, lw, slli, sltiu, srli, sw, xor,
+    add, addi, amoswap_w_aq, amoswap_w_rl, andi, lr_w, lui, lw, sc_w, slli, sltiu, srli, sw, xor,
 };
 use crate::program::Program;
 use crate::registers::{A0, A7, DATA, HART, STATE, T0, T1, T2, ZERO};
@@ -74,6 +74,21 @@ pub fn take_lock(program: &mut Program, lock: Reg) -> Result<(), NoMemory>
     program.put(lw(T1, 0, lock))?;
     program.branch(Test::Ne, T1, ZERO, held)?;
     program.put(amoswap_w_aq(T1, T0, lock))?;
+    program.branch(Test::Ne, T1, ZERO, held)
+}
+
+/// Takes the lock at an address by a pair of LR.W and SC.W (the same chapter, 'Load-Reserved/Store-Conditional
+/// Instructions'): where the word is 0 and still reserved, 1 is stored. LR.W needs no acquire bit, since the accesses of
+/// a hart take effect in their order (this project's profile).
+pub fn take_lock_by_pair(program: &mut Program, lock: Reg) -> Result<(), NoMemory>
+    requires { HasRoom program.old 5 1 }
+    ensures { OnOk result (program.new ≡ grown program.old 5 1) }
+{
+    small(program, T0, 1)?;
+    let held = program.here()?;
+    program.put(lr_w(T1, lock))?;
+    program.branch(Test::Ne, T1, ZERO, held)?;
+    program.put(sc_w(T1, T0, lock))?;
     program.branch(Test::Ne, T1, ZERO, held)
 }
 

@@ -7,6 +7,7 @@ use crate::layout::{LOCKS, WORDS};
 use crate::mnemonics::addi;
 use crate::parts::{
     add_to_word, again, data_address, draw_line, give_lock, seed, small, take_lock,
+    take_lock_by_pair,
 };
 use crate::program::Program;
 use crate::registers::{LEFT, LOCK, OTHER_LOCK, OTHER_WORD, ROUNDS, WORD};
@@ -24,6 +25,7 @@ pub fn rounds(program: &mut Program, kind: Work) -> Result<(), NoMemory>
         Work::Buckets => buckets(program),
         Work::Locks => locks(program),
         Work::Overflow => overflow(program),
+        Work::Pairs => pairs(program),
     }
 }
 
@@ -114,6 +116,21 @@ fn overflow(program: &mut Program) -> Result<(), NoMemory>
     add_to_word(program, WORD, 1)?;
     program.put(addi(WORD, WORD, 64))?;
     again(program, LEFT, next)?;
+    give_lock(program, LOCK)?;
+    again(program, ROUNDS, round)
+}
+
+/// 100 times: take the lock by LR.W and SC.W, add 1 to the word.
+fn pairs(program: &mut Program) -> Result<(), NoMemory>
+    requires { HasRoom program.old 14 2 }
+    ensures { OnOk result (program.new ≡ grown program.old 14 2) }
+{
+    data_address(program, LOCK, LOCKS)?;
+    data_address(program, WORD, WORDS)?;
+    small(program, ROUNDS, 100)?;
+    let round = program.here()?;
+    take_lock_by_pair(program, LOCK)?;
+    add_to_word(program, WORD, 1)?;
     give_lock(program, LOCK)?;
     again(program, ROUNDS, round)
 }

@@ -60,6 +60,8 @@ fn hart_0_tells_the_sum(rt: HostRuntime) -> Result<(), Fail> {
         (Work::Locks, 3, 8, b"00000640\n"),
         (Work::Overflow, 3, 1, b"00000190\n"),
         (Work::Overflow, 3, 8, b"00000c80\n"),
+        (Work::Pairs, 1, 1, b"00000064\n"),
+        (Work::Pairs, 1, 8, b"00000320\n"),
     ] {
         let file = build(rt.alloc(), kind, number)?;
         let flat = run(&rt, rt.alloc(), &file, harts)?;
@@ -111,6 +113,7 @@ fn the_same_arguments_give_the_same_file(rt: HostRuntime) -> Result<(), Fail> {
         Work::Buckets,
         Work::Locks,
         Work::Overflow,
+        Work::Pairs,
     ] {
         let file = build(rt.alloc(), kind, 7)?;
         assert!(rt; file == build(rt.alloc(), kind, 7)?);

@@ -15,6 +15,8 @@ pub enum Work {
     Locks,
     /// Each hart adds 1 to each of 20 words under one lock, 20 times. The sum is 400 n.
     Overflow,
+    /// As `Counter`, but the lock is taken by LR.W and SC.W. The sum is 100 n.
+    Pairs,
 }
 
 impl Work {
@@ -23,7 +25,7 @@ impl Work {
         ensures { FitsSignedBits 12 result }
     {
         match self {
-            Work::Counter => 1,
+            Work::Counter | Work::Pairs => 1,
             Work::Bank => 64,
             Work::Buckets => 16,
             Work::Locks => 2,

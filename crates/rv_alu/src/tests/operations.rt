@@ -99,6 +99,63 @@ const SHIFTS: [[u32; 5]; 30] = [
     [0x87654321, ONES, LEAST, 1, ONES],
 ];
 
+/// Two words, the lower word of their product and its upper word, signed, signed by unsigned, and
+/// unsigned, and then their quotient, signed and unsigned, and the remainder of each.
+const PRODUCTS: &[[u32; 10]] = &[
+    [0, 0, 0, 0, 0, 0, ONES, ONES, 0, 0],
+    [0, 1, 0, 0, 0, 0, 0, 0, 0, 0],
+    [0, ONES, 0, 0, 0, 0, 0, 0, 0, 0],
+    [0, LEAST, 0, 0, 0, 0, 0, 0, 0, 0],
+    [0, MOST, 0, 0, 0, 0, 0, 0, 0, 0],
+    [1, 0, 0, 0, 0, 0, ONES, ONES, 1, 1],
+    [1, 1, 1, 0, 0, 0, 1, 1, 0, 0],
+    [1, ONES, ONES, ONES, 0, 0, ONES, 0, 0, 1],
+    [1, LEAST, LEAST, ONES, 0, 0, 0, 0, 1, 1],
+    [1, MOST, MOST, 0, 0, 0, 0, 0, 1, 1],
+    [ONES, 0, 0, 0, 0, 0, ONES, ONES, ONES, ONES],
+    [ONES, 1, ONES, ONES, ONES, 0, ONES, ONES, 0, 0],
+    [ONES, ONES, 1, 0, ONES, 0xfffffffe, 1, 1, 0, 0],
+    [ONES, LEAST, LEAST, 0, ONES, MOST, 0, 1, ONES, MOST],
+    [
+        ONES, MOST, 0x80000001, ONES, ONES, 0x7ffffffe, 0, 2, ONES, 1,
+    ],
+    [LEAST, 0, 0, 0, 0, 0, ONES, ONES, LEAST, LEAST],
+    [LEAST, 1, LEAST, ONES, ONES, 0, LEAST, LEAST, 0, 0],
+    [LEAST, ONES, LEAST, 0, LEAST, MOST, LEAST, 0, 0, LEAST],
+    [
+        LEAST, LEAST, 0, 0x40000000, 0xc0000000, 0x40000000, 1, 1, 0, 0,
+    ],
+    [
+        LEAST, MOST, LEAST, 0xc0000000, 0xc0000000, 0x3fffffff, ONES, 1, ONES, 1,
+    ],
+    [MOST, 0, 0, 0, 0, 0, ONES, ONES, MOST, MOST],
+    [MOST, 1, MOST, 0, 0, 0, MOST, MOST, 0, 0],
+    [
+        MOST, ONES, 0x80000001, ONES, 0x7ffffffe, 0x7ffffffe, 0x80000001, 0, 0, MOST,
+    ],
+    [
+        MOST, LEAST, LEAST, 0xc0000000, 0x3fffffff, 0x3fffffff, 0, 0, MOST, MOST,
+    ],
+    [
+        MOST, MOST, 1, 0x3fffffff, 0x3fffffff, 0x3fffffff, 1, 1, 0, 0,
+    ],
+    [7, 2, 0xe, 0, 0, 0, 3, 3, 1, 1],
+    [
+        0xfffffff9, 2, 0xfffffff2, ONES, ONES, 1, 0xfffffffd, 0x7ffffffc, ONES, 1,
+    ],
+    [7, 0xfffffffe, 0xfffffff2, ONES, 6, 6, 0xfffffffd, 0, 1, 7],
+    [
+        0xfffffff9, 0xfffffffe, 0xe, 0, 0xfffffff9, 0xfffffff7, 3, 0, ONES, 0xfffffff9,
+    ],
+    [
+        0x12345678, 0x9abcdef0, 0x242d2080, 0xf8cc93d6, 0xb00ea4e, 0xb00ea4e, 0, 0, 0x12345678,
+        0x12345678,
+    ],
+    [
+        0xfffffff9, 0, 0, 0, 0, 0, ONES, ONES, 0xfffffff9, 0xfffffff9,
+    ],
+];
+
 /// Loaded bytes as a number, and what LB, LH, LW, LBU and LHU put into a register.
 const LOADS: [[u32; 6]; 13] = [
     [0, 0, 0, 0, 0, 0],
@@ -180,6 +237,24 @@ fn shifts_take_the_low_five_bits(rt: HostRuntime) {
     for [word, amount, sll, srl, sra] in SHIFTS {
         for (op, want) in [(Alu::Sll, sll), (Alu::Srl, srl), (Alu::Sra, sra)] {
             assert_eq!(rt; alu(op, word, amount), want, "{op:?} {word:#x} by {amount}");
+        }
+    }
+}
+
+#[test]
+fn products_and_quotients(rt: HostRuntime) {
+    for [left, right, mul, mulh, mulhsu, mulhu, div, divu, rem, remu] in PRODUCTS {
+        for (op, want) in [
+            (Alu::Mul, *mul),
+            (Alu::Mulh, *mulh),
+            (Alu::Mulhsu, *mulhsu),
+            (Alu::Mulhu, *mulhu),
+            (Alu::Div, *div),
+            (Alu::Divu, *divu),
+            (Alu::Rem, *rem),
+            (Alu::Remu, *remu),
+        ] {
+            assert_eq!(rt; alu(op, *left, *right), want, "{op:?} {left:#x} {right:#x}");
         }
     }
 }

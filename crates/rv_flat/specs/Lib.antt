@@ -3,3 +3,4 @@ pub mod Memory
 pub mod Step
 pub mod Run
 pub mod Laws
+pub mod Change

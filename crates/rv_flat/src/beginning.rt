@@ -1,4 +1,4 @@
-ghost use Rattle.std.specs.Prelude.{◌≡◌, ◌<◌, ◌≤◌, IfOk, map};
+ghost use Rattle.std.specs.Prelude.{◌≡◌, ◌<◌, ◌≤◌, IfOk, length, map};
 ghost use Rattle.std.specs.List.{range_with_len};
 ghost use Rattle.rv_flat.specs.FlatState.{first_view};
 
@@ -30,7 +30,8 @@ pub fn first_view(image: &Image, hart: u8) -> HartView
 
 /// All harts before their first step.
 pub fn first_views(alloc: Global, image: &Image) -> Result<Vec<HartView>, NoMemory>
-    ensures { IfOk result (λ views. views.items ≡ map (first_view image.now) (range_with_len 0 image.now.harts)) }
+    ensures exact { IfOk result (λ views. views.items ≡ map (first_view image.now) (range_with_len 0 image.now.harts)) }
+    ensures few { IfOk result (λ views. length views.items ≤ 8) }
 {
     let mut views = Vec::new(alloc);
     for hart in 0..image.harts() {

@@ -16,6 +16,8 @@ use rv_alu::{Action, Append, HartStatus, HartView, Load, Span, Store};
 use std::alloc::Global;
 use std::marker::Model;
 
+mod changes;
+
 /// Harts over plain shared memory. Contracts see the list of their views, memory as its base and
 /// the list of its bytes, what instructions are fetched from, and the output as one list.
 #[derive(Drop)]
@@ -28,7 +30,7 @@ pub struct Flat {
 }
 
 impl Model for Flat {
-    ghost use Rattle.std.specs.Prelude.{◌+◌, ◌<◌, ◌^◌, length};
+    ghost use Rattle.std.specs.Prelude.{◌+◌, ◌<◌, ◌≤◌, ◌^◌, length};
     ghost use Rattle.rv_flat.specs.FlatState.{FlatState};
 
     ghost Value = { FlatState };
@@ -37,6 +39,7 @@ impl Model for Flat {
 
     ghost invariant = { λ f. record {
       small : f.base + length f.bytes.items < 2 ^ 32;
+      few : length f.harts.items ≤ 8;
     } };
 }
 

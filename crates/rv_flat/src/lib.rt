@@ -5,10 +5,11 @@
 //! that every other machine of this project is measured by. What another machine shares with it,
 //! a hart's first view and the program's `Output`, has its home here too. Its definitions `start`,
 //! `flat`, `run` and `alone` stand in `specs/`. `make` takes all memory of a run; `step` takes none
-//! and refuses nothing.
+//! and refuses nothing. `step_noting` also tells what the step overwrites, and `undo` puts it back.
 #![tactic(auto)]
 
 mod beginning;
+mod change;
 mod flat_state;
 mod laws;
 mod memory;
@@ -16,6 +17,7 @@ mod output;
 mod reservations;
 
 pub use beginning::first_view;
+pub use change::Change;
 pub use flat_state::Flat;
 pub use laws::{
     alone_of_a_sum, run_forgets_a_lost_reservation, run_of_two_lists, start_has_registers,

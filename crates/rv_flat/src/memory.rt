@@ -1,4 +1,4 @@
-ghost use Rattle.std.specs.Prelude.{◌≡◌, ◌+◌, ◌≤◌, ◌⊎◌, length};
+ghost use Rattle.std.specs.Prelude.{◌≡◌, ◌+◌, ◌++◌, ◌≤◌, ◌⊎◌, drop, length, take};
 ghost use Rattle.byteorder.specs.Endian.{little_from};
 ghost use Rattle.rv_alu.specs.Footprint.{IsSize};
 ghost use Rattle.rv_flat.specs.Memory.{put_bytes};
@@ -29,4 +29,12 @@ pub fn put_bytes(bytes: &mut [u8], place: usize, len: u32, value: u32)
         bytes[at] = (rest % 256) as u8;
         rest /= 256;
     }
+}
+
+/// Puts bytes at a place, over as many.
+pub fn put_back(bytes: &mut [u8], place: usize, held: &[u8])
+    requires { place + length held.now ≤ length bytes.old }
+    ensures { bytes.new ≡ take place bytes.old ++ held.now ++ drop (place + length held.now) bytes.old }
+{
+    bytes[place..place + held.len()].copy_from_slice(held);
 }

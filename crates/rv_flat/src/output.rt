@@ -1,6 +1,6 @@
 //! What the program has written.
 
-ghost use Rattle.std.specs.Prelude.{◌≡◌, ◌≤◌, ◌+◌, ◌-◌, ◌++◌, [], IfOk, length};
+ghost use Rattle.std.specs.Prelude.{◌≡◌, ◌≤◌, ◌+◌, ◌-◌, ◌++◌, [], IfOk, length, take};
 ghost use Rattle.rv_flat.specs.FlatState.{output_limit};
 
 use el_base::NoMemory;
@@ -62,5 +62,12 @@ impl Output {
         ensures { self.new ≡ self.old ++ piece.now }
     {
         self.bytes.extend_from_slice(piece).unwrap();
+    }
+
+    /// Drops all bytes but the first ones. Its memory stays.
+    pub fn truncate(&mut self, len: usize)
+        ensures { self.new ≡ take len self.old }
+    {
+        self.bytes.truncate(len);
     }
 }

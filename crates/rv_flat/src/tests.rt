@@ -11,6 +11,7 @@ use std::process::Abort;
 use std::test::Fail;
 
 mod calls;
+mod changes;
 mod instructions;
 mod sharing;
 mod stopping;

@@ -1,0 +1,5 @@
+pub mod Tracks
+pub mod Serials
+pub mod Freed
+pub mod Existing
+pub mod Replayed

@@ -1,5 +1,6 @@
 -- The rule holds of a new lock, and what it says of one that is closed.
-use Rattle.std.proofs.Common.{◌≡◌, ◌≢◌, ℕ, zero, suc, ◌⊎◌, Bool, true, false, Option, Some, List, [], ◌∷◌, length, sym, refl, ap, ◌∙◌, subst, inl, ⊎_elim, arith}
+use Rattle.std.proofs.Common.{◌≡◌, ◌≢◌, ℕ, zero, suc, ◌⊎◌, Bool, true, false, Option, Some, List, [], ◌∷◌, length, sym}
+use Rattle.std.proofs.Common.{refl, ap, ◌∙◌, subst, inl, ⊎_elim, arith}
 use mathlib.Core.Logic.{dite}
 use mathlib.Core.Option.{some, some-injective, some-ne-none}
 use native.Mathlib.Decide.{ℕ_discrete}
@@ -43,10 +44,10 @@ module _ {M : Type 0} (entries : M → List Entry) (starts : M → List ℕ) whe
     value = inl (value, refl, refl, refl);
   }
 
-  pub begins_with : (value start : M) (count : ℕ) (slots : List (Option M)) → start ≡ value → count ≡ length (entries value) → slots ≡ Some value ∷ [] →
-      Ticketed entries starts (starts start) (length (entries start))
-      (opening (0 ∷ 0 ∷ count ∷ []) slots (at_first (starts start) (entries start)))
-  begins_with value start count slots same is full = rw (same, is, full) (begins value)
+  pub begins_with : (value : M) (started : List ℕ) (log : List Entry) (count : ℕ) (slots : List (Option M)) →
+      started ≡ starts value → log ≡ entries value → count ≡ length (entries value) → slots ≡ Some value ∷ [] →
+      Ticketed entries starts started (length log) (opening (0 ∷ 0 ∷ count ∷ []) slots (at_first started log))
+  begins_with value started log count slots from same is full = rw (from, same, is, full) (begins value)
 
   -- what the last state of a lock says to the only pass, of the value that comes out
   pub record Ends (begun : ℕ) (pass : Account) (value : M) : Type 0 where
@@ -54,7 +55,8 @@ module _ {M : Type 0} (entries : M → List Entry) (starts : M → List ℕ) whe
     pub opening_kept : starts value ≡ pass.opening
     pub places : AreThePlaces pass.places begun (length (entries value))
 
-  ends : (started : List ℕ) (begun id : ℕ) (pass : Account) (words : List ℕ) (slots : List (Option M)) → pass.share ≡ [] →
+  ends : (started : List ℕ) (begun id : ℕ) (pass : Account) (words : List ℕ) (slots : List (Option M)) →
+      pass.share ≡ [] →
       Final (Seen (Ticketed entries starts started begun) id (at_rest pass)) words slots →
       (value : M) × (get_elem? slots 0 ≡ some (Some value)) × Ends begun pass value
   ends started begun id pass words slots whole last = let v : View = at_rest pass in
@@ -67,7 +69,8 @@ module _ {M : Type 0} (entries : M → List Entry) (starts : M → List ℕ) whe
       (λ is. some-injective u v (sym there ∙ (ap (get_elem? s.views) is ∙ at)))
       (λ other. absurd (others j u there other living)) in
       let seen : v.seen ≡ r.log = let k = r.known in
-      seen_alone v.seen v.beside r.log refl f.seen (subst (λ (z : View). (z.seen ≡ r.log) ⊎ (z.beside ≡ r.log)) (mine k.0 k.1 k.2 k.3) k.4) in
+      seen_alone v.seen v.beside r.log refl f.seen (subst (λ (z : View). (z.seen ≡ r.log) ⊎ (z.beside ≡ r.log))
+      (mine k.0 k.1 k.2 k.3) k.4) in
       let none_else : (place j : ℕ) (u : View) → get_elem? s.views j ≡ some u → j ≢ id → made place u ≡ 0 =
       λ place j u there other. ap (times place) ((r.fits j u there).spent (dead u.live (others j u there other))) in
       ⊎_elim
@@ -77,8 +80,10 @@ module _ {M : Type 0} (entries : M → List Entry) (starts : M → List ℕ) whe
         record {
           entries_seen = home.2 ∙ sym seen;
           opening_kept = home.3 ∙ sym (f.opening refl);
-          places = λ place. let a = total_alone (made place) s.views id v at (none_else place) in let was = r.placed place in
-              let e : below place (length (entries home.0)) ≡ below place (length r.log) = ap (λ (l : List Entry). below place (length l)) home.2 in
+          places = λ place. let a = total_alone (made place) s.views id v at (none_else place) in
+              let was = r.placed place in
+              let e : below place (length (entries home.0)) ≡ below place (length r.log) =
+              ap (λ (l : List Entry). below place (length l)) home.2 in
               omega (arith, a, was, e);
         },
       ))
@@ -91,7 +96,8 @@ module _ {M : Type 0} (entries : M → List Entry) (starts : M → List ℕ) whe
       dead false never = refl
 
   -- what was taken out of the slot is a value, and ends the lock
-  pub closes : (started : List ℕ) (begun id : ℕ) (view : View) (pass : Account) (words : List ℕ) (slots : List (Option M)) (taken : Option M) →
+  pub closes : (started : List ℕ) (begun id : ℕ) (view : View) (pass : Account) (words : List ℕ)
+      (slots : List (Option M)) (taken : Option M) →
       view ≡ at_rest pass → pass.share ≡ [] → Final (Seen (Ticketed entries starts started begun) id view) words slots →
       get_elem? slots 0 ≡ some taken → (value : M) × (taken ≡ Some value) × Ends begun pass value
   closes started begun id view pass words slots taken is whole last found =

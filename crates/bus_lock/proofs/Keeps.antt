@@ -1,5 +1,7 @@
 -- Each step of the lock keeps its rule.
-use Rattle.std.proofs.Common.{◌≡◌, ◌≢◌, ℕ, zero, suc, ◌+◌, ◌==◌, ◌<◌, ◌≤◌, ◌⊎◌, Bool, true, false, Option, Some, List, [], ◌∷◌, ◌++◌, length, get_or, set, sym, refl, ap, ◌∙◌, subst, inl, inr, ⊎_elim, arith, length-append}
+use Rattle.std.proofs.Common.{◌≡◌, ◌≢◌, ℕ, zero, suc, ◌+◌, ◌==◌, ◌<◌, ◌≤◌, ◌⊎◌, Bool, true, false, Option, Some, List}
+use Rattle.std.proofs.Common.{[], ◌∷◌, ◌++◌, length, get_or, set, sym, refl, ap, ◌∙◌, subst, inl, inr, ⊎_elim, arith}
+use Rattle.std.proofs.Common.{length-append}
 use mathlib.Core.List.{IsPrefix}
 use mathlib.Core.Logic.{dite}
 use mathlib.Core.Option.{none, some, some-injective, some-ne-none}
@@ -78,16 +80,19 @@ module _ {M : Type 0} (entries : M → List Entry) (opening : M → List ℕ) (b
 
     fit : (j : ℕ) (u : View) → get_elem? (set s.views id w) j ≡ some u → Fits begins log' next' serving' u
     fit j u there = ⊎_elim (λ (here : (j ≡ id) × (w ≡ u)). subst (Fits begins log' next' serving') here.1 g.fits)
-        (λ (other : (j ≢ id) × (get_elem? s.views j ≡ some u)). others_fit j u other.0 other.1) (at_set s.views id j w u there)
+        (λ (other : (j ≢ id) × (get_elem? s.views j ≡ some u)). others_fit j u other.0 other.1)
+        (at_set s.views id j w u there)
 
     -- the seat's new ticket is no other seat's
     own_ticket : (j : ℕ) (u : View) → j ≢ id → get_elem? s.views j ≡ some u → 0 < w.ticket → w.ticket ≢ u.ticket
     own_ticket j u other there waits same = ⊎_elim
         (λ kept. others_wait j u other there (let z = waits in omega (arith, z, same)) (sym same ∙ kept))
-        (λ fresh. let h = (r.fits j u there).waits (let z = waits in omega (arith, z, same)) in let e = h.1 in omega (arith, e, fresh, same))
+        (λ fresh. let h = (r.fits j u there).waits (let z = waits in omega (arith, z, same)) in let e = h.1 in
+        omega (arith, e, fresh, same))
         (g.ticket waits)
 
-    tickets : (i j : ℕ) (a b : View) → get_elem? (set s.views id w) i ≡ some a → get_elem? (set s.views id w) j ≡ some b → 0 < a.ticket →
+    tickets : (i j : ℕ) (a b : View) → get_elem? (set s.views id w) i ≡ some a →
+        get_elem? (set s.views id w) j ≡ some b → 0 < a.ticket →
         a.ticket ≡ b.ticket → i ≡ j
     tickets i j a b at_i at_j waits same = ⊎_elim
         (λ (here : (i ≡ id) × (w ≡ a)). ⊎_elim
@@ -106,11 +111,17 @@ module _ {M : Type 0} (entries : M → List Entry) (opening : M → List ℕ) (b
     before : (j : ℕ) (u : View) → get_elem? (set s.views id w) j ≡ some u →
         (x : View) × (get_elem? s.views j ≡ some x) × (x.live ≡ u.live) × (x.share ≡ u.share)
     before j u there = ⊎_elim
-        (λ (here : (j ≡ id) × (w ≡ u)). (v, ap (get_elem? s.views) here.0 ∙ at, sym g.live ∙ ap (λ (z : View). z.live) here.1, sym g.share ∙ ap (λ (z : View). z.share) here.1))
+        (λ (here : (j ≡ id) × (w ≡ u)). (
+          v,
+          ap (get_elem? s.views) here.0 ∙ at,
+          sym g.live ∙ ap (λ (z : View). z.live) here.1,
+          sym g.share ∙ ap (λ (z : View). z.share) here.1,
+        ))
         (λ (other : (j ≢ id) × (get_elem? s.views j ≡ some u)). (u, other.1, refl, refl))
         (at_set s.views id j w u there)
 
-    shares : (i j : ℕ) (a b : View) → get_elem? (set s.views id w) i ≡ some a → get_elem? (set s.views id w) j ≡ some b → i ≢ j →
+    shares : (i j : ℕ) (a b : View) → get_elem? (set s.views id w) i ≡ some a →
+        get_elem? (set s.views id w) j ≡ some b → i ≢ j →
         a.live ≡ true → b.live ≡ true → apart a.share b.share ≡ true
     shares i j a b at_i at_j other live_a live_b =
         let x = before i a at_i in let y = before j b at_j in
@@ -123,7 +134,8 @@ module _ {M : Type 0} (entries : M → List Entry) (opening : M → List ℕ) (b
         (λ knows. (id, w, set_here s.views id w (inside s.views id v at), knows.0, inl knows.1))
         (λ same. let k = r.known in
         let now : (u : View) → (u.seen ≡ r.log) ⊎ (u.beside ≡ r.log) → (u.seen ≡ log') ⊎ (u.beside ≡ log') =
-        λ u. subst (λ (l : List Entry). (u.seen ≡ r.log) ⊎ (u.beside ≡ r.log) → (u.seen ≡ l) ⊎ (u.beside ≡ l)) (sym same.0) (λ x. x) in
+        λ u. subst (λ (l : List Entry). (u.seen ≡ r.log) ⊎ (u.beside ≡ r.log) → (u.seen ≡ l) ⊎ (u.beside ≡ l))
+        (sym same.0) (λ x. x) in
         dite (ℕ_discrete k.0 id)
         (λ is. let e : k.1 ≡ v = some-injective k.1 v (sym k.2 ∙ (ap (get_elem? s.views) is ∙ at)) in (
           id,
@@ -159,20 +171,25 @@ module _ {M : Type 0} (entries : M → List Entry) (opening : M → List ℕ) (b
     }
 
   -- a step that changes nothing
-  pub unmoved : (s : State (Option M) View) (r : Rule s) (id : ℕ) (v : View) (at : get_elem? s.views id ≡ some v) (c : List (ℕ × Option M)) (i : ℕ) →
+  pub unmoved : (s : State (Option M) View) (r : Rule s) (id : ℕ) (v : View) (at : get_elem? s.views id ≡ some v)
+      (c : List (ℕ × Option M)) (i : ℕ) →
       Rule (stepped s i (get_or s.words i 0) id c v keeps)
   unmoved s r id v at c i =
-      subst (λ (ws : List ℕ). Rule record { words = ws; homes = s.homes; views = set s.views id v }) (sym (set-get_or s.words i 0))
-      (subst (λ (vs : List View). Rule record { words = s.words; homes = s.homes; views = vs }) (sym (set_again s.views id v at)) r)
+      subst (λ (ws : List ℕ). Rule record { words = ws; homes = s.homes; views = set s.views id v })
+      (sym (set-get_or s.words i 0))
+      (subst (λ (vs : List View). Rule record { words = s.words; homes = s.homes; views = vs })
+      (sym (set_again s.views id v at)) r)
 
   -- where the value was out, it still is
-  out_stays : (views : List View) (id : ℕ) (v w : View) → get_elem? views id ≡ some v → w.turn ≡ v.turn → IsOut views → IsOut (set views id w)
+  out_stays : (views : List View) (id : ℕ) (v w : View) → get_elem? views id ≡ some v → w.turn ≡ v.turn →
+      IsOut views → IsOut (set views id w)
   out_stays views id v w at turn out = dite (ℕ_discrete out.0 id)
       (λ is. let e : out.1 ≡ v = some-injective out.1 v (sym out.2 ∙ (ap (get_elem? views) is ∙ at)) in
       (id, w, set_here views id w (inside views id v at), turn ∙ (ap (λ (z : View). z.turn) (sym e) ∙ out.3)))
       (λ other. (out.0, out.1, set_else views id out.0 w other ∙ out.2, out.3))
 
-  pub value_stays : (s : State (Option M) View) (r : Rule s) (id : ℕ) (v w : View) → get_elem? s.views id ≡ some v → w.turn ≡ v.turn →
+  pub value_stays : (s : State (Option M) View) (r : Rule s) (id : ℕ) (v w : View) → get_elem? s.views id ≡ some v →
+      w.turn ≡ v.turn →
       IsHome entries opening begins r.log s.homes ⊎ IsOut (set s.views id w)
   value_stays s r id v w at turn = ⊎_elim inl (λ out. inr (out_stays s.views id v w at turn out)) r.value
 
@@ -187,7 +204,8 @@ module _ {M : Type 0} (entries : M → List Entry) (opening : M → List ℕ) (b
 
   pub draws : (slots id : ℕ) (v : View) (c : List (ℕ × Option M)) (next new : ℕ) → new ≡ next + 1 → v.turn ≡ false →
       Allows Rule slots id (v, c) 0 (λ n. either (n == next) new n) (drawn (step slots 0 next new none) (v, c))
-  draws slots id v c next new one_more idle s r long at small = let n : ℕ = get_or s.words 0 0 in let is : n ≡ r.next = word0 s r in
+  draws slots id v c next new one_more idle s r long at small = let n : ℕ = get_or s.words 0 0 in
+      let is : n ≡ r.next = word0 s r in
       let w : View = record v { ticket = n + 1 } in let f = r.fits id v at in
       dite (ℕ_discrete n next)
       (λ hit. (
@@ -214,7 +232,8 @@ module _ {M : Type 0} (entries : M → List Entry) (opening : M → List ℕ) (b
               knows = inr (refl, λ k. k);
               placed = λ place. refl;
             }
-            (set s.words 0 new) s.homes (ap (λ (l : List ℕ). set l 0 new) r.words ∙ ap (λ (m : ℕ). m ∷ r.serving ∷ length r.log ∷ []) (one_more ∙ ap (λ (m : ℕ). m + 1) (sym hit ∙ is)))
+            (set s.words 0 new) s.homes (ap (λ (l : List ℕ). set l 0 new) r.words
+            ∙ ap (λ (m : ℕ). m ∷ r.serving ∷ length r.log ∷ []) (one_more ∙ ap (λ (m : ℕ). m + 1) (sym hit ∙ is)))
             (value_stays s r id v w at refl))
             (λ miss. absurd (miss hit)),
         (λ _. refl, λ miss. absurd (miss hit)),
@@ -223,12 +242,14 @@ module _ {M : Type 0} (entries : M → List Entry) (opening : M → List ℕ) (b
         v,
         keeps,
         tt,
-        exchanged n next new (λ m. Rule (stepped s 0 m id c v keeps)) (λ hit. absurd (miss hit)) (λ _. unmoved s r id v at c 0),
+        exchanged n next new (λ m. Rule (stepped s 0 m id c v keeps)) (λ hit. absurd (miss hit))
+            (λ _. unmoved s r id v at c 0),
         (λ hit. absurd (miss hit), λ _. refl),
       ))
 
   -- whose ticket is served, and who has not its turn yet, finds the value in the lock
-  home_of : (s : State (Option M) View) (r : Rule s) (id : ℕ) (v : View) → get_elem? s.views id ≡ some v → v.turn ≡ false →
+  home_of : (s : State (Option M) View) (r : Rule s) (id : ℕ) (v : View) → get_elem? s.views id ≡ some v →
+      v.turn ≡ false →
       v.ticket ≡ r.serving + 1 → IsHome entries opening begins r.log s.homes
   home_of s r id v at idle served = ⊎_elim (λ home. home)
       (λ out. let t = (r.fits out.0 out.1 out.2).turn out.3 in
@@ -237,12 +258,15 @@ module _ {M : Type 0} (entries : M → List Entry) (opening : M → List ℕ) (b
       absurd (true≢false (sym out.3 ∙ (ap (λ (z : View). z.turn) e ∙ idle))))
       r.value
 
-  takes_turn : (s : State (Option M) View) (r : Rule s) (id : ℕ) (v : View) (c : List (ℕ × Option M)) → get_elem? s.views id ≡ some v → v.live ≡ true →
+  takes_turn : (s : State (Option M) View) (r : Rule s) (id : ℕ) (v : View) (c : List (ℕ × Option M)) →
+      get_elem? s.views id ≡ some v → v.live ≡ true →
       v.ticket ≡ r.serving + 1 → (h : IsHome entries opening begins r.log s.homes) →
       Rule (stepped s 1 (get_or s.words 1 0) id c (record v { turn = true; seen = entries h.0 }) (takes 0 (Some h.0)))
   takes_turn s r id v c at live served h =
-      let w : View = record v { turn = true; seen = entries h.0 } in let f = r.fits id v at in let log : entries h.0 ≡ r.log = h.2 in
-      subst (λ (ws : List ℕ). Rule record { words = ws; homes = set s.homes 0 maybe.none; views = set s.views id w }) (sym (set-get_or s.words 1 0))
+      let w : View = record v { turn = true; seen = entries h.0 } in let f = r.fits id v at in
+      let log : entries h.0 ≡ r.log = h.2 in
+      subst (λ (ws : List ℕ). Rule record { words = ws; homes = set s.homes 0 maybe.none; views = set s.views id w })
+      (sym (set-get_or s.words 1 0))
       (moved s r id v w at r.log r.next r.serving record {
         goes_on = prefix_self r.log;
         drawn = omega arith;
@@ -266,7 +290,8 @@ module _ {M : Type 0} (entries : M → List Entry) (opening : M → List ℕ) (b
 
   pub looks : (slots id : ℕ) (v : View) (c : List (ℕ × Option M)) → v.live ≡ true → v.turn ≡ false →
       Allows Rule slots id (v, c) 1 (λ n. n) (looked entries opening (step slots 1 0 0 none) (v, c))
-  looks slots id v c live idle s r long at small = let n : ℕ = get_or s.words 1 0 in let is : n ≡ r.serving = word1 s r in let f = r.fits id v at in
+  looks slots id v c live idle s r long at small = let n : ℕ = get_or s.words 1 0 in
+      let is : n ≡ r.serving = word1 s r in let f = r.fits id v at in
       dite (ℕ_discrete (n + 1) v.ticket)
       (λ served. let ours : v.ticket ≡ r.serving + 1 = sym served ∙ ap (λ (m : ℕ). m + 1) is in
       let h = home_of s r id v at idle ours in (
@@ -287,11 +312,14 @@ module _ {M : Type 0} (entries : M → List Entry) (opening : M → List ℕ) (b
       ))
       (λ other. (v, keeps, tt, unmoved s r id v at c 1, (λ served. absurd (other served), λ _. refl)))
 
-  pub notes : (slots id : ℕ) (v : View) (c : List (ℕ × Option M)) (value : M) (entry : Entry) (place new : ℕ) (said : Option M) → new ≡ place + 1 → said ≡ Some value →
+  pub notes : (slots id : ℕ) (v : View) (c : List (ℕ × Option M)) (value : M) (entry : Entry) (place new : ℕ)
+      (said : Option M) → new ≡ place + 1 → said ≡ Some value →
       v.turn ≡ true → entries value ≡ v.seen ++ entry ∷ [] → place ≡ length v.seen →
-      Allows Rule slots id (v, c) 2 (λ n. either (n == place) new n) (noted entries (step slots 2 place new (some said)) (v, c))
-  notes slots id v c value entry place new said next_place is_said turn longer at_end s r long at small = let n : ℕ = get_or s.words 2 0 in
-      let f = r.fits id v at in let t = f.turn turn in let seen : v.seen ≡ r.log = t.2 in let log : List Entry = entries value in
+      Allows Rule slots id (v, c) 2 (λ n. either (n == place) new n)
+      (noted entries (step slots 2 place new (some said)) (v, c))
+  notes slots id v c value entry place new said next_place is_said turn longer at_end s r long at small =
+      let n : ℕ = get_or s.words 2 0 in let f = r.fits id v at in let t = f.turn turn in
+      let seen : v.seen ≡ r.log = t.2 in let log : List Entry = entries value in
       let w : View = record v { seen = log; places = v.places ++ length v.seen ∷ [] } in
       let hit : n ≡ place = word2 s r ∙ (ap length (sym seen) ∙ sym at_end) in
       let one_more : length log ≡ length v.seen + 1 = ap length longer ∙ length-append v.seen (entry ∷ []) in
@@ -317,22 +345,28 @@ module _ {M : Type 0} (entries : M → List Entry) (opening : M → List ℕ) (b
               live = refl;
               share = refl;
               knows = inl (t.0, refl);
-              placed = λ p. let sum = times_append p v.places (length v.seen ∷ []) in let more = below_one_more p (length v.seen) in
+              placed = λ p. let sum = times_append p v.places (length v.seen ∷ []) in
+                  let more = below_one_more p (length v.seen) in
                   let same : length r.log ≡ length v.seen = ap length (sym seen) in
                   let a : below p (length r.log) ≡ below p (length v.seen) = ap (below p) same in
-                  let b : below p (length log) ≡ below p (length v.seen + 1) = ap (below p) one_more in omega (arith, sum, more, a, b);
+                  let b : below p (length log) ≡ below p (length v.seen + 1) = ap (below p) one_more in
+                  omega (arith, sum, more, a, b);
             }
             (set s.words 2 new) s.homes
-            (ap (λ (l : List ℕ). set l 2 new) r.words ∙ ap (λ (m : ℕ). r.next ∷ r.serving ∷ m ∷ []) (next_place ∙ (ap (λ (m : ℕ). m + 1) at_end ∙ sym one_more)))
+            (ap (λ (l : List ℕ). set l 2 new) r.words ∙ ap (λ (m : ℕ). r.next ∷ r.serving ∷ m ∷ [])
+            (next_place ∙ (ap (λ (m : ℕ). m + 1) at_end ∙ sym one_more)))
             (inr (id, w, set_here s.views id w (inside s.views id v at), turn)))
             (λ miss. absurd (miss hit)),
         λ (x : M) is. let e : value ≡ x = Some-injective value x (sym is_said ∙ some-injective said (Some x) is) in
             ap (λ (x : M). (record v { seen = entries x; places = v.places ++ length v.seen ∷ [] }, c)) e,
       )
 
-  opens_at : (slots id : ℕ) (v : View) (value : M) (new : ℕ) → slots ≡ 1 → v.turn ≡ true → entries value ≡ v.seen → opening value ≡ v.opening → new ≡ v.ticket →
-      Allows Rule slots id (v, (0, Some value) ∷ []) 1 (λ _. new) (λ _. opened (step slots 1 new 0 none) (v, (0, Some value) ∷ []) new)
-  opens_at slots id v value new one turn same begun_so is s r long at small = let f = r.fits id v at in let t = f.turn turn in
+  opens_at : (slots id : ℕ) (v : View) (value : M) (new : ℕ) → slots ≡ 1 → v.turn ≡ true → entries value ≡ v.seen →
+      opening value ≡ v.opening → new ≡ v.ticket →
+      Allows Rule slots id (v, (0, Some value) ∷ []) 1 (λ _. new)
+      (λ _. opened (step slots 1 new 0 none) (v, (0, Some value) ∷ []) new)
+  opens_at slots id v value new one turn same begun_so is s r long at small = let f = r.fits id v at in
+      let t = f.turn turn in
       let w : View = record v { ticket = 0; turn = false } in let served : new ≡ r.serving + 1 = is ∙ t.1 in
       let below_next = (f.waits (let e = t.1 in omega (arith, e))).1 in (
         w,
@@ -359,13 +393,20 @@ module _ {M : Type 0} (entries : M → List Entry) (opening : M → List ℕ) (b
         }
             (set s.words 1 new) (set s.homes 0 (some (Some value)))
             (ap (λ (l : List ℕ). set l 1 new) r.words ∙ ap (λ (m : ℕ). r.next ∷ m ∷ length r.log ∷ []) served)
-            (inl (value, set_here s.homes 0 (some (Some value)) (omega (arith, long, one)), same ∙ t.2, begun_so ∙ f.opening t.0)),
+            (inl (
+              value,
+              set_here s.homes 0 (some (Some value)) (omega (arith, long, one)),
+              same ∙ t.2,
+              begun_so ∙ f.opening t.0,
+            )),
         refl,
       )
 
-  pub opens : (slots id : ℕ) (m : Me (Option M) View) (v : View) (value : M) (new : ℕ) → m ≡ (v, (0, Some value) ∷ []) → slots ≡ 1 → v.turn ≡ true →
+  pub opens : (slots id : ℕ) (m : Me (Option M) View) (v : View) (value : M) (new : ℕ) →
+      m ≡ (v, (0, Some value) ∷ []) → slots ≡ 1 → v.turn ≡ true →
       entries value ≡ v.seen → opening value ≡ v.opening → new ≡ v.ticket →
       Allows Rule slots id m 1 (λ _. new) (λ _. opened (step slots 1 new 0 none) m new)
   opens slots id m v value new me one turn same begun_so is =
-      subst (λ (x : Me (Option M) View). Allows Rule slots id x 1 (λ _. new) (λ _. opened (step slots 1 new 0 none) x new)) (sym me)
+      subst (λ (x : Me (Option M) View). Allows Rule slots id x 1 (λ _. new)
+      (λ _. opened (step slots 1 new 0 none) x new)) (sym me)
       (opens_at slots id v value new one turn same begun_so is)

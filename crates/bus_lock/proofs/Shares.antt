@@ -25,7 +25,8 @@ apart_halves (true ∷ share) = apart_halves share
 apart_halves (false ∷ share) = apart_halves share
 
 -- what is apart from both halves is apart from the whole
-pub apart_whole : (share other : List Bool) → apart (share ++ false ∷ []) other ≡ true → apart (share ++ true ∷ []) other ≡ true →
+pub apart_whole : (share other : List Bool) → apart (share ++ false ∷ []) other ≡ true →
+    apart (share ++ true ∷ []) other ≡ true →
     apart share other ≡ true
 apart_whole [] [] l r = l
 apart_whole [] (true ∷ other) l r = absurd cc

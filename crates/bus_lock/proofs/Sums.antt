@@ -17,12 +17,14 @@ pub total_last : (f : View → ℕ) (views : List View) (w : View) → total f (
 total_last f [] w = omega arith
 total_last f (u ∷ views) w = let rest = total_last f views w in omega (arith, rest)
 
-pub total_holds : (f : View → ℕ) (views : List View) (seat : ℕ) (v : View) → get_elem? views seat ≡ some v → f v ≤ total f views
+pub total_holds : (f : View → ℕ) (views : List View) (seat : ℕ) (v : View) → get_elem? views seat ≡ some v →
+    f v ≤ total f views
 total_holds f [] seat v at = absurd (some-ne-none v (sym at))
 total_holds f (u ∷ views) zero v at = let e : u ≡ v = some-injective u v at in let g = ap f e in omega (arith, g)
 total_holds f (u ∷ views) (suc seat) v at = let rest = total_holds f views seat v at in omega (arith, rest)
 
-total_none : (f : View → ℕ) (views : List View) → ((i : ℕ) (w : View) → get_elem? views i ≡ some w → f w ≡ 0) → total f views ≡ 0
+total_none : (f : View → ℕ) (views : List View) → ((i : ℕ) (w : View) → get_elem? views i ≡ some w → f w ≡ 0) →
+    total f views ≡ 0
 total_none f [] none = refl
 total_none f (u ∷ views) none =
     let rest = total_none f views (λ i w at. none (suc i) w at) in let here = none 0 u refl in omega (arith, rest, here)

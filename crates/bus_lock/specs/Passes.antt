@@ -1,10 +1,12 @@
 -- a pass of a lock, and a value that is held, as contracts see them
-use Rattle.std.specs.Prelude.{ℕ, ◌≡◌, ◌+◌, ◌≤◌, ◌⊎◌, Bool, true, false, List, [], ◌∷◌, ◌++◌, length, nat_eq, nat_lt, if◌then◌else◌}
+use Rattle.std.specs.Prelude.{ℕ, ◌≡◌, ◌+◌, ◌≤◌, ◌⊎◌, Bool, true, false, List, [], ◌∷◌, ◌++◌, length, nat_eq, nat_lt}
+use Rattle.std.specs.Prelude.{if◌then◌else◌}
 use Rattle.atomic_table.specs.Seated.{TableId}
 use Rattle.el_base.specs.declared.entries.Entry.{Entry}
 
--- what a pass knows: which lock it is of, the history that it has seen, which is an opening and a list of entries, the places of the
--- entries that were made under it, and its share, the lefts (false) and rights (true) by which it was split from the whole
+-- what a pass knows: which lock it is of, the history that it has seen, which is an opening and a list of entries, the
+-- places of the entries that were made under it, and its share, the lefts (false) and rights (true) by which it was
+-- split from the whole
 pub record Account : Type 0 where
   pub lock : TableId
   pub opening : List ℕ
@@ -46,7 +48,8 @@ GoesOn seen entries = (entries ≡ seen) ⊎ ((entry : Entry) × (entries ≡ se
 abbrev pub place_of_new : List Entry → List Entry → List ℕ
 place_of_new seen entries = if nat_lt (length seen) (length entries) then length seen ∷ [] else []
 
--- the account of the pass that gives the value back: it has seen these entries, with the place of the new one if there is one
+-- the account of the pass that gives the value back: it has seen these entries, with the place of the new one if there
+-- is one
 abbrev pub noted : Account → List Entry → Account
 noted pass entries =
     record pass { seen = entries; places = pass.places ++ place_of_new pass.seen entries }

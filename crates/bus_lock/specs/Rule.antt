@@ -27,8 +27,9 @@ total weight (view ∷ views) = weight view + total weight views
 abbrev pub made : ℕ → View → ℕ
 made place view = times place view.places
 
--- a view fits the history and the tickets: what it has seen begins the history; it waits with a ticket that was drawn and not served; where
--- it has its turn, it is served and has seen the whole history; a view that was joined to another has no places
+-- a view fits the history and the tickets: what it has seen begins the history; it waits with a ticket that was drawn
+-- and not served; where it has its turn, it is served and has seen the whole history; a view that was joined to another
+-- has no places
 pub record Fits (begins : List ℕ) (log : List Entry) (next serving : ℕ) (view : View) : Type 0 where
   pub opening : view.live ≡ true → view.opening ≡ begins
   pub seen : IsPrefix view.seen log
@@ -44,15 +45,18 @@ IsOut views = (seat : ℕ) × (view : View) × (get_elem? views seat ≡ some vi
 -- some pass has seen the whole history
 abbrev pub IsKnown : List Entry → List View → Type 0
 IsKnown log views =
-    (seat : ℕ) × (view : View) × (get_elem? views seat ≡ some view) × (view.live ≡ true) × ((view.seen ≡ log) ⊎ (view.beside ≡ log))
+    (seat : ℕ) × (view : View) × (get_elem? views seat ≡ some view) × (view.live ≡ true)
+    × ((view.seen ≡ log) ⊎ (view.beside ≡ log))
 
 module _ {M : Type 0} (entries : M → List Entry) (opening : M → List ℕ) (begins : List ℕ) where
   -- the value is in the lock, with this history
   abbrev pub IsHome : List Entry → List (maybe.Option (Option M)) → Type 0
-  IsHome log homes = (value : M) × (get_elem? homes 0 ≡ some (some (Some value))) × (entries value ≡ log) × (opening value ≡ begins)
+  IsHome log homes = (value : M) × (get_elem? homes 0 ≡ some (some (Some value))) × (entries value ≡ log)
+      × (opening value ≡ begins)
 
-  -- the words are the next ticket, the one that is served, and the length of the history. No two waiting passes have one ticket, no two passes
-  -- have shares of which one is a part of the other, and the places of all passes are those of the entries made since the lock was made
+  -- the words are the next ticket, the one that is served, and the length of the history. No two waiting passes have
+  -- one ticket, no two passes have shares of which one is a part of the other, and the places of all passes are those
+  -- of the entries made since the lock was made
   pub record Ticketed (begun : ℕ) (s : State (Option M) View) : Type 0 where
     pub log : List Entry
     pub next : ℕ
@@ -62,7 +66,8 @@ module _ {M : Type 0} (entries : M → List Entry) (opening : M → List ℕ) (b
     pub fits : (seat : ℕ) (view : View) → get_elem? s.views seat ≡ some view → Fits begins log next serving view
     pub tickets : (i j : ℕ) (v w : View) → get_elem? s.views i ≡ some v → get_elem? s.views j ≡ some w → 0 < v.ticket →
         v.ticket ≡ w.ticket → i ≡ j
-    pub shares : (i j : ℕ) (v w : View) → get_elem? s.views i ≡ some v → get_elem? s.views j ≡ some w → i ≢ j → v.live ≡ true →
+    pub shares : (i j : ℕ) (v w : View) → get_elem? s.views i ≡ some v → get_elem? s.views j ≡ some w → i ≢ j →
+        v.live ≡ true →
         w.live ≡ true → apart v.share w.share ≡ true
     pub known : IsKnown log s.views
     pub placed : (place : ℕ) → total (made place) s.views + below place begun ≡ below place (length log)

@@ -1,5 +1,6 @@
 -- what each step of the lock tells the pass that steps
-use Rattle.std.specs.Prelude.{ℕ, ◌≡◌, ◌≢◌, ◌+◌, true, false, List, [], ◌∷◌, ◌++◌, length, ◌-◌, slice_index_or, take, Option, Some}
+use Rattle.std.specs.Prelude.{ℕ, ◌≡◌, ◌≢◌, ◌+◌, true, false, List, [], ◌∷◌, ◌++◌, length, ◌-◌, slice_index_or, take}
+use Rattle.std.specs.Prelude.{Option, Some}
 use mathlib.Core.List.{IsPrefix}
 use mathlib.Core.Option.{some}
 use Rattle.atomic_table.specs.Seated.{TableId}
@@ -99,10 +100,12 @@ module _ {M : Type 0} where
   -- a ticket is drawn where the word was as expected
   abbrev pub drawn : Step (Option M) → Me (Option M) View → ℕ → Me (Option M) View → Type 0
   drawn step before found after =
-      (found ≡ step.first → after ≡ (record before.0 { ticket = found + 1 }, before.1)) × (found ≢ step.first → after ≡ before)
+      (found ≡ step.first → after ≡ (record before.0 { ticket = found + 1 }, before.1))
+      × (found ≢ step.first → after ≡ before)
 
   -- the value has gone out to this pass, whose turn it is
-  pub record HasTaken (entries : M → List Entry) (opening : M → List ℕ) (before after : Me (Option M) View) : Type 0 where
+  pub record HasTaken (entries : M → List Entry) (opening : M → List ℕ)
+      (before after : Me (Option M) View) : Type 0 where
     pub value : M
     pub view : after.0 ≡ record before.0 { turn = true; seen = entries value }
     pub holds : after.1 ≡ (0, Some value) ∷ before.1
@@ -110,15 +113,20 @@ module _ {M : Type 0} where
     pub begins : IsPrefix before.0.seen (entries value)
 
   -- the ticket that is served is this pass's, or another's
-  abbrev pub looked : (M → List Entry) → (M → List ℕ) → Step (Option M) → Me (Option M) View → ℕ → Me (Option M) View → Type 0
+  abbrev pub looked : (M → List Entry) → (M → List ℕ) → Step (Option M) → Me (Option M) View → ℕ →
+      Me (Option M) View → Type 0
   looked entries opening step before found after =
-      (found + 1 ≡ before.0.ticket → HasTaken entries opening before after) × (found + 1 ≢ before.0.ticket → after ≡ before)
+      (found + 1 ≡ before.0.ticket → HasTaken entries opening before after)
+      × (found + 1 ≢ before.0.ticket → after ≡ before)
 
   -- the new entry of the value that the step announces joins the history
   abbrev pub noted : (M → List Entry) → Step (Option M) → Me (Option M) View → ℕ → Me (Option M) View → Type 0
   noted entries step before found after =
       (value : M) → step.said ≡ some (Some value) →
-      after ≡ (record before.0 { seen = entries value; places = before.0.places ++ length before.0.seen ∷ [] }, before.1)
+      after ≡ (
+        record before.0 { seen = entries value; places = before.0.places ++ length before.0.seen ∷ [] },
+        before.1,
+      )
 
   -- the value has gone back, and the next ticket is served
   abbrev pub opened : Step (Option M) → Me (Option M) View → ℕ → Me (Option M) View → Type 0

@@ -1,9 +1,9 @@
 //! A pass that is split for two threads, and joined again.
-ghost use Rattle.std.specs.Prelude.{◌≡◌, ◌++◌, [], ◌⊎◌, List, Bool, Ok};
+ghost use Rattle.std.specs.Prelude.{◌≡◌, ◌++◌, [], ◌⊎◌, List, Bool, Ok, true, false};
 ghost use mathlib.Core.List.{IsPrefix};
 ghost use Rattle.bus_lock.specs.Locks.{lock_id};
 ghost use Rattle.bus_lock.specs.Passes.{Account, AreDistinct, AreHalves, longer};
-ghost use Rattle.bus_lock.specs.Steps.{at_rest, joined};
+ghost use Rattle.bus_lock.specs.Steps.{Learns, at_rest, joined};
 
 use crate::lock::BusLock;
 use crate::pass::Pass;
@@ -22,7 +22,9 @@ impl<M: Chronicled + Drop> BusLock<M> {
     {
         let mut left = pass.into_seat();
         let right = self.table.shared.split_seat::<Halves>(&mut left);
-        Ok((Pass::of_seat(left), Pass::of_seat(right)))
+        let left = Pass::of_seat(left);
+        let right = Pass::of_seat(right);
+        Ok((left, right))
     }
 
     /// The pass whose two halves these are. It has seen the longer of the two histories, of which the other
@@ -42,7 +44,18 @@ impl<M: Chronicled + Drop> BusLock<M> {
         self.table
             .shared
             .join_seat::<Both>(&mut seat, right.into_seat());
-        self.table.shared.load::<Learn>(&mut seat, COUNT);
+        self.learn(&mut seat);
         Pass::of_seat(seat)
+    }
+
+    /// Learns, after a join, which of the two histories begins the other, and that the places are distinct.
+    fn learn(&self, seat: &mut Seat<Option<Box<M>>, View>)
+        requires seat { seat.old.table_id ≡ lock_id self.now }
+        requires lives { seat.old.me.0.live ≡ true }
+        requires rests { seat.old.me.0.turn ≡ false }
+        ensures same { seat.new.table_id ≡ seat.old.table_id }
+        ensures learns { Learns seat.old.me seat.new.me }
+    {
+        self.table.shared.load::<Learn>(seat, COUNT);
     }
 }

@@ -1,5 +1,6 @@
 //! The rule of the lock's table, and the names of its steps.
 ghost use Rattle.std.specs.Prelude.{length};
+ghost use Rattle.bus_lock.specs.Locks.{boxed};
 ghost use Rattle.bus_lock.specs.Rule.{Ticketed};
 ghost use Rattle.bus_lock.specs.Steps.{drawn, joined, learned, left_half, looked, noted, opened, right_half, spent};
 
@@ -19,10 +20,10 @@ pub(crate) const COUNT: usize = 2;
 
 pub struct Ticketing;
 
-impl<M: Chronicled> TableRule<Option<M>, View, Snapshot<M>> for Ticketing {
+impl<M: Chronicled> TableRule<Option<Box<M>>, View, Snapshot<M>> for Ticketing {
     ghost use Rattle.bus_lock.specs.Steps.{at_first};
 
-    ghost holds = { λ key. Ticketed M.entries M.opening (M.opening key.value) (length (M.entries key.value)) };
+    ghost holds = { λ key. Ticketed (boxed M.entries) (boxed M.opening) (M.opening key.value) (length (M.entries key.value)) };
 
     ghost first = { λ key. at_first (M.opening key.value) (M.entries key.value) };
 }
@@ -35,14 +36,14 @@ impl<M> Play<Option<M>, View> for Draw {
 
 pub(crate) struct Look;
 
-impl<M: Chronicled> Play<Option<M>, View> for Look {
-    ghost then = { looked M.entries M.opening };
+impl<M: Chronicled> Play<Option<Box<M>>, View> for Look {
+    ghost then = { looked (boxed M.entries) (boxed M.opening) };
 }
 
 pub(crate) struct Note;
 
-impl<M: Chronicled> Play<Option<M>, View> for Note {
-    ghost then = { noted M.entries };
+impl<M: Chronicled> Play<Option<Box<M>>, View> for Note {
+    ghost then = { noted (boxed M.entries) };
 }
 
 pub(crate) struct Open;

@@ -1,9 +1,9 @@
 //! A lock from `make` to `close`, and one turn at it.
-ghost use Rattle.std.specs.Prelude.{◌≡◌, ◌+◌, ◌<◌, ◌^◌, [], ◌∷◌, IfOk, IfErr, None, true, length};
+ghost use Rattle.std.specs.Prelude.{◌≡◌, ◌+◌, ◌<◌, ◌^◌, [], ◌∷◌, IfOk, IfErr, None, true, false, length};
 ghost use mathlib.Core.List.{IsPrefix};
-ghost use Rattle.bus_lock.specs.Locks.{lock_id, started_with};
+ghost use Rattle.bus_lock.specs.Locks.{boxed, lock_id, started_with};
 ghost use Rattle.bus_lock.specs.Passes.{Account, AreThePlaces};
-ghost use Rattle.bus_lock.specs.Steps.{at_rest, first_account, waiting};
+ghost use Rattle.bus_lock.specs.Steps.{HasTaken, at_rest, first_account, waiting};
 
 use crate::held::Held;
 use crate::lock::BusLock;
@@ -13,7 +13,7 @@ use crate::view::View;
 use atomic_table::{Refused, Seat, Table};
 use crossbeam_utils::Backoff;
 use el_base::{Chronicled, Kept};
-use std::alloc::Global;
+use std::alloc::{AllocFailed, Global};
 use std::snapshot::Snapshot;
 use std::sync::Wait;
 
@@ -30,11 +30,11 @@ impl<M: Chronicled + Drop> BusLock<M> {
         let Ok(mut slots) = Vec::with_capacity(alloc, 1) else {
             return Err(Kept { value: state });
         };
-        slots.push_reserved(Some(state));
+        slots.push_reserved(Some(put_in_box(alloc, state)?));
         match Table::new(alloc, &[0, 0, count], slots, &start) {
             Ok((table, seat)) => Ok((BusLock { table }, Pass::of_seat(seat))),
             Err(Refused { mut slots }) => Err(Kept {
-                value: slots.pop().unwrap().unwrap(),
+                value: Box::into_inner(slots.pop().unwrap().unwrap()),
             }),
         }
     }
@@ -54,7 +54,7 @@ impl<M: Chronicled + Drop> BusLock<M> {
     }
 
     /// Draws the next ticket.
-    fn draw<R: Wait>(&self, rt: &R, seat: &mut Seat<Option<M>, View>) -> u64
+    fn draw<R: Wait>(&self, rt: &R, seat: &mut Seat<Option<Box<M>>, View>) -> u64
         requires seat { seat.old.table_id ≡ lock_id self.now }
         requires rests { (pass : Account) × (seat.old.me ≡ (at_rest pass, [])) }
         ensures same { seat.new.table_id ≡ seat.old.table_id }
@@ -79,22 +79,39 @@ impl<M: Chronicled + Drop> BusLock<M> {
     }
 
     /// Waits until the ticket is served, and takes the value out.
-    fn wait_for_turn<R: Wait>(&self, rt: &R, seat: &mut Seat<Option<M>, View>, ticket: u64) -> M
+    fn wait_for_turn<R: Wait>(
+        &self,
+        rt: &R,
+        seat: &mut Seat<Option<Box<M>>, View>,
+        ticket: u64,
+    ) -> Box<M>
         requires seat { seat.old.table_id ≡ lock_id self.now }
         requires waits { (pass : Account) × (seat.old.me ≡ (waiting pass (ticket + 1), [])) }
         ensures same { seat.new.table_id ≡ seat.old.table_id }
-        ensures turn { seat.new.me ≡ (record seat.old.me.0 { turn = true; seen = M.entries result }, (0, None) ∷ []) }
-        ensures begins { IsPrefix seat.old.me.0.seen (M.entries result) }
-        ensures opening { M.opening result ≡ seat.old.me.0.opening }
+        ensures turn { seat.new.me ≡ (record seat.old.me.0 { turn = true; seen = M.entries result.value }, (0, None) ∷ []) }
+        ensures begins { IsPrefix seat.old.me.0.seen (M.entries result.value) }
+        ensures opening { M.opening result.value ≡ seat.old.me.0.opening }
     {
         let backoff = Backoff::new();
         for _ in rt.forever() {
-            if self.table.shared.load::<Look>(seat, SERVING) == ticket {
+            if self.is_served(seat, ticket) {
                 return self.table.shared.exchange(seat, 0, None).unwrap();
             }
             backoff.snooze();
         }
         unreachable!()
+    }
+
+    /// Looks whether the ticket is served. Where it is, the value is out with the seat.
+    fn is_served(&self, seat: &mut Seat<Option<Box<M>>, View>, ticket: u64) -> bool
+        requires seat { seat.old.table_id ≡ lock_id self.now }
+        requires waits { (seat.old.me.0.live ≡ true) × (seat.old.me.0.turn ≡ false) }
+        requires ticket { seat.old.me.0.ticket ≡ ticket + 1 }
+        ensures same { seat.new.table_id ≡ seat.old.table_id }
+        ensures served { result ≡ true → HasTaken (boxed M.entries) (boxed M.opening) seat.old.me seat.new.me }
+        ensures not_yet { result ≡ false → seat.new.me ≡ seat.old.me }
+    {
+        self.table.shared.load::<Look>(seat, SERVING) == ticket
     }
 
     /// Ends the lock, and gives its value.
@@ -107,8 +124,16 @@ impl<M: Chronicled + Drop> BusLock<M> {
     {
         let BusLock { table } = self;
         let mut closed = table.close_with(pass.into_seat());
-        let value = closed.take(0).unwrap();
+        let home = closed.take(0).unwrap();
         closed.free();
-        value
+        Box::into_inner(home)
     }
+}
+
+/// The value in a block of its own. The error is want of memory, with the value.
+fn put_in_box<M: Drop>(alloc: Global, value: M) -> Result<Box<M>, Kept<M>>
+    ensures put { IfOk result (λ home. home.value ≡ value) }
+    ensures refused { IfErr result (λ refused. refused.value ≡ value) }
+{
+    Box::new(alloc, value).map_err(|AllocFailed { value }| Kept { value })
 }

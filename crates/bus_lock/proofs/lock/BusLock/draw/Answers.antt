@@ -5,4 +5,4 @@ use Rattle.bus_lock.proofs.lock.BusLock.draw.Goals as goal
 pub compare_exchange-found-requires : goal.compare_exchange-found-requires
 compare_exchange-found-requires g c =
     let idle = ap (λ m. m.0.turn) (c.loop.invariant.1 ∙ c.requires.rests.1) in
-    (search rules, search rules, draws g.M.Chronicled.entries g.M.Chronicled.opening _ _ _ _ _ _ _ _ (omega arith) idle)
+    (search rules, search rules, draws _ _ _ _ _ _ _ _ _ _ (omega arith) idle)

@@ -1,4 +1,5 @@
 use Rattle.std.proofs.Common.{rules, ap, arith, ◌∙◌, length, ⊎_elim}
+use Rattle.bus_lock.specs.Locks.{boxed}
 use Rattle.bus_lock.proofs.Keeps.{notes}
 use Rattle.bus_lock.proofs.lock.BusLock.note.Goals as goal
 
@@ -9,7 +10,7 @@ compare_exchange_with-requires g c =
       search rules,
       search rules,
       ⊎_elim (λ same. absurd (let long = value.2 ∙ ap length same in omega (arith, another, found, long)))
-          (λ new. notes g.M.Chronicled.entries g.M.Chronicled.opening _ _ _ _ _ _ value.0 new.0 _ _ _ (omega arith) value.1
-          c.requires.turn new.1 at_end)
+          (λ new. notes (boxed g.M.Chronicled.entries) (boxed g.M.Chronicled.opening) _ _ _ _ _ _ value.0 new.0 _ _ _
+          (omega arith) value.1 c.requires.turn new.1 at_end)
           value.3,
     )

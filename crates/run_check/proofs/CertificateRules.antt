@@ -1,5 +1,6 @@
 -- The certificate of a history and of a state keeps the rules.
-use Rattle.std.proofs.Common.{◌≡◌, ◌≢◌, ℕ, zero, suc, ◌+◌, ◌-◌, ◌*◌, ◌/◌, ◌≤◌, ◌<◌, Bool, true, false, cond, ◌==◌, List, [], ◌∷◌, ◌++◌, length, drop, refl, sym, ap, subst, ◌∙◌, arith, add-one, inl, inr}
+use Rattle.std.proofs.Common.{◌≡◌, ◌≢◌, ℕ, zero, suc, ◌+◌, ◌-◌, ◌*◌, ◌/◌, ◌≤◌, ◌<◌, Bool, true, false, cond, ◌==◌, List}
+use Rattle.std.proofs.Common.{[], ◌∷◌, ◌++◌, length, drop, refl, sym, ap, subst, ◌∙◌, arith, add-one, inl, inr}
 use Rattle.std.specs.Prelude.{replicate, slice_index_or, All}
 use Rattle.std.proofs.lemmas.Bool.{cases_lt}
 use Rattle.std.proofs.lemmas.Bool.Decides.{nat_tests}
@@ -10,11 +11,11 @@ use Rattle.el_base.specs.HartId.{hart_id}
 use Rattle.el_base.specs.LineAddr.{line_addr}
 use Rattle.el_base.specs.declared.hart_id.HartId.{HartId}
 use Rattle.el_base.specs.declared.entries.Entry.{Entry}
-use Rattle.chronicle.specs.Chronicle.{events}
-use Rattle.chronicle.specs.Serial.{effects, serial}
+use Rattle.chronicle.specs.Serial.{serial}
 use Rattle.elf_image.specs.Program.{IsProgram, Program}
 use Rattle.rv_flat.specs.FlatState.{FlatState, no_hart}
-use Rattle.run_check.specs.Certified.{certificate_of, changed, changed_below, changed_lines, patch_of, step_before, stretches_of, IsCode, IsHistoryOf, IsStateOf}
+use Rattle.run_check.specs.Certified.{certificate_of, changed, changed_below, changed_lines, patch_of, step_before}
+use Rattle.run_check.specs.Certified.{stretches_of, IsCode, IsHistoryOf, IsStateOf}
 use Rattle.run_check.specs.Content.{steps_in, written_out}
 use Rattle.run_check.specs.Rules.{count_wrong, hart_wrong, line_wrong, most_steps, steps_before}
 use Rattle.run_check.specs.Spelling.{count_in, hart_in, line_in, patch_in, IsCertificate, IsView}
@@ -29,20 +30,10 @@ abbrev pub Below : ℕ → List ℕ → Type 0
 Below n [] = Unit {0}
 Below n (x ∷ xs) = (x < n) × Below n xs
 
-below-append : (n : ℕ) (xs ys : List ℕ) → Below n xs → Below n ys → Below n (xs ++ ys)
-below-append n [] ys a b = b
-below-append n (x ∷ xs) ys a b = (a.0, below-append n xs ys a.1 b)
-
-below-replicate : (n count x : ℕ) → x < n → Below n (replicate count x)
-below-replicate n zero x low = tt
-below-replicate n (suc count) x low = (low, below-replicate n count x low)
-
-pub serial_below : (n : ℕ) (entries : List Entry) → All (λ event. event.hart.number < n) (events entries) → Below n (serial entries)
-serial_below n [] each = tt
-serial_below n (entry ∷ entries) each =
-    below-append n (replicate (effects entry.outcome) entry.event.hart.number) (serial entries)
-    (below-replicate n (effects entry.outcome) entry.event.hart.number (each 0 entry.event (omega arith)))
-    (serial_below n entries (λ k d within. each (suc k) d (omega arith)))
+pub below_from_all : (n : ℕ) (xs : List ℕ) → All (λ x. x < n) xs → Below n xs
+below_from_all n [] each = tt
+below_from_all n (x ∷ xs) each =
+    (each 0 x (omega arith), below_from_all n xs (λ k d within. each (suc k) d (omega arith)))
 
 pub weaker : (m n : ℕ) (xs : List ℕ) → m ≤ n → Below m xs → Below n xs
 weaker m n [] le b = tt
@@ -55,27 +46,29 @@ abbrev choose : Bool → ℕ → Stretch → List Stretch → List Stretch
 choose same hart s stretches =
     cond same (stretch_of s.hart (s.count + 1) ∷ stretches) (stretch_of (hart_id hart) 1 ∷ s ∷ stretches)
 
-step_written_where : (hart : ℕ) (s : Stretch) (stretches : List Stretch) → hart < 8 → (same : Bool) → (s.hart.number == hart) ≡ same →
-    written_out (choose same hart s stretches) ≡ hart ∷ written_out (s ∷ stretches)
+step_written_where : (hart : ℕ) (s : Stretch) (stretches : List Stretch) → hart < 8 → (same : Bool) →
+    (s.hart.number == hart) ≡ same → written_out (choose same hart s stretches) ≡ hart ∷ written_out (s ∷ stretches)
 step_written_where hart s stretches low true is =
     let same : s.hart.number ≡ hart = grind (arith, nat_tests) in
     ap (λ n. replicate n s.hart.number ++ written_out stretches) (add-one s.count)
     ∙ ap (λ n. n ∷ (replicate s.count s.hart.number ++ written_out stretches)) same
 step_written_where hart s stretches low false is = ap (λ n. n ∷ written_out (s ∷ stretches)) (hart_id-number hart low)
 
-longer : (s : Stretch) (stretches : List Stretch) → IsCode (s ∷ stretches) → IsCode (stretch_of s.hart (s.count + 1) ∷ stretches)
+longer : (s : Stretch) (stretches : List Stretch) → IsCode (s ∷ stretches) →
+    IsCode (stretch_of s.hart (s.count + 1) ∷ stretches)
 longer s [] code = omega arith
 longer s (next ∷ stretches) code = (omega arith, code.1, code.2)
 
-step_code_where : (hart : ℕ) (s : Stretch) (stretches : List Stretch) → hart < 8 → IsCode (s ∷ stretches) → (same : Bool) → (s.hart.number == hart) ≡ same →
-    IsCode (choose same hart s stretches)
+step_code_where : (hart : ℕ) (s : Stretch) (stretches : List Stretch) → hart < 8 → IsCode (s ∷ stretches) →
+    (same : Bool) → (s.hart.number == hart) ≡ same → IsCode (choose same hart s stretches)
 step_code_where hart s stretches low code true is = longer s stretches code
 step_code_where hart s stretches low code false is =
     let other : s.hart.number ≢ hart = λ e. absurd (grind (arith, nat_tests)) in
     (omega arith, λ e. other (sym e ∙ hart_id-number hart low), code)
 
 -- one step before a code is a code of one step more
-step_written : (hart : ℕ) (stretches : List Stretch) → hart < 8 → written_out (step_before hart stretches) ≡ hart ∷ written_out stretches
+step_written : (hart : ℕ) (stretches : List Stretch) → hart < 8 →
+    written_out (step_before hart stretches) ≡ hart ∷ written_out stretches
 step_written hart [] low = ap (λ n. n ∷ []) (hart_id-number hart low)
 step_written hart (s ∷ stretches) low = step_written_where hart s stretches low (s.hart.number == hart) refl
 
@@ -100,7 +93,8 @@ code_counts (s ∷ []) code (suc k) within = absurd (omega arith)
 code_counts (s ∷ next ∷ stretches) code zero within = code.0
 code_counts (s ∷ next ∷ stretches) code (suc k) within = code_counts (next ∷ stretches) code.2 k (omega arith)
 
-code_apart : (stretches : List Stretch) → IsCode stretches → (k : ℕ) → suc k < length stretches → hart_in stretches (suc k) ≢ hart_in stretches k
+code_apart : (stretches : List Stretch) → IsCode stretches → (k : ℕ) → suc k < length stretches →
+    hart_in stretches (suc k) ≢ hart_in stretches k
 code_apart [] code k within = absurd (omega arith)
 code_apart (s ∷ []) code k within = absurd (omega arith)
 code_apart (s ∷ next ∷ stretches) code zero within = λ e. code.1 (sym e)
@@ -114,12 +108,14 @@ below-first : (n count x : ℕ) (ys : List ℕ) → 1 ≤ count → Below n (rep
 below-first n zero x ys some b = absurd (omega arith)
 below-first n (suc count) x ys some b = b.0
 
-code_harts : (n : ℕ) (stretches : List Stretch) → ((k : ℕ) → k < length stretches → 1 ≤ count_in stretches k) → Below n (written_out stretches) →
-    (k : ℕ) → k < length stretches → hart_in stretches k < n
+code_harts : (n : ℕ) (stretches : List Stretch) → ((k : ℕ) → k < length stretches → 1 ≤ count_in stretches k) →
+    Below n (written_out stretches) → (k : ℕ) → k < length stretches → hart_in stretches k < n
 code_harts n [] some b k within = absurd (omega arith)
-code_harts n (s ∷ stretches) some b zero within = below-first n s.count s.hart.number (written_out stretches) (some 0 (omega arith)) b
+code_harts n (s ∷ stretches) some b zero within =
+    below-first n s.count s.hart.number (written_out stretches) (some 0 (omega arith)) b
 code_harts n (s ∷ stretches) some b (suc k) within =
-    code_harts n stretches (λ i low. some (suc i) (omega arith)) (below-left n (steps_in s) (written_out stretches) b) k (omega arith)
+    code_harts n stretches (λ i low. some (suc i) (omega arith)) (below-left n (steps_in s) (written_out stretches) b) k
+    (omega arith)
 
 hart_rule : (harts : ℕ) (f : ℕ → ℕ) (k : ℕ) → f (suc k) < harts → f (suc k) ≢ f k → hart_wrong harts f (suc k) ≡ false
 hart_rule harts f k low other =
@@ -130,8 +126,9 @@ hart_rule harts f k low other =
 first_hart_rule : (harts : ℕ) (f : ℕ → ℕ) → f 0 < harts → hart_wrong harts f 0 ≡ false
 first_hart_rule harts f low = grind (arith, nat_tests)
 
-harts_right : (harts : ℕ) (stretches : List Stretch) → IsCode stretches → ((k : ℕ) → k < length stretches → hart_in stretches k < harts) →
-    (k : ℕ) → k < length stretches → hart_wrong harts (hart_in stretches) k ≡ false
+harts_right : (harts : ℕ) (stretches : List Stretch) → IsCode stretches →
+    ((k : ℕ) → k < length stretches → hart_in stretches k < harts) → (k : ℕ) → k < length stretches →
+    hart_wrong harts (hart_in stretches) k ≡ false
 harts_right harts stretches code low zero within = first_hart_rule harts (hart_in stretches) (low 0 within)
 harts_right harts stretches code low (suc k) within =
     hart_rule harts (hart_in stretches) k (low (suc k) within) (code_apart stretches code k within)
@@ -151,7 +148,8 @@ counts_right : (stretches : List Stretch) → IsCode stretches → length (writt
     (k : ℕ) → k < length stretches → count_wrong (count_in stretches) k ≡ false
 counts_right stretches code few k within =
     count_rule (count_in stretches) k (code_counts stretches code k within)
-    (let grow = steps_grow (count_in stretches) (suc k) (length stretches) (omega arith) in let all = length_all_written stretches in omega arith)
+    (let grow = steps_grow (count_in stretches) (suc k) (length stretches) (omega arith) in let all =
+    length_all_written stretches in omega arith)
 
 -- ---- the lines that differ
 
@@ -161,7 +159,8 @@ record LineRule (program : Program) (lines : List Patch) (end k : ℕ) : Type 0 
   ascends : (j : ℕ) → suc j ≡ k → line_in lines j < line_in lines k
   bytes : length (patch_in lines k).bytes ≡ 64
 
-wider : (program : Program) (lines : List Patch) (end k : ℕ) → LineRule program lines end k → LineRule program lines (suc end) k
+wider : (program : Program) (lines : List Patch) (end k : ℕ) → LineRule program lines end k →
+    LineRule program lines (suc end) k
 wider program lines end k r = let low = r.low in record { low = omega arith; ascends = r.ascends; bytes = r.bytes }
 
 patch_left : (xs : List Patch) (y : Patch) (k : ℕ) → k < length xs → patch_in (xs ++ y ∷ []) k ≡ patch_in xs k
@@ -170,31 +169,36 @@ patch_left xs y k within = get_or_append_left xs (y ∷ []) (record { line = lin
 patch_last : (xs : List Patch) (y : Patch) (k : ℕ) → length xs ≡ k → patch_in (xs ++ y ∷ []) k ≡ y
 patch_last xs y k is = get_or_at xs y [] (record { line = line_addr 0; bytes = [] }) k is
 
-one_line_more : (program : Program) (xs : List Patch) (y : Patch) (end : ℕ) → ((k : ℕ) → k < length xs → LineRule program xs end k) →
-    y.line.number ≡ program.base / 64 + end → length y.bytes ≡ 64 → (k : ℕ) → k < length (xs ++ y ∷ []) → LineRule program (xs ++ y ∷ []) (suc end) k
+one_line_more : (program : Program) (xs : List Patch) (y : Patch) (end : ℕ) →
+    ((k : ℕ) → k < length xs → LineRule program xs end k) → y.line.number ≡ program.base / 64 + end →
+    length y.bytes ≡ 64 → (k : ℕ) → k < length (xs ++ y ∷ []) → LineRule program (xs ++ y ∷ []) (suc end) k
 one_line_more program xs y end each number bytes k within =
     let long = length-append xs (y ∷ []) in
     elim (cases_lt k (length xs)) [
       | inl before ↦
           let r = each k before in
-          let here : line_in (xs ++ y ∷ []) k ≡ line_in xs k = ap (λ (p : Patch). p.line.number) (patch_left xs y k before) in
+          let here : line_in (xs ++ y ∷ []) k ≡ line_in xs k =
+          ap (λ (p : Patch). p.line.number) (patch_left xs y k before) in
           record {
             low = let low = r.low in omega (arith, here);
             ascends =
                 λ j is.
-                let there : line_in (xs ++ y ∷ []) j ≡ line_in xs j = ap (λ (p : Patch). p.line.number) (patch_left xs y j (omega arith)) in
+                let there : line_in (xs ++ y ∷ []) j ≡ line_in xs j =
+                ap (λ (p : Patch). p.line.number) (patch_left xs y j (omega arith)) in
                 let up = r.ascends j is in
                 omega (arith, here, there);
             bytes = ap (λ (p : Patch). length p.bytes) (patch_left xs y k before) ∙ r.bytes;
           }
       | inr past ↦
           let last : length xs ≡ k = omega (arith, long) in
-          let here : line_in (xs ++ y ∷ []) k ≡ y.line.number = ap (λ (p : Patch). p.line.number) (patch_last xs y k last) in
+          let here : line_in (xs ++ y ∷ []) k ≡ y.line.number =
+          ap (λ (p : Patch). p.line.number) (patch_last xs y k last) in
           record {
             low = omega (arith, here, number);
             ascends =
                 λ j is.
-                let there : line_in (xs ++ y ∷ []) j ≡ line_in xs j = ap (λ (p : Patch). p.line.number) (patch_left xs y j (omega arith)) in
+                let there : line_in (xs ++ y ∷ []) j ≡ line_in xs j =
+                ap (λ (p : Patch). p.line.number) (patch_left xs y j (omega arith)) in
                 let low = (each j (omega arith)).low in
                 omega (arith, here, there, number);
             bytes = ap (λ (p : Patch). length p.bytes) (patch_last xs y k last) ∙ bytes;
@@ -206,8 +210,8 @@ record Fits (program : Program) (memory : List ℕ) (end : ℕ) : Type 0 where
   whole : 64 * end ≤ length memory
   numbers : program.base / 64 + end ≤ 67108864
 
-changed_where : (program : Program) (memory : List ℕ) (end : ℕ) (xs : List Patch) (is-changed : Bool) → Fits program memory (suc end) →
-    ((k : ℕ) → k < length xs → LineRule program xs end k) → length xs ≤ end →
+changed_where : (program : Program) (memory : List ℕ) (end : ℕ) (xs : List Patch) (is-changed : Bool) →
+    Fits program memory (suc end) → ((k : ℕ) → k < length xs → LineRule program xs end k) → length xs ≤ end →
     ((k : ℕ) → k < length (xs ++ cond is-changed (patch_of program memory end ∷ []) []) →
     LineRule program (xs ++ cond is-changed (patch_of program memory end ∷ []) []) (suc end) k)
     × (length (xs ++ cond is-changed (patch_of program memory end ∷ []) []) ≤ suc end)
@@ -223,7 +227,8 @@ changed_where program memory end xs false f each few =
     rw append-nil (λ k within. wider program xs end k (each k within), omega arith)
 
 lines_rule : (program : Program) (memory : List ℕ) (end : ℕ) → Fits program memory end →
-    ((k : ℕ) → k < length (changed_below program memory end) → LineRule program (changed_below program memory end) end k)
+    ((k : ℕ) → k < length (changed_below program memory end) →
+    LineRule program (changed_below program memory end) end k)
     × (length (changed_below program memory end) ≤ end)
 lines_rule program memory zero f = (λ k within. absurd (omega arith), omega arith)
 lines_rule program memory (suc end) f =
@@ -249,13 +254,14 @@ lines_right lines low up (suc k) within = line_rule (line_in lines) k (low (suc 
 
 -- ---- all rules
 
-pub certificate_rules : (program : Program) (entries : List Entry) (state : FlatState) → IsProgram program → IsHistoryOf program entries →
-    IsStateOf program state → ((hart : ℕ) → hart < length state.harts → IsView (slice_index_or state.harts hart no_hart)) →
+pub certificate_rules : (program : Program) (entries : List Entry) (state : FlatState) → IsProgram program →
+    IsHistoryOf program entries → IsStateOf program state →
+    ((hart : ℕ) → hart < length state.harts → IsView (slice_index_or state.harts hart no_hart)) →
     IsCertificate (certificate_of program entries state)
 unfolding certificate_of
 certificate_rules program entries state valid history of views =
     let harts = serial entries in
-    let below : Below program.harts harts = serial_below program.harts entries history.harts in
+    let below : Below program.harts harts = below_from_all program.harts harts history.harts in
     let few_harts = valid.few_harts in
     let below8 : Below 8 harts = weaker program.harts 8 harts few_harts below in
     let code = stretches_code harts below8 in
@@ -264,7 +270,11 @@ certificate_rules program entries state valid history of views =
     let high = valid.not_high in
     let wide = valid.not_wide in
     let size = of.size in
-    let rule = lines_rule program state.bytes end (record { whole = omega arith; numbers = omega (arith, valid.base_on_line, valid.length_on_line) }) in
+    let rule =
+    lines_rule program state.bytes end (record {
+      whole = omega arith;
+      numbers = omega (arith, valid.base_on_line, valid.length_on_line);
+    }) in
     let lines = changed_lines program state.bytes in
     let low : (k : ℕ) → k < length lines → line_in lines k < 67108864 =
     λ k within. let r = (rule.0 k within).low in omega (arith, valid.base_on_line, valid.length_on_line)
@@ -274,7 +284,8 @@ certificate_rules program entries state valid history of views =
       few_harts = few_harts;
       harts =
           harts_right program.harts (stretches_of harts) code
-          (code_harts program.harts (stretches_of harts) (code_counts (stretches_of harts) code) (subst (Below program.harts) (sym written) below));
+          (code_harts program.harts (stretches_of harts) (code_counts (stretches_of harts) code)
+          (subst (Below program.harts) (sym written) below));
       counts = counts_right (stretches_of harts) code (let few = history.few in omega (arith, ap length written));
       one_view_each = of.one_view_each;
       views = views;

@@ -1,5 +1,6 @@
 -- Fields with and without a fault.
-use Rattle.std.proofs.Common.{◌≡◌, ℕ, ◌+◌, ◌*◌, ◌≤◌, Bool, true, false, not, cond, ◌==◌, ltb, List, [], ◌∷◌, length, get_or, Option, Some, None, refl, ap, ◌∙◌, arith}
+use Rattle.std.proofs.Common.{◌≡◌, ℕ, ◌+◌, ◌*◌, ◌≤◌, Bool, true, false, not, cond, ◌==◌, ltb, List, [], ◌∷◌, length}
+use Rattle.std.proofs.Common.{get_or, Option, Some, None, refl, ap, ◌∙◌, arith}
 use Rattle.std.proofs.lemmas.Bool.{le-ltb, ltb-false}
 use Rattle.std.proofs.lemmas.Bool.Decides.{nat_tests}
 use Rattle.std.specs.Option.{option_or}
@@ -10,7 +11,9 @@ use Rattle.el_base.specs.declared.hart_id.TheConstants.{MAX_HARTS}
 use Rattle.run_check.specs.declared.fault.FaultKind.{FaultKind}
 use Rattle.run_check.specs.declared.fault.FaultKind.TheVariants as kinds
 use Rattle.run_check.specs.FaultKinds.{fault_of}
-use Rattle.run_check.specs.Faults.{count_at, field, hart_at, harts_of, head_fault, line_at, line_count_fault, line_fault, line_place, number_at, output_fault, stretch_fault, stretch_place, tail_fault, view_fault, view_wrong, wrong}
+use Rattle.run_check.specs.Faults.{count_at, field, hart_at, harts_of, head_fault, line_at, line_count_fault}
+use Rattle.run_check.specs.Faults.{line_fault, line_place, number_at, output_fault, stretch_fault, stretch_place}
+use Rattle.run_check.specs.Faults.{tail_fault, view_fault, view_wrong, wrong}
 use Rattle.run_check.specs.Rules.{count_wrong, hart_wrong, line_wrong, most_lines}
 use Rattle.rv_flat.specs.FlatState.{output_limit}
 
@@ -49,12 +52,13 @@ pub field_passes : (file : List ℕ) (end : ℕ) (fault : Option FileFault) → 
 unfolding field
 field_passes file end fault whole none = rw (le-ltb (length file) end whole) none
 
-pub passes_if : (wrong : Bool) (kind : FaultKind) (place : ℕ) → wrong ≡ false → some_if wrong (fault_of kind place) ≡ None
+pub passes_if : (wrong : Bool) (kind : FaultKind) (place : ℕ) → wrong ≡ false →
+    some_if wrong (fault_of kind place) ≡ None
 passes_if true kind place e = absurd cc
 passes_if false kind place e = refl
 
-pub right_passes : (file : List ℕ) (end : ℕ) (wrong : Bool) (kind : FaultKind) (place : ℕ) → end ≤ length file → wrong ≡ false →
-    field file end (some_if wrong (fault_of kind place)) ≡ None
+pub right_passes : (file : List ℕ) (end : ℕ) (wrong : Bool) (kind : FaultKind) (place : ℕ) → end ≤ length file →
+    wrong ≡ false → field file end (some_if wrong (fault_of kind place)) ≡ None
 right_passes file end wrong kind place whole right = field_passes file end _ whole (passes_if wrong kind place right)
 
 pub both_none : (a b : Option FileFault) → a ≡ None → b ≡ None → option_or a b ≡ None
@@ -67,7 +71,8 @@ pub record StretchRight (file : List ℕ) (harts index : ℕ) : Type 0 where
   pub count : count_wrong (count_at file) index ≡ false
   pub whole : stretch_place index + 5 ≤ length file
 
-pub stretch_right : (file : List ℕ) (harts index : ℕ) → stretch_fault file harts index ≡ None → StretchRight file harts index
+pub stretch_right : (file : List ℕ) (harts index : ℕ) → stretch_fault file harts index ≡ None →
+    StretchRight file harts index
 unfolding stretch_fault
 stretch_right file harts index none =
     let place = stretch_place index in
@@ -76,7 +81,8 @@ stretch_right file harts index none =
     let count = field_right file (place + 5) (count_wrong (count_at file) index) kinds.Stretch place e.1 in
     record { hart = hart.1; count = count.1; whole = count.0 }
 
-pub stretch_passes : (file : List ℕ) (harts index : ℕ) → StretchRight file harts index → stretch_fault file harts index ≡ None
+pub stretch_passes : (file : List ℕ) (harts index : ℕ) → StretchRight file harts index →
+    stretch_fault file harts index ≡ None
 unfolding stretch_fault
 stretch_passes file harts index r =
     let place = stretch_place index in
@@ -107,17 +113,19 @@ line_passes file lines index r =
     (right_passes file (place + 4) (line_wrong (line_at file lines) index) kinds.Lines place (omega arith) r.number)
     (field_passes file (place + 68) None (omega arith) refl)
 
-pub view_right : (file : List ℕ) (views hart place : ℕ) → place ≡ views + 138 * hart → view_fault file views hart ≡ None →
-    (place + 138 ≤ length file) × (view_wrong file place ≡ false)
+pub view_right : (file : List ℕ) (views hart place : ℕ) → place ≡ views + 138 * hart →
+    view_fault file views hart ≡ None → (place + 138 ≤ length file) × (view_wrong file place ≡ false)
 unfolding view_fault
 view_right file views hart place is none =
-    rw is (field_right file (views + 138 * hart + 138) (view_wrong file (views + 138 * hart)) kinds.View (views + 138 * hart) none)
+    rw is (field_right file (views + 138 * hart + 138) (view_wrong file (views + 138 * hart)) kinds.View
+    (views + 138 * hart) none)
 
-pub view_passes : (file : List ℕ) (views hart : ℕ) → views + 138 * hart + 138 ≤ length file → view_wrong file (views + 138 * hart) ≡ false →
-    view_fault file views hart ≡ None
+pub view_passes : (file : List ℕ) (views hart : ℕ) → views + 138 * hart + 138 ≤ length file →
+    view_wrong file (views + 138 * hart) ≡ false → view_fault file views hart ≡ None
 unfolding view_fault
 view_passes file views hart whole right =
-    right_passes file (views + 138 * hart + 138) (view_wrong file (views + 138 * hart)) kinds.View (views + 138 * hart) whole right
+    right_passes file (views + 138 * hart + 138) (view_wrong file (views + 138 * hart)) kinds.View
+    (views + 138 * hart) whole right
 
 -- ---- the other fields
 
@@ -183,8 +191,10 @@ pub output_right : (file : List ℕ) (place : ℕ) → output_fault file place �
 unfolding output_fault
 output_right file place none =
     let e = or_none _ _ none in
-    let len = field_right file (place + 4) (ltb output_limit (number_at file place)) kinds.Output place e.0 in
-    (not_over output_limit (number_at file place) len.1, (field_none file (place + 4 + number_at file place) None e.1).0)
+    let len = field_right file (place + 4) (ltb output_limit (number_at file place)) kinds.Output place e.0 in (
+      not_over output_limit (number_at file place) len.1,
+      (field_none file (place + 4 + number_at file place) None e.1).0,
+    )
 
 pub output_passes : (file : List ℕ) (place len : ℕ) → number_at file place ≡ len → len ≤ output_limit →
     place + 4 + len ≤ length file → output_fault file place ≡ None
@@ -193,7 +203,8 @@ output_passes file place len is few whole =
     let short : place + 4 + number_at file place ≤ length file = rw is whole in
     let most : number_at file place ≤ output_limit = rw is few in
     both_none _ _
-    (right_passes file (place + 4) (ltb output_limit (number_at file place)) kinds.Output place (omega arith) (le-ltb output_limit (number_at file place) most))
+    (right_passes file (place + 4) (ltb output_limit (number_at file place)) kinds.Output place (omega arith)
+    (le-ltb output_limit (number_at file place) most))
     (field_passes file (place + 4 + number_at file place) None short refl)
 
 pub line_count_right : (file : List ℕ) (place : ℕ) → line_count_fault file place ≡ None →
@@ -207,7 +218,8 @@ pub line_count_passes : (file : List ℕ) (place : ℕ) → number_at file place
     line_count_fault file place ≡ None
 unfolding line_count_fault
 line_count_passes file place few whole =
-    right_passes file (place + 4) (ltb most_lines (number_at file place)) kinds.Lines place whole (le-ltb most_lines (number_at file place) few)
+    right_passes file (place + 4) (ltb most_lines (number_at file place)) kinds.Lines place whole
+    (le-ltb most_lines (number_at file place) few)
 
 pub tail_right : (file : List ℕ) (end : ℕ) → tail_fault file end ≡ None → length file ≤ end
 unfolding tail_fault

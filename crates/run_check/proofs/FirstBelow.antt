@@ -32,7 +32,8 @@ neither : (a b : Option FileFault) → option_or a b ≡ None → (a ≡ None) �
 neither None b none = (refl, none)
 neither (Some fault) b none = absurd cc
 
-pub none_each : (count : ℕ) (fault : ℕ → Option FileFault) → first_below count fault ≡ None → (k : ℕ) → k < count → fault k ≡ None
+pub none_each : (count : ℕ) (fault : ℕ → Option FileFault) → first_below count fault ≡ None → (k : ℕ) → k < count →
+    fault k ≡ None
 none_each zero fault none k within = absurd (omega arith)
 none_each (suc count) fault none k within =
     let e = neither (first_below count fault) (fault count) none in
@@ -41,8 +42,10 @@ none_each (suc count) fault none k within =
       | inr past ↦ let same : count ≡ k = omega arith in subst (λ n. fault n ≡ None) same e.1
     ]
 
-pub each_none : (count : ℕ) (fault : ℕ → Option FileFault) → ((k : ℕ) → k < count → fault k ≡ None) → first_below count fault ≡ None
+pub each_none : (count : ℕ) (fault : ℕ → Option FileFault) → ((k : ℕ) → k < count → fault k ≡ None) →
+    first_below count fault ≡ None
 each_none zero fault each = refl
 each_none (suc count) fault each =
-    ap (λ (first : Option FileFault). option_or first (fault count)) (each_none count fault (λ k within. each k (omega arith)))
+    ap (λ (first : Option FileFault). option_or first (fault count))
+    (each_none count fault (λ k within. each k (omega arith)))
     ∙ each count (omega arith)

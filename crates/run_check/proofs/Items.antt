@@ -26,5 +26,6 @@ pub patch_is : (line : LineAddr) (number : ℕ) (bytes wanted : List ℕ) → li
     patch_of line bytes ≡ patch_of (line_addr number) wanted
 patch_is line number bytes wanted same is =
     let low : number < 2 ^ 26 = subst (λ n. n < 2 ^ 26) same line.small in
-    let line-is : line ≡ line_addr number = same_line line (line_addr number) (same ∙ sym (line_addr-number number low)) in
+    let line-is : line ≡ line_addr number =
+    same_line line (line_addr number) (same ∙ sym (line_addr-number number low)) in
     ap (λ (l : LineAddr). patch_of l bytes) line-is ∙ ap (patch_of (line_addr number)) is

@@ -1,5 +1,6 @@
 -- A file without a fault is the spelling of the certificate that its fields say.
-use Rattle.std.proofs.Common.{◌≡◌, ℕ, zero, suc, ◌+◌, ◌-◌, ◌*◌, ◌≤◌, ◌<◌, Bool, true, false, cond, List, [], ◌∷◌, ◌++◌, length, map, get_or, take, drop, Some, None, refl, sym, ap, ◌∙◌, arith, inl, inr}
+use Rattle.std.proofs.Common.{◌≡◌, ℕ, zero, suc, ◌+◌, ◌-◌, ◌*◌, ◌≤◌, ◌<◌, Bool, true, false, cond, List, [], ◌∷◌, ◌++◌}
+use Rattle.std.proofs.Common.{length, map, get_or, take, drop, Some, None, refl, sym, ap, ◌∙◌, arith, inl, inr}
 use Rattle.std.specs.List.{flat_map, range_with_len}
 use Rattle.std.specs.Prelude.{◌==◌, ◌||◌}
 use Rattle.std.proofs.lemmas.Bool.{cases_lt}
@@ -13,10 +14,18 @@ use Rattle.el_base.specs.Firsts.{first_of}
 use Rattle.rv_flat.specs.FlatState.{no_hart, output_limit}
 use Rattle.run_check.specs.declared.content.Patch.{Patch}
 use Rattle.run_check.specs.declared.content.Stretch.{Stretch}
-use Rattle.run_check.specs.Faults.{certificate_fault, content_of, count_at, first_below, hart_at, harts_of, head_fault, line_at, line_count, line_count_fault, line_fault, line_place, lines_at, lines_place, number_at, output_fault, output_at, output_length, output_place, patch_at, register_at, registers_at, reserved_at, status_at, stretch_at, stretch_count, stretch_fault, stretch_place, stretches_at, tail_fault, view_at, view_fault, view_place, view_wrong, views_at}
+use Rattle.run_check.specs.Faults.{certificate_fault, content_of, count_at, first_below, hart_at, harts_of, head_fault}
+use Rattle.run_check.specs.Faults.{line_at, line_count, line_count_fault, line_fault, line_place, lines_at, lines_place}
+use Rattle.run_check.specs.Faults.{number_at, output_fault, output_at, output_length, output_place, patch_at}
+use Rattle.run_check.specs.Faults.{register_at, registers_at, reserved_at, status_at, stretch_at, stretch_count}
+use Rattle.run_check.specs.Faults.{stretch_fault, stretch_place, stretches_at, tail_fault, view_at, view_fault}
+use Rattle.run_check.specs.Faults.{view_place, view_wrong, views_at}
 use Rattle.run_check.specs.Rules.{most_lines, reservation_wrong, status_wrong, line_limit}
-use Rattle.run_check.specs.Spelling.{count_in, hart_in, head_bytes, line_in, lines_bytes, output_bytes, patch_bytes, patch_in, reserved_bytes, spelling, status_bytes, stretch_bytes, view_bytes, IsCertificate, IsReserved, IsStatus, IsView}
-use Rattle.run_check.proofs.FieldFaults.{HeadRight, LineRight, StretchRight, head_right, line_count_right, line_right, or_none, output_right, stretch_right, tail_right, view_right}
+use Rattle.run_check.specs.Spelling.{count_in, hart_in, head_bytes, line_in, lines_bytes, output_bytes, patch_bytes}
+use Rattle.run_check.specs.Spelling.{patch_in, reserved_bytes, spelling, status_bytes, stretch_bytes, view_bytes}
+use Rattle.run_check.specs.Spelling.{IsCertificate, IsReserved, IsStatus, IsView}
+use Rattle.run_check.proofs.FieldFaults.{HeadRight, LineRight, StretchRight, head_right, line_count_right, line_right}
+use Rattle.run_check.proofs.FieldFaults.{or_none, output_right, stretch_right, tail_right, view_right}
 use Rattle.run_check.proofs.FirstBelow.{none_each}
 use Rattle.run_check.proofs.Pieces.{IsBytes, byte_piece, items_piece, number_piece, number_small, piece_sum, split_at}
 use Rattle.run_check.proofs.RulesSame.{hart_below, line_below, same_count_rule, same_hart_rule, same_line_rule}
@@ -26,7 +35,8 @@ pub record Faultless (file : List ℕ) : Type 0 where
   pub head : HeadRight file
   pub stretches : (k : ℕ) → k < stretch_count file → StretchRight file (harts_of file) k
   pub stretches_whole : view_place file 0 ≤ length file
-  pub views : (k : ℕ) → k < harts_of file → (view_place file k + 138 ≤ length file) × (view_wrong file (view_place file k) ≡ false)
+  pub views : (k : ℕ) → k < harts_of file → (view_place file k + 138 ≤ length file)
+      × (view_wrong file (view_place file k) ≡ false)
   pub output_few : output_length file ≤ output_limit
   pub output_whole : lines_place file ≤ length file
   pub few_lines : line_count file ≤ most_lines
@@ -34,8 +44,8 @@ pub record Faultless (file : List ℕ) : Type 0 where
   pub lines : (k : ℕ) → k < line_count file → LineRight file (lines_place file) k
   pub end : length file ≤ line_place (lines_place file) (line_count file)
 
-stretches_end : (file : List ℕ) (harts count : ℕ) → 10 ≤ length file → ((k : ℕ) → k < count → StretchRight file harts k) →
-    stretch_place count ≤ length file
+stretches_end : (file : List ℕ) (harts count : ℕ) → 10 ≤ length file →
+    ((k : ℕ) → k < count → StretchRight file harts k) → stretch_place count ≤ length file
 stretches_end file harts zero long each = omega arith
 stretches_end file harts (suc count) long each = let last = (each count (omega arith)).whole in omega arith
 
@@ -57,7 +67,8 @@ faultless_of file none =
     let e6 = or_none (tail_fault file (line_place (lines_place file) (line_count file))) None e5.1 in
     let head = head_right file e0.0 in
     let each : (k : ℕ) → k < stretch_count file → StretchRight file (harts_of file) k =
-    λ k within. stretch_right file (harts_of file) k (none_each (stretch_count file) (stretch_fault file (harts_of file)) e1.0 k within)
+    λ k within. stretch_right file (harts_of file) k
+    (none_each (stretch_count file) (stretch_fault file (harts_of file)) e1.0 k within)
     in
     let whole = stretches_end file (harts_of file) (stretch_count file) head.whole each in
     let out = output_right file (output_place file) e3.0 in
@@ -102,7 +113,8 @@ patch_piece file lines k fits r =
     let low = line_below (line_at file lines) k r.number in
     piece_sum place 4 64 file
     ∙ ap (λ (l : List ℕ). l ++ take 64 (drop (place + 4) file)) (number_piece file place fits (omega arith))
-    ∙ ap (λ (n : ℕ). little_bytes 4 n ++ take 64 (drop (place + 4) file)) (sym (line_addr-number (line_at file lines k) low))
+    ∙ ap (λ (n : ℕ). little_bytes 4 n ++ take 64 (drop (place + 4) file))
+    (sym (line_addr-number (line_at file lines k) low))
 
 reserved_spelled : (flag word : ℕ) → reservation_wrong flag word ≡ false →
     flag ∷ little_bytes 4 word ≡ reserved_bytes (reserved_at flag word)
@@ -141,7 +153,8 @@ view_piece : (file : List ℕ) (place : ℕ) → IsBytes file → place + 138 �
 unfolding view_at
 view_piece file place fits long right =
     let wrongs = neither (reservation_wrong (get_or file (place + 128) 0) (number_at file (place + 129))) _ right in
-    let reserved : take 5 (drop (place + 128) file) ≡ reserved_bytes (reserved_at (get_or file (place + 128) 0) (number_at file (place + 129))) =
+    let reserved : take 5 (drop (place + 128) file)
+    ≡ reserved_bytes (reserved_at (get_or file (place + 128) 0) (number_at file (place + 129))) =
     piece_sum (place + 128) 1 4 file
     ∙ ap (λ (l : List ℕ). l ++ take 4 (drop (place + 128 + 1) file)) (byte_piece file (place + 128) (omega arith))
     ∙ ap (λ (n : ℕ). get_or file (place + 128) 0 ∷ take 4 (drop n file)) (omega arith)
@@ -163,13 +176,17 @@ view_piece file place fits long right =
     in
     let ends : take 10 (drop (place + 128) file) ≡
     take 5 (drop (place + 128) file) ++ take 5 (drop (place + 133) file) =
-    piece_sum (place + 128) 5 5 file ∙ ap (λ (n : ℕ). take 5 (drop (place + 128) file) ++ take 5 (drop n file)) (omega arith)
+    piece_sum (place + 128) 5 5 file ∙ ap (λ (n : ℕ). take 5 (drop (place + 128) file) ++ take 5 (drop n file))
+    (omega arith)
     in
-    let behind : take 134 (drop (place + 4) file) ≡ take 124 (drop (place + 4) file) ++ take 10 (drop (place + 128) file) =
-    piece_sum (place + 4) 124 10 file ∙ ap (λ (n : ℕ). take 124 (drop (place + 4) file) ++ take 10 (drop n file)) (omega arith)
+    let behind : take 134 (drop (place + 4) file)
+    ≡ take 124 (drop (place + 4) file) ++ take 10 (drop (place + 128) file) =
+    piece_sum (place + 4) 124 10 file ∙ ap (λ (n : ℕ). take 124 (drop (place + 4) file) ++ take 10 (drop n file))
+    (omega arith)
     in
     piece_sum place 4 134 file
-    ∙ ap (λ (l : List ℕ). take 4 (drop place file) ++ l) (behind ∙ ap (λ (l : List ℕ). take 124 (drop (place + 4) file) ++ l) ends)
+    ∙ ap (λ (l : List ℕ). take 4 (drop place file) ++ l)
+    (behind ∙ ap (λ (l : List ℕ). take 124 (drop (place + 4) file) ++ l) ends)
     ∙ rw (number_piece file place fits (omega arith), words, reserved, status) refl
 
 -- ---- the whole file is spelled
@@ -178,7 +195,8 @@ letters_spelled : (file : List ℕ) → IsBytes file → HeadRight file →
     file ≡ head_bytes (harts_of file) (stretch_count file) ++ drop 10 file
 letters_spelled file fits r =
     let long = r.whole in
-    let byte : (k : ℕ) → k < 10 → take 1 (drop k file) ≡ get_or file k 0 ∷ [] = λ k within. byte_piece file k (omega arith) in
+    let byte : (k : ℕ) → k < 10 → take 1 (drop k file) ≡ get_or file k 0 ∷ [] =
+    λ k within. byte_piece file k (omega arith) in
     split_at 0 6 file
     ∙ ap (λ (l : List ℕ). l ++ drop 6 file)
     (piece_sum 0 1 5 file ∙ ap (λ (l : List ℕ). take 1 file ++ l)
@@ -186,7 +204,8 @@ letters_spelled file fits r =
     (piece_sum 2 1 3 file ∙ ap (λ (l : List ℕ). take 1 (drop 2 file) ++ l)
     (piece_sum 3 1 2 file ∙ ap (λ (l : List ℕ). take 1 (drop 3 file) ++ l) (piece_sum 4 1 1 file)))))
     ∙ ap (λ (l : List ℕ).
-    (take 1 file ++ (take 1 (drop 1 file) ++ (take 1 (drop 2 file) ++ (take 1 (drop 3 file) ++ (take 1 (drop 4 file) ++ take 1 (drop 5 file)))))) ++ l)
+    (take 1 file ++ (take 1 (drop 1 file) ++ (take 1 (drop 2 file)
+    ++ (take 1 (drop 3 file) ++ (take 1 (drop 4 file) ++ take 1 (drop 5 file)))))) ++ l)
     (split_at 6 4 file ∙ ap (λ (l : List ℕ). l ++ drop 10 file) (number_piece file 6 fits (omega arith)))
     ∙ rw (
       byte 0 (omega arith),
@@ -245,14 +264,16 @@ lines_spelled file fits f =
     let place = lines_place file in
     let whole = f.count_whole in
     let end = f.end in
-    let many : length (lines_at file) ≡ line_count file = length-map-range_with_len (patch_at file place) 0 (line_count file) in
+    let many : length (lines_at file) ≡ line_count file =
+    length-map-range_with_len (patch_at file place) 0 (line_count file) in
     let items : take (68 * line_count file) (drop (place + 4) file) ≡ flat_map patch_bytes (lines_at file) =
     items_piece patch_bytes (patch_at file place) (place + 4) 68 file (line_count file)
     (λ k within. patch_piece file place k fits (f.lines k within))
     in
     let rest : drop (place + 4) file ≡ flat_map patch_bytes (lines_at file) =
     split_at (place + 4) (68 * line_count file) file
-    ∙ ap (λ (l : List ℕ). take (68 * line_count file) (drop (place + 4) file) ++ l) (drop_all (place + 4 + 68 * line_count file) file (omega arith))
+    ∙ ap (λ (l : List ℕ). take (68 * line_count file) (drop (place + 4) file) ++ l)
+    (drop_all (place + 4 + 68 * line_count file) file (omega arith))
     ∙ append-nil _
     ∙ items
     in
@@ -264,15 +285,19 @@ lines_spelled file fits f =
 whole_spelled : (file : List ℕ) → IsBytes file → Faultless file → file ≡ spelling (content_of file)
 unfolding content_of
 whole_spelled file fits f =
-    let many : length (stretches_at file) ≡ stretch_count file = length-map-range_with_len (stretch_at file) 0 (stretch_count file) in
+    let many : length (stretches_at file) ≡ stretch_count file =
+    length-map-range_with_len (stretch_at file) 0 (stretch_count file) in
     let lines = lines_spelled file fits f in
     let output = output_spelled file fits f ∙ ap (λ (l : List ℕ). output_bytes (output_at file) ++ l) lines in
     let views = views_spelled file fits f ∙ ap (λ (l : List ℕ). flat_map view_bytes (views_at file) ++ l) output in
-    let stretches = stretches_spelled file fits f ∙ ap (λ (l : List ℕ). flat_map stretch_bytes (stretches_at file) ++ l) views in
+    let stretches =
+    stretches_spelled file fits f ∙ ap (λ (l : List ℕ). flat_map stretch_bytes (stretches_at file) ++ l) views in
     letters_spelled file fits f.head
     ∙ ap (λ (l : List ℕ). head_bytes (harts_of file) (stretch_count file) ++ l) stretches
     ∙ ap (λ (n : ℕ).
-    head_bytes (harts_of file) n ++ (flat_map stretch_bytes (stretches_at file) ++ (flat_map view_bytes (views_at file) ++ (output_bytes (output_at file) ++ lines_bytes (lines_at file))))) (sym many)
+    head_bytes (harts_of file) n ++ (flat_map stretch_bytes (stretches_at file)
+    ++ (flat_map view_bytes (views_at file) ++ (output_bytes (output_at file) ++ lines_bytes (lines_at file)))))
+    (sym many)
 
 -- ---- what is spelled keeps the rules
 
@@ -283,7 +308,8 @@ reserved_where false word small = small
 reserved_is : (flag word : ℕ) → word < 4294967296 → IsReserved (reserved_at flag word)
 reserved_is flag word small = reserved_where (flag == 0) word small
 
-status_is : (status number pc : ℕ) → status_wrong status number ≡ false → number < 4294967296 → IsStatus pc (status_at status number pc)
+status_is : (status number pc : ℕ) → status_wrong status number ≡ false → number < 4294967296 →
+    IsStatus pc (status_at status number pc)
 status_is zero number pc right small = tt
 status_is (suc zero) number pc right small = small
 status_is (suc (suc zero)) number pc right small = (grind (arith, nat_tests), refl)
@@ -293,14 +319,16 @@ register_small : (file : List ℕ) (place register : ℕ) → IsBytes file → r
 register_small file place zero fits = omega arith
 register_small file place (suc k) fits = rw (register_behind file place k) (number_small file (place + 4 * suc k) fits)
 
-registers_small : (file : List ℕ) (place register : ℕ) → IsBytes file → get_or (registers_at file place) register 0 < 4294967296
+registers_small : (file : List ℕ) (place register : ℕ) → IsBytes file →
+    get_or (registers_at file place) register 0 < 4294967296
 registers_small file place register fits =
     elim (cases_lt register 32) [
       | inl within ↦
           rw (get_or-map-range_with_len (register_at file place) 0 32 register register 0 within (omega arith))
           (register_small file place register fits)
       | inr past ↦
-          rw (get_or_past (registers_at file place) register 0 (omega (arith, length-map-range_with_len (register_at file place) 0 32)))
+          rw (get_or_past (registers_at file place) register 0
+          (omega (arith, length-map-range_with_len (register_at file place) 0 32)))
           (omega arith)
     ]
 
@@ -313,35 +341,46 @@ view_is file place fits right =
       registers = length-map-range_with_len (register_at file place) 0 32;
       zero_is_0 = refl;
       words = λ register. registers_small file place register fits;
-      reserved = reserved_is (get_or file (place + 128) 0) (number_at file (place + 129)) (number_small file (place + 129) fits);
-      status = status_is (get_or file (place + 133) 0) (number_at file (place + 134)) (number_at file place) wrongs.1 (number_small file (place + 134) fits);
+      reserved =
+          reserved_is (get_or file (place + 128) 0) (number_at file (place + 129))
+          (number_small file (place + 129) fits);
+      status =
+          status_is (get_or file (place + 133) 0) (number_at file (place + 134)) (number_at file place) wrongs.1
+          (number_small file (place + 134) fits);
     }
 
-hart_in_file : (file : List ℕ) (k : ℕ) → k < stretch_count file → hart_at file k < 8 → hart_in (stretches_at file) k ≡ hart_at file k
+hart_in_file : (file : List ℕ) (k : ℕ) → k < stretch_count file → hart_at file k < 8 →
+    hart_in (stretches_at file) k ≡ hart_at file k
 hart_in_file file k within low =
-    ap (λ (s : Stretch). s.hart.number) (get_or-map-range_with_len (stretch_at file) 0 (stretch_count file) k k _ within (omega arith))
+    ap (λ (s : Stretch). s.hart.number) (get_or-map-range_with_len (stretch_at file) 0 (stretch_count file) k k _ within
+    (omega arith))
     ∙ hart_id-number (hart_at file k) low
 
 count_in_file : (file : List ℕ) (k : ℕ) → k < stretch_count file → count_in (stretches_at file) k ≡ count_at file k
 count_in_file file k within =
-    ap (λ (s : Stretch). s.count) (get_or-map-range_with_len (stretch_at file) 0 (stretch_count file) k k _ within (omega arith))
+    ap (λ (s : Stretch). s.count) (get_or-map-range_with_len (stretch_at file) 0 (stretch_count file) k k _ within
+    (omega arith))
 
-patch_in_file : (file : List ℕ) (k : ℕ) → k < line_count file → patch_in (lines_at file) k ≡ patch_at file (lines_place file) k
+patch_in_file : (file : List ℕ) (k : ℕ) → k < line_count file →
+    patch_in (lines_at file) k ≡ patch_at file (lines_place file) k
 patch_in_file file k within =
     get_or-map-range_with_len (patch_at file (lines_place file)) 0 (line_count file) k k _ within (omega arith)
 
 line_in_file : (file : List ℕ) (k : ℕ) → k < line_count file → line_at file (lines_place file) k < line_limit →
     line_in (lines_at file) k ≡ line_at file (lines_place file) k
 line_in_file file k within low =
-    ap (λ (p : Patch). p.line.number) (patch_in_file file k within) ∙ line_addr-number (line_at file (lines_place file) k) low
+    ap (λ (p : Patch). p.line.number) (patch_in_file file k within)
+    ∙ line_addr-number (line_at file (lines_place file) k) low
 
 rules_kept : (file : List ℕ) → IsBytes file → Faultless file → IsCertificate (content_of file)
 unfolding content_of
 rules_kept file fits f =
     let few = f.head.few_harts in
-    let n : length (stretches_at file) ≡ stretch_count file = length-map-range_with_len (stretch_at file) 0 (stretch_count file) in
+    let n : length (stretches_at file) ≡ stretch_count file =
+    length-map-range_with_len (stretch_at file) 0 (stretch_count file) in
     let v : length (views_at file) ≡ harts_of file = length-map-range_with_len _ 0 (harts_of file) in
-    let m : length (lines_at file) ≡ line_count file = length-map-range_with_len (patch_at file (lines_place file)) 0 (line_count file) in
+    let m : length (lines_at file) ≡ line_count file =
+    length-map-range_with_len (patch_at file (lines_place file)) 0 (line_count file) in
     let hart-low : (k : ℕ) → k < stretch_count file → hart_at file k < 8 =
     λ k within. omega (arith, hart_below (harts_of file) (hart_at file) k (f.stretches k within).hart)
     in
@@ -356,7 +395,8 @@ rules_kept file fits f =
       few_harts = few;
       harts =
           λ k within.
-          same_hart_rule (harts_of file) (hart_in (stretches_at file)) (hart_at file) k (hart-is k (omega arith)) (hart-is (k - 1) (omega arith))
+          same_hart_rule (harts_of file) (hart_in (stretches_at file)) (hart_at file) k (hart-is k (omega arith))
+          (hart-is (k - 1) (omega arith))
           ∙ (f.stretches k (omega arith)).hart;
       counts =
           λ k within.
@@ -366,7 +406,9 @@ rules_kept file fits f =
       views =
           λ k within.
           let inside : k < harts_of file = omega arith in
-          let is = get_or-map-range_with_len (λ hart. view_at file (view_place file hart)) 0 (harts_of file) k k no_hart inside (omega arith) in
+          let is =
+          get_or-map-range_with_len (λ hart. view_at file (view_place file hart)) 0
+          (harts_of file) k k no_hart inside (omega arith) in
           rw is (view_is file (view_place file k) fits (f.views k inside).1);
       output =
           let short = length-take-le (output_length file) (drop (output_place file + 4) file)
@@ -376,7 +418,8 @@ rules_kept file fits f =
       few_lines = let few = f.few_lines in omega arith;
       lines =
           λ k within.
-          same_line_rule (line_in (lines_at file)) (line_at file (lines_place file)) k (line-is k (omega arith)) (line-is (k - 1) (omega arith))
+          same_line_rule (line_in (lines_at file)) (line_at file (lines_place file)) k (line-is k (omega arith))
+          (line-is (k - 1) (omega arith))
           ∙ (f.lines k (omega arith)).number;
       line_bytes =
           λ k within.

@@ -1,5 +1,6 @@
 -- Pieces of a list of bytes.
-use Rattle.std.proofs.Common.{◌≡◌, ℕ, zero, suc, ◌+◌, ◌*◌, ◌/◌, ◌%◌, ◌≤◌, ◌<◌, List, [], ◌∷◌, ◌++◌, length, map, get_or, take, drop, refl, sym, ap, ◌∙◌, append_assoc, zero-add, add-one, arith}
+use Rattle.std.proofs.Common.{◌≡◌, ℕ, zero, suc, ◌+◌, ◌*◌, ◌/◌, ◌%◌, ◌≤◌, ◌<◌, List, [], ◌∷◌, ◌++◌, length, map, get_or}
+use Rattle.std.proofs.Common.{take, drop, refl, sym, ap, ◌∙◌, append_assoc, zero-add, add-one, arith}
 use Rattle.std.specs.List.{flat_map, range_with_len}
 use Rattle.std.proofs.Math.Seq.{drop-cons}
 use Rattle.std.proofs.lemmas.List.{append-nil, drop-drop, drop-take, drop_at, get_or-drop, length-drop, take-append-drop, take-take}
@@ -27,7 +28,8 @@ split_at place len file =
 pub piece_sum : (place m n : ℕ) (file : List ℕ) →
     take (m + n) (drop place file) ≡ take m (drop place file) ++ take n (drop (place + m) file)
 piece_sum place m n file =
-    take_sum m n (drop place file) ∙ ap (λ (rest : List ℕ). take m (drop place file) ++ take n rest) (drop-drop m place file)
+    take_sum m n (drop place file) ∙ ap (λ (rest : List ℕ). take m (drop place file) ++ take n rest)
+    (drop-drop m place file)
 
 -- ---- bytes and numbers
 
@@ -57,7 +59,8 @@ bytes_behind place file fits i = rw get_or-drop (fits (place + i))
 
 four_bytes : (bytes : List ℕ) → IsBytes bytes → 4 ≤ length bytes → take 4 bytes ≡ little_bytes 4 (little_number 4 bytes)
 four_bytes bytes fits long =
-    ap (take 4) (front bytes long) ∙ sym (cells_of (little_number 4 bytes) _ _ _ _ refl (fits 0) (fits 1) (fits 2) (fits 3))
+    ap (take 4) (front bytes long) ∙ sym (cells_of (little_number 4 bytes) _ _ _ _ refl (fits 0) (fits 1) (fits 2)
+    (fits 3))
 
 -- four bytes are those of their number
 pub number_piece : (file : List ℕ) (place : ℕ) → IsBytes file → place + 4 ≤ length file →
@@ -93,7 +96,8 @@ items_piece {X} bytes at place size file (suc count) each =
     let one : flat_map bytes (at count ∷ []) ≡ bytes (at count) = append-nil (bytes (at count)) in
     let more : map at (range_with_len 0 (count + 1)) ≡ map at (range_with_len 0 count) ++ at count ∷ [] =
     map-range_with_len_more at 0 count count (zero-add count) in
-    let listed : flat_map bytes (map at (range_with_len 0 (suc count))) ≡ flat_map bytes (map at (range_with_len 0 count)) ++ bytes (at count) =
+    let listed : flat_map bytes (map at (range_with_len 0 (suc count)))
+    ≡ flat_map bytes (map at (range_with_len 0 count)) ++ bytes (at count) =
     ap (λ n. flat_map bytes (map at (range_with_len 0 n))) (sym (add-one count))
     ∙ ap (flat_map bytes) more
     ∙ flat_map-append bytes (map at (range_with_len 0 count)) (at count ∷ [])
@@ -116,7 +120,8 @@ item_behind bytes size (x ∷ xs) rest zero d each within =
 item_behind bytes size (x ∷ xs) rest (suc k) d each within =
     let sum : size * suc k ≡ size + size * k = omega arith in
     let long : length (bytes x) ≡ size = each 0 (omega arith) in
-    let whole : flat_map bytes (x ∷ xs) ++ rest ≡ bytes x ++ (flat_map bytes xs ++ rest) = append_assoc (bytes x) (flat_map bytes xs) rest in
+    let whole : flat_map bytes (x ∷ xs) ++ rest ≡ bytes x ++ (flat_map bytes xs ++ rest) =
+    append_assoc (bytes x) (flat_map bytes xs) rest in
     ap (λ n. drop n (flat_map bytes (x ∷ xs) ++ rest)) sum
     ∙ sym (drop-drop (size * k) size (flat_map bytes (x ∷ xs) ++ rest))
     ∙ ap (λ (l : List ℕ). drop (size * k) (drop size l)) whole
@@ -131,7 +136,8 @@ behind_all bytes size [] rest d each = let none : size * 0 ≡ 0 = omega arith i
 behind_all bytes size (x ∷ xs) rest d each =
     let sum : size * suc (length xs) ≡ size + size * length xs = omega arith in
     let long : length (bytes x) ≡ size = each 0 (omega arith) in
-    let whole : flat_map bytes (x ∷ xs) ++ rest ≡ bytes x ++ (flat_map bytes xs ++ rest) = append_assoc (bytes x) (flat_map bytes xs) rest in
+    let whole : flat_map bytes (x ∷ xs) ++ rest ≡ bytes x ++ (flat_map bytes xs ++ rest) =
+    append_assoc (bytes x) (flat_map bytes xs) rest in
     ap (λ n. drop n (flat_map bytes (x ∷ xs) ++ rest)) sum
     ∙ sym (drop-drop (size * length xs) size (flat_map bytes (x ∷ xs) ++ rest))
     ∙ ap (λ (l : List ℕ). drop (size * length xs) (drop size l)) whole

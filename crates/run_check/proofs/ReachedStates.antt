@@ -33,7 +33,8 @@ use Rattle.run_check.proofs.Runs.{reached_base, reached_harts, reached_size}
 abbrev IsAtTrap : HartView → Type 0
 IsAtTrap view = StandsAtTrap view.pc view.status
 
-performed : (action : Action) (view : HartView) (byte : ℕ → ℕ) → view.status ≡ Running → IsAtTrap (view_after (perform action view byte) view)
+performed : (action : Action) (view : HartView) (byte : ℕ → ℕ) → view.status ≡ Running →
+    IsAtTrap (view_after (perform action view byte) view)
 performed (actions.Trap cause) view byte runs = refl
 performed (actions.Exit code) view byte runs = tt
 performed (actions.Put rd value) view byte runs = rw runs tt
@@ -79,9 +80,12 @@ step_at_traps state hart at other within =
             | inl same ↦
                 let inside : hart < length state.harts = omega arith in
                 rw (same, own_view state hart inside runs)
-                (executed_at_trap (code_word state.code (view_of state hart).pc) (view_of state hart) (span_of state) (room_of state)
+                (executed_at_trap (code_word state.code (view_of state hart).pc) (view_of state hart) (span_of state)
+                (room_of state)
                 (byte_in state.base state.bytes) runs)
-            | inr apart ↦ rw (keeps_others state hart other apart) (seen_at_trap (footprint_of state hart) (view_of state other) (at other there))
+            | inr apart ↦
+                rw (keeps_others state hart other apart) (seen_at_trap (footprint_of state hart) (view_of state other)
+                (at other there))
           ]
       | inr stopped ↦ rw (still state hart stopped) (at other there)
     ]
@@ -116,8 +120,9 @@ unfolding executed
 executed_room None view span room byte = tt
 executed_room (Some word) view span room byte = insn_room (decoded word) view span room byte
 
-appended_fits : (append : Option Append) (base limit : ℕ) (bytes output : List ℕ) → IfSome append (λ append. append.len ≤ limit - length output) →
-    length output ≤ limit → length (appended_by append base bytes output) ≤ limit
+appended_fits : (append : Option Append) (base limit : ℕ) (bytes output : List ℕ) →
+    IfSome append (λ append. append.len ≤ limit - length output) → length output ≤ limit →
+    length (appended_by append base bytes output) ≤ limit
 appended_fits None base limit bytes output room few = few
 appended_fits (Some append) base limit bytes output room few =
     omega (
@@ -127,18 +132,22 @@ appended_fits (Some append) base limit bytes output room few =
       length-take append.len (drop (append.address - base) bytes),
     )
 
-step_output : (state : FlatState) (hart : ℕ) → length state.output ≤ output_limit → length (flat state hart).output ≤ output_limit
+step_output : (state : FlatState) (hart : ℕ) → length state.output ≤ output_limit →
+    length (flat state hart).output ≤ output_limit
 step_output state hart few =
     elim (runs_or_not (status_of state hart)) [
       | inl runs ↦
           rw (running state hart runs)
-          (appended_fits (append_in (execution_of state (view_of state hart))) state.base output_limit state.bytes state.output
-          (executed_room (code_word state.code (view_of state hart).pc) (view_of state hart) (span_of state) (room_of state) (byte_in state.base state.bytes))
+          (appended_fits (append_in (execution_of state (view_of state hart))) state.base output_limit state.bytes
+          state.output
+          (executed_room (code_word state.code (view_of state hart).pc) (view_of state hart) (span_of state)
+          (room_of state) (byte_in state.base state.bytes))
           few)
       | inr stopped ↦ rw (still state hart stopped) few
     ]
 
-run_output : (state : FlatState) (harts : List ℕ) → length state.output ≤ output_limit → length (run state harts).output ≤ output_limit
+run_output : (state : FlatState) (harts : List ℕ) → length state.output ≤ output_limit →
+    length (run state harts).output ≤ output_limit
 run_output state [] few = few
 run_output state (hart ∷ harts) few = run_output (flat state hart) harts (step_output state hart few)
 
@@ -146,7 +155,8 @@ start_output : (program : Program) → length (start program).output ≤ output_
 unfolding start
 start_output program = omega arith
 
-pub reached_is_state : (program : Program) (state : FlatState) (harts : List ℕ) → state ≡ run (start program) harts → IsStateOf program state
+pub reached_is_state : (program : Program) (state : FlatState) (harts : List ℕ) → state ≡ run (start program) harts →
+    IsStateOf program state
 reached_is_state program state harts ran =
     rw ran
     (record {

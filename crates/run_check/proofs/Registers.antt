@@ -4,9 +4,10 @@ use Rattle.std.specs.List.{flat_map}
 use Rattle.std.proofs.lemmas.List.{flat_map_more, get_or-drop, length-drop, take_more}
 use Rattle.byteorder.specs.Endian.{little_bytes}
 
-pub register_more : (regs old before after : List ℕ) (number value : ℕ) → 1 ≤ number → number < length regs → value ≡ get_or regs number 0 →
-    before ≡ old ++ flat_map (little_bytes 4) (take (number - 1) (drop 1 regs)) → after ≡ before ++ little_bytes 4 value →
-    after ≡ old ++ flat_map (little_bytes 4) (take (number + 1 - 1) (drop 1 regs))
+pub register_more : (regs old before after : List ℕ) (number value : ℕ) → 1 ≤ number → number < length regs →
+    value ≡ get_or regs number 0 → before ≡ old ++ flat_map (little_bytes 4) (take (number - 1) (drop 1 regs)) →
+    after ≡ before ++ little_bytes 4 value → after
+    ≡ old ++ flat_map (little_bytes 4) (take (number + 1 - 1) (drop 1 regs))
 register_more regs old before after number value some within is so-far pushed =
     let k = number - 1 in
     let words = drop 1 regs in

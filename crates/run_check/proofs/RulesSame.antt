@@ -11,14 +11,16 @@ pub same_line_rule : (f g : ℕ → ℕ) (index : ℕ) → f index ≡ g index �
     line_wrong f index ≡ line_wrong g index
 same_line_rule f g index here before = rw (here, before) refl
 
-pub same_steps : (f g : ℕ → ℕ) (index : ℕ) → ((k : ℕ) → k < index → f k ≡ g k) → steps_before f index ≡ steps_before g index
+pub same_steps : (f g : ℕ → ℕ) (index : ℕ) → ((k : ℕ) → k < index → f k ≡ g k) →
+    steps_before f index ≡ steps_before g index
 same_steps f g zero each = refl
 same_steps f g (suc index) each =
     let before = same_steps f g index (λ k within. each k (omega arith)) in
     let last = each index (omega arith) in
     rw (before, last) refl
 
-pub same_count_rule : (f g : ℕ → ℕ) (index : ℕ) → ((k : ℕ) → k < suc index → f k ≡ g k) → count_wrong f index ≡ count_wrong g index
+pub same_count_rule : (f g : ℕ → ℕ) (index : ℕ) → ((k : ℕ) → k < suc index → f k ≡ g k) →
+    count_wrong f index ≡ count_wrong g index
 same_count_rule f g index each =
     let before = same_steps f g index (λ k within. each k (omega arith)) in
     let last = each index (omega arith) in

@@ -1,5 +1,6 @@
 -- Runs of stretches.
-use Rattle.std.proofs.Common.{◌≡◌, ◌≢◌, ℕ, zero, suc, ◌+◌, ◌≤◌, ◌<◌, List, [], ◌∷◌, ◌++◌, length, get_or, take, Option, Some, refl, sym, ap, subst, ◌∙◌, arith, add-one}
+use Rattle.std.proofs.Common.{◌≡◌, ◌≢◌, ℕ, zero, suc, ◌+◌, ◌≤◌, ◌<◌, List, [], ◌∷◌, ◌++◌, length, get_or, take, Option}
+use Rattle.std.proofs.Common.{Some, refl, sym, ap, subst, ◌∙◌, arith, add-one}
 use Rattle.std.specs.List.{slice_get}
 use Rattle.std.specs.Prelude.{slice_index_or}
 use Rattle.std.proofs.lemmas.List.{append-nil, length-append, length-replicate, take_all, take_more}
@@ -19,9 +20,9 @@ use Rattle.run_check.specs.Spelling.{count_in}
 use Rattle.run_check.specs.declared.content.Stretch.{Stretch}
 
 -- what two reads gave
-pub both_read : (harts views : List HartView) (number from : ℕ) (mine his : HartView) → from ≡ number → number < length harts →
-    number < length views → mine ≡ slice_index_or harts number no_hart → his ≡ get_or views from his →
-    (slice_get harts number ≡ Some mine) × (slice_get views number ≡ Some his)
+pub both_read : (harts views : List HartView) (number from : ℕ) (mine his : HartView) → from ≡ number →
+    number < length harts → number < length views → mine ≡ slice_index_or harts number no_hart →
+    his ≡ get_or views from his → (slice_get harts number ≡ Some mine) × (slice_get views number ≡ Some his)
 both_read harts views number from mine his same in-harts in-views is read = (
   slice_get-get_or harts number no_hart in-harts ∙ ap (λ (v : HartView). Some v) (sym is),
   slice_get_read views (length views) number his refl in-views (subst (λ n. his ≡ get_or views n his) same read),
@@ -31,8 +32,8 @@ pub some_differ : {X : Type 0} {a b : Option X} {x y : X} → a ≡ Some x → b
 some_differ is is' differ same = differ cc
 
 -- one step more
-pub step_more : (initial before after : FlatState) (hart n : ℕ) → before ≡ alone initial hart n → after ≡ flat before hart →
-    after ≡ alone initial hart (n + 1)
+pub step_more : (initial before after : FlatState) (hart n : ℕ) → before ≡ alone initial hart n →
+    after ≡ flat before hart → after ≡ alone initial hart (n + 1)
 step_more initial before after hart n ran stepped =
     stepped ∙ ap (λ s. flat s hart) ran ∙ sym (alone_sum initial hart n 1)
 
@@ -50,16 +51,17 @@ written_more xs i stretch d within is =
     ∙ flat_map-append steps_in (take i xs) (stretch ∷ [])
     ∙ ap (λ (l : List ℕ). written_out (take i xs) ++ l) (append-nil (steps_in stretch))
 
-pub stretch_more : (initial before after : FlatState) (xs : List Stretch) (i : ℕ) (stretch d : Stretch) → i < length xs → get_or xs i d ≡ stretch →
-    before ≡ run initial (written_out (take i xs)) → after ≡ run before (steps_in stretch) →
-    after ≡ run initial (written_out (take (i + 1) xs))
+pub stretch_more : (initial before after : FlatState) (xs : List Stretch) (i : ℕ) (stretch d : Stretch) →
+    i < length xs → get_or xs i d ≡ stretch → before ≡ run initial (written_out (take i xs)) →
+    after ≡ run before (steps_in stretch) → after ≡ run initial (written_out (take (i + 1) xs))
 stretch_more initial before after xs i stretch d within is ran more =
     more
     ∙ ap (λ s. run s (steps_in stretch)) ran
     ∙ sym (run_append initial (written_out (take i xs)) (steps_in stretch))
     ∙ ap (run initial) (sym (written_more xs i stretch d within is))
 
-pub length_written : (xs : List Stretch) (i : ℕ) → i ≤ length xs → length (written_out (take i xs)) ≡ steps_before (count_in xs) i
+pub length_written : (xs : List Stretch) (i : ℕ) → i ≤ length xs →
+    length (written_out (take i xs)) ≡ steps_before (count_in xs) i
 length_written xs zero within = refl
 length_written xs (suc i) within =
     let before = length_written xs i (omega arith) in
@@ -94,8 +96,9 @@ run_keeps state (hart ∷ harts) =
     }
 
 -- the steps so far, and those of one stretch more
-pub step_counts : (xs : List Stretch) (i : ℕ) (stretch : Stretch) (steps count : ℕ) → get_or xs i (record { hart = hart_id 0; count = 0 }) ≡ stretch →
-    steps ≡ steps_before (count_in xs) i → count ≡ stretch.count → steps + count ≡ steps_before (count_in xs) (i + 1)
+pub step_counts : (xs : List Stretch) (i : ℕ) (stretch : Stretch) (steps count : ℕ) →
+    get_or xs i (record { hart = hart_id 0; count = 0 }) ≡ stretch → steps ≡ steps_before (count_in xs) i →
+    count ≡ stretch.count → steps + count ≡ steps_before (count_in xs) (i + 1)
 step_counts xs i stretch steps count is before own =
     let here : count_in xs i ≡ stretch.count = ap (λ (s : Stretch). s.count) is in
     let sum : steps + count ≡ steps_before (count_in xs) (suc i) = omega (arith, before, own, here) in
@@ -123,7 +126,8 @@ start_bytes program = refl
 pub reached_base : (program : Program) (harts : List ℕ) → (run (start program) harts).base ≡ program.base
 reached_base program harts = (run_keeps (start program) harts).base ∙ start_base program
 
-pub reached_size : (program : Program) (harts : List ℕ) → length (run (start program) harts).bytes ≡ length program.bytes
+pub reached_size : (program : Program) (harts : List ℕ) →
+    length (run (start program) harts).bytes ≡ length program.bytes
 reached_size program harts = (run_keeps (start program) harts).bytes ∙ ap length (start_bytes program)
 
 pub reached_harts : (program : Program) (harts : List ℕ) → length (run (start program) harts).harts ≡ program.harts

@@ -1,12 +1,13 @@
 -- The certificate of a history and of the state that a run of its serial order reaches holds.
-use Rattle.std.proofs.Common.{◌≡◌, ◌≢◌, ℕ, zero, suc, ◌+◌, ◌-◌, ◌*◌, ◌/◌, ◌%◌, ◌≤◌, ◌<◌, Bool, true, false, not, cond, ◌==◌, List, [], ◌∷◌, ◌++◌, length, get_or, drop, Option, Some, None, refl, sym, ap, subst, ◌∙◌, arith, inl, inr}
+use Rattle.std.proofs.Common.{◌≡◌, ◌≢◌, ℕ, zero, suc, ◌+◌, ◌-◌, ◌*◌, ◌/◌, ◌%◌, ◌≤◌, ◌<◌, Bool, true, false, not, cond}
+use Rattle.std.proofs.Common.{◌==◌, List, [], ◌∷◌, ◌++◌, length, get_or, drop, Option, Some, None, refl, sym, ap, subst}
+use Rattle.std.proofs.Common.{◌∙◌, arith, inl, inr}
 use Rattle.std.specs.Str.{bytes_eq}
 use Rattle.std.proofs.lemmas.Slice.Eq.{bytes_eq-Decides}
 use Rattle.std.proofs.lemmas.Bool.{cases_lt}
 use Rattle.std.proofs.lemmas.Bool.Decides.{nat_tests}
 use Rattle.std.proofs.lemmas.List.{append-nil, get_or-drop, get_or-take}
 use Rattle.std.specs.Prelude.{All}
-use Rattle.chronicle.specs.Chronicle.{events}
 use Rattle.chronicle.specs.Serial.{serial}
 use Rattle.el_base.proofs.Lines.{line_addr-number}
 use Rattle.el_base.specs.declared.entries.Entry.{Entry}
@@ -20,7 +21,7 @@ use Rattle.run_check.specs.Content.{written_out}
 use Rattle.run_check.specs.declared.content.Patch.{Patch}
 use Rattle.run_check.specs.declared.verdict.Difference.{Difference}
 use Rattle.run_check.specs.declared.verdict.Difference.TheVariants.{View, Output, Memory}
-use Rattle.run_check.proofs.CertificateRules.{serial_below, stretches_written, weaker}
+use Rattle.run_check.proofs.CertificateRules.{below_from_all, stretches_written, weaker}
 
 -- ---- a line among those that differ
 
@@ -34,15 +35,19 @@ front_none : (there : Bool) (x : Patch) (rest more last : Option Patch) → (res
 front_none true x rest more last step none = absurd cc
 front_none false x rest more last step none = step none
 
-found_in : (xs ys : List Patch) (line : ℕ) (patch : Patch) → patch_of_line xs line ≡ Some patch → patch_of_line (xs ++ ys) line ≡ Some patch
+found_in : (xs ys : List Patch) (line : ℕ) (patch : Patch) → patch_of_line xs line ≡ Some patch →
+    patch_of_line (xs ++ ys) line ≡ Some patch
 found_in [] ys line patch found = absurd cc
 found_in (x ∷ xs) ys line patch found =
-    front_found (x.line.number == line) x patch (patch_of_line xs line) (patch_of_line (xs ++ ys) line) (found_in xs ys line patch) found
+    front_found (x.line.number == line) x patch (patch_of_line xs line) (patch_of_line (xs ++ ys) line)
+    (found_in xs ys line patch) found
 
-none_in : (xs ys : List Patch) (line : ℕ) → patch_of_line xs line ≡ None → patch_of_line (xs ++ ys) line ≡ patch_of_line ys line
+none_in : (xs ys : List Patch) (line : ℕ) → patch_of_line xs line ≡ None →
+    patch_of_line (xs ++ ys) line ≡ patch_of_line ys line
 none_in [] ys line none = refl
 none_in (x ∷ xs) ys line none =
-    front_none (x.line.number == line) x (patch_of_line xs line) (patch_of_line (xs ++ ys) line) (patch_of_line ys line) (none_in xs ys line) none
+    front_none (x.line.number == line) x (patch_of_line xs line) (patch_of_line (xs ++ ys) line) (patch_of_line ys line)
+    (none_in xs ys line) none
 
 one_there : (patch : Patch) (line : ℕ) → patch.line.number ≡ line → patch_of_line (patch ∷ []) line ≡ Some patch
 one_there patch line is = let e : (patch.line.number == line) ≡ true = grind (arith, nat_tests) in rw e refl
@@ -53,22 +58,26 @@ one_other patch line other = let e : (patch.line.number == line) ≡ false = gri
 -- the line at an index below the end, and no other
 record Found (program : Program) (memory : List ℕ) (end : ℕ) : Type 0 where
   here : (index : ℕ) → index < end → changed program memory index ≡ true →
-      patch_of_line (changed_below program memory end) (program.base / 64 + index) ≡ Some (patch_of program memory index)
+      patch_of_line (changed_below program memory end) (program.base / 64 + index)
+      ≡ Some (patch_of program memory index)
   same : (index : ℕ) → index < end → changed program memory index ≡ false →
       patch_of_line (changed_below program memory end) (program.base / 64 + index) ≡ None
   below : (line : ℕ) → line < program.base / 64 → patch_of_line (changed_below program memory end) line ≡ None
   behind : (line : ℕ) → program.base / 64 + end ≤ line → patch_of_line (changed_below program memory end) line ≡ None
 
 -- another line at the end changes nothing of this one
-kept : (xs : List Patch) (patch : Patch) (line : ℕ) → patch.line.number ≢ line → patch_of_line (xs ++ patch ∷ []) line ≡ patch_of_line xs line
+kept : (xs : List Patch) (patch : Patch) (line : ℕ) → patch.line.number ≢ line →
+    patch_of_line (xs ++ patch ∷ []) line ≡ patch_of_line xs line
 kept [] patch line other = one_other patch line other
 kept (x ∷ xs) patch line other = ap (cond (x.line.number == line) (Some x)) (kept xs patch line other)
 
 one_more : (program : Program) (memory : List ℕ) (end : ℕ) (differs : Bool) → changed program memory end ≡ differs →
     program.base / 64 + end < 67108864 → Found program memory end →
     let xs = changed_below program memory end ++ cond differs (patch_of program memory end ∷ []) [] in
-    ((index : ℕ) → index < suc end → changed program memory index ≡ true → patch_of_line xs (program.base / 64 + index) ≡ Some (patch_of program memory index))
-    × ((index : ℕ) → index < suc end → changed program memory index ≡ false → patch_of_line xs (program.base / 64 + index) ≡ None)
+    ((index : ℕ) → index < suc end → changed program memory index ≡ true →
+    patch_of_line xs (program.base / 64 + index) ≡ Some (patch_of program memory index))
+    × ((index : ℕ) → index < suc end → changed program memory index ≡ false →
+    patch_of_line xs (program.base / 64 + index) ≡ None)
     × ((line : ℕ) → line < program.base / 64 → patch_of_line xs line ≡ None)
     × ((line : ℕ) → program.base / 64 + suc end ≤ line → patch_of_line xs line ≡ None)
 one_more program memory end true is small f =
@@ -77,20 +86,25 @@ one_more program memory end true is small f =
     let number : y.line.number ≡ program.base / 64 + end = line_addr-number (program.base / 64 + end) small in (
       λ index low differs.
           elim (cases_lt index end) [
-            | inl before ↦ found_in xs (y ∷ []) (program.base / 64 + index) (patch_of program memory index) (f.here index before differs)
+            | inl before ↦
+                found_in xs (y ∷ []) (program.base / 64 + index) (patch_of program memory index)
+                (f.here index before differs)
             | inr past ↦
                 let this : end ≡ index = omega arith in
-                subst (λ n. patch_of_line (xs ++ y ∷ []) (program.base / 64 + n) ≡ Some (patch_of program memory n)) this
+                subst (λ n. patch_of_line (xs ++ y ∷ []) (program.base / 64 + n) ≡ Some (patch_of program memory n))
+                this
                 (none_in xs (y ∷ []) (program.base / 64 + end) (f.behind (program.base / 64 + end) (omega arith))
                 ∙ one_there y (program.base / 64 + end) number)
           ],
       λ index low same.
           elim (cases_lt index end) [
             | inl before ↦
-                kept xs y (program.base / 64 + index) (λ e. absurd (omega (arith, number, e))) ∙ f.same index before same
+                kept xs y (program.base / 64 + index) (λ e. absurd (omega (arith, number, e)))
+                ∙ f.same index before same
             | inr past ↦
                 let this : end ≡ index = omega arith in
-                let e : changed program memory end ≡ false = subst (λ n. changed program memory n ≡ false) (sym this) same in
+                let e : changed program memory end ≡ false =
+                subst (λ n. changed program memory n ≡ false) (sym this) same in
                 absurd (let bad : true ≡ false = sym is ∙ e in cc)
           ],
       λ line low. kept xs y line (λ e. absurd (omega (arith, number, e))) ∙ f.below line low,
@@ -104,7 +118,8 @@ one_more program memory end false is small f =
             | inl before ↦ f.here index before differs
             | inr past ↦
                 let this : end ≡ index = omega arith in
-                let e : changed program memory end ≡ true = subst (λ n. changed program memory n ≡ true) (sym this) differs in
+                let e : changed program memory end ≡ true =
+                subst (λ n. changed program memory n ≡ true) (sym this) differs in
                 absurd (let bad : false ≡ true = sym is ∙ e in cc)
           ],
       λ index low same.
@@ -118,7 +133,8 @@ one_more program memory end false is small f =
       λ line high. f.behind line (omega arith),
     )
 
-found_below : (program : Program) (memory : List ℕ) (end : ℕ) → program.base / 64 + end ≤ 67108864 → Found program memory end
+found_below : (program : Program) (memory : List ℕ) (end : ℕ) → program.base / 64 + end ≤ 67108864 →
+    Found program memory end
 found_below program memory zero small = record {
   here = λ index low. absurd (omega arith);
   same = λ index low. absurd (omega arith);
@@ -146,12 +162,14 @@ same_line program memory index is =
     bytes_same (line_of_memory memory index) (line_of_memory program.bytes index)
     (not_false (bytes_eq (line_of_memory memory index) (line_of_memory program.bytes index)) is)
 
-byte_of_line : (memory : List ℕ) (index at : ℕ) → at < 64 → get_or (line_of_memory memory index) at 0 ≡ get_or memory (64 * index + at) 0
-byte_of_line memory index at low = get_or-take 64 (drop (64 * index) memory) at 0 low ∙ get_or-drop (64 * index) memory at 0
+byte_of_line : (memory : List ℕ) (index at : ℕ) → at < 64 →
+    get_or (line_of_memory memory index) at 0 ≡ get_or memory (64 * index + at) 0
+byte_of_line memory index at low =
+    get_or-take 64 (drop (64 * index) memory) at 0 low ∙ get_or-drop (64 * index) memory at 0
 
-said_where : (program : Program) (memory : List ℕ) (index address : ℕ) (differs : Bool) (found : Option Patch) → changed program memory index ≡ differs →
-    (differs ≡ true → found ≡ Some (patch_of program memory index)) → (differs ≡ false → found ≡ None) →
-    address - program.base ≡ 64 * index + address % 64 →
+said_where : (program : Program) (memory : List ℕ) (index address : ℕ) (differs : Bool) (found : Option Patch) →
+    changed program memory index ≡ differs → (differs ≡ true → found ≡ Some (patch_of program memory index)) →
+    (differs ≡ false → found ≡ None) → address - program.base ≡ 64 * index + address % 64 →
     byte_in program.base memory address ≡ byte_from found (address % 64) (byte_in program.base program.bytes address)
 said_where program memory index address true found is some none place =
     let low : address % 64 < 64 = omega arith in
@@ -167,7 +185,8 @@ said_where program memory index address false found is some none place =
     ∙ ap (λ n. get_or program.bytes n 0) (sym place)
     ∙ ap (λ f. byte_from f (address % 64) (byte_in program.base program.bytes address)) (sym (none refl))
 
-memory_holds : (program : Program) (memory : List ℕ) → IsProgram program → (line : ℕ) → LineHolds program (changed_lines program memory) memory line
+memory_holds : (program : Program) (memory : List ℕ) → IsProgram program → (line : ℕ) →
+    LineHolds program (changed_lines program memory) memory line
 memory_holds program memory valid line =
     let high = valid.not_high in
     let wide = valid.not_wide in
@@ -184,11 +203,14 @@ memory_holds program memory valid line =
           let index = line - program.base / 64 in
           let line-is : program.base / 64 + index ≡ line = omega (arith, on) in
           let low : index < end = omega (arith, on) in
-          ap (λ n. n) (said_where program memory index address (changed program memory index) (patch_of_line lines line) refl
-          (λ differs. subst (λ n. patch_of_line lines n ≡ Some (patch_of program memory index)) line-is (f.here index low differs))
+          ap (λ n. n) (said_where program memory index address (changed program memory index)
+          (patch_of_line lines line) refl
+          (λ differs. subst (λ n. patch_of_line lines n ≡ Some (patch_of program memory index)) line-is
+          (f.here index low differs))
           (λ same. subst (λ n. patch_of_line lines n ≡ None) line-is (f.same index low same))
           (omega (arith, on)))
-          ∙ ap (λ n. byte_from (patch_of_line lines n) (address % 64) (byte_in program.base program.bytes address)) (sym on);
+          ∙ ap (λ n. byte_from (patch_of_line lines n) (address % 64) (byte_in program.base program.bytes address))
+          (sym on);
       inside =
           λ patch some.
           elim (cases_lt line (program.base / 64)) [
@@ -203,22 +225,23 @@ memory_holds program memory valid line =
 
 -- ---- the certificate
 
-agree : (program : Program) (entries : List Entry) (state : FlatState) → IsProgram program → (kind : Difference) (place : ℕ) →
-    Agrees kind program (certificate_of program entries state) state place
+agree : (program : Program) (entries : List Entry) (state : FlatState) → IsProgram program →
+    (kind : Difference) (place : ℕ) → Agrees kind program (certificate_of program entries state) state place
 unfolding certificate_of
 agree program entries state valid View place = refl
 agree program entries state valid Output place = refl
 agree program entries state valid Memory place = memory_holds program state.bytes valid place
 
 stretches_are : (program : Program) (entries : List Entry) (state : FlatState) → IsProgram program →
-    All (λ event. event.hart.number < program.harts) (events entries) →
+    All (λ hart. hart < program.harts) (serial entries) →
     written_out (certificate_of program entries state).stretches ≡ serial entries
 unfolding certificate_of
 stretches_are program entries state valid harts =
-    stretches_written (serial entries) (weaker program.harts 8 (serial entries) valid.few_harts (serial_below program.harts entries harts))
+    stretches_written (serial entries) (weaker program.harts 8 (serial entries) valid.few_harts
+    (below_from_all program.harts (serial entries) harts))
 
 pub written_holds : (program : Program) (entries : List Entry) (state : FlatState) → IsProgram program →
-    All (λ event. event.hart.number < program.harts) (events entries) → state ≡ run (start program) (serial entries) →
+    All (λ hart. hart < program.harts) (serial entries) → state ≡ run (start program) (serial entries) →
     CertificateHolds program (certificate_of program entries state)
 written_holds program entries state valid harts ran kind place =
     let content = certificate_of program entries state in

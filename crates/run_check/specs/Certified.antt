@@ -1,7 +1,7 @@
 -- The certificate of a history and of a state that it led to.
-use Rattle.std.specs.Prelude.{◌≡◌, ◌≢◌, ℕ, zero, suc, ◌+◌, ◌*◌, ◌/◌, ◌<◌, ◌≤◌, Bool, ◌==◌, not, if◌then◌else◌, List, [], ◌∷◌, ◌++◌, length, take, drop, All, Option, None, Some}
+use Rattle.std.specs.Prelude.{◌≡◌, ◌≢◌, ℕ, zero, suc, ◌+◌, ◌*◌, ◌/◌, ◌<◌, ◌≤◌, Bool, ◌==◌, not, if◌then◌else◌, List, []}
+use Rattle.std.specs.Prelude.{◌∷◌, ◌++◌, length, take, drop, All, Option, None, Some}
 use Rattle.std.specs.Str.{bytes_eq}
-use Rattle.chronicle.specs.Chronicle.{events}
 use Rattle.chronicle.specs.Serial.{serial}
 use Rattle.el_base.specs.HartId.{hart_id}
 use Rattle.el_base.specs.LineAddr.{line_addr}
@@ -42,6 +42,11 @@ abbrev pub with_pending : List Stretch → Option Stretch → List Stretch
 with_pending stretches None = stretches
 with_pending stretches (Some last) = stretches ++ last ∷ []
 
+-- stretches that still grow are a run-length code; there are none before the first pending one
+pub record IsGrowing (stretches : List Stretch) (pending : Option Stretch) : Type 0 where
+  pub code : IsCode (with_pending stretches pending)
+  pub none_before : pending ≡ None → stretches ≡ []
+
 -- ---- lines that differ from the image
 
 -- the line at an index of memory
@@ -60,7 +65,8 @@ patch_of program memory index =
 abbrev pub changed_below : Program → List ℕ → ℕ → List Patch
 changed_below program memory zero = []
 changed_below program memory (suc count) =
-    changed_below program memory count ++ (if changed program memory count then patch_of program memory count ∷ [] else [])
+    changed_below program memory count ++ (if changed program memory count then patch_of program memory count
+    ∷ [] else [])
 
 abbrev pub changed_lines : Program → List ℕ → List Patch
 changed_lines program memory = changed_below program memory (length program.bytes / LINE_BYTES)
@@ -92,7 +98,7 @@ pub record IsStateOf (program : Program) (state : FlatState) : Type 0 where
   pub output : length state.output ≤ output_limit
   pub traps : (hart : ℕ) → hart < length state.harts → StandsAtTrap (view_of state hart).pc (view_of state hart).status
 
--- a history whose serial order fits a certificate
+-- a history whose serial order fits a certificate: its harts are the program's, and it is not too long
 pub record IsHistoryOf (program : Program) (entries : List Entry) : Type 0 where
-  pub harts : All (λ event. event.hart.number < program.harts) (events entries)
+  pub harts : All (λ hart. hart < program.harts) (serial entries)
   pub few : length (serial entries) ≤ most_steps

@@ -31,7 +31,8 @@ byte_from (Some patch) index byte = slice_index patch.bytes index
 -- the byte at an address: the image's bytes with the lines put over them
 abbrev pub said_byte : Program → List Patch → ℕ → ℕ
 said_byte program lines address =
-    byte_from (patch_of_line lines (line_number address)) (address % LINE_BYTES) (byte_in program.base program.bytes address)
+    byte_from (patch_of_line lines (line_number address)) (address % LINE_BYTES)
+    (byte_in program.base program.bytes address)
 
 -- an address of memory
 abbrev pub IsInside : Program → ℕ → Type 0
@@ -52,16 +53,19 @@ Agrees kinds.Memory program content state line = LineHolds program content.lines
 
 -- the certificate holds: the run gives its views, its output and its memory
 abbrev pub CertificateHolds : Program → Content → Type 0
-CertificateHolds program content = (kind : Difference) (place : ℕ) → Agrees kind program content (reached program content) place
+CertificateHolds program content = (kind : Difference) (place : ℕ) →
+    Agrees kind program content (reached program content) place
 
 -- the first difference: nothing of an earlier kind differs, and nothing of this kind at a lower place
 pub record IsFirst (program : Program) (content : Content) (kind : Difference) (place : ℕ) : Type 0 where
-  pub earlier : (other : Difference) (at : ℕ) → number_of other < number_of kind → Agrees other program content (reached program content) at
+  pub earlier : (other : Difference) (at : ℕ) → number_of other < number_of kind →
+      Agrees other program content (reached program content) at
   pub before : (at : ℕ) → at < place → Agrees kind program content (reached program content) at
   pub here : ¬ Agrees kind program content (reached program content) place
 
 -- what is answered of a certificate
 abbrev pub IsVerdict : Program → Content → Verdict → Type 0
-IsVerdict program content (Holds serial) = CertificateHolds program content × (serial ≡ length (written_out content.stretches))
+IsVerdict program content (Holds serial) =
+    CertificateHolds program content × (serial ≡ length (written_out content.stretches))
 IsVerdict program content (Fails number place) =
     (kind : Difference) × (number ≡ number_of kind) × IsFirst program content kind place

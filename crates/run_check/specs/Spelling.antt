@@ -99,7 +99,8 @@ pub record IsView (view : HartView) : Type 0 where
 pub record IsCertificate (content : Content) : Type 0 where
   pub some_hart : 1 ≤ content.harts
   pub few_harts : content.harts ≤ 8
-  pub harts : (index : ℕ) → index < length content.stretches → hart_wrong content.harts (hart_in content.stretches) index ≡ false
+  pub harts : (index : ℕ) → index < length content.stretches →
+      hart_wrong content.harts (hart_in content.stretches) index ≡ false
   pub counts : (index : ℕ) → index < length content.stretches → count_wrong (count_in content.stretches) index ≡ false
   pub one_view_each : length content.views ≡ content.harts
   pub views : (hart : ℕ) → hart < length content.views → IsView (slice_index_or content.views hart no_hart)

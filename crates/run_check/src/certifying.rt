@@ -66,7 +66,8 @@ fn changed_lines<R: Reached>(
 /// The view of one hart.
 fn view_at<R: Reached>(reached: &R, hart: HartId) -> HartView
     requires there { hart.number < length (R.state reached.now).harts }
-    requires trap { let view = slice_index_or (R.state reached.now).harts hart.number no_hart in StandsAtTrap view.pc view.status }
+    requires trap { let view = slice_index_or (R.state reached.now).harts hart.number no_hart in
+        StandsAtTrap view.pc view.status }
     ensures exact { result ≡ slice_index_or (R.state reached.now).harts hart.number no_hart }
     ensures valid { IsView result }
 {
@@ -101,7 +102,8 @@ pub fn certify<C: Chronicled, R: Reached>(
 ) -> Result<Certificate, NoMemory>
     requires history { IsHistoryOf image.now (C.entries history.now) }
     requires reached { IsStateOf image.now (R.state reached.now) }
-    ensures { IfOk result (λ certificate. certificate ≡ certificate_of image.now (C.entries history.now) (R.state reached.now)) }
+    ensures { IfOk result (λ certificate. certificate
+        ≡ certificate_of image.now (C.entries history.now) (R.state reached.now)) }
 {
     let stretches = stretches_of(alloc, history)?;
     let views = views_of(alloc, image, reached)?;

@@ -5,7 +5,7 @@ ghost use Rattle.el_base.specs.declared.line.TheConstants.{LINE_BYTES};
 ghost use Rattle.rv_flat.specs.FlatState.{output_limit};
 ghost use Rattle.rv_flat.specs.Memory.{byte_in};
 ghost use Rattle.rv_flat.specs.Run.{run};
-ghost use Rattle.run_check.specs.Check.{reached, IsVerdict, LineHolds};
+ghost use Rattle.run_check.specs.Check.{reached, Agrees, IsVerdict, LineHolds};
 ghost use Rattle.run_check.specs.Content.{steps_in, written_out};
 ghost use Rattle.run_check.specs.Differences.{number_of};
 ghost use Rattle.run_check.specs.Rules.{count_wrong, line_wrong};
@@ -165,6 +165,26 @@ fn first_line(flat: &Flat, image: &Image, lines: &[Patch]) -> Option<u32>
     Some(address / LINE_BYTES)
 }
 
+/// The least place at which a certificate and what its run reached differ in one kind.
+fn first_difference(
+    kind: Difference,
+    flat: &Flat,
+    image: &Image,
+    certificate: &Certificate,
+) -> Option<u32>
+    requires ran { flat.now ≡ reached image.now certificate.now }
+    requires one_hart_each { image.now.harts ≡ certificate.now.harts }
+    ensures none { IfNone result ((place : ℕ) → Agrees kind image.now certificate.now flat.now place) }
+    ensures first { IfSome result (λ place. (¬ Agrees kind image.now certificate.now flat.now place)
+        × ((before : ℕ) → before < place → Agrees kind image.now certificate.now flat.now before)) }
+{
+    match kind {
+        Difference::View => first_view(flat, certificate.views()).map(u32::from),
+        Difference::Output => first_index(flat.output(), certificate.output()),
+        Difference::Memory => first_line(flat, image, certificate.lines()),
+    }
+}
+
 /// The verdict on a certificate after its run of so many steps.
 fn verdict_on(flat: &Flat, image: &Image, certificate: &Certificate, serial: u64) -> Verdict
     requires ran { flat.now ≡ reached image.now certificate.now }
@@ -172,13 +192,13 @@ fn verdict_on(flat: &Flat, image: &Image, certificate: &Certificate, serial: u64
     requires serial { serial ≡ length (written_out certificate.now.stretches) }
     ensures { IsVerdict image.now certificate.now result }
 {
-    if let Some(hart) = first_view(flat, certificate.views()) {
-        return fails(Difference::View, u32::from(hart));
+    if let Some(hart) = first_difference(Difference::View, flat, image, certificate) {
+        return fails(Difference::View, hart);
     }
-    if let Some(index) = first_index(flat.output(), certificate.output()) {
+    if let Some(index) = first_difference(Difference::Output, flat, image, certificate) {
         return fails(Difference::Output, index);
     }
-    if let Some(line) = first_line(flat, image, certificate.lines()) {
+    if let Some(line) = first_difference(Difference::Memory, flat, image, certificate) {
         return fails(Difference::Memory, line);
     }
     Verdict::Holds { serial }

@@ -127,7 +127,9 @@ fn check_stretch(file: &[u8], harts: u8, index: u32, steps: u32) -> Result<u32, 
     requires each_has_one { index ≤ steps }
     ensures accepted { OnOk result (stretch_fault file.now harts index ≡ None) }
     ensures refused { IfErr result (λ fault. stretch_fault file.now harts index ≡ Some fault) }
-    ensures steps { IfOk result (λ after. (after ≡ steps + count_at file.now index) × (after ≤ most_steps) × (index + 1 ≤ after)) }
+    ensures steps { IfOk result (λ after. (after ≡ steps + count_at file.now index)
+        × (after ≤ most_steps)
+        × (index + 1 ≤ after)) }
     ensures hart { OnOk result (hart_at file.now index < harts) }
     ensures whole { OnOk result (stretch_place index + 5 ≤ length file.now) }
 {
@@ -324,8 +326,10 @@ pub fn checked(file: &[u8]) -> Result<Counts, FileFault>
         × (counts.output ≤ output_limit)
         × (counts.lines ≤ most_lines)) }
     ensures harts { OnOk result ((index : ℕ) → index < stretch_count file.now → hart_at file.now index < 8) }
-    ensures views { OnOk result ((hart : ℕ) → hart < harts_of file.now → view_wrong file.now (view_place file.now hart) ≡ false) }
-    ensures lines { OnOk result ((index : ℕ) → index < line_count file.now → line_at file.now (lines_place file.now) index < line_limit) }
+    ensures views { OnOk result ((hart : ℕ) → hart < harts_of file.now →
+        view_wrong file.now (view_place file.now hart) ≡ false) }
+    ensures lines { OnOk result ((index : ℕ) → index < line_count file.now →
+        line_at file.now (lines_place file.now) index < line_limit) }
     ensures whole { OnOk result (line_place (lines_place file.now) (line_count file.now) ≤ length file.now) }
 {
     let harts = check_head(file)?;

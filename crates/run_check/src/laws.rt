@@ -1,7 +1,6 @@
 //! What holds of certificates, apart from any code.
 
 ghost use Rattle.std.specs.Prelude.{◌≡◌, ℕ, ◌<◌, List, None, All, slice_index};
-ghost use Rattle.chronicle.specs.Chronicle.{events};
 ghost use Rattle.chronicle.specs.Serial.{serial};
 ghost use Rattle.el_base.specs.declared.entries.Entry.{Entry};
 ghost use Rattle.elf_image.specs.Program.{IsProgram, Program};
@@ -19,7 +18,8 @@ ghost use Rattle.run_check.specs.Spelling.{spelling, IsCertificate};
 pub fn grammar()
     ensures one_spelling { (c d : Content) → IsCertificate c → IsCertificate d → spelling c ≡ spelling d → c ≡ d }
     ensures a_spelling_has_no_fault { (c : Content) → IsCertificate c → certificate_fault (spelling c) ≡ None }
-    ensures what_has_no_fault_is_a_spelling { (file : List ℕ) → ((i : ℕ) → slice_index file i < 256) → certificate_fault file ≡ None →
+    ensures what_has_no_fault_is_a_spelling { (file : List ℕ) → ((i : ℕ) → slice_index file i < 256) →
+        certificate_fault file ≡ None →
         ((c : Content) × IsCertificate c × (file ≡ spelling c)) }
 {}
 
@@ -35,11 +35,12 @@ pub fn one_verdict()
 /// program.
 pub fn written_certificates_hold()
     ensures { (program : Program) (entries : List Entry) (state : FlatState) → IsProgram program →
-        All (λ event. event.hart.number < program.harts) (events entries) → state ≡ run (start program) (serial entries) →
+        All (λ hart. hart < program.harts) (serial entries) → state ≡ run (start program) (serial entries) →
         CertificateHolds program (certificate_of program entries state) }
 {}
 
 /// What a run of a program reaches on plain memory is a state that can be certified.
 pub fn reached_states_can_be_certified()
-    ensures { (program : Program) (state : FlatState) (harts : List ℕ) → state ≡ run (start program) harts → IsStateOf program state }
+    ensures { (program : Program) (state : FlatState) (harts : List ℕ) → state ≡ run (start program) harts →
+        IsStateOf program state }
 {}

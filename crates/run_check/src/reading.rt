@@ -208,10 +208,14 @@ fn built(alloc: Global, file: &[u8], counts: Counts) -> Result<Certificate, NoMe
         × (counts.stretches ≡ stretch_count file.now)
         × (counts.output ≡ output_length file.now)
         × (counts.lines ≡ line_count file.now) }
-    requires few { (counts.harts ≤ 8) × (counts.stretches ≤ most_steps) × (counts.output ≤ output_limit) × (counts.lines ≤ most_lines) }
+    requires few { (counts.harts ≤ 8)
+        × (counts.stretches ≤ most_steps)
+        × (counts.output ≤ output_limit)
+        × (counts.lines ≤ most_lines) }
     requires harts { (index : ℕ) → index < stretch_count file.now → hart_at file.now index < 8 }
     requires views { (hart : ℕ) → hart < harts_of file.now → view_wrong file.now (view_place file.now hart) ≡ false }
-    requires lines { (index : ℕ) → index < line_count file.now → line_at file.now (lines_place file.now) index < line_limit }
+    requires lines { (index : ℕ) → index < line_count file.now →
+        line_at file.now (lines_place file.now) index < line_limit }
     requires whole { line_place (lines_place file.now) (line_count file.now) ≤ length file.now }
     requires none { certificate_fault file.now ≡ None }
     ensures { IfOk result (λ certificate. certificate ≡ content_of file.now) }
@@ -228,7 +232,6 @@ fn built(alloc: Global, file: &[u8], counts: Counts) -> Result<Certificate, NoMe
 
 /// The certificate that the file spells, or its first fault. It takes no memory before the whole file was
 /// found to be a certificate.
-
 pub fn read_certificate(alloc: Global, file: &[u8]) -> Result<Certificate, CertFault>
     ensures accepted { IfOk result (λ certificate. IsCertificate certificate × (file.now ≡ spelling certificate)) }
     ensures refused { (number place : ℕ) → result ≡ Err (CertFault.Bad number place) →

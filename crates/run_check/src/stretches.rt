@@ -1,25 +1,15 @@
 //! The serial order of a history in stretches.
 
-ghost use Rattle.std.specs.Prelude.{◌≡◌, ℕ, ◌+◌, ◌++◌, ◌≤◌, [], None, IfOk, length, replicate};
-ghost use Rattle.chronicle.specs.Serial.{effects, serial};
-ghost use Rattle.run_check.specs.Certified.{stretches_of, with_pending, IsCode};
+ghost use Rattle.std.specs.Prelude.{◌≡◌, ℕ, ◌+◌, ◌++◌, ◌≤◌, IfOk, length, replicate};
+ghost use Rattle.chronicle.specs.Serial.{serial, taking_effect};
+ghost use Rattle.el_base.specs.Freed.{order_of};
+ghost use Rattle.run_check.specs.Certified.{stretches_of, with_pending, IsGrowing};
 ghost use Rattle.run_check.specs.Content.{written_out};
 ghost use Rattle.run_check.specs.Rules.{most_steps};
 
 use crate::content::Stretch;
-use el_base::{Chronicled, HartId, NoMemory, Outcome};
+use el_base::{Chronicled, Entry, Freed, HartId, MAX_HARTS, NoMemory, Outcome};
 use std::alloc::Global;
-
-/// How many instructions took effect with this outcome.
-fn effects(outcome: Outcome) -> u32
-    ensures { result ≡ effects outcome }
-{
-    match outcome {
-        Outcome::Ran => 1,
-        Outcome::Committed { count } => count,
-        _ => 0,
-    }
-}
 
 /// Puts some steps of a hart behind the stretches, of which the last one is still pending: into that one, where it is
 /// the hart's, and else into one of their own.
@@ -29,11 +19,9 @@ fn extend(
     hart: HartId,
     count: u32,
 ) -> Result<Option<Stretch>, NoMemory>
-    requires code { IsCode (with_pending stretches.old.items pending) }
-    requires none_before { pending ≡ None → stretches.old.items ≡ [] }
+    requires growing { IsGrowing stretches.old.items pending }
     requires few { length (written_out (with_pending stretches.old.items pending)) + count ≤ most_steps }
-    ensures code { IfOk result (λ now. IsCode (with_pending stretches.new.items now)) }
-    ensures none_before { IfOk result (λ now. now ≡ None → stretches.new.items ≡ []) }
+    ensures growing { IfOk result (IsGrowing stretches.new.items) }
     ensures grown { IfOk result (λ now. written_out (with_pending stretches.new.items now)
         ≡ written_out (with_pending stretches.old.items pending) ++ replicate count hart.number) }
 {
@@ -51,6 +39,54 @@ fn extend(
     Ok(Some(Stretch { hart, count }))
 }
 
+/// Puts the steps of the freed harts behind the stretches, in the ascending order in which they took effect.
+fn extend_by_freed(
+    stretches: &mut Vec<Stretch>,
+    pending: Option<Stretch>,
+    freed: Freed,
+) -> Result<Option<Stretch>, NoMemory>
+    requires growing { IsGrowing stretches.old.items pending }
+    requires few { length (written_out (with_pending stretches.old.items pending))
+        + length (order_of freed) ≤ most_steps }
+    ensures growing { IfOk result (IsGrowing stretches.new.items) }
+    ensures grown { IfOk result (λ now. written_out (with_pending stretches.new.items now)
+        ≡ written_out (with_pending stretches.old.items pending) ++ order_of freed) }
+{
+    let mut pending = pending;
+    for number in 0..MAX_HARTS {
+        let hart = HartId::at(number as usize);
+        pending = extend(stretches, pending, hart, u32::from(freed.count_of(hart)))?;
+    }
+    Ok(pending)
+}
+
+/// Puts the steps that took effect in an entry behind the stretches.
+fn extend_by_entry(
+    stretches: &mut Vec<Stretch>,
+    pending: Option<Stretch>,
+    entry: Entry,
+) -> Result<Option<Stretch>, NoMemory>
+    requires growing { IsGrowing stretches.old.items pending }
+    requires few { length (written_out (with_pending stretches.old.items pending))
+        + length (taking_effect entry.event.hart.number entry.outcome) ≤ most_steps }
+    ensures growing { IfOk result (IsGrowing stretches.new.items) }
+    ensures grown { IfOk result (λ now. written_out (with_pending stretches.new.items now)
+        ≡ written_out (with_pending stretches.old.items pending)
+        ++ taking_effect entry.event.hart.number entry.outcome) }
+{
+    let hart = entry.event.hart;
+    match entry.outcome {
+        Outcome::Ran => extend(stretches, pending, hart, 1),
+        Outcome::Committed { count } | Outcome::LetGo { count } => {
+            extend(stretches, pending, hart, count)
+        }
+        Outcome::Ordered { freed, .. } | Outcome::Served { freed, .. } => {
+            extend_by_freed(stretches, pending, freed)
+        }
+        _ => Ok(pending),
+    }
+}
+
 /// The serial order of a history, in stretches. It goes once over the entries.
 pub fn stretches_of<C: Chronicled>(alloc: Global, history: &C) -> Result<Vec<Stretch>, NoMemory>
     requires { length (serial (C.entries history.now)) ≤ most_steps }
@@ -59,13 +95,7 @@ pub fn stretches_of<C: Chronicled>(alloc: Global, history: &C) -> Result<Vec<Str
     let mut stretches = Vec::new(alloc);
     let mut pending = None;
     for place in 0..history.length() {
-        let entry = history.entry(place);
-        pending = extend(
-            &mut stretches,
-            pending,
-            entry.event.hart,
-            effects(entry.outcome),
-        )?;
+        pending = extend_by_entry(&mut stretches, pending, history.entry(place))?;
     }
     if let Some(last) = pending {
         stretches.push(last)?;

@@ -144,7 +144,8 @@ pub fn write_certificate<S: Shelf, C: Chronicled, R: Reached>(
     requires reached { IsStateOf image.now (R.state reached.now) }
     ensures written { OnOk result (Holds (S.told shelf.new) name.now
         (spelling (certificate_of image.now (C.entries history.now) (R.state reached.now)))) }
-    ensures valid { OnOk result (IsCertificate (certificate_of image.now (C.entries history.now) (R.state reached.now))) }
+    ensures valid { OnOk result
+        (IsCertificate (certificate_of image.now (C.entries history.now) (R.state reached.now))) }
     ensures others_stay { KeepsOthers (S.told shelf.old) (S.told shelf.new) name.now }
     ensures contents_stay_without_memory { result ≡ Err ShelfFault.NoMemory → S.told shelf.new ≡ S.told shelf.old }
     ensures never_too_big { result ≢ Err ShelfFault.TooBig }

@@ -16,9 +16,10 @@ abbrev content_from : ℕ → List Stretch → List HartView → List ℕ → Li
 content_from harts stretches views output lines =
     record { harts = harts; stretches = stretches; views = views; output = output; lines = lines }
 
-certificate_is : (program : Program) (entries : List Entry) (state : FlatState) (harts : ℕ) (stretches : List Stretch) (views : List HartView)
-    (output : List ℕ) (lines : List Patch) → harts ≡ program.harts → stretches ≡ stretches_of (serial entries) → views ≡ state.harts →
-    output ≡ state.output → lines ≡ changed_lines program state.bytes →
+certificate_is : (program : Program) (entries : List Entry) (state : FlatState) (harts : ℕ) (stretches : List Stretch)
+    (views : List HartView)
+    (output : List ℕ) (lines : List Patch) → harts ≡ program.harts → stretches ≡ stretches_of (serial entries) →
+    views ≡ state.harts → output ≡ state.output → lines ≡ changed_lines program state.bytes →
     content_from harts stretches views output lines ≡ certificate_of program entries state
 unfolding certificate_of
 certificate_is program entries state harts stretches views output lines h s v o l =
@@ -33,14 +34,17 @@ new-requires g c =
     let entries = g.C.Chronicled.entries c.args.history.now in
     let state = g.R.Reached.state c.args.reached.now in
     subst IsCertificate
-    (sym (certificate_is c.args.image.now entries state _ _ _ _ _ c.harts.ensures.exact c.in_ok-stretches.ensures c.in_ok-views.ensures.exact
+    (sym (certificate_is c.args.image.now entries state _ _ _ _ _ c.harts.ensures.exact c.in_ok-stretches.ensures
+    c.in_ok-views.ensures.exact
     (c.in_ok-output.ensures.items ∙ c.output.ensures.exact) c.in_ok-lines.ensures))
-    (certificate_rules c.args.image.now entries state c.harts.ensures.valid c.requires.history c.requires.reached c.in_ok-views.ensures.valid)
+    (certificate_rules c.args.image.now entries state c.harts.ensures.valid c.requires.history c.requires.reached
+    c.in_ok-views.ensures.valid)
 
 pub returns : goal.returns
 returns g c =
     let entries = g.C.Chronicled.entries c.args.history.now in
     let state = g.R.Reached.state c.args.reached.now in
     c.new.ensures
-    ∙ certificate_is c.args.image.now entries state _ _ _ _ _ c.harts.ensures.exact c.in_ok-stretches.ensures c.in_ok-views.ensures.exact
+    ∙ certificate_is c.args.image.now entries state _ _ _ _ _ c.harts.ensures.exact c.in_ok-stretches.ensures
+    c.in_ok-views.ensures.exact
     (c.in_ok-output.ensures.items ∙ c.output.ensures.exact) c.in_ok-lines.ensures

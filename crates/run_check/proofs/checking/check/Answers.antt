@@ -11,7 +11,8 @@ run_stretches-serial-requires-clause-harts c index within =
     let valid = c.stretches.ensures.valid in
     let content = c.args.certificate.now in
     let many : length c.in_ok-flat.flat.harts ≡ content.harts =
-    ap (λ (s : FlatState). length s.harts) c.in_ok-flat.ensures ∙ start_harts c.args.image.now ∙ c.requires.one_hart_each
+    ap (λ (s : FlatState). length s.harts) c.in_ok-flat.ensures ∙ start_harts c.args.image.now
+    ∙ c.requires.one_hart_each
     in
     let inside = subst (λ l. index < length l) exact within in
     let low = hart_below content.harts (hart_in content.stretches) index (valid.harts index inside) in

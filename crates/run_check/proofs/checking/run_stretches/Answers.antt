@@ -13,15 +13,18 @@ loop-stretch-preserved c =
     let is = sym (get_or_read xs i c.stretch-item.result c.loop-stretch-test.true c.stretch-item.is d) in
     record {
       ran =
-          stretch_more c.args.flat.now c.loop-stretch.flat c.run_stretch.new.flat xs i c.stretch-item.result d c.loop-stretch-test.true is
+          stretch_more c.args.flat.now c.loop-stretch.flat c.run_stretch.new.flat xs i c.stretch-item.result d
+          c.loop-stretch-test.true is
           c.loop-stretch.invariant.ran c.run_stretch.ensures.ran;
       serial =
-          step_counts xs i c.stretch-item.result c.loop-stretch.serial c.from-serial.result is c.loop-stretch.invariant.serial c.from-serial.ensures;
+          step_counts xs i c.stretch-item.result c.loop-stretch.serial c.from-serial.result is
+          c.loop-stretch.invariant.serial c.from-serial.ensures;
       harts = c.run_stretch.ensures.harts ∙ c.loop-stretch.invariant.harts;
     }
 
 pub returns-clause-serial : goal.returns-clause-serial
 returns-clause-serial c =
     let xs = c.args.stretches.now in
-    let end : c.loop-stretch.stretch-index ≡ length xs = omega (arith, c.loop-stretch-test.false, c.loop-stretch.auto.stretch-index-end) in
+    let end : c.loop-stretch.stretch-index ≡ length xs =
+    omega (arith, c.loop-stretch-test.false, c.loop-stretch.auto.stretch-index-end) in
     c.loop-stretch.invariant.serial ∙ steps_at xs end ∙ sym (length_all_written xs)

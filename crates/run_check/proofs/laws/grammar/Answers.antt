@@ -10,4 +10,5 @@ pub returns-clause-a_spelling_has_no_fault : goal.returns-clause-a_spelling_has_
 returns-clause-a_spelling_has_no_fault c content is = (spelled content is).0
 
 pub returns-clause-what_has_no_fault_is_a_spelling : goal.returns-clause-what_has_no_fault_is_a_spelling
-returns-clause-what_has_no_fault_is_a_spelling c file fits none = let e = faultless file fits none in (content_of file, e.0, e.1)
+returns-clause-what_has_no_fault_is_a_spelling c file fits none = let e =
+    faultless file fits none in (content_of file, e.0, e.1)

@@ -12,8 +12,9 @@ abbrev content_from : ℕ → List Stretch → List HartView → List ℕ → Li
 content_from harts stretches views output lines =
     record { harts = harts; stretches = stretches; views = views; output = output; lines = lines }
 
-content_is : (file : List ℕ) (harts : ℕ) (stretches : List Stretch) (views : List HartView) (output : List ℕ) (lines : List Patch) →
-    harts ≡ harts_of file → stretches ≡ stretches_at file → views ≡ views_at file → output ≡ output_at file → lines ≡ lines_at file →
+content_is : (file : List ℕ) (harts : ℕ) (stretches : List Stretch) (views : List HartView) (output : List ℕ)
+    (lines : List Patch) → harts ≡ harts_of file → stretches ≡ stretches_at file → views ≡ views_at file →
+    output ≡ output_at file → lines ≡ lines_at file →
     content_from harts stretches views output lines ≡ content_of file
 unfolding content_of
 content_is file harts stretches views output lines h s v o l =
@@ -26,7 +27,8 @@ content_is file harts stretches views output lines h s v o l =
 pub new-requires : goal.new-requires
 new-requires c =
     let same =
-    content_is c.args.file.now c.args.counts.harts _ _ _ _ c.requires.counts.0 c.in_ok-stretches.ensures c.in_ok-views.ensures
+    content_is c.args.file.now c.args.counts.harts _ _ _ _ c.requires.counts.0 c.in_ok-stretches.ensures
+    c.in_ok-views.ensures
     c.in_ok-output.ensures c.in_ok-lines.ensures
     in
     subst IsCertificate (sym same) (faultless c.args.file.now (λ i. omega (arith, c.type_inv.file i)) c.requires.none).0
@@ -34,5 +36,6 @@ new-requires c =
 pub returns : goal.returns
 returns c =
     c.new.ensures
-    ∙ content_is c.args.file.now c.args.counts.harts _ _ _ _ c.requires.counts.0 c.in_ok-stretches.ensures c.in_ok-views.ensures
+    ∙ content_is c.args.file.now c.args.counts.harts _ _ _ _ c.requires.counts.0 c.in_ok-stretches.ensures
+    c.in_ok-views.ensures
     c.in_ok-output.ensures c.in_ok-lines.ensures

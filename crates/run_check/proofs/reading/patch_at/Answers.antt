@@ -7,6 +7,7 @@ pub returns : goal.returns
 returns c =
     let file = c.args.file.now in
     let place = c.line_place-place.ensures in
-    patch_is _ (line_at file c.args.lines c.args.index) c.line_bytes.result (take 64 (drop (line_place c.args.lines c.args.index + 4) file))
+    patch_is _ (line_at file c.args.lines c.args.index) c.line_bytes.result
+    (take 64 (drop (line_place c.args.lines c.args.index + 4) file))
     (c.number_at.ensures ∙ ap (λ p. number_at file p) place)
     (c.line_bytes.ensures ∙ ap (λ p. take 64 (drop (p + 4) file)) place)

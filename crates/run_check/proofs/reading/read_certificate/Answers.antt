@@ -6,11 +6,12 @@ use Rattle.run_check.proofs.Judged.{faultless}
 use Rattle.run_check.proofs.Spelled.{spelled}
 use Rattle.run_check.proofs.reading.read_certificate.Goals as goal
 
-accepted : (file : List ℕ) (c : Content) → c ≡ content_of file → IsCertificate (content_of file) × (file ≡ spelling (content_of file)) →
-    IsCertificate c × (file ≡ spelling c)
+accepted : (file : List ℕ) (c : Content) → c ≡ content_of file →
+    IsCertificate (content_of file) × (file ≡ spelling (content_of file)) → IsCertificate c × (file ≡ spelling c)
 accepted file c is e = (subst IsCertificate (sym is) e.0, e.1 ∙ ap spelling (sym is))
 
-no_fault : (file : List ℕ) (content : Content) → IsCertificate content → file ≡ spelling content → certificate_fault file ≡ None
+no_fault : (file : List ℕ) (content : Content) → IsCertificate content → file ≡ spelling content →
+    certificate_fault file ≡ None
 no_fault file content is spells = ap certificate_fault spells ∙ (spelled content is).0
 
 read : (file : List ℕ) (content : Content) → IsCertificate content → file ≡ spelling content → content_of file ≡ content

@@ -11,10 +11,12 @@ loop-hart-preserved c =
     c.view_at.ensures
     ∙ ap (λ n. view_at file (c.args.views + 138 * n)) c.from-in-loop-hart.ensures
     ∙ ap (λ n. view_at file (n + 138 * c.loop-hart.hart)) c.requires.place in
-    rw (map-range_with_len_more (λ hart. view_at file (view_place file hart)) 0 c.loop-hart.hart c.loop-hart.hart (zero-add c.loop-hart.hart))
+    rw (map-range_with_len_more (λ hart. view_at file (view_place file hart)) 0 c.loop-hart.hart c.loop-hart.hart
+    (zero-add c.loop-hart.hart))
     (rw (← c.loop-hart.invariant, ← is) c.in_ok-push.ensures.items)
 
 pub view_at-requires-clause-right : goal.view_at-requires-clause-right
 view_at-requires-clause-right c =
     subst (λ n. view_wrong c.args.file.now (c.args.views + 138 * n) ≡ false) (sym c.from-in-loop-hart.ensures)
-    (subst (λ n. view_wrong c.args.file.now (n + 138 * c.loop-hart.hart) ≡ false) (sym c.requires.place) (c.requires.right c.loop-hart.hart (omega arith)))
+    (subst (λ n. view_wrong c.args.file.now (n + 138 * c.loop-hart.hart) ≡ false) (sym c.requires.place)
+    (c.requires.right c.loop-hart.hart (omega arith)))

@@ -5,12 +5,16 @@ use Rattle.run_check.specs.Content.{written_out}
 use Rattle.run_check.proofs.Codes.{longer_code, other_follows, other_number, same_number, written_longer}
 use Rattle.run_check.proofs.stretches.extend.Goals as goal
 
-pub returns-then-eq-clause-code : goal.returns-then-eq-clause-code
-returns-then-eq-clause-code c =
+pub returns-then-eq-clause-growing : goal.returns-then-eq-clause-growing
+returns-then-eq-clause-growing c =
     let items = c.args.stretches.now.items in
-    longer_code items c.in-Some.last c.args.hart c.args.count
-    (subst (λ p. IsCode (with_pending items p)) c.in-Some.is c.requires.code)
-    (same_number c.in-Some.last.hart.number c.args.hart.number c.eq.result c.eq.ensures c.if-eq.true)
+    record {
+      code =
+          longer_code items c.in-Some.last c.args.hart c.args.count
+          (subst (λ p. IsCode (with_pending items p)) c.in-Some.is c.requires.growing.code)
+          (same_number c.in-Some.last.hart.number c.args.hart.number c.eq.result c.eq.ensures c.if-eq.true);
+      none_before = λ none. absurd cc;
+    }
 
 pub returns-then-eq-clause-grown : goal.returns-then-eq-clause-grown
 returns-then-eq-clause-grown c =
@@ -19,11 +23,15 @@ returns-then-eq-clause-grown c =
     (same_number c.in-Some.last.hart.number c.args.hart.number c.eq.result c.eq.ensures c.if-eq.true)
     ∙ ap (λ p. written_out (with_pending items p) ++ replicate c.args.count c.args.hart.number) (sym c.in-Some.is)
 
-pub returns-clause-code : goal.returns-clause-code
-returns-clause-code c =
+pub returns-clause-growing : goal.returns-clause-growing
+returns-clause-growing c =
     let items = c.args.stretches.now.items in
-    other_follows items _ c.in-Some.last c.args.hart c.args.count
-    (subst (λ p. IsCode (with_pending items p)) c.in-Some.is c.requires.code)
-    c.in_ok-push.ensures.items
-    (other_number c.in-Some.last.hart.number c.args.hart.number c.eq.result c.eq.ensures c.if-eq.false)
-    (omega (arith, c.if-count-eq0.false))
+    record {
+      code =
+          other_follows items _ c.in-Some.last c.args.hart c.args.count
+          (subst (λ p. IsCode (with_pending items p)) c.in-Some.is c.requires.growing.code)
+          c.in_ok-push.ensures.items
+          (other_number c.in-Some.last.hart.number c.args.hart.number c.eq.result c.eq.ensures c.if-eq.false)
+          (omega (arith, c.if-count-eq0.false));
+      none_before = λ none. absurd cc;
+    }

@@ -1,5 +1,5 @@
-use Rattle.std.proofs.Common.{zero, suc, ◌<◌, [], ◌∷◌, ◌++◌, length, ap, subst, sym, ◌∙◌, arith}
-use Rattle.chronicle.specs.Chronicle.{events}
+use Rattle.std.proofs.Common.{[], ◌∷◌, ◌++◌, ◌<◌, length, ap, subst, sym, ◌∙◌, arith}
+use Rattle.std.proofs.lemmas.List.Elements.{All-append, All-nil, All-replicate}
 use Rattle.el_base.specs.declared.entries.Entry.{Entry}
 use Rattle.el_base.specs.declared.events.Kind.TheVariants.{Step}
 use Rattle.el_base.specs.declared.hart_id.HartId.{HartId}
@@ -7,7 +7,7 @@ use Rattle.el_base.specs.declared.outcomes.Outcome.TheVariants.{Committed}
 use Rattle.elf_image.specs.Program.{Program}
 use Rattle.rv_flat.specs.FlatState.{FlatState}
 use Rattle.rv_flat.specs.Run.{run}
-use Rattle.std.specs.Prelude.{All, replicate}
+use Rattle.std.specs.Prelude.{replicate}
 use Rattle.run_check.specs.Certified.{IsHistoryOf}
 use Rattle.run_check.proofs.ReachedStates.{reached_is_state}
 use Rattle.run_check.proofs.Runs.{start_harts}
@@ -16,13 +16,12 @@ use Rattle.run_check.proofs.tests.nine_steps.Goals as goal
 abbrev committed : HartId → Entry
 committed hart = record { event = record { kind = Step; hart = hart }; outcome = Committed 9 }
 
-each : (program : Program) (hart : HartId) → hart.number < program.harts → All (λ event. event.hart.number < program.harts) (events (committed hart ∷ []))
-each program hart low zero d within = low
-each program hart low (suc k) d within = absurd (omega arith)
-
-one_entry : (program : Program) (hart : HartId) → hart.number < program.harts → IsHistoryOf program (committed hart ∷ [])
+one_entry : (program : Program) (hart : HartId) → hart.number < program.harts →
+    IsHistoryOf program (committed hart ∷ [])
 one_entry program hart low = record {
-  harts = each program hart low;
+  harts =
+      All-append (λ hart. hart < program.harts) (replicate 9 hart.number) []
+      (All-replicate (λ hart. hart < program.harts) 9 hart.number low) (All-nil (λ hart. hart < program.harts));
   few = omega arith;
 }
 
@@ -42,7 +41,8 @@ returns-clause-history c =
     ∙ ap (λ h. h.entries ++ c.entry.result ∷ []) c.in_ok-history.ensures
     ∙ ap (λ e. e ∷ []) c.entry.ensures
     in
-    subst (IsHistoryOf c.args.image.now) (sym entries) (one_entry c.args.image.now _ (omega (arith, c.harts.ensures.valid.some_hart)))
+    subst (IsHistoryOf c.args.image.now) (sym entries)
+    (one_entry c.args.image.now _ (omega (arith, c.harts.ensures.valid.some_hart)))
 
 pub returns-clause-state : goal.returns-clause-state
 returns-clause-state c =

@@ -1,5 +1,7 @@
 pub mod Steps
 mod GoingRound
+mod Recordings
+mod SameOutcomes
 mod RoundRobins
 mod Turning
 mod Ending

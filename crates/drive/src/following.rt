@@ -1,7 +1,9 @@
-ghost use Rattle.std.specs.Prelude.{◌≡◌, ◌<◌, ◌≤◌, ◌∷◌, [], All, length};
-ghost use Rattle.machine.specs.Story.{continued, left_of};
+ghost use Rattle.std.specs.Prelude.{◌≡◌, ◌≢◌, ◌<◌, ◌≤◌, ◌∷◌, [], ◌↔◌, ℕ, All, None, Some, length};
+ghost use Rattle.drive.specs.Recording.{IsFirstDifference};
+ghost use Rattle.el_model.specs.Next.{next, outcomes_from};
+ghost use Rattle.machine.specs.Story.{continued, left_of, state_of};
 
-use el_base::Event;
+use el_base::{Event, Outcome};
 use machine::Machine;
 
 /// Makes these events, in their order.
@@ -16,11 +18,52 @@ pub fn follow(machine: &mut Machine, events: &[Event])
     }
 }
 
+/// Makes these events, in their order, and compares what comes of each with the outcome that was recorded for it.
+///
+/// It makes all of them, and answers the first place, from 0 on, at which the outcome is not the recorded one:
+/// `None` exactly where each is.
+pub fn follow_recorded(machine: &mut Machine, events: &[Event], recorded: &[Outcome]) -> Option<u32>
+    requires harts_exist { All (λ event. event.hart.number < machine.old.config.harts) events.now }
+    requires enough_steps { length events.now ≤ left_of machine.old }
+    requires one_each { length recorded.now ≡ length events.now }
+    ensures followed { machine.new ≡ continued machine.old events.now }
+    ensures differs { (place : ℕ) →
+        (result ≡ Some place)
+        ↔ IsFirstDifference recorded.now (outcomes_from (state_of machine.old) events.now) place }
+    ensures agrees { (result ≡ None) ↔ (recorded.now ≡ outcomes_from (state_of machine.old) events.now) }
+{
+    let steps = machine.steps_left();
+    prove!(events.len() <= steps as usize);
+    let mut first = None;
+    for (place, event) in events.iter().enumerate() {
+        let found = make(machine, *event);
+        first = first_up_to(place as u32, first, recorded[place], found);
+    }
+    first
+}
+
+/// The first difference up to a place, by the first one before it and the two outcomes of the place.
+#[tactic(auto, using(crate::proofs::SameOutcomes::same_outcome))]
+fn first_up_to(place: u32, before: Option<u32>, recorded: Outcome, found: Outcome) -> Option<u32>
+    ensures agrees { (result ≡ None) ↔ ((before ≡ None) × (recorded ≡ found)) }
+    ensures earlier { (first : ℕ) → before ≡ Some first → result ≡ Some first }
+    ensures here { before ≡ None → recorded ≢ found → result ≡ Some place }
+{
+    if before.is_some() {
+        before
+    } else if recorded == found {
+        None
+    } else {
+        Some(place)
+    }
+}
+
 /// Makes one event.
-fn make(machine: &mut Machine, event: Event)
+fn make(machine: &mut Machine, event: Event) -> Outcome
     requires hart_exists { event.hart.number < machine.old.config.harts }
     requires step_left { 1 ≤ left_of machine.old }
-    ensures { machine.new ≡ continued machine.old (event ∷ []) }
+    ensures goes_on { machine.new ≡ continued machine.old (event ∷ []) }
+    ensures outcome { result ≡ (next (state_of machine.old) event).outcome }
 {
-    machine.step(event);
+    machine.step(event)
 }

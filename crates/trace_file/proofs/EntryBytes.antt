@@ -1,11 +1,11 @@
--- One more entry of a history as a byte.
-use Rattle.std.proofs.Common.{◌≡◌, ℕ, zero, suc, ◌+◌, List, [], ◌∷◌, ◌++◌, map, take, Some, sym, ap, ◌∙◌, append_assoc, add-one}
+-- One more entry of a history as bytes.
+use Rattle.std.proofs.Common.{◌≡◌, ℕ, zero, suc, ◌+◌, List, [], ◌∷◌, ◌++◌, length, map, take, Some, refl, sym, ap, ◌∙◌, append_assoc, arith}
 use Rattle.std.specs.List.{slice_get}
-use Rattle.std.proofs.lemmas.List.{map-append}
+use Rattle.std.proofs.lemmas.List.{append-nil, length-append}
 use Rattle.chronicle.specs.Chronicle.{events}
 use Rattle.el_base.specs.declared.entries.Entry.{Entry}
-use Rattle.el_base.specs.declared.events.Event.{Event}
-use Rattle.trace_file.specs.Spelling.{event_byte}
+use Rattle.trace_file.specs.Outcomes.{outcome_spelling}
+use Rattle.trace_file.specs.Spelling.{entry_bytes, event_byte, outcomes, recorded_bytes}
 
 take_next : (entries : List Entry) (place : ℕ) (entry : Entry) → slice_get entries place ≡ Some entry →
     take (suc place) entries ≡ take place entries ++ entry ∷ []
@@ -14,17 +14,47 @@ take_next (first ∷ entries) zero entry found = let same : first ≡ entry = cc
 take_next (first ∷ entries) (suc place) entry found =
     ap (λ (l : List Entry). first ∷ l) (take_next entries place entry found)
 
-pub one_more : (front before after : List ℕ) (entries : List Entry) (place : ℕ) (entry : Entry) →
+-- entries as bytes
+abbrev pub bytes_of : List Entry → List ℕ
+bytes_of entries = recorded_bytes (events entries) (outcomes entries)
+
+bytes_push : (entries : List Entry) (entry : Entry) →
+    bytes_of (entries ++ entry ∷ []) ≡ bytes_of entries ++ entry_bytes entry.event entry.outcome
+bytes_push [] entry = append-nil (entry_bytes entry.event entry.outcome)
+bytes_push (first ∷ entries) entry =
+    ap (λ (l : List ℕ). entry_bytes first.event first.outcome ++ l) (bytes_push entries entry)
+    ∙ sym (append_assoc (entry_bytes first.event first.outcome) (bytes_of entries) (entry_bytes entry.event entry.outcome))
+
+-- the bytes of one more entry of a history
+pub one_more : (entries : List Entry) (place : ℕ) (entry : Entry) → slice_get entries place ≡ Some entry →
+    bytes_of (take (place + 1) entries) ≡ bytes_of (take place entries) ++ entry_bytes entry.event entry.outcome
+one_more entries place entry found =
+    let next : place + 1 ≡ suc place = omega arith in
+    ap (λ (n : ℕ). bytes_of (take n entries)) next
+    ∙ ap bytes_of (take_next entries place entry found)
+    ∙ bytes_push (take place entries) entry
+
+pub longer : (entries : List Entry) (place : ℕ) (entry : Entry) (before after : ℕ) → slice_get entries place ≡ Some entry →
+    before ≡ length (bytes_of (take place entries)) → after ≡ before + (1 + length (outcome_spelling entry.outcome)) →
+    after ≡ length (bytes_of (take (place + 1) entries))
+longer entries place entry before after found is next =
+    let more = ap length (one_more entries place entry found) in
+    let parts = length-append (bytes_of (take place entries)) (entry_bytes entry.event entry.outcome) in
+    omega (arith, is, next, more, parts)
+
+pub spelled_more : (front before pushed after spelled : List ℕ) (entries : List Entry) (place : ℕ) (entry : Entry) →
     slice_get entries place ≡ Some entry →
-    before ≡ front ++ map event_byte (events (take place entries)) →
-    after ≡ before ++ event_byte entry.event ∷ [] →
-    after ≡ front ++ map event_byte (events (take (place + 1) entries))
-one_more front before after entries place entry found so-far pushed =
-    let next : events (take (place + 1) entries) ≡ events (take place entries) ++ entry.event ∷ [] =
-    rw (add-one, take_next entries place entry found) (map-append _ _ _)
-    in
-    pushed
-    ∙ ap (λ (l : List ℕ). l ++ event_byte entry.event ∷ []) so-far
-    ∙ append_assoc front _ _
-    ∙ ap (λ (l : List ℕ). front ++ l) (sym (map-append event_byte (events (take place entries)) (entry.event ∷ [])))
-    ∙ ap (λ (l : List Event). front ++ map event_byte l) (sym next)
+    before ≡ front ++ bytes_of (take place entries) →
+    pushed ≡ before ++ event_byte entry.event ∷ [] →
+    spelled ≡ outcome_spelling entry.outcome →
+    after ≡ pushed ++ spelled →
+    after ≡ front ++ bytes_of (take (place + 1) entries)
+spelled_more front before pushed after spelled entries place entry found so-far first second third =
+    let outcome = outcome_spelling entry.outcome in
+    third
+    ∙ ap (λ (l : List ℕ). pushed ++ l) second
+    ∙ ap (λ (l : List ℕ). l ++ outcome) first
+    ∙ append_assoc before (event_byte entry.event ∷ []) outcome
+    ∙ ap (λ (l : List ℕ). l ++ entry_bytes entry.event entry.outcome) so-far
+    ∙ append_assoc front (bytes_of (take place entries)) (entry_bytes entry.event entry.outcome)
+    ∙ ap (λ (l : List ℕ). front ++ l) (sym (one_more entries place entry found))

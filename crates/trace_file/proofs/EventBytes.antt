@@ -1,10 +1,15 @@
 -- Events as bytes.
-use Rattle.std.proofs.Common.{◌≡◌, ℕ, ◌≤◌, Bool, true, false, not, List, length, take, get_or, ap, sym, ◌∙◌, cond, Some, None, IsTrue, refl, arith}
+use Rattle.std.proofs.Common.{◌≡◌, ℕ, zero, suc, ◌-◌, ◌≤◌, Bool, true, false, not, List, length, take, drop, get_or, ap, sym, ◌∙◌, cond, Some, None, IsTrue, refl, arith}
 use Rattle.std.specs.Prelude.{All}
 use Rattle.std.specs.List.{position, position_or_len}
 use Rattle.std.proofs.lemmas.List.Sums.{fails_before_first}
 use Rattle.std.proofs.lemmas.Bool.{ltb-false}
+use Rattle.std.proofs.lemmas.List.{take_rest}
 use Rattle.std.proofs.Math.Seq.{take-length}
+use Rattle.el_base.specs.Kinds.{kind_number}
+use Rattle.el_base.specs.declared.events.Kind.{Kind}
+use Rattle.el_base.specs.declared.events.Kind.TheVariants.{Step, Order, Serve, Deliver}
+use Rattle.trace_file.specs.Reading.{kind_at}
 
 not_false : (b : Bool) → not b ≡ false → b ≡ true
 not_false true e = refl
@@ -22,3 +27,24 @@ none_fails test xs none k d within =
 
 pub all_taken : (count : ℕ) (xs : List ℕ) → length xs ≡ count → take count xs ≡ xs
 all_taken count xs is = ap (λ (n : ℕ). take n xs) (sym is) ∙ take-length xs
+
+-- a kind is that of its number
+pub kind_back : (kind : Kind) → kind_at (kind_number kind) ≡ kind
+unfolding kind_at
+kind_back Step = refl
+kind_back Order = refl
+kind_back Serve = refl
+kind_back Deliver = refl
+
+-- a number up to 3 is that of its kind
+pub kind_again : (n : ℕ) → n ≤ 3 → kind_number (kind_at n) ≡ n
+unfolding kind_at
+kind_again zero small = refl
+kind_again (suc zero) small = refl
+kind_again (suc (suc zero)) small = refl
+kind_again (suc (suc (suc zero))) small = refl
+kind_again (suc (suc (suc (suc n)))) small = absurd (omega arith)
+
+-- all that is behind so many bytes
+pub all_behind : (bytes : List ℕ) (count : ℕ) → take (length bytes - count) (drop count bytes) ≡ drop count bytes
+all_behind bytes count = take_rest bytes count

@@ -9,21 +9,20 @@ use Rattle.el_base.specs.Config.{allows}
 use Rattle.el_base.specs.declared.config.ConfigFault.TheVariants.{Harts, Sets, Ways, Lines, Long, Steps}
 use Rattle.el_base.specs.Firsts.{first_of, some_if}
 use Rattle.byteorder.specs.Endian.{little_bytes, little_number}
-use Rattle.el_base.specs.declared.config.Config.{Config}
 use Rattle.el_base.specs.declared.file_fault.FileFault.{FileFault}
 use Rattle.trace_file.specs.declared.fault.FaultKind.{FaultKind}
-use Rattle.trace_file.specs.declared.fault.FaultKind.TheVariants.{Short, Magic, Version, Config as config_kind}
+use Rattle.trace_file.specs.declared.fault.FaultKind.TheVariants.{Short, Magic, Config as config_kind}
 use Rattle.el_base.specs.Modes.{mode_number}
 use Rattle.trace_file.specs.Spelling.{head}
 use Rattle.trace_file.specs.FaultKinds.{fault_of}
-use Rattle.trace_file.specs.Faults.{field, wrong, byte_fault, magic_fault, version_fault, settings_fault, number_fault, is_mode, number_at, mode_at, config_at}
+use Rattle.trace_file.specs.Faults.{field, wrong, byte_fault, magic_fault, settings_fault, number_fault, is_mode, number_at, mode_at, config_at}
 
 abbrev pub IsBytes : List ℕ → Type 0
 IsBytes bytes = (i : ℕ) → get_or bytes i 0 < 256
 
 -- ---- numbers
 
-cells_of : (n a b c d : ℕ) → n ≡ a + 256 * (b + 256 * (c + 256 * (d + 256 * 0))) →
+pub cells_of : (n a b c d : ℕ) → n ≡ a + 256 * (b + 256 * (c + 256 * (d + 256 * 0))) →
     a < 256 → b < 256 → c < 256 → d < 256 →
     little_bytes 4 n ≡ a ∷ b ∷ c ∷ d ∷ []
 cells_of n a b c d is ha hb hc hd =
@@ -33,10 +32,10 @@ cells_of n a b c d is ha hb hc hd =
     let e3 : n / 16777216 % 256 ≡ d = omega arith in
     rw (e0, e1, e2, e3) refl
 
-cell : (bytes : List ℕ) (i : ℕ) → i < length bytes → drop i bytes ≡ get_or bytes i 0 ∷ drop (suc i) bytes
+pub cell : (bytes : List ℕ) (i : ℕ) → i < length bytes → drop i bytes ≡ get_or bytes i 0 ∷ drop (suc i) bytes
 cell bytes i within = drop-cons bytes i 0 within
 
-front : (bytes : List ℕ) → 4 ≤ length bytes →
+pub front : (bytes : List ℕ) → 4 ≤ length bytes →
     bytes ≡ get_or bytes 0 0 ∷ get_or bytes 1 0 ∷ get_or bytes 2 0 ∷ get_or bytes 3 0 ∷ drop 4 bytes
 front bytes long =
     cell bytes 0 (omega arith)
@@ -45,7 +44,7 @@ front bytes long =
     ∙ ap (λ (t : List ℕ). get_or bytes 0 0 ∷ get_or bytes 1 0 ∷ get_or bytes 2 0 ∷ t) (cell bytes 3 (omega arith))
 
 -- four bytes are the little-endian bytes of their number
-four_bytes : (bytes : List ℕ) → IsBytes bytes → 4 ≤ length bytes →
+pub four_bytes : (bytes : List ℕ) → IsBytes bytes → 4 ≤ length bytes →
     little_bytes 4 (little_number 4 bytes) ++ drop 4 bytes ≡ bytes
 four_bytes bytes fits long =
     ap
@@ -53,7 +52,7 @@ four_bytes bytes fits long =
     (cells_of (little_number 4 bytes) _ _ _ _ refl (fits 0) (fits 1) (fits 2) (fits 3))
     ∙ sym (front bytes long)
 
-bytes_behind : (place : ℕ) (file : List ℕ) → IsBytes file → IsBytes (drop place file)
+pub bytes_behind : (place : ℕ) (file : List ℕ) → IsBytes file → IsBytes (drop place file)
 bytes_behind place file fits i = rw get_or-drop (fits (place + i))
 
 four_at : (file : List ℕ) (place end : ℕ) → IsBytes file → end ≤ length file → place + 4 ≡ end →
@@ -74,7 +73,7 @@ pub if_none : (wrong : Bool) (kind : FaultKind) (place : ℕ) → some_if wrong 
 if_none true kind place none = absurd cc
 if_none false kind place none = refl
 
-neither : (short : Bool) (x : FileFault) (fault : Option FileFault) → cond short (Some x) fault ≡ None →
+pub neither : (short : Bool) (x : FileFault) (fault : Option FileFault) → cond short (Some x) fault ≡ None →
     (short ≡ false) × (fault ≡ None)
 neither true x fault none = absurd cc
 neither false x fault none = (refl, none)
@@ -111,10 +110,6 @@ magic_none file none =
       wrong_none file 2 0x54 Magic e2.0,
       wrong_none file 3 0x52 Magic e3.0,
     )
-
-version_none : (file : List ℕ) → version_fault file ≡ None → get_or file 4 0 ≡ 1
-unfolding version_fault
-version_none file none = wrong_none file 4 1 Version (field_none file 5 (wrong file 4 1 Version) none).1
 
 pub mode_again : (n : ℕ) → n ≤ 2 → mode_number (mode_at n) ≡ n
 mode_again zero small = refl
@@ -191,15 +186,12 @@ settings_spelled file fits long mode =
     (cell file 9 (omega arith)
     ∙ ap (λ (t : List ℕ). get_or file 9 0 ∷ t) (sym (numbers file fits long))))))
 
-pub head_spelled : (file : List ℕ) (config : Config) (count : ℕ) → IsBytes file → 22 ≤ length file →
-    magic_fault file ≡ None → version_fault file ≡ None → settings_fault file ≡ None →
-    config ≡ config_at file → count ≡ number_at file 18 →
-    file ≡ head config count ++ drop 22 file
+pub head_spelled : (file : List ℕ) → IsBytes file → 22 ≤ length file → magic_fault file ≡ None → settings_fault file ≡ None →
+    file ≡ head (get_or file 4 0) (config_at file) (number_at file 18) ++ drop 22 file
 unfolding config_at
-head_spelled file config count fits long magic version settings config-is count-is =
+head_spelled file fits long magic settings =
     let letters = magic_none file magic in
     let mode = sym (mode_none file settings) in
-    let spelled : file ≡ head (config_at file) (number_at file 18) ++ drop 22 file =
     holds file 0 0x45 (omega arith) letters.0
     ∙ ap (λ (t : List ℕ). 0x45 ∷ t)
     (holds file 1 0x4c (omega arith) letters.1
@@ -208,9 +200,5 @@ head_spelled file config count fits long magic version settings config-is count-
     ∙ ap (λ (t : List ℕ). 0x54 ∷ t)
     (holds file 3 0x52 (omega arith) letters.3
     ∙ ap (λ (t : List ℕ). 0x52 ∷ t)
-    (holds file 4 1 (omega arith) (version_none file version)
-    ∙ ap (λ (t : List ℕ). 1 ∷ t) (settings_spelled file fits long mode)))))
-    in
-    spelled
-    ∙ ap (λ (c : Config). head c (number_at file 18) ++ drop 22 file) (sym config-is)
-    ∙ ap (λ (n : ℕ). head config n ++ drop 22 file) (sym count-is)
+    (cell file 4 (omega arith)
+    ∙ ap (λ (t : List ℕ). get_or file 4 0 ∷ t) (settings_spelled file fits long mode)))))

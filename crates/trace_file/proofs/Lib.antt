@@ -1,6 +1,11 @@
 pub mod EntryBytes
+pub mod EntryLaws
 pub mod EventBytes
+pub mod FieldRows
 pub mod Heads
 pub mod Judged
+pub mod Nibbles
+pub mod OutcomeLaws
 pub mod Spelled
+pub mod Walk
 pub mod Worked

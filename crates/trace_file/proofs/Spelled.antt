@@ -1,36 +1,37 @@
--- A trace that is spelled has no fault, and no two traces are spelled the same.
-use Rattle.std.proofs.Common.{◌≡◌, ℕ, ◌+◌, ◌*◌, ◌/◌, ◌%◌, ◌^◌, ◌≤◌, ◌<◌, Bool, true, false, not, ◌==◌, cond, ltb, List, [], ◌∷◌, ◌++◌, length, map, get_or, take, drop, Option, Some, None, IsTrue, refl, sym, ap, ◌∙◌, inl, inr, arith}
+-- A trace that is spelled has no fault, and is read again.
+use Rattle.std.proofs.Common.{◌≡◌, ℕ, ◌+◌, ◌*◌, ◌/◌, ◌%◌, ◌^◌, ◌≤◌, ◌<◌, Bool, true, false, not, ◌==◌, ltb, List, [], ◌∷◌, ◌++◌, length, map, get_or, take, drop, Option, Some, None, IsTrue, refl, sym, ap, ◌∙◌, inl, inr, arith}
 use Rattle.std.specs.Prelude.{All}
-use Rattle.std.specs.List.{list_any, position, position_or_len}
+use Rattle.std.specs.List.{position, position_or_len}
 use Rattle.std.proofs.lemmas.Bool.{cases_lt, le-ltb}
 use Rattle.std.proofs.lemmas.Bool.Decides.{nat_tests}
-use Rattle.std.proofs.lemmas.List.{length-map, length-drop, take_all}
+use Rattle.std.proofs.lemmas.List.{length-map, take_all}
 use Rattle.std.proofs.lemmas.List.Sums.{passes_at_first}
 use Rattle.std.proofs.lemmas.List.Elements.{All-map}
 use Rattle.std.specs.Option.{option_or}
 use Rattle.byteorder.specs.Endian.{little_bytes}
 use Rattle.byteorder.specs.Numbers.{little_number-reads_back}
-use Rattle.el_base.specs.Config.{IsInRange, allows}
+use Rattle.chronicle.specs.Chronicle.{events}
+use Rattle.el_base.specs.Config.{allows, within}
 use Rattle.el_base.specs.declared.config.ConfigFault.TheVariants.{Harts, Sets, Ways, Lines, Long, Steps}
 use Rattle.el_base.specs.declared.config.TheConstants.{MAX_STEPS}
+use Rattle.el_base.specs.declared.hart_id.TheConstants.{MAX_HARTS}
 use Rattle.el_base.specs.Firsts.{some_if}
 use Rattle.el_base.proofs.Ranges.{Ranges, ranges, at_most}
-use Rattle.el_base.specs.Kinds.{kind_number}
-use Rattle.el_base.proofs.HartIds.{same_hart}
-use Rattle.el_base.specs.declared.hart_id.HartId.{HartId}
 use Rattle.el_base.specs.declared.events.Event.{Event}
-use Rattle.el_base.specs.declared.events.Kind.{Kind}
-use Rattle.el_base.specs.declared.events.Kind.TheVariants.{Step, Order, Serve, Deliver}
 use Rattle.el_base.specs.declared.config.Config.{Config}
 use Rattle.el_base.specs.declared.config.Mode.{Mode}
 use Rattle.el_base.specs.declared.config.Mode.TheVariants.{Plain, Sle, Tlr}
 use Rattle.el_base.specs.declared.file_fault.FileFault.{FileFault}
+use Rattle.el_base.specs.declared.outcomes.Outcome.{Outcome}
 use Rattle.trace_file.specs.declared.fault.FaultKind.{FaultKind}
-use Rattle.trace_file.specs.declared.fault.FaultKind.TheVariants.{Config as config_kind}
+use Rattle.trace_file.specs.declared.fault.FaultKind.TheVariants.{Config as config_kind, Version, Tail}
 use Rattle.el_base.specs.Modes.{mode_number}
-use Rattle.trace_file.specs.Spelling.{head, spelling, event_byte, IsTrace}
+use Rattle.trace_file.specs.Spelling.{head, spelling, event_byte, outcomes, recorded_bytes, version_of, IsTrace}
 use Rattle.trace_file.specs.FaultKinds.{fault_of}
-use Rattle.trace_file.specs.Faults.{field, byte_fault, magic_fault, version_fault, settings_fault, number_fault, head_fault, number_at, mode_at, is_mode, is_few, is_event, event_fault, end_fault, trace_fault}
+use Rattle.trace_file.specs.Fields.{is_event}
+use Rattle.trace_file.specs.Faults.{field, byte_fault, magic_fault, version_fault, settings_fault, number_fault, head_fault, number_at, mode_at, is_mode, is_few, is_version, event_fault, end_fault, events_fault, entries_fault, body_fault, trace_fault, config_at}
+use Rattle.trace_file.specs.Reading.{entries_in, event_in, events_at, recorded_at}
+use Rattle.trace_file.proofs.EntryLaws.{both_none, entries_again, event_back, event_passes}
 
 -- ---- fields without a fault
 
@@ -55,35 +56,20 @@ unfolding number_fault
 number_passes file place test whole passed =
     field_passes file (place + 4) _ whole (holds_passes (test (number_at file place)) config_kind place passed)
 
--- ---- what stands in a spelling
+-- ---- what stands in a head, whatever follows it
 
-spelled_length : (config : Config) (events : List Event) → length (spelling config events) ≡ 22 + length events
-spelled_length config events = omega (arith, length-map events event_byte)
+abbrev headed : ℕ → Config → ℕ → List ℕ → List ℕ
+headed version c count tail = head version c count ++ tail
 
-long_is : (config : Config) (events : List Event) → config.long < 2 ^ 32 →
-    number_at (spelling config events) 10 ≡ config.long
-long_is config events small =
-    little_number-reads_back 4 config.long
-    (little_bytes 4 config.steps ++ (little_bytes 4 (length events) ++ map event_byte events)) small
+long_is : (version count : ℕ) (c : Config) (tail : List ℕ) → c.long < 2 ^ 32 → number_at (headed version c count tail) 10 ≡ c.long
+long_is version count c tail small =
+    little_number-reads_back 4 c.long (little_bytes 4 c.steps ++ (little_bytes 4 count ++ tail)) small
 
-steps_is : (config : Config) (events : List Event) → config.steps < 2 ^ 32 →
-    number_at (spelling config events) 14 ≡ config.steps
-steps_is config events small =
-    little_number-reads_back 4 config.steps (little_bytes 4 (length events) ++ map event_byte events) small
+steps_is : (version count : ℕ) (c : Config) (tail : List ℕ) → c.steps < 2 ^ 32 → number_at (headed version c count tail) 14 ≡ c.steps
+steps_is version count c tail small = little_number-reads_back 4 c.steps (little_bytes 4 count ++ tail) small
 
-count_is : (config : Config) (events : List Event) → length events < 2 ^ 32 →
-    number_at (spelling config events) 18 ≡ length events
-count_is config events small = little_number-reads_back 4 (length events) (map event_byte events) small
-
-not_both : (b : Bool) → b ≡ true → not b ≡ true → ⊥
-not_both true passes fails = absurd cc
-not_both false passes fails = absurd cc
-
--- ---- a spelling has no fault
-
-both_none : (a b : Option FileFault) → a ≡ None → b ≡ None → option_or a b ≡ None
-both_none None b first second = second
-both_none (Some fault) b first second = absurd cc
+count_is : (version count : ℕ) (c : Config) (tail : List ℕ) → count < 2 ^ 32 → number_at (headed version c count tail) 18 ≡ count
+count_is version count c tail small = little_number-reads_back 4 count tail small
 
 few_pass : (count steps : ℕ) → count ≤ steps → is_few steps count ≡ true
 few_pass count steps few = grind (arith, nat_tests)
@@ -93,15 +79,14 @@ mode_passes Plain = refl
 mode_passes Sle = refl
 mode_passes Tlr = refl
 
-settings_pass : (c : Config) (es : List Event) → Ranges c → settings_fault (spelling c es) ≡ None
+settings_pass : (version count : ℕ) (c : Config) (tail : List ℕ) → Ranges c → settings_fault (headed version c count tail) ≡ None
 unfolding settings_fault
-settings_pass c es r =
-    let file = spelling c es in
-    let long = spelled_length c es in
+settings_pass version count c tail r =
+    let file = headed version c count tail in
     let small = at_most 2 65536 c.long r.long in
     let few = at_most 1 MAX_STEPS c.steps r.steps in
-    let long-in : allows Long (number_at file 10) ≡ true = rw (long_is c es (omega arith)) r.long in
-    let steps-in : allows Steps (number_at file 14) ≡ true = rw (steps_is c es (omega arith)) r.steps in
+    let long-in : allows Long (number_at file 10) ≡ true = rw (long_is version count c tail (omega arith)) r.long in
+    let steps-in : allows Steps (number_at file 14) ≡ true = rw (steps_is version count c tail (omega arith)) r.steps in
     both_none (byte_fault file 5 (allows Harts)) _ (byte_passes file 5 (allows Harts) (omega arith) r.harts)
     (both_none (byte_fault file 6 is_mode) _ (byte_passes file 6 is_mode (omega arith) (mode_passes c.mode))
     (both_none (byte_fault file 7 (allows Sets)) _ (byte_passes file 7 (allows Sets) (omega arith) r.sets)
@@ -110,33 +95,26 @@ settings_pass c es r =
     (both_none (number_fault file 10 (allows Long)) _ (number_passes file 10 (allows Long) (omega arith) long-in)
     (both_none (number_fault file 14 (allows Steps)) None (number_passes file 14 (allows Steps) (omega arith) steps-in) refl))))))
 
-head_passes : (c : Config) (es : List Event) → Ranges c → length es ≤ c.steps →
-    head_fault (spelling c es) ≡ None
+head_passes : (version count : ℕ) (c : Config) (tail : List ℕ) → is_version version ≡ true → Ranges c → count ≤ c.steps →
+    head_fault (headed version c count tail) ≡ None
 unfolding head_fault magic_fault version_fault
-head_passes c es r few =
-    let file = spelling c es in
-    let long = spelled_length c es in
+head_passes version count c tail known r few =
+    let file = headed version c count tail in
     let most = at_most 1 MAX_STEPS c.steps r.steps in
     let count-in : is_few (number_at file 14) (number_at file 18) ≡ true =
-    rw (steps_is c es (omega arith), count_is c es (omega arith)) (few_pass (length es) c.steps few)
+    rw (steps_is version count c tail (omega arith), count_is version count c tail (omega arith)) (few_pass count c.steps few)
     in
     both_none (magic_fault file) _ (field_passes file 4 _ (omega arith) refl)
-    (both_none (version_fault file) _ (field_passes file 5 _ (omega arith) refl)
-    (both_none (settings_fault file) _ (settings_pass c es r)
+    (both_none (version_fault file) _ (field_passes file 5 _ (omega arith) (holds_passes (is_version version) Version 4 known))
+    (both_none (settings_fault file) _ (settings_pass version count c tail r)
     (both_none (number_fault file 18 (is_few (number_at file 14))) None
     (number_passes file 18 (is_few (number_at file 14)) (omega arith) count-in) refl)))
 
-kind_small : (kind : Kind) → kind_number kind ≤ 3
-kind_small Step = omega arith
-kind_small Order = omega arith
-kind_small Serve = omega arith
-kind_small Deliver = omega arith
+-- ---- events without outcomes
 
-parts : (k h harts : ℕ) → k ≤ 3 → h < 8 → h < harts → is_event harts (16 * k + h) ≡ true
-parts k h harts small low within =
-    let high : (16 * k + h) / 16 ≡ k = omega arith in
-    let rest : (16 * k + h) % 16 ≡ h = omega arith in
-    rw (high, rest) (grind (arith, nat_tests))
+not_both : (b : Bool) → b ≡ true → not b ≡ true → ⊥
+not_both true passes fails = absurd cc
+not_both false passes fails = absurd cc
 
 none_other : (test : ℕ → Bool) (xs : List ℕ) → All (λ x. IsTrue (test x)) xs → position (λ x. not (test x)) xs ≡ None
 none_other test xs each =
@@ -150,86 +128,70 @@ none_other test xs each =
     ]
 
 events_pass : (c : Config) (es : List Event) → All (λ (event : Event). event.hart.number < c.harts) es →
-    event_fault c.harts (length es) (spelling c es) ≡ None
+    event_fault c.harts (length es) (spelling c es None) ≡ None
 unfolding event_fault
 events_pass c es each =
     let bytes = map event_byte es in
     let all : take (length es) bytes ≡ bytes = take_all (length es) bytes (omega (arith, length-map es event_byte)) in
     let known : All (λ byte. IsTrue (is_event c.harts byte)) bytes =
     All-map (λ byte. IsTrue (is_event c.harts byte)) event_byte es
-    (λ k d within.
-    parts
-    (kind_number (get_or es k d).kind)
-    (get_or es k d).hart.number
-    c.harts
-    (kind_small (get_or es k d).kind)
-    (get_or es k d).hart.small
-    (each k d within))
+    (λ k d within. event_passes c.harts (get_or es k d) (each k d within))
     in
     rw (all, none_other (is_event c.harts) bytes known) refl
 
-end_passes : (c : Config) (es : List Event) → end_fault (length es) (spelling c es) ≡ None
+end_passes : (c : Config) (es : List Event) → end_fault (length es) (spelling c es None) ≡ None
 unfolding end_fault
 end_passes c es =
-    let file = spelling c es in
-    let long = spelled_length c es in
+    let file = spelling c es None in
+    let long : length file ≡ 22 + length es = omega (arith, length-map es event_byte) in
     let over : ltb (22 + length es) (length file) ≡ false = le-ltb (22 + length es) (length file) (omega arith) in
     field_passes file (22 + length es) _ (omega arith) (rw over refl)
 
-pub no_fault : (c : Config) (es : List Event) (file : List ℕ) → IsTrace c es → file ≡ spelling c es →
-    trace_fault file ≡ None
+events_back : (es : List Event) → map event_in (map event_byte es) ≡ es
+events_back [] = refl
+events_back (e ∷ es) =
+    ap (λ (x : Event). x ∷ map event_in (map event_byte es)) (event_back e) ∙ ap (λ (l : List Event). e ∷ l) (events_back es)
+
+-- ---- the body
+
+few_harts : (c : Config) → Ranges c → c.harts ≤ 8
+few_harts c r = at_most 1 MAX_HARTS c.harts r.harts
+
+count_small : (c : Config) (es : List Event) → Ranges c → length es ≤ c.steps → length es < 2 ^ 32
+count_small c es r few = let most = at_most 1 MAX_STEPS c.steps r.steps in omega arith
+
+body_passes : (c : Config) (es : List Event) (os : Option (List Outcome)) → Ranges c → IsTrace c es os →
+    body_fault (spelling c es os) ≡ None
+unfolding body_fault events_fault
+body_passes c es None r is =
+    let file = spelling c es None in
+    let count = count_is 1 (length es) c (map event_byte es) (count_small c es r is.few) in
+    both_none (event_fault c.harts (number_at file 18) file) _
+    (ap (λ (n : ℕ). event_fault c.harts n file) count ∙ events_pass c es is.harts)
+    (both_none (end_fault (number_at file 18) file) None (ap (λ (n : ℕ). end_fault n file) count ∙ end_passes c es) refl)
+body_passes c es (Some os) r is =
+    let count = count_is 2 (length es) c (recorded_bytes es os) (count_small c es r is.few) in
+    let again = entries_again c.harts 22 es os (few_harts c r) is.told.0 is.harts is.told.1 in
+    ap (λ (n : ℕ). entries_fault c.harts n 22 (recorded_bytes es os)) count ∙ again.faultless
+
+version_known : (os : Option (List Outcome)) → is_version (version_of os) ≡ true
+version_known None = refl
+version_known (Some os) = refl
+
+pub no_fault : (c : Config) (es : List Event) (os : Option (List Outcome)) → IsTrace c es os → trace_fault (spelling c es os) ≡ None
 unfolding trace_fault
-no_fault c es file is file-is =
+no_fault c es os is =
     let r = ranges c is.in_range in
-    let most = at_most 1 MAX_STEPS c.steps r.steps in
-    let few = is.few in
-    let count = count_is c es (omega arith) in
-    let spelled : trace_fault (spelling c es) ≡ None =
-    both_none (head_fault (spelling c es)) _ (head_passes c es r is.few)
-    (both_none (event_fault c.harts (number_at (spelling c es) 18) (spelling c es)) _
-    (ap (λ (n : ℕ). event_fault c.harts n (spelling c es)) count ∙ events_pass c es is.harts)
-    (both_none (end_fault (number_at (spelling c es) 18) (spelling c es)) None
-    (ap (λ (n : ℕ). end_fault n (spelling c es)) count ∙ end_passes c es) refl))
-    in
-    ap trace_fault file-is ∙ spelled
+    both_none (head_fault (spelling c es os)) _
+    (head_passes (version_of os) (length es) c _ (version_known os) r is.few)
+    (both_none (body_fault (spelling c es os)) None (body_passes c es os r is) refl)
 
--- ---- one spelling each
-
-unfoldable pub kind_at : ℕ → Kind
-kind_at n = cond (n == 0) Step (cond (n == 1) Order (cond (n == 2) Serve Deliver))
-
-kind_back : (kind : Kind) → kind_at (kind_number kind) ≡ kind
-unfolding kind_at
-kind_back Step = refl
-kind_back Order = refl
-kind_back Serve = refl
-kind_back Deliver = refl
+-- ---- what is read again
 
 mode_back : (mode : Mode) → mode_at (mode_number mode) ≡ mode
 mode_back Plain = refl
 mode_back Sle = refl
 mode_back Tlr = refl
-
-abbrev event_of : Kind → HartId → Event
-event_of kind hart = record { kind = kind; hart = hart }
-
-same_event : (a b : Event) → event_byte a ≡ event_byte b → a ≡ b
-same_event a b same =
-    let low = a.hart.small in
-    let low' = b.hart.small in
-    let hart : a.hart ≡ b.hart = same_hart a.hart b.hart (omega arith) in
-    let number : kind_number a.kind ≡ kind_number b.kind = omega arith in
-    let kind : a.kind ≡ b.kind = sym (kind_back a.kind) ∙ ap kind_at number ∙ kind_back b.kind in
-    ap (λ (k : Kind). event_of k a.hart) kind ∙ ap (λ (h : HartId). event_of b.kind h) hart
-
-same_events : (xs ys : List Event) → map event_byte xs ≡ map event_byte ys → xs ≡ ys
-same_events [] [] same = refl
-same_events [] (y ∷ ys) same = absurd cc
-same_events (x ∷ xs) [] same = absurd cc
-same_events (x ∷ xs) (y ∷ ys) same =
-    let first : x ≡ y = same_event x y (ap (λ (l : List ℕ). get_or l 0 0) same) in
-    let later : xs ≡ ys = same_events xs ys (ap (λ (l : List ℕ). drop 1 l) same) in
-    cc
 
 abbrev config_of : ℕ → Mode → ℕ → ℕ → ℕ → ℕ → ℕ → Config
 config_of harts mode sets ways lines long steps = record {
@@ -242,56 +204,55 @@ config_of harts mode sets ways lines long steps = record {
   steps = steps;
 }
 
-same_config : (c d : Config) → c.harts ≡ d.harts → c.mode ≡ d.mode → c.sets ≡ d.sets → c.ways ≡ d.ways →
-    c.lines ≡ d.lines → c.long ≡ d.long → c.steps ≡ d.steps → c ≡ d
-same_config c d harts mode sets ways lines long steps =
-    ap (λ (x : ℕ). config_of x c.mode c.sets c.ways c.lines c.long c.steps) harts
-    ∙ ap (λ (x : Mode). config_of d.harts x c.sets c.ways c.lines c.long c.steps) mode
-    ∙ ap (λ (x : ℕ). config_of d.harts d.mode x c.ways c.lines c.long c.steps) sets
-    ∙ ap (λ (x : ℕ). config_of d.harts d.mode d.sets x c.lines c.long c.steps) ways
-    ∙ ap (λ (x : ℕ). config_of d.harts d.mode d.sets d.ways x c.long c.steps) lines
-    ∙ ap (λ (x : ℕ). config_of d.harts d.mode d.sets d.ways d.lines x c.steps) long
-    ∙ ap (λ (x : ℕ). config_of d.harts d.mode d.sets d.ways d.lines d.long x) steps
+config_back : (version count : ℕ) (c : Config) (tail : List ℕ) → Ranges c → config_at (headed version c count tail) ≡ c
+unfolding config_at
+config_back version count c tail r =
+    let small = at_most 2 65536 c.long r.long in
+    let few = at_most 1 MAX_STEPS c.steps r.steps in
+    let file = headed version c count tail in
+    ap (λ (x : Mode). config_of c.harts x c.sets c.ways c.lines (number_at file 10) (number_at file 14)) (mode_back c.mode)
+    ∙ ap (λ (x : ℕ). config_of c.harts c.mode c.sets c.ways c.lines x (number_at file 14)) (long_is version count c tail (omega arith))
+    ∙ ap (λ (x : ℕ). config_of c.harts c.mode c.sets c.ways c.lines c.long x) (steps_is version count c tail (omega arith))
 
-pub one_spelling : (c d : Config) (es fs : List Event) → IsTrace c es → IsTrace d fs →
-    spelling c es ≡ spelling d fs → (c ≡ d) × (es ≡ fs)
-one_spelling c d es fs is is' same =
+-- what is read of a file
+pub record Reads (file : List ℕ) (c : Config) (es : List Event) (os : Option (List Outcome)) : Type 0 where
+  pub config : config_at file ≡ c
+  pub events : events_at file ≡ es
+  pub recorded : recorded_at file ≡ os
+
+spelled_again : (c : Config) (es : List Event) (os : Option (List Outcome)) → IsTrace c es os → Reads (spelling c es os) c es os
+unfolding events_at recorded_at
+spelled_again c es None is =
     let r = ranges c is.in_range in
-    let r' = ranges d is'.in_range in
-    let long = at_most 2 65536 c.long r.long in
-    let long' = at_most 2 65536 d.long r'.long in
-    let steps = at_most 1 MAX_STEPS c.steps r.steps in
-    let steps' = at_most 1 MAX_STEPS d.steps r'.steps in
-    let harts-are : c.harts ≡ d.harts = ap (λ (l : List ℕ). get_or l 5 0) same in
-    let mode-is : c.mode ≡ d.mode =
-    sym (mode_back c.mode) ∙ ap (λ (l : List ℕ). mode_at (get_or l 6 0)) same ∙ mode_back d.mode
-    in
-    let sets-are : c.sets ≡ d.sets = ap (λ (l : List ℕ). get_or l 7 0) same in
-    let ways-are : c.ways ≡ d.ways = ap (λ (l : List ℕ). get_or l 8 0) same in
-    let lines-are : c.lines ≡ d.lines = ap (λ (l : List ℕ). get_or l 9 0) same in
-    let long-is : c.long ≡ d.long =
-    sym (long_is c es (omega arith)) ∙ ap (λ (l : List ℕ). number_at l 10) same ∙ long_is d fs (omega arith)
-    in
-    let steps-are : c.steps ≡ d.steps =
-    sym (steps_is c es (omega arith)) ∙ ap (λ (l : List ℕ). number_at l 14) same ∙ steps_is d fs (omega arith)
-    in
-    (same_config c d harts-are mode-is sets-are ways-are lines-are long-is steps-are, same_events es fs (ap (λ (l : List ℕ). drop 22 l) same))
+    record { config = config_back 1 (length es) c (map event_byte es) r; events = events_back es; recorded = refl }
+spelled_again c es (Some os) is =
+    let r = ranges c is.in_range in
+    let bytes = recorded_bytes es os in
+    let count = count_is 2 (length es) c bytes (count_small c es r is.few) in
+    let again = entries_again c.harts 22 es os (few_harts c r) is.told.0 is.harts is.told.1 in
+    record {
+      config = config_back 2 (length es) c bytes r;
+      events = ap (λ (n : ℕ). events (entries_in c.harts n bytes)) count ∙ again.again_events;
+      recorded = ap (λ (n : ℕ). Some (outcomes (entries_in c.harts n bytes))) count ∙ ap Some again.again_outcomes;
+    }
 
--- what was read of a file is a trace that the file spells
-pub read_is : (file : List ℕ) (c : Config) (count : ℕ) (es : List Event) → IsInRange c → count ≤ c.steps →
-    length file ≡ 22 + count → file ≡ head c count ++ drop 22 file → map event_byte es ≡ drop 22 file →
-    All (λ (event : Event). event.hart.number < c.harts) es →
-    IsTrace c es × (file ≡ spelling c es)
-read_is file c count es in-range few whole spelled events harts =
-    let many : length es ≡ count =
-    omega (arith, length-map es event_byte, ap length events, length-drop 22 file)
-    in (
-      record {
-        in_range = in-range;
-        few = omega arith;
-        harts = harts;
-      },
-      spelled
-          ∙ ap (λ (n : ℕ). head c n ++ drop 22 file) (sym many)
-          ∙ ap (λ (l : List ℕ). head c (length es) ++ l) (sym events),
-    )
+pub read_again : (file : List ℕ) (c : Config) (es : List Event) (os : Option (List Outcome)) → IsTrace c es os →
+    file ≡ spelling c es os → Reads file c es os
+read_again file c es os is file-is =
+    let again = spelled_again c es os is in
+    record {
+      config = ap config_at file-is ∙ again.config;
+      events = ap events_at file-is ∙ again.events;
+      recorded = ap recorded_at file-is ∙ again.recorded;
+    }
+
+pub one_spelling : (c d : Config) (es fs : List Event) (os ps : Option (List Outcome)) → IsTrace c es os → IsTrace d fs ps →
+    spelling c es os ≡ spelling d fs ps → (c ≡ d) × (es ≡ fs) × (os ≡ ps)
+one_spelling c d es fs os ps is is' same =
+    let first = spelled_again c es os is in
+    let second = read_again (spelling c es os) d fs ps is' same in
+    (sym first.config ∙ second.config, sym first.events ∙ second.events, sym first.recorded ∙ second.recorded)
+
+pub faultless_again : (file : List ℕ) (c : Config) (es : List Event) (os : Option (List Outcome)) → IsTrace c es os →
+    file ≡ spelling c es os → trace_fault file ≡ None
+faultless_again file c es os is file-is = ap trace_fault file-is ∙ no_fault c es os is

@@ -1,8 +1,8 @@
--- The six faults of a trace: their numbers and names.
+-- The seven faults of a trace: their numbers and names.
 use Rattle.std.specs.Prelude.{ℕ, ◌==◌, List, [], ◌∷◌, Option, find, option_map, codes}
 use Rattle.el_base.specs.declared.file_fault.FileFault.{FileFault}
 use Rattle.trace_file.specs.declared.fault.FaultKind.{FaultKind}
-use Rattle.trace_file.specs.declared.fault.FaultKind.TheVariants.{Short, Magic, Version, Config, Event, Tail}
+use Rattle.trace_file.specs.declared.fault.FaultKind.TheVariants.{Short, Magic, Version, Config, Event, Tail, Outcome}
 
 -- the number of a kind of fault
 abbrev pub number_of : FaultKind → ℕ
@@ -12,6 +12,7 @@ number_of Version = 3
 number_of Config = 4
 number_of Event = 5
 number_of Tail = 6
+number_of Outcome = 7
 
 -- the name of a kind of fault
 abbrev pub name_of : FaultKind → List ℕ
@@ -21,10 +22,11 @@ name_of Version = codes "Version"
 name_of Config = codes "Config"
 name_of Event = codes "Event"
 name_of Tail = codes "Tail"
+name_of Outcome = codes "Outcome"
 
 -- all kinds of faults
 abbrev pub fault_kinds : List FaultKind
-fault_kinds = Short ∷ Magic ∷ Version ∷ Config ∷ Event ∷ Tail ∷ []
+fault_kinds = Short ∷ Magic ∷ Version ∷ Config ∷ Event ∷ Tail ∷ Outcome ∷ []
 
 -- the name of the fault that has a number, or none
 abbrev pub fault_name : ℕ → Option (List ℕ)

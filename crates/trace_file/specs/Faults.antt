@@ -1,9 +1,9 @@
 -- The faults of a trace: the file is read from left to right, each field is judged as soon as it is
 -- whole, and the first fault is the answer.
-use Rattle.std.specs.Prelude.{◌≡◌, ℕ, ◌+◌, ◌/◌, ◌%◌, Bool, not, ◌&&◌, ◌==◌, nat_lt, nat_le, if◌then◌else◌, List, [], ◌∷◌, length, take, drop, slice_index, Option, Some, None, Result, Ok, Err, position}
-use Rattle.std.specs.Option.{option_map}
+use Rattle.std.specs.Prelude.{ℕ, zero, suc, ◌+◌, Bool, not, ◌==◌, nat_lt, nat_le, if◌then◌else◌, List, [], ◌∷◌, length, take, drop, slice_index, Option, Some, None, position}
+use Rattle.std.specs.Option.{option_map, option_or}
 use Rattle.byteorder.specs.Endian.{little_number}
-use Rattle.el_base.specs.Config.{allows}
+use Rattle.el_base.specs.Config.{allows, within}
 use Rattle.el_base.specs.Firsts.{first_of, some_if}
 use Rattle.el_base.specs.declared.file_fault.FileFault.{FileFault}
 use Rattle.el_base.specs.declared.config.Config as settings
@@ -13,6 +13,7 @@ use Rattle.el_base.specs.declared.config.Mode.TheVariants.{Plain, Sle, Tlr}
 use Rattle.trace_file.specs.declared.fault.FaultKind.{FaultKind}
 use Rattle.trace_file.specs.declared.fault.FaultKind.TheVariants.{Short, Magic, Version, Config, Event, Tail}
 use Rattle.trace_file.specs.FaultKinds.{fault_of}
+use Rattle.trace_file.specs.Fields.{Field, entry_fields, entry_width, is_event}
 
 -- a field that ends at this place: the file ends in it, or it has this fault, if it has one
 unfoldable pub field : List ℕ → ℕ → Option FileFault → Option FileFault
@@ -44,8 +45,12 @@ magic_fault file =
     ∷ wrong file 3 0x52 Magic
     ∷ []))
 
+-- 1 without outcomes, 2 with them
+abbrev pub is_version : ℕ → Bool
+is_version number = within 1 2 number
+
 unfoldable pub version_fault : List ℕ → Option FileFault
-version_fault file = field file 5 (wrong file 4 1 Version)
+version_fault file = field file 5 (some_if (not (is_version (slice_index file 4))) (fault_of Version 4))
 
 -- whether a mode has this number, and whether there may be so many events
 abbrev pub is_mode : ℕ → Bool
@@ -77,9 +82,7 @@ head_fault file =
     ∷ number_fault file 18 (is_few (number_at file 14))
     ∷ [])
 
--- the byte of an event: a kind of 0 to 3 above a hart below this many
-abbrev pub is_event : ℕ → ℕ → Bool
-is_event harts byte = nat_le (byte / 16) 3 && nat_lt (byte % 16) harts
+-- ---- version 1
 
 -- the first byte that is no event, among those of this many events that are there
 unfoldable pub event_fault : ℕ → ℕ → List ℕ → Option FileFault
@@ -92,14 +95,48 @@ event_fault harts count file =
 unfoldable pub end_fault : ℕ → List ℕ → Option FileFault
 end_fault count file = field file (22 + count) (some_if (nat_lt (22 + count) (length file)) (fault_of Tail (22 + count)))
 
+unfoldable pub events_fault : ℕ → ℕ → List ℕ → Option FileFault
+events_fault harts count file = first_of (event_fault harts count file ∷ end_fault count file ∷ [])
+
+-- ---- version 2
+
+-- a field at a place from which on the file has these bytes: the file ends in it, or the field has its fault, if it
+-- has one
+unfoldable pub field_fault : ℕ → List ℕ → Field → Option FileFault
+field_fault place bytes one =
+    if nat_lt (length bytes) one.width
+    then Some (fault_of Short (place + length bytes))
+    else some_if (not (one.passes bytes)) (fault_of one.kind place)
+
+-- the first fault of fields that stand one behind the other from a place on
+abbrev pub fields_fault : ℕ → List ℕ → List Field → Option FileFault
+fields_fault place bytes [] = None
+fields_fault place bytes (first ∷ fields) =
+    option_or (field_fault place bytes first) (fields_fault (place + first.width) (drop first.width bytes) fields)
+
+unfoldable pub entry_fault : ℕ → ℕ → List ℕ → Option FileFault
+entry_fault harts place bytes = fields_fault place bytes (entry_fields harts bytes)
+
+-- the first fault of so many entries from a place on, behind which the file ends
+abbrev pub entries_fault : ℕ → ℕ → ℕ → List ℕ → Option FileFault
+entries_fault harts zero place bytes = some_if (nat_lt 0 (length bytes)) (fault_of Tail place)
+entries_fault harts (suc count) place bytes =
+    option_or
+    (entry_fault harts place bytes)
+    (entries_fault harts count (place + entry_width harts bytes) (drop (entry_width harts bytes) bytes))
+
+-- ---- the file
+
+-- the fields behind the head
+unfoldable pub body_fault : List ℕ → Option FileFault
+body_fault file =
+    if slice_index file 4 == 1
+    then events_fault (slice_index file 5) (number_at file 18) file
+    else entries_fault (slice_index file 5) (number_at file 18) 22 (drop 22 file)
+
 -- the first fault of a file, if it has one
 unfoldable pub trace_fault : List ℕ → Option FileFault
-trace_fault file =
-    first_of
-    (head_fault file
-    ∷ event_fault (slice_index file 5) (number_at file 18) file
-    ∷ end_fault (number_at file 18) file
-    ∷ [])
+trace_fault file = first_of (head_fault file ∷ body_fault file ∷ [])
 
 -- what the fields of the configuration say
 abbrev pub mode_at : ℕ → Mode

@@ -1,3 +1,6 @@
 pub mod FaultKinds
 pub mod Faults
+pub mod Fields
+pub mod Outcomes
+pub mod Reading
 pub mod Spelling

@@ -2,7 +2,7 @@
 
 ghost use Rattle.std.specs.Prelude.{◌≡◌};
 
-use el_base::{Config, Event};
+use el_base::{Config, Event, Outcome};
 use std::marker::Model;
 
 /// Events in the order in which they were made.
@@ -35,9 +35,11 @@ impl Events {
     }
 }
 
-/// The configuration of a run, and the events that it made.
+/// The configuration of a run, the events that it made, and what came of each, where the trace tells that.
 #[derive(Debug, Drop)]
 pub struct Trace {
     pub config: Config,
     pub events: Events,
+    /// One outcome an event, in the order of the events. `None` exactly where the file is of version 1.
+    pub recorded: Option<Vec<Outcome>>,
 }

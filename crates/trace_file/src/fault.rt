@@ -10,32 +10,35 @@ use thiserror::Error;
 /// The kinds of faults, by number. Their numbers, names and order are this project's.
 #[derive(Clone, Copy, Debug, PartialEq, Eq)]
 pub enum FaultKind {
-    /// The file ends before a field or an event is whole.
+    /// The file ends before a field, an event or an outcome is whole.
     Short = 1,
     /// The file does not begin with the four magic bytes.
     Magic,
-    /// The version is not 1.
+    /// The version is neither 1 nor 2.
     Version,
     /// A field of the configuration is out of its range, or there are more events than steps.
     Config,
     /// An event has no kind, or a hart that the machine lacks.
     Event,
-    /// Bytes follow the last event.
+    /// Bytes follow the last event or its outcome.
     Tail,
+    /// An outcome has no code, or a field of it is out of its range.
+    Outcome,
 }
 
 impl FaultKind {
     /// All kinds, in the order of their numbers.
-    pub const ALL: [FaultKind; 6] = [
+    pub const ALL: [FaultKind; 7] = [
         FaultKind::Short,
         FaultKind::Magic,
         FaultKind::Version,
         FaultKind::Config,
         FaultKind::Event,
         FaultKind::Tail,
+        FaultKind::Outcome,
     ];
 
-    /// The number of the kind, from 1 to 6.
+    /// The number of the kind, from 1 to 7.
     pub fn number(self) -> u8
         ensures { result ≡ kinds.number_of self }
     {
@@ -53,6 +56,7 @@ impl FaultKind {
             FaultKind::Config => "Config",
             FaultKind::Event => "Event",
             FaultKind::Tail => "Tail",
+            FaultKind::Outcome => "Outcome",
         }
     }
 
@@ -68,7 +72,7 @@ impl FaultKind {
 }
 
 /// The name of the fault that has a number, or none where no fault has it: a number that is not from 1
-/// to 6.
+/// to 7.
 pub fn fault_name(number: u8) -> Option<&'static str>
     ensures { option_copied result ≡ kinds.fault_name number }
 {
@@ -82,7 +86,7 @@ pub fn fault_name(number: u8) -> Option<&'static str>
 #[derive(Clone, Copy, Debug, PartialEq, Eq, Error)]
 pub enum TraceFault {
     /// The file is no trace. `number` is that of the first fault from the left: 1 short, 2 magic,
-    /// 3 version, 4 configuration, 5 event, 6 tail. `place` is the place in the file that shows it.
+    /// 3 version, 4 configuration, 5 event, 6 tail, 7 outcome. `place` is the place in the file that shows it.
     #[error("trace fault {number} at byte {place}")]
     Bad { number: u8, place: u32 },
     /// Want of memory.

@@ -1,6 +1,6 @@
 //! Single fields of a trace, each judged as soon as it is whole.
 
-ghost use Rattle.std.specs.Prelude.{◌≡◌, ◌+◌, ◌<◌, ◌≤◌, None, Some, not, length, slice_index, IfErr, IfOk, OnOk};
+ghost use Rattle.std.specs.Prelude.{◌≡◌, ◌+◌, ◌<◌, ◌≤◌, None, Some, IsTrue, not, drop, length, slice_index, IfErr, IfOk, OnOk};
 ghost use Rattle.el_base.specs.Config.{allows};
 ghost use Rattle.el_base.specs.Firsts.{some_if};
 ghost use Rattle.trace_file.specs.FaultKinds.{fault_of};
@@ -23,8 +23,18 @@ pub fn reaches(file: &[u8], end: u32) -> Result<(), FileFault>
     Ok(())
 }
 
+/// What stands behind so many bytes.
+#[tactic(auto, using(crate::proofs::EventBytes::all_behind))]
+pub fn behind(bytes: &[u8], count: usize) -> &[u8]
+    requires { count ≤ length bytes.now }
+    ensures { result.now ≡ drop count bytes.now }
+{
+    &bytes[count..]
+}
+
 /// That a condition holds. Where it does not, the place shows the fault.
 pub fn expect(holds: bool, kind: FaultKind, place: u32) -> Result<(), FileFault>
+    ensures held { OnOk result (IsTrue holds) }
     ensures accepted { OnOk result (some_if (not holds) (fault_of kind place) ≡ None) }
     ensures refused { IfErr result (λ fault. some_if (not holds) (fault_of kind place) ≡ Some fault) }
 {

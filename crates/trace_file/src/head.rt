@@ -1,9 +1,8 @@
 //! The fields before the events.
 
-ghost use Rattle.std.specs.Prelude.{◌≡◌, ◌≤◌, ◌++◌, drop, None, Some, length, slice_index, IfErr, IfOk, OnOk};
+ghost use Rattle.std.specs.Prelude.{◌≡◌, ◌≤◌, None, Some, length, slice_index, IfErr, IfOk, OnOk};
 ghost use Rattle.el_base.specs.Config.{IsInRange};
 ghost use Rattle.trace_file.specs.Faults.{byte_fault, config_at, head_fault, is_few, is_mode, magic_fault, mode_at, number_at, number_fault, settings_fault, version_fault};
-ghost use Rattle.trace_file.specs.Spelling.{head};
 
 use crate::fault::FaultKind;
 use crate::fields::{self, expect, reaches, setting_byte, setting_number};
@@ -12,8 +11,10 @@ use el_base::{Config, ConfigFault, FileFault, MAX_STEPS, Mode};
 /// The first four bytes of a trace.
 pub const MAGIC: [u8; 4] = [b'E', b'L', b'T', b'R'];
 
-/// The version of the format.
-pub const VERSION: u8 = 1;
+/// The version of the format that tells no outcomes, and of the one that does.
+pub const WITHOUT_OUTCOMES: u8 = 1;
+
+pub const WITH_OUTCOMES: u8 = 2;
 
 // The places of the fields in the file.
 const HARTS: u32 = 5;
@@ -35,12 +36,16 @@ const COUNT: u32 = 18;
 /// How many bytes stand before the events.
 pub const HEAD_BYTES: u32 = 22;
 
-/// The most bytes that a trace has: its head, and one byte an event.
-pub const MAX_FILE_BYTES: u32 = HEAD_BYTES + MAX_STEPS;
+/// The most bytes of an entry: its event, and the longest outcome.
+pub const MAX_ENTRY_BYTES: u32 = 10;
 
-/// The configuration of a trace, and how many events it says that it has.
+/// The most bytes that a trace has: its head, and the longest entry for each step.
+pub const MAX_FILE_BYTES: u32 = HEAD_BYTES + MAX_ENTRY_BYTES * MAX_STEPS;
+
+/// The version and the configuration of a trace, and how many events it says that it has.
 #[derive(Drop)]
 pub struct Head {
+    pub version: u8,
     pub config: Config,
     pub count: u32,
 }
@@ -51,16 +56,20 @@ pub fn head_of(file: &[u8]) -> Result<Head, FileFault>
     ensures accepted { OnOk result (head_fault file.now ≡ None) }
     ensures refused { IfErr result (λ fault. head_fault file.now ≡ Some fault) }
     ensures fields { IfOk result (λ head. (head.config ≡ config_at file.now) × (head.count ≡ number_at file.now 18)) }
+    ensures version { IfOk result (λ head. head.version ≡ slice_index file.now 4) }
     ensures whole { OnOk result (22 ≤ length file.now) }
     ensures settings { IfOk result (λ head. IsInRange head.config) }
     ensures few { IfOk result (λ head. head.count ≤ head.config.steps) }
-    ensures spelled { IfOk result (λ found. file.now ≡ head found.config found.count ++ drop 22 file.now) }
 {
     check_magic(file)?;
-    check_version(file)?;
+    let version = version_of(file)?;
     let config = config_of(file)?;
     let count = count_of(file, config.steps)?;
-    Ok(Head { config, count })
+    Ok(Head {
+        version,
+        config,
+        count,
+    })
 }
 
 #[tactic(auto, unfolding(crate::specs::Faults::field, crate::specs::Faults::magic_fault))]
@@ -76,12 +85,19 @@ fn check_magic(file: &[u8]) -> Result<(), FileFault>
 }
 
 #[tactic(auto, unfolding(crate::specs::Faults::field, crate::specs::Faults::version_fault))]
-fn check_version(file: &[u8]) -> Result<(), FileFault>
+fn version_of(file: &[u8]) -> Result<u8, FileFault>
+    ensures value { IfOk result (λ version. version ≡ slice_index file.now 4) }
     ensures accepted { OnOk result (version_fault file.now ≡ None) }
     ensures refused { IfErr result (λ fault. version_fault file.now ≡ Some fault) }
 {
     reaches(file, 5)?;
-    expect(file[4] == VERSION, FaultKind::Version, 4)
+    let version = file[4];
+    expect(
+        (WITHOUT_OUTCOMES..=WITH_OUTCOMES).contains(&version),
+        FaultKind::Version,
+        4,
+    )?;
+    Ok(version)
 }
 
 #[tactic(auto, unfolding(crate::specs::Faults::settings_fault, crate::specs::Faults::config_at))]

@@ -1,12 +1,14 @@
 //! From a history to bytes.
 
-ghost use Rattle.std.specs.Prelude.{◌≡◌, ◌≢◌, ◌+◌, ◌++◌, ◌<◌, ◌≤◌, Err, length, map, All, IfOk, OnOk};
+ghost use Rattle.std.specs.Prelude.{◌≡◌, ◌≢◌, ◌+◌, ◌++◌, ◌<◌, ◌≤◌, ◌*◌, Err, Some, length, map, All, IfOk, OnOk};
 ghost use Rattle.chronicle.specs.Chronicle.{events};
 ghost use Rattle.el_base.specs.Config.{IsInRange};
 ghost use Rattle.el_io.specs.Shelf.{Holds, KeepsOthers, Records};
-ghost use Rattle.trace_file.specs.Spelling.{event_byte, head, spelling};
+ghost use Rattle.trace_file.specs.Outcomes.{IsRecordable};
+ghost use Rattle.trace_file.specs.Spelling.{event_byte, head, outcomes, recorded_bytes, spelling};
 
-use crate::head::{MAGIC, VERSION};
+use crate::head::{HEAD_BYTES, MAGIC, WITH_OUTCOMES};
+use crate::outcome_bytes::outcome_spelling;
 use chronicle::History;
 use el_base::{Chronicled, Config, Event, NoMemory};
 use el_io::{Call, Shelf, ShelfFault};
@@ -20,7 +22,7 @@ fn event_byte(event: Event) -> u8
 
 /// What stands before the events.
 fn head_bytes(config: &Config, count: u32) -> [u8; 22]
-    ensures { result ≡ head config.now count }
+    ensures { result ≡ head 2 config.now count }
 {
     let [long_0, long_1, long_2, long_3] = config.long.to_le_bytes();
     let [steps_0, steps_1, steps_2, steps_3] = config.steps.to_le_bytes();
@@ -30,7 +32,7 @@ fn head_bytes(config: &Config, count: u32) -> [u8; 22]
         MAGIC[1],
         MAGIC[2],
         MAGIC[3],
-        VERSION,
+        WITH_OUTCOMES,
         config.harts,
         config.mode.number(),
         config.sets,
@@ -51,20 +53,37 @@ fn head_bytes(config: &Config, count: u32) -> [u8; 22]
     ]
 }
 
-/// The spelling of a configuration and the events of a history.
+/// How many bytes the entries of a history have.
+fn length_of(history: &History) -> usize
+    ensures exact { result ≡ length (recorded_bytes (events history.now.entries) (outcomes history.now.entries)) }
+    ensures small { result ≤ 10 * length history.now.entries }
+{
+    let mut total = 0;
+    for place in 0..history.length() {
+        let entry = history.entry(place);
+        total += 1 + outcome_spelling(entry.outcome).as_bytes().len();
+    }
+    total
+}
+
+/// The spelling of a configuration and of the entries of a history. Its memory is taken at once.
 fn spelled(alloc: Global, config: &Config, history: &History) -> Result<Vec<u8>, NoMemory>
-    ensures { IfOk result (λ bytes. bytes.items ≡ spelling config.now (events history.now.entries)) }
+    ensures { IfOk result (λ bytes. bytes.items ≡
+        spelling config.now (events history.now.entries) (Some (outcomes history.now.entries))) }
 {
     let count = history.length();
-    let mut bytes = Vec::from_slice(alloc, &head_bytes(config, count))?;
+    let mut bytes = Vec::with_capacity(alloc, HEAD_BYTES as usize + length_of(history))?;
+    bytes.extend_from_slice(&head_bytes(config, count))?;
     for place in 0..count {
-        bytes.push(event_byte(history.entry(place).event))?;
+        let entry = history.entry(place);
+        bytes.push(event_byte(entry.event))?;
+        bytes.extend_from_slice(outcome_spelling(entry.outcome).as_bytes())?;
     }
     Ok(bytes)
 }
 
-/// Makes the spelling of the configuration and the history's events the contents of the name. Every
-/// other name keeps its contents.
+/// Makes the spelling in version 2 of the configuration and of the history's events, with their outcomes, the
+/// contents of the name. Every other name keeps its contents.
 ///
 /// `Failed` comes only where the shelf lists this write among its failed calls; what the name holds
 /// is then unknown. After want of memory no file has changed. It never answers `TooBig`.
@@ -78,7 +97,9 @@ pub fn write_trace<S: Shelf>(
     requires in_range { IsInRange config.now }
     requires few { length history.now.entries ≤ config.now.steps }
     requires harts { All (λ event. event.hart.number < config.now.harts) (events history.now.entries) }
-    ensures written { OnOk result (Holds (S.told shelf.new) name.now (spelling config.now (events history.now.entries))) }
+    requires outcomes { All (IsRecordable config.now.harts) (outcomes history.now.entries) }
+    ensures written { OnOk result (Holds (S.told shelf.new) name.now
+        (spelling config.now (events history.now.entries) (Some (outcomes history.now.entries)))) }
     ensures others_stay { KeepsOthers (S.told shelf.old) (S.told shelf.new) name.now }
     ensures contents_stay_without_memory { result ≡ Err ShelfFault.NoMemory → S.told shelf.new ≡ S.told shelf.old }
     ensures never_too_big { result ≢ Err ShelfFault.TooBig }

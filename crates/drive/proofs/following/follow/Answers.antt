@@ -9,4 +9,4 @@ make-requires-clause-step_left c =
 pub loop-event-preserved : goal.loop-event-preserved
 loop-event-preserved c =
     one_followed c.args.machine.now c.loop-event.machine c.make.new.machine c.args.events.now c.loop-event.event-index
-    c.event-item.result c.loop-event.invariant c.loop-event-test.true c.event-item.is c.make.ensures
+    c.event-item.result c.loop-event.invariant c.loop-event-test.true c.event-item.is c.make.ensures.goes_on

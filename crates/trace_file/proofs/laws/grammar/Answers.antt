@@ -1,5 +1,5 @@
-use Rattle.std.proofs.Common.{refl}
-use Rattle.trace_file.specs.Spelling.{spelling}
+use Rattle.trace_file.specs.Faults.{config_at}
+use Rattle.trace_file.specs.Reading.{events_at, recorded_at}
 use Rattle.trace_file.proofs.Judged.{faultless}
 use Rattle.trace_file.proofs.Spelled.{no_fault, one_spelling}
 use Rattle.trace_file.proofs.laws.grammar.Goals as goal
@@ -8,8 +8,8 @@ pub returns-clause-one_spelling : goal.returns-clause-one_spelling
 returns-clause-one_spelling c = one_spelling
 
 pub returns-clause-a_spelling_has_no_fault : goal.returns-clause-a_spelling_has_no_fault
-returns-clause-a_spelling_has_no_fault c config events is =
-    no_fault config events (spelling config events) is refl
+returns-clause-a_spelling_has_no_fault c = no_fault
 
 pub returns-clause-what_has_no_fault_is_a_spelling : goal.returns-clause-what_has_no_fault_is_a_spelling
-returns-clause-what_has_no_fault_is_a_spelling c = faultless
+returns-clause-what_has_no_fault_is_a_spelling c file fits none =
+    let whole = faultless file fits none in (config_at file, events_at file, recorded_at file, whole.0, whole.1)

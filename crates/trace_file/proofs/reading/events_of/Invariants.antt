@@ -1,12 +1,9 @@
-use Rattle.std.proofs.Common.{◌≡◌, ◌≤◌, ◌<◌, length, map, take, vec_capacity}
-use Rattle.std.specs.Prelude.{All}
-use Rattle.el_base.specs.declared.events.Event.{Event}
-use Rattle.trace_file.specs.Spelling.{event_byte}
+use Rattle.std.proofs.Common.{◌≡◌, ◌≤◌, length, map, take, vec_capacity}
+use Rattle.trace_file.specs.Reading.{event_in}
 use Rattle.trace_file.proofs.reading.events_of.Given as goal
 
 abbrev pub invariant-loop-byte : goal.invariant-loop-byte
 invariant-loop-byte l = record {
-  spelled : map event_byte l.list.items ≡ take l.byte-index l.bytes;
-  within : All (λ (event : Event). event.hart.number < l.harts) l.list.items;
+  read : l.list.items ≡ map event_in (take l.byte-index l.bytes);
   room : length l.bytes ≤ vec_capacity l.list;
 }

@@ -1,23 +1,29 @@
-use Rattle.std.proofs.Common.{sym, ◌∙◌}
-use Rattle.std.proofs.lemmas.List.{take_rest}
-use Rattle.trace_file.proofs.Spelled.{no_fault, one_spelling, read_is}
+use Rattle.std.proofs.Common.{sym, ◌∙◌, arith}
+use Rattle.trace_file.specs.Spelling.{listed}
+use Rattle.trace_file.proofs.Judged.{is_whole}
+use Rattle.trace_file.proofs.Spelled.{faultless_again, read_again}
 use Rattle.trace_file.proofs.reading.read_trace.Goals as goal
 
-pub returns-clause-spelled : goal.returns-clause-spelled
-returns-clause-spelled c config events is file-is =
-    let found =
-    read_is
+pub returns-clause-accepted : goal.returns-clause-accepted
+returns-clause-accepted c =
+    is_whole
     c.args.file.now
-    c.in_ok-head.head.config
-    c.in_ok-head.head.count
-    c.in_ok-events.events
-    c.in_ok-head.ensures.settings
-    c.in_ok-head.ensures.few
-    c.in_ok-head.ensures.whole
-    c.in_ok-head.ensures.spelled
-    (c.in_ok-events.ensures.spelled ∙ take_rest c.args.file.now 22)
-    c.in_ok-events.ensures.within
-    in (
-      no_fault config events c.args.file.now is file-is,
-      one_spelling c.in_ok-head.head.config config c.in_ok-events.events events found.0 is (sym found.1 ∙ file-is),
+    c.in_ok-trace.trace.config
+    c.in_ok-trace.trace.events
+    (listed c.in_ok-trace.trace.recorded)
+    (λ i. omega (arith, c.type_inv.file i))
+    c.in_ok-head.ensures.accepted
+    c.in_ok-trace.ensures.config
+    c.in_ok-trace.ensures.events
+    c.in_ok-trace.ensures.recorded
+
+pub returns-clause-spelled : goal.returns-clause-spelled
+returns-clause-spelled c config events recorded is file-is =
+    let again = read_again c.args.file.now config events recorded is file-is in (
+      faultless_again c.args.file.now config events recorded is file-is,
+      (
+        c.in_ok-trace.ensures.config ∙ again.config,
+        c.in_ok-trace.ensures.events ∙ again.events,
+        c.in_ok-trace.ensures.recorded ∙ again.recorded,
+      ),
     )

@@ -1,8 +1,8 @@
-use Rattle.std.proofs.Common.{◌≡◌, ◌++◌, length, map, take}
-use Rattle.chronicle.specs.Chronicle.{events}
-use Rattle.trace_file.specs.Spelling.{head, event_byte}
+use Rattle.std.proofs.Common.{◌≡◌, ◌++◌, length, take}
+use Rattle.trace_file.proofs.EntryBytes.{bytes_of}
+use Rattle.trace_file.specs.Spelling.{head}
 use Rattle.trace_file.proofs.writing.spelled.Given as goal
 
 abbrev pub invariant-loop-place : goal.invariant-loop-place
 invariant-loop-place l =
-    l.bytes.items ≡ head l.config (length l.history.entries) ++ map event_byte (events (take l.place l.history.entries))
+    l.bytes.items ≡ head 2 l.config (length l.history.entries) ++ bytes_of (take l.place l.history.entries)

@@ -1,20 +1,22 @@
 -- Counting an event.
 use Rattle.std.proofs.Common.{◌≡◌, ℕ, ◌+◌, ◌*◌, ◌^◌, ◌<◌, ◌≤◌, ◌==◌, Bool, true, false, ◌&&◌}
-use Rattle.std.proofs.Common.{IsTrue, List, [], ◌∷◌, length, set, cond, refl, ap, sym, ◌∙◌, arith}
-use Rattle.std.specs.Prelude.{nat_le, nat_lt}
+use Rattle.std.proofs.Common.{IsTrue, List, [], ◌∷◌, get_or, length, set, take, cond, refl, ap, sym, ◌∙◌, arith}
+use Rattle.std.specs.Prelude.{nat_le, nat_lt, slice_get, Option, Some}
 use Rattle.std.specs.List.{list_all}
 use Rattle.std.proofs.lemmas.Bool.Decides.{nat_tests}
 use Rattle.std.proofs.lemmas.Grind.{get_or-set_at}
-use Rattle.std.proofs.lemmas.List.{get_or-replicate, get_or-set_other}
-use Rattle.chronicle.specs.Serial.{most_effects}
+use Rattle.std.proofs.lemmas.List.{get_or-replicate, get_or-set_other, length-append}
+use Rattle.std.proofs.lemmas.Option.{get_or_from_slice_get, slice_get_within}
+use Rattle.chronicle.specs.Serial.{most_effects, serial, taking_effect}
 use Rattle.chronicle.specs.Tally.{has_lost, nothing, numbers, of_entry, of_outcome, plus, IsTallyOf}
 use Rattle.chronicle.specs.declared.tally.Tally.{Tally}
 use Rattle.el_base.specs.declared.entries.Entry.{Entry}
 use Rattle.el_base.specs.declared.outcomes.Cause.TheVariants.{Room, Lines, Long, Call, Mixed}
 use Rattle.el_base.specs.declared.outcomes.Outcome.{Outcome}
 use Rattle.el_base.specs.declared.outcomes.Outcome.TheVariants.{Idle, Stalled, Missed, Ran, Began, Buffered}
-use Rattle.el_base.specs.declared.outcomes.Outcome.TheVariants.{Committed, RolledBack, Ordered, Served, Blocked, Delivered}
+use Rattle.el_base.specs.declared.outcomes.Outcome.TheVariants.{Committed, RolledBack, Ordered, Served, Blocked, Delivered, Armed, LetGo}
 use Rattle.report.proofs.Losing.{same_number, other_number}
+use Rattle.report.proofs.Putting.{pieces_more}
 use Rattle.report.specs.Counting.{HasRoom, tally_at, with_loss}
 
 -- no outcome counts as a conflict of its own hart
@@ -31,10 +33,12 @@ no_conflict (RolledBack Lines) = refl
 no_conflict (RolledBack Long) = refl
 no_conflict (RolledBack Call) = refl
 no_conflict (RolledBack Mixed) = refl
-no_conflict (Ordered _) = refl
-no_conflict (Served _) = refl
+no_conflict (Ordered _ _) = refl
+no_conflict (Served _ _) = refl
 no_conflict (Blocked _ _) = refl
 no_conflict (Delivered _) = refl
+no_conflict Armed = refl
+no_conflict (LetGo _) = refl
 
 -- what an event counts for in a tally: as its hart's own, and as a loss
 counted_by : (tally own : Tally) (lost : Bool) → own.conflict ≡ 0 →
@@ -148,3 +152,13 @@ tally_has_room n tally few small = small_has_room n few (numbers tally) small
 pub first_tallies : (tally : Tally) (hart : ℕ) → hart < 8 →
     tally_at (tally ∷ tally ∷ tally ∷ tally ∷ tally ∷ tally ∷ tally ∷ tally ∷ []) hart ≡ tally
 first_tallies tally hart small = get_or-replicate 8 hart tally nothing small
+
+-- one entry more adds the instructions that took effect in it
+pub serial_more : (entries : List Entry) (place : ℕ) (entry : Entry) → slice_get entries place ≡ Some entry →
+    length (serial (take place entries)) + length (taking_effect entry.event.hart.number entry.outcome)
+    ≡ length (serial (take (place + 1) entries))
+serial_more entries place entry here =
+    let effects : Entry → List ℕ = λ e. taking_effect e.event.hart.number e.outcome in
+    ap (λ e. length (serial (take place entries)) + length (effects e)) (sym (get_or_from_slice_get entries place entry entry here))
+    ∙ sym (length-append (serial (take place entries)) (effects (get_or entries place entry)))
+    ∙ ap length (pieces_more effects entries place entry (slice_get_within entries place entry here))

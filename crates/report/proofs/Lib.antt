@@ -1,4 +1,5 @@
 mod Counted
+mod EachHart
 mod Losing
-mod Putting
+pub mod Putting
 mod Reporting

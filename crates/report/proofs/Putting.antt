@@ -30,7 +30,7 @@ took_then_all before between now [] more a b =
     subst P a b
 took_then_all before between now (byte ∷ first) more a b = took-more a (took between now more b)
 
-took_then_part : (before between now : Option (List ℕ)) (first more : List ℕ) → TookAll before between first →
+pub took_then_part : (before between now : Option (List ℕ)) (first more : List ℕ) → TookAll before between first →
     TookPart between now more → TookPart before now (first ++ more)
 took_then_part before between now first more a b = record {
   count = length first + b.count;
@@ -97,7 +97,7 @@ pub ruleset putting = (put_then, put_then_all, put_then_part, put_stopped)
 
 -- the pieces of a list, one after another
 module _ {X : Type 0} (piece : X → List ℕ) where
-  pieces_more : (xs : List X) (i : ℕ) (d : X) → i < length xs →
+  pub pieces_more : (xs : List X) (i : ℕ) (d : X) → i < length xs →
       flat_map piece (take i xs) ++ piece (get_or xs i d) ≡ flat_map piece (take (i + 1) xs)
   pieces_more xs i d within =
       sym (ap (flat_map piece) (take_more xs i d within)

@@ -32,44 +32,6 @@ hart_line_put result before now number tally status counts more first second put
 abbrev pub line_at : List Entry → FlatState → ℕ → List ℕ
 line_at entries state hart = hart_line hart (tally_of hart entries) (status_of state hart)
 
-range_at : (harts number : ℕ) → number < harts → get_or (range_with_len 0 harts) number 0 ≡ number
-range_at harts number within = omega (arith, get_or-range_with_len 0 harts number 0 within)
-
-line_is : (entries : List Entry) (state : FlatState) (harts number : ℕ) (tally : Tally) (status : HartStatus) → number < harts →
-    tally ≡ tally_of number entries → status ≡ status_of state number →
-    hart_line number tally status ≡ line_at entries state (get_or (range_with_len 0 harts) number 0)
-line_is entries state harts number tally status within tallied stands =
-    ap (λ t. hart_line number t status) tallied
-    ∙ ap (λ s. hart_line number (tally_of number entries) s) stands
-    ∙ ap (line_at entries state) (sym (range_at harts number within))
-
-in_range : (harts number : ℕ) → number < harts → number < length (range_with_len 0 harts)
-in_range harts number within = rw (length-range_with_len 0 harts) within
-
-pub hart_lines_more : (before between now : SinkState) (entries : List Entry) (state : FlatState) (harts number : ℕ) (tally : Tally)
-    (status : HartStatus) → number < harts → tally ≡ tally_of number entries → status ≡ status_of state number →
-    PutAll before between (flat_map (line_at entries state) (take number (range_with_len 0 harts))) →
-    PutAll between now (hart_line number tally status) →
-    PutAll before now (flat_map (line_at entries state) (take (number + 1) (range_with_len 0 harts)))
-hart_lines_more before between now entries state harts number tally status within tallied stands a b =
-    one_more_put (line_at entries state) before between now (range_with_len 0 harts) number 0 (in_range harts number within) a
-    (subst (λ bytes. PutAll between now bytes) (line_is entries state harts number tally status within tallied stands) b)
-
-pub hart_lines_failed : (before between now : SinkState) (entries : List Entry) (state : FlatState) (harts number : ℕ) (tally : Tally)
-    (status : HartStatus) → number < harts → tally ≡ tally_of number entries → status ≡ status_of state number →
-    PutAll before between (flat_map (line_at entries state) (take number (range_with_len 0 harts))) →
-    PutPart between now (hart_line number tally status) → PutPart before now (hart_lines harts entries (status_of state))
-hart_lines_failed before between now entries state harts number tally status within tallied stands a b =
-    one_failed (line_at entries state) before between now (range_with_len 0 harts) number 0 (in_range harts number within) a
-    (same_part between now _ _ (line_is entries state harts number tally status within tallied stands) b)
-
-pub hart_lines_done : (before now : SinkState) (entries : List Entry) (state : FlatState) (harts number : ℕ) → harts ≤ number →
-    PutAll before now (flat_map (line_at entries state) (take number (range_with_len 0 harts))) →
-    PutAll before now (hart_lines harts entries (status_of state))
-hart_lines_done before now entries state harts number whole a =
-    let all : length (range_with_len 0 harts) ≤ number = rw (length-range_with_len 0 harts) whole in
-    subst (λ bytes. PutAll before now bytes) (ap (flat_map (line_at entries state)) (take_all number (range_with_len 0 harts) all)) a
-
 -- the parts of a report
 report_parts : (story : Story) (config : Config) (events steps output : ℕ) → config ≡ story.config →
     events ≡ length story.entries → steps ≡ length (serial story.entries) → output ≡ length (committed story).output →

@@ -2,3 +2,4 @@ pub mod Counting
 pub mod Line
 pub mod Puts
 pub mod Text
+pub mod TimesText

@@ -1,18 +1,21 @@
 //! What a run says of itself.
 //!
-//! It stands on `machine`, the tallies of `chronicle` and the sinks of `el_io`, and no call of it takes
-//! memory. The text is the word `report_of` of `specs/Text.antt`, to be held beside a printed report: a
-//! list of lines, each a list of words. It is put word by word, after one pass over the history for the
-//! tallies of all harts.
+//! It stands on `machine`, the tallies of `chronicle`, the tables of `timetable` and the sinks of `el_io`,
+//! and no call of it takes memory. The text is the word `report_of` of `specs/Text.antt`, to be held beside
+//! a printed report: a list of lines, each a list of words. It is put word by word, after one pass over the
+//! history for the tallies of all harts and the length of the serial order. The lines of units and losses
+//! are `times_text` of `specs/TimesText.antt`.
 //!
 //! Where a doc comment names no other source, its rule is this project's profile.
 #![tactic(auto)]
 
 mod report;
 mod tallies;
+mod times;
 mod word;
 
 pub use report::write_report;
+pub use times::write_times;
 
 #[cfg(test)]
 mod tests;

@@ -1,4 +1,4 @@
-ghost use Rattle.std.specs.Prelude.{◌≡◌, ◌<◌, ◌≤◌, ◌∷◌, if◌then◌else◌, is_ok, map, OnErr, OnOk};
+ghost use Rattle.std.specs.Prelude.{◌≡◌, ℕ, ◌<◌, ◌≤◌, ◌∷◌, if◌then◌else◌, is_ok, map, OnErr, OnOk};
 ghost use Rattle.std.specs.Fmt.{decimal};
 ghost use Rattle.el_io.specs.Counts.{one_more};
 ghost use Rattle.el_io.specs.Sink.{TookAll, TookPart};
@@ -10,7 +10,7 @@ ghost use Rattle.report.specs.Puts.{Puts};
 ghost use Rattle.report.specs.Text.{count_words, first_line, hart_line, hart_lines, last_line, report_of};
 ghost use Rattle.rv_flat.specs.FlatState.{status_of};
 
-use crate::tallies::{Tallies, tallies_of};
+use crate::tallies::{Tallies, counts_of};
 use crate::word::{Word, put_line};
 use chronicle::Tally;
 use el_base::{Chronicled, Config, HartId};
@@ -43,9 +43,10 @@ fn put_report<S: Sink>(sink: &mut S, machine: &Machine) -> Result<(), Failed>
         (report_of machine.now) }
 {
     let history = machine.history();
+    let counts = counts_of(history);
     put_first_line(sink, machine.config(), history.length())?;
-    put_hart_lines(sink, machine)?;
-    put_last_line(sink, history.serial_len(), machine.output().len() as u64)
+    put_hart_lines(sink, machine, &counts.tallies)?;
+    put_last_line(sink, counts.steps, machine.output().len() as u64)
 }
 
 #[tactic(auto, unfolding(crate::specs::Text::first_line))]
@@ -65,15 +66,16 @@ fn put_first_line<S: Sink>(sink: &mut S, config: Config, events: u32) -> Result<
     put_line(sink, "elide", &words, &[])
 }
 
-fn put_hart_lines<S: Sink>(sink: &mut S, machine: &Machine) -> Result<(), Failed>
+/// Puts the line of each hart of a machine with these tallies.
+fn put_hart_lines<S: Sink>(sink: &mut S, machine: &Machine, tallies: &Tallies) -> Result<(), Failed>
+    requires { (hart : ℕ) → hart < 8 → tally_at tallies.now hart ≡ tally_of hart machine.now.entries }
     ensures { Puts result
         (record { taken = S.taken sink.old; faults = S.faults sink.old })
         (record { taken = S.taken sink.new; faults = S.faults sink.new })
         (hart_lines machine.now.config.harts machine.now.entries (status_of (committed machine.now))) }
 {
-    let tallies = tallies_of(machine.history());
     for number in 0..machine.config().harts {
-        put_line_of(sink, machine, &tallies, HartId { number })?;
+        put_line_of(sink, machine, tallies, HartId { number })?;
     }
     Ok(())
 }

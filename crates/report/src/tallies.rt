@@ -1,5 +1,6 @@
-//! What the events of a history count for, hart by hart, in one pass.
-ghost use Rattle.std.specs.Prelude.{◌≡◌, ℕ, ◌+◌, ◌<◌, ◌^◌, is_some};
+//! What the events of a history count for, in one pass.
+ghost use Rattle.std.specs.Prelude.{◌≡◌, ℕ, ◌+◌, ◌<◌, ◌≤◌, ◌^◌, is_some, length};
+ghost use Rattle.chronicle.specs.Serial.{most_effects, serial, taking_effect};
 ghost use Rattle.chronicle.specs.Tally.{IsTallyOf, has_lost, of_entry, of_outcome, plus, tally_of};
 ghost use Rattle.el_base.specs.Losers.{beaten_by};
 ghost use Rattle.report.specs.Counting.{HasRoom, tally_at, with_loss};
@@ -10,43 +11,66 @@ use el_base::{Cause, Chronicled, Entry, HartId, Losers, MAX_HARTS, Outcome};
 /// A tally for each hart that a machine can have, by its number.
 pub(crate) type Tallies = [Tally; MAX_HARTS as usize];
 
-/// The tallies of a history.
-pub(crate) fn tallies_of(history: &History) -> Tallies
-    ensures { (hart : ℕ) → hart < 8 → tally_at result hart ≡ tally_of hart history.now.entries }
-{
-    let mut tallies = [Tally::default(); MAX_HARTS as usize];
-    for place in 0..history.length() {
-        count(&mut tallies, history.entry(place));
-    }
-    tallies
+/// What the events of a history count for.
+#[derive(Clone, Copy)]
+pub(crate) struct Counts {
+    /// The tally of each hart.
+    pub(crate) tallies: Tallies,
+    /// The length of the serial order.
+    pub(crate) steps: u64,
 }
 
-/// Counts an event, for its hart and for the harts whose sections lost in it.
-fn count(tallies: &mut Tallies, entry: Entry)
+/// What the events of a history count for.
+pub(crate) fn counts_of(history: &History) -> Counts
+    ensures tallies { (hart : ℕ) → hart < 8 → tally_at result.tallies hart ≡ tally_of hart history.now.entries }
+    ensures steps { result.steps ≡ length (serial history.now.entries) }
+{
+    let mut tallies = [Tally::default(); MAX_HARTS as usize];
+    let mut steps = 0;
+    for place in 0..history.length() {
+        steps += count(&mut tallies, history.entry(place));
+    }
+    Counts { tallies, steps }
+}
+
+/// Counts an event, for its hart and for the harts whose sections lost in it, and says how many
+/// instructions took effect in it.
+fn count(tallies: &mut Tallies, entry: Entry) -> u64
     requires { (hart : ℕ) → hart < 8 → HasRoom (tally_at tallies.old hart) }
     ensures exact { (hart : ℕ) → hart < 8 →
         tally_at tallies.new hart ≡ plus (tally_at tallies.old hart) (of_entry hart entry) }
     ensures small { (hart : ℕ) → IsTallyOf 1 (of_entry hart entry) }
+    ensures steps { result ≡ length (taking_effect entry.event.hart.number entry.outcome) }
+    ensures few { result ≤ most_effects }
 {
     let own = entry.event.hart.number as usize;
-    count_own(&mut tallies[own], entry.outcome);
+    let steps = count_own(&mut tallies[own], entry.outcome);
     count_losses(tallies, entry.outcome);
+    steps
 }
 
-/// Counts an event of a hart's own by its outcome.
+/// Counts an event of a hart's own by its outcome, and says how many instructions took effect in it.
 #[tactic(auto, unfolding(chronicle::specs::Tally::plus, chronicle::specs::Tally::IsTallyOf, crate::specs::Counting::HasRoom))]
-fn count_own(tally: &mut Tally, outcome: Outcome)
+fn count_own(tally: &mut Tally, outcome: Outcome) -> u64
     requires { HasRoom tally.old }
     ensures exact { tally.new ≡ plus tally.old (of_outcome outcome) }
     ensures small { IsTallyOf 1 (of_outcome outcome) }
+    ensures steps { (h : ℕ) → result ≡ length (taking_effect h outcome) }
+    ensures few { result ≤ most_effects }
 {
     match outcome {
-        Outcome::Ran => tally.ran += 1,
+        Outcome::Ran => {
+            tally.ran += 1;
+            return 1;
+        }
         Outcome::Began => tally.began += 1,
         Outcome::Committed { count } => {
             tally.committed += 1;
             tally.instr += u64::from(count);
+            return count.into();
         }
+        Outcome::LetGo { count } => return count.into(),
+        Outcome::Ordered { freed, .. } | Outcome::Served { freed, .. } => return freed.total(),
         Outcome::RolledBack { cause: Cause::Room } => tally.room += 1,
         Outcome::RolledBack {
             cause: Cause::Lines,
@@ -59,12 +83,9 @@ fn count_own(tally: &mut Tally, outcome: Outcome)
         Outcome::Missed { .. } => tally.missed += 1,
         Outcome::Stalled => tally.stalled += 1,
         Outcome::Blocked { .. } => tally.blocked += 1,
-        Outcome::Idle
-        | Outcome::Buffered
-        | Outcome::Ordered { .. }
-        | Outcome::Served { .. }
-        | Outcome::Delivered { .. } => (),
+        Outcome::Idle | Outcome::Buffered | Outcome::Delivered { .. } | Outcome::Armed => (),
     }
+    0
 }
 
 /// Counts an event for the harts whose sections lost in it.
@@ -73,12 +94,9 @@ fn count_losses(tallies: &mut Tallies, outcome: Outcome)
     ensures { (hart : ℕ) → hart < 8 →
         tally_at tallies.new hart ≡ with_loss (tally_at tallies.old hart) (has_lost hart outcome) }
 {
-    match outcome {
-        Outcome::Ordered { losers } | Outcome::Served { losers } | Outcome::Delivered { losers } =>
-            {
-                count_losers(tallies, losers);
-            }
-        _ => (),
+    let losers = outcome.losers();
+    if losers != Losers::none() {
+        count_losers(tallies, losers);
     }
 }
 

@@ -1,9 +1,10 @@
 use super::*;
 use crate::report::put_hart_line;
-use crate::tallies::tallies_of;
+use crate::tallies::counts_of;
 use chronicle::{History, Tally};
 use el_base::{
-    Cause, Config, Entry, Event, HartId, Kind, LineAddr, Losers, Mode, Need, Outcome, Why, line_of,
+    Cause, Config, Entry, Event, Freed, HartId, Kind, LineAddr, Losers, Mode, Need, Outcome, Why,
+    line_of,
 };
 use el_io::{Failed, MemSink, SureSink};
 use elf_image::load;
@@ -12,6 +13,7 @@ use rv_alu::HartStatus;
 use std::alloc::Global;
 use std::process::Abort;
 use std::test::Fail;
+use timetable::{Times, tabulate};
 
 /// A program of nine instructions at 0x10054 that prints 'A' and a newline and exits, in one segment at
 /// 0x10000 that is the whole file.
@@ -249,12 +251,13 @@ fn one_pass_counts_for_every_hart(rt: HostRuntime) -> Result<(), Fail> {
     let need = Need::Write;
     let why = Why::Retained;
     let losers = Losers::none().with(first, last);
+    let freed = Freed::none().with(first, 2);
     let both = Losers::none().with(last, first).with(first, last);
     let outcomes = [
         (last, Outcome::Missed { line, need }),
-        (last, Outcome::Ordered { losers }),
+        (last, Outcome::Ordered { losers, freed }),
         (last, Outcome::Blocked { why, by: first }),
-        (last, Outcome::Served { losers }),
+        (last, Outcome::Served { losers, freed }),
         (last, Outcome::Delivered { losers: both }),
         (first, Outcome::Stalled),
         (first, Outcome::Idle),
@@ -293,7 +296,9 @@ fn one_pass_counts_for_every_hart(rt: HostRuntime) -> Result<(), Fail> {
             outcome,
         });
     }
-    let tallies = tallies_of(&history);
+    let counts = counts_of(&history);
+    let tallies = counts.tallies;
+    assert_eq!(rt; counts.steps, 4_294_967_304);
     let of_first = Tally {
         ran: 1,
         began: 1,
@@ -319,5 +324,60 @@ fn one_pass_counts_for_every_hart(rt: HostRuntime) -> Result<(), Fail> {
     for tally in &tallies[1..7] {
         assert_eq!(rt; *tally, Tally::default());
     }
+    Ok(())
+}
+
+/// The table of two harts of which the second loses to the first with two instructions.
+fn one_loss(rt: &impl Abort, alloc: Global) -> Result<Times, Fail> {
+    let first = HartId::new(0).ok_or("no hart 0")?;
+    let second = HartId::new(1).ok_or("no hart 1")?;
+    let losers = Losers::none().with(second, first);
+    let freed = Freed::none();
+    let events = [
+        (Kind::Step, second, Outcome::Began),
+        (Kind::Step, second, Outcome::Buffered),
+        (Kind::Order, first, Outcome::Ordered { losers, freed }),
+    ];
+    let mut history = History::make(alloc, 3)?;
+    for (kind, hart, outcome) in events {
+        assert!(rt; history.spare() >= 1);
+        history.push(Entry {
+            event: Event { kind, hart },
+            outcome,
+        });
+    }
+    Ok(tabulate(&history))
+}
+
+#[test]
+fn a_plain_run_has_two_lines_of_units(rt: HostRuntime) -> Result<(), Fail> {
+    let machine = run(&rt, rt.alloc(), &FILE, &[(0, 37)])?;
+    let mut sink = SureSink::make(rt.alloc(), 100)?;
+    write_times(&mut sink, &tabulate(machine.history()), 1)?;
+    let text = b"time 0 units 34 lost 0\ntime total 34\n";
+    assert_eq!(rt; sink.taken(), text.as_slice());
+    Ok(())
+}
+
+#[test]
+fn a_loss_has_its_line(rt: HostRuntime) -> Result<(), Fail> {
+    let mut sink = SureSink::make(rt.alloc(), 200)?;
+    write_times(&mut sink, &one_loss(&rt, rt.alloc())?, 2)?;
+    let text = b"time 0 units 4 lost 0\ntime 1 units 12 lost 2\n\
+        lost 1 to 0 times 1 instr 2\ntime total 16\n";
+    assert_eq!(rt; sink.taken(), text.as_slice());
+    Ok(())
+}
+
+#[test]
+fn a_failed_put_ends_the_lines_of_units(rt: HostRuntime) -> Result<(), Fail> {
+    let times = one_loss(&rt, rt.alloc())?;
+    let mut sink = MemSink::make(rt.alloc(), 200, 200, &[13])?;
+    match write_times(&mut sink, &times, 2) {
+        Ok(()) => Err("no fault")?,
+        Err(Failed) => (),
+    }
+    let line = b"time 0 units 4 lost 0\n";
+    assert_eq!(rt; sink.taken(), line.as_slice());
     Ok(())
 }

@@ -5,12 +5,12 @@ use Rattle.report.proofs.tallies.count.Goals as goal
 pub count_losses-requires : goal.count_losses-requires
 count_losses-requires c =
     room_for_losses c.args.tallies.now c.args.entry.event.hart.number _ c.args.entry.outcome (omega (arith, c.args.entry.event.hart.small))
-    c.count_own.ensures.exact c.requires
+    c.count_own-steps.ensures.exact c.requires
 
 pub returns-clause-exact : goal.returns-clause-exact
 returns-clause-exact c =
     own_then_losses c.args.tallies.now c.count_losses.new.tallies c.args.entry _ (omega (arith, c.args.entry.event.hart.small))
-    c.count_own.ensures.exact c.count_losses.ensures
+    c.count_own-steps.ensures.exact c.count_losses.ensures
 
 pub returns-clause-small : goal.returns-clause-small
-returns-clause-small c = entry_small c.args.entry c.count_own.ensures.small
+returns-clause-small c = entry_small c.args.entry c.count_own-steps.ensures.small

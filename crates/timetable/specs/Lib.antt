@@ -1,0 +1,5 @@
+pub mod Costs
+pub mod Counting
+pub mod Rows
+pub mod Table
+pub mod Unsettled

@@ -8,17 +8,18 @@ use Rattle.clap.specs.Lexer.{usize_max}
 use Rattle.clap.specs.Matches.{found_of}
 use Rattle.clap.specs.Simple.{App, HasMatchesOf, is_simple, matches_of}
 use Rattle.clap.specs.Values.{kind_of}
-use Rattle.clap.specs.Walk.{Text, first_of}
+use Rattle.clap.specs.Walk.{Text, first_of, one_of}
 use Rattle.clap.specs.declared.error.Error.{Error}
 use Rattle.clap.specs.declared.error.kind.ErrorKind.TheVariants.{OutOfMemory}
 use Rattle.clap.specs.declared.parser.matches.ArgMatches.{ArgMatches}
-use Rattle.clap.proofs.WalkLemmas.{both, first_value-rows}
+use Rattle.clap.proofs.WalkLemmas.{both, first_value-rows, one_text-rows}
 use Rattle.command_line.specs.Fields.{Field, Form, fields_of}
 use Rattle.command_line.specs.Simple.{HasFields, app_by, fault_by}
 use Rattle.command_line.specs.Words.{texts}
 use Rattle.command_line.specs.declared.fault.WordsFault.{WordsFault}
 use Rattle.command_line.specs.declared.fault.WordsFault.TheVariants.{Usage}
-use Rattle.command_line.proofs.Rows.{first_of-fields}
+use Rattle.command_line.proofs.Defaults.{first_of-all, flag_of-all}
+use Rattle.command_line.proofs.Flags.{flag_value}
 use Rattle.command_line.proofs.Simple.{is_simple_form}
 use Rattle.command_line.proofs.Taken.{AreTexts, taken}
 use Rattle.command_line.proofs.Walking.{Agrees}
@@ -41,22 +42,29 @@ module _ (form : Form) (words : List Text) (few : length form.positionals < usiz
   free : is_simple_and_free app ≡ true
   free = ap is_simple_and_free is ∙ is_simple_form form
 
-  agree : Agrees (fault_of app words) (matches_of app words) (fields_of form words)
-  agree = subst (λ (a : App). Agrees (fault_of a words) (matches_of a words) (fields_of form words)) (sym is) (taken form words few are)
+  agree : Agrees form (fault_of app words) (matches_of app words) (fields_of form words)
+  agree =
+      subst (λ (a : App). Agrees form (fault_of a words) (matches_of a words) (fields_of form words)) (sym is)
+      (taken form words few are)
 
   -- a parse that succeeds
   pub has_fields : (matches : ArgMatches) → HasMatchesOf app words matches → (is_simple_and_free app ≡ true → fault_of app words ≡ [])
       → HasFields form words (record { matches = matches })
   has_fields matches exact passes = go (fields_of form words) refl agree
     where
-      go : (fields : Option (List Field)) → fields_of form words ≡ fields → Agrees (fault_of app words) (matches_of app words) fields
+      go : (fields : Option (List Field)) → fields_of form words ≡ fields
+          → Agrees form (fault_of app words) (matches_of app words) fields
           → HasFields form words (record { matches = matches })
       go None e fails = absurd (fails (passes free))
       go (Some fields) e same = record {
         fields = fields;
         taken = e;
-        values = λ name.
-            first_value-rows (found_of matches) name ∙ ap (first_of name) ((exact simple).0 ∙ same.1) ∙ first_of-fields fields name;
+        values = λ name no_flag.
+            first_value-rows (found_of matches) name ∙ ap (first_of name) ((exact simple).0 ∙ same.1)
+            ∙ first_of-all form fields name no_flag;
+        flags = λ name names.
+            one_text-rows (found_of matches) name ∙ ap (one_of name) ((exact simple).0 ∙ same.1)
+            ∙ flag_of-all form fields name names.flag (flag_value form words name names fields e);
       }
 
   -- a parse that fails, and not for want of memory
@@ -64,7 +72,8 @@ module _ (form : Form) (words : List Text) (few : length form.positionals < usiz
       → fields_of form words ≡ None
   no_fields error fails other = go (fields_of form words) refl agree
     where
-      go : (fields : Option (List Field)) → fields_of form words ≡ fields → Agrees (fault_of app words) (matches_of app words) fields
+      go : (fields : Option (List Field)) → fields_of form words ≡ fields
+          → Agrees form (fault_of app words) (matches_of app words) fields
           → fields_of form words ≡ None
       go None e same = e
       go (Some fields) e same = elim (subst (λ (kinds : Kinds). HasKind kinds error) same.0 (fails free)) [

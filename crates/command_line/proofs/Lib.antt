@@ -1,8 +1,10 @@
 pub mod Agreeing
 pub mod Building
 pub mod Bytes
+pub mod Defaults
 pub mod Digits
 pub mod Ending
+pub mod Flags
 pub mod Looks
 pub mod Names
 pub mod Options

@@ -6,10 +6,11 @@ use Rattle.clap.specs.Faults.{settle_fault}
 use Rattle.clap.specs.Kinds.{Kinds}
 use Rattle.clap.specs.Walk.{Held, Text, Waiting, Walk, walked}
 use Rattle.clap.specs.Walk as clap
-use Rattle.command_line.specs.Fields.{Field, Form, field_of, is_among}
-use Rattle.command_line.specs.Pieces.{Piece, Look, End, Long, Short, Plain, value_then}
+use Rattle.command_line.specs.Fields.{Field, Form, field_of}
+use Rattle.command_line.specs.Pieces.{Piece, Look, End, Long, Short, Plain, is_among, value_then}
 use Rattle.command_line.proofs.Looks.{LooksLike}
-use Rattle.command_line.proofs.Options.{attached_kinds, named_kinds, short_fails, unknown_fails, wants}
+use Rattle.command_line.proofs.Options.{attached_kinds, flag_kinds, named_kinds, short_fails, unknown_fails}
+use Rattle.command_line.proofs.Options.{valued_flag_fails, wants}
 use Rattle.command_line.proofs.Positionals.{no_several}
 use Rattle.command_line.proofs.Rules.{IsKnown, Reads, built_rules}
 use Rattle.command_line.proofs.Rows.{rows_of_fields}
@@ -55,10 +56,22 @@ module _ (form : Form) (done : List Field) (place : ℕ) (name : Text) (known : 
   wants_after_end names [] reads = wants_ends true
   wants_after_end names (word ∷ words) reads = stops form (wants done name place true) word words (after_end_fails names word reads)
 
-  -- an option is not its value
+  -- a word with two dashes is not its value
+  other_fails : (b : Bool) (word other : Text) (value : Option Text) → is_among other form.options ≡ false
+      → is_among other form.flags ≡ b
+      → LooksLike word (Long other value) → Fails (turn form start word)
+  other_fails false word other value no_option unknown looks =
+      unknown_fails form held waiting place word refl other value no_option unknown looks
+  other_fails true word other (Some value) no_option among looks =
+      valued_flag_fails form held waiting place word refl other value no_option among looks
+  other_fails true word other None no_option among looks =
+      subst Fails (sym (flag_kinds form held waiting place word refl other no_option among looks))
+      (first_fails _ [] (first_fails settle_kinds _ starved))
+
   option_fails : (b : Bool) (word other : Text) (value : Option Text) → is_among other form.options ≡ b → LooksLike word (Long other value)
       → Fails (turn form start word)
-  option_fails false word other value unknown looks = unknown_fails form held waiting place word refl other value unknown looks
+  option_fails false word other value no_option looks =
+      other_fails (is_among other form.flags) word other value no_option refl looks
   option_fails true word other (Some value) among looks =
       subst Fails (sym (attached_kinds form held waiting place word refl other value among looks))
       (first_fails _ [] (first_fails settle_kinds _ starved))

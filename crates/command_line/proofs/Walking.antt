@@ -6,8 +6,9 @@ use Rattle.clap.specs.Faults.{check_fault, defaults_fault, level_fault, settle_f
 use Rattle.clap.specs.Kinds.{Kinds, or_else}
 use Rattle.clap.specs.Simple.{Shape, new_shape}
 use Rattle.clap.specs.Walk.{Held, Row, Text, Waiting, Walk, finished, idle, nothing_held, rows_after, settled, walked}
-use Rattle.command_line.specs.Fields.{Field, Form, are_new, field_of, fields_in, has_field, is_among, with_field}
-use Rattle.command_line.specs.Pieces.{Piece, OptionWith, Positional, and_then}
+use Rattle.clap.specs.Walk.{with_default}
+use Rattle.command_line.specs.Fields.{Field, Form, are_new, field_of, fields_in, flag_of, has_field, with_field}
+use Rattle.command_line.specs.Pieces.{Piece, OptionWith, Flag, Positional, and_then, is_among}
 use Rattle.command_line.proofs.Rules.{built_rules}
 use Rattle.command_line.proofs.Rows.{rows_of_fields}
 use Rattle.command_line.proofs.Uses.{Fails, IsKnownLast, Repeats, Settles, first_fails, or_else-assoc, settles, with_last}
@@ -58,7 +59,7 @@ rows_from form walk words = finished (built_rules form) (end_of form walk words)
 
 -- the fields of pieces, of which the positional words have these names
 abbrev pub named : Form → List Text → Option (List Piece) → Option (List Field)
-named form names pieces = option_and_then (fields_in names form.options) pieces
+named form names pieces = option_and_then (fields_in form names) pieces
 
 abbrev pub judged : Form → List Field → List Field → Option (List Field)
 judged form done fields =
@@ -68,23 +69,28 @@ judged form done fields =
 abbrev pub fields_after : Form → List Field → Option Field → Option (List Field) → Option (List Field)
 fields_after form done last fields = option_and_then (λ more. judged form done (option_to_list last ++ more)) fields
 
+-- the matches of fields, with what stands for each flag that is not given
+abbrev pub all_rows : Form → List Field → List Row
+all_rows form fields = fold with_default (rows_of_fields fields) (built_rules form)
+
 -- a parse gives these fields, or fails where there are none
-abbrev pub Agrees : Kinds → List Row → Option (List Field) → Type 0
-Agrees kinds rows None = Fails kinds
-Agrees kinds rows (Some fields) = (kinds ≡ []) × (rows ≡ rows_of_fields fields)
+abbrev pub Agrees : Form → Kinds → List Row → Option (List Field) → Type 0
+Agrees form kinds rows None = Fails kinds
+Agrees form kinds rows (Some fields) = (kinds ≡ []) × (rows ≡ all_rows form fields)
 
 -- the parse from a walk on gives these fields
 abbrev pub Gives : Form → Walk → List Text → Option (List Field) → Type 0
-Gives form walk words fields = Agrees (kinds_from form walk words) (rows_from form walk words) fields
+Gives form walk words fields = Agrees form (kinds_from form walk words) (rows_from form walk words) fields
 
 -- the same, after what is done
 abbrev pub Continues : Form → Walk → List Text → List Field → Option Field → Option (List Field) → Type 0
 Continues form walk words done last fields = Gives form walk words (fields_after form done last fields)
 
-pub agrees_along : (fields : Option (List Field)) (kinds other : Kinds) (rows others : List Row)
-    → kinds ≡ other → rows ≡ others → Agrees other others fields → Agrees kinds rows fields
-agrees_along fields kinds other rows others k r agrees =
-    subst (λ (x : Kinds). Agrees x rows fields) (sym k) (subst (λ (x : List Row). Agrees other x fields) (sym r) agrees)
+pub agrees_along : (form : Form) (fields : Option (List Field)) (kinds other : Kinds) (rows others : List Row)
+    → kinds ≡ other → rows ≡ others → Agrees form other others fields → Agrees form kinds rows fields
+agrees_along form fields kinds other rows others k r agrees =
+    subst (λ (x : Kinds). Agrees form x rows fields) (sym k)
+    (subst (λ (x : List Row). Agrees form other x fields) (sym r) agrees)
 
 -- ---- fields, step by step
 
@@ -109,7 +115,7 @@ module _ (form : Form) where
       → fields_after form done None (named form (name ∷ names) (and_then (Positional word) pieces))
       ≡ fields_after form done (Some (field_of name word)) (named form names pieces)
   next_word done name word names None = refl
-  next_word done name word names (Some pieces) = next_field done (field_of name word) (fields_in names form.options pieces)
+  next_word done name word names (Some pieces) = next_field done (field_of name word) (fields_in form names pieces)
 
   pub next_option : (done : List Field) (name value : Text) (names : List Text) (pieces : Option (List Piece))
       → is_among name form.options ≡ true
@@ -117,7 +123,15 @@ module _ (form : Form) where
       ≡ fields_after form done (Some (field_of name value)) (named form names pieces)
   next_option done name value names None among = refl
   next_option done name value names (Some pieces) among =
-      rw among (next_field done (field_of name value) (fields_in names form.options pieces))
+      rw among (next_field done (field_of name value) (fields_in form names pieces))
+
+  pub next_flag : (done : List Field) (name : Text) (names : List Text) (pieces : Option (List Piece))
+      → is_among name form.flags ≡ true
+      → fields_after form done None (named form names (and_then (Flag name) pieces))
+      ≡ fields_after form done (Some (flag_of name)) (named form names pieces)
+  next_flag done name names None among = refl
+  next_flag done name names (Some pieces) among =
+      rw among (next_field done (flag_of name) (fields_in form names pieces))
 
   pub word_too_many : (done : List Field) (last : Option Field) (word : Text) (pieces : Option (List Piece))
       → fields_after form done last (named form [] (and_then (Positional word) pieces)) ≡ None
@@ -128,6 +142,11 @@ module _ (form : Form) where
       → is_among name form.options ≡ false → named form names (and_then (OptionWith name value) pieces) ≡ None
   unknown_option name value names None among = refl
   unknown_option name value names (Some pieces) among = rw among refl
+
+  pub unknown_flag : (name : Text) (names : List Text) (pieces : Option (List Piece))
+      → is_among name form.flags ≡ false → named form names (and_then (Flag name) pieces) ≡ None
+  unknown_flag name names None among = refl
+  unknown_flag name names (Some pieces) among = rw among refl
 
 -- ---- one word
 
@@ -172,7 +191,7 @@ module _ (form : Form) where
   pub goes_on : (walk next : Walk) (word : Text) (words : List Text) (fields : Option (List Field)) → turn form walk word ≡ []
       → after_word form walk word ≡ next → Gives form next words fields → Gives form walk (word ∷ words) fields
   goes_on walk next word words fields passes is gives =
-      agrees_along fields _ _ _ _
+      agrees_along form fields _ _ _ _
       (kinds_step walk word words
       ∙ ap (λ first. or_else first (kinds_from form (after_word form walk word) words)) passes ∙ ap (λ w. kinds_from form w words) is)
       (rows_step walk word words ∙ ap (λ w. rows_from form w words) is) gives

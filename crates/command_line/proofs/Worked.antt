@@ -1,12 +1,12 @@
 -- The definitions, computed on command lines.
-use Rattle.std.proofs.Common.{◌≡◌, ℕ, List, [], ◌∷◌, Option, None, Some, refl}
+use Rattle.std.proofs.Common.{◌≡◌, ℕ, true, false, List, [], ◌∷◌, Option, None, Some, refl}
 use Rattle.std.specs.Prelude.{codes}
 use Rattle.el_base.specs.Config.{config_fault, usual}
 use Rattle.el_base.specs.declared.config.ConfigFault.TheVariants.{Harts, Lines, Long, Sets, Steps, Ways}
 use Rattle.el_base.specs.declared.config.Mode.TheVariants.{Plain, Sle, Tlr}
 use Rattle.command_line.specs.Numbers.{number_of}
 use Rattle.command_line.specs.Settings.{config_of}
-use Rattle.command_line.specs.Words.{Job, Check, Gen, Replay, Run, RunJob, job_of}
+use Rattle.command_line.specs.Words.{Job, Check, Gen, Replay, ReplayJob, Run, RunJob, job_of}
 use Rattle.workload.specs.declared.work.Work.TheVariants.{Bank, Overflow}
 
 -- to run the image `a` with no option
@@ -23,6 +23,7 @@ bare = record {
   threads = None;
   trace = None;
   cert = None;
+  times = false;
 }
 
 abbrev run_a : List (List ℕ) → Option Job
@@ -49,8 +50,56 @@ plain_mode = refl
 tlr_mode : run_a (codes "--mode=tlr" ∷ []) ≡ Some (Run (record bare { mode = Some Tlr }))
 tlr_mode = refl
 
-replays : job_of (codes "replay" ∷ codes "a" ∷ codes "t" ∷ []) ≡ Some (Replay (codes "a") (codes "t"))
+-- to replay the trace `t` on the image `a`
+abbrev bare_replay : ReplayJob
+bare_replay = record { image = codes "a"; trace = codes "t"; written = None; times = false }
+
+abbrev replay_a : List (List ℕ) → Option Job
+replay_a words = job_of (codes "replay" ∷ codes "a" ∷ codes "t" ∷ words)
+
+replays : replay_a [] ≡ Some (Replay bare_replay)
 replays = refl
+
+replay_written : replay_a (codes "--trace" ∷ codes "u" ∷ [])
+    ≡ Some (Replay (record bare_replay { written = Some (codes "u") }))
+replay_written = refl
+
+replay_timed : replay_a (codes "--times" ∷ codes "--trace=u" ∷ [])
+    ≡ Some (Replay (record bare_replay { written = Some (codes "u"); times = true }))
+replay_timed = refl
+
+-- a flag
+timed : run_a (codes "--times" ∷ []) ≡ Some (Run (record bare { times = true }))
+timed = refl
+
+flag_before_an_image : job_of (codes "run" ∷ codes "--times" ∷ codes "a" ∷ [])
+    ≡ Some (Run (record bare { times = true }))
+flag_before_an_image = refl
+
+flag_with_a_value : run_a (codes "--times=x" ∷ []) ≡ None
+flag_with_a_value = refl
+
+flag_with_no_value : run_a (codes "--times=" ∷ []) ≡ None
+flag_with_no_value = refl
+
+word_after_a_flag : run_a (codes "--times" ∷ codes "true" ∷ []) ≡ None
+word_after_a_flag = refl
+
+flag_twice : run_a (codes "--times" ∷ codes "--times" ∷ []) ≡ None
+flag_twice = refl
+
+flag_as_a_value : run_a (codes "--trace" ∷ codes "--times" ∷ []) ≡ None
+flag_as_a_value = refl
+
+flag_after_the_options : job_of (codes "run" ∷ codes "--" ∷ codes "--times" ∷ [])
+    ≡ Some (Run (record bare { image = codes "--times" }))
+flag_after_the_options = refl
+
+no_such_flag : run_a (codes "--time" ∷ []) ≡ None
+no_such_flag = refl
+
+no_flag_of_a_check : job_of (codes "check" ∷ codes "a" ∷ codes "c" ∷ codes "--times" ∷ []) ≡ None
+no_flag_of_a_check = refl
 
 generates : job_of (codes "gen" ∷ codes "bank" ∷ codes "7" ∷ codes "b" ∷ []) ≡ Some (Gen Bank 7 (codes "b"))
 generates = refl

@@ -4,14 +4,15 @@ use Rattle.std.specs.Option.{option_map}
 use Rattle.std.specs.Global.{Global}
 use Rattle.el_base.specs.Modes.{mode_of}
 use Rattle.el_base.specs.declared.config.Mode.{Mode}
-use Rattle.command_line.specs.Fields.{Field, Form, ◌>>=◌, fields_of, value_in}
+use Rattle.command_line.specs.Fields.{Field, Form, ◌>>=◌, fields_of, has_field, value_in}
 use Rattle.command_line.specs.Numbers.{number_of}
 use Rattle.command_line.specs.declared.command.TheConstants.{MAX_TURNS}
 use Rattle.command_line.specs.declared.command.Command.{Command}
 use Rattle.command_line.specs.declared.command.Command.TheVariants as commands
 use Rattle.command_line.specs.declared.command.RunCommand.{RunCommand}
+use Rattle.command_line.specs.declared.command.ReplayCommand.{ReplayCommand}
 use Rattle.workload.specs.declared.work.Work.{Work}
-use Rattle.workload.specs.declared.work.Work.TheVariants.{Counter, Bank, Buckets, Locks, Overflow}
+use Rattle.workload.specs.declared.work.Work.TheVariants.{Counter, Bank, Buckets, Locks, Overflow, Pairs}
 
 -- an image to run, with what was given of the options
 pub record RunJob : Type 0 where
@@ -26,12 +27,20 @@ pub record RunJob : Type 0 where
   pub threads : Option ℕ
   pub trace : Option (List ℕ)
   pub cert : Option (List ℕ)
+  pub times : Bool
+
+-- a trace to make again on its image: `written` is the file that the followed run is to be written to
+pub record ReplayJob : Type 0 where
+  pub image : List ℕ
+  pub trace : List ℕ
+  pub written : Option (List ℕ)
+  pub times : Bool
 
 -- to run an image, to make the events of a trace again on its image, to judge a certificate of a run of its image,
 -- or to write an image of a kind and a number
 pub data Job : Type 0 where
   Run : (job : RunJob) → Job
-  Replay : (image trace : List ℕ) → Job
+  Replay : (job : ReplayJob) → Job
   Check : (image certificate : List ℕ) → Job
   Gen : (kind : Work) → (number : ℕ) → (file : List ℕ) → Job
 
@@ -66,13 +75,14 @@ abbrev pub run_asked : RunJob → Option Job
 run_asked job = if is_traced job && are_apart job.trace job.cert then Some (Run job) else None
 
 -- `IMAGE [--mode plain|sle|tlr] [--harts N] [--sets N] [--ways N] [--lines N] [--long N] [--steps N] [--threads TURNS]
--- [--trace FILE] [--cert FILE]`
+-- [--trace FILE] [--cert FILE] [--times]`
 abbrev pub run_form : Form
 run_form = record {
   positionals = codes "image" ∷ [];
   options =
       codes "mode" ∷ codes "harts" ∷ codes "sets" ∷ codes "ways" ∷ codes "lines" ∷ codes "long" ∷ codes "steps" ∷
       codes "threads" ∷ codes "trace" ∷ codes "cert" ∷ [];
+  flags = codes "times" ∷ [];
 }
 
 abbrev pub run_in : List Field → Option Job
@@ -98,27 +108,37 @@ run_in fields = do
     threads = threads;
     trace = value_in fields (codes "trace");
     cert = value_in fields (codes "cert");
+    times = has_field fields (codes "times");
   })
 
 abbrev pub run_of : List (List ℕ) → Option Job
 run_of words = fields_of run_form words >>= run_in
 
--- `IMAGE TRACE`
+-- `IMAGE TRACE [--trace FILE] [--times]`; beside the option the trace to make again is named `recorded`
 abbrev pub replay_form : Form
-replay_form = record { positionals = codes "image" ∷ codes "trace" ∷ []; options = [] }
+replay_form = record {
+  positionals = codes "image" ∷ codes "recorded" ∷ [];
+  options = codes "trace" ∷ [];
+  flags = codes "times" ∷ [];
+}
 
 abbrev pub replay_in : List Field → Option Job
 replay_in fields = do
   image ← value_in fields (codes "image")
-  trace ← value_in fields (codes "trace")
-  Some (Replay image trace)
+  trace ← value_in fields (codes "recorded")
+  Some (Replay (record {
+    image = image;
+    trace = trace;
+    written = value_in fields (codes "trace");
+    times = has_field fields (codes "times");
+  }))
 
 abbrev pub replay_of : List (List ℕ) → Option Job
 replay_of words = fields_of replay_form words >>= replay_in
 
 -- `IMAGE CERT`
 abbrev pub check_form : Form
-check_form = record { positionals = codes "image" ∷ codes "cert" ∷ []; options = [] }
+check_form = record { positionals = codes "image" ∷ codes "cert" ∷ []; options = []; flags = [] }
 
 abbrev pub check_in : List Field → Option Job
 check_in fields = do
@@ -131,7 +151,7 @@ check_of words = fields_of check_form words >>= check_in
 
 -- `KIND NUMBER FILE`
 abbrev pub gen_form : Form
-gen_form = record { positionals = codes "kind" ∷ codes "number" ∷ codes "file" ∷ []; options = [] }
+gen_form = record { positionals = codes "kind" ∷ codes "number" ∷ codes "file" ∷ []; options = []; flags = [] }
 
 abbrev pub kind_of : List ℕ → Option Work
 kind_of word =
@@ -140,6 +160,7 @@ kind_of word =
     else if bytes_eq word (codes "buckets") then Some Buckets
     else if bytes_eq word (codes "locks") then Some Locks
     else if bytes_eq word (codes "overflow") then Some Overflow
+    else if bytes_eq word (codes "pairs") then Some Pairs
     else None
 
 abbrev pub gen_in : List Field → Option Job
@@ -176,10 +197,19 @@ run_meaning command = record {
   threads = command.threads;
   trace = option_map (λ name. name.now) command.trace;
   cert = option_map (λ name. name.now) command.certificate;
+  times = command.times;
+}
+
+abbrev pub replay_meaning : ReplayCommand → ReplayJob
+replay_meaning command = record {
+  image = command.image.now;
+  trace = command.trace.now;
+  written = option_map (λ name. name.now) command.written;
+  times = command.times;
 }
 
 abbrev pub meaning : Command → Job
 meaning (commands.Run command) = Run (run_meaning command)
-meaning (commands.Replay image trace) = Replay image.now trace.now
+meaning (commands.Replay command) = Replay (replay_meaning command)
 meaning (commands.Check image certificate) = Check image.now certificate.now
 meaning (commands.Gen kind number file) = Gen kind number file.now

@@ -10,10 +10,7 @@ pub enum Command<'a> {
     /// Run an image.
     Run(RunCommand<'a>),
     /// Make the events of a trace again, on the image that it was made with.
-    Replay {
-        image: &'a str,
-        trace: &'a str,
-    },
+    Replay(ReplayCommand<'a>),
     /// Judge a certificate of a run of its image.
     Check {
         image: &'a str,
@@ -53,4 +50,19 @@ pub struct RunCommand<'a> {
     pub trace: Option<&'a str>,
     /// `--cert`, the file that the certificate of the run is to be written to.
     pub certificate: Option<&'a str>,
+    /// `--times`, whether the report is to be followed by the costs and waits.
+    pub times: bool,
+}
+
+/// `replay IMAGE TRACE` with its options.
+#[derive(Clone, Copy, Debug, PartialEq, Eq)]
+pub struct ReplayCommand<'a> {
+    /// The file of the image.
+    pub image: &'a str,
+    /// The file of the trace whose events are made again.
+    pub trace: &'a str,
+    /// `--trace`, the file that the followed run is to be written to as a trace.
+    pub written: Option<&'a str>,
+    /// `--times`, whether the report is to be followed by the costs and waits.
+    pub times: bool,
 }

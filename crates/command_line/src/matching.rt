@@ -1,9 +1,10 @@
 //! The words of a form, as the kit's `clap` reads them. Nothing else in the crate knows `clap`.
 
-ghost use Rattle.std.specs.Prelude.{◌≡◌, ◌<◌, None, false, IfOk, length, option_map};
+ghost use Rattle.std.specs.Prelude.{◌≡◌, ◌<◌, Bool, None, Some, false, IfOk, length, option_map};
+ghost use Rattle.clap.specs.Values.{bool_text};
 ghost use Rattle.clap.specs.Words.{app_of, rule_of};
 ghost use Rattle.command_line.specs.Fields.{fields_of};
-ghost use Rattle.command_line.specs.Simple.{HasFields, app_by, form_of, given_for, option_rule, positional_rule};
+ghost use Rattle.command_line.specs.Simple.{HasFields, app_by, flag_rule, flag_text, form_of, given_for, option_rule, positional_rule};
 ghost use Rattle.command_line.specs.Words.{texts};
 
 use crate::fault::WordsFault;
@@ -39,6 +40,13 @@ impl<'a> Given<'a> {
     {
         self.matches.get_str(name)
     }
+
+    /// Whether a flag is given.
+    pub(crate) fn flag(&self, name: &str) -> bool
+        ensures { (given : Bool) → flag_text self.now name.now ≡ Some (bool_text given) → result ≡ given }
+    {
+        self.matches.get_flag(name)
+    }
 }
 
 impl From<Error> for WordsFault {
@@ -68,6 +76,9 @@ fn simple_command<'a>(alloc: Global, form: Form) -> Result<Command<'a>, AllocErr
     for name in form.options {
         command = command.arg(option(alloc, name))?;
     }
+    for name in form.flags {
+        command = command.arg(flag(alloc, name))?;
+    }
     Ok(command)
 }
 
@@ -85,4 +96,12 @@ fn option<'a>(alloc: Global, name: &'a str) -> Arg<'a>
     ensures local { result.global ≡ false }
 {
     Arg::new(alloc, name).long(name).action(ArgAction::Set)
+}
+
+/// A flag, which says that it is given.
+fn flag<'a>(alloc: Global, name: &'a str) -> Arg<'a>
+    ensures rule { rule_of result ≡ flag_rule name.entry.now }
+    ensures local { result.global ≡ false }
+{
+    Arg::new(alloc, name).long(name).action(ArgAction::SetTrue)
 }

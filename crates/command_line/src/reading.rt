@@ -5,7 +5,7 @@ ghost use Rattle.el_base.specs.Modes.{mode_of};
 ghost use Rattle.command_line.specs.Words.{are_apart, check_of, gen_of, is_traced, job_of, kind_of, meaning, optional, replay_of, run_meaning, run_of, texts, turns_of};
 ghost use Rattle.command_line.specs.Numbers.{number_of};
 
-use crate::command::{Command, MAX_TURNS, RunCommand};
+use crate::command::{Command, MAX_TURNS, ReplayCommand, RunCommand};
 use crate::fault::WordsFault;
 use crate::form::{CHECK, GEN, REPLAY, RUN};
 use crate::matching::Given;
@@ -49,6 +49,7 @@ fn read_run(alloc: Global, words: &[String]) -> Result<Command<'_>, WordsFault>
         threads: read_optional_turns(given.value("threads"))?,
         trace: given.value("trace"),
         certificate: given.value("cert"),
+        times: given.flag("times"),
     };
     if command.is_traced() && are_apart(command.trace, command.certificate) {
         Ok(Command::Run(command))
@@ -81,10 +82,12 @@ fn read_replay(alloc: Global, words: &[String]) -> Result<Command<'_>, WordsFaul
     ensures refused { result ≡ Err WordsFault.Usage → replay_of (texts words.now) ≡ None }
 {
     let given = Given::by_form(alloc, REPLAY, words)?;
-    Ok(Command::Replay {
+    Ok(Command::Replay(ReplayCommand {
         image: given.value("image").ok_or(WordsFault::Usage)?,
-        trace: given.value("trace").ok_or(WordsFault::Usage)?,
-    })
+        trace: given.value("recorded").ok_or(WordsFault::Usage)?,
+        written: given.value("trace"),
+        times: given.flag("times"),
+    }))
 }
 
 fn read_check(alloc: Global, words: &[String]) -> Result<Command<'_>, WordsFault>
@@ -168,6 +171,7 @@ fn read_kind(word: &str) -> Option<Work>
         "buckets" => Some(Work::Buckets),
         "locks" => Some(Work::Locks),
         "overflow" => Some(Work::Overflow),
+        "pairs" => Some(Work::Pairs),
         _ => None,
     }
 }

@@ -15,6 +15,29 @@ const BARE: RunCommand = RunCommand {
     threads: None,
     trace: None,
     certificate: None,
+    times: false,
+};
+
+const BARE_REPLAY: ReplayCommand = ReplayCommand {
+    image: "a",
+    trace: "t",
+    written: None,
+    times: false,
+};
+
+const TIMED: RunCommand = RunCommand {
+    times: true,
+    ..BARE
+};
+
+const TIMED_REPLAY: ReplayCommand = ReplayCommand {
+    times: true,
+    ..BARE_REPLAY
+};
+
+const WRITTEN: ReplayCommand = ReplayCommand {
+    written: Some("u"),
+    ..BARE_REPLAY
 };
 
 fn strings(alloc: Global, words: &[&str]) -> Result<Vec<String>, AllocError> {
@@ -34,7 +57,7 @@ fn in_mode(mode: Mode) -> Command<'static> {
 
 #[test]
 fn command_lines_mean_what_they_say(rt: HostRuntime) -> Result<(), Fail> {
-    let rows: [(&[&str], Command); 13] = [
+    let rows: [(&[&str], Command); 14] = [
         (&["run", "a"], Command::Run(BARE)),
         (
             &[
@@ -95,13 +118,7 @@ fn command_lines_mean_what_they_say(rt: HostRuntime) -> Result<(), Fail> {
                 certificate: "c",
             },
         ),
-        (
-            &["replay", "a", "t"],
-            Command::Replay {
-                image: "a",
-                trace: "t",
-            },
-        ),
+        (&["replay", "a", "t"], Command::Replay(BARE_REPLAY)),
         (
             &["gen", "counter", "1", "f"],
             Command::Gen {
@@ -142,10 +159,111 @@ fn command_lines_mean_what_they_say(rt: HostRuntime) -> Result<(), Fail> {
                 file: "f",
             },
         ),
+        (
+            &["gen", "pairs", "1", "f"],
+            Command::Gen {
+                kind: Work::Pairs,
+                number: 1,
+                file: "f",
+            },
+        ),
     ];
     for (words, want) in rows {
         let words = strings(rt.alloc(), words)?;
         assert!(rt; read_words(rt.alloc(), &words) == Ok(want), "{words:?}");
+    }
+    Ok(())
+}
+
+/// Words with a flag, or of a replay with options, and what they ask for.
+const FLAGS: &[(&[&str], Command)] = &[
+    (&["run", "a", "--times"], Command::Run(TIMED)),
+    (&["run", "--times", "a"], Command::Run(TIMED)),
+    (
+        &["run", "--times", "a", "--trace", "t"],
+        Command::Run(RunCommand {
+            trace: Some("t"),
+            ..TIMED
+        }),
+    ),
+    (
+        &["run", "--", "--times"],
+        Command::Run(RunCommand {
+            image: "--times",
+            ..BARE
+        }),
+    ),
+    (
+        &["replay", "a", "t", "--times"],
+        Command::Replay(TIMED_REPLAY),
+    ),
+    (
+        &["replay", "a", "--times", "t"],
+        Command::Replay(TIMED_REPLAY),
+    ),
+    (
+        &["replay", "a", "t", "--trace", "u"],
+        Command::Replay(WRITTEN),
+    ),
+    (
+        &["replay", "--trace=u", "--times", "a", "t"],
+        Command::Replay(ReplayCommand {
+            times: true,
+            ..WRITTEN
+        }),
+    ),
+    (
+        &["replay", "a", "t", "--trace", "t"],
+        Command::Replay(ReplayCommand {
+            written: Some("t"),
+            ..BARE_REPLAY
+        }),
+    ),
+];
+
+#[test]
+fn flags_say_that_they_are_given(rt: HostRuntime) -> Result<(), Fail> {
+    for (row, want) in FLAGS {
+        let words = strings(rt.alloc(), row)?;
+        assert!(rt; read_words(rt.alloc(), &words) == Ok(*want), "{words:?}");
+    }
+    Ok(())
+}
+
+/// Words in which a flag, or an option of a replay, is given as it cannot be.
+const NO_FLAGS: &[&[&str]] = &[
+    &["run", "--times"],
+    &["run", "a", "--times=x"],
+    &["run", "a", "--times=true"],
+    &["run", "a", "--times="],
+    &["run", "a", "--times", "true"],
+    &["run", "a", "--times", "--times"],
+    &["run", "a", "--trace", "--times"],
+    &["run", "a", "--", "--times"],
+    &["run", "a", "--time"],
+    &["run", "a", "--Times"],
+    &["run", "a", "-times"],
+    &["replay", "a", "--times"],
+    &["replay", "a", "t", "--times=x"],
+    &["replay", "a", "t", "--times", "--times"],
+    &["replay", "a", "--trace", "t"],
+    &["replay", "a", "t", "--trace"],
+    &["replay", "a", "t", "--trace", "--times"],
+    &["replay", "a", "t", "--trace=u", "--trace=u"],
+    &["replay", "a", "--recorded", "t"],
+    &["replay", "a", "t", "--cert", "c"],
+    &["check", "a", "c", "--times"],
+    &["gen", "counter", "1", "f", "--times"],
+];
+
+#[test]
+fn flags_take_no_value_and_come_once(rt: HostRuntime) -> Result<(), Fail> {
+    for row in NO_FLAGS {
+        let words = strings(rt.alloc(), row)?;
+        assert!(rt;
+            read_words(rt.alloc(), &words) == Err(WordsFault::Usage),
+            "{words:?}"
+        );
     }
     Ok(())
 }

@@ -1,7 +1,7 @@
 -- What is an answer, from what was found in files.
 use Rattle.std.proofs.Common.{◌≡◌, ℕ, List, Option, Some, refl}
 use Rattle.command_line.specs.Settings.{config_of}
-use Rattle.command_line.specs.Words.{RunJob}
+use Rattle.command_line.specs.Words.{ReplayJob, RunJob}
 use Rattle.el_base.specs.Config.{config_fault}
 use Rattle.el_base.specs.declared.config.ConfigFault.{ConfigFault}
 use Rattle.el_io.specs.Shelf.{Contents, Holds}
@@ -22,12 +22,12 @@ config_refused job told fault found =
     record { image = image.0; image_file = image.1; exact = rw found refl }
 
 -- an image that is too big is refused whatever the trace
-pub image_unread : (image trace : List ℕ) (told : Option Contents) (stop : Stop) → StopsRead told image file_limit stop →
-    StopsWith (IsReplayAnswer image trace told) stop
-image_unread image trace told (Refused refusal) stopped =
-    let file : (bytes : List ℕ) × Holds told trace bytes = some_file told trace in
+pub image_unread : (job : ReplayJob) (told : Option Contents) (stop : Stop) → StopsRead told job.image file_limit stop →
+    StopsWith (IsReplayAnswer job told) stop
+image_unread job told (Refused refusal) stopped =
+    let file : (bytes : List ℕ) × Holds told job.trace bytes = some_file told job.trace in
     record { image = stopped.0; trace = file.0; image_file = stopped.1; trace_file = file.1; exact = rw stopped.2 refl }
-image_unread image trace told (Failed fault) stopped = tt
+image_unread job told (Failed fault) stopped = tt
 
 -- an image that is too big is refused whatever the certificate
 pub image_unchecked : (image certificate : List ℕ) (told : Option Contents) (stop : Stop) →

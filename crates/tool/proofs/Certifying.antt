@@ -12,11 +12,14 @@ use Rattle.el_model.proofs.Folds.{events-entries_from, outcomes-entries_from}
 use Rattle.el_model.specs.Next.{entries_from}
 use Rattle.el_model.specs.State.{begin}
 use Rattle.elf_image.specs.Program.{Program}
+use Rattle.machine.specs.Recording.{CanBeRecorded}
 use Rattle.machine.specs.Story.{IsOneRun, Story, committed, history_of, memory_of}
 use Rattle.run_check.proofs.ReachedStates.{reached_is_state}
 use Rattle.run_check.specs.Certified.{IsHistoryOf, IsStateOf}
 use Rattle.rv_flat.specs.FlatState.{span_of}
 use Rattle.section_laws.proofs.SerialLength.{serial_order_is_no_longer}
+use Rattle.trace_file.specs.Spelling.{outcomes}
+use Rattle.tool.proofs.Recording.{serial_below}
 
 -- entries are told apart by their events and outcomes
 same_entries : (some others : List Entry) → map (λ entry. entry.event) some ≡ map (λ entry. entry.event) others →
@@ -38,8 +41,10 @@ as_made story run =
 -- its serial order fits a certificate
 pub history_fits : (story : Story) → IsOneRun story → length story.entries ≤ story.config.steps → IsInRange story.config →
     story.program.harts ≡ story.config.harts →
-    All (λ event. event.hart.number < story.config.harts) (events story.entries) → IsHistoryOf story.program story.entries
-history_fits story run within in_range same exist =
+    All (λ event. event.hart.number < story.config.harts) (events story.entries) →
+    All (CanBeRecorded story.config.harts story.config.long) (outcomes story.entries) →
+    IsHistoryOf story.program story.entries
+history_fits story run within in_range same exist can =
     let made : List Event = events story.entries in
     let steps : story.config.steps ≤ 16777216 = at_most 1 16777216 story.config.steps (ranges story.config in_range).steps in
     let no_longer : length (serial (entries_from (begin story.program story.config) made)) ≤ length made =
@@ -48,7 +53,9 @@ history_fits story run within in_range same exist =
     subst (λ (entries : List Entry). length (serial entries) ≤ length made) (sym (as_made story run)) no_longer in
     let same_length : length made ≡ length story.entries = length-map story.entries (λ entry. entry.event) in
     record {
-      harts = subst (λ (harts : ℕ). All (λ event. event.hart.number < harts) made) (sym same) exist;
+      harts =
+          subst (λ (harts : ℕ). All (λ hart. hart < harts) (serial story.entries)) (sym same)
+          (serial_below story.config.harts story.config.long story.entries exist can);
       few = omega (arith, serial_few, same_length, within, steps);
     }
 
@@ -78,8 +85,9 @@ copy_reached image story same = subst (λ (program : Program). IsStateOf program
 pub copy_fits : (image : Program) (story : Story) (history : Chronicle) → image ≡ story.program → history ≡ history_of story →
     IsOneRun story → length story.entries ≤ story.config.steps → IsInRange story.config →
     story.program.harts ≡ story.config.harts → All (λ event. event.hart.number < story.config.harts) (events story.entries) →
+    All (CanBeRecorded story.config.harts story.config.long) (outcomes story.entries) →
     IsHistoryOf image history.entries
-copy_fits image story history same is run within in_range one_each exist =
+copy_fits image story history same is run within in_range one_each exist can =
     subst (λ (kept : Chronicle). IsHistoryOf image kept.entries) (sym is)
     (subst (λ (program : Program). IsHistoryOf program story.entries) (sym same)
-    (history_fits story run within in_range one_each exist))
+    (history_fits story run within in_range one_each exist can))

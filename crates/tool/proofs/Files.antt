@@ -5,6 +5,7 @@ use Rattle.std.proofs.lemmas.Bool.Decides.{nat_tests}
 use Rattle.std.specs.Prelude.{IfSome, slice_index}
 use Rattle.el_base.specs.declared.config.Config.{Config}
 use Rattle.el_base.specs.declared.events.Event.{Event}
+use Rattle.el_base.specs.declared.outcomes.Outcome.{Outcome}
 use Rattle.el_io.specs.Shelf.{Contents, Holds}
 use Rattle.elf_image.specs.Loaded.{program_of}
 use Rattle.trace_file.specs.Faults.{config_at}
@@ -40,12 +41,14 @@ unfolding program_of
 loaded_harts file harts = refl
 
 -- a trace is of as many harts as its head says
-pub spelled_harts : (file : List ℕ) (config : Config) (made : List Event) → file ≡ spelling config made → (config_at file).harts ≡ config.harts
+pub spelled_harts : (file : List ℕ) (config : Config) (made : List Event) (recorded : Option (List Outcome)) →
+    file ≡ spelling config made recorded → (config_at file).harts ≡ config.harts
 unfolding config_at
-spelled_harts file config made spelled = ap (λ bytes. slice_index bytes 5) spelled
+spelled_harts file config made recorded spelled = ap (λ bytes. slice_index bytes 5) spelled
 
-pub harts_of_trace : (file : List ℕ) (config : Config) (made : List Event) → IsTraceOf file config made → (config_at file).harts ≡ config.harts
-harts_of_trace file config made trace = spelled_harts file config made trace.spelled
+pub harts_of_trace : (file : List ℕ) (config : Config) (made : List Event) (recorded : Option (List Outcome)) →
+    IsTraceOf file config made recorded → (config_at file).harts ≡ config.harts
+harts_of_trace file config made recorded trace = spelled_harts file config made recorded trace.spelled
 
 -- and a certificate
 pub harts_of_certificate : (file : List ℕ) (content : Content) → IsCertificateOf file content → harts_of file ≡ content.harts

@@ -1,10 +1,13 @@
 pub mod Answering
 pub mod Certifying
+pub mod Differences
 pub mod Failing
 pub mod Files
 pub mod Putting
+pub mod Recording
 pub mod Repeating
 pub mod Running
 pub mod Succeeding
+pub mod TraceLengths
 pub mod Worked
 pub mod Writing

@@ -1,13 +1,21 @@
 -- What was put and written of an answer.
-use Rattle.std.proofs.Common.{◌≡◌, ℕ, List, [], ◌∷◌, ◌++◌, length, map, take, take_all, Option, None, Some, true, refl, ap, subst, ◌∙◌, inl, inr, arith}
+use Rattle.std.proofs.Common.{◌≡◌, ℕ, List, [], ◌∷◌, ◌++◌, length, map, take, take_all, Bool, Option, None, Some, Result, Ok, Err, true, refl, ap, subst, sym, ◌∙◌, inl, inr, arith}
+use Rattle.std.specs.Result.{OnErr}
 use Rattle.std.proofs.lemmas.List.{map-append}
 use Rattle.el_io.specs.Shelf.{Contents, NamedCall}
-use Rattle.el_io.specs.Sink.{TookAll}
+use Rattle.el_io.specs.Sink.{TookAll, TookPart}
 use Rattle.el_io.specs.declared.shelf.Call.TheVariants.{Write}
-use Rattle.machine.specs.Story.{Story}
+use Rattle.chronicle.specs.Chronicle.{Chronicle}
+use Rattle.el_base.specs.declared.config.Config.{Config}
+use Rattle.machine.specs.Story.{Story, history_of}
+use Rattle.report.proofs.Putting.{took_then_part}
+use Rattle.report.specs.Text.{report_of}
+use Rattle.report.specs.TimesText.{times_text}
+use Rattle.timetable.specs.Table.{table_of}
+use Rattle.timetable.specs.declared.hart_times.HartTimes.{HartTimes}
 use Rattle.tool.specs.declared.stop.Fault.{Fault}
 use Rattle.tool.specs.declared.stop.Fault.TheVariants.{Device, NoMemory}
-use Rattle.tool.specs.Answer.{Answer, RunFiles, WrittenFile, certified_by, files_of, where_named, written_by}
+use Rattle.tool.specs.Answer.{Answer, Besides, WrittenFile, certified_by, files_of, times_if, where_named, written_by}
 use Rattle.tool.specs.Causes.{Caused, Failures, ListsOne, run_writes, writes_to}
 use Rattle.tool.specs.Comes.{Comes, Told, TookSome}
 use Rattle.tool.specs.Faults.{Faulted, Unwritten}
@@ -21,13 +29,13 @@ writes_where_named : (written : List ℕ → WrittenFile) (name : Option (List �
 writes_where_named written None same = refl
 writes_where_named written (Some given) same = ap (λ (one : List ℕ). (Write, one) ∷ []) (same given)
 
-pub writes_named : (files : RunFiles) (story : Story) → map write_of (files_of files story) ≡ run_writes files
-writes_named files story =
-    map-append write_of (where_named (written_by story) files.trace) (where_named (certified_by story) files.cert)
-    ∙ ap (λ (calls : List NamedCall). calls ++ map write_of (where_named (certified_by story) files.cert))
-    (writes_where_named (written_by story) files.trace (λ given. refl))
-    ∙ ap (λ (calls : List NamedCall). writes_to files.trace ++ calls)
-    (writes_where_named (certified_by story) files.cert (λ given. refl))
+pub writes_named : (besides : Besides) (story : Story) → map write_of (files_of besides story) ≡ run_writes besides
+writes_named besides story =
+    map-append write_of (where_named (written_by story) besides.trace) (where_named (certified_by story) besides.cert)
+    ∙ ap (λ (calls : List NamedCall). calls ++ map write_of (where_named (certified_by story) besides.cert))
+    (writes_where_named (written_by story) besides.trace (λ given. refl))
+    ∙ ap (λ (calls : List NamedCall). writes_to besides.trace ++ calls)
+    (writes_where_named (certified_by story) besides.cert (λ given. refl))
 
 -- all bytes are some of them
 pub took_all : (before now : Option (List ℕ)) (bytes : List ℕ) → TookAll before now bytes → TookSome before now bytes
@@ -62,14 +70,33 @@ unwritten_faults had has before now answer Device took failed same others =
     inr (answer, refl, inr (inl (record { out = took; written = failed; failed = others; err = same })))
 
 -- and it is one of the writes of the run
-pub unwritten_causes : (had has : Failures) (before now : Option Contents) (files : RunFiles) (story : Story) (fault : Fault) →
-    Unwritten (files_of files story) had.shelf has.shelf before now fault → has ≡ record had { shelf = has.shelf } →
-    Caused (run_writes files) true (status_of_fault fault) had has
-unwritten_causes had has before now files story Device failed others =
+pub unwritten_causes : (had has : Failures) (before now : Option Contents) (besides : Besides) (story : Story) (fault : Fault) →
+    Unwritten (files_of besides story) had.shelf has.shelf before now fault → has ≡ record had { shelf = has.shelf } →
+    Caused (run_writes besides) true (status_of_fault fault) had has
+unwritten_causes had has before now besides story Device failed others =
     inl (
-      subst (λ calls. ListsOne calls had.shelf has.shelf) (writes_named files story)
-          (unwritten_lists (files_of files story) had.shelf has.shelf before now Device failed),
+      subst (λ calls. ListsOne calls had.shelf has.shelf) (writes_named besides story)
+          (unwritten_lists (files_of besides story) had.shelf has.shelf before now Device failed),
       others,
     )
-unwritten_causes had has before now files story NoMemory kept others =
+unwritten_causes had has before now besides story NoMemory kept others =
     others ∙ ap (λ (calls : List NamedCall). record had { shelf = calls }) kept.0
+
+-- what is asked of a call that failed
+pub on_failure : {T E : Type 0} {Kept : Type 0} (result : Result T E) → Kept → OnErr result Kept
+on_failure (Ok value) kept = tt
+on_failure (Err error) kept = kept
+
+-- a report that was put, and a part of the times behind it
+pub part_of_times : (before between now : Option (List ℕ)) (story : Story) (history : Chronicle) (config : Config)
+    (times : Bool) (table : List HartTimes) → times ≡ true → config ≡ story.config → history ≡ history_of story →
+    table ≡ table_of history.entries → TookAll before between (report_of story) →
+    TookPart between now (times_text config.harts table) → TookPart before now (report_of story ++ times_if times story)
+part_of_times before between now story history config times table asked same is tabled report part =
+    let entries : history.entries ≡ story.entries = ap (λ (one : Chronicle). one.entries) is in
+    let text : times_text config.harts table ≡ times_if times story =
+    ap (λ (one : Config). times_text one.harts table) same
+    ∙ ap (times_text story.config.harts) (tabled ∙ ap table_of entries)
+    ∙ ap (λ (told : Bool). times_if told story) (sym asked) in
+    took_then_part before between now (report_of story) (times_if times story) report
+    (subst (TookPart between now) text part)

@@ -1,11 +1,11 @@
 -- What a run has made, from its parts.
-use Rattle.std.proofs.Common.{◌≡◌, ◌∙◌, ℕ, List, Option, None, Some, ap, sym}
+use Rattle.std.proofs.Common.{◌≡◌, ◌∙◌, ℕ, Bool, List, Option, None, Some, ap, sym}
 use Rattle.std.specs.Prelude.{IfSome}
 use Rattle.elf_image.specs.Program.{Program}
 use Rattle.el_base.specs.declared.config.Config.{Config}
 use Rattle.machine.specs.Story.{Story}
 use Rattle.tool.specs.declared.made.Certified.{Certified}
-use Rattle.tool.specs.Answer.{ended, files_named}
+use Rattle.tool.specs.Answer.{ended}
 use Rattle.tool.specs.Jobs.{DriversMade, MakesRun, first_story}
 
 drivers_keep : (threads : Option ℕ) (before driven : Story) → DriversMade threads before driven → driven.program ≡ before.program
@@ -28,6 +28,8 @@ copies_what_ran (Some copy) threads program config later run copies =
     copies ∙ sym (runs_its_program threads program config later run)
 
 -- the same files have the same answer
-pub same_files : (trace cert given : Option (List ℕ)) (story : Story) → cert ≡ given →
-    ended (files_named trace cert) story ≡ ended (files_named trace given) story
-same_files trace cert given story same = ap (λ (one : Option (List ℕ)). ended (files_named trace one) story) same
+pub same_files : (trace cert given : Option (List ℕ)) (times : Bool) (story : Story) → cert ≡ given →
+    ended (record { trace = trace; cert = cert; times = times }) story
+    ≡ ended (record { trace = trace; cert = given; times = times }) story
+same_files trace cert given times story same =
+    ap (λ (one : Option (List ℕ)). ended (record { trace = trace; cert = one; times = times }) story) same

@@ -1,5 +1,5 @@
 -- What the program puts and writes, and how it ends.
-use Rattle.std.specs.Prelude.{◌≡◌, ℕ, List, [], ◌∷◌, ◌++◌, length, Option, None, IfSome}
+use Rattle.std.specs.Prelude.{◌≡◌, ℕ, Bool, true, false, List, [], ◌∷◌, ◌++◌, length, Option, Some, IfSome}
 use Rattle.std.specs.Option.{option_map, option_to_list}
 use Rattle.chronicle.specs.Chronicle.{events}
 use Rattle.machine.specs.Story.{Story, committed}
@@ -7,15 +7,18 @@ use Rattle.run_check.specs.Certified.{certificate_of}
 use Rattle.run_check.specs.Spelling as certificates
 use Rattle.run_check.specs.declared.verdict.Verdict.{Verdict}
 use Rattle.run_check.specs.declared.verdict.Verdict.TheVariants as verdicts
-use Rattle.trace_file.specs.Spelling.{spelling}
+use Rattle.trace_file.specs.Spelling.{outcomes, spelling}
+use Rattle.tool.specs.declared.difference.Difference.{Difference}
+use Rattle.tool.specs.declared.made.Extras.{Extras}
 use Rattle.tool.specs.declared.made.Made.{Made}
 use Rattle.tool.specs.declared.made.Made.TheVariants as made
 use Rattle.tool.specs.declared.refusal.Refusal.{Refusal}
 use Rattle.tool.specs.declared.status.Status.{Status}
-use Rattle.tool.specs.declared.status.Status.TheVariants.{Done, Refused, Rejected}
+use Rattle.tool.specs.declared.status.Status.TheVariants.{Differs, Done, Refused, Rejected}
 use Rattle.tool.specs.Ending.{ending}
-use Rattle.tool.specs.Messages.{fails_line, holds_line, line_of, written_line}
+use Rattle.tool.specs.Messages.{differs_line, fails_line, holds_line, line_of, written_line}
 use Rattle.report.specs.Text.{report_of}
+use Rattle.report.specs.TimesText.{times_of}
 
 -- a file that the program writes
 pub record WrittenFile : Type 0 where
@@ -38,39 +41,50 @@ line_alone status line = record { status = status; out = []; err = line; written
 abbrev pub refused : Refusal → Answer
 refused refusal = line_alone Refused (line_of refusal)
 
--- the trace that a run writes, under the name that was given
+-- the trace that a run writes, under the name that was given: its events with what came of each
 abbrev pub written_by : Story → List ℕ → WrittenFile
-written_by story name = record { name = name; bytes = spelling story.config (events story.entries) }
+written_by story name = record {
+  name = name;
+  bytes = spelling story.config (events story.entries) (Some (outcomes story.entries));
+}
 
 -- the certificate that a run writes, under the name that was given
 abbrev pub certified_by : Story → List ℕ → WrittenFile
 certified_by story name =
     record { name = name; bytes = certificates.spelling (certificate_of story.program story.entries (committed story)) }
 
--- the names of the files that a run writes, where they were given: its trace and its certificate
-pub record RunFiles : Type 0 where
+-- what a run tells besides its output and its report: its trace and its certificate, under the names that were
+-- given, and its times
+pub record Besides : Type 0 where
   pub trace : Option (List ℕ)
   pub cert : Option (List ℕ)
-
-abbrev pub no_files : RunFiles
-no_files = record { trace = None; cert = None }
+  pub times : Bool
 
 -- the file of a name, where one was given
 abbrev pub where_named : (List ℕ → WrittenFile) → Option (List ℕ) → List WrittenFile
 where_named written name = option_to_list (option_map written name)
 
 -- what a run that has ended writes
-abbrev pub files_of : RunFiles → Story → List WrittenFile
-files_of files story = where_named (written_by story) files.trace ++ where_named (certified_by story) files.cert
+abbrev pub files_of : Besides → Story → List WrittenFile
+files_of besides story = where_named (written_by story) besides.trace ++ where_named (certified_by story) besides.cert
 
--- a run that has ended puts the program's output to out and its report to err, and writes these files
-abbrev pub ended : RunFiles → Story → Answer
-ended files story = record {
+-- the lines behind its report
+abbrev pub times_if : Bool → Story → List ℕ
+times_if true story = times_of story.config.harts story.entries
+times_if false story = []
+
+-- a run that has ended puts the program's output to out and its report to err, and tells what it is to tell besides
+abbrev pub ended : Besides → Story → Answer
+ended besides story = record {
   status = ending story;
   out = (committed story).output;
-  err = report_of story;
-  written = files_of files story;
+  err = report_of story ++ times_if besides.times story;
+  written = files_of besides story;
 }
+
+-- a replay in which another outcome came than the recorded one puts a line that says where, and nothing else
+abbrev pub differing : Difference → Answer
+differing difference = line_alone Differs (differs_line difference)
 
 -- an image is written to its file, and its length is put to err
 abbrev pub generated : List ℕ → List ℕ → Answer
@@ -86,19 +100,24 @@ abbrev pub judged : Verdict → ℕ → Answer
 judged (verdicts.Holds serial) output = line_alone Done (holds_line serial output)
 judged (verdicts.Fails number place) output = line_alone Rejected (fails_line number place)
 
--- the files of these names
-abbrev pub files_named : Option (List ℕ) → Option (List ℕ) → RunFiles
-files_named trace cert = record { trace = trace; cert = cert }
+-- what is told besides, as the code has it
+abbrev pub besides_of : Extras → Besides
+besides_of extras = record {
+  trace = option_map (λ name. name.now) extras.trace;
+  cert = option_map (λ copy. copy.name.now) extras.certified;
+  times = extras.times;
+}
 
 -- the answer that has been made
 abbrev pub answer_of : Made → Answer
-answer_of (made.Run machine trace certified) =
-    ended (files_named (option_map (λ name. name.now) trace) (option_map (λ copy. copy.name.now) certified)) machine
+answer_of (made.Run machine extras) = ended (besides_of extras) machine
+answer_of (made.Differs difference) = differing difference
 answer_of (made.Image bytes file) = generated file.now bytes.items
 answer_of (made.Judged verdict output) = judged verdict output
 
 -- the copy of an image that a certificate is written with is of the machine's program
 abbrev pub CopiesProgram : Made → Type 0
-CopiesProgram (made.Run machine trace certified) = IfSome certified (λ copy. copy.image ≡ machine.program)
+CopiesProgram (made.Run machine extras) = IfSome extras.certified (λ copy. copy.image ≡ machine.program)
+CopiesProgram (made.Differs difference) = Unit {0}
 CopiesProgram (made.Image bytes file) = Unit {0}
 CopiesProgram (made.Judged verdict output) = Unit {0}

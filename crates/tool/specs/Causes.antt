@@ -1,6 +1,6 @@
 -- What a fault of a device shows: one call of a device failed, and with any other ending none did.
 use Rattle.std.specs.Prelude.{◌≡◌, ℕ, ◌⊎◌, Bool, true, false, List, [], ◌∷◌, ◌++◌, map, Option, None, Some}
-use Rattle.std.specs.Option.{option_map, option_to_list}
+use Rattle.std.specs.Option.{option_to_list}
 use Rattle.command_line.specs.Settings.{config_of}
 use Rattle.command_line.specs.Words.{Job, Run, Replay, Check, Gen, RunJob}
 use Rattle.el_base.specs.Config.{config_fault}
@@ -8,8 +8,8 @@ use Rattle.el_base.specs.declared.config.ConfigFault.{ConfigFault}
 use Rattle.el_io.specs.Counts.{one_more}
 use Rattle.el_io.specs.Shelf.{NamedCall}
 use Rattle.el_io.specs.declared.shelf.Call.TheVariants.{Read, Write}
-use Rattle.tool.specs.Answer.{RunFiles, files_named}
-use Rattle.tool.specs.Jobs.{run_files}
+use Rattle.tool.specs.Answer.{Besides, besides_of}
+use Rattle.tool.specs.Jobs.{besides_run}
 use Rattle.tool.specs.declared.made.Made.{Made}
 use Rattle.tool.specs.declared.made.Made.TheVariants as made
 use Rattle.tool.specs.declared.status.Status.{Status}
@@ -24,15 +24,19 @@ abbrev pub writes_to : Option (List ℕ) → List NamedCall
 writes_to name = map (λ given. (Write, given)) (option_to_list name)
 
 -- the writes of what a run writes
-abbrev pub run_writes : RunFiles → List NamedCall
-run_writes files = writes_to files.trace ++ writes_to files.cert
+abbrev pub run_writes : Besides → List NamedCall
+run_writes besides = writes_to besides.trace ++ writes_to besides.cert
 
 -- the writes that are left to what a command has made
 abbrev pub writes_of : Made → List NamedCall
-writes_of (made.Run machine trace certified) =
-    run_writes (files_named (option_map (λ name. name.now) trace) (option_map (λ copy. copy.name.now) certified))
+writes_of (made.Run machine extras) = run_writes (besides_of extras)
+writes_of (made.Differs difference) = []
 writes_of (made.Image bytes file) = writes_to (Some file.now)
 writes_of (made.Judged verdict output) = []
+
+-- what is left to write of a replay: its trace, where a name was given for one, or nothing, where it differs
+abbrev pub MayWrite : Option (List ℕ) → Made → Type 0
+MayWrite written made = (writes_of made ≡ writes_to written) ⊎ (writes_of made ≡ [])
 
 -- these calls of the shelf, under a configuration that has no fault
 abbrev pub calls_under : Option ConfigFault → List NamedCall → List NamedCall
@@ -43,19 +47,19 @@ calls_under None calls = calls
 abbrev pub reads_of : Option Job → List NamedCall
 reads_of None = []
 reads_of (Some (Run job)) = calls_under (config_fault (config_of job)) ((Read, job.image) ∷ [])
-reads_of (Some (Replay image trace)) = (Read, image) ∷ (Read, trace) ∷ []
+reads_of (Some (Replay job)) = (Read, job.image) ∷ (Read, job.trace) ∷ []
 reads_of (Some (Check image certificate)) = (Read, image) ∷ (Read, certificate) ∷ []
 reads_of (Some (Gen kind number file)) = []
 
 -- the calls that a run makes of the shelf
 abbrev pub run_calls : RunJob → List NamedCall
-run_calls job = calls_under (config_fault (config_of job)) ((Read, job.image) ∷ run_writes (run_files job))
+run_calls job = calls_under (config_fault (config_of job)) ((Read, job.image) ∷ run_writes (besides_run job))
 
 -- the calls that a job makes of the shelf
 abbrev pub calls_of : Option Job → List NamedCall
 calls_of None = []
 calls_of (Some (Run job)) = run_calls job
-calls_of (Some (Replay image trace)) = (Read, image) ∷ (Read, trace) ∷ []
+calls_of (Some (Replay job)) = (Read, job.image) ∷ (Read, job.trace) ∷ writes_to job.written
 calls_of (Some (Check image certificate)) = (Read, image) ∷ (Read, certificate) ∷ []
 calls_of (Some (Gen kind number file)) = writes_to (Some file)
 
@@ -63,13 +67,14 @@ calls_of (Some (Gen kind number file)) = writes_to (Some file)
 abbrev pub puts_of : Option Job → Bool
 puts_of None = false
 puts_of (Some (Run job)) = true
-puts_of (Some (Replay image trace)) = true
+puts_of (Some (Replay job)) = true
 puts_of (Some (Check image certificate)) = false
 puts_of (Some (Gen kind number file)) = false
 
--- the same of what a command has made
+-- what a run or a replay has come to: the same of what a command has made
 abbrev pub is_run : Made → Bool
-is_run (made.Run machine trace certified) = true
+is_run (made.Run machine extras) = true
+is_run (made.Differs difference) = true
 is_run (made.Image bytes file) = false
 is_run (made.Judged verdict output) = false
 

@@ -1,10 +1,11 @@
 -- What the program answers to its words, over files.
-use Rattle.std.specs.Prelude.{◌≡◌, ◌≤◌, ℕ, List, [], length, Option, None, Some, MatchOption}
+use Rattle.std.specs.Prelude.{◌≡◌, ◌≤◌, ◌⊎◌, ℕ, List, [], length, Option, None, Some, MatchOption}
 use Rattle.command_line.specs.Settings.{config_of}
-use Rattle.command_line.specs.Words.{Job, Run, Replay, Check, Gen, RunJob, job_of}
+use Rattle.command_line.specs.Words.{Job, Run, Replay, Check, Gen, ReplayJob, RunJob, job_of}
 use Rattle.drive.specs.Drivers.{MakesRoundRobin, MakesTurns}
 use Rattle.el_base.specs.declared.events.Event.{Event}
 use Rattle.el_base.specs.declared.config.Config.{Config}
+use Rattle.el_base.specs.declared.outcomes.Outcome.{Outcome}
 use Rattle.el_io.specs.Shelf.{Contents, Holds}
 use Rattle.elf_image.specs.Faults.{IsFaultless}
 use Rattle.elf_image.specs.Limits.{file_limit}
@@ -16,20 +17,25 @@ use Rattle.run_check.specs.Content.{Content}
 use Rattle.run_check.specs.Spelling as certificates
 use Rattle.run_check.specs.Spelling.{IsCertificate}
 use Rattle.run_check.specs.declared.verdict.Verdict.{Verdict}
-use Rattle.trace_file.specs.Spelling.{IsTrace, spelling}
+use Rattle.trace_file.specs.Spelling.{IsTrace, outcomes, spelling}
 use Rattle.workload.specs.Image.{number_in}
 use Rattle.tool.specs.declared.refusal.Refusal.{Refusal}
 use Rattle.tool.specs.declared.refusal.Refusal.TheVariants.{Usage}
-use Rattle.tool.specs.Answer.{Answer, RunFiles, ended, generated, judged, no_files, refused}
+use Rattle.tool.specs.Answer.{Answer, Besides, differing, ended, generated, judged, refused}
+use Rattle.tool.specs.Differing.{CameAsRecorded, DiffersFrom}
+use Rattle.tool.specs.declared.difference.Difference.{Difference}
 use Rattle.tool.specs.Refusals.{check_refusal, replay_refusal, run_refusal}
 
 -- the story of a program under a configuration, before its first event
 abbrev pub first_story : Program → Config → Story
 first_story program config = record { program = program; config = config; entries = [] }
 
--- the files that a run is to write
-abbrev pub run_files : RunJob → RunFiles
-run_files job = record { trace = job.trace; cert = job.cert }
+-- what a run is to tell besides its output and its report, and what a replay is
+abbrev pub besides_run : RunJob → Besides
+besides_run job = record { trace = job.trace; cert = job.cert; times = job.times }
+
+abbrev pub besides_replay : ReplayJob → Besides
+besides_replay job = record { trace = job.written; cert = None; times = job.times }
 
 -- the drivers of a run have made so many turns each, where there are any
 abbrev pub DriversMade : Option ℕ → Story → Story → Type 0
@@ -46,15 +52,24 @@ pub record MakesRun (threads : Option ℕ) (before later : Story) : Type 0 where
 pub record RanAnswer (job : RunJob) (program : Program) (config : Config) (answer : Answer) : Type 0 where
   pub later : Story
   pub run : MakesRun job.threads (first_story program config) later
-  pub exact : answer ≡ ended (run_files job) later
+  pub exact : answer ≡ ended (besides_run job) later
+
+-- what a replay comes to: the outcomes came as its trace records them, where it records any, or one differed
+abbrev pub IsReplayed : Besides → Option (List Outcome) → Story → Answer → Type 0
+IsReplayed besides recorded story answer =
+    (CameAsRecorded recorded (outcomes story.entries) × (answer ≡ ended besides story))
+    ⊎ ((difference : Difference) × DiffersFrom recorded (outcomes story.entries) difference
+    × (answer ≡ differing difference))
 
 -- the events that a trace spells, made on an image
-pub record FollowAnswer (image trace : List ℕ) (answer : Answer) : Type 0 where
+pub record FollowAnswer (besides : Besides) (image trace : List ℕ) (answer : Answer) : Type 0 where
   pub config : Config
   pub made : List Event
-  pub is_trace : IsTrace config made
-  pub spelled : trace ≡ spelling config made
-  pub exact : answer ≡ ended no_files (continued (first_story (program_of image config.harts) config) made)
+  pub recorded : Option (List Outcome)
+  pub is_trace : IsTrace config made recorded
+  pub spelled : trace ≡ spelling config made recorded
+  pub exact :
+      IsReplayed besides recorded (continued (first_story (program_of image config.harts) config) made) answer
 
 -- the answer to a job: its first refusal, or else what it comes to
 abbrev pub UnlessRefused : Option Refusal → (Answer → Type 0) → Answer → Type 0
@@ -66,8 +81,9 @@ RunAnswer job image answer =
     UnlessRefused (run_refusal job image) (RanAnswer job (program_of image (config_of job).harts) (config_of job)) answer
 
 -- to replay a trace on an image file
-abbrev pub ReplayAnswer : List ℕ → List ℕ → Answer → Type 0
-ReplayAnswer image trace answer = UnlessRefused (replay_refusal image trace) (FollowAnswer image trace) answer
+abbrev pub ReplayAnswer : Besides → List ℕ → List ℕ → Answer → Type 0
+ReplayAnswer besides image trace answer =
+    UnlessRefused (replay_refusal image trace) (FollowAnswer besides image trace) answer
 
 -- to judge a certificate of a run of an image
 pub record VerdictAnswer (image certificate : List ℕ) (answer : Answer) : Type 0 where
@@ -88,12 +104,12 @@ pub record IsRunAnswer (job : RunJob) (told : Option Contents) (answer : Answer)
   pub image_file : Holds told job.image image
   pub exact : RunAnswer job image answer
 
-pub record IsReplayAnswer (image_name trace_name : List ℕ) (told : Option Contents) (answer : Answer) : Type 0 where
+pub record IsReplayAnswer (job : ReplayJob) (told : Option Contents) (answer : Answer) : Type 0 where
   pub image : List ℕ
   pub trace : List ℕ
-  pub image_file : Holds told image_name image
-  pub trace_file : Holds told trace_name trace
-  pub exact : ReplayAnswer image trace answer
+  pub image_file : Holds told job.image image
+  pub trace_file : Holds told job.trace trace
+  pub exact : ReplayAnswer (besides_replay job) image trace answer
 
 pub record IsCheckAnswer (image_name certificate_name : List ℕ) (told : Option Contents) (answer : Answer) : Type 0 where
   pub image : List ℕ
@@ -114,7 +130,7 @@ pub record IsGenAnswer (number : ℕ) (file : List ℕ) (answer : Answer) : Type
 abbrev pub JobAnswer : Option Contents → Option Job → Answer → Type 0
 JobAnswer told None answer = answer ≡ refused Usage
 JobAnswer told (Some (Run job)) answer = IsRunAnswer job told answer
-JobAnswer told (Some (Replay image trace)) answer = IsReplayAnswer image trace told answer
+JobAnswer told (Some (Replay job)) answer = IsReplayAnswer job told answer
 JobAnswer told (Some (Check image certificate)) answer = IsCheckAnswer image certificate told answer
 JobAnswer told (Some (Gen kind number file)) answer = IsGenAnswer number file answer
 

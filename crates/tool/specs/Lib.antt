@@ -1,6 +1,7 @@
 pub mod Statuses
 pub mod Messages
 pub mod Refusals
+pub mod Differing
 pub mod Ending
 pub mod Answer
 pub mod Jobs

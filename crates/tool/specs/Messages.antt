@@ -5,11 +5,14 @@ use Rattle.el_base.specs.declared.config.ConfigFault.{ConfigFault}
 use Rattle.el_base.specs.declared.config.ConfigFault.TheVariants.{Harts, Sets, Ways, Lines, Long, Steps}
 use Rattle.el_base.specs.declared.file_fault.FileFault.{FileFault}
 use Rattle.elf_image.specs.FaultKinds as image_faults
+use Rattle.hex.specs.Hex.{encode_lower}
+use Rattle.tool.specs.declared.difference.Difference.{Difference}
 use Rattle.tool.specs.declared.refusal.Refusal.{Refusal}
 use Rattle.tool.specs.declared.refusal.Refusal.TheVariants as refusals
 use Rattle.run_check.specs.Differences.{difference_name}
 use Rattle.run_check.specs.FaultKinds as certificate_faults
 use Rattle.trace_file.specs.FaultKinds as trace_faults
+use Rattle.trace_file.specs.Outcomes.{outcome_spelling}
 
 -- the number and the name of a fault of a configuration
 unfoldable pub config_fault_text : ConfigFault → List ℕ
@@ -50,6 +53,14 @@ written_line count = codes "wrote " ++ decimal count ++ codes " bytes" ++ newlin
 -- the line of a certificate that holds: the steps of its serial order, and the bytes of its output
 abbrev pub holds_line : ℕ → ℕ → List ℕ
 holds_line serial output = codes "certificate holds, serial " ++ decimal serial ++ codes " out " ++ decimal output ++ newline
+
+-- the line of a replay in which another outcome came than the recorded one: at which event, and both by their bytes
+-- in a trace, in hexadecimal
+unfoldable pub differs_line : Difference → List ℕ
+differs_line difference =
+    codes "replay differs at event " ++ decimal difference.place
+    ++ codes ": recorded " ++ encode_lower (outcome_spelling difference.recorded)
+    ++ codes " found " ++ encode_lower (outcome_spelling difference.found) ++ newline
 
 -- the line of one that fails: what differs first, and where
 abbrev pub fails_line : ℕ → ℕ → List ℕ

@@ -15,7 +15,7 @@ use Rattle.tool.specs.declared.refusal.Refusal.TheVariants.{Config, TooBig, Imag
 
 -- the most bytes that a trace may have
 abbrev pub trace_limit : ℕ
-trace_limit = 16777238
+trace_limit = 167772182
 
 -- the most bytes that a certificate may have
 abbrev pub certificate_limit : ℕ

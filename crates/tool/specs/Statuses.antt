@@ -1,7 +1,7 @@
 -- How the program ends.
 use Rattle.std.specs.Prelude.{ℕ, Result, Ok, Err}
 use Rattle.tool.specs.declared.status.Status.{Status}
-use Rattle.tool.specs.declared.status.Status.TheVariants.{Done, HartFailed, Refused, StepLimit, DeviceFault, NoMemory, Rejected}
+use Rattle.tool.specs.declared.status.Status.TheVariants.{Done, HartFailed, Refused, StepLimit, DeviceFault, NoMemory, Differs, Rejected}
 use Rattle.tool.specs.declared.stop.Fault.{Fault}
 use Rattle.tool.specs.declared.stop.Fault.TheVariants as faults
 
@@ -13,6 +13,7 @@ number_of Refused = 2
 number_of StepLimit = 3
 number_of DeviceFault = 4
 number_of NoMemory = 5
+number_of Differs = 6
 number_of Rejected = 7
 
 -- the status of a fault

@@ -5,6 +5,7 @@ use Rattle.command_line.specs.declared.fault.WordsFault.TheVariants as words_fau
 use Rattle.el_base.specs.Firsts.{first_of}
 use Rattle.el_base.specs.declared.config.Config.{Config}
 use Rattle.el_base.specs.declared.events.Event.{Event}
+use Rattle.el_base.specs.declared.outcomes.Outcome.{Outcome}
 use Rattle.el_io.specs.Shelf.{Contents, Holds}
 use Rattle.el_io.specs.declared.shelf.ShelfFault.{ShelfFault}
 use Rattle.el_io.specs.declared.shelf.ShelfFault.TheVariants as shelf_faults
@@ -60,10 +61,10 @@ fault_of_shelf shelf_faults.TooBig = Device
 fault_of_shelf shelf_faults.NoMemory = NoMemory
 
 -- a trace, and what it spells
-pub record IsTraceOf (file : List ℕ) (config : Config) (made : List Event) : Type 0 where
+pub record IsTraceOf (file : List ℕ) (config : Config) (made : List Event) (recorded : Option (List Outcome)) : Type 0 where
   pub accepted : trace_fault file ≡ None
-  pub is_trace : IsTrace config made
-  pub spelled : file ≡ spelling config made
+  pub is_trace : IsTrace config made recorded
+  pub spelled : file ≡ spelling config made recorded
 
 -- a certificate, and what it spells
 pub record IsCertificateOf (file : List ℕ) (content : Content) : Type 0 where

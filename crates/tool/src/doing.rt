@@ -1,28 +1,32 @@
 //! What a command does before anything is put: it reads its files and makes a machine that it runs, it judges a
 //! certificate, or it builds an image.
-ghost use Rattle.std.specs.Prelude.{◌≡◌, ◌≤◌, ◌∷◌, [], List, None, IfErr, IfOk, IfSome, MatchResult, length, option_map, true, false};
+ghost use Rattle.std.specs.Prelude.{◌≡◌, ◌<◌, ◌≤◌, ◌∷◌, [], All, List, None, IfErr, IfOk, IfSome, MatchOption, MatchResult, length, option_map, true, false};
 ghost use Rattle.command_line.specs.Settings.{config_of};
-ghost use Rattle.command_line.specs.Words.{job_of, run_meaning, texts};
+ghost use Rattle.command_line.specs.Words.{job_of, replay_meaning, run_meaning, texts};
 ghost use Rattle.el_base.specs.Config.{IsInRange, config_fault};
 ghost use Rattle.el_io.specs.Shelf.{Holds, NamedCall};
 ghost use Rattle.el_io.specs.declared.shelf.Call.TheVariants.{Read};
 ghost use Rattle.elf_image.specs.Faults.{fault};
 ghost use Rattle.elf_image.specs.Limits.{file_limit};
 ghost use Rattle.elf_image.specs.Loaded.{program_of};
+ghost use Rattle.machine.specs.Story.{continued, left_of};
 ghost use Rattle.run_check.specs.Faults.{harts_of};
 ghost use Rattle.trace_file.specs.Faults.{config_at};
-ghost use Rattle.tool.specs.Answer.{CopiesProgram, answer_of, ended, judged, no_files};
-ghost use Rattle.tool.specs.Causes.{ListsOne, StopLists, calls_of, calls_under, is_run, puts_of, reads_of, run_writes, writes_of};
-ghost use Rattle.tool.specs.Jobs.{DriversMade, FollowAnswer, IsAnswer, IsCheckAnswer, IsReplayAnswer, IsRunAnswer, MakesRun, RanAnswer, first_story, VerdictAnswer, run_files};
+ghost use Rattle.trace_file.specs.Spelling.{listed, outcomes};
+ghost use Rattle.tool.specs.Answer.{CopiesProgram, answer_of, ended, judged};
+ghost use Rattle.tool.specs.Causes.{ListsOne, MayWrite, StopLists, calls_of, calls_under, is_run, puts_of, reads_of, run_writes, writes_of};
+ghost use Rattle.tool.specs.Jobs.{DriversMade, FollowAnswer, IsAnswer, IsCheckAnswer, IsReplayAnswer, IsRunAnswer, MakesRun, RanAnswer, VerdictAnswer, besides_replay, besides_run, first_story};
+ghost use Rattle.tool.specs.Differing.{CameAsRecorded, DiffersFrom, IsDifference};
 ghost use Rattle.tool.specs.Refusals.{certificate_refusal, image_refusal, trace_refusal};
 ghost use Rattle.tool.specs.Stopping.{IsCertificateOf, IsTraceOf, OnlyMemory, StopsBy, StopsRead, StopsWith, follow_refusal, verdict_refusal};
 
-use crate::made::{Certified, Made};
+use crate::difference::Difference;
+use crate::made::{Certified, Extras, Made};
 use crate::refusal::Refusal;
 use crate::stop::{Fault, Stop};
-use command_line::{Command, RunCommand, read_words};
-use drive::{by_threads, follow, round_robin};
-use el_base::Config;
+use command_line::{Command, ReplayCommand, RunCommand, read_words};
+use drive::{by_threads, follow, follow_recorded, round_robin};
+use el_base::{Chronicled, Config, Event, Outcome};
 use el_io::{Gate, Shelf, ShelfFault};
 use elf_image::{IMAGE_FILE_LIMIT, Image, load};
 use machine::Machine;
@@ -56,11 +60,7 @@ pub(crate) fn obey<'a, R: Threads + Wait + Sync, S: Shelf, G: Gate + Sync>(
 {
     match read_words(alloc, words)? {
         Command::Run(command) => run(runtime, alloc, shelf, command, gate),
-        Command::Replay { image, trace } => Ok(Made::Run {
-            machine: replay(alloc, shelf, image, trace)?,
-            trace: None,
-            certified: None,
-        }),
+        Command::Replay(command) => replay(alloc, shelf, command),
         Command::Check { image, certificate } => judge(alloc, shelf, image, certificate),
         Command::Gen { kind, number, file } => Ok(Made::Image {
             bytes: build(alloc, kind, number)?,
@@ -87,7 +87,7 @@ fn run<'a, R: Threads + Wait + Sync, S: Shelf, G: Gate + Sync>(
         MatchResult result
         (λ _. S.failures shelf.new ≡ S.failures shelf.old)
         (StopLists calls (S.failures shelf.old) (S.failures shelf.new)) }
-    ensures writes { IfOk result (λ made. writes_of made ≡ run_writes (run_files (run_meaning command.entry))) }
+    ensures writes { IfOk result (λ made. writes_of made ≡ run_writes (besides_run (run_meaning command.entry))) }
     ensures puts { IfOk result (λ made. is_run made ≡ true) }
     ensures copied { IfOk result CopiesProgram }
 {
@@ -113,15 +113,18 @@ fn run_file<'a, R: Threads + Wait + Sync, G: Gate + Sync>(
         MatchResult result
         (λ made. (fault file.items config.harts ≡ None)
         × RanAnswer job program config (answer_of made)
-        × (writes_of made ≡ run_writes (run_files job)) × (is_run made ≡ true) × CopiesProgram made)
+        × (writes_of made ≡ run_writes (besides_run job)) × (is_run made ≡ true) × CopiesProgram made)
         (StopsBy (image_refusal file.items config.harts)) }
 {
     let image = image_of(alloc, file, config.harts)?;
     let certified = copied(alloc, &image, command.certificate)?;
     Ok(Made::Run {
         machine: run_image(runtime, alloc, image, config, command.threads, gate)?,
-        trace: command.trace,
-        certified,
+        extras: Extras {
+            trace: command.trace,
+            certified,
+            times: command.times,
+        },
     })
 }
 
@@ -237,18 +240,26 @@ fn certificate_of(alloc: Global, file: Vec<u8>) -> Result<Certificate, Stop>
 
 /// Makes the events of a trace again, on an image.
 #[tactic(auto, using(crate::proofs::Answering::image_unread))]
-fn replay<S: Shelf>(alloc: Global, shelf: &mut S, image: &str, trace: &str) -> Result<Machine, Stop>
+fn replay<'a, S: Shelf>(
+    alloc: Global,
+    shelf: &mut S,
+    command: ReplayCommand<'a>,
+) -> Result<Made<'a>, Stop>
     ensures files_stay { S.told shelf.new ≡ S.told shelf.old }
-    ensures answers { let Answers = IsReplayAnswer image.now trace.now (S.told shelf.old) in
-        MatchResult result (λ machine. Answers (ended no_files machine)) (StopsWith Answers) }
-    ensures calls { let calls = (Read, image.now) ∷ (Read, trace.now) ∷ [] in
+    ensures answers { let Answers = IsReplayAnswer (replay_meaning command.entry) (S.told shelf.old) in
+        MatchResult result (λ made. Answers (answer_of made)) (StopsWith Answers) }
+    ensures calls { let job = replay_meaning command.entry in
+        let calls = (Read, job.image) ∷ (Read, job.trace) ∷ [] in
         MatchResult result
         (λ _. S.failures shelf.new ≡ S.failures shelf.old)
         (StopLists calls (S.failures shelf.old) (S.failures shelf.new)) }
+    ensures writes { IfOk result (MayWrite (replay_meaning command.entry).written) }
+    ensures puts { IfOk result (λ made. is_run made ≡ true) }
+    ensures copied { IfOk result CopiesProgram }
 {
-    let image = read_file(alloc, shelf, image, IMAGE_FILE_LIMIT)?;
-    let trace = read_file(alloc, shelf, trace, MAX_FILE_BYTES)?;
-    follow_trace(alloc, image, trace)
+    let image = read_file(alloc, shelf, command.image, IMAGE_FILE_LIMIT)?;
+    let trace = read_file(alloc, shelf, command.trace, MAX_FILE_BYTES)?;
+    follow_trace(alloc, image, trace, command)
 }
 
 /// The bytes of a file of at most `limit` bytes.
@@ -275,25 +286,88 @@ fn read_file<S: Shelf>(
 }
 
 /// Makes the events that a trace spells, on the image in a file.
-fn follow_trace(alloc: Global, image: Vec<u8>, trace: Vec<u8>) -> Result<Machine, Stop>
+fn follow_trace<'a>(
+    alloc: Global,
+    image: Vec<u8>,
+    trace: Vec<u8>,
+    command: ReplayCommand<'a>,
+) -> Result<Made<'a>, Stop>
     requires { length image.items ≤ file_limit }
-    ensures { MatchResult result
-        (λ machine. (follow_refusal image.items trace.items ≡ None)
-        × FollowAnswer image.items trace.items (ended no_files machine))
+    ensures { let job = replay_meaning command.entry in
+        MatchResult result
+        (λ made. (follow_refusal image.items trace.items ≡ None)
+        × FollowAnswer (besides_replay job) image.items trace.items (answer_of made)
+        × MayWrite job.written made × (is_run made ≡ true) × CopiesProgram made)
         (StopsBy (follow_refusal image.items trace.items)) }
 {
     let trace = trace_of(alloc, trace)?;
     let image = image_of(alloc, image, trace.config.harts)?;
     let mut machine = Machine::make(alloc, image, trace.config)?;
-    follow(&mut machine, trace.events.as_slice());
-    Ok(machine)
+    if let Some(difference) = difference_in(&mut machine, &trace) {
+        return Ok(Made::Differs(difference));
+    }
+    Ok(Made::Run {
+        machine,
+        extras: Extras {
+            trace: command.written,
+            certified: None,
+            times: command.times,
+        },
+    })
+}
+
+/// Makes the events of a trace on a machine, and says at which of them another outcome came than the recorded one,
+/// where outcomes are recorded.
+fn difference_in(machine: &mut Machine, trace: &Trace) -> Option<Difference>
+    requires new { machine.old.entries ≡ [] }
+    requires steps { length trace.now.events ≤ left_of machine.old }
+    requires harts_exist { All (λ event. event.hart.number < machine.old.config.harts) trace.now.events }
+    requires one_each { IfSome (listed trace.now.recorded) (λ recorded. length recorded ≡ length trace.now.events) }
+    ensures followed { machine.new ≡ continued machine.old trace.now.events }
+    ensures exact { MatchOption result
+        (CameAsRecorded (listed trace.now.recorded) (outcomes machine.new.entries))
+        (DiffersFrom (listed trace.now.recorded) (outcomes machine.new.entries)) }
+{
+    let events = trace.events.as_slice();
+    match &trace.recorded {
+        Some(recorded) => difference_from(machine, events, recorded),
+        None => {
+            follow(machine, events);
+            None
+        }
+    }
+}
+
+/// Makes events on a machine, and says at which of them another outcome came than the recorded one.
+fn difference_from(
+    machine: &mut Machine,
+    events: &[Event],
+    recorded: &[Outcome],
+) -> Option<Difference>
+    requires new { machine.old.entries ≡ [] }
+    requires steps { length events.now ≤ left_of machine.old }
+    requires harts_exist { All (λ event. event.hart.number < machine.old.config.harts) events.now }
+    requires one_each { length recorded.now ≡ length events.now }
+    ensures followed { machine.new ≡ continued machine.old events.now }
+    ensures exact { MatchOption result
+        (recorded.now ≡ outcomes machine.new.entries)
+        (IsDifference recorded.now (outcomes machine.new.entries)) }
+{
+    match follow_recorded(machine, events, recorded) {
+        Some(place) => Some(Difference {
+            place,
+            recorded: recorded[place as usize],
+            found: machine.history().entry(place).outcome,
+        }),
+        None => None,
+    }
 }
 
 /// The trace that a file spells. The file is given back.
 #[tactic(auto, using(crate::proofs::Files::harts_of_trace))]
 fn trace_of(alloc: Global, file: Vec<u8>) -> Result<Trace, Stop>
     ensures exact { MatchResult result
-        (λ trace. IsTraceOf file.items trace.config trace.events)
+        (λ trace. IsTraceOf file.items trace.config trace.events (listed trace.recorded))
         (StopsBy (trace_refusal file.items)) }
     ensures harts { IfOk result (λ trace. (config_at file.items).harts ≡ trace.config.harts) }
 {

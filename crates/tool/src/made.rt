@@ -1,5 +1,6 @@
 //! What `doing` hands on to `telling`.
 
+use crate::difference::Difference;
 use elf_image::Image;
 use machine::Machine;
 use run_check::Verdict;
@@ -7,13 +8,13 @@ use run_check::Verdict;
 /// What a command has made, of which nothing was put or written yet.
 #[derive(Drop)]
 pub(crate) enum Made<'a> {
-    /// A run that has ended, the name of the file for its trace, and what its certificate is written with, where
-    /// these were asked for.
+    /// A run that has ended, and what it is to tell besides its output and its report.
     Run {
         machine: Machine,
-        trace: Option<&'a str>,
-        certified: Option<Certified<'a>>,
+        extras: Extras<'a>,
     },
+    /// A replay of which another outcome came than its trace records.
+    Differs(Difference),
     /// The bytes of an image, and the name of the file for them.
     Image {
         bytes: Vec<u8>,
@@ -24,6 +25,17 @@ pub(crate) enum Made<'a> {
         verdict: Verdict,
         output: usize,
     },
+}
+
+/// What a run is to tell besides its output and its report.
+#[derive(Drop)]
+pub(crate) struct Extras<'a> {
+    /// The name of the file for its trace, where one is asked for.
+    pub(crate) trace: Option<&'a str>,
+    /// What its certificate is written with, where one is asked for.
+    pub(crate) certified: Option<Certified<'a>>,
+    /// Whether its times are asked for.
+    pub(crate) times: bool,
 }
 
 /// What the certificate of a run is written with: a copy of its image, and the name of its file.

@@ -19,6 +19,8 @@ pub enum Status {
     DeviceFault = 4,
     /// Want of memory.
     NoMemory = 5,
+    /// Another outcome came in a replay than its trace records.
+    Differs = 6,
     /// A certificate fails.
     Rejected = 7,
 }

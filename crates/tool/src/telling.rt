@@ -1,26 +1,30 @@
 //! What a command puts and writes at its end.
-ghost use Rattle.std.specs.Prelude.{◌≡◌, ℕ, true, false, List, [], ◌∷◌, Option, Some, IfOk, IfSome, MatchResult, string_bytes};
+ghost use Rattle.std.specs.Prelude.{◌≡◌, ℕ, ◌++◌, if◌then◌else◌, is_ok, true, false, List, [], ◌∷◌, Option, Some, IfOk, IfSome, MatchResult, OnErr, OnOk, string_bytes};
 ghost use Rattle.std.specs.Option.{option_map};
-ghost use Rattle.el_io.specs.Sink.{TookAll};
-ghost use Rattle.tool.specs.Answer.{CopiesProgram, answer_of, certified_by, ended, files_named, files_of, generated, judged, where_named, written_by};
+ghost use Rattle.el_io.specs.Sink.{TookAll, TookPart};
+ghost use Rattle.el_io.specs.Counts.{one_more};
+ghost use Rattle.report.specs.Text.{report_of};
+ghost use Rattle.tool.specs.Answer.{CopiesProgram, answer_of, besides_of, certified_by, ended, files_of, generated, judged, times_if, where_named, written_by};
 ghost use Rattle.tool.specs.Causes.{Caused, FaultCounts, is_run, run_writes, writes_of, writes_to};
 ghost use Rattle.tool.specs.Comes.{Comes, Untold};
 ghost use Rattle.tool.specs.Faults.{Faulted};
-ghost use Rattle.tool.specs.Messages.{line_of, written_line as line_of_written};
+ghost use Rattle.tool.specs.Messages.{differs_line, line_of, written_line as line_of_written};
 ghost use Rattle.tool.specs.Statuses.{status_of};
 ghost use Rattle.tool.specs.Telling.{Only, Writes};
 
+use crate::difference::Difference;
 use crate::ended::Ended;
 use crate::ending::ending;
-use crate::made::{Certified, Made};
+use crate::made::{Certified, Extras, Made};
 use crate::refusal::Refusal;
 use crate::status::Status;
 use crate::stop::Fault;
-use el_io::{Shelf, Sink, put_all};
+use el_io::{Failed, Shelf, Sink, put_all};
 use machine::Machine;
-use report::write_report;
+use report::{write_report, write_times};
 use run_check::{Verdict, write_certificate};
 use std::alloc::{AllocError, Global};
+use timetable::tabulate;
 use trace_file::write_trace;
 
 /// Puts and writes what a command has made.
@@ -45,45 +49,76 @@ pub(crate) fn tell<S: Shelf, O: Sink, E: Sink>(
         (record { out = O.taken out.new; err = E.taken err.new; files = S.told shelf.new }) }
 {
     match made {
-        Made::Run {
-            machine,
-            trace,
-            certified,
-        } => tell_run(alloc, &machine, trace, certified, shelf, out, err),
+        Made::Run { machine, extras } => tell_run(alloc, &machine, extras, shelf, out, err),
+        Made::Differs(difference) => tell_difference(alloc, difference, err),
         Made::Image { bytes, file } => tell_image(alloc, bytes, file, shelf, err),
         Made::Judged { verdict, output } => tell_verdict(alloc, verdict, output, err),
     }
 }
 
 /// Puts the output of a run that has ended, writes its trace and its certificate where names were given, and puts
-/// its report, in this order.
+/// its report with its times where they are asked for, in this order.
 #[tactic(auto, using(crate::proofs::Putting::unwritten_comes, crate::proofs::Putting::unwritten_faults, crate::proofs::Putting::unwritten_causes))]
 fn tell_run<S: Shelf, O: Sink, E: Sink>(
     alloc: Global,
     machine: &Machine,
-    trace: Option<&str>,
-    certified: Option<Certified<'_>>,
+    extras: Extras<'_>,
     shelf: &mut S,
     out: &mut O,
     err: &mut E,
 ) -> Result<Status, Fault>
-    requires copied { IfSome certified (λ copy. copy.image ≡ machine.now.program) }
-    ensures exact { Comes (Only (ended (files_named (option_map (λ name. name.now) trace.entry) (option_map (λ copy. copy.name.now) certified.entry)) machine.now)) (status_of result)
+    requires copied { IfSome extras.certified (λ copy. copy.image ≡ machine.now.program) }
+    ensures exact { Comes (Only (ended (besides_of extras.entry) machine.now)) (status_of result)
         (record { out = O.taken out.old; err = E.taken err.old; files = S.told shelf.old })
         (record { out = O.taken out.new; err = E.taken err.new; files = S.told shelf.new }) }
-    ensures cause { Caused (run_writes (files_named (option_map (λ name. name.now) trace.entry) (option_map (λ copy. copy.name.now) certified.entry))) true (status_of result)
+    ensures cause { Caused (run_writes (besides_of extras.entry)) true (status_of result)
         (record { shelf = S.failures shelf.old; out = O.faults out.old; err = E.faults err.old })
         (record { shelf = S.failures shelf.new; out = O.faults out.new; err = E.faults err.new }) }
-    ensures fault { Faulted [] (Only (ended (files_named (option_map (λ name. name.now) trace.entry) (option_map (λ copy. copy.name.now) certified.entry)) machine.now)) (status_of result)
+    ensures fault { Faulted [] (Only (ended (besides_of extras.entry) machine.now)) (status_of result)
         (record { shelf = S.failures shelf.old; out = O.faults out.old; err = E.faults err.old })
         (record { shelf = S.failures shelf.new; out = O.faults out.new; err = E.faults err.new })
         (record { out = O.taken out.old; err = E.taken err.old; files = S.told shelf.old })
         (record { out = O.taken out.new; err = E.taken err.new; files = S.told shelf.new }) }
 {
+    let times = extras.times;
     put_all(out, machine.output())?;
-    write_files(alloc, machine, trace, certified, shelf)?;
-    write_report(err, machine)?;
+    write_files(alloc, machine, extras, shelf)?;
+    put_report(err, machine, times)?;
     Ok(ending(machine))
+}
+
+/// Puts the report of a run, and its times where they are asked for.
+fn put_report<E: Sink>(err: &mut E, machine: &Machine, times: bool) -> Result<(), Failed>
+    ensures all_taken { OnOk result (TookAll (E.taken err.old) (E.taken err.new)
+        (report_of machine.now ++ times_if times machine.now)) }
+    ensures part_after_failed { OnErr result (TookPart (E.taken err.old) (E.taken err.new)
+        (report_of machine.now ++ times_if times machine.now)) }
+    ensures faults_counted { E.faults err.new ≡
+        (if is_ok result then E.faults err.old else one_more (E.faults err.old)) }
+{
+    write_report(err, machine)?;
+    if times {
+        write_times(err, &tabulate(machine.history()), machine.config().harts)?;
+    }
+    Ok(())
+}
+
+/// Puts where a replay differs from what its trace records.
+fn tell_difference<E: Sink>(
+    alloc: Global,
+    difference: Difference,
+    err: &mut E,
+) -> Result<Status, Fault>
+    ensures told { MatchResult result
+        (λ status. (status ≡ Status.Differs) × TookAll (E.taken err.old) (E.taken err.new) (differs_line difference))
+        (Untold (E.taken err.old) (E.taken err.new) (differs_line difference)) }
+    ensures cause { MatchResult result
+        (λ _. E.faults err.new ≡ E.faults err.old)
+        (FaultCounts (E.faults err.old) (E.faults err.new)) }
+{
+    let line = difference.line(alloc)?;
+    put_all(err, line.as_bytes())?;
+    Ok(Status::Differs)
 }
 
 /// Writes an image to its file, and puts how long it is.
@@ -187,16 +222,15 @@ pub(crate) fn tell_refusal<E: Sink>(
 fn write_files<S: Shelf>(
     alloc: Global,
     machine: &Machine,
-    trace: Option<&str>,
-    certified: Option<Certified<'_>>,
+    extras: Extras<'_>,
     shelf: &mut S,
 ) -> Result<(), Fault>
-    requires copied { IfSome certified (λ copy. copy.image ≡ machine.now.program) }
-    ensures { Writes result (files_of (files_named (option_map (λ name. name.now) trace.entry) (option_map (λ copy. copy.name.now) certified.entry)) machine.now)
+    requires copied { IfSome extras.certified (λ copy. copy.image ≡ machine.now.program) }
+    ensures { Writes result (files_of (besides_of extras.entry) machine.now)
         (S.failures shelf.old) (S.failures shelf.new) (S.told shelf.old) (S.told shelf.new) }
 {
-    write_trace_to(alloc, machine, trace, shelf)?;
-    write_certificate_to(alloc, machine, certified, shelf)
+    write_trace_to(alloc, machine, extras.trace, shelf)?;
+    write_certificate_to(alloc, machine, extras.certified, shelf)
 }
 
 /// Writes the trace of a run, where a name was given.

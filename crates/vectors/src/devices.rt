@@ -27,7 +27,13 @@ const RUN: &[&str] = &["run", "a"];
 
 const RUN_WITH_TRACE: &[&str] = &["run", "a", "--trace", "t"];
 
+const RUN_WITH_CERTIFICATE: &[&str] = &["run", "a", "--cert", "t"];
+
 const REPLAY: &[&str] = &["replay", "a", "t"];
+
+const REPLAY_WITH_TRACE: &[&str] = &["replay", "a", "t", "--trace", "t"];
+
+const CHECK: &[&str] = &["check", "a", "t"];
 
 const GEN: &[&str] = &["gen", "counter", "1", "t"];
 
@@ -94,6 +100,44 @@ fn nothing_more_is_put_after_a_fault(rt: HostRuntime) -> Result<(), Fail> {
         },
         Row {
             words: GEN,
+            err: &[1],
+            ..FAULTLESS
+        },
+        Row {
+            words: RUN_WITH_CERTIFICATE,
+            shelf: &[2],
+            put: "A\n",
+            ..FAULTLESS
+        },
+        Row {
+            words: REPLAY_WITH_TRACE,
+            shelf: &[3],
+            put: "A\n",
+            ..FAULTLESS
+        },
+        Row {
+            words: REPLAY_WITH_TRACE,
+            err: &[1],
+            put: "A\n",
+            ..FAULTLESS
+        },
+        Row {
+            words: CHECK,
+            shelf: &[1],
+            ..FAULTLESS
+        },
+        Row {
+            words: CHECK,
+            shelf: &[2],
+            ..FAULTLESS
+        },
+        Row {
+            words: CHECK,
+            err: &[1],
+            ..FAULTLESS
+        },
+        Row {
+            words: &["run"],
             err: &[1],
             ..FAULTLESS
         },

@@ -5,7 +5,7 @@ use std::sync::Wait;
 use std::test::Fail;
 use std::thread::Threads;
 
-const KINDS: [&str; 5] = ["counter", "bank", "buckets", "locks", "overflow"];
+const KINDS: [&str; 6] = ["counter", "bank", "buckets", "locks", "overflow", "pairs"];
 
 /// The answer to `gen`, with the image that it writes.
 fn generated<R: Threads + Wait + Sync>(
@@ -66,11 +66,14 @@ fn told_on_1_2_4_and_8<R: Threads + Wait + Sync>(
 
 #[test]
 fn each_hart_adds_100_to_a_counter(rt: HostRuntime) -> Result<(), Fail> {
-    let told = told_on_1_2_4_and_8(&rt, rt.alloc(), "counter")?;
-    assert_eq!(rt;
-        told.as_slice(),
-        b"00000064\n000000c8\n00000190\n00000320\n".as_slice()
-    );
+    for kind in ["counter", "pairs"] {
+        let told = told_on_1_2_4_and_8(&rt, rt.alloc(), kind)?;
+        assert_eq!(rt;
+            told.as_slice(),
+            b"00000064\n000000c8\n00000190\n00000320\n".as_slice(),
+            "{kind}"
+        );
+    }
     Ok(())
 }
 
@@ -116,13 +119,15 @@ fn each_hart_adds_400_to_20_words(rt: HostRuntime) -> Result<(), Fail> {
 
 #[test]
 fn each_mode_prints_the_sum_of_8_harts(rt: HostRuntime) -> Result<(), Fail> {
-    let image = generated(&rt, rt.alloc(), "counter", "1")?.written;
-    for mode in ["plain", "sle", "tlr"] {
-        let words = [
-            "run", "a", "--mode", mode, "--harts", "8", "--steps", "16777216",
-        ];
-        let ending = answer(&rt, rt.alloc(), &words, &image, &[])?;
-        assert!(rt; prints(&ending, "00000320\n"), "{mode}");
+    for kind in ["counter", "pairs"] {
+        let image = generated(&rt, rt.alloc(), kind, "1")?.written;
+        for mode in ["plain", "sle", "tlr"] {
+            let words = [
+                "run", "a", "--mode", mode, "--harts", "8", "--steps", "16777216",
+            ];
+            let ending = answer(&rt, rt.alloc(), &words, &image, &[])?;
+            assert!(rt; prints(&ending, "00000320\n"), "{kind} {mode}");
+        }
     }
     Ok(())
 }

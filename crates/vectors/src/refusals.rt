@@ -1,5 +1,5 @@
 //! What is refused, each with its one line.
-use crate::support::{Ending, HELLO, TRACE, USAGE, answer, changed, resized, strings};
+use crate::support::{BARE_TRACE, Ending, HELLO, TRACE, USAGE, answer, changed, resized, strings};
 use el_io::{MemShelf, MemSink, OpenGate};
 use std::alloc::{AllocError, Global};
 use std::test::Fail;
@@ -164,42 +164,58 @@ fn files_over_their_limits_are_refused(rt: HostRuntime) -> Result<(), Fail> {
         is_refused(&ending, "file too big: limit 33554432\n"),
         "an image"
     );
-    let trace = zeros(rt.alloc(), 16_777_239)?;
+    let trace = zeros(rt.alloc(), 167_772_183)?;
     let ending = answer(&rt, rt.alloc(), &["replay", "a", "t"], &HELLO, &trace)?;
     assert!(rt;
-        is_refused(&ending, "file too big: limit 16777238\n"),
+        is_refused(&ending, "file too big: limit 167772182\n"),
         "a trace"
     );
     Ok(())
 }
 
+/// A byte of the trace, the value that is set there, and the line of its refusal.
+const TRACE_FAULTS: &[(usize, u8, &str)] = &[
+    (1, 0, "trace fault 2 Magic at byte 1\n"),
+    (4, 3, "trace fault 3 Version at byte 4\n"),
+    (5, 0, "trace fault 4 Config at byte 5\n"),
+    (6, 3, "trace fault 4 Config at byte 6\n"),
+    (22, 8, "trace fault 5 Event at byte 22\n"),
+    (22, 0x40, "trace fault 5 Event at byte 22\n"),
+    (23, 0x0f, "trace fault 7 Outcome at byte 23\n"),
+    (67, 0x04, "trace fault 7 Outcome at byte 64\n"),
+    (70, 0x02, "trace fault 7 Outcome at byte 70\n"),
+    (74, 0x10, "trace fault 7 Outcome at byte 74\n"),
+];
+
 #[test]
 fn changed_traces_have_their_first_fault(rt: HostRuntime) -> Result<(), Fail> {
-    for length in 0..59usize {
-        let trace = resized(rt.alloc(), &TRACE, length, 0)?;
-        let line = format!(in rt.alloc(); "trace fault 1 Short at byte {length}\n")?;
-        let ending = answer(&rt, rt.alloc(), &["replay", "a", "t"], &HELLO, &trace)?;
-        assert!(rt; is_refused(&ending, line.as_str()), "cut to {length}");
+    for trace in [BARE_TRACE.as_slice(), TRACE.as_slice()] {
+        for length in 0..trace.len() {
+            let cut = resized(rt.alloc(), trace, length, 0)?;
+            let line = format!(in rt.alloc(); "trace fault 1 Short at byte {length}\n")?;
+            let ending = answer(&rt, rt.alloc(), &["replay", "a", "t"], &HELLO, &cut)?;
+            assert!(rt; is_refused(&ending, line.as_str()), "cut to {length}");
+        }
     }
-    let rows: [(usize, u8, &str); 6] = [
-        (1, 0, "trace fault 2 Magic at byte 1\n"),
-        (4, 2, "trace fault 3 Version at byte 4\n"),
-        (5, 0, "trace fault 4 Config at byte 5\n"),
-        (6, 3, "trace fault 4 Config at byte 6\n"),
-        (22, 8, "trace fault 5 Event at byte 22\n"),
-        (22, 0x40, "trace fault 5 Event at byte 22\n"),
-    ];
-    for (place, value, line) in rows {
-        let trace = changed(rt.alloc(), &TRACE, place, value)?;
+    for (place, value, line) in TRACE_FAULTS {
+        let trace = changed(rt.alloc(), &TRACE, *place, *value)?;
         let ending = answer(&rt, rt.alloc(), &["replay", "a", "t"], &HELLO, &trace)?;
         assert!(rt; is_refused(&ending, line), "byte {place} set to {value}");
     }
-    let longer = resized(rt.alloc(), &TRACE, 59, 1)?;
-    let ending = answer(&rt, rt.alloc(), &["replay", "a", "t"], &HELLO, &longer)?;
-    assert!(rt;
-        is_refused(&ending, "trace fault 6 Tail at byte 59\n"),
-        "one byte more"
-    );
+    Ok(())
+}
+
+#[test]
+fn nothing_stands_behind_the_last_event(rt: HostRuntime) -> Result<(), Fail> {
+    let rows: [(&[u8], &str); 2] = [
+        (&BARE_TRACE, "trace fault 6 Tail at byte 59\n"),
+        (&TRACE, "trace fault 6 Tail at byte 116\n"),
+    ];
+    for (trace, line) in rows {
+        let longer = resized(rt.alloc(), trace, trace.len(), 1)?;
+        let ending = answer(&rt, rt.alloc(), &["replay", "a", "t"], &HELLO, &longer)?;
+        assert!(rt; is_refused(&ending, line), "one byte more");
+    }
     Ok(())
 }
 

@@ -1,5 +1,5 @@
 //! Traces that are written, and played again.
-use crate::support::{HELLO, MISSED_ONE, REPORT, TRACE, answer, changed, report_of};
+use crate::support::{BARE_TRACE, HELLO, MISSED_ONE, REPORT, TRACE, answer, changed, report_of};
 use std::test::Fail;
 
 #[test]
@@ -38,12 +38,12 @@ fn a_replay_of_sections_says_what_the_run_said(rt: HostRuntime) -> Result<(), Fa
 // The trace says in which mode it ran and how many events there are, and not how many steps the run was given.
 #[test]
 fn a_replay_ends_where_its_trace_does(rt: HostRuntime) -> Result<(), Fail> {
-    let mut short = changed(rt.alloc(), &TRACE, 18, 36)?;
+    let mut short = changed(rt.alloc(), &BARE_TRACE, 18, 36)?;
     short.truncate(58);
     let plain = changed(rt.alloc(), &TRACE, 6, 0)?;
     let rows: [(&[u8], u8, &str, (u32, &str, &str), &str); 3] = [
         (
-            &TRACE,
+            &BARE_TRACE,
             0,
             "elide tlr harts 1 events 37",
             (9, MISSED_ONE, "exit 0"),
@@ -71,5 +71,82 @@ fn a_replay_ends_where_its_trace_does(rt: HostRuntime) -> Result<(), Fail> {
         assert_eq!(rt; played.out.as_slice(), b"A\n".as_slice(), "{report}");
         assert_eq!(rt; played.err.as_slice(), report.as_bytes());
     }
+    Ok(())
+}
+
+// What a trace without outcomes says is written with them.
+#[test]
+fn a_replay_writes_what_came_of_the_events(rt: HostRuntime) -> Result<(), Fail> {
+    let words = ["replay", "a", "t", "--trace", "t"];
+    for trace in [BARE_TRACE.as_slice(), TRACE.as_slice()] {
+        let played = answer(&rt, rt.alloc(), &words, &HELLO, trace)?;
+        assert_eq!(rt; played.status.number(), 0);
+        assert_eq!(rt; played.out.as_slice(), b"A\n".as_slice());
+        assert_eq!(rt; played.err.as_slice(), REPORT.as_bytes());
+        assert_eq!(rt; played.written.as_slice(), TRACE.as_slice());
+    }
+    Ok(())
+}
+
+/// A byte of the trace, the value that is set there, and the line that a replay puts then.
+const DIFFERENT: &[(usize, u8, &str)] = &[
+    (
+        23,
+        0x00,
+        "replay differs at event 0: recorded 00 found 04\n",
+    ),
+    (
+        64,
+        0x02,
+        "replay differs at event 20: recorded 0202040000 found 0201040000\n",
+    ),
+    (
+        70,
+        0x01,
+        "replay differs at event 21: recorded 090100000000000000 found 090000000000000000\n",
+    ),
+    (
+        74,
+        0x03,
+        "replay differs at event 21: recorded 090000000003000000 found 090000000000000000\n",
+    ),
+];
+
+#[test]
+fn a_replay_says_where_another_outcome_came(rt: HostRuntime) -> Result<(), Fail> {
+    for (place, value, line) in DIFFERENT {
+        let trace = changed(rt.alloc(), &TRACE, *place, *value)?;
+        let words = ["replay", "a", "t", "--trace", "t", "--times"];
+        let played = answer(&rt, rt.alloc(), &words, &HELLO, &trace)?;
+        assert!(rt;
+            played.status.number() == 6
+                && played.out.is_empty()
+                && played.err.as_slice() == line.as_bytes()
+                && played.written.as_slice() == trace.as_slice(),
+            "byte {place} set to {value}"
+        );
+    }
+    Ok(())
+}
+
+/// What a run of the worked image puts to err behind its report.
+const TIMES: &str = "time 0 units 34 lost 0\ntime total 34\n";
+
+#[test]
+fn times_stand_behind_the_report(rt: HostRuntime) -> Result<(), Fail> {
+    let text = format!(in rt.alloc(); "{REPORT}{TIMES}")?;
+    let words = ["run", "a", "--times", "--trace", "t"];
+    let ran = answer(&rt, rt.alloc(), &words, &HELLO, &[])?;
+    assert_eq!(rt; ran.status.number(), 0);
+    assert_eq!(rt; ran.err.as_slice(), text.as_bytes());
+    let played = answer(
+        &rt,
+        rt.alloc(),
+        &["replay", "--times", "a", "t"],
+        &HELLO,
+        &ran.written,
+    )?;
+    assert_eq!(rt; played.status.number(), 0);
+    assert_eq!(rt; played.err.as_slice(), text.as_bytes());
     Ok(())
 }

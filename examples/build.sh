@@ -36,6 +36,8 @@ image hello "$here/hello/hello.S"
 image courtesy "$here/courtesy/courtesy.S"
 image table "$here/table/table.c" "${runtime[@]}"
 image counter "$here/counter/counter.c" "${runtime[@]}"
+# With the M extension, and so without the functions that stand in for it: a later -march holds.
+image products -march=rv32ima "$here/products/products.c" "$here/runtime/runtime.c"
 
 # lock NAME SOURCE..: the image locks/NAME.elf, without relaxation, so that both linkers leave every `la` and
 # `call` two instructions, and the counts of locks/check.sh hold of either's image

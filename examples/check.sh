@@ -24,6 +24,7 @@ all_of() {
         prints "$1" hello "$harts" "$(cat examples/hello/expected)"
         prints "$1" table "$harts" "$(cat examples/table/expected)"
         prints "$1" counter "$harts" "$((100 * harts))"
+        prints "$1" products "$harts" "$(cat examples/products/expected)"
     done
 }
 
@@ -45,26 +46,27 @@ draws() {
     rm -f "$image"
 }
 
-# certifies IMAGE HARTS: in each mode a certificate of a run of the image holds, by `check`, and by the page of Python
+# certifies IMAGE HARTS [OPTION..]: in each mode a certificate of a run of the image holds, by `check`, and by the page of Python
 # that shares no code with it, where python3 is there
 certifies() {
-    local certificate mode said
+    local image=$1 harts=$2 certificate mode said
+    shift 2
     certificate=$(mktemp) || exit 1
     for mode in plain sle tlr; do
-        ./elide run "$1" --harts "$2" --mode "$mode" --cert "$certificate" > /dev/null 2>&1
-        said=$(./elide check "$1" "$certificate" 2>&1)
+        ./elide run "$image" --harts "$harts" --mode "$mode" --cert "$certificate" "$@" > /dev/null 2>&1
+        said=$(./elide check "$image" "$certificate" 2>&1)
         case $? in
             0) passed=$((passed + 1)) ;;
             *)
-                echo "examples: the certificate of $1 on $2 harts in $mode fails: $said"
+                echo "examples: the certificate of $image on $harts harts in $mode fails: $said"
                 failed=$((failed + 1))
                 ;;
         esac
         if command -v python3 > /dev/null; then
-            if [ "$(python3 tools/check_certificate.py "$1" "$certificate")" = "$said" ]; then
+            if [ "$(python3 tools/check_certificate.py "$image" "$certificate")" = "$said" ]; then
                 passed=$((passed + 1))
             else
-                echo "examples: two checkers differ on $1 on $2 harts in $mode"
+                echo "examples: two checkers differ on $image on $harts harts in $mode"
                 failed=$((failed + 1))
             fi
         fi
@@ -72,27 +74,50 @@ certifies() {
     rm -f "$certificate"
 }
 
-# drives: two courteous harts go on for ever in step, and come to their end by drivers on threads; the trace that such a
-# run writes is replayed with the same bytes
+# drives NAME HARTS EXPECTED: by drivers on threads the image prints the expected text in each mode, and the trace that such
+# a run writes is replayed with the same bytes
 drives() {
-    local image=examples/courtesy/courtesy.elf trace out report replayed
+    local image=examples/$1/$1.elf trace mode out report replayed
     trace=$(mktemp) || exit 1
-    ./elide run "$image" --harts 2 --mode plain --steps 100000 > /dev/null 2>&1
-    [ $? -eq 3 ] || { echo "examples: courtesy comes to its end in step"; failed=$((failed + 1)); }
-    for harts in 1 2 8; do
-        for mode in plain sle tlr; do
-            out=$(./elide run examples/counter/counter.elf --harts $harts --mode $mode --threads 500 --trace "$trace" 2> "$trace.err")
-            report=$(cat "$trace.err")
-            replayed=$(./elide replay examples/counter/counter.elf "$trace" 2> "$trace.err")
-            if [ "$out" = "$((100 * harts))" ] && [ "$out" = "$replayed" ] && [ "$report" = "$(cat "$trace.err")" ]; then
-                passed=$((passed + 1))
-            else
-                echo "examples: a run by $harts drivers in $mode, or its replay, went wrong"
-                failed=$((failed + 1))
-            fi
-        done
+    for mode in plain sle tlr; do
+        out=$(./elide run "$image" --harts "$2" --mode $mode --threads 500 --trace "$trace" 2> "$trace.err")
+        report=$(cat "$trace.err")
+        replayed=$(./elide replay "$image" "$trace" 2> "$trace.err")
+        if [ "$out" = "$3" ] && [ "$out" = "$replayed" ] && [ "$report" = "$(cat "$trace.err")" ]; then
+            passed=$((passed + 1))
+        else
+            echo "examples: a run of $1 by $2 drivers in $mode, or its replay, went wrong"
+            failed=$((failed + 1))
+        fi
     done
     rm -f "$trace" "$trace.err"
+}
+
+# drives_all: the example images by drivers on 1, 2 and 8 harts; and two courteous harts go on for ever in step
+drives_all() {
+    ./elide run examples/courtesy/courtesy.elf --harts 2 --mode plain --steps 100000 > /dev/null 2>&1
+    if [ $? -eq 3 ]; then
+        passed=$((passed + 1))
+    else
+        echo "examples: courtesy comes to its end in step"
+        failed=$((failed + 1))
+    fi
+    for harts in 1 2 8; do
+        drives hello "$harts" "$(cat examples/hello/expected)"
+        drives table "$harts" "$(cat examples/table/expected)"
+        drives counter "$harts" "$((100 * harts))"
+        drives products "$harts" "$(cat examples/products/expected)"
+    done
+}
+
+# costs NAME MODE TOTAL: on four harts the program over locks has so many units, as its page says
+costs() {
+    if [ "$(./elide run "examples/locks/$1.elf" --harts 4 --mode "$2" --times 2>&1 > /dev/null | tail -1)" = "time total $3" ]; then
+        passed=$((passed + 1))
+    else
+        echo "examples: $1 in $2 has other units than docs/COSTS.md says"
+        failed=$((failed + 1))
+    fi
 }
 
 # changes: with each byte of a certificate changed by one, both checkers say the same
@@ -147,17 +172,24 @@ case $? in
         ;;
 esac
 for harts in 1 2 8; do
-    for image in hello/hello table/table counter/counter locks/accounts; do
+    for image in hello/hello table/table counter/counter products/products locks/accounts locks/lock_word \
+        locks/overflow locks/private locks/private_in_c; do
         certifies "examples/$image.elf" $harts
     done
+    certifies examples/courtesy/courtesy.elf $harts --steps 100000
 done
-drives
+drives_all
 changes
+costs accounts plain 16773
+costs accounts tlr 13721
+costs overflow plain 48473
+costs overflow tlr 109427
 draws counter 1 00000064 000000c8 00000190 00000320
 draws bank 7 0000fa00 0000fa00 0000fa00 0000fa00
 draws buckets 3 000000c8 00000190 00000320 00000640
 draws locks 3 000000c8 00000190 00000320 00000640
 draws overflow 3 00000190 00000320 00000640 00000c80
+draws pairs 1 00000064 000000c8 00000190 00000320
 refuses "usage: elide run IMAGE [options], elide replay IMAGE TRACE, elide gen KIND NUMBER FILE" run $'\xff'
 echo "$passed passed, $failed failed"
 [ "$failed" -eq 0 ]

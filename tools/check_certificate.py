@@ -138,6 +138,19 @@ def alu(op, variant, a, b):
     return {4: a ^ b, 6: a | b, 7: a & b}[op]
 
 
+def multiply(op, a, b):
+    """The operation of the M extension of this funct3."""
+    if op < 4:
+        product = (a if op == 3 else signed(a)) * (signed(b) if op == 1 else b)
+        return product >> 32 if op else product
+    if b == 0:
+        return MASK if op < 6 else a
+    if op in (4, 6):
+        a, b = signed(a), signed(b)
+    quotient = abs(a) // abs(b) if (a < 0) == (b < 0) else -(abs(a) // abs(b))
+    return quotient if op < 6 else a - quotient * b
+
+
 AMOS = {
     1: lambda old, new: new, 0: lambda old, new: old + new, 4: lambda old, new: old ^ new, 12: lambda old, new: old & new,
     8: lambda old, new: old | new, 16: lambda old, new: min(old, new, key=signed), 20: lambda old, new: max(old, new, key=signed),
@@ -236,6 +249,8 @@ class Machine:
             result = alu(op, op == 5 and top == 32, a, offset & MASK)
         elif opcode == 0x33 and (top == 0 or (top == 32 and op in (0, 5))):
             result = alu(op, top == 32, a, b)
+        elif opcode == 0x33 and top == 1:
+            result = multiply(op, a, b)
         elif opcode == 0x0F and op == 0:
             pass
         elif word == 0x73:

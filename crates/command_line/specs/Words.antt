@@ -1,5 +1,6 @@
 -- what the words of a command line ask for
-use Rattle.std.specs.Prelude.{ℕ, Bool, true, not, ◌&&◌, ◌||◌, nat_le, List, [], ◌∷◌, String, string_bytes, map, codes, bytes_eq, is_some, Option, None, Some, if◌then◌else◌}
+use Rattle.std.specs.Prelude.{ℕ, Bool, true, false, not, ◌&&◌, ◌||◌, nat_le, List, [], ◌∷◌, String, string_bytes, map, codes, bytes_eq, is_some, Option, None, Some, if◌then◌else◌}
+use Rattle.std.specs.List.{list_any}
 use Rattle.std.specs.Option.{option_map}
 use Rattle.std.specs.Global.{Global}
 use Rattle.el_base.specs.Modes.{mode_of}
@@ -182,6 +183,15 @@ job_of (name ∷ words) =
     else if bytes_eq name (codes "check") then check_of words
     else if bytes_eq name (codes "gen") then gen_of words
     else None
+
+-- the names of the commands
+abbrev pub command_names : List (List ℕ)
+command_names = codes "run" ∷ codes "replay" ∷ codes "check" ∷ codes "gen" ∷ []
+
+-- the first word is the name of a command
+abbrev pub names_command : List (List ℕ) → Bool
+names_command [] = false
+names_command (name ∷ words) = list_any (bytes_eq name) command_names
 
 -- what a command asks for
 abbrev pub run_meaning : RunCommand → RunJob

@@ -1,8 +1,8 @@
 //! What the words mean.
 
-ghost use Rattle.std.specs.Prelude.{◌≡◌, None, Some, IfOk, MatchResult, option_map};
+ghost use Rattle.std.specs.Prelude.{◌≡◌, None, Some, true, IfOk, MatchResult, option_map};
 ghost use Rattle.el_base.specs.Modes.{mode_of};
-ghost use Rattle.command_line.specs.Words.{are_apart, check_of, gen_of, is_traced, job_of, kind_of, meaning, optional, replay_of, run_meaning, run_of, texts, turns_of};
+ghost use Rattle.command_line.specs.Words.{are_apart, check_of, gen_of, is_traced, job_of, kind_of, meaning, names_command, optional, replay_of, run_meaning, run_of, texts, turns_of};
 ghost use Rattle.command_line.specs.Numbers.{number_of};
 
 use crate::command::{Command, MAX_TURNS, ReplayCommand, RunCommand};
@@ -15,10 +15,12 @@ use std::alloc::Global;
 use workload::Work;
 
 /// The command of these words, which are those after the program's name. The answer is `Usage`
-/// exactly where they are no command line; nothing says when want of memory comes.
+/// exactly where they are no command line; out of memory comes only where the first of them names a command.
 pub fn read_words(alloc: Global, words: &[String]) -> Result<Command<'_>, WordsFault>
     ensures accepted { IfOk result (λ command. job_of (texts words.now) ≡ Some (meaning command)) }
     ensures refused { result ≡ Err WordsFault.Usage → job_of (texts words.now) ≡ None }
+    ensures named { IfOk result (λ _. names_command (texts words.now) ≡ true) }
+    ensures memory_for_commands { result ≡ Err WordsFault.NoMemory → names_command (texts words.now) ≡ true }
 {
     let Some((name, words)) = words.split_first() else {
         return Err(WordsFault::Usage);

@@ -16,6 +16,7 @@ mod word;
 
 pub use report::write_report;
 pub use times::write_times;
+pub use word::{Word, put_line};
 
 #[cfg(test)]
 mod tests;

@@ -8,7 +8,7 @@ use itoa::Buffer;
 
 /// A word of a line.
 #[derive(Clone, Copy)]
-pub(crate) enum Word {
+pub enum Word {
     /// These letters.
     Text(&'static str),
     /// A number, in decimal.
@@ -17,9 +17,11 @@ pub(crate) enum Word {
     Address(u32),
 }
 
-/// Puts a line of words: the first, and then some and some more.
+/// Puts a line of words: the first, and then some and some more, with one space between each two and a newline. It
+/// takes no memory. `Failed` comes only where the sink counted a fault in this call; it then took some of the line, from
+/// the first byte on, and not all.
 #[tactic(auto, using(crate::proofs::Putting::putting))]
-pub(crate) fn put_line<S: Sink>(
+pub fn put_line<S: Sink>(
     sink: &mut S,
     first: &'static str,
     words: &[Word],

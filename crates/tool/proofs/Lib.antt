@@ -5,6 +5,7 @@ pub mod Failing
 pub mod Files
 pub mod Putting
 pub mod Recording
+pub mod Refusing
 pub mod Repeating
 pub mod Running
 pub mod Succeeding

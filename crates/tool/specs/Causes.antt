@@ -1,15 +1,17 @@
 -- What a fault of a device shows: one call of a device failed, and with any other ending none did.
-use Rattle.std.specs.Prelude.{◌≡◌, ℕ, ◌⊎◌, Bool, true, false, List, [], ◌∷◌, ◌++◌, map, Option, None, Some}
+use Rattle.std.specs.Prelude.{◌≡◌, ℕ, ◌≤◌, ◌⊎◌, Bool, true, false, List, [], ◌∷◌, ◌++◌, length, map, Option, None, Some}
 use Rattle.std.specs.Option.{option_to_list}
 use Rattle.command_line.specs.Settings.{config_of}
 use Rattle.command_line.specs.Words.{Job, Run, Replay, Check, Gen, RunJob}
 use Rattle.el_base.specs.Config.{config_fault}
 use Rattle.el_base.specs.declared.config.ConfigFault.{ConfigFault}
 use Rattle.el_io.specs.Counts.{one_more}
-use Rattle.el_io.specs.Shelf.{NamedCall}
+use Rattle.el_io.specs.Shelf.{Contents, NamedCall}
 use Rattle.el_io.specs.declared.shelf.Call.TheVariants.{Read, Write}
+use Rattle.elf_image.specs.Limits.{file_limit}
 use Rattle.tool.specs.Answer.{Besides, besides_of}
 use Rattle.tool.specs.Jobs.{besides_run}
+use Rattle.tool.specs.Refusals.{certificate_limit, trace_limit}
 use Rattle.tool.specs.declared.made.Made.{Made}
 use Rattle.tool.specs.declared.made.Made.TheVariants as made
 use Rattle.tool.specs.declared.status.Status.{Status}
@@ -43,13 +45,47 @@ abbrev pub calls_under : Option ConfigFault → List NamedCall → List NamedCal
 calls_under (Some found) calls = []
 calls_under None calls = calls
 
--- the files that a job reads
-abbrev pub reads_of : Option Job → List NamedCall
+-- a file that is read, and the most bytes that it may have
+pub record FileRead : Type 0 where
+  pub name : List ℕ
+  pub limit : ℕ
+
+abbrev pub read_call : FileRead → NamedCall
+read_call file = (Read, file.name)
+
+abbrev pub image_read : List ℕ → FileRead
+image_read name = record { name = name; limit = file_limit }
+
+abbrev pub trace_read : List ℕ → FileRead
+trace_read name = record { name = name; limit = trace_limit }
+
+abbrev pub certificate_read : List ℕ → FileRead
+certificate_read name = record { name = name; limit = certificate_limit }
+
+-- these reads, under a configuration that has no fault
+abbrev pub reads_under : Option ConfigFault → List FileRead → List FileRead
+reads_under (Some found) reads = []
+reads_under None reads = reads
+
+-- the files that a job reads, in their order
+abbrev pub reads_of : Option Job → List FileRead
 reads_of None = []
-reads_of (Some (Run job)) = calls_under (config_fault (config_of job)) ((Read, job.image) ∷ [])
-reads_of (Some (Replay job)) = (Read, job.image) ∷ (Read, job.trace) ∷ []
-reads_of (Some (Check image certificate)) = (Read, image) ∷ (Read, certificate) ∷ []
+reads_of (Some (Run job)) = reads_under (config_fault (config_of job)) (image_read job.image ∷ [])
+reads_of (Some (Replay job)) = image_read job.image ∷ trace_read job.trace ∷ []
+reads_of (Some (Check image certificate)) = image_read image ∷ certificate_read certificate ∷ []
 reads_of (Some (Gen kind number file)) = []
+
+-- where contents are told, a file has no more bytes than its limit
+abbrev pub IsWithin : Option Contents → FileRead → Type 0
+IsWithin None file = Unit {0}
+IsWithin (Some contents) file = length (contents file.name) ≤ file.limit
+
+-- the read of one of these files failed: the list of failed calls got it at its end, and each file before it was read,
+-- so it is within its limit
+abbrev pub ReadFailed : Option Contents → List FileRead → List NamedCall → List NamedCall → Type 0
+ReadFailed told [] before now = ⊥
+ReadFailed told (file ∷ files) before now =
+    (now ≡ before ++ (Read, file.name) ∷ []) ⊎ (IsWithin told file × ReadFailed told files before now)
 
 -- the calls that a run makes of the shelf
 abbrev pub run_calls : RunJob → List NamedCall
@@ -93,10 +129,11 @@ abbrev pub FaultCounts : ℕ → ℕ → Fault → Type 0
 FaultCounts before now Device = now ≡ one_more before
 FaultCounts before now NoMemory = now ≡ before
 
--- a shelf's list at a stop
-abbrev pub StopLists : List NamedCall → List NamedCall → List NamedCall → Stop → Type 0
-StopLists calls before now (Refused refusal) = now ≡ before
-StopLists calls before now (Failed fault) = FaultLists calls before now fault
+-- a shelf's list at a stop: one of these reads failed, or no call
+abbrev pub StopReads : Option Contents → List FileRead → List NamedCall → List NamedCall → Stop → Type 0
+StopReads told reads before now (Refused refusal) = now ≡ before
+StopReads told reads before now (Failed Device) = ReadFailed told reads before now
+StopReads told reads before now (Failed NoMemory) = now ≡ before
 
 -- the failed calls of a shelf, and the counts of faults of out and of err
 pub record Failures : Type 0 where

@@ -7,14 +7,16 @@ use Rattle.el_io.specs.declared.shelf.Call.TheVariants.{Write}
 use Rattle.tool.specs.declared.status.Status.{Status}
 use Rattle.tool.specs.declared.status.Status.TheVariants.{DeviceFault}
 use Rattle.tool.specs.Answer.{Answer, WrittenFile}
-use Rattle.tool.specs.Causes.{Failures, ListsOne}
+use Rattle.tool.specs.Causes.{Failures, FileRead, ReadFailed}
 use Rattle.tool.specs.declared.stop.Fault.{Fault}
 use Rattle.tool.specs.declared.stop.Fault.TheVariants.{Device, NoMemory}
 use Rattle.tool.specs.Comes.{PutNothing, Told, Wrote, WroteFile, WroteFirst}
 
--- one of these calls of the shelf failed
-abbrev pub ShelfFailed : List NamedCall → Failures → Failures → Type 0
-ShelfFailed calls had has = ListsOne calls had.shelf has.shelf × (has ≡ record had { shelf = has.shelf })
+-- the read of one of these files failed, and nothing was put or written
+pub record FailedRead (reads : List FileRead) (had has : Failures) (before now : Told) : Type 0 where
+  pub read : ReadFailed before.files reads had.shelf has.shelf
+  pub alone : has ≡ record had { shelf = has.shelf }
+  pub nothing : PutNothing before now
 
 -- the write of one of these files failed: those before it were written, and every other is as it was
 abbrev pub WriteFailed : List WrittenFile → List NamedCall → List NamedCall → Option Contents → Option Contents → Type 0
@@ -64,8 +66,8 @@ CutOff had has before now answer =
 
 -- where a call of the program ended with a fault of a device: one of these reads failed, and nothing was put or
 -- written, or an answer was cut off
-abbrev pub Faulted : List NamedCall → (Answer → Type 0) → Status → Failures → Failures → Told → Told → Type 0
+abbrev pub Faulted : List FileRead → (Answer → Type 0) → Status → Failures → Failures → Told → Told → Type 0
 Faulted reads Answers DeviceFault had has before now =
-    (ShelfFailed reads had has × PutNothing before now)
+    FailedRead reads had has before now
     ⊎ ((answer : Answer) × Answers answer × CutOff had has before now answer)
 Faulted reads Answers status had has before now = Unit {0}

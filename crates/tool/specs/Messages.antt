@@ -6,6 +6,7 @@ use Rattle.el_base.specs.declared.config.ConfigFault.TheVariants.{Harts, Sets, W
 use Rattle.el_base.specs.declared.file_fault.FileFault.{FileFault}
 use Rattle.elf_image.specs.FaultKinds as image_faults
 use Rattle.hex.specs.Hex.{encode_lower}
+use Rattle.report.specs.Line.{line}
 use Rattle.tool.specs.declared.difference.Difference.{Difference}
 use Rattle.tool.specs.declared.refusal.Refusal.{Refusal}
 use Rattle.tool.specs.declared.refusal.Refusal.TheVariants as refusals
@@ -28,19 +29,19 @@ newline = 10 ∷ []
 
 -- the line of a fault of a configuration
 abbrev pub config_line : ConfigFault → List ℕ
-config_line fault = codes "config fault " ++ config_fault_text fault ++ newline
+config_line fault = line (codes "config fault") (config_fault_text fault ∷ [])
 
 -- the line of a fault of a file, by what the file is, and the fault with its name
 abbrev pub fault_line : List ℕ → FileFault → List ℕ → List ℕ
 fault_line file fault name =
-    file ++ codes " fault " ++ decimal fault.number ++ codes " " ++ name ++ codes " at byte " ++ decimal fault.place ++ newline
+    line file (codes "fault" ∷ decimal fault.number ∷ name ∷ codes "at byte" ∷ decimal fault.place ∷ [])
 
--- the line of a refusal, with its newline
+-- the line of a refusal: words with a space between each two, and a newline
 unfoldable pub line_of : Refusal → List ℕ
 line_of refusals.Usage =
-    codes "usage: elide run IMAGE [options], elide replay IMAGE TRACE, elide gen KIND NUMBER FILE" ++ newline
+    line (codes "usage: elide run IMAGE [options], elide replay IMAGE TRACE, elide gen KIND NUMBER FILE") []
 line_of (refusals.Config fault) = config_line fault
-line_of (refusals.TooBig limit) = codes "file too big: limit " ++ decimal limit ++ newline
+line_of (refusals.TooBig limit) = line (codes "file too big: limit") (decimal limit ∷ [])
 line_of (refusals.Image fault) = fault_line (codes "image") fault (unwrap_or (image_faults.fault_name fault.number) [])
 line_of (refusals.Certificate fault) =
     fault_line (codes "certificate") fault (unwrap_or (certificate_faults.fault_name fault.number) [])

@@ -81,11 +81,17 @@ abbrev pub verdict_refusal : List ℕ → List ℕ → Option Refusal
 verdict_refusal image certificate =
     first_of (certificate_refusal certificate ∷ image_refusal image (harts_of certificate) ∷ [])
 
--- this refusal, or want of memory
+-- this refusal, or out of memory where there is none
 abbrev pub StopsBy : Option Refusal → Stop → Type 0
 StopsBy found (Refused refusal) = found ≡ Some refusal
 StopsBy found (Failed Device) = ⊥
-StopsBy found (Failed NoMemory) = Unit {0}
+StopsBy found (Failed NoMemory) = found ≡ None
+
+-- the first of two refusals, or out of memory where the first of them is not met
+abbrev pub StopsByFirst : Option Refusal → Option Refusal → Stop → Type 0
+StopsByFirst one other (Refused refusal) = first_of (one ∷ other ∷ []) ≡ Some refusal
+StopsByFirst one other (Failed Device) = ⊥
+StopsByFirst one other (Failed NoMemory) = one ≡ None
 
 -- want of memory alone
 abbrev pub OnlyMemory : Stop → Type 0

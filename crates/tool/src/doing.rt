@@ -2,10 +2,9 @@
 //! certificate, or it builds an image.
 ghost use Rattle.std.specs.Prelude.{◌≡◌, ◌<◌, ◌≤◌, ◌∷◌, [], All, List, None, IfErr, IfOk, IfSome, MatchOption, MatchResult, length, option_map, true, false};
 ghost use Rattle.command_line.specs.Settings.{config_of};
-ghost use Rattle.command_line.specs.Words.{job_of, replay_meaning, run_meaning, texts};
+ghost use Rattle.command_line.specs.Words.{job_of, names_command, replay_meaning, run_meaning, texts};
 ghost use Rattle.el_base.specs.Config.{IsInRange, config_fault};
 ghost use Rattle.el_io.specs.Shelf.{Holds, NamedCall};
-ghost use Rattle.el_io.specs.declared.shelf.Call.TheVariants.{Read};
 ghost use Rattle.elf_image.specs.Faults.{fault};
 ghost use Rattle.elf_image.specs.Limits.{file_limit};
 ghost use Rattle.elf_image.specs.Loaded.{program_of};
@@ -14,11 +13,11 @@ ghost use Rattle.run_check.specs.Faults.{harts_of};
 ghost use Rattle.trace_file.specs.Faults.{config_at};
 ghost use Rattle.trace_file.specs.Spelling.{listed, outcomes};
 ghost use Rattle.tool.specs.Answer.{CopiesProgram, answer_of, ended, judged};
-ghost use Rattle.tool.specs.Causes.{ListsOne, MayWrite, StopLists, calls_of, calls_under, is_run, puts_of, reads_of, run_writes, writes_of};
+ghost use Rattle.tool.specs.Causes.{FileRead, IsWithin, ListsOne, MayWrite, StopReads, calls_of, certificate_read, image_read, is_run, puts_of, reads_of, reads_under, run_writes, trace_read, writes_of};
 ghost use Rattle.tool.specs.Jobs.{DriversMade, FollowAnswer, IsAnswer, IsCheckAnswer, IsReplayAnswer, IsRunAnswer, MakesRun, RanAnswer, VerdictAnswer, besides_replay, besides_run, first_story};
 ghost use Rattle.tool.specs.Differing.{CameAsRecorded, DiffersFrom, IsDifference};
 ghost use Rattle.tool.specs.Refusals.{certificate_refusal, image_refusal, trace_refusal};
-ghost use Rattle.tool.specs.Stopping.{IsCertificateOf, IsTraceOf, OnlyMemory, StopsBy, StopsRead, StopsWith, follow_refusal, verdict_refusal};
+ghost use Rattle.tool.specs.Stopping.{IsCertificateOf, IsTraceOf, OnlyMemory, StopsBy, StopsByFirst, StopsRead, StopsWith, follow_refusal, verdict_refusal};
 
 use crate::difference::Difference;
 use crate::made::{Certified, Extras, Made};
@@ -51,12 +50,14 @@ pub(crate) fn obey<'a, R: Threads + Wait + Sync, S: Shelf, G: Gate + Sync>(
         MatchResult result (λ made. Answers (answer_of made)) (StopsWith Answers) }
     ensures calls { MatchResult result
         (λ _. S.failures shelf.new ≡ S.failures shelf.old)
-        (StopLists (reads_of (job_of (texts words.entry.now))) (S.failures shelf.old) (S.failures shelf.new)) }
+        (StopReads (S.told shelf.old) (reads_of (job_of (texts words.entry.now))) (S.failures shelf.old) (S.failures shelf.new)) }
     ensures writes { IfOk result (λ made. (before now : List NamedCall) →
         ListsOne (writes_of made) before now →
         ListsOne (calls_of (job_of (texts words.entry.now))) before now) }
     ensures puts { IfOk result (λ made. is_run made ≡ puts_of (job_of (texts words.entry.now))) }
     ensures copied { IfOk result CopiesProgram }
+    ensures named { IfOk result (λ _. names_command (texts words.entry.now) ≡ true) }
+    ensures memory { result ≡ Err (Stop.Failed Fault.NoMemory) → names_command (texts words.entry.now) ≡ true }
 {
     match read_words(alloc, words)? {
         Command::Run(command) => run(runtime, alloc, shelf, command, gate),
@@ -83,13 +84,14 @@ fn run<'a, R: Threads + Wait + Sync, S: Shelf, G: Gate + Sync>(
     ensures answers { let Answers = IsRunAnswer (run_meaning command.entry) (S.told shelf.old) in
         MatchResult result (λ made. Answers (answer_of made)) (StopsWith Answers) }
     ensures calls { let job = run_meaning command.entry in
-        let calls = calls_under (config_fault (config_of job)) ((Read, job.image) ∷ []) in
+        let reads = reads_under (config_fault (config_of job)) (image_read job.image ∷ []) in
         MatchResult result
         (λ _. S.failures shelf.new ≡ S.failures shelf.old)
-        (StopLists calls (S.failures shelf.old) (S.failures shelf.new)) }
+        (StopReads (S.told shelf.old) reads (S.failures shelf.old) (S.failures shelf.new)) }
     ensures writes { IfOk result (λ made. writes_of made ≡ run_writes (besides_run (run_meaning command.entry))) }
     ensures puts { IfOk result (λ made. is_run made ≡ true) }
     ensures copied { IfOk result CopiesProgram }
+    ensures memory { result ≡ Err (Stop.Failed Fault.NoMemory) → config_fault (config_of (run_meaning command.entry)) ≡ None }
 {
     let config = command.config()?;
     let file = read_file(alloc, shelf, command.image, IMAGE_FILE_LIMIT)?;
@@ -199,10 +201,10 @@ fn judge<'a, S: Shelf>(
     ensures files_stay { S.told shelf.new ≡ S.told shelf.old }
     ensures answers { let Answers = IsCheckAnswer image.now certificate.now (S.told shelf.old) in
         MatchResult result (λ made. Answers (answer_of made)) (StopsWith Answers) }
-    ensures calls { let calls = (Read, image.now) ∷ (Read, certificate.now) ∷ [] in
+    ensures calls { let reads = image_read image.now ∷ certificate_read certificate.now ∷ [] in
         MatchResult result
         (λ _. S.failures shelf.new ≡ S.failures shelf.old)
-        (StopLists calls (S.failures shelf.old) (S.failures shelf.new)) }
+        (StopReads (S.told shelf.old) reads (S.failures shelf.old) (S.failures shelf.new)) }
     ensures writes { IfOk result (λ made. writes_of made ≡ []) }
     ensures puts { IfOk result (λ made. is_run made ≡ false) }
     ensures copied { IfOk result CopiesProgram }
@@ -219,7 +221,7 @@ fn judge_files<'a>(alloc: Global, image: Vec<u8>, certificate: Vec<u8>) -> Resul
         (λ made. (verdict_refusal image.items certificate.items ≡ None)
         × VerdictAnswer image.items certificate.items (answer_of made)
         × (writes_of made ≡ []) × (is_run made ≡ false) × CopiesProgram made)
-        (StopsBy (verdict_refusal image.items certificate.items)) }
+        (StopsByFirst (certificate_refusal certificate.items) (image_refusal image.items (harts_of certificate.items))) }
 {
     let certificate = certificate_of(alloc, certificate)?;
     let image = image_of(alloc, image, certificate.harts())?;
@@ -249,10 +251,10 @@ fn replay<'a, S: Shelf>(
     ensures answers { let Answers = IsReplayAnswer (replay_meaning command.entry) (S.told shelf.old) in
         MatchResult result (λ made. Answers (answer_of made)) (StopsWith Answers) }
     ensures calls { let job = replay_meaning command.entry in
-        let calls = (Read, job.image) ∷ (Read, job.trace) ∷ [] in
+        let reads = image_read job.image ∷ trace_read job.trace ∷ [] in
         MatchResult result
         (λ _. S.failures shelf.new ≡ S.failures shelf.old)
-        (StopLists calls (S.failures shelf.old) (S.failures shelf.new)) }
+        (StopReads (S.told shelf.old) reads (S.failures shelf.old) (S.failures shelf.new)) }
     ensures writes { IfOk result (MayWrite (replay_meaning command.entry).written) }
     ensures puts { IfOk result (λ made. is_run made ≡ true) }
     ensures copied { IfOk result CopiesProgram }
@@ -274,9 +276,10 @@ fn read_file<S: Shelf>(
     ensures given { IfOk result (λ file. Holds (S.told shelf.old) name.now file.items) }
     ensures within_limit { IfOk result (λ file. length file.items ≤ limit) }
     ensures stopped { MatchResult result (λ _. Unit {0}) (StopsRead (S.told shelf.old) name.now limit) }
-    ensures calls { MatchResult result
-        (λ _. S.failures shelf.new ≡ S.failures shelf.old)
-        (StopLists ((Read, name.now) ∷ []) (S.failures shelf.old) (S.failures shelf.new)) }
+    ensures calls { let file : FileRead = record { name = name.now; limit = limit } in
+        MatchResult result
+        (λ _. (S.failures shelf.new ≡ S.failures shelf.old) × IsWithin (S.told shelf.old) file)
+        (StopReads (S.told shelf.old) (file ∷ []) (S.failures shelf.old) (S.failures shelf.new)) }
 {
     match shelf.read(alloc, name, limit) {
         Ok(file) => Ok(file),
@@ -298,7 +301,7 @@ fn follow_trace<'a>(
         (λ made. (follow_refusal image.items trace.items ≡ None)
         × FollowAnswer (besides_replay job) image.items trace.items (answer_of made)
         × MayWrite job.written made × (is_run made ≡ true) × CopiesProgram made)
-        (StopsBy (follow_refusal image.items trace.items)) }
+        (StopsByFirst (trace_refusal trace.items) (image_refusal image.items (config_at trace.items).harts)) }
 {
     let trace = trace_of(alloc, trace)?;
     let image = image_of(alloc, image, trace.config.harts)?;

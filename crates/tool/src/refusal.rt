@@ -1,12 +1,17 @@
 //! Why a command is refused, and the line that it puts to err then.
-ghost use Rattle.std.specs.Prelude.{◌≡◌, IfOk, string_bytes};
-ghost use Rattle.tool.specs.Messages.{config_fault_text as text_of_config_fault, config_line as line_of_config, fault_line as line_of_fault, line_of};
+ghost use Rattle.std.specs.Prelude.{◌≡◌, [], unwrap_or};
+ghost use Rattle.elf_image.specs.FaultKinds as image_faults;
+ghost use Rattle.run_check.specs.FaultKinds as certificate_faults;
+ghost use Rattle.trace_file.specs.FaultKinds as trace_faults;
+ghost use Rattle.report.specs.Puts.{Puts};
+ghost use Rattle.tool.specs.Messages.{config_fault_text as text_of_config_fault, config_line, fault_line, line_of};
 
 use el_base::{ConfigFault, FileFault};
-use std::alloc::{AllocError, Global};
+use el_io::{Failed, Sink};
+use report::{Word, put_line};
 
 const USAGE: &str =
-    "usage: elide run IMAGE [options], elide replay IMAGE TRACE, elide gen KIND NUMBER FILE\n";
+    "usage: elide run IMAGE [options], elide replay IMAGE TRACE, elide gen KIND NUMBER FILE";
 
 /// Why a command is refused.
 #[derive(Clone, Copy, Debug, PartialEq, Eq)]
@@ -26,49 +31,108 @@ pub(crate) enum Refusal {
 }
 
 impl Refusal {
-    /// The line of a refusal, with its newline.
-    #[tactic(auto, unfolding(crate::specs::Messages::line_of))]
-    pub(crate) fn line(self, alloc: Global) -> Result<String, AllocError>
-        ensures { IfOk result (λ line. string_bytes line ≡ line_of self) }
+    /// Puts the line of a refusal. It takes no memory, so that no refusal ends as out of memory.
+    pub(crate) fn put<E: Sink>(self, err: &mut E) -> Result<(), Failed>
+        ensures { Puts result
+            (record { taken = E.taken err.old; faults = E.faults err.old })
+            (record { taken = E.taken err.new; faults = E.faults err.new })
+            (line_of self) }
     {
         match self {
-            Refusal::Usage => String::from_str(alloc, USAGE),
-            Refusal::Config(fault) => config_line(alloc, fault),
-            Refusal::TooBig { limit } => format!(in alloc; "file too big: limit {limit}\n"),
-            // Each number that `load`, `read_trace` and `read_certificate` answer with has a name.
-            Refusal::Image(fault) => {
-                let name = elf_image::fault_name(fault.number).unwrap_or("");
-                fault_line(alloc, "image", fault, name)
-            }
-            Refusal::Trace(fault) => {
-                let name = trace_file::fault_name(fault.number).unwrap_or("");
-                fault_line(alloc, "trace", fault, name)
-            }
+            Refusal::Usage => put_usage(err),
+            Refusal::Config(fault) => put_config(err, fault),
+            Refusal::TooBig { limit } => put_limit(err, limit),
+            Refusal::Image(fault) => put_fault(err, "image", fault, name_in_image(fault)),
+            Refusal::Trace(fault) => put_fault(err, "trace", fault, name_in_trace(fault)),
             Refusal::Certificate(fault) => {
-                let name = run_check::fault_name(fault.number).unwrap_or("");
-                fault_line(alloc, "certificate", fault, name)
+                put_fault(err, "certificate", fault, name_in_certificate(fault))
             }
         }
     }
 }
 
-/// The line of a fault of a configuration.
-fn config_line(alloc: Global, fault: ConfigFault) -> Result<String, AllocError>
-    ensures { IfOk result (λ line. string_bytes line ≡ line_of_config fault) }
+#[tactic(auto, unfolding(crate::specs::Messages::line_of))]
+fn put_usage<E: Sink>(err: &mut E) -> Result<(), Failed>
+    ensures { Puts result
+        (record { taken = E.taken err.old; faults = E.faults err.old })
+        (record { taken = E.taken err.new; faults = E.faults err.new })
+        (line_of Refusal.Usage) }
 {
-    let text = config_fault_text(fault);
-    format!(in alloc; "config fault {text}\n")
+    put_line(err, USAGE, &[], &[])
 }
 
-/// The line of a fault of a file, by what the file is, and the fault with its name.
-fn fault_line(alloc: Global, file: &str, fault: FileFault, name: &str) -> Result<String, AllocError>
-    ensures { IfOk result (λ line. string_bytes line ≡ line_of_fault file.now fault name.now) }
+/// Puts the line of a fault of a configuration.
+fn put_config<E: Sink>(err: &mut E, fault: ConfigFault) -> Result<(), Failed>
+    ensures { Puts result
+        (record { taken = E.taken err.old; faults = E.faults err.old })
+        (record { taken = E.taken err.new; faults = E.faults err.new })
+        (config_line fault) }
 {
-    let FileFault { number, place } = fault;
-    let mut line = format!(in alloc; "{file} fault {number} ")?;
-    line.push_str(name)?;
-    writeln!(line, " at byte {place}")?;
-    Ok(line)
+    put_line(
+        err,
+        "config fault",
+        &[Word::Text(config_fault_text(fault))],
+        &[],
+    )
+}
+
+/// Puts the line of a file over its limit.
+#[tactic(auto, unfolding(crate::specs::Messages::line_of))]
+fn put_limit<E: Sink>(err: &mut E, limit: u32) -> Result<(), Failed>
+    ensures { Puts result
+        (record { taken = E.taken err.old; faults = E.faults err.old })
+        (record { taken = E.taken err.new; faults = E.faults err.new })
+        (line_of (Refusal.TooBig limit)) }
+{
+    put_line(
+        err,
+        "file too big: limit",
+        &[Word::Number(limit.into())],
+        &[],
+    )
+}
+
+/// The name of a fault of an image. Each number that `load` answers with has one.
+fn name_in_image(fault: FileFault) -> &'static str
+    ensures { result.now ≡ unwrap_or (image_faults.fault_name fault.number) [] }
+{
+    elf_image::fault_name(fault.number).unwrap_or("")
+}
+
+/// That of a fault of a trace, where each number that `read_trace` answers with has one.
+fn name_in_trace(fault: FileFault) -> &'static str
+    ensures { result.now ≡ unwrap_or (trace_faults.fault_name fault.number) [] }
+{
+    trace_file::fault_name(fault.number).unwrap_or("")
+}
+
+/// That of a fault of a certificate, where each number that `read_certificate` answers with has one.
+fn name_in_certificate(fault: FileFault) -> &'static str
+    ensures { result.now ≡ unwrap_or (certificate_faults.fault_name fault.number) [] }
+{
+    run_check::fault_name(fault.number).unwrap_or("")
+}
+
+/// Puts the line of a fault of a file, by what the file is, and the fault with its name.
+fn put_fault<E: Sink>(
+    err: &mut E,
+    file: &'static str,
+    fault: FileFault,
+    name: &'static str,
+) -> Result<(), Failed>
+    ensures { Puts result
+        (record { taken = E.taken err.old; faults = E.faults err.old })
+        (record { taken = E.taken err.new; faults = E.faults err.new })
+        (fault_line file.now fault name.now) }
+{
+    let words = [
+        Word::Text("fault"),
+        Word::Number(fault.number.into()),
+        Word::Text(name),
+        Word::Text("at byte"),
+        Word::Number(fault.place.into()),
+    ];
+    put_line(err, file, &words, &[])
 }
 
 /// The number and the name of a fault of a configuration.

@@ -199,21 +199,14 @@ fn verdict_line(alloc: Global, verdict: Verdict, output: usize) -> Result<String
     }
 }
 
-/// Puts the line of a refusal.
-pub(crate) fn tell_refusal<E: Sink>(
-    alloc: Global,
-    refusal: Refusal,
-    err: &mut E,
-) -> Result<Status, Fault>
+/// Puts the line of a refusal. It takes no memory.
+pub(crate) fn tell_refusal<E: Sink>(refusal: Refusal, err: &mut E) -> Result<Status, Failed>
     ensures told { MatchResult result
         (λ status. (status ≡ Status.Refused) × TookAll (E.taken err.old) (E.taken err.new) (line_of refusal))
-        (Untold (E.taken err.old) (E.taken err.new) (line_of refusal)) }
-    ensures cause { MatchResult result
-        (λ _. E.faults err.new ≡ E.faults err.old)
-        (FaultCounts (E.faults err.old) (E.faults err.new)) }
+        (λ _. TookPart (E.taken err.old) (E.taken err.new) (line_of refusal)) }
+    ensures cause { E.faults err.new ≡ (if is_ok result then E.faults err.old else one_more (E.faults err.old)) }
 {
-    let line = refusal.line(alloc)?;
-    put_all(err, line.as_bytes())?;
+    refusal.put(err)?;
     Ok(Status::Refused)
 }
 

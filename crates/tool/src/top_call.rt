@@ -1,5 +1,6 @@
 //! The top call.
-ghost use Rattle.command_line.specs.Words.{job_of, texts};
+ghost use Rattle.std.specs.Prelude.{◌≡◌, true};
+ghost use Rattle.command_line.specs.Words.{job_of, names_command, texts};
 ghost use Rattle.tool.specs.Causes.{Caused, calls_of, puts_of, reads_of};
 ghost use Rattle.tool.specs.Comes.{Comes};
 ghost use Rattle.tool.specs.Faults.{Faulted};
@@ -22,9 +23,10 @@ use std::thread::Threads;
 /// words over the contents that the shelf tells. A fault of a device comes exactly where, in this
 /// call, one call of a device failed: one of the shelf that the words ask for, one of err, or, where
 /// the words ask for a run or a replay, one of out. What was put and written then ends at that call:
-/// behind a failed read there is nothing, and an answer is cut off in out, at the write of its file or
-/// in err. Nothing says when want of memory comes. After it there is nothing, or the beginning of an
-/// answer's output.
+/// behind a failed read there is nothing, and each file that is read before it is within its limit; an answer
+/// is cut off in out, at the write of its file or in err. Out of memory comes only where the first word
+/// names a command, and never in place of a refusal that was found. After it there is nothing, or the
+/// beginning of an answer's output.
 ///
 /// Where drivers on threads are asked for, each passes `gate` before each of its turns, and the call may wait.
 /// Without them it starts no thread and waits for nothing.
@@ -48,6 +50,7 @@ pub fn tool<R: Threads + Wait + Sync, S: Shelf, O: Sink, E: Sink, G: Gate + Sync
         (record { shelf = S.failures shelf.new; out = O.faults out.new; err = E.faults err.new })
         (record { out = O.taken out.old; err = E.taken err.old; files = S.told shelf.old })
         (record { out = O.taken out.new; err = E.taken err.new; files = S.told shelf.new }) }
+    ensures memory { result ≡ Status.NoMemory → names_command (texts words.now) ≡ true }
 {
     match answer(runtime, alloc, words, shelf, out, err, gate) {
         Ok(status) => status,
@@ -77,10 +80,11 @@ fn answer<R: Threads + Wait + Sync, S: Shelf, O: Sink, E: Sink, G: Gate + Sync>(
         (record { shelf = S.failures shelf.new; out = O.faults out.new; err = E.faults err.new })
         (record { out = O.taken out.old; err = E.taken err.old; files = S.told shelf.old })
         (record { out = O.taken out.new; err = E.taken err.new; files = S.told shelf.new }) }
+    ensures memory { status_of result ≡ Status.NoMemory → names_command (texts words.now) ≡ true }
 {
     match obey(runtime, alloc, words, shelf, gate) {
         Ok(made) => tell(alloc, made, shelf, out, err),
-        Err(Stop::Refused(refusal)) => tell_refusal(alloc, refusal, err),
+        Err(Stop::Refused(refusal)) => Ok(tell_refusal(refusal, err)?),
         Err(Stop::Failed(fault)) => Err(fault),
     }
 }

@@ -1,260 +1,375 @@
-//! One device call fails at a time.
-use crate::support::{HELLO, REPORT, TRACE, strings};
+//! Each call of a device fails in turn, in each command.
+use crate::support::{
+    BARE_TRACE, CERTIFICATE, HELLO, REPORT, TIMES, TRACE, USAGE, changed, strings,
+};
 use el_io::{MemShelf, MemSink, OpenGate};
+use std::alloc::Global;
+use std::sync::Wait;
 use std::test::Fail;
+use std::thread::Threads;
 use tool::tool;
 
-/// The calls that fail, of the shelf, of out and of err, and what was put to out.
-#[derive(Clone, Copy)]
-struct Row {
+/// What a command does where no call fails, in this order: it reads so many files, puts a byte of `out` at a time, writes
+/// its files, and puts a byte of `err` at a time.
+struct Command {
     words: &'static [&'static str],
-    shelf: &'static [u32],
-    out: &'static [u32],
-    err: &'static [u32],
-    put: &'static str,
+    status: u8,
+    reads: usize,
+    out: &'static str,
+    writes: &'static [(&'static str, &'static [u8])],
+    err: &'static [&'static str],
 }
 
-/// No words, no call that fails, and nothing put to out.
-const FAULTLESS: Row = Row {
-    words: &[],
-    shelf: &[],
-    out: &[],
-    err: &[],
-    put: "",
+/// What most of them do.
+const RUN: Command = Command {
+    words: &["run", "a"],
+    status: 0,
+    reads: 1,
+    out: "A\n",
+    writes: &[],
+    err: &[REPORT],
 };
 
-const RUN: &[&str] = &["run", "a"];
+const REPLAY: Command = Command {
+    words: &["replay", "a", "t"],
+    reads: 2,
+    ..RUN
+};
 
-const RUN_WITH_TRACE: &[&str] = &["run", "a", "--trace", "t"];
+const CHECK: Command = Command {
+    words: &["check", "a", "c"],
+    out: "",
+    err: &["certificate holds, serial 9 out 2\n"],
+    ..REPLAY
+};
 
-const RUN_WITH_CERTIFICATE: &[&str] = &["run", "a", "--cert", "t"];
+const REFUSAL: Command = Command {
+    words: &["run"],
+    status: 2,
+    reads: 0,
+    out: "",
+    writes: &[],
+    err: &[USAGE],
+};
 
-const REPLAY: &[&str] = &["replay", "a", "t"];
+/// The files are `a`, an image; `t` and `b`, its traces with and without outcomes; `d`, a trace with another outcome; `c`, a
+/// certificate; and `f`, one that fails. A command that reads files and writes none of them has its row here.
+const COMMANDS: &[Command] = &[
+    RUN,
+    Command {
+        words: &["run", "a", "--trace", "w"],
+        writes: &[("w", &TRACE)],
+        ..RUN
+    },
+    Command {
+        words: &["run", "a", "--cert", "x"],
+        writes: &[("x", &CERTIFICATE)],
+        ..RUN
+    },
+    Command {
+        words: &["run", "a", "--cert", "x", "--times", "--trace", "w"],
+        writes: &[("w", &TRACE), ("x", &CERTIFICATE)],
+        err: &[REPORT, TIMES],
+        ..RUN
+    },
+    Command {
+        words: &["run", "a", "--threads", "4", "--trace", "w"],
+        writes: &[("w", &TRACE)],
+        ..RUN
+    },
+    REPLAY,
+    Command {
+        words: &["replay", "a", "b", "--trace", "w"],
+        writes: &[("w", &TRACE)],
+        ..REPLAY
+    },
+    Command {
+        words: &["replay", "a", "d", "--trace", "w"],
+        status: 6,
+        out: "",
+        err: &["replay differs at event 0: recorded 00 found 04\n"],
+        ..REPLAY
+    },
+    CHECK,
+    Command {
+        words: &["check", "a", "f"],
+        status: 7,
+        err: &["certificate fails 1 View at 0\n"],
+        ..CHECK
+    },
+    REFUSAL,
+    Command {
+        words: &["run", "a", "--harts", "9"],
+        err: &["config fault 1 Harts\n"],
+        ..REFUSAL
+    },
+    Command {
+        words: &["run", "t"],
+        reads: 1,
+        err: &["image fault 2 Magic at byte 0\n"],
+        ..REFUSAL
+    },
+    Command {
+        words: &["replay", "t", "c"],
+        reads: 2,
+        err: &["trace fault 2 Magic at byte 0\n"],
+        ..REFUSAL
+    },
+    Command {
+        words: &["replay", "t", "t"],
+        reads: 2,
+        err: &["image fault 2 Magic at byte 0\n"],
+        ..REFUSAL
+    },
+    Command {
+        words: &["check", "t", "a"],
+        reads: 2,
+        err: &["certificate fault 2 Magic at byte 0\n"],
+        ..REFUSAL
+    },
+];
 
-const REPLAY_WITH_TRACE: &[&str] = &["replay", "a", "t", "--trace", "t"];
+#[derive(Clone, Copy, Debug, PartialEq, Eq)]
+enum Device {
+    Shelf,
+    Out,
+    Err,
+}
 
-const CHECK: &[&str] = &["check", "a", "t"];
+/// The call of a device that fails, counted from 1; none of them is call 0.
+#[derive(Clone, Copy, Debug)]
+struct Failing {
+    device: Device,
+    call: usize,
+}
 
-const GEN: &[&str] = &["gen", "counter", "1", "t"];
+/// How a command ended, what it put, and the contents of `w` and `x`, which had others before.
+#[derive(Drop)]
+struct Left {
+    status: u8,
+    out: Vec<u8>,
+    err: Vec<u8>,
+    trace: Vec<u8>,
+    certificate: Vec<u8>,
+}
 
-#[test]
-fn nothing_more_is_put_after_a_fault(rt: HostRuntime) -> Result<(), Fail> {
-    let rows = [
-        Row {
-            words: RUN,
-            shelf: &[1],
-            ..FAULTLESS
-        },
-        Row {
-            words: &["run", "b"],
-            ..FAULTLESS
-        },
-        Row {
-            words: RUN,
-            out: &[1],
-            ..FAULTLESS
-        },
-        Row {
-            words: RUN,
-            out: &[2],
-            put: "A",
-            ..FAULTLESS
-        },
-        Row {
-            words: RUN,
-            err: &[1],
-            put: "A\n",
-            ..FAULTLESS
-        },
-        Row {
-            words: RUN_WITH_TRACE,
-            shelf: &[1],
-            ..FAULTLESS
-        },
-        Row {
-            words: RUN_WITH_TRACE,
-            shelf: &[2],
-            put: "A\n",
-            ..FAULTLESS
-        },
-        Row {
-            words: REPLAY,
-            shelf: &[1],
-            ..FAULTLESS
-        },
-        Row {
-            words: REPLAY,
-            shelf: &[2],
-            ..FAULTLESS
-        },
-        Row {
-            words: REPLAY,
-            err: &[1],
-            put: "A\n",
-            ..FAULTLESS
-        },
-        Row {
-            words: GEN,
-            shelf: &[1],
-            ..FAULTLESS
-        },
-        Row {
-            words: GEN,
-            err: &[1],
-            ..FAULTLESS
-        },
-        Row {
-            words: RUN_WITH_CERTIFICATE,
-            shelf: &[2],
-            put: "A\n",
-            ..FAULTLESS
-        },
-        Row {
-            words: REPLAY_WITH_TRACE,
-            shelf: &[3],
-            put: "A\n",
-            ..FAULTLESS
-        },
-        Row {
-            words: REPLAY_WITH_TRACE,
-            err: &[1],
-            put: "A\n",
-            ..FAULTLESS
-        },
-        Row {
-            words: CHECK,
-            shelf: &[1],
-            ..FAULTLESS
-        },
-        Row {
-            words: CHECK,
-            shelf: &[2],
-            ..FAULTLESS
-        },
-        Row {
-            words: CHECK,
-            err: &[1],
-            ..FAULTLESS
-        },
-        Row {
-            words: &["run"],
-            err: &[1],
-            ..FAULTLESS
-        },
+const BEFORE: &[u8] = b"before";
+
+/// The number of the call of a device that fails, if it is of this device.
+fn planned(failing: Failing, device: Device) -> [u32; 1] {
+    if failing.device == device {
+        [u32::try_from(failing.call).unwrap_or(0)]
+    } else {
+        [0]
+    }
+}
+
+/// What is left of a command of which a call fails. Each put takes a byte.
+fn what_is_left<R: Threads + Wait + Sync>(
+    rt: &R,
+    alloc: Global,
+    words: &[&str],
+    failing: Failing,
+) -> Result<Left, Fail> {
+    let names = [
+        String::from_str(alloc, "a")?,
+        String::from_str(alloc, "t")?,
+        String::from_str(alloc, "b")?,
+        String::from_str(alloc, "d")?,
+        String::from_str(alloc, "c")?,
+        String::from_str(alloc, "f")?,
+        String::from_str(alloc, "w")?,
+        String::from_str(alloc, "x")?,
     ];
-    for row in rows {
-        let names = strings(rt.alloc(), &["a", "t"])?;
-        let contents = [
-            Vec::from_slice(rt.alloc(), &HELLO)?,
-            Vec::from_slice(rt.alloc(), &TRACE)?,
-        ];
-        assert!(rt; names.len() == 2);
-        let mut shelf = MemShelf::make(rt.alloc(), &names, &contents, row.shelf)?;
-        let mut out = MemSink::make(rt.alloc(), 256, 1, row.out)?;
-        let mut err = MemSink::make(rt.alloc(), 256, 1024, row.err)?;
-        let words = strings(rt.alloc(), row.words)?;
-        let status = tool(
-            &rt,
-            rt.alloc(),
-            &words,
-            &mut shelf,
-            &mut out,
-            &mut err,
-            &OpenGate::new(),
-        );
-        assert_eq!(rt; status.number(), 4, "{words:?}");
-        assert_eq!(rt; out.taken(), row.put.as_bytes(), "{words:?}");
-        assert_eq!(rt; err.taken(), b"".as_slice(), "{words:?}");
-    }
-    Ok(())
+    let contents = [
+        Vec::from_slice(alloc, &HELLO)?,
+        Vec::from_slice(alloc, &TRACE)?,
+        Vec::from_slice(alloc, &BARE_TRACE)?,
+        changed(alloc, &TRACE, 23, 0)?,
+        Vec::from_slice(alloc, &CERTIFICATE)?,
+        changed(alloc, &CERTIFICATE, 11, 8)?,
+        Vec::from_slice(alloc, BEFORE)?,
+        Vec::from_slice(alloc, BEFORE)?,
+    ];
+    let calls = planned(failing, Device::Shelf);
+    let mut shelf = MemShelf::make(alloc, &names, &contents, &calls)?;
+    let mut out = MemSink::make(alloc, 256, 1, &planned(failing, Device::Out))?;
+    let mut err = MemSink::make(alloc, 512, 1, &planned(failing, Device::Err))?;
+    let words = strings(alloc, words)?;
+    let gate = OpenGate::new();
+    let status = tool(rt, alloc, &words, &mut shelf, &mut out, &mut err, &gate);
+    Ok(Left {
+        status: status.number(),
+        out: Vec::from_slice(alloc, out.taken())?,
+        err: Vec::from_slice(alloc, err.taken())?,
+        trace: Vec::from_slice(alloc, shelf.contents("w"))?,
+        certificate: Vec::from_slice(alloc, shelf.contents("x"))?,
+    })
 }
 
-// The trace is written behind the output: a run whose output failed leaves the file as it was.
+/// How much of a command is done: its status, and how many bytes for out, files and bytes for err.
+#[derive(Clone, Copy)]
+struct Done {
+    status: u8,
+    out: usize,
+    writes: usize,
+    err: usize,
+}
+
+impl Command {
+    fn err_len(&self) -> usize {
+        let mut len: usize = 0;
+        for text in self.err {
+            len = len.saturating_add(text.len());
+        }
+        len
+    }
+
+    /// How many calls of a device it makes.
+    fn calls(&self, device: Device) -> usize {
+        match device {
+            Device::Shelf => self.reads.saturating_add(self.writes.len()),
+            Device::Out => self.out.len(),
+            Device::Err => self.err_len(),
+        }
+    }
+
+    /// What is done where a call fails: all that stands before it, and nothing behind it. Where it makes no such call, all
+    /// is done.
+    fn done(&self, failing: Failing) -> Done {
+        let all = Done {
+            status: self.status,
+            out: self.out.len(),
+            writes: self.writes.len(),
+            err: self.err_len(),
+        };
+        let before = failing.call.saturating_sub(1);
+        if failing.call == 0 || failing.call > self.calls(failing.device) {
+            return all;
+        }
+        match failing.device {
+            Device::Shelf if before < self.reads => Done {
+                status: 4,
+                out: 0,
+                writes: 0,
+                err: 0,
+            },
+            Device::Shelf => Done {
+                status: 4,
+                writes: before.saturating_sub(self.reads),
+                err: 0,
+                ..all
+            },
+            Device::Out => Done {
+                status: 4,
+                out: before,
+                writes: 0,
+                err: 0,
+            },
+            Device::Err => Done {
+                status: 4,
+                err: before,
+                ..all
+            },
+        }
+    }
+
+    /// The contents of a file that may be written, after the first so many writes.
+    fn contents(&self, name: &str, writes: usize) -> &[u8] {
+        for (index, (written, bytes)) in self.writes.iter().enumerate() {
+            if index < writes && *written == name {
+                return bytes;
+            }
+        }
+        BEFORE
+    }
+
+    /// Whether this is left of it.
+    fn leaves(&self, alloc: Global, left: &Left, done: Done) -> Result<bool, Fail> {
+        let mut err = Vec::new(alloc);
+        for text in self.err {
+            err.extend_from_slice(text.as_bytes())?;
+        }
+        let is_put = left.out.as_slice() == first(self.out.as_bytes(), done.out)
+            && left.err.as_slice() == first(&err, done.err);
+        let is_written = left.trace.as_slice() == self.contents("w", done.writes)
+            && left.certificate.as_slice() == self.contents("x", done.writes);
+        Ok(left.status == done.status && is_put && is_written)
+    }
+}
+
+/// The first bytes of some.
+fn first(bytes: &[u8], count: usize) -> &[u8] {
+    bytes.get(..count).unwrap_or(bytes)
+}
+
+// Call 0 and the one behind the last are never made: there nothing fails.
 #[test]
-fn a_failed_output_leaves_the_trace_unwritten(rt: HostRuntime) -> Result<(), Fail> {
-    let rows: [(&[u32], &[u8]); 2] = [(&[1], b"old"), (&[], &TRACE)];
-    for (failing, wanted) in rows {
-        let names = strings(rt.alloc(), &["a", "t"])?;
-        let contents = [
-            Vec::from_slice(rt.alloc(), &HELLO)?,
-            Vec::from_slice(rt.alloc(), b"old")?,
-        ];
-        assert!(rt; names.len() == 2);
-        let mut shelf = MemShelf::make(rt.alloc(), &names, &contents, &[])?;
-        let mut out = MemSink::make(rt.alloc(), 256, 256, failing)?;
-        let mut err = MemSink::make(rt.alloc(), 256, 256, &[1])?;
-        let words = strings(rt.alloc(), RUN_WITH_TRACE)?;
-        let status = tool(
-            &rt,
-            rt.alloc(),
-            &words,
-            &mut shelf,
-            &mut out,
-            &mut err,
-            &OpenGate::new(),
-        );
-        assert_eq!(rt; status.number(), 4);
-        assert_eq!(rt; shelf.contents("t"), wanted);
-        assert_eq!(rt; err.taken(), b"".as_slice());
+fn what_stands_before_a_fault_is_done_and_nothing_behind_it(rt: HostRuntime) -> Result<(), Fail> {
+    for command in COMMANDS {
+        for device in [Device::Shelf, Device::Out, Device::Err] {
+            for call in 0..command.calls(device).saturating_add(2) {
+                let failing = Failing { device, call };
+                let left = what_is_left(&rt, rt.alloc(), command.words, failing)?;
+                let is_right = command.leaves(rt.alloc(), &left, command.done(failing))?;
+                assert!(rt; is_right, "{:?} of {:?}", failing, command.words);
+            }
+        }
     }
     Ok(())
 }
 
-// An image is written before its length is told, and nothing is asked of out, which would fail. What a
-// failed write leaves is open; here it is the file as it was.
+/// Words that name a file that is not there.
+const MISSING: &[&[&str]] = &[
+    &["run", "none"],
+    &["replay", "none", "t"],
+    &["replay", "a", "none"],
+    &["check", "none", "c"],
+    &["check", "a", "none"],
+];
+
+#[test]
+fn a_file_that_is_not_there_is_a_fault(rt: HostRuntime) -> Result<(), Fail> {
+    let nothing = Failing {
+        device: Device::Shelf,
+        call: 0,
+    };
+    for words in MISSING {
+        let left = what_is_left(&rt, rt.alloc(), words, nothing)?;
+        let is_quiet = left.out.is_empty() && left.err.is_empty();
+        assert!(rt; left.status == 4 && is_quiet, "{words:?}");
+    }
+    Ok(())
+}
+
+/// Which call of `gen` fails, the status, and whether the image is written then.
+const OF_GEN: &[(Device, usize, u8, bool)] = &[
+    (Device::Shelf, 1, 4, false),
+    (Device::Out, 1, 0, true),
+    (Device::Err, 1, 4, true),
+    (Device::Err, 2, 4, true),
+    (Device::Shelf, 2, 0, true),
+];
+
+// An image is written before its length is told, and nothing is asked of out.
 #[test]
 fn an_image_is_written_before_its_length_is_told(rt: HostRuntime) -> Result<(), Fail> {
-    let rows: [(&[u32], &[u32], u8, bool); 3] = [
-        (&[1], &[], 4, false),
-        (&[], &[1], 4, true),
-        (&[], &[], 0, true),
-    ];
-    for (shelf, err, number, is_written) in rows {
-        let names = strings(rt.alloc(), &["t"])?;
-        let contents = [Vec::from_slice(rt.alloc(), b"old")?];
-        assert!(rt; names.len() == 1);
-        let mut shelf = MemShelf::make(rt.alloc(), &names, &contents, shelf)?;
-        let mut out = MemSink::make(rt.alloc(), 256, 256, &[1])?;
-        let mut err = MemSink::make(rt.alloc(), 256, 256, err)?;
-        let words = strings(rt.alloc(), GEN)?;
-        let status = tool(
-            &rt,
-            rt.alloc(),
-            &words,
-            &mut shelf,
-            &mut out,
-            &mut err,
-            &OpenGate::new(),
+    for (device, call, status, is_written) in OF_GEN {
+        let failing = Failing {
+            device: *device,
+            call: *call,
+        };
+        let left = what_is_left(&rt, rt.alloc(), &["gen", "counter", "1", "w"], failing)?;
+        let is_told = if *status == 0 {
+            left.err.starts_with(b"wrote ")
+        } else {
+            left.err.as_slice() == first(b"w", call.saturating_sub(1))
+        };
+        let is_image = left.trace.starts_with(&HELLO[..4]);
+        assert!(rt;
+            left.status == *status && left.out.is_empty() && is_told && is_image == *is_written,
+            "{failing:?}"
         );
-        assert_eq!(rt; status.number(), number);
-        assert_eq!(rt; out.taken(), b"".as_slice());
-        assert_eq!(rt; shelf.contents("t") != b"old".as_slice(), is_written);
-        assert_eq!(rt; err.taken().is_empty(), number == 4);
     }
-    Ok(())
-}
-
-// A sink that takes a byte a put takes the whole report all the same.
-#[test]
-fn short_puts_are_put_on(rt: HostRuntime) -> Result<(), Fail> {
-    let names = strings(rt.alloc(), &["a"])?;
-    let contents = [Vec::from_slice(rt.alloc(), &HELLO)?];
-    assert!(rt; names.len() == 1);
-    let mut shelf = MemShelf::make(rt.alloc(), &names, &contents, &[])?;
-    let mut out = MemSink::make(rt.alloc(), 256, 1, &[])?;
-    let mut err = MemSink::make(rt.alloc(), 256, 1, &[])?;
-    let words = strings(rt.alloc(), RUN)?;
-    let status = tool(
-        &rt,
-        rt.alloc(),
-        &words,
-        &mut shelf,
-        &mut out,
-        &mut err,
-        &OpenGate::new(),
-    );
-    assert_eq!(rt; status.number(), 0);
-    assert_eq!(rt; out.taken(), b"A\n".as_slice());
-    assert_eq!(rt; err.taken(), REPORT.as_bytes());
     Ok(())
 }

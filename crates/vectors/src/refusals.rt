@@ -1,16 +1,14 @@
 //! What is refused, each with its one line.
-use crate::support::{BARE_TRACE, Ending, HELLO, TRACE, USAGE, answer, changed, resized, strings};
-use el_io::{MemShelf, MemSink, OpenGate};
+use crate::support::{BARE_TRACE, Ending, HELLO, TRACE, USAGE, answer, changed, resized};
 use std::alloc::{AllocError, Global};
 use std::test::Fail;
-use tool::tool;
 
 /// The program refused with this line, and put nothing else.
 fn is_refused(ending: &Ending, line: &str) -> bool {
     ending.status.number() == 2 && ending.out.is_empty() && ending.err.as_slice() == line.as_bytes()
 }
 
-const OUTSIDE_THE_GRAMMAR: [&[&str]; 20] = [
+const OUTSIDE_THE_GRAMMAR: &[&[&str]] = &[
     &[],
     &["walk", "x"],
     &["run"],
@@ -43,7 +41,7 @@ fn words_outside_the_grammar_are_the_usage_line(rt: HostRuntime) -> Result<(), F
 }
 
 /// Words and the line of their refusal.
-const CONFIGURATIONS: [(&[&str], &str); 12] = [
+const CONFIGURATIONS: &[(&[&str], &str)] = &[
     (&["run", "a", "--harts", "9"], "config fault 1 Harts\n"),
     (&["run", "a", "--harts", "0"], "config fault 1 Harts\n"),
     (
@@ -76,77 +74,74 @@ fn configurations_are_judged_before_files(rt: HostRuntime) -> Result<(), Fail> {
     Ok(())
 }
 
-// A configuration that is refused asks for no file: the shelf, on which each read fails, is not read.
-#[test]
-fn a_refused_configuration_reads_no_file(rt: HostRuntime) -> Result<(), Fail> {
-    let mut shelf = MemShelf::make(rt.alloc(), &[], &[], &[1])?;
-    let mut out = MemSink::make(rt.alloc(), 256, 256, &[])?;
-    let mut err = MemSink::make(rt.alloc(), 256, 256, &[])?;
-    let words = strings(rt.alloc(), &["run", "a", "--harts", "9"])?;
-    let status = tool(
-        &rt,
-        rt.alloc(),
-        &words,
-        &mut shelf,
-        &mut out,
-        &mut err,
-        &OpenGate::new(),
-    );
-    assert_eq!(rt; status.number(), 2);
-    assert_eq!(rt; err.taken(), b"config fault 1 Harts\n".as_slice());
-    Ok(())
-}
+/// The lengths that the image is cut to, up to and with the second, and the line of the refusal. Of the first the place is
+/// the length.
+const CUT_IMAGES: &[(usize, usize, &str)] = &[
+    (52, 83, "image fault 9 Table at byte 28\n"),
+    (84, 121, "image fault 11 Segment at byte 56\n"),
+];
 
 #[test]
 fn cut_images_fault_where_they_end_or_point_outside(rt: HostRuntime) -> Result<(), Fail> {
-    for length in 0..122usize {
+    for length in 0..52usize {
         let image = resized(rt.alloc(), &HELLO, length, 0)?;
-        let line = match length {
-            0..=51 => format!(in rt.alloc(); "image fault 1 Short at byte {length}\n")?,
-            52..=83 => String::from_str(rt.alloc(), "image fault 9 Table at byte 28\n")?,
-            _ => String::from_str(rt.alloc(), "image fault 11 Segment at byte 56\n")?,
-        };
+        let line = format!(in rt.alloc(); "image fault 1 Short at byte {length}\n")?;
         let ending = answer(&rt, rt.alloc(), &["run", "a"], &image, &[])?;
         assert!(rt; is_refused(&ending, line.as_str()), "cut to {length}");
+    }
+    for (least, most, line) in CUT_IMAGES {
+        for length in *least..=*most {
+            let image = resized(rt.alloc(), &HELLO, length, 0)?;
+            let ending = answer(&rt, rt.alloc(), &["run", "a"], &image, &[])?;
+            assert!(rt; is_refused(&ending, line), "cut to {length}");
+        }
     }
     Ok(())
 }
 
-/// The worked image with these bytes from a place on.
-fn patched(alloc: Global, place: usize, bytes: &[u8]) -> Result<Vec<u8>, AllocError> {
+/// Places of the worked image, the bytes from there on, and the line of its refusal.
+const CHANGED_IMAGES: &[(&[(usize, &[u8])], &str)] = &[
+    (&[(44, &[0xff, 0xff])], "image fault 9 Table at byte 44\n"),
+    (
+        &[(28, &[0xff, 0xff, 0xff, 0xff])],
+        "image fault 9 Table at byte 28\n",
+    ),
+    (&[(52, &[0x03])], "image fault 10 Dynamic at byte 52\n"),
+    (&[(52, &[0x00])], "image fault 16 Empty at byte 44\n"),
+    (
+        &[
+            (60, &[0x00, 0xff, 0xff, 0xff]),
+            (72, &[0x00, 0x02, 0x00, 0x00]),
+        ],
+        "image fault 14 TooHigh at byte 28\n",
+    ),
+    (&[(72, &[0x79])], "image fault 11 Segment at byte 68\n"),
+    (&[(76, &[0x04])], "image fault 15 Entry at byte 24\n"),
+    (&[(24, &[0x56])], "image fault 15 Entry at byte 24\n"),
+    (&[(24, &[0x78])], "image fault 15 Entry at byte 24\n"),
+    (&[(36, &[0x01])], "image fault 8 Flags at byte 36\n"),
+    (&[(0, &[0x7e])], "image fault 2 Magic at byte 0\n"),
+];
+
+/// The worked image with these bytes from these places on.
+fn patched(alloc: Global, changes: &[(usize, &[u8])]) -> Result<Vec<u8>, AllocError> {
     let mut image = HELLO.to_vec(alloc)?;
-    for (index, value) in bytes.iter().enumerate() {
-        if let Some(byte) = image.get_mut(place.saturating_add(index)) {
-            *byte = *value;
+    for (place, bytes) in changes {
+        for (index, value) in bytes.iter().enumerate() {
+            if let Some(byte) = image.get_mut(place.saturating_add(index)) {
+                *byte = *value;
+            }
         }
     }
     Ok(image)
 }
 
-/// A place of the worked image, the bytes from there on, and the line of its refusal.
-const CHANGED_IMAGES: [(usize, &[u8], &str); 10] = [
-    (36, &[0x01], "image fault 8 Flags at byte 36\n"),
-    (44, &[0xff, 0xff], "image fault 9 Table at byte 44\n"),
-    (
-        28,
-        &[0xff, 0xff, 0xff, 0xff],
-        "image fault 9 Table at byte 28\n",
-    ),
-    (52, &[0x03], "image fault 10 Dynamic at byte 52\n"),
-    (52, &[0x00], "image fault 16 Empty at byte 44\n"),
-    (72, &[0x79], "image fault 11 Segment at byte 68\n"),
-    (76, &[0x04], "image fault 15 Entry at byte 24\n"),
-    (24, &[0x56], "image fault 15 Entry at byte 24\n"),
-    (24, &[0x78], "image fault 15 Entry at byte 24\n"),
-    (0, &[0x7e], "image fault 2 Magic at byte 0\n"),
-];
-
 #[test]
 fn changed_images_have_their_first_fault(rt: HostRuntime) -> Result<(), Fail> {
-    for (place, bytes, line) in CHANGED_IMAGES {
-        let image = patched(rt.alloc(), place, bytes)?;
+    for (changes, line) in CHANGED_IMAGES {
+        let image = patched(rt.alloc(), changes)?;
         let ending = answer(&rt, rt.alloc(), &["run", "a"], &image, &[])?;
-        assert!(rt; is_refused(&ending, line), "{place}: {bytes:?}");
+        assert!(rt; is_refused(&ending, line), "{line}");
     }
     Ok(())
 }
@@ -156,20 +151,36 @@ fn zeros(alloc: Global, count: usize) -> Result<Vec<u8>, AllocError> {
     vec![in alloc; 0; count]
 }
 
+/// Words, the lengths of the image and of the trace, and the line of the refusal.
+const TOO_BIG: &[(&[&str], usize, usize, &str)] = &[
+    (
+        &["run", "a"],
+        33_554_433,
+        0,
+        "file too big: limit 33554432\n",
+    ),
+    (
+        &["replay", "a", "t"],
+        0,
+        167_772_183,
+        "file too big: limit 167772182\n",
+    ),
+    (
+        &["check", "a", "t"],
+        0,
+        118_490_211,
+        "file too big: limit 118490210\n",
+    ),
+];
+
 #[test]
 fn files_over_their_limits_are_refused(rt: HostRuntime) -> Result<(), Fail> {
-    let image = zeros(rt.alloc(), 33_554_433)?;
-    let ending = answer(&rt, rt.alloc(), &["run", "a"], &image, &[])?;
-    assert!(rt;
-        is_refused(&ending, "file too big: limit 33554432\n"),
-        "an image"
-    );
-    let trace = zeros(rt.alloc(), 167_772_183)?;
-    let ending = answer(&rt, rt.alloc(), &["replay", "a", "t"], &HELLO, &trace)?;
-    assert!(rt;
-        is_refused(&ending, "file too big: limit 167772182\n"),
-        "a trace"
-    );
+    for (words, image, trace, line) in TOO_BIG {
+        let image = zeros(rt.alloc(), *image)?;
+        let trace = zeros(rt.alloc(), *trace)?;
+        let ending = answer(&rt, rt.alloc(), words, &image, &trace)?;
+        assert!(rt; is_refused(&ending, line), "{words:?}");
+    }
     Ok(())
 }
 
@@ -205,13 +216,15 @@ fn changed_traces_have_their_first_fault(rt: HostRuntime) -> Result<(), Fail> {
     Ok(())
 }
 
+/// A trace, and the line of its refusal where a byte stands behind it.
+const LONGER_TRACES: &[(&[u8], &str)] = &[
+    (&BARE_TRACE, "trace fault 6 Tail at byte 59\n"),
+    (&TRACE, "trace fault 6 Tail at byte 116\n"),
+];
+
 #[test]
 fn nothing_stands_behind_the_last_event(rt: HostRuntime) -> Result<(), Fail> {
-    let rows: [(&[u8], &str); 2] = [
-        (&BARE_TRACE, "trace fault 6 Tail at byte 59\n"),
-        (&TRACE, "trace fault 6 Tail at byte 116\n"),
-    ];
-    for (trace, line) in rows {
+    for (trace, line) in LONGER_TRACES {
         let longer = resized(rt.alloc(), trace, trace.len(), 1)?;
         let ending = answer(&rt, rt.alloc(), &["replay", "a", "t"], &HELLO, &longer)?;
         assert!(rt; is_refused(&ending, line), "one byte more");
@@ -219,11 +232,17 @@ fn nothing_stands_behind_the_last_event(rt: HostRuntime) -> Result<(), Fail> {
     Ok(())
 }
 
+/// A trace that is replayed on an empty image, and the line of the refusal.
+const ON_AN_EMPTY_IMAGE: &[(&[u8], &str)] = &[
+    (&[], "trace fault 1 Short at byte 0\n"),
+    (&TRACE, "image fault 1 Short at byte 0\n"),
+];
+
 #[test]
 fn a_trace_is_judged_before_its_image(rt: HostRuntime) -> Result<(), Fail> {
-    let ending = answer(&rt, rt.alloc(), &["replay", "a", "t"], &[], &[])?;
-    assert!(rt; is_refused(&ending, "trace fault 1 Short at byte 0\n"));
-    let ending = answer(&rt, rt.alloc(), &["replay", "a", "t"], &[], &TRACE)?;
-    assert!(rt; is_refused(&ending, "image fault 1 Short at byte 0\n"));
+    for (trace, line) in ON_AN_EMPTY_IMAGE {
+        let ending = answer(&rt, rt.alloc(), &["replay", "a", "t"], &[], trace)?;
+        assert!(rt; is_refused(&ending, line), "{line}");
+    }
     Ok(())
 }

@@ -1,6 +1,6 @@
 //! Runs that end by themselves, or at their last step.
 use crate::support::{
-    HELLO, MISSED_ONE, REPORT, TOUCHED_NOTHING, answer, changed, image_of, report_of,
+    Ending, HELLO, MISSED_ONE, REPORT, TOUCHED_NOTHING, answer, changed, image_of, report_of,
 };
 use std::test::Fail;
 
@@ -27,8 +27,15 @@ const LOADS_MISALIGNED: [u32; 1] = [0x0020_2503];
 // jal x0, 0: for ever.
 const LOOPS: [u32; 1] = [0x0000_006f];
 
+/// The program ended with this status and put these bytes.
+fn ended(ending: &Ending, status: u8, out: &[u8], err: &str) -> bool {
+    ending.status.number() == status
+        && ending.out.as_slice() == out
+        && ending.err.as_slice() == err.as_bytes()
+}
+
 /// Words, the status, what is put to out, and the lines of the report.
-const WORKED_IMAGE: [(&[&str], u8, &str, &str, &[(u32, &str, &str)], &str); 11] = [
+const WORKED_IMAGE: &[(&[&str], u8, &str, &str, &[(u32, &str, &str)], &str)] = &[
     (
         &["run", "a"],
         0,
@@ -129,9 +136,7 @@ fn the_worked_image_prints_and_exits(rt: HostRuntime) -> Result<(), Fail> {
     for (words, number, out, first, harts, last) in WORKED_IMAGE {
         let err = report_of(rt.alloc(), first, harts, last)?;
         let ending = answer(&rt, rt.alloc(), words, &HELLO, &[])?;
-        assert_eq!(rt; ending.status.number(), number, "{words:?}");
-        assert_eq!(rt; ending.out.as_slice(), out.as_bytes(), "{words:?}");
-        assert_eq!(rt; ending.err.as_slice(), err.as_bytes(), "{words:?}");
+        assert!(rt; ended(&ending, *number, out.as_bytes(), &err), "{words:?}");
     }
     Ok(())
 }
@@ -140,14 +145,12 @@ fn the_worked_image_prints_and_exits(rt: HostRuntime) -> Result<(), Fail> {
 fn total_store_order_is_no_fault(rt: HostRuntime) -> Result<(), Fail> {
     let image = changed(rt.alloc(), &HELLO, 36, 0x10)?;
     let ending = answer(&rt, rt.alloc(), &["run", "a"], &image, &[])?;
-    assert_eq!(rt; ending.status.number(), 0);
-    assert_eq!(rt; ending.out.as_slice(), b"A\n".as_slice());
-    assert_eq!(rt; ending.err.as_slice(), REPORT.as_bytes());
+    assert!(rt; ended(&ending, 0, b"A\n", REPORT));
     Ok(())
 }
 
 /// A program, the number of harts, the status, what is put to out, and the lines of the report.
-const PROGRAMS: [(&[u32], &str, u8, &[u8], &str, &[(u32, &str, &str)], &str); 4] = [
+const PROGRAMS: &[(&[u32], &str, u8, &[u8], &str, &[(u32, &str, &str)], &str)] = &[
     (
         &EXITS_WITH_ITS_NUMBER,
         "1",
@@ -207,45 +210,38 @@ fn programs_end_as_their_harts_do(rt: HostRuntime) -> Result<(), Fail> {
             &image,
             &[],
         )?;
-        assert_eq!(rt; ending.status.number(), number, "{code:?} on {harts}");
-        assert_eq!(rt; ending.out.as_slice(), out, "{code:?} on {harts}");
-        assert_eq!(rt;
-            ending.err.as_slice(),
-            err.as_bytes(),
-            "{code:?} on {harts}"
-        );
+        assert!(rt; ended(&ending, *number, out, &err), "{code:?} on {harts}");
     }
     Ok(())
 }
 
-// Without words for it, a run has 4,000,000 steps.
+/// Words, and the lines of the report of a program that never ends. Without words for it, a run has 4,000,000 steps.
+const ENDLESS: &[(&[&str], &str, &[(u32, &str, &str)], &str)] = &[
+    (
+        &["run", "a"],
+        "elide tlr harts 1 events 4000000",
+        &[(1000000, TOUCHED_NOTHING, "running")],
+        "serial 1000000 out 0",
+    ),
+    (
+        &["run", "a", "--harts", "3", "--steps", "400000"],
+        "elide tlr harts 3 events 400000",
+        &[
+            (33334, TOUCHED_NOTHING, "running"),
+            (33333, TOUCHED_NOTHING, "running"),
+            (33333, TOUCHED_NOTHING, "running"),
+        ],
+        "serial 100000 out 0",
+    ),
+];
+
 #[test]
 fn a_program_that_never_ends_uses_up_its_steps(rt: HostRuntime) -> Result<(), Fail> {
-    let rows: [(&[&str], &str, &[(u32, &str, &str)], &str); 2] = [
-        (
-            &["run", "a"],
-            "elide tlr harts 1 events 4000000",
-            &[(1000000, TOUCHED_NOTHING, "running")],
-            "serial 1000000 out 0",
-        ),
-        (
-            &["run", "a", "--harts", "3", "--steps", "400000"],
-            "elide tlr harts 3 events 400000",
-            &[
-                (33334, TOUCHED_NOTHING, "running"),
-                (33333, TOUCHED_NOTHING, "running"),
-                (33333, TOUCHED_NOTHING, "running"),
-            ],
-            "serial 100000 out 0",
-        ),
-    ];
     let image = image_of(rt.alloc(), &LOOPS)?;
-    for (words, first, stands, last) in rows {
+    for (words, first, stands, last) in ENDLESS {
         let err = report_of(rt.alloc(), first, stands, last)?;
         let ending = answer(&rt, rt.alloc(), words, &image, &[])?;
-        assert_eq!(rt; ending.status.number(), 3, "{words:?}");
-        assert_eq!(rt; ending.out.as_slice(), b"".as_slice(), "{words:?}");
-        assert_eq!(rt; ending.err.as_slice(), err.as_bytes(), "{words:?}");
+        assert!(rt; ended(&ending, 3, b"", &err), "{words:?}");
     }
     Ok(())
 }

@@ -1,5 +1,7 @@
 //! Traces that are written, and played again.
-use crate::support::{BARE_TRACE, HELLO, MISSED_ONE, REPORT, TRACE, answer, changed, report_of};
+use crate::support::{
+    BARE_TRACE, HELLO, MISSED_ONE, REPORT, TIMES, TRACE, answer, changed, report_of,
+};
 use std::test::Fail;
 
 #[test]
@@ -128,9 +130,6 @@ fn a_replay_says_where_another_outcome_came(rt: HostRuntime) -> Result<(), Fail>
     }
     Ok(())
 }
-
-/// What a run of the worked image puts to err behind its report.
-const TIMES: &str = "time 0 units 34 lost 0\ntime total 34\n";
 
 #[test]
 fn times_stand_behind_the_report(rt: HostRuntime) -> Result<(), Fail> {

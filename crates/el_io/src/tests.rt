@@ -116,6 +116,30 @@ fn folder_shelf_reads_what_it_wrote(rt: HostRuntime) -> Result<(), Fail> {
     Ok(())
 }
 
+/// What is no file of few bytes, a limit, and what reading it answers: a device without end, one without bytes, a folder,
+/// and what is not there.
+const UNUSUAL: &[(&str, u32, Result<usize, ShelfFault>)] = &[
+    ("/dev/zero", 0, Err(ShelfFault::TooBig)),
+    ("/dev/zero", 100_000, Err(ShelfFault::TooBig)),
+    ("/dev/null", 0, Ok(0)),
+    ("/dev", 100_000, Err(ShelfFault::Failed)),
+    ("el_io_no_such_file", 100_000, Err(ShelfFault::Failed)),
+    ("el_io_no_such_folder/file", 0, Err(ShelfFault::Failed)),
+    ("", 0, Err(ShelfFault::Failed)),
+];
+
+// Of a device without end it reads one byte more than the limit, and then it stops.
+#[test]
+fn folder_shelf_ends_with_every_name(rt: HostRuntime) -> Result<(), Fail> {
+    let mut shelf = FolderShelf::new(&rt, rt.alloc());
+    for (name, limit, answer) in UNUSUAL {
+        let read = shelf.read(rt.alloc(), name, *limit);
+        let length = read.map(|bytes| bytes.len());
+        assert_eq!(rt; length, *answer, "{name} to {limit}");
+    }
+    Ok(())
+}
+
 #[test]
 fn stream_sink_writes_a_file(rt: HostRuntime) -> Result<(), Fail> {
     let name = "el_io_stream_sink.tmp";

@@ -91,7 +91,8 @@ def ending(register, value):
     return {"harts": [{"pc": None, "registers": registers, "cache": None}]}
 
 
-def row(name, mode, harts, words, events, lines=16, sets=16, ways=4, long=2000, length=64 * 18, end=None):
+def row(name, mode, harts, words, events, lines=16, sets=16, ways=4, long=2000, length=64 * 18, end=None,
+        ready=None):
     run = {
         "config": {"harts": harts, "mode": mode, "sets": sets, "ways": ways, "lines": lines, "long": long},
         "memory": {"base": BASE, "length": length},
@@ -100,6 +101,8 @@ def row(name, mode, harts, words, events, lines=16, sets=16, ways=4, long=2000, 
     }
     if end is not None:
         run["end"] = end
+    if ready is not None:
+        run["ready"] = ready
     text = json.dumps(run, indent=1)
     (DATA / f"row-{name}.json").write_text(text + "\n")
 
@@ -201,6 +204,7 @@ def chain_of_four(name, commits):
     events += fetch(1, FIRST, "Write") + step(1, "Buffered")
     for hart in (2, 3, 0):
         events += step(hart, "Missed", FIRST, "Write")
+    ready = [[len(events), ["Order", 0]]]
     for hart in (2, 3, 0):
         events += [["Order", hart, ["Ordered", []]]]
     for hart in (0, 3, 3, 2, 2, 2, 1, 1):
@@ -212,7 +216,7 @@ def chain_of_four(name, commits):
         ["Serve", 0, ["Served", []]],
     ]
     events += [["Deliver", 1, ["Idle"]]]
-    row(name, "Tlr", 4, words, events)
+    row(name, "Tlr", 4, words, events, ready=ready)
 
 
 def four_losses():

@@ -13,6 +13,9 @@ pub enum Difference {
     /// Something else came of the event at this place, counted from 0.
     #[error("event {place} differs")]
     Event { place: usize },
+    /// Another event than the told one is the first that is progress, before the event at this place.
+    #[error("another event is ready before event {place}")]
+    Ready { place: usize },
     /// The hart of this number differs after the last event.
     #[error("hart {number} differs at the end")]
     Hart { number: usize },

@@ -3,7 +3,7 @@
 use crate::agreement::Agreement;
 use crate::difference::Difference;
 use crate::ending::end_agrees;
-use crate::field::{element, list, member};
+use crate::field::{element, list, member, word};
 use crate::image::file;
 use crate::outcome::told;
 use crate::worked::{config, event};
@@ -18,6 +18,7 @@ pub fn agree(alloc: Global, text: &str) -> Result<Agreement, Difference> {
     let events = list(member(&run, "events")?)?;
     let mut machine = machine_of(alloc, &run, events.len())?;
     for (place, told_event) in events.iter().enumerate() {
+        ready_agrees(&machine, &run, place)?;
         make(alloc, &mut machine, told_event, place)?;
     }
     match run.get("end") {
@@ -44,6 +45,21 @@ fn machine_of(alloc: Global, run: &Value, events: usize) -> Result<Machine, Diff
         return Err(Difference::NoMachine);
     }
     Machine::make(alloc, image, config).map_err(|_| Difference::NoMachine)
+}
+
+/// Before the event at a place, the first event that is progress is the one that the run tells for that place, where it
+/// tells one.
+fn ready_agrees(machine: &Machine, run: &Value, place: usize) -> Result<(), Difference> {
+    let Some(told) = run.get("ready") else {
+        return Ok(());
+    };
+    for row in list(told)? {
+        let is_here = word(element(row, 0)?)? as usize == place;
+        if is_here && machine.ready() != Some(event(element(row, 1)?)?) {
+            return Err(Difference::Ready { place });
+        }
+    }
+    Ok(())
 }
 
 /// Makes an event, of which the run tells what came of it.

@@ -2,7 +2,7 @@
 # Runs the example images on 1, 2 and 8 harts and compares what they print, and the images that the program
 # itself writes on 1, 2, 4 and 8. Those over locks have a script of their own, which also compares reports.
 # Where a compiler for RISC-V is there, it builds them anew and runs those too. Then it gives the program words
-# that are no UTF-8, which no test can. The last line counts the runs, but for those over locks.
+# that are no UTF-8, and devices and pipes for files, which no test can. The last line counts the runs, but for those over locks.
 set -u
 cd "$(dirname "$0")/.." || exit 2
 passed=0
@@ -147,6 +147,28 @@ refuses() {
     fi
 }
 
+# fails WORD..: a file that these words name cannot be read: status 4, and nothing is put
+fails() {
+    if [ -z "$(./elide "$@" 2>&1)" ] && { ./elide "$@" > /dev/null 2>&1; [ $? -eq 4 ]; }; then
+        passed=$((passed + 1))
+    else
+        echo "examples: no fault of a device: $*"
+        failed=$((failed + 1))
+    fi
+}
+
+# piped: an image from a pipe, which comes in pieces, is read to its end
+piped() {
+    local image=examples/table/table.elf out
+    out=$({ head -c 100 $image; sleep 0.1; tail -c +101 $image; } | ./elide run /dev/stdin 2> /dev/null)
+    if [ "$out" = "$(cat examples/table/expected)" ]; then
+        passed=$((passed + 1))
+    else
+        echo "examples: an image from a pipe went wrong"
+        failed=$((failed + 1))
+    fi
+}
+
 # over_locks [FOLDER]: the programs over locks, whose script counts its runs itself
 over_locks() {
     examples/locks/check.sh "$@" || failed=$((failed + 1))
@@ -191,5 +213,12 @@ draws locks 3 000000c8 00000190 00000320 00000640
 draws overflow 3 00000190 00000320 00000640 00000c80
 draws pairs 1 00000064 000000c8 00000190 00000320
 refuses "usage: elide run IMAGE [options], elide replay IMAGE TRACE, elide gen KIND NUMBER FILE" run $'\xff'
+refuses "file too big: limit 33554432" run /dev/zero
+refuses "file too big: limit 167772182" replay crates/elide/data/hello.elf /dev/zero
+fails run examples
+fails run examples/none.elf
+fails replay crates/elide/data/hello.elf examples
+fails gen counter 1 examples/none/image.elf
+piped
 echo "$passed passed, $failed failed"
 [ "$failed" -eq 0 ]

@@ -17,6 +17,9 @@ use std::alloc::{AllocFailed, Global};
 use std::snapshot::Snapshot;
 use std::sync::Wait;
 
+/// How often a pass looks for a lock in which no other has a ticket, before it draws one behind others.
+const PATIENCE: u32 = 32;
+
 impl<M: Chronicled + Drop> BusLock<M> {
     /// A lock round a value, and its only pass. It takes all memory that the lock ever needs. The error is
     /// want of memory, with the value.
@@ -53,7 +56,11 @@ impl<M: Chronicled + Drop> BusLock<M> {
         Held::of(self, seat, value, ticket)
     }
 
-    /// Draws the next ticket.
+    /// Draws the next ticket: at once where no other pass has one, and else after some looks.
+    ///
+    /// A ticket that is drawn behind others holds up all behind it until its thread runs. So a pass waits
+    /// without one as long as others have theirs, but no longer than its patience, that none waits for good
+    /// while the others take turns.
     fn draw<R: Wait>(&self, rt: &R, seat: &mut Seat<Option<Box<M>>, View>) -> u64
         requires seat { seat.old.table_id ≡ lock_id self.now }
         requires rests { (pass : Account) × (seat.old.me ≡ (at_rest pass, [])) }
@@ -62,9 +69,11 @@ impl<M: Chronicled + Drop> BusLock<M> {
         ensures not_the_last { result + 1 < 2 ^ 64 }
     {
         let backoff = Backoff::new();
+        let mut looks: u32 = 0;
         for _ in rt.forever() {
             let next = self.table.shared.peek(NEXT);
-            if next < u64::MAX {
+            let is_free = self.table.shared.peek(SERVING) == next;
+            if next < u64::MAX && (is_free || looks >= PATIENCE) {
                 let found = self
                     .table
                     .shared
@@ -73,6 +82,7 @@ impl<M: Chronicled + Drop> BusLock<M> {
                     return next;
                 }
             }
+            looks = looks.saturating_add(1);
             backoff.snooze();
         }
         unreachable!()

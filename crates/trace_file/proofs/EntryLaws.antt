@@ -25,13 +25,13 @@ use Rattle.el_base.specs.declared.outcomes.Cause.TheVariants.{Room, Lines, Long,
 use Rattle.el_base.proofs.HartIds.{hart_id-number, hart_id-of_hart}
 use Rattle.trace_file.specs.FaultKinds.{fault_of}
 use Rattle.trace_file.specs.declared.fault.FaultKind.TheVariants.{Tail}
-use Rattle.trace_file.specs.Faults.{entries_fault, entry_fault, fields_fault}
+use Rattle.trace_file.specs.Faults.{entries_fault, entry_fault, field_fault, fields_fault}
 use Rattle.trace_file.specs.Fields.{Field, are_nibbles, byte_field, entry_width, event_field, fields_of, freed_field, is_blocking, is_cause, is_code, is_event, is_line, losers_field, number_field, widths}
 use Rattle.trace_file.specs.Outcomes.{IsRecordable, blocking_byte, cause_code, freed_bytes, losers_bytes, most_committed, most_let_go, outcome_spelling, why_code}
 use Rattle.trace_file.specs.Reading.{entries_in, entry_in, event_in, kind_at, outcome_in}
 use Rattle.trace_file.specs.Spelling.{entry_bytes, event_byte, outcomes, recorded_bytes}
 use Rattle.trace_file.proofs.EventBytes.{kind_again, kind_back}
-use Rattle.trace_file.proofs.FieldRows.{Fill, filled, first_known, joined}
+use Rattle.trace_file.proofs.FieldRows.{Fill, both_none, field_passes, filled, first_known, joined}
 use Rattle.trace_file.proofs.Heads.{IsBytes, bytes_behind, cell, if_none, or_none}
 use Rattle.trace_file.proofs.Nibbles.{freed_pass, losers_pass}
 use Rattle.trace_file.proofs.OutcomeLaws.{number_again, outcome_back, outcome_spelled, why_small}
@@ -123,6 +123,24 @@ entry_spelled harts place bytes few fits none =
       hart = event.1;
       outcome = outcome.1;
     }
+
+-- an entry whose outcome has no fields is its event and its code
+pub bare_passes : (harts place : ℕ) (bytes : List ℕ) → 2 ≤ length bytes → is_event harts (get_or bytes 0 0) ≡ true →
+    get_or bytes 1 0 ≤ 14 → fields_of harts (get_or bytes 1 0) ≡ [] → entry_fault harts place bytes ≡ None
+unfolding entry_fault
+bare_passes harts place bytes whole event code none =
+    let second : get_or (drop 1 bytes) 0 0 ≡ get_or bytes 1 0 = get_or-drop 1 bytes 0 0 in
+    let known : is_code (get_or (drop 1 bytes) 0 0) ≡ true = rw second (grind (arith, nat_tests)) in
+    let long : 1 ≤ length (drop 1 bytes) = omega (arith, whole, length-drop 1 bytes) in
+    rw none (
+    both_none (field_fault place bytes (event_field harts)) _
+    (field_passes place bytes (event_field harts) (omega (arith, whole)) event)
+    (both_none (field_fault (place + 1) (drop 1 bytes) (byte_field is_code)) None
+    (field_passes (place + 1) (drop 1 bytes) (byte_field is_code) long known) refl))
+
+pub bare_width : (harts : ℕ) (bytes : List ℕ) → fields_of harts (get_or bytes 1 0) ≡ [] → entry_width harts bytes ≡ 2
+unfolding entry_width
+bare_width harts bytes none = rw none refl
 
 -- ---- an entry that is spelled
 
@@ -256,10 +274,6 @@ pub record AreAgain (harts place : ℕ) (es : List Event) (os : List Outcome) : 
   pub faultless : entries_fault harts (length es) place (recorded_bytes es os) ≡ None
   pub again_events : events (entries_in harts (length es) (recorded_bytes es os)) ≡ es
   pub again_outcomes : outcomes (entries_in harts (length es) (recorded_bytes es os)) ≡ os
-
-pub both_none : (a b : Option FileFault) → a ≡ None → b ≡ None → option_or a b ≡ None
-both_none None b first second = second
-both_none (Some fault) b first second = absurd cc
 
 pub entries_again : (harts place : ℕ) (es : List Event) (os : List Outcome) → harts ≤ 8 → length os ≡ length es →
     All (λ (event : Event). event.hart.number < harts) es → All (IsRecordable harts) os → AreAgain harts place es os

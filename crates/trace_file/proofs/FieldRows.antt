@@ -53,7 +53,7 @@ Fill (first ∷ fields) [] rest = ⊥
 Fill (first ∷ fields) (part ∷ parts) rest =
     (length part ≡ first.width) × (first.passes (part ++ joined parts rest) ≡ true) × Fill fields parts rest
 
-field_passes : (place : ℕ) (bytes : List ℕ) (one : Field) → one.width ≤ length bytes → one.passes bytes ≡ true →
+pub field_passes : (place : ℕ) (bytes : List ℕ) (one : Field) → one.width ≤ length bytes → one.passes bytes ≡ true →
     field_fault place bytes one ≡ None
 unfolding field_fault
 field_passes place bytes one whole passes = rw (le-ltb (length bytes) one.width whole) (passing (one.passes bytes) passes)
@@ -62,7 +62,7 @@ field_passes place bytes one whole passes = rw (le-ltb (length bytes) one.width 
     passing true is = refl
     passing false is = absurd cc
 
-both_none : (a b : Option FileFault) → a ≡ None → b ≡ None → option_or a b ≡ None
+pub both_none : (a b : Option FileFault) → a ≡ None → b ≡ None → option_or a b ≡ None
 both_none None b first second = second
 both_none (Some fault) b first second = absurd cc
 

@@ -31,7 +31,8 @@ use Rattle.trace_file.specs.FaultKinds.{fault_of}
 use Rattle.trace_file.specs.Fields.{is_event}
 use Rattle.trace_file.specs.Faults.{field, byte_fault, magic_fault, version_fault, settings_fault, number_fault, head_fault, number_at, mode_at, is_mode, is_few, is_version, event_fault, end_fault, events_fault, entries_fault, body_fault, trace_fault, config_at}
 use Rattle.trace_file.specs.Reading.{entries_in, event_in, events_at, recorded_at}
-use Rattle.trace_file.proofs.EntryLaws.{both_none, entries_again, event_back, event_passes}
+use Rattle.trace_file.proofs.EntryLaws.{entries_again, event_back, event_passes}
+use Rattle.trace_file.proofs.FieldRows.{both_none}
 
 -- ---- fields without a fault
 

@@ -1,6 +1,6 @@
 //! The entries of a trace that tells outcomes.
 
-ghost use Rattle.std.specs.Prelude.{◌≡◌, ℕ, ◌+◌, ◌*◌, ◌^◌, ◌<◌, ◌≤◌, List, None, Some, IsTrue, length, map, drop, slice_index, IfErr, IfOk, OnOk};
+ghost use Rattle.std.specs.Prelude.{◌≡◌, ℕ, ◌+◌, ◌*◌, ◌^◌, ◌<◌, ◌≤◌, List, [], None, Some, IsTrue, length, map, drop, slice_index, IfErr, IfOk, IfSome, OnOk, OnSome};
 ghost use Rattle.chronicle.specs.Chronicle.{events};
 ghost use Rattle.el_base.specs.declared.config.TheConstants.{MAX_STEPS};
 ghost use Rattle.trace_file.specs.Faults.{entries_fault, entry_fault, field_fault, fields_fault};
@@ -117,9 +117,47 @@ fn code_at(bytes: &[u8], place: u32) -> Result<u8, FileFault>
     Ok(code)
 }
 
-/// The entry that the bytes begin with, and how many bytes it has, or its first fault.
+/// The outcome of a code behind which no fields stand.
+#[tactic(auto, unfolding(crate::specs::Reading::outcome_in))]
+fn bare_outcome(code: u8) -> Option<Outcome>
+    ensures value { IfSome result (λ outcome. (bytes : List ℕ) → outcome ≡ outcome_in code bytes) }
+    ensures fields { OnSome result ((harts : ℕ) → fields_of harts code ≡ []) }
+    ensures known { OnSome result (code ≤ 14) }
+{
+    match code {
+        0 => Some(Outcome::Idle),
+        1 => Some(Outcome::Stalled),
+        4 => Some(Outcome::Ran),
+        5 => Some(Outcome::Began),
+        6 => Some(Outcome::Buffered),
+        13 => Some(Outcome::Armed),
+        _ => None,
+    }
+}
+
+/// The entry that the bytes begin with, where it has no fault and its outcome no fields, as most entries of a run.
+#[inline]
+#[tactic(auto, using(crate::proofs::EntryLaws::bare_passes, crate::proofs::EntryLaws::bare_width), unfolding(crate::specs::Reading::entry_in))]
+fn bare_entry(bytes: &[u8], harts: u8) -> Option<Entry>
+    requires few { harts ≤ 8 }
+    ensures value { IfSome result (λ entry. entry ≡ entry_in bytes.now) }
+    ensures whole { OnSome result (2 ≤ length bytes.now) }
+    ensures width { OnSome result (entry_width harts bytes.now ≡ 2) }
+    ensures faultless { OnSome result ((place : ℕ) → entry_fault harts place bytes.now ≡ None) }
+{
+    if bytes.len() < 2 || !is_event(bytes[0], harts) {
+        return None;
+    }
+    let outcome = bare_outcome(bytes[1])?;
+    Some(Entry {
+        event: event_of(bytes[0], harts),
+        outcome,
+    })
+}
+
+/// `entry_of` field by field, for any entry.
 #[tactic(auto, using(crate::proofs::FieldRows::fields_whole), unfolding(crate::specs::Faults::entry_fault, crate::specs::Fields::entry_width, crate::specs::Reading::entry_in))]
-fn entry_of(bytes: &[u8], harts: u8, place: u32) -> Result<(Entry, usize), FileFault>
+fn entry_by_fields(bytes: &[u8], harts: u8, place: u32) -> Result<(Entry, usize), FileFault>
     requires fits { place + 10 < 2 ^ 32 }
     requires few { harts ≤ 8 }
     ensures value { IfOk result (λ found. found.0 ≡ entry_in bytes.now) }
@@ -132,6 +170,23 @@ fn entry_of(bytes: &[u8], harts: u8, place: u32) -> Result<(Entry, usize), FileF
     let code = code_at(behind(bytes, 1), place + 1)?;
     let outcome = outcome_of(code, behind(bytes, 2), harts, place + 2)?;
     Ok((Entry { event, outcome }, 2 + width_of(code)))
+}
+
+/// The entry that the bytes begin with, and how many bytes it has, or its first fault.
+#[inline]
+fn entry_of(bytes: &[u8], harts: u8, place: u32) -> Result<(Entry, usize), FileFault>
+    requires fits { place + 10 < 2 ^ 32 }
+    requires few { harts ≤ 8 }
+    ensures value { IfOk result (λ found. found.0 ≡ entry_in bytes.now) }
+    ensures width { IfOk result (λ found. (found.1 ≡ entry_width harts bytes.now) × (found.1 ≤ 10)) }
+    ensures whole { IfOk result (λ found. found.1 ≤ length bytes.now) }
+    ensures accepted { OnOk result (entry_fault harts place bytes.now ≡ None) }
+    ensures refused { IfErr result (λ fault. entry_fault harts place bytes.now ≡ Some fault) }
+{
+    match bare_entry(bytes, harts) {
+        Some(entry) => Ok((entry, 2)),
+        None => entry_by_fields(bytes, harts, place),
+    }
 }
 
 /// That so many entries follow the head, and nothing behind them.

@@ -1,16 +1,16 @@
 //! From a history to bytes.
 
-ghost use Rattle.std.specs.Prelude.{◌≡◌, ◌≢◌, ◌+◌, ◌++◌, ◌<◌, ◌≤◌, ◌*◌, Err, Some, length, map, All, IfOk, OnOk};
+ghost use Rattle.std.specs.Prelude.{◌≡◌, ◌≢◌, ◌+◌, ◌++◌, ◌<◌, ◌≤◌, ◌*◌, ◌∷◌, [], Err, Some, length, map, All, IfOk, IfSome, OnOk};
 ghost use Rattle.chronicle.specs.Chronicle.{events};
 ghost use Rattle.el_base.specs.Config.{IsInRange};
 ghost use Rattle.el_io.specs.Shelf.{Holds, KeepsOthers, Records};
-ghost use Rattle.trace_file.specs.Outcomes.{IsRecordable};
+ghost use Rattle.trace_file.specs.Outcomes.{IsRecordable, outcome_spelling};
 ghost use Rattle.trace_file.specs.Spelling.{event_byte, head, outcomes, recorded_bytes, spelling};
 
 use crate::head::{HEAD_BYTES, MAGIC, WITH_OUTCOMES};
-use crate::outcome_bytes::outcome_spelling;
+use crate::outcome_bytes;
 use chronicle::History;
-use el_base::{Chronicled, Config, Event, NoMemory};
+use el_base::{Chronicled, Config, Event, NoMemory, Outcome};
 use el_io::{Call, Shelf, ShelfFault};
 use std::alloc::Global;
 
@@ -53,6 +53,50 @@ fn head_bytes(config: &Config, count: u32) -> [u8; 22]
     ]
 }
 
+/// How many bytes the spelling of an outcome has.
+fn width_of(outcome: Outcome) -> usize
+    ensures exact { result ≡ length (outcome_spelling outcome) }
+    ensures small { result ≤ 9 }
+{
+    match outcome {
+        Outcome::Idle
+        | Outcome::Stalled
+        | Outcome::Ran
+        | Outcome::Began
+        | Outcome::Buffered
+        | Outcome::Armed => 1,
+        Outcome::RolledBack { .. } | Outcome::Blocked { .. } | Outcome::LetGo { .. } => 2,
+        Outcome::Missed { .. } | Outcome::Committed { .. } | Outcome::Delivered { .. } => 5,
+        Outcome::Ordered { .. } | Outcome::Served { .. } => 9,
+    }
+}
+
+/// The code of an outcome whose spelling is its code alone.
+fn bare_code(outcome: Outcome) -> Option<u8>
+    ensures { IfSome result (λ code. outcome_spelling outcome ≡ code ∷ []) }
+{
+    match outcome {
+        Outcome::Idle => Some(0),
+        Outcome::Stalled => Some(1),
+        Outcome::Ran => Some(4),
+        Outcome::Began => Some(5),
+        Outcome::Buffered => Some(6),
+        Outcome::Armed => Some(13),
+        _ => None,
+    }
+}
+
+/// Puts the spelling of an outcome behind the bytes. That of most outcomes of a run is a code alone.
+fn put_outcome(bytes: &mut Vec<u8>, outcome: Outcome) -> Result<(), NoMemory>
+    ensures { OnOk result (bytes.new.items ≡ bytes.old.items ++ outcome_spelling outcome) }
+{
+    match bare_code(outcome) {
+        Some(code) => bytes.push(code)?,
+        None => bytes.extend_from_slice(outcome_bytes::outcome_spelling(outcome).as_bytes())?,
+    }
+    Ok(())
+}
+
 /// How many bytes the entries of a history have.
 fn length_of(history: &History) -> usize
     ensures exact { result ≡ length (recorded_bytes (events history.now.entries) (outcomes history.now.entries)) }
@@ -61,7 +105,7 @@ fn length_of(history: &History) -> usize
     let mut total = 0;
     for place in 0..history.length() {
         let entry = history.entry(place);
-        total += 1 + outcome_spelling(entry.outcome).as_bytes().len();
+        total += 1 + width_of(entry.outcome);
     }
     total
 }
@@ -77,7 +121,7 @@ fn spelled(alloc: Global, config: &Config, history: &History) -> Result<Vec<u8>,
     for place in 0..count {
         let entry = history.entry(place);
         bytes.push(event_byte(entry.event))?;
-        bytes.extend_from_slice(outcome_spelling(entry.outcome).as_bytes())?;
+        put_outcome(&mut bytes, entry.outcome)?;
     }
     Ok(bytes)
 }

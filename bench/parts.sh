@@ -22,7 +22,12 @@ def nanoseconds(part):
 has, room = nanoseconds("has"), nanoseconds("room")
 print(f"letter {nanoseconds('letter'):.1f} ns, touch {nanoseconds('touch') - has:.1f} ns,"
       f" fill {nanoseconds('fill') - room:.1f} ns")
-for insn in ("addi", "lw", "sw"):
-    flat, port = nanoseconds(f"flat-{insn}"), nanoseconds(f"port-{insn}")
-    print(f"{insn}: over a port {port:.1f} ns, on plain memory {flat:.1f} ns, {port / flat:.2f} times")
+on_memory, over_port = {}, {}
+for insn in ("addi", "lw", "sw", "add", "mul", "div"):
+    on_memory[insn], over_port[insn] = nanoseconds(f"flat-{insn}"), nanoseconds(f"port-{insn}")
+    print(f"{insn}: over a port {over_port[insn]:.1f} ns, on plain memory {on_memory[insn]:.1f} ns,"
+          f" {over_port[insn] / on_memory[insn]:.2f} times")
+for insn in ("mul", "div"):
+    print(f"{insn} beside add: over a port {over_port[insn] / over_port['add']:.2f} times,"
+          f" on plain memory {on_memory[insn] / on_memory['add']:.2f} times")
 PYTHON

@@ -4,7 +4,13 @@
 #[derive(Clone, Copy, Debug, PartialEq, Eq)]
 pub enum Insn {
     /// `addi x7, x7, 3`
+    Addi,
+    /// `add x7, x2, x2`
     Add,
+    /// `mul x7, x2, x2`
+    Mul,
+    /// `div x7, x2, x2`
+    Div,
     /// `lw x7, -64(x2)`
     Load,
     /// `sw x7, -64(x2)`
@@ -32,14 +38,20 @@ pub enum Part {
 
 impl Part {
     /// All parts.
-    pub const ALL: [Part; 11] = [
+    pub const ALL: [Part; 17] = [
         Part::Has,
         Part::Letter,
         Part::Touch,
         Part::Room,
         Part::Fill,
+        Part::Flat(Insn::Addi),
+        Part::Port(Insn::Addi),
         Part::Flat(Insn::Add),
         Part::Port(Insn::Add),
+        Part::Flat(Insn::Mul),
+        Part::Port(Insn::Mul),
+        Part::Flat(Insn::Div),
+        Part::Port(Insn::Div),
         Part::Flat(Insn::Load),
         Part::Port(Insn::Load),
         Part::Flat(Insn::Store),
@@ -54,8 +66,14 @@ impl Part {
             Part::Touch => "touch",
             Part::Room => "room",
             Part::Fill => "fill",
-            Part::Flat(Insn::Add) => "flat-addi",
-            Part::Port(Insn::Add) => "port-addi",
+            Part::Flat(Insn::Addi) => "flat-addi",
+            Part::Port(Insn::Addi) => "port-addi",
+            Part::Flat(Insn::Add) => "flat-add",
+            Part::Port(Insn::Add) => "port-add",
+            Part::Flat(Insn::Mul) => "flat-mul",
+            Part::Port(Insn::Mul) => "port-mul",
+            Part::Flat(Insn::Div) => "flat-div",
+            Part::Port(Insn::Div) => "port-div",
             Part::Flat(Insn::Load) => "flat-lw",
             Part::Port(Insn::Load) => "port-lw",
             Part::Flat(Insn::Store) => "flat-sw",

@@ -21,13 +21,16 @@ const JUMP_BACK: u32 = 0x804f_f06f;
 /// The room of an output that has taken nothing.
 const ROOM: u32 = 16_777_216;
 
-/// The register that the instructions use.
+/// The register that the instructions change or store.
 const X7: Reg = Reg { number: 7 };
 
 /// The word of an instruction.
 fn word_of(insn: Insn) -> u32 {
     match insn {
-        Insn::Add => 0x0033_8393,
+        Insn::Addi => 0x0033_8393,
+        Insn::Add => 0x0021_03b3,
+        Insn::Mul => 0x0221_03b3,
+        Insn::Div => 0x0221_43b3,
         Insn::Load => 0xfc01_2383,
         Insn::Store => 0xfc71_2023,
     }

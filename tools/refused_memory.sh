@@ -75,7 +75,7 @@ each_call_fails() {
             fi
             number=$((number + 1))
         done
-        echo "$*: $kind $((number - 1)): $(sort "$work/statuses" | uniq -c | awk '{ printf "%s%d with %d", NR > 1 ? ", " : "", $1, $2 }')"
+        echo "$*: $kind $((number - 1)): $(sort "$work/statuses" | uniq -c | awk '{ printf "%s%d with %d", (NR > 1 ? ", " : ""), $1, $2 }')"
     done
 }
 

@@ -113,7 +113,7 @@ const COMMANDS: &[Command] = &[
     Command {
         words: &["replay", "t", "c"],
         reads: 2,
-        err: &["trace fault 2 Magic at byte 0\n"],
+        err: &["trace fault 2 Magic at byte 2\n"],
         ..REFUSAL
     },
     Command {

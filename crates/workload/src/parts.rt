@@ -92,6 +92,26 @@ pub fn take_lock_by_pair(program: &mut Program, lock: Reg) -> Result<(), NoMemor
     program.branch(Test::Ne, T1, ZERO, held)
 }
 
+/// How a lock is taken.
+#[derive(Clone, Copy, Debug, PartialEq, Eq)]
+pub enum Taking {
+    /// As [`take_lock`] does it.
+    BySwap,
+    /// As [`take_lock_by_pair`] does it.
+    ByPair,
+}
+
+/// Takes the lock at an address, in one way or the other.
+pub fn take(program: &mut Program, taking: Taking, lock: Reg) -> Result<(), NoMemory>
+    requires { HasRoom program.old 5 1 }
+    ensures { OnOk result (program.new ≡ grown program.old 5 1) }
+{
+    match taking {
+        Taking::BySwap => take_lock(program, lock),
+        Taking::ByPair => take_lock_by_pair(program, lock),
+    }
+}
+
 /// Gives the lock at an address back.
 pub fn give_lock(program: &mut Program, lock: Reg) -> Result<(), NoMemory>
     requires { HasRoom program.old 1 0 }

@@ -6,8 +6,7 @@ ghost use Rattle.workload.specs.Extent.{GrowsWithin, HasRoom, grown};
 use crate::layout::{LOCKS, WORDS};
 use crate::mnemonics::addi;
 use crate::parts::{
-    add_to_word, again, data_address, draw_line, give_lock, seed, small, take_lock,
-    take_lock_by_pair,
+    Taking, add_to_word, again, data_address, draw_line, give_lock, seed, small, take, take_lock,
 };
 use crate::program::Program;
 use crate::registers::{LEFT, LOCK, OTHER_LOCK, OTHER_WORD, ROUNDS, WORD};
@@ -20,17 +19,17 @@ pub fn rounds(program: &mut Program, kind: Work) -> Result<(), NoMemory>
     ensures { OnOk result (GrowsWithin program.old 60 4 program.new) }
 {
     match kind {
-        Work::Counter => counter(program),
+        Work::Counter => counter(program, Taking::BySwap),
         Work::Bank => bank(program),
         Work::Buckets => buckets(program),
         Work::Locks => locks(program),
         Work::Overflow => overflow(program),
-        Work::Pairs => pairs(program),
+        Work::Pairs => counter(program, Taking::ByPair),
     }
 }
 
-/// 100 times: take the lock, add 1 to the word.
-fn counter(program: &mut Program) -> Result<(), NoMemory>
+/// 100 times: take the lock, in one way or the other, and add 1 to the word.
+fn counter(program: &mut Program, taking: Taking) -> Result<(), NoMemory>
     requires { HasRoom program.old 14 2 }
     ensures { OnOk result (program.new ≡ grown program.old 14 2) }
 {
@@ -38,7 +37,7 @@ fn counter(program: &mut Program) -> Result<(), NoMemory>
     data_address(program, WORD, WORDS)?;
     small(program, ROUNDS, 100)?;
     let round = program.here()?;
-    take_lock(program, LOCK)?;
+    take(program, taking, LOCK)?;
     add_to_word(program, WORD, 1)?;
     give_lock(program, LOCK)?;
     again(program, ROUNDS, round)
@@ -116,21 +115,6 @@ fn overflow(program: &mut Program) -> Result<(), NoMemory>
     add_to_word(program, WORD, 1)?;
     program.put(addi(WORD, WORD, 64))?;
     again(program, LEFT, next)?;
-    give_lock(program, LOCK)?;
-    again(program, ROUNDS, round)
-}
-
-/// 100 times: take the lock by LR.W and SC.W, add 1 to the word.
-fn pairs(program: &mut Program) -> Result<(), NoMemory>
-    requires { HasRoom program.old 14 2 }
-    ensures { OnOk result (program.new ≡ grown program.old 14 2) }
-{
-    data_address(program, LOCK, LOCKS)?;
-    data_address(program, WORD, WORDS)?;
-    small(program, ROUNDS, 100)?;
-    let round = program.here()?;
-    take_lock_by_pair(program, LOCK)?;
-    add_to_word(program, WORD, 1)?;
     give_lock(program, LOCK)?;
     again(program, ROUNDS, round)
 }

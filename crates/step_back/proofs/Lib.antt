@@ -3,3 +3,4 @@ pub mod Serials
 pub mod Freed
 pub mod Existing
 pub mod Replayed
+pub mod Places

@@ -1,5 +1,6 @@
 -- where a timeline stands
-use Rattle.std.specs.Prelude.{◌≡◌, ◌≢◌, ◌≤◌, ◌<◌, ℕ, ◌-◌, All, List, length, take}
+use Rattle.std.specs.Prelude.{◌≡◌, ◌≢◌, ◌≤◌, ◌<◌, ℕ, ◌-◌, ◌==◌, ◌&&◌, Bool, not, All, List, length, take}
+use Rattle.std.specs.List.{filter, range_with_len}
 use Rattle.chronicle.specs.Serial.{serial}
 use Rattle.el_base.specs.declared.entries.Entry.{Entry}
 use Rattle.elf_image.specs.Program.{Program}
@@ -40,6 +41,15 @@ pc_at program entries hart place = (view_of (state_at program entries place) har
 pub record ComesTo (program : Program) (entries : List Entry) (hart pc place : ℕ) : Type 0 where
   pub there : pc_at program entries hart place ≡ pc
   pub not_before : pc_at program entries hart (place - 1) ≢ pc
+
+-- the same as a test
+abbrev pub comes_to : Program → List Entry → ℕ → ℕ → ℕ → Bool
+comes_to program entries hart pc place =
+    (pc_at program entries hart place == pc) && not (pc_at program entries hart (place - 1) == pc)
+
+-- the places of a history, from 1 on, at which a hart comes to a pc
+abbrev pub places_of : Program → List Entry → ℕ → ℕ → List ℕ
+places_of program entries hart pc = filter (comes_to program entries hart pc) (range_with_len 1 (length entries))
 
 -- a place is the least later one at which a hart comes to a pc
 pub record IsNext (standing : Standing) (hart pc place : ℕ) : Type 0 where

@@ -20,3 +20,5 @@ pub use timeline::Timeline;
 
 #[cfg(test)]
 mod tests;
+#[cfg(test)]
+mod walks;

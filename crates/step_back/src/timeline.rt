@@ -60,6 +60,14 @@ impl Timeline {
         })
     }
 
+    /// How many harts there are, from 1 to 8.
+    pub fn harts(&self) -> u8
+        ensures exact { result ≡ self.now.program.harts }
+        ensures within { (1 ≤ result) × (result ≤ 8) }
+    {
+        self.trail.harts()
+    }
+
     /// How many events there are.
     pub fn places(&self) -> u32
         ensures exact { result ≡ length self.now.entries }

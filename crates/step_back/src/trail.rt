@@ -55,6 +55,14 @@ impl Trail {
         })
     }
 
+    /// How many harts there are, from 1 to 8.
+    pub fn harts(&self) -> u8
+        ensures exact { result ≡ self.now.program.harts }
+        ensures within { (1 ≤ result) × (result ≤ 8) }
+    {
+        self.image.harts()
+    }
+
     /// How many instructions ran.
     pub fn len(&self) -> usize
         ensures exact { result ≡ length self.now.harts }

@@ -1,7 +1,7 @@
 -- Counting an event.
 use Rattle.std.proofs.Common.{◌≡◌, ℕ, ◌+◌, ◌*◌, ◌^◌, ◌<◌, ◌≤◌, ◌==◌, Bool, true, false, ◌&&◌}
 use Rattle.std.proofs.Common.{IsTrue, List, [], ◌∷◌, get_or, length, set, take, cond, refl, ap, sym, ◌∙◌, arith}
-use Rattle.std.specs.Prelude.{nat_le, nat_lt, slice_get, Option, Some}
+use Rattle.std.specs.Prelude.{nat_le, nat_lt, slice_get, Some}
 use Rattle.std.specs.List.{list_all}
 use Rattle.std.proofs.lemmas.Bool.Decides.{nat_tests}
 use Rattle.std.proofs.lemmas.Grind.{get_or-set_at}

@@ -3,3 +3,4 @@ mod EachHart
 mod Losing
 pub mod Putting
 mod Reporting
+mod Finding

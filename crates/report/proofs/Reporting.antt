@@ -1,8 +1,6 @@
 -- Putting the lines of a report.
-use Rattle.std.proofs.Common.{◌≡◌, ℕ, ◌+◌, ◌<◌, ◌≤◌, List, ◌∷◌, ◌++◌, length, get_or, take, take_all, Result, refl, ap, subst, sym, ◌∙◌, append_assoc, arith}
-use Rattle.std.proofs.lemmas.List.FromFn.{get_or-range_with_len, length-range_with_len}
+use Rattle.std.proofs.Common.{◌≡◌, ℕ, List, ◌∷◌, ◌++◌, length, Result, refl, ap, sym, ◌∙◌, append_assoc}
 use Rattle.std.specs.Fmt.{decimal}
-use Rattle.std.specs.List.{flat_map, range_with_len}
 use Rattle.std.specs.Prelude.{codes}
 use Rattle.chronicle.specs.Serial.{serial}
 use Rattle.chronicle.specs.Tally.{tally_of}
@@ -11,7 +9,7 @@ use Rattle.el_base.specs.declared.config.Config.{Config}
 use Rattle.el_base.specs.declared.entries.Entry.{Entry}
 use Rattle.el_io.specs.declared.sink.Failed.{Failed}
 use Rattle.machine.specs.Story.{Story, committed}
-use Rattle.report.proofs.Putting.{one_failed, one_more_put, put_stopped, put_then, put_then_part, same_part, same_puts}
+use Rattle.report.proofs.Putting.{put_stopped, put_then, put_then_part, same_part, same_puts}
 use Rattle.report.specs.Line.{line}
 use Rattle.report.specs.Puts.{PutAll, PutPart, Puts, SinkState}
 use Rattle.report.specs.Text.{count_words, first_line, hart_line, hart_lines, last_line, report_of, report_text, status_words}

@@ -1,5 +1,6 @@
 pub mod Counting
 pub mod Line
+pub mod PlaceText
 pub mod Puts
 pub mod Text
 pub mod TimesText

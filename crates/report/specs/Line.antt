@@ -29,3 +29,7 @@ spaced word = 32 ∷ word
 -- a line of words, with one space between each two, and a newline
 abbrev pub line : List ℕ → List (List ℕ) → List ℕ
 line first others = first ++ flat_map spaced others ++ 10 ∷ []
+
+-- a number alone on its line
+abbrev pub number_line : ℕ → List ℕ
+number_line number = line (decimal number) []

@@ -1,13 +1,13 @@
-ghost use Rattle.std.specs.Prelude.{◌≡◌, ℕ, ◌<◌, ◌≤◌, ◌∷◌, if◌then◌else◌, is_ok, map, OnErr, OnOk};
+ghost use Rattle.std.specs.Prelude.{◌≡◌, ℕ, ◌<◌, ◌≤◌, ◌∷◌, ◌++◌, codes, if◌then◌else◌, is_ok, map, OnErr, OnOk};
 ghost use Rattle.std.specs.Fmt.{decimal};
 ghost use Rattle.el_io.specs.Counts.{one_more};
 ghost use Rattle.el_io.specs.Sink.{TookAll, TookPart};
 ghost use Rattle.machine.specs.Story.{committed};
 ghost use Rattle.chronicle.specs.Tally.{tally_of};
 ghost use Rattle.report.specs.Counting.{tally_at};
-ghost use Rattle.report.specs.Line.{bytes_of};
+ghost use Rattle.report.specs.Line.{bytes_of, line};
 ghost use Rattle.report.specs.Puts.{Puts};
-ghost use Rattle.report.specs.Text.{count_words, first_line, hart_line, hart_lines, last_line, report_of};
+ghost use Rattle.report.specs.Text.{count_words, first_line, hart_line, hart_lines, last_line, report_of, status_words};
 ghost use Rattle.rv_flat.specs.FlatState.{status_of};
 
 use crate::tallies::{Tallies, counts_of};
@@ -112,12 +112,25 @@ pub(crate) fn put_hart_line<S: Sink>(
         (record { taken = S.taken sink.new; faults = S.faults sink.new })
         (hart_line number tally status) }
 {
-    let counts = hart_words(number, tally);
+    put_with_status(sink, &hart_words(number, tally), status)
+}
+
+/// Puts the line of a hart: these words, and how it stands.
+pub(crate) fn put_with_status<S: Sink>(
+    sink: &mut S,
+    words: &[Word],
+    status: HartStatus,
+) -> Result<(), Failed>
+    ensures { Puts result
+        (record { taken = S.taken sink.old; faults = S.faults sink.old })
+        (record { taken = S.taken sink.new; faults = S.faults sink.new })
+        (line (codes "hart") (map bytes_of words.now ++ status_words status)) }
+{
     match status {
-        HartStatus::Running => put_line(sink, "hart", &counts, &[Word::Text("running")]),
+        HartStatus::Running => put_line(sink, "hart", words, &[Word::Text("running")]),
         HartStatus::Exited { code } => {
             let status = [Word::Text("exit"), Word::Number(code.into())];
-            put_line(sink, "hart", &counts, &status)
+            put_line(sink, "hart", words, &status)
         }
         HartStatus::Trapped { cause, pc } => {
             let status = [
@@ -126,7 +139,7 @@ pub(crate) fn put_hart_line<S: Sink>(
                 Word::Text("at"),
                 Word::Address(pc),
             ];
-            put_line(sink, "hart", &counts, &status)
+            put_line(sink, "hart", words, &status)
         }
     }
 }
@@ -167,7 +180,7 @@ fn hart_words(number: u8, tally: Tally) -> [Word; 27]
 }
 
 #[tactic(auto, unfolding(crate::specs::Text::last_line))]
-fn put_last_line<S: Sink>(sink: &mut S, steps: u64, output: u64) -> Result<(), Failed>
+pub(crate) fn put_last_line<S: Sink>(sink: &mut S, steps: u64, output: u64) -> Result<(), Failed>
     ensures { Puts result
         (record { taken = S.taken sink.old; faults = S.faults sink.old })
         (record { taken = S.taken sink.new; faults = S.faults sink.new })

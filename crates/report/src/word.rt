@@ -1,6 +1,6 @@
 ghost use Rattle.std.specs.Prelude.{◌≡◌, ◌++◌, ◌∷◌, [], map};
 ghost use Rattle.std.specs.List.{flat_map};
-ghost use Rattle.report.specs.Line.{bytes_of, eight_digits, hex_digit, line, spaced};
+ghost use Rattle.report.specs.Line.{bytes_of, eight_digits, hex_digit, line, number_line, spaced};
 ghost use Rattle.report.specs.Puts.{Puts};
 
 use el_io::{Failed, Sink, put_all};
@@ -35,6 +35,18 @@ pub fn put_line<S: Sink>(
     put_word(sink, Word::Text(first))?;
     put_words(sink, words)?;
     put_words(sink, more)?;
+    put_bytes(sink, b"\n")
+}
+
+/// Puts a number alone on its line.
+#[tactic(auto, using(crate::proofs::Putting::putting))]
+pub(crate) fn put_number_line<S: Sink>(sink: &mut S, number: u64) -> Result<(), Failed>
+    ensures { Puts result
+        (record { taken = S.taken sink.old; faults = S.faults sink.old })
+        (record { taken = S.taken sink.new; faults = S.faults sink.new })
+        (number_line number) }
+{
+    put_word(sink, Word::Number(number))?;
     put_bytes(sink, b"\n")
 }
 

@@ -1,4 +1,4 @@
-use Rattle.std.proofs.Common.{◌++◌, ap, ◌∙◌}
+use Rattle.std.proofs.Common.{◌++◌, ap}
 use Rattle.std.specs.List.{flat_map, range_with_len}
 use Rattle.report.proofs.Putting.{failed_puts, put_stopped, put_then, put_then_part, same_puts}
 use Rattle.report.specs.TimesText.{losses_of, time_at, times_text, total_line}

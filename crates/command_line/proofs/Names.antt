@@ -14,12 +14,14 @@ differs word other apart = go (bytes_eq word other) refl
 -- a word that names none
 pub no_command : (words : List (String Global)) (name : String Global) (rest : List (String Global)) (word : List ℕ)
     → words ≡ name ∷ rest → word ≡ string_bytes name → (word ≡ codes "run" → ⊥) → (word ≡ codes "replay" → ⊥)
-    → (word ≡ codes "check" → ⊥) → (word ≡ codes "gen" → ⊥) → job_of (texts words) ≡ None
-no_command words name rest word first is run replay check gen =
+    → (word ≡ codes "look" → ⊥) → (word ≡ codes "find" → ⊥) → (word ≡ codes "check" → ⊥) → (word ≡ codes "gen" → ⊥) → job_of (texts words) ≡ None
+no_command words name rest word first is run replay look find check gen =
     ap (λ (all : List (String Global)). job_of (texts all)) first ∙ ap (λ (text : List ℕ). job_of (text ∷ texts rest)) (sym is)
     ∙ rw (
       differs word (codes "run") run,
       differs word (codes "replay") replay,
+      differs word (codes "look") look,
+      differs word (codes "find") find,
       differs word (codes "check") check,
       differs word (codes "gen") gen,
     ) refl

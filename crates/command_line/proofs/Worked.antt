@@ -6,7 +6,7 @@ use Rattle.el_base.specs.declared.config.ConfigFault.TheVariants.{Harts, Lines, 
 use Rattle.el_base.specs.declared.config.Mode.TheVariants.{Plain, Sle, Tlr}
 use Rattle.command_line.specs.Numbers.{number_of}
 use Rattle.command_line.specs.Settings.{config_of}
-use Rattle.command_line.specs.Words.{Job, Check, Gen, Replay, ReplayJob, Run, RunJob, job_of}
+use Rattle.command_line.specs.Words.{Job, Check, Find, Gen, Look, Replay, ReplayJob, Run, RunJob, job_of}
 use Rattle.workload.specs.declared.work.Work.TheVariants.{Bank, Overflow}
 
 -- to run the image `a` with no option
@@ -67,6 +67,25 @@ replay_written = refl
 replay_timed : replay_a (codes "--times" ∷ codes "--trace=u" ∷ [])
     ≡ Some (Replay (record bare_replay { written = Some (codes "u"); times = true }))
 replay_timed = refl
+
+-- a place of the trace `t` on the image `a`, and the places of a pc in it
+looks : job_of (codes "look" ∷ codes "a" ∷ codes "t" ∷ codes "20" ∷ [])
+    ≡ Some (Look (record { image = codes "a"; trace = codes "t"; place = 20; back = 0 }))
+looks = refl
+
+looks_back : job_of (codes "look" ∷ codes "a" ∷ codes "t" ∷ codes "37" ∷ codes "--back" ∷ codes "12" ∷ [])
+    ≡ Some (Look (record { image = codes "a"; trace = codes "t"; place = 37; back = 12 }))
+looks_back = refl
+
+no_place : job_of (codes "look" ∷ codes "a" ∷ codes "t" ∷ codes "--back" ∷ codes "20" ∷ []) ≡ None
+no_place = refl
+
+finds : job_of (codes "find" ∷ codes "a" ∷ codes "t" ∷ codes "0" ∷ codes "65644" ∷ [])
+    ≡ Some (Find (record { image = codes "a"; trace = codes "t"; hart = 0; pc = 65644 }))
+finds = refl
+
+no_pc : job_of (codes "find" ∷ codes "a" ∷ codes "t" ∷ codes "0" ∷ []) ≡ None
+no_pc = refl
 
 -- a flag
 timed : run_a (codes "--times" ∷ []) ≡ Some (Run (record bare { times = true }))

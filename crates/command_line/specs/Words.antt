@@ -1,5 +1,5 @@
 -- what the words of a command line ask for
-use Rattle.std.specs.Prelude.{ℕ, Bool, true, false, not, ◌&&◌, ◌||◌, nat_le, List, [], ◌∷◌, String, string_bytes, map, codes, bytes_eq, is_some, Option, None, Some, if◌then◌else◌}
+use Rattle.std.specs.Prelude.{ℕ, Bool, true, false, not, ◌&&◌, ◌||◌, nat_le, List, [], ◌∷◌, String, string_bytes, map, codes, bytes_eq, is_some, unwrap_or, Option, None, Some, if◌then◌else◌}
 use Rattle.std.specs.List.{list_any}
 use Rattle.std.specs.Option.{option_map}
 use Rattle.std.specs.Global.{Global}
@@ -12,6 +12,8 @@ use Rattle.command_line.specs.declared.command.Command.{Command}
 use Rattle.command_line.specs.declared.command.Command.TheVariants as commands
 use Rattle.command_line.specs.declared.command.RunCommand.{RunCommand}
 use Rattle.command_line.specs.declared.command.ReplayCommand.{ReplayCommand}
+use Rattle.command_line.specs.declared.command.LookCommand.{LookCommand}
+use Rattle.command_line.specs.declared.command.FindCommand.{FindCommand}
 use Rattle.workload.specs.declared.work.Work.{Work}
 use Rattle.workload.specs.declared.work.Work.TheVariants.{Counter, Bank, Buckets, Locks, Overflow, Pairs}
 
@@ -37,11 +39,27 @@ pub record ReplayJob : Type 0 where
   pub written : Option (List ℕ)
   pub times : Bool
 
--- to run an image, to make the events of a trace again on its image, to judge a certificate of a run of its image,
--- or to write an image of a kind and a number
+-- a place of a trace to be shown: this one, and then so many back
+pub record LookJob : Type 0 where
+  pub image : List ℕ
+  pub trace : List ℕ
+  pub place : ℕ
+  pub back : ℕ
+
+-- a hart and a pc to be found in a trace
+pub record FindJob : Type 0 where
+  pub image : List ℕ
+  pub trace : List ℕ
+  pub hart : ℕ
+  pub pc : ℕ
+
+-- to run an image, to make the events of a trace again on its image, to show a place of a trace, to find where in a
+-- trace a hart comes to a pc, to judge a certificate of a run of its image, or to write an image of a kind and a number
 pub data Job : Type 0 where
   Run : (job : RunJob) → Job
   Replay : (job : ReplayJob) → Job
+  Look : (job : LookJob) → Job
+  Find : (job : FindJob) → Job
   Check : (image certificate : List ℕ) → Job
   Gen : (kind : Work) → (number : ℕ) → (file : List ℕ) → Job
 
@@ -137,6 +155,44 @@ replay_in fields = do
 abbrev pub replay_of : List (List ℕ) → Option Job
 replay_of words = fields_of replay_form words >>= replay_in
 
+-- `IMAGE TRACE PLACE [--back N]`, where N is 0 if it is not given
+abbrev pub look_form : Form
+look_form = record {
+  positionals = codes "image" ∷ codes "trace" ∷ codes "place" ∷ [];
+  options = codes "back" ∷ [];
+  flags = [];
+}
+
+abbrev pub look_in : List Field → Option Job
+look_in fields = do
+  image ← value_in fields (codes "image")
+  trace ← value_in fields (codes "trace")
+  place ← value_in fields (codes "place") >>= number_of
+  back ← optional number_of (value_in fields (codes "back"))
+  Some (Look (record { image = image; trace = trace; place = place; back = unwrap_or back 0 }))
+
+abbrev pub looking_of : List (List ℕ) → Option Job
+looking_of words = fields_of look_form words >>= look_in
+
+-- `IMAGE TRACE HART PC`
+abbrev pub find_form : Form
+find_form = record {
+  positionals = codes "image" ∷ codes "trace" ∷ codes "hart" ∷ codes "pc" ∷ [];
+  options = [];
+  flags = [];
+}
+
+abbrev pub find_in : List Field → Option Job
+find_in fields = do
+  image ← value_in fields (codes "image")
+  trace ← value_in fields (codes "trace")
+  hart ← value_in fields (codes "hart") >>= number_of
+  pc ← value_in fields (codes "pc") >>= number_of
+  Some (Find (record { image = image; trace = trace; hart = hart; pc = pc }))
+
+abbrev pub finding_of : List (List ℕ) → Option Job
+finding_of words = fields_of find_form words >>= find_in
+
 -- `IMAGE CERT`
 abbrev pub check_form : Form
 check_form = record { positionals = codes "image" ∷ codes "cert" ∷ []; options = []; flags = [] }
@@ -180,13 +236,16 @@ job_of [] = None
 job_of (name ∷ words) =
     if bytes_eq name (codes "run") then run_of words
     else if bytes_eq name (codes "replay") then replay_of words
+    else if bytes_eq name (codes "look") then looking_of words
+    else if bytes_eq name (codes "find") then finding_of words
     else if bytes_eq name (codes "check") then check_of words
     else if bytes_eq name (codes "gen") then gen_of words
     else None
 
 -- the names of the commands
 abbrev pub command_names : List (List ℕ)
-command_names = codes "run" ∷ codes "replay" ∷ codes "check" ∷ codes "gen" ∷ []
+command_names =
+    codes "run" ∷ codes "replay" ∷ codes "look" ∷ codes "find" ∷ codes "check" ∷ codes "gen" ∷ []
 
 -- the first word is the name of a command
 abbrev pub names_command : List (List ℕ) → Bool
@@ -218,8 +277,26 @@ replay_meaning command = record {
   times = command.times;
 }
 
+abbrev pub look_meaning : LookCommand → LookJob
+look_meaning command = record {
+  image = command.image.now;
+  trace = command.trace.now;
+  place = command.place;
+  back = command.back;
+}
+
+abbrev pub find_meaning : FindCommand → FindJob
+find_meaning command = record {
+  image = command.image.now;
+  trace = command.trace.now;
+  hart = command.hart;
+  pc = command.pc;
+}
+
 abbrev pub meaning : Command → Job
 meaning (commands.Run command) = Run (run_meaning command)
 meaning (commands.Replay command) = Replay (replay_meaning command)
+meaning (commands.Look command) = Look (look_meaning command)
+meaning (commands.Find command) = Find (find_meaning command)
 meaning (commands.Check image certificate) = Check image.now certificate.now
 meaning (commands.Gen kind number file) = Gen kind number file.now

@@ -16,6 +16,10 @@ pub enum Command<'a> {
         image: &'a str,
         certificate: &'a str,
     },
+    /// Show the committed state at a place of a trace.
+    Look(LookCommand<'a>),
+    /// Find where in a trace a hart comes to a pc.
+    Find(FindCommand<'a>),
     /// Write an image of this kind, made from a number, to a file.
     Gen {
         kind: Work,
@@ -65,4 +69,30 @@ pub struct ReplayCommand<'a> {
     pub written: Option<&'a str>,
     /// `--times`, whether the report is to be followed by the costs and waits.
     pub times: bool,
+}
+
+/// `look IMAGE TRACE PLACE` with its option.
+#[derive(Clone, Copy, Debug, PartialEq, Eq)]
+pub struct LookCommand<'a> {
+    /// The file of the image.
+    pub image: &'a str,
+    /// The file of the trace.
+    pub trace: &'a str,
+    /// The place to go to: how many of the trace's events have been made there.
+    pub place: u32,
+    /// `--back`, how many places to go back from there; 0 where it is not given.
+    pub back: u32,
+}
+
+/// `find IMAGE TRACE HART PC`.
+#[derive(Clone, Copy, Debug, PartialEq, Eq)]
+pub struct FindCommand<'a> {
+    /// The file of the image.
+    pub image: &'a str,
+    /// The file of the trace.
+    pub trace: &'a str,
+    /// The number of the hart.
+    pub hart: u32,
+    /// The pc that it comes to.
+    pub pc: u32,
 }

@@ -41,3 +41,17 @@ pub(crate) const GEN: Form = Form {
     options: &[],
     flags: &[],
 };
+
+/// What `look` takes.
+pub(crate) const LOOK: Form = Form {
+    positionals: &["image", "trace", "place"],
+    options: &["back"],
+    flags: &[],
+};
+
+/// What `find` takes.
+pub(crate) const FIND: Form = Form {
+    positionals: &["image", "trace", "hart", "pc"],
+    options: &[],
+    flags: &[],
+};

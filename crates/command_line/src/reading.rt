@@ -2,12 +2,12 @@
 
 ghost use Rattle.std.specs.Prelude.{◌≡◌, None, Some, true, IfOk, MatchResult, option_map};
 ghost use Rattle.el_base.specs.Modes.{mode_of};
-ghost use Rattle.command_line.specs.Words.{are_apart, check_of, gen_of, is_traced, job_of, kind_of, meaning, names_command, optional, replay_of, run_meaning, run_of, texts, turns_of};
+ghost use Rattle.command_line.specs.Words.{are_apart, check_of, finding_of, gen_of, is_traced, job_of, kind_of, looking_of, meaning, names_command, optional, replay_of, run_meaning, run_of, texts, turns_of};
 ghost use Rattle.command_line.specs.Numbers.{number_of};
 
-use crate::command::{Command, MAX_TURNS, ReplayCommand, RunCommand};
+use crate::command::{Command, FindCommand, LookCommand, MAX_TURNS, ReplayCommand, RunCommand};
 use crate::fault::WordsFault;
-use crate::form::{CHECK, GEN, REPLAY, RUN};
+use crate::form::{CHECK, FIND, GEN, LOOK, REPLAY, RUN};
 use crate::matching::Given;
 use crate::numbers::read_number;
 use el_base::Mode;
@@ -28,6 +28,8 @@ pub fn read_words(alloc: Global, words: &[String]) -> Result<Command<'_>, WordsF
     match name.as_str() {
         "run" => read_run(alloc, words),
         "replay" => read_replay(alloc, words),
+        "look" => read_look(alloc, words),
+        "find" => read_find(alloc, words),
         "check" => read_check(alloc, words),
         "gen" => read_gen(alloc, words),
         _ => Err(WordsFault::Usage),
@@ -89,6 +91,35 @@ fn read_replay(alloc: Global, words: &[String]) -> Result<Command<'_>, WordsFaul
         trace: given.value("recorded").ok_or(WordsFault::Usage)?,
         written: given.value("trace"),
         times: given.flag("times"),
+    }))
+}
+
+fn read_look(alloc: Global, words: &[String]) -> Result<Command<'_>, WordsFault>
+    ensures accepted { IfOk result (λ command. looking_of (texts words.now) ≡ Some (meaning command)) }
+    ensures refused { result ≡ Err WordsFault.Usage → looking_of (texts words.now) ≡ None }
+{
+    let given = Given::by_form(alloc, LOOK, words)?;
+    let place = given.value("place").ok_or(WordsFault::Usage)?;
+    Ok(Command::Look(LookCommand {
+        image: given.value("image").ok_or(WordsFault::Usage)?,
+        trace: given.value("trace").ok_or(WordsFault::Usage)?,
+        place: read_number(place).ok_or(WordsFault::Usage)?,
+        back: read_optional_number(given.value("back"))?.unwrap_or(0),
+    }))
+}
+
+fn read_find(alloc: Global, words: &[String]) -> Result<Command<'_>, WordsFault>
+    ensures accepted { IfOk result (λ command. finding_of (texts words.now) ≡ Some (meaning command)) }
+    ensures refused { result ≡ Err WordsFault.Usage → finding_of (texts words.now) ≡ None }
+{
+    let given = Given::by_form(alloc, FIND, words)?;
+    let hart = given.value("hart").ok_or(WordsFault::Usage)?;
+    let pc = given.value("pc").ok_or(WordsFault::Usage)?;
+    Ok(Command::Find(FindCommand {
+        image: given.value("image").ok_or(WordsFault::Usage)?,
+        trace: given.value("trace").ok_or(WordsFault::Usage)?,
+        hart: read_number(hart).ok_or(WordsFault::Usage)?,
+        pc: read_number(pc).ok_or(WordsFault::Usage)?,
     }))
 }
 

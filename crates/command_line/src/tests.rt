@@ -40,6 +40,20 @@ const WRITTEN: ReplayCommand = ReplayCommand {
     ..BARE_REPLAY
 };
 
+const LOOK: LookCommand = LookCommand {
+    image: "a",
+    trace: "t",
+    place: 20,
+    back: 0,
+};
+
+const FIND: FindCommand = FindCommand {
+    image: "a",
+    trace: "t",
+    hart: 0,
+    pc: 65_644,
+};
+
 fn strings(alloc: Global, words: &[&str]) -> Result<Vec<String>, AllocError> {
     words
         .iter()
@@ -259,6 +273,105 @@ const NO_FLAGS: &[&[&str]] = &[
 #[test]
 fn flags_take_no_value_and_come_once(rt: HostRuntime) -> Result<(), Fail> {
     for row in NO_FLAGS {
+        let words = strings(rt.alloc(), row)?;
+        assert!(rt;
+            read_words(rt.alloc(), &words) == Err(WordsFault::Usage),
+            "{words:?}"
+        );
+    }
+    Ok(())
+}
+
+/// Words that ask for a place of a trace, or for the places of a pc, and what they ask for.
+const TIMELINES: &[(&[&str], Command)] = &[
+    (&["look", "a", "t", "20"], Command::Look(LOOK)),
+    (&["look", "a", "t", "0000000020"], Command::Look(LOOK)),
+    (
+        &["look", "a", "t", "20", "--back", "0"],
+        Command::Look(LOOK),
+    ),
+    (
+        &["look", "a", "t", "37", "--back", "12"],
+        Command::Look(LookCommand {
+            place: 37,
+            back: 12,
+            ..LOOK
+        }),
+    ),
+    (
+        &["look", "--back=4294967295", "a", "t", "4294967295"],
+        Command::Look(LookCommand {
+            place: 4_294_967_295,
+            back: 4_294_967_295,
+            ..LOOK
+        }),
+    ),
+    (
+        &["look", "--", "-a", "--back", "1"],
+        Command::Look(LookCommand {
+            image: "-a",
+            trace: "--back",
+            place: 1,
+            back: 0,
+        }),
+    ),
+    (&["find", "a", "t", "0", "65644"], Command::Find(FIND)),
+    (
+        &["find", "a", "t", "4294967295", "0"],
+        Command::Find(FindCommand {
+            hart: 4_294_967_295,
+            pc: 0,
+            ..FIND
+        }),
+    ),
+];
+
+#[test]
+fn places_and_pcs_are_numbers(rt: HostRuntime) -> Result<(), Fail> {
+    for (row, want) in TIMELINES {
+        let words = strings(rt.alloc(), row)?;
+        assert!(rt; read_words(rt.alloc(), &words) == Ok(*want), "{words:?}");
+    }
+    Ok(())
+}
+
+/// Words that ask for neither.
+const NO_TIMELINES: &[&[&str]] = &[
+    &["look"],
+    &["look", "a"],
+    &["look", "a", "t"],
+    &["look", "a", "t", "x"],
+    &["look", "a", "t", ""],
+    &["look", "a", "t", "0x14"],
+    &["look", "a", "t", "-1"],
+    &["look", "a", "t", "+1"],
+    &["look", "a", "t", "4294967296"],
+    &["look", "a", "t", "00000000020"],
+    &["look", "a", "t", "20", "1"],
+    &["look", "a", "t", "20", "--back"],
+    &["look", "a", "t", "20", "--back", "x"],
+    &["look", "a", "t", "20", "--back="],
+    &["look", "a", "t", "20", "--back", "-1"],
+    &["look", "a", "t", "20", "--back", "4294967296"],
+    &["look", "a", "t", "20", "--back", "1", "--back=1"],
+    &["look", "a", "t", "--back", "20"],
+    &["look", "a", "t", "20", "--times"],
+    &["look", "a", "t", "20", "--place", "1"],
+    &["Look", "a", "t", "20"],
+    &["find"],
+    &["find", "a", "t", "0"],
+    &["find", "a", "t", "0", "x"],
+    &["find", "a", "t", "x", "0"],
+    &["find", "a", "t", "0", "0x1006c"],
+    &["find", "a", "t", "4294967296", "0"],
+    &["find", "a", "t", "0", "4294967296"],
+    &["find", "a", "t", "0", "0", "0"],
+    &["find", "a", "t", "0", "0", "--back", "1"],
+];
+
+#[test]
+fn other_places_and_pcs_are_no_command_line(rt: HostRuntime) -> Result<(), Fail> {
+    for row in NO_TIMELINES {
         let words = strings(rt.alloc(), row)?;
         assert!(rt;
             read_words(rt.alloc(), &words) == Err(WordsFault::Usage),

@@ -1,7 +1,7 @@
 -- Which calls of the shelf may fail.
 use Rattle.std.proofs.Common.{List, [], ◌∷◌, ◌++◌, map, Option, None, Some, inl, inr, subst}
 use Rattle.command_line.specs.Settings.{config_of}
-use Rattle.command_line.specs.Words.{Job, Run, Replay, Check, Gen, ReplayJob}
+use Rattle.command_line.specs.Words.{Job, Run, Replay, Look, Find, Check, Gen, ReplayJob}
 use Rattle.el_base.specs.Config.{config_fault}
 use Rattle.el_base.specs.declared.config.ConfigFault.{ConfigFault}
 use Rattle.el_io.specs.Shelf.{Contents, NamedCall}
@@ -34,6 +34,10 @@ reads_are_calls told (Some (Run job)) before now failed =
     under told (config_fault (config_of job)) (image_read job.image) (run_writes (besides_run job)) before now failed
 reads_are_calls told (Some (Replay job)) before now failed =
     read_is_call told (image_read job.image ∷ trace_read job.trace ∷ []) (writes_to job.written) before now failed
+reads_are_calls told (Some (Look job)) before now failed =
+    read_is_call told (image_read job.image ∷ trace_read job.trace ∷ []) [] before now failed
+reads_are_calls told (Some (Find job)) before now failed =
+    read_is_call told (image_read job.image ∷ trace_read job.trace ∷ []) [] before now failed
 reads_are_calls told (Some (Check image certificate)) before now failed =
     read_is_call told (image_read image ∷ certificate_read certificate ∷ []) [] before now failed
 reads_are_calls told (Some (Gen kind number file)) before now none = absurd none

@@ -9,6 +9,7 @@ pub mod Refusing
 pub mod Repeating
 pub mod Running
 pub mod Succeeding
+pub mod Timelines
 pub mod TraceLengths
 pub mod Worked
 pub mod Writing

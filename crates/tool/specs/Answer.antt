@@ -1,12 +1,15 @@
 -- What the program puts and writes, and how it ends.
-use Rattle.std.specs.Prelude.{◌≡◌, ℕ, Bool, true, false, List, [], ◌∷◌, ◌++◌, length, Option, Some, IfSome}
+use Rattle.std.specs.Prelude.{◌≡◌, ℕ, ◌<◌, Bool, true, false, List, [], ◌∷◌, ◌++◌, length, Option, Some, IfSome}
 use Rattle.std.specs.Option.{option_map, option_to_list}
 use Rattle.chronicle.specs.Chronicle.{events}
+use Rattle.el_base.specs.declared.entries.Entry.{Entry}
+use Rattle.elf_image.specs.Program.{Program}
 use Rattle.machine.specs.Story.{Story, committed}
 use Rattle.run_check.specs.Certified.{certificate_of}
 use Rattle.run_check.specs.Spelling as certificates
 use Rattle.run_check.specs.declared.verdict.Verdict.{Verdict}
 use Rattle.run_check.specs.declared.verdict.Verdict.TheVariants as verdicts
+use Rattle.step_back.specs.Standing.{Standing}
 use Rattle.trace_file.specs.Spelling.{outcomes, spelling}
 use Rattle.tool.specs.declared.difference.Difference.{Difference}
 use Rattle.tool.specs.declared.made.Extras.{Extras}
@@ -17,6 +20,7 @@ use Rattle.tool.specs.declared.status.Status.{Status}
 use Rattle.tool.specs.declared.status.Status.TheVariants.{Differs, Done, Refused, Rejected}
 use Rattle.tool.specs.Ending.{ending}
 use Rattle.tool.specs.Messages.{differs_line, fails_line, holds_line, line_of, written_line}
+use Rattle.report.specs.PlaceText.{found_text, place_of}
 use Rattle.report.specs.Text.{report_of}
 use Rattle.report.specs.TimesText.{times_of}
 
@@ -100,6 +104,18 @@ abbrev pub judged : Verdict → ℕ → Answer
 judged (verdicts.Holds serial) output = line_alone Done (holds_line serial output)
 judged (verdicts.Fails number place) output = line_alone Rejected (fails_line number place)
 
+-- bytes for out, and nothing else
+abbrev pub out_alone : List ℕ → Answer
+out_alone bytes = record { status = Done; out = bytes; err = []; written = [] }
+
+-- a place of a run is shown
+abbrev pub looked : Standing → Answer
+looked standing = out_alone (place_of standing)
+
+-- the places of a run at which a hart comes to a pc are told
+abbrev pub found : Program → List Entry → ℕ → ℕ → Answer
+found program entries hart pc = out_alone (found_text program entries hart pc)
+
 -- what is told besides, as the code has it
 abbrev pub besides_of : Extras → Besides
 besides_of extras = record {
@@ -112,12 +128,17 @@ besides_of extras = record {
 abbrev pub answer_of : Made → Answer
 answer_of (made.Run machine extras) = ended (besides_of extras) machine
 answer_of (made.Differs difference) = differing difference
+answer_of (made.Place timeline) = looked timeline
+answer_of (made.Sought timeline hart pc) = found timeline.program timeline.entries hart.number pc
 answer_of (made.Image bytes file) = generated file.now bytes.items
 answer_of (made.Judged verdict output) = judged verdict output
 
--- the copy of an image that a certificate is written with is of the machine's program
-abbrev pub CopiesProgram : Made → Type 0
-CopiesProgram (made.Run machine extras) = IfSome extras.certified (λ copy. copy.image ≡ machine.program)
-CopiesProgram (made.Differs difference) = Unit {0}
-CopiesProgram (made.Image bytes file) = Unit {0}
-CopiesProgram (made.Judged verdict output) = Unit {0}
+-- what has been made can be told: the copy of an image that a certificate is written with is of the machine's
+-- program, and there is the hart that is sought
+abbrev pub CanBeTold : Made → Type 0
+CanBeTold (made.Run machine extras) = IfSome extras.certified (λ copy. copy.image ≡ machine.program)
+CanBeTold (made.Differs difference) = Unit {0}
+CanBeTold (made.Place timeline) = Unit {0}
+CanBeTold (made.Sought timeline hart pc) = hart.number < timeline.program.harts
+CanBeTold (made.Image bytes file) = Unit {0}
+CanBeTold (made.Judged verdict output) = Unit {0}

@@ -2,7 +2,7 @@
 use Rattle.std.specs.Prelude.{◌≡◌, ℕ, ◌≤◌, ◌⊎◌, Bool, true, false, List, [], ◌∷◌, ◌++◌, length, map, Option, None, Some}
 use Rattle.std.specs.Option.{option_to_list}
 use Rattle.command_line.specs.Settings.{config_of}
-use Rattle.command_line.specs.Words.{Job, Run, Replay, Check, Gen, RunJob}
+use Rattle.command_line.specs.Words.{Job, Run, Replay, Look, Find, Check, Gen, RunJob}
 use Rattle.el_base.specs.Config.{config_fault}
 use Rattle.el_base.specs.declared.config.ConfigFault.{ConfigFault}
 use Rattle.el_io.specs.Counts.{one_more}
@@ -33,6 +33,8 @@ run_writes besides = writes_to besides.trace ++ writes_to besides.cert
 abbrev pub writes_of : Made → List NamedCall
 writes_of (made.Run machine extras) = run_writes (besides_of extras)
 writes_of (made.Differs difference) = []
+writes_of (made.Place timeline) = []
+writes_of (made.Sought timeline hart pc) = []
 writes_of (made.Image bytes file) = writes_to (Some file.now)
 writes_of (made.Judged verdict output) = []
 
@@ -72,6 +74,8 @@ abbrev pub reads_of : Option Job → List FileRead
 reads_of None = []
 reads_of (Some (Run job)) = reads_under (config_fault (config_of job)) (image_read job.image ∷ [])
 reads_of (Some (Replay job)) = image_read job.image ∷ trace_read job.trace ∷ []
+reads_of (Some (Look job)) = image_read job.image ∷ trace_read job.trace ∷ []
+reads_of (Some (Find job)) = image_read job.image ∷ trace_read job.trace ∷ []
 reads_of (Some (Check image certificate)) = image_read image ∷ certificate_read certificate ∷ []
 reads_of (Some (Gen kind number file)) = []
 
@@ -96,6 +100,8 @@ abbrev pub calls_of : Option Job → List NamedCall
 calls_of None = []
 calls_of (Some (Run job)) = run_calls job
 calls_of (Some (Replay job)) = (Read, job.image) ∷ (Read, job.trace) ∷ writes_to job.written
+calls_of (Some (Look job)) = (Read, job.image) ∷ (Read, job.trace) ∷ []
+calls_of (Some (Find job)) = (Read, job.image) ∷ (Read, job.trace) ∷ []
 calls_of (Some (Check image certificate)) = (Read, image) ∷ (Read, certificate) ∷ []
 calls_of (Some (Gen kind number file)) = writes_to (Some file)
 
@@ -104,15 +110,19 @@ abbrev pub puts_of : Option Job → Bool
 puts_of None = false
 puts_of (Some (Run job)) = true
 puts_of (Some (Replay job)) = true
+puts_of (Some (Look job)) = true
+puts_of (Some (Find job)) = true
 puts_of (Some (Check image certificate)) = false
 puts_of (Some (Gen kind number file)) = false
 
--- what a run or a replay has come to: the same of what a command has made
-abbrev pub is_run : Made → Bool
-is_run (made.Run machine extras) = true
-is_run (made.Differs difference) = true
-is_run (made.Image bytes file) = false
-is_run (made.Judged verdict output) = false
+-- the same of what a command has made
+abbrev pub puts_out : Made → Bool
+puts_out (made.Run machine extras) = true
+puts_out (made.Differs difference) = true
+puts_out (made.Place timeline) = true
+puts_out (made.Sought timeline hart pc) = true
+puts_out (made.Image bytes file) = false
+puts_out (made.Judged verdict output) = false
 
 -- the list of a shelf's failed calls got one of these calls at its end, and nothing else
 abbrev pub ListsOne : List NamedCall → List NamedCall → List NamedCall → Type 0

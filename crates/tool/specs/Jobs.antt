@@ -1,7 +1,7 @@
 -- What the program answers to its words, over files.
-use Rattle.std.specs.Prelude.{◌≡◌, ◌≤◌, ◌⊎◌, ℕ, List, [], length, Option, None, Some, MatchOption}
+use Rattle.std.specs.Prelude.{◌≡◌, ◌≤◌, ◌⊎◌, ℕ, ◌-◌, List, [], length, Option, None, Some, MatchOption}
 use Rattle.command_line.specs.Settings.{config_of}
-use Rattle.command_line.specs.Words.{Job, Run, Replay, Check, Gen, ReplayJob, RunJob, job_of}
+use Rattle.command_line.specs.Words.{Job, Run, Replay, Look, Find, Check, Gen, FindJob, LookJob, ReplayJob, RunJob, job_of}
 use Rattle.drive.specs.Drivers.{MakesRoundRobin, MakesTurns}
 use Rattle.el_base.specs.declared.events.Event.{Event}
 use Rattle.el_base.specs.declared.config.Config.{Config}
@@ -21,10 +21,10 @@ use Rattle.trace_file.specs.Spelling.{IsTrace, outcomes, spelling}
 use Rattle.workload.specs.Image.{number_in}
 use Rattle.tool.specs.declared.refusal.Refusal.{Refusal}
 use Rattle.tool.specs.declared.refusal.Refusal.TheVariants.{Usage}
-use Rattle.tool.specs.Answer.{Answer, Besides, differing, ended, generated, judged, refused}
+use Rattle.tool.specs.Answer.{Answer, Besides, differing, ended, found, generated, judged, looked, refused}
 use Rattle.tool.specs.Differing.{CameAsRecorded, DiffersFrom}
 use Rattle.tool.specs.declared.difference.Difference.{Difference}
-use Rattle.tool.specs.Refusals.{check_refusal, replay_refusal, run_refusal}
+use Rattle.tool.specs.Refusals.{check_refusal, find_refusal, look_refusal, replay_refusal, run_refusal}
 
 -- the story of a program under a configuration, before its first event
 abbrev pub first_story : Program → Config → Story
@@ -71,6 +71,31 @@ pub record FollowAnswer (besides : Besides) (image trace : List ℕ) (answer : A
   pub exact :
       IsReplayed besides recorded (continued (first_story (program_of image config.harts) config) made) answer
 
+-- a trace spells events, and this is the story of an image with these
+pub record IsStoryOf (image trace : List ℕ) (story : Story) : Type 0 where
+  pub config : Config
+  pub made : List Event
+  pub recorded : Option (List Outcome)
+  pub is_trace : IsTrace config made recorded
+  pub spelled : trace ≡ spelling config made recorded
+  pub exact : story ≡ continued (first_story (program_of image config.harts) config) made
+
+-- a place of the story that a trace tells of an image, and so many places back from there
+pub record PlaceAnswer (job : LookJob) (image trace : List ℕ) (answer : Answer) : Type 0 where
+  pub story : Story
+  pub told : IsStoryOf image trace story
+  pub exact : answer ≡ looked (record {
+    program = story.program;
+    entries = story.entries;
+    place = job.place - job.back;
+  })
+
+-- the places of the story that a trace tells of an image at which a hart comes to a pc
+pub record PlacesAnswer (job : FindJob) (image trace : List ℕ) (answer : Answer) : Type 0 where
+  pub story : Story
+  pub told : IsStoryOf image trace story
+  pub exact : answer ≡ found story.program story.entries job.hart job.pc
+
 -- the answer to a job: its first refusal, or else what it comes to
 abbrev pub UnlessRefused : Option Refusal → (Answer → Type 0) → Answer → Type 0
 UnlessRefused found Answers answer = MatchOption found (Answers answer) (λ refusal. answer ≡ refused refusal)
@@ -84,6 +109,16 @@ RunAnswer job image answer =
 abbrev pub ReplayAnswer : Besides → List ℕ → List ℕ → Answer → Type 0
 ReplayAnswer besides image trace answer =
     UnlessRefused (replay_refusal image trace) (FollowAnswer besides image trace) answer
+
+-- to show a place of a trace on an image file
+abbrev pub LookAnswer : LookJob → List ℕ → List ℕ → Answer → Type 0
+LookAnswer job image trace answer =
+    UnlessRefused (look_refusal job image trace) (PlaceAnswer job image trace) answer
+
+-- to find where in a trace on an image file a hart comes to a pc
+abbrev pub FindAnswer : FindJob → List ℕ → List ℕ → Answer → Type 0
+FindAnswer job image trace answer =
+    UnlessRefused (find_refusal job image trace) (PlacesAnswer job image trace) answer
 
 -- to judge a certificate of a run of an image
 pub record VerdictAnswer (image certificate : List ℕ) (answer : Answer) : Type 0 where
@@ -111,6 +146,20 @@ pub record IsReplayAnswer (job : ReplayJob) (told : Option Contents) (answer : A
   pub trace_file : Holds told job.trace trace
   pub exact : ReplayAnswer (besides_replay job) image trace answer
 
+pub record IsLookAnswer (job : LookJob) (told : Option Contents) (answer : Answer) : Type 0 where
+  pub image : List ℕ
+  pub trace : List ℕ
+  pub image_file : Holds told job.image image
+  pub trace_file : Holds told job.trace trace
+  pub exact : LookAnswer job image trace answer
+
+pub record IsFindAnswer (job : FindJob) (told : Option Contents) (answer : Answer) : Type 0 where
+  pub image : List ℕ
+  pub trace : List ℕ
+  pub image_file : Holds told job.image image
+  pub trace_file : Holds told job.trace trace
+  pub exact : FindAnswer job image trace answer
+
 pub record IsCheckAnswer (image_name certificate_name : List ℕ) (told : Option Contents) (answer : Answer) : Type 0 where
   pub image : List ℕ
   pub certificate : List ℕ
@@ -131,6 +180,8 @@ abbrev pub JobAnswer : Option Contents → Option Job → Answer → Type 0
 JobAnswer told None answer = answer ≡ refused Usage
 JobAnswer told (Some (Run job)) answer = IsRunAnswer job told answer
 JobAnswer told (Some (Replay job)) answer = IsReplayAnswer job told answer
+JobAnswer told (Some (Look job)) answer = IsLookAnswer job told answer
+JobAnswer told (Some (Find job)) answer = IsFindAnswer job told answer
 JobAnswer told (Some (Check image certificate)) answer = IsCheckAnswer image certificate told answer
 JobAnswer told (Some (Gen kind number file)) answer = IsGenAnswer number file answer
 

@@ -45,6 +45,9 @@ line_of (refusals.TooBig limit) = line (codes "file too big: limit") (decimal li
 line_of (refusals.Image fault) = fault_line (codes "image") fault (unwrap_or (image_faults.fault_name fault.number) [])
 line_of (refusals.Certificate fault) =
     fault_line (codes "certificate") fault (unwrap_or (certificate_faults.fault_name fault.number) [])
+line_of (refusals.PlaceOverEnd events) = line (codes "place over the end: events") (decimal events ∷ [])
+line_of (refusals.BackOverStart place) = line (codes "back over the start: place") (decimal place ∷ [])
+line_of refusals.NoSuchHart = line (codes "no such hart") []
 line_of (refusals.Trace fault) = fault_line (codes "trace") fault (unwrap_or (trace_faults.fault_name fault.number) [])
 
 -- the line that says how many bytes a file was written with, with its newline

@@ -1,5 +1,6 @@
 -- What stopped a command before anything was put.
 use Rattle.std.specs.Prelude.{◌≡◌, ℕ, List, [], ◌∷◌, Option, None, Some}
+use Rattle.command_line.specs.Words.{FindJob, LookJob}
 use Rattle.command_line.specs.declared.fault.WordsFault.{WordsFault}
 use Rattle.command_line.specs.declared.fault.WordsFault.TheVariants as words_faults
 use Rattle.el_base.specs.Firsts.{first_of}
@@ -30,7 +31,7 @@ use Rattle.tool.specs.declared.stop.Fault.TheVariants.{Device, NoMemory}
 use Rattle.tool.specs.declared.stop.Stop.{Stop}
 use Rattle.tool.specs.declared.stop.Stop.TheVariants.{Refused, Failed}
 use Rattle.tool.specs.Answer.{Answer, refused}
-use Rattle.tool.specs.Refusals.{certificate_refusal, image_refusal, size_refusal, trace_refusal}
+use Rattle.tool.specs.Refusals.{certificate_refusal, events_at, hart_refusal, image_refusal, place_refusal, size_refusal, trace_refusal}
 
 -- how each error of a callee stops a command
 abbrev pub stop_of_words_fault : WordsFault → Stop
@@ -76,6 +77,13 @@ pub record IsCertificateOf (file : List ℕ) (content : Content) : Type 0 where
 abbrev pub follow_refusal : List ℕ → List ℕ → Option Refusal
 follow_refusal image trace = first_of (trace_refusal trace ∷ image_refusal image (config_at trace).harts ∷ [])
 
+-- the refusals of a place, and of a hart, of files within their limits
+abbrev pub place_stop : LookJob → List ℕ → List ℕ → Option Refusal
+place_stop job image trace = first_of (follow_refusal image trace ∷ place_refusal job (events_at trace) ∷ [])
+
+abbrev pub hart_stop : FindJob → List ℕ → List ℕ → Option Refusal
+hart_stop job image trace = first_of (follow_refusal image trace ∷ hart_refusal job (config_at trace).harts ∷ [])
+
 -- the refusals of the judging of files within their limits
 abbrev pub verdict_refusal : List ℕ → List ℕ → Option Refusal
 verdict_refusal image certificate =
@@ -87,11 +95,11 @@ StopsBy found (Refused refusal) = found ≡ Some refusal
 StopsBy found (Failed Device) = ⊥
 StopsBy found (Failed NoMemory) = found ≡ None
 
--- the first of two refusals, or out of memory where the first of them is not met
-abbrev pub StopsByFirst : Option Refusal → Option Refusal → Stop → Type 0
-StopsByFirst one other (Refused refusal) = first_of (one ∷ other ∷ []) ≡ Some refusal
-StopsByFirst one other (Failed Device) = ⊥
-StopsByFirst one other (Failed NoMemory) = one ≡ None
+-- this refusal, or out of memory, which does not come in place of the refusal that is judged first
+abbrev pub StopsAfter : Option Refusal → Option Refusal → Stop → Type 0
+StopsAfter first found (Refused refusal) = found ≡ Some refusal
+StopsAfter first found (Failed Device) = ⊥
+StopsAfter first found (Failed NoMemory) = first ≡ None
 
 -- want of memory alone
 abbrev pub OnlyMemory : Stop → Type 0

@@ -12,14 +12,15 @@ ghost use Rattle.machine.specs.Story.{continued, left_of};
 ghost use Rattle.run_check.specs.Faults.{harts_of};
 ghost use Rattle.trace_file.specs.Faults.{config_at};
 ghost use Rattle.trace_file.specs.Spelling.{listed, outcomes};
-ghost use Rattle.tool.specs.Answer.{CopiesProgram, answer_of, ended, judged};
-ghost use Rattle.tool.specs.Causes.{FileRead, IsWithin, ListsOne, MayWrite, StopReads, calls_of, certificate_read, image_read, is_run, puts_of, reads_of, reads_under, run_writes, trace_read, writes_of};
+ghost use Rattle.tool.specs.Answer.{CanBeTold, answer_of, ended, judged};
+ghost use Rattle.tool.specs.Causes.{FileRead, IsWithin, ListsOne, MayWrite, StopReads, calls_of, certificate_read, image_read, puts_out, puts_of, reads_of, reads_under, run_writes, trace_read, writes_of};
 ghost use Rattle.tool.specs.Jobs.{DriversMade, FollowAnswer, IsAnswer, IsCheckAnswer, IsReplayAnswer, IsRunAnswer, MakesRun, RanAnswer, VerdictAnswer, besides_replay, besides_run, first_story};
 ghost use Rattle.tool.specs.Differing.{CameAsRecorded, DiffersFrom, IsDifference};
 ghost use Rattle.tool.specs.Refusals.{certificate_refusal, image_refusal, trace_refusal};
-ghost use Rattle.tool.specs.Stopping.{IsCertificateOf, IsTraceOf, OnlyMemory, StopsBy, StopsByFirst, StopsRead, StopsWith, follow_refusal, verdict_refusal};
+ghost use Rattle.tool.specs.Stopping.{IsCertificateOf, IsTraceOf, OnlyMemory, StopsAfter, StopsBy, StopsRead, StopsWith, follow_refusal, verdict_refusal};
 
 use crate::difference::Difference;
+use crate::looking::{find, look};
 use crate::made::{Certified, Extras, Made};
 use crate::refusal::Refusal;
 use crate::stop::{Fault, Stop};
@@ -54,14 +55,16 @@ pub(crate) fn obey<'a, R: Threads + Wait + Sync, S: Shelf, G: Gate + Sync>(
     ensures writes { IfOk result (λ made. (before now : List NamedCall) →
         ListsOne (writes_of made) before now →
         ListsOne (calls_of (job_of (texts words.entry.now))) before now) }
-    ensures puts { IfOk result (λ made. is_run made ≡ puts_of (job_of (texts words.entry.now))) }
-    ensures copied { IfOk result CopiesProgram }
+    ensures puts { IfOk result (λ made. puts_out made ≡ puts_of (job_of (texts words.entry.now))) }
+    ensures tellable { IfOk result CanBeTold }
     ensures named { IfOk result (λ _. names_command (texts words.entry.now) ≡ true) }
     ensures memory { result ≡ Err (Stop.Failed Fault.NoMemory) → names_command (texts words.entry.now) ≡ true }
 {
     match read_words(alloc, words)? {
         Command::Run(command) => run(runtime, alloc, shelf, command, gate),
         Command::Replay(command) => replay(alloc, shelf, command),
+        Command::Look(command) => look(alloc, shelf, command),
+        Command::Find(command) => find(alloc, shelf, command),
         Command::Check { image, certificate } => judge(alloc, shelf, image, certificate),
         Command::Gen { kind, number, file } => Ok(Made::Image {
             bytes: build(alloc, kind, number)?,
@@ -89,8 +92,8 @@ fn run<'a, R: Threads + Wait + Sync, S: Shelf, G: Gate + Sync>(
         (λ _. S.failures shelf.new ≡ S.failures shelf.old)
         (StopReads (S.told shelf.old) reads (S.failures shelf.old) (S.failures shelf.new)) }
     ensures writes { IfOk result (λ made. writes_of made ≡ run_writes (besides_run (run_meaning command.entry))) }
-    ensures puts { IfOk result (λ made. is_run made ≡ true) }
-    ensures copied { IfOk result CopiesProgram }
+    ensures puts { IfOk result (λ made. puts_out made ≡ true) }
+    ensures tellable { IfOk result CanBeTold }
     ensures memory { result ≡ Err (Stop.Failed Fault.NoMemory) → config_fault (config_of (run_meaning command.entry)) ≡ None }
 {
     let config = command.config()?;
@@ -115,7 +118,7 @@ fn run_file<'a, R: Threads + Wait + Sync, G: Gate + Sync>(
         MatchResult result
         (λ made. (fault file.items config.harts ≡ None)
         × RanAnswer job program config (answer_of made)
-        × (writes_of made ≡ run_writes (besides_run job)) × (is_run made ≡ true) × CopiesProgram made)
+        × (writes_of made ≡ run_writes (besides_run job)) × (puts_out made ≡ true) × CanBeTold made)
         (StopsBy (image_refusal file.items config.harts)) }
 {
     let image = image_of(alloc, file, config.harts)?;
@@ -206,8 +209,8 @@ fn judge<'a, S: Shelf>(
         (λ _. S.failures shelf.new ≡ S.failures shelf.old)
         (StopReads (S.told shelf.old) reads (S.failures shelf.old) (S.failures shelf.new)) }
     ensures writes { IfOk result (λ made. writes_of made ≡ []) }
-    ensures puts { IfOk result (λ made. is_run made ≡ false) }
-    ensures copied { IfOk result CopiesProgram }
+    ensures puts { IfOk result (λ made. puts_out made ≡ false) }
+    ensures tellable { IfOk result CanBeTold }
 {
     let image = read_file(alloc, shelf, image, IMAGE_FILE_LIMIT)?;
     let certificate = read_file(alloc, shelf, certificate, run_check::MAX_FILE_BYTES)?;
@@ -220,8 +223,8 @@ fn judge_files<'a>(alloc: Global, image: Vec<u8>, certificate: Vec<u8>) -> Resul
     ensures { MatchResult result
         (λ made. (verdict_refusal image.items certificate.items ≡ None)
         × VerdictAnswer image.items certificate.items (answer_of made)
-        × (writes_of made ≡ []) × (is_run made ≡ false) × CopiesProgram made)
-        (StopsByFirst (certificate_refusal certificate.items) (image_refusal image.items (harts_of certificate.items))) }
+        × (writes_of made ≡ []) × (puts_out made ≡ false) × CanBeTold made)
+        (StopsAfter (certificate_refusal certificate.items) (verdict_refusal image.items certificate.items)) }
 {
     let certificate = certificate_of(alloc, certificate)?;
     let image = image_of(alloc, image, certificate.harts())?;
@@ -256,8 +259,8 @@ fn replay<'a, S: Shelf>(
         (λ _. S.failures shelf.new ≡ S.failures shelf.old)
         (StopReads (S.told shelf.old) reads (S.failures shelf.old) (S.failures shelf.new)) }
     ensures writes { IfOk result (MayWrite (replay_meaning command.entry).written) }
-    ensures puts { IfOk result (λ made. is_run made ≡ true) }
-    ensures copied { IfOk result CopiesProgram }
+    ensures puts { IfOk result (λ made. puts_out made ≡ true) }
+    ensures tellable { IfOk result CanBeTold }
 {
     let image = read_file(alloc, shelf, command.image, IMAGE_FILE_LIMIT)?;
     let trace = read_file(alloc, shelf, command.trace, MAX_FILE_BYTES)?;
@@ -266,7 +269,7 @@ fn replay<'a, S: Shelf>(
 
 /// The bytes of a file of at most `limit` bytes.
 #[tactic(auto, using(crate::proofs::Files::over_limit))]
-fn read_file<S: Shelf>(
+pub(crate) fn read_file<S: Shelf>(
     alloc: Global,
     shelf: &mut S,
     name: &str,
@@ -300,8 +303,8 @@ fn follow_trace<'a>(
         MatchResult result
         (λ made. (follow_refusal image.items trace.items ≡ None)
         × FollowAnswer (besides_replay job) image.items trace.items (answer_of made)
-        × MayWrite job.written made × (is_run made ≡ true) × CopiesProgram made)
-        (StopsByFirst (trace_refusal trace.items) (image_refusal image.items (config_at trace.items).harts)) }
+        × MayWrite job.written made × (puts_out made ≡ true) × CanBeTold made)
+        (StopsAfter (trace_refusal trace.items) (follow_refusal image.items trace.items)) }
 {
     let trace = trace_of(alloc, trace)?;
     let image = image_of(alloc, image, trace.config.harts)?;
@@ -368,7 +371,7 @@ fn difference_from(
 
 /// The trace that a file spells. The file is given back.
 #[tactic(auto, using(crate::proofs::Files::harts_of_trace))]
-fn trace_of(alloc: Global, file: Vec<u8>) -> Result<Trace, Stop>
+pub(crate) fn trace_of(alloc: Global, file: Vec<u8>) -> Result<Trace, Stop>
     ensures exact { MatchResult result
         (λ trace. IsTraceOf file.items trace.config trace.events (listed trace.recorded))
         (StopsBy (trace_refusal file.items)) }
@@ -379,7 +382,7 @@ fn trace_of(alloc: Global, file: Vec<u8>) -> Result<Trace, Stop>
 
 /// The image in a file. The file is given back.
 #[tactic(auto, using(crate::proofs::Files::loaded_harts))]
-fn image_of(alloc: Global, file: Vec<u8>, harts: u8) -> Result<Image, Stop>
+pub(crate) fn image_of(alloc: Global, file: Vec<u8>, harts: u8) -> Result<Image, Stop>
     requires harts_in_range { (1 ≤ harts) × (harts ≤ 8) }
     requires within_limit { length file.items ≤ file_limit }
     ensures exact { MatchResult result

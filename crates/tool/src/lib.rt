@@ -1,7 +1,8 @@
 //! The top call: the words of a command line, done over a shelf of files and two sinks.
 //!
 //! It stands on the devices of `el_io`, the words of `command_line`, the images of `elf_image` and of
-//! `workload`, the machine with its drivers, the traces of `trace_file` and the text of `report`.
+//! `workload`, the machine with its drivers, the traces of `trace_file`, the timelines of `step_back` and the
+//! text of `report`.
 //! `specs/Jobs.antt` says what the program answers to its words over its files, and [`tool`] promises
 //! that exactly this is put and written. `doing` makes what the words ask for, a run that has ended or
 //! an image, `telling` puts and writes it, and `refusal` has every line of a refusal.
@@ -14,6 +15,7 @@ mod doing;
 mod ended;
 mod ending;
 mod laws;
+mod looking;
 mod made;
 mod refusal;
 mod status;

@@ -1,9 +1,11 @@
 //! What `doing` hands on to `telling`.
 
 use crate::difference::Difference;
+use el_base::HartId;
 use elf_image::Image;
 use machine::Machine;
 use run_check::Verdict;
+use step_back::Timeline;
 
 /// What a command has made, of which nothing was put or written yet.
 #[derive(Drop)]
@@ -15,6 +17,14 @@ pub(crate) enum Made<'a> {
     },
     /// A replay of which another outcome came than its trace records.
     Differs(Difference),
+    /// A place of a trace, which is to be shown.
+    Place(Timeline),
+    /// A trace, and a hart and a pc that are sought in it.
+    Sought {
+        timeline: Timeline,
+        hart: HartId,
+        pc: u32,
+    },
     /// The bytes of an image, and the name of the file for them.
     Image {
         bytes: Vec<u8>,

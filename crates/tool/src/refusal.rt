@@ -1,8 +1,10 @@
 //! Why a command is refused, and the line that it puts to err then.
-ghost use Rattle.std.specs.Prelude.{◌≡◌, [], unwrap_or};
+ghost use Rattle.std.specs.Prelude.{◌≡◌, ◌∷◌, [], unwrap_or};
+ghost use Rattle.std.specs.Fmt.{decimal};
 ghost use Rattle.elf_image.specs.FaultKinds as image_faults;
 ghost use Rattle.run_check.specs.FaultKinds as certificate_faults;
 ghost use Rattle.trace_file.specs.FaultKinds as trace_faults;
+ghost use Rattle.report.specs.Line.{line};
 ghost use Rattle.report.specs.Puts.{Puts};
 ghost use Rattle.tool.specs.Messages.{config_fault_text as text_of_config_fault, config_line, fault_line, line_of};
 
@@ -28,6 +30,12 @@ pub(crate) enum Refusal {
     Trace(FileFault),
     /// The first fault of a certificate.
     Certificate(FileFault),
+    /// A place is over the end of a trace with so many events.
+    PlaceOverEnd { events: u32 },
+    /// So many places back are over the start from this place.
+    BackOverStart { place: u32 },
+    /// A hart that the machine of a trace does not have.
+    NoSuchHart,
 }
 
 impl Refusal {
@@ -39,26 +47,43 @@ impl Refusal {
             (line_of self) }
     {
         match self {
-            Refusal::Usage => put_usage(err),
+            Refusal::Usage => put_text(err, USAGE),
             Refusal::Config(fault) => put_config(err, fault),
-            Refusal::TooBig { limit } => put_limit(err, limit),
+            Refusal::TooBig { limit } => put_number(err, "file too big: limit", limit),
             Refusal::Image(fault) => put_fault(err, "image", fault, name_in_image(fault)),
             Refusal::Trace(fault) => put_fault(err, "trace", fault, name_in_trace(fault)),
             Refusal::Certificate(fault) => {
                 put_fault(err, "certificate", fault, name_in_certificate(fault))
             }
+            Refusal::PlaceOverEnd { events } => {
+                put_number(err, "place over the end: events", events)
+            }
+            Refusal::BackOverStart { place } => {
+                put_number(err, "back over the start: place", place)
+            }
+            Refusal::NoSuchHart => put_text(err, "no such hart"),
         }
     }
 }
 
-#[tactic(auto, unfolding(crate::specs::Messages::line_of))]
-fn put_usage<E: Sink>(err: &mut E) -> Result<(), Failed>
+/// Puts a line of these words.
+fn put_text<E: Sink>(err: &mut E, text: &'static str) -> Result<(), Failed>
     ensures { Puts result
         (record { taken = E.taken err.old; faults = E.faults err.old })
         (record { taken = E.taken err.new; faults = E.faults err.new })
-        (line_of Refusal.Usage) }
+        (line text.now []) }
 {
-    put_line(err, USAGE, &[], &[])
+    put_line(err, text, &[], &[])
+}
+
+/// Puts a line of these words and a number.
+fn put_number<E: Sink>(err: &mut E, text: &'static str, number: u32) -> Result<(), Failed>
+    ensures { Puts result
+        (record { taken = E.taken err.old; faults = E.faults err.old })
+        (record { taken = E.taken err.new; faults = E.faults err.new })
+        (line text.now (decimal number ∷ [])) }
+{
+    put_line(err, text, &[Word::Number(number.into())], &[])
 }
 
 /// Puts the line of a fault of a configuration.
@@ -72,22 +97,6 @@ fn put_config<E: Sink>(err: &mut E, fault: ConfigFault) -> Result<(), Failed>
         err,
         "config fault",
         &[Word::Text(config_fault_text(fault))],
-        &[],
-    )
-}
-
-/// Puts the line of a file over its limit.
-#[tactic(auto, unfolding(crate::specs::Messages::line_of))]
-fn put_limit<E: Sink>(err: &mut E, limit: u32) -> Result<(), Failed>
-    ensures { Puts result
-        (record { taken = E.taken err.old; faults = E.faults err.old })
-        (record { taken = E.taken err.new; faults = E.faults err.new })
-        (line_of (Refusal.TooBig limit)) }
-{
-    put_line(
-        err,
-        "file too big: limit",
-        &[Word::Number(limit.into())],
         &[],
     )
 }

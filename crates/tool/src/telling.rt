@@ -1,11 +1,12 @@
 //! What a command puts and writes at its end.
-ghost use Rattle.std.specs.Prelude.{◌≡◌, ℕ, ◌++◌, if◌then◌else◌, is_ok, true, false, List, [], ◌∷◌, Option, Some, IfOk, IfSome, MatchResult, OnErr, OnOk, string_bytes};
+ghost use Rattle.std.specs.Prelude.{◌≡◌, ℕ, ◌<◌, ◌++◌, if◌then◌else◌, is_ok, true, false, List, [], ◌∷◌, Option, Some, IfOk, IfSome, MatchResult, OnErr, OnOk, string_bytes};
 ghost use Rattle.std.specs.Option.{option_map};
 ghost use Rattle.el_io.specs.Sink.{TookAll, TookPart};
 ghost use Rattle.el_io.specs.Counts.{one_more};
+ghost use Rattle.report.specs.PlaceText.{found_text, place_of};
 ghost use Rattle.report.specs.Text.{report_of};
-ghost use Rattle.tool.specs.Answer.{CopiesProgram, answer_of, besides_of, certified_by, ended, files_of, generated, judged, times_if, where_named, written_by};
-ghost use Rattle.tool.specs.Causes.{Caused, FaultCounts, is_run, run_writes, writes_of, writes_to};
+ghost use Rattle.tool.specs.Answer.{CanBeTold, answer_of, besides_of, certified_by, ended, files_of, generated, judged, times_if, where_named, written_by};
+ghost use Rattle.tool.specs.Causes.{Caused, FaultCounts, puts_out, run_writes, writes_of, writes_to};
 ghost use Rattle.tool.specs.Comes.{Comes, Untold};
 ghost use Rattle.tool.specs.Faults.{Faulted};
 ghost use Rattle.tool.specs.Messages.{differs_line, line_of, written_line as line_of_written};
@@ -19,11 +20,13 @@ use crate::made::{Certified, Extras, Made};
 use crate::refusal::Refusal;
 use crate::status::Status;
 use crate::stop::Fault;
+use el_base::HartId;
 use el_io::{Failed, Shelf, Sink, put_all};
 use machine::Machine;
-use report::{write_report, write_times};
+use report::{write_found, write_place, write_report, write_times};
 use run_check::{Verdict, write_certificate};
 use std::alloc::{AllocError, Global};
+use step_back::Timeline;
 use timetable::tabulate;
 use trace_file::write_trace;
 
@@ -35,11 +38,11 @@ pub(crate) fn tell<S: Shelf, O: Sink, E: Sink>(
     out: &mut O,
     err: &mut E,
 ) -> Result<Status, Fault>
-    requires copied { CopiesProgram made }
+    requires tellable { CanBeTold made }
     ensures exact { Comes (Only (answer_of made.entry)) (status_of result)
         (record { out = O.taken out.old; err = E.taken err.old; files = S.told shelf.old })
         (record { out = O.taken out.new; err = E.taken err.new; files = S.told shelf.new }) }
-    ensures cause { Caused (writes_of made.entry) (is_run made.entry) (status_of result)
+    ensures cause { Caused (writes_of made.entry) (puts_out made.entry) (status_of result)
         (record { shelf = S.failures shelf.old; out = O.faults out.old; err = E.faults err.old })
         (record { shelf = S.failures shelf.new; out = O.faults out.new; err = E.faults err.new }) }
     ensures fault { Faulted [] (Only (answer_of made.entry)) (status_of result)
@@ -51,6 +54,12 @@ pub(crate) fn tell<S: Shelf, O: Sink, E: Sink>(
     match made {
         Made::Run { machine, extras } => tell_run(alloc, &machine, extras, shelf, out, err),
         Made::Differs(difference) => tell_difference(alloc, difference, err),
+        Made::Place(timeline) => tell_place(&timeline, out),
+        Made::Sought {
+            mut timeline,
+            hart,
+            pc,
+        } => tell_found(&mut timeline, hart, pc, out),
         Made::Image { bytes, file } => tell_image(alloc, bytes, file, shelf, err),
         Made::Judged { verdict, output } => tell_verdict(alloc, verdict, output, err),
     }
@@ -101,6 +110,39 @@ fn put_report<E: Sink>(err: &mut E, machine: &Machine, times: bool) -> Result<()
         write_times(err, &tabulate(machine.history()), machine.config().harts)?;
     }
     Ok(())
+}
+
+/// Puts what a trace comes to at a place.
+fn tell_place<O: Sink>(timeline: &Timeline, out: &mut O) -> Result<Status, Fault>
+    ensures told { MatchResult result
+        (λ status. (status ≡ Status.Done) × TookAll (O.taken out.old) (O.taken out.new) (place_of timeline.now))
+        (λ fault. (fault ≡ Fault.Device) × TookPart (O.taken out.old) (O.taken out.new) (place_of timeline.now)) }
+    ensures cause { MatchResult result
+        (λ _. O.faults out.new ≡ O.faults out.old)
+        (λ _. O.faults out.new ≡ one_more (O.faults out.old)) }
+{
+    write_place(out, timeline)?;
+    Ok(Status::Done)
+}
+
+/// Puts the places of a trace at which a hart comes to a pc.
+fn tell_found<O: Sink>(
+    timeline: &mut Timeline,
+    hart: HartId,
+    pc: u32,
+    out: &mut O,
+) -> Result<Status, Fault>
+    requires { hart.number < timeline.old.program.harts }
+    ensures told { let text = found_text timeline.old.program timeline.old.entries hart.number pc in
+        MatchResult result
+        (λ status. (status ≡ Status.Done) × TookAll (O.taken out.old) (O.taken out.new) text)
+        (λ fault. (fault ≡ Fault.Device) × TookPart (O.taken out.old) (O.taken out.new) text) }
+    ensures cause { MatchResult result
+        (λ _. O.faults out.new ≡ O.faults out.old)
+        (λ _. O.faults out.new ≡ one_more (O.faults out.old)) }
+{
+    write_found(out, timeline, hart, pc)?;
+    Ok(Status::Done)
 }
 
 /// Puts where a replay differs from what its trace records.

@@ -21,4 +21,6 @@ mod runs;
 #[cfg(test)]
 mod support;
 #[cfg(test)]
+mod timelines;
+#[cfg(test)]
 mod traces;

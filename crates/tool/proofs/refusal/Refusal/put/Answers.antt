@@ -4,6 +4,10 @@ use Rattle.tool.proofs.Refusing.{puts_same}
 use Rattle.tool.specs.Messages.{fault_line, line_of}
 use Rattle.tool.proofs.refusal.Refusal.put.Goals as goal
 
+pub returns-in-Usage : goal.returns-in-Usage
+unfolding line_of
+returns-in-Usage g c = puts_same c.put_text.result _ _ _ _ (ap line_of (sym c.in-Usage.is)) c.put_text.ensures
+
 pub returns-in-Config : goal.returns-in-Config
 unfolding line_of
 returns-in-Config g c = puts_same c.put_config.result _ _ _ _ (ap line_of (sym c.in-Config.is)) c.put_config.ensures
@@ -29,3 +33,24 @@ returns-in-Certificate g c =
     (ap (fault_line (codes "certificate") c.in-Certificate.fault) c.name_in_certificate.ensures
     ∙ ap line_of (sym c.in-Certificate.is))
     c.put_fault-in-Certificate.ensures
+
+pub returns-in-TooBig : goal.returns-in-TooBig
+unfolding line_of
+returns-in-TooBig g c = puts_same c.put_number.result _ _ _ _ (ap line_of (sym c.in-TooBig.is)) c.put_number.ensures
+
+pub returns-in-PlaceOverEnd : goal.returns-in-PlaceOverEnd
+unfolding line_of
+returns-in-PlaceOverEnd g c =
+    puts_same c.put_number-in-PlaceOverEnd.result _ _ _ _ (ap line_of (sym c.in-PlaceOverEnd.is))
+    c.put_number-in-PlaceOverEnd.ensures
+
+pub returns-in-BackOverStart : goal.returns-in-BackOverStart
+unfolding line_of
+returns-in-BackOverStart g c =
+    puts_same c.put_number-in-BackOverStart.result _ _ _ _ (ap line_of (sym c.in-BackOverStart.is))
+    c.put_number-in-BackOverStart.ensures
+
+pub returns-in-NoSuchHart : goal.returns-in-NoSuchHart
+unfolding line_of
+returns-in-NoSuchHart g c =
+    puts_same c.put_text-in-NoSuchHart.result _ _ _ _ (ap line_of (sym c.in-NoSuchHart.is)) c.put_text-in-NoSuchHart.ensures

@@ -147,9 +147,9 @@ refuses() {
     fi
 }
 
-# fails WORD..: a file that these words name cannot be read: status 4, and nothing is put
+# fails WORD..: a file that these words name cannot be read: status 4, and nothing is put to out
 fails() {
-    if [ -z "$(./elide "$@" 2>&1)" ] && { ./elide "$@" > /dev/null 2>&1; [ $? -eq 4 ]; }; then
+    if [ -z "$(./elide "$@" 2> /dev/null)" ] && { ./elide "$@" > /dev/null 2>&1; [ $? -eq 4 ]; }; then
         passed=$((passed + 1))
     else
         echo "examples: no fault of a device: $*"
@@ -220,5 +220,11 @@ fails run examples/none.elf
 fails replay crates/elide/data/hello.elf examples
 fails gen counter 1 examples/none/image.elf
 piped
+# What the script ./elide says itself, the runs that a page shows, and the numbers of docs/STUDY.md, with tries of their own.
+tools/check_words.sh || failed=$((failed + 1))
+if command -v python3 > /dev/null; then
+    tools/check_transcripts.py docs/CLASS.md docs/STUDY.md || failed=$((failed + 1))
+    study/check.sh || failed=$((failed + 1))
+fi
 echo "$passed passed, $failed failed"
 [ "$failed" -eq 0 ]

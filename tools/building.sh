@@ -48,14 +48,17 @@ build() {
     return $built
 }
 
+# build_where_needed NAME 'WORDS THAT END WELL': `program` is then the built program.
+build_where_needed() {
+    program=$root/crates/$1/out/$1
+    if [ ! -x "$program" ] || source_is_newer "$program"; then
+        build "$1" "$2" || { echo "$1: not built" >&2; exit 70; }
+    fi
+}
+
 # run_program NAME 'WORDS THAT END WELL' WORD..
 run_program() {
-    name=$1
-    tried=$2
+    build_where_needed "$1" "$2"
     shift 2
-    program=$root/crates/$name/out/$name
-    if [ ! -x "$program" ] || source_is_newer "$program"; then
-        build "$name" "$tried" || { echo "$name: not built" >&2; exit 70; }
-    fi
     exec "$program" "$@"
 }

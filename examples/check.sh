@@ -223,7 +223,7 @@ piped
 # What the script ./elide says itself, the runs that a page shows, and the numbers of docs/STUDY.md, with tries of their own.
 tools/check_words.sh || failed=$((failed + 1))
 if command -v python3 > /dev/null; then
-    tools/check_transcripts.py docs/CLASS.md docs/STUDY.md || failed=$((failed + 1))
+    tools/check_transcripts.py docs/CLASS.md docs/STUDY.md docs/TIMELINE.md || failed=$((failed + 1))
     study/check.sh || failed=$((failed + 1))
 fi
 echo "$passed passed, $failed failed"

@@ -60,7 +60,8 @@ why_unwritten() {
 }
 
 # failed_file WORD..: why the first of a command's files failed, or nothing. Positional words are files to be read, which
-# comes first, but for the third one of `gen`; that one and the values of --trace and --cert are written.
+# comes first, but for the words of `gen` and the numbers of `look` and `find`; the third word of `gen` and the values of
+# --trace and --cert are written.
 failed_file() {
     command=$1
     shift
@@ -81,7 +82,7 @@ failed_file() {
             *)
                 at=$((at + 1))
                 case $command:$at in
-                    gen:1 | gen:2) ;;
+                    gen:1 | gen:2 | look:3 | find:3 | find:4) ;;
                     gen:*) written "$1" ;;
                     *) [ -n "$unread" ] || unread=$(why_unread "$1") ;;
                 esac
@@ -125,6 +126,9 @@ cure() {
         'trace fault '*) echo "no trace of elide as run --trace writes it: was it cut or changed?" ;;
         'certificate fault '*) echo "no certificate as run --cert writes it: docs/CERTIFICATES.md" ;;
         'file too big: '*) echo "is this the file that was meant?" ;;
+        'place over the end: '*) echo "a place is a number of events, from 0 to those of the trace" ;;
+        'back over the start: '*) echo "--back takes at most the place" ;;
+        'no such hart') echo "the trace has fewer harts: they are numbered from 0" ;;
     esac
 }
 

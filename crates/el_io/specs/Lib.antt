@@ -5,6 +5,7 @@ pub mod Files
 pub mod MemShelf
 pub mod MemSink
 pub mod Shelf
+pub mod Reading
 pub mod Sink
 pub mod SureShelf
 pub mod SureSink

@@ -1,4 +1,5 @@
-ghost use Rattle.std.specs.Prelude.{◌≡◌, ◌<◌, ◌≤◌, [], None, length, IfOk, IfSome};
+ghost use Rattle.std.specs.Prelude.{◌≡◌, ◌<◌, ◌≤◌, ◌+◌, [], None, length, IfOk, IfSome};
+ghost use Rattle.el_io.specs.Reading.{TakesAtMost};
 
 use crate::failure_list::FailureList;
 use crate::shelf::{Call, Shelf, ShelfFault};
@@ -73,12 +74,14 @@ fn read_file<R: Files>(
 
 /// All that a reader has left, if it is at most the limit, and else `TooBig`. It reads at most one
 /// byte more than the limit, and fails where the reader does.
+#[tactic(auto, using(crate::proofs::Reading::takes_at_most))]
 fn read_up_to<R: Read>(reader: &mut R, alloc: Global, limit: u32) -> Result<Vec<u8>, ShelfFault>
     ensures within_limit { IfOk result (λ bytes. length bytes.items ≤ limit) }
     ensures all_that_is_left { IfOk result (λ bytes.
         IfSome (R.remaining reader.old) (λ left. bytes.items ≡ left)) }
     ensures too_big_only_over_limit { result ≡ Err ShelfFault.TooBig →
         IfSome (R.remaining reader.old) (λ left. limit < length left) }
+    ensures stops { TakesAtMost (limit + 1) (R.remaining reader.old) (R.remaining reader.new) }
 {
     let mut bytes = Vec::new(alloc);
     let mut piece = [0; PIECE];

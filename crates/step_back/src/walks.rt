@@ -3,7 +3,8 @@
 //! Events and moves are drawn by `schedule`'s generator. What takes effect in an event is counted here anew, as the
 //! profile's table of outcomes says it.
 
-ghost use Rattle.std.specs.Prelude.{◌≤◌};
+ghost use Rattle.std.specs.Prelude.{◌≤◌, IfOk};
+ghost use Rattle.trace_file.specs.Spelling.{IsTrace, listed};
 
 use super::*;
 use chronicle::History;
@@ -45,6 +46,7 @@ const RUNS: &[(u8, u8, Work, u64)] = &[
 /// The trace of so many harts in the mode of this number, whose events are drawn.
 fn trace_of(alloc: Global, mode: u8, harts: u8, seed: u64) -> Result<Trace, Fail>
     requires { (1 ≤ harts) × (harts ≤ 8) }
+    ensures { IfOk result (λ trace. IsTrace trace.config trace.events (listed trace.recorded)) }
 {
     let mut file = Vec::from_slice(alloc, b"ELTR\x01")?;
     file.extend_from_slice(&[harts, mode, 16, 4, 16])?;

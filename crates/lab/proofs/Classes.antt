@@ -57,7 +57,7 @@ and_both : (a b : Bool) → (a && b) ≡ true → (a ≡ true) × (b ≡ true)
 and_both true b e = (refl, e)
 and_both false b e = absurd cc
 
-acquire_is : (a b : Acquire) → same_acquire a b ≡ true → a ≡ b
+pub acquire_is : (a b : Acquire) → same_acquire a b ≡ true → a ≡ b
 acquire_is a b same =
     let both = and_both (a.pc == b.pc) (a.word == b.word) same in
     let pc : a.pc ≡ b.pc = grind (arith, nat_tests, both.0) in
@@ -135,8 +135,8 @@ rows_sum program config events acquires same range are =
       mixed = by_rows (λ t. t.mixed) refl tries acquires are ∙ sum_same _ _ (λ h. (told h).mixed) (range_with_len 0 8);
     }
 
--- the acquires of some sections, as one more comes
-same_is : IsEquivalence same_acquire
+-- acquires that are the same, as keys
+pub same_is : IsEquivalence same_acquire
 same_is = record {
   refl = λ x. one x x refl;
   symm = λ x y. symm (x.pc == y.pc) (x.word == y.word) (y.pc == x.pc) (y.word == x.word) (turned x.pc y.pc) (turned x.word y.word);
@@ -155,48 +155,3 @@ same_is = record {
 
     symm : (a b c d : Bool) → a ≡ c → b ≡ d → (a && b) ≡ (c && d)
     symm a b c d p q = ap (λ x. x && b) p ∙ ap (λ x. c && x) q
-
-pub none_yet : AreAcquiresOf [] []
-unfolding IsDistinct
-none_yet = record { once = tt; each = λ k d below. absurd (omega arith) }
-
-pub acquire_known : (tries : List Try) (place : ℕ) (try : Try) (acquires : List Acquire) → place < length tries →
-    try ≡ get_or tries place try → AreAcquiresOf (take place tries) acquires → list_any (same_acquire try.acquire) acquires ≡ true →
-    AreAcquiresOf (take (place + 1) tries) acquires
-acquire_known tries place try acquires below here are known = record {
-  once = are.once;
-  each =
-      All-more (λ t. list_any (same_acquire t.acquire) acquires ≡ true) tries place try below are.each
-      (subst (λ t. list_any (same_acquire t.acquire) acquires ≡ true) here known);
-}
-
-pub acquire_new : (tries : List Try) (place : ℕ) (try : Try) (acquires : List Acquire) → place < length tries →
-    try ≡ get_or tries place try → AreAcquiresOf (take place tries) acquires → list_any (same_acquire try.acquire) acquires ≡ false →
-    AreAcquiresOf (take (place + 1) tries) (acquires ++ try.acquire ∷ [])
-acquire_new tries place try acquires below here are unknown = record {
-  once = IsDistinct-push same_is acquires try.acquire are.once unknown;
-  each =
-      All-more Known tries place try below
-      (All-weaker (λ t. list_any (same_acquire t.acquire) acquires ≡ true) Known (λ t known. longer t.acquire known) (take place tries) are.each)
-      (subst Known here (last try.acquire));
-}
-  where
-    Known : Try → Type 0
-    Known t = list_any (same_acquire t.acquire) (acquires ++ try.acquire ∷ []) ≡ true
-
-    or_left : (a b : Bool) → a ≡ true → (a || b) ≡ true
-    or_left true b e = refl
-    or_left false b e = absurd cc
-
-    or_right : (a b : Bool) → b ≡ true → (a || b) ≡ true
-    or_right true b e = refl
-    or_right false b e = e
-
-    longer : (a : Acquire) → list_any (same_acquire a) acquires ≡ true → list_any (same_acquire a) (acquires ++ try.acquire ∷ []) ≡ true
-    longer a known =
-        list_any-append (same_acquire a) acquires (try.acquire ∷ []) ∙ or_left (list_any (same_acquire a) acquires) _ known
-
-    last : (a : Acquire) → list_any (same_acquire a) (acquires ++ a ∷ []) ≡ true
-    last a =
-        list_any-append (same_acquire a) acquires (a ∷ [])
-        ∙ or_right (list_any (same_acquire a) acquires) _ (or_left (same_acquire a a) false (same_is.refl a))

@@ -9,3 +9,9 @@ pub mod Following
 pub mod Rows
 pub mod Classes
 pub mod Lettering
+pub mod Telling
+pub mod Swapping
+pub mod Putting
+pub mod Adding
+pub mod Lining
+pub mod Waiting

@@ -187,7 +187,7 @@ module _ (place : ℕ) (ran : ℕ → ℕ) (after : ModelState) (winner : ℕ �
       by try false e = let small : try.hart.number < 8 = try.hart.small in absurd (grind (arith, nat_tests))
 
 -- a loss, told
-line_back : (line : Option LineAddr) → option_map line_addr (option_map (λ (l : LineAddr). l.number) line) ≡ line
+pub line_back : (line : Option LineAddr) → option_map line_addr (option_map (λ (l : LineAddr). l.number) line) ≡ line
 line_back None = refl
 line_back (Some line) = ap Some (line_addr-of_line line)
 

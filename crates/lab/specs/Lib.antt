@@ -3,3 +3,10 @@ pub mod Tracked
 pub mod Counts
 pub mod Locks
 pub mod Shown
+pub mod Told
+pub mod Swaps
+pub mod Lines
+pub mod Asked
+pub mod Waits
+pub mod LineRows
+pub mod LockRows

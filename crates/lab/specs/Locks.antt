@@ -1,5 +1,6 @@
 -- the sections of each acquire, counted
-use Rattle.std.specs.Prelude.{ℕ, ◌≡◌, ◌==◌, ◌&&◌, All, Bool, true, List, sum_by, if◌then◌else◌}
+use Rattle.std.specs.Prelude.{ℕ, ◌≡◌, ◌==◌, ◌&&◌, ◌++◌, ◌∷◌, [], All, Bool, true, List, nat_eq, sum_by, if◌then◌else◌}
+use Rattle.std.specs.HashSet.{HashSet, contains}
 use Rattle.std.specs.List.{IsDistinct, list_any, range_with_len}
 use Rattle.chronicle.specs.Tally.{nothing, tally_of}
 use Rattle.chronicle.specs.declared.tally.Tally.{Tally}
@@ -12,6 +13,7 @@ use Rattle.el_model.specs.State.{begin}
 use Rattle.elf_image.specs.Program.{Program}
 use Rattle.lab.specs.Counts.{of_end}
 use Rattle.lab.specs.Tries.{tries_from}
+use Rattle.lab.specs.declared.swaps.PlainSwap.{PlainSwap}
 use Rattle.lab.specs.declared.tries.Acquire.{Acquire}
 use Rattle.lab.specs.declared.tries.Try.{Try}
 
@@ -49,6 +51,23 @@ tally_at acquire tries = record {
 pub record AreAcquiresOf (tries : List Try) (acquires : List Acquire) : Type 0 where
   pub once : IsDistinct same_acquire acquires
   pub each : All (λ try. list_any (same_acquire try.acquire) acquires ≡ true) tries
+
+-- the acquires of some swaps are among these
+abbrev pub AreAmong : List PlainSwap → List Acquire → Type 0
+AreAmong swaps acquires = All (λ swap. list_any (same_acquire swap.acquire) acquires ≡ true) swaps
+
+-- acquires with one more behind them, unless it is among them
+abbrev pub with_acquire : Acquire → List Acquire → List Acquire
+with_acquire acquire acquires = if list_any (same_acquire acquire) acquires then acquires else acquires ++ acquire ∷ []
+
+-- whether two pairs of an address and a lock word are one
+abbrev pub same_pair : ℕ × ℕ → ℕ × ℕ → Bool
+same_pair a b = nat_eq a.0 b.0 && nat_eq a.1 b.1
+
+-- a set has the address and the lock word of each of these acquires, and nothing else
+abbrev pub AreSeen : {S : Type 0} → List Acquire → HashSet (ℕ × ℕ) S → Type 0
+AreSeen acquires seen =
+    (acquire : Acquire) → contains same_pair seen (acquire.pc, acquire.word) ≡ list_any (same_acquire acquire) acquires
 
 -- one number, summed over all rows, and over all lines of the report
 abbrev pub sum_of_rows : (Tally → ℕ) → List Acquire → List Try → ℕ

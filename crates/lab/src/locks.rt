@@ -1,26 +1,28 @@
 //! The sections of each acquire, counted.
 
-ghost use Rattle.std.specs.Prelude.{◌≡◌, ◌<◌, ◌^◌, IfOk, length};
-ghost use Rattle.std.specs.List.{list_any};
+ghost use Rattle.std.specs.Prelude.{◌≡◌, ◌<◌, ◌^◌, IfOk, OnOk, length};
 ghost use Rattle.chronicle.specs.Tally.{IsTallyOf, SumFits, plus};
 ghost use Rattle.lab.specs.Counts.{of_end};
-ghost use Rattle.lab.specs.Locks.{AreAcquiresOf, of_acquire, same_acquire, tally_at};
+ghost use Rattle.lab.specs.Locks.{AreAcquiresOf, AreAmong, AreSeen, of_acquire, same_acquire, tally_at, with_acquire};
 
+use crate::swaps::PlainSwap;
 use crate::tries::{Acquire, Ended, Tries, Try};
 use chronicle::Tally;
 use el_base::{Cause, NoMemory};
 use std::alloc::Global;
+use std::collections::HashSet;
 
 impl Tries {
     /// The acquires of these sections, each once, in the order of their first sections.
     pub fn acquires(&self, alloc: Global) -> Result<Vec<Acquire>, NoMemory>
         ensures { IfOk result (λ acquires. AreAcquiresOf self.now acquires.items) }
     {
-        acquires_of(alloc, self.as_slice())
+        acquires_of(alloc, self.as_slice(), &[])
     }
 
     /// What the sections of one acquire came to: how many began, committed, were lost (`conflict`) and were rolled back
-    /// for each cause, and how many instructions took effect with them (`instr`). Its other numbers are 0.
+    /// for each cause, and how many instructions took effect with them (`instr`). Its other numbers are 0. It goes
+    /// through all sections; [`crate::tally_acquires`] makes the rows of all acquires in one pass.
     pub fn counts(&self, acquire: Acquire) -> Tally
         ensures { result ≡ tally_at acquire self.now }
     {
@@ -28,24 +30,41 @@ impl Tries {
     }
 }
 
-/// The acquires of sections, each once.
-fn acquires_of(alloc: Global, tries: &[Try]) -> Result<Vec<Acquire>, NoMemory>
-    ensures { IfOk result (λ acquires. AreAcquiresOf tries.now acquires.items) }
+/// The acquires of sections and of swaps that ran outside of them, each once: first those of sections, each in the order
+/// of its first one.
+pub fn acquires_of(
+    alloc: Global,
+    tries: &[Try],
+    swaps: &[PlainSwap],
+) -> Result<Vec<Acquire>, NoMemory>
+    ensures sections { IfOk result (λ acquires. AreAcquiresOf tries.now acquires.items) }
+    ensures swaps { IfOk result (λ acquires. AreAmong swaps.now acquires.items) }
 {
     let mut acquires = Vec::new(alloc);
+    let mut seen = HashSet::new(alloc);
     for begun in tries {
-        if !is_among(&acquires, begun.acquire) {
-            acquires.push(begun.acquire)?;
-        }
+        put(&mut acquires, &mut seen, begun.acquire)?;
+    }
+    for swap in swaps {
+        put(&mut acquires, &mut seen, swap.acquire)?;
     }
     Ok(acquires)
 }
 
-/// Whether an acquire is among others.
-fn is_among(acquires: &[Acquire], acquire: Acquire) -> bool
-    ensures { result ≡ list_any (same_acquire acquire) acquires.now }
+/// Puts an acquire behind others, unless it is among them.
+fn put(
+    acquires: &mut Vec<Acquire>,
+    seen: &mut HashSet<(u32, u32)>,
+    acquire: Acquire,
+) -> Result<(), NoMemory>
+    requires { AreSeen acquires.old.items seen.old }
+    ensures put { OnOk result (acquires.new.items ≡ with_acquire acquire acquires.old.items) }
+    ensures seen { OnOk result (AreSeen acquires.new.items seen.new) }
 {
-    acquires.iter().any(|other| is_same(acquire, *other))
+    if seen.insert((acquire.pc, acquire.word))? {
+        acquires.push(acquire)?;
+    }
+    Ok(())
 }
 
 /// Whether two acquires are one: the same instruction on the same lock word.
@@ -70,7 +89,7 @@ fn counts_of(tries: &[Try], acquire: Acquire) -> Tally
 
 /// What a section counts for in the row of an acquire.
 #[tactic(auto, unfolding(chronicle::specs::Tally::IsTallyOf))]
-fn of_acquire(acquire: Acquire, begun: &Try) -> Tally
+pub(crate) fn of_acquire(acquire: Acquire, begun: &Try) -> Tally
     ensures exact { result ≡ of_acquire acquire begun.now }
     ensures small { IsTallyOf 1 result }
 {
@@ -130,7 +149,7 @@ fn of_cause(cause: Cause) -> Tally
 
 /// The sums of the numbers of two tallies.
 #[tactic(auto, unfolding(chronicle::specs::Tally::plus, chronicle::specs::Tally::SumFits))]
-fn sum(a: Tally, b: Tally) -> Tally
+pub(crate) fn sum(a: Tally, b: Tally) -> Tally
     requires { SumFits a b }
     ensures { result ≡ plus a b }
 {

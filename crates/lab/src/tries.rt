@@ -222,7 +222,7 @@ impl Tries {
 }
 
 /// The line that a hart waits for, or none where it waits for none or is not there.
-fn waited_for(machine: &Machine, hart: HartId) -> Option<LineAddr>
+pub(crate) fn waited_for(machine: &Machine, hart: HartId) -> Option<LineAddr>
     ensures { option_map (λ line. line.number) result ≡ line_waited_for (state_of machine.now) hart.number }
 {
     if usize::from(hart.number) >= machine.bus().harts() {

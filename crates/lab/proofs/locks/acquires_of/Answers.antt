@@ -1,31 +1,32 @@
--- the acquires of more and more sections
-use Rattle.std.proofs.Common.{◌≡◌, ◌∙◌, ◌+◌, [], false, true, ap, arith, subst, sym, take}
-use Rattle.std.specs.List.{list_any}
-use Rattle.std.proofs.lemmas.Bool.Decides.{nat_tests}
-use Rattle.lab.proofs.Classes.{acquire_known, acquire_new, none_yet}
+-- the acquires of more and more sections and swaps
+use Rattle.std.proofs.Common.{arith, refl}
+use Rattle.lab.proofs.Putting.{acquire_put, acquires_stay, all_among, no_swap_yet, none_yet, swap_put}
 use Rattle.lab.proofs.locks.acquires_of.Goals as goal
-use Rattle.lab.proofs.locks.acquires_of.Goals.{then-not-is_among+in_ok-push, else-not-is_among}
-use Rattle.lab.specs.Locks.{AreAcquiresOf, same_acquire}
 
 pub loop-begun-init : goal.loop-begun-init
-loop-begun-init c = subst (AreAcquiresOf []) (sym c.new-acquires.ensures.items) none_yet
+loop-begun-init c = record {
+  so_far = rw (c.new-acquires.ensures.items) none_yet;
+  seen = λ acquire. rw (c.new-acquires.ensures.items, c.new-seen.ensures.empty) refl;
+}
 
 pub loop-begun-preserved : goal.loop-begun-preserved
-loop-begun-preserved c =
-    let told : c.is_among.result ≡ list_any (same_acquire c.begun-item.result.acquire) c.loop-begun.acquires.items =
-    c.is_among.ensures ∙ ap (list_any (same_acquire c.begun-item.result.acquire)) c.deref.ensures.value in
-    elim c.if-not-is_among.branch [
-      | then-not-is_among+in_ok-push w ↦
-          let unknown : list_any (same_acquire c.begun-item.result.acquire) c.loop-begun.acquires.items ≡ false =
-          sym told ∙ (grind (arith, nat_tests, w.if-not-is_among.true)) in
-          subst (AreAcquiresOf (take (c.loop-begun.begun-index + 1) c.args.tries.now))
-          (sym (ap (λ v. v.items) w.acquires-is ∙ w.in_ok-push.ensures.items))
-          (acquire_new c.args.tries.now c.loop-begun.begun-index c.begun-item.result c.loop-begun.acquires.items
-          c.loop-begun-test.true c.begun-item.is c.loop-begun.invariant unknown)
-      | else-not-is_among w ↦
-          let known : list_any (same_acquire c.begun-item.result.acquire) c.loop-begun.acquires.items ≡ true =
-          sym told ∙ (grind (arith, nat_tests, w.if-not-is_among.false)) in
-          subst (AreAcquiresOf (take (c.loop-begun.begun-index + 1) c.args.tries.now)) (sym (ap (λ v. v.items) w.acquires-is))
-          (acquire_known c.args.tries.now c.loop-begun.begun-index c.begun-item.result c.loop-begun.acquires.items
-          c.loop-begun-test.true c.begun-item.is c.loop-begun.invariant known)
-    ]
+loop-begun-preserved c = record {
+  so_far = rw (c.in_ok-put.ensures.put)
+      (acquire_put c.args.tries.now c.loop-begun.begun-index c.begun-item.result c.loop-begun.acquires.items c.loop-begun-test.true
+      c.begun-item.is c.loop-begun.invariant.so_far);
+  seen = c.in_ok-put.ensures.seen;
+}
+
+pub loop-swap-preserved : goal.loop-swap-preserved
+loop-swap-preserved c = record {
+  sections = rw (c.in_ok-put-2.ensures.put)
+      (acquires_stay c.args.tries.now c.swap-item.result.acquire c.loop-swap.acquires.items c.loop-swap.invariant.sections);
+  so_far = rw (c.in_ok-put-2.ensures.put)
+      (swap_put c.args.swaps.now c.loop-swap.swap-index c.swap-item.result c.loop-swap.acquires.items c.loop-swap-test.true
+      c.swap-item.is c.loop-swap.invariant.so_far);
+  seen = c.in_ok-put-2.ensures.seen;
+}
+
+pub returns-clause-swaps : goal.returns-clause-swaps
+returns-clause-swaps c =
+    all_among c.args.swaps.now c.loop-swap.swap-index c.loop-swap.acquires.items (omega (arith, c.loop-swap-test.false)) c.loop-swap.invariant.so_far

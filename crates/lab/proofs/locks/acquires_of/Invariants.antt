@@ -1,6 +1,16 @@
 use Rattle.std.proofs.Common.{take}
 use Rattle.lab.proofs.locks.acquires_of.Given as goal
-use Rattle.lab.specs.Locks.{AreAcquiresOf}
+use Rattle.lab.specs.Locks.{AreAcquiresOf, AreAmong, AreSeen}
 
 abbrev pub invariant-loop-begun : goal.invariant-loop-begun
-invariant-loop-begun l = AreAcquiresOf (take l.begun-index l.tries) l.acquires.items
+invariant-loop-begun l = record {
+  so_far : AreAcquiresOf (take l.begun-index l.tries) l.acquires.items;
+  seen : AreSeen l.acquires.items l.seen;
+}
+
+abbrev pub invariant-loop-swap : goal.invariant-loop-swap
+invariant-loop-swap l = record {
+  sections : AreAcquiresOf l.tries l.acquires.items;
+  so_far : AreAmong (take l.swap-index l.swaps) l.acquires.items;
+  seen : AreSeen l.acquires.items l.seen;
+}

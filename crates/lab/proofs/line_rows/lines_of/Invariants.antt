@@ -1,0 +1,9 @@
+use Rattle.std.proofs.Common.{take}
+use Rattle.lab.proofs.line_rows.lines_of.Given as goal
+use Rattle.lab.specs.LineRows.{AreLinesOf, AreSeenLines}
+
+abbrev pub invariant-loop-fact : goal.invariant-loop-fact
+invariant-loop-fact l = record {
+  so_far : AreLinesOf (take l.fact-index l.facts) l.lines.items;
+  seen : AreSeenLines l.lines.items l.seen;
+}

@@ -1,0 +1,92 @@
+-- the list of a seed is the only one
+use Rattle.std.proofs.Common.{◌≡◌, ℕ, suc, ◌+◌, ◌<◌, ◌≤◌, List, [], ◌∷◌, length, take, Some, true, false, refl, sym, ◌∙◌, ap, arith, inl, inr}
+use Rattle.std.specs.Prelude.{slice_get}
+use Rattle.std.proofs.Math.Seq.{take-length}
+use Rattle.std.proofs.lemmas.Bool.{cases_order}
+use Rattle.el_base.specs.declared.events.Event.{Event}
+use Rattle.el_base.specs.declared.events.Kind.{Kind}
+use Rattle.el_base.specs.declared.events.Kind.TheVariants.{Step, Order, Serve, Deliver}
+use Rattle.el_base.specs.Kinds.{kind_number}
+use Rattle.el_base.proofs.HartIds.{same_hart}
+use Rattle.el_model.specs.Next.{is_over, state_after}
+use Rattle.el_model.specs.State.{ModelState}
+use Rattle.lab_run.specs.Drawn.{AreDrawn}
+use Rattle.schedule.specs.Drawn.{IsDrawnAt}
+
+one_kind : (a b : Kind) → kind_number a ≡ kind_number b → a ≡ b
+one_kind Step Step h = refl
+one_kind Order Order h = refl
+one_kind Serve Serve h = refl
+one_kind Deliver Deliver h = refl
+one_kind Step Order h = absurd (omega arith)
+one_kind Step Serve h = absurd (omega arith)
+one_kind Step Deliver h = absurd (omega arith)
+one_kind Order Step h = absurd (omega arith)
+one_kind Order Serve h = absurd (omega arith)
+one_kind Order Deliver h = absurd (omega arith)
+one_kind Serve Step h = absurd (omega arith)
+one_kind Serve Order h = absurd (omega arith)
+one_kind Serve Deliver h = absurd (omega arith)
+one_kind Deliver Step h = absurd (omega arith)
+one_kind Deliver Order h = absurd (omega arith)
+one_kind Deliver Serve h = absurd (omega arith)
+
+-- one event is drawn at a place
+one_drawn : (seed harts place : ℕ) (a b : Event) → IsDrawnAt seed harts place a → IsDrawnAt seed harts place b → a ≡ b
+one_drawn seed harts place a b first second =
+    let kinds : a.kind ≡ b.kind = one_kind a.kind b.kind (first.kind ∙ sym second.kind) in
+    let ids : a.hart ≡ b.hart = same_hart a.hart b.hart (first.hart ∙ sym second.hart) in
+    let same_kind : a ≡ record { kind = b.kind; hart = a.hart } = ap (λ k. record { kind = k; hart = a.hart }) kinds in
+    same_kind ∙ ap (λ h. record { kind = b.kind; hart = h }) ids
+
+-- each event is the one of its place, the first of them at an offset
+abbrev AreDrawnFrom : ℕ → ℕ → ℕ → List Event → Type 0
+AreDrawnFrom seed harts offset events =
+    (place i : ℕ) → place ≡ offset + i → (event : Event) → slice_get events i ≡ Some event → IsDrawnAt seed harts place event
+
+drawn_after : (seed harts offset : ℕ) (event : Event) (events : List Event) → AreDrawnFrom seed harts offset (event ∷ events) →
+    AreDrawnFrom seed harts (offset + 1) events
+drawn_after seed harts offset event events all place i at other found = all place (suc i) (omega arith) other found
+
+-- so many events of a seed are the same in all of them
+same_drawn : (seed harts offset : ℕ) (first second : List Event) → AreDrawnFrom seed harts offset first →
+    AreDrawnFrom seed harts offset second → length first ≤ length second → take (length first) second ≡ first
+same_drawn seed harts offset [] second one two within = refl
+same_drawn seed harts offset (a ∷ first) [] one two within = absurd (omega arith)
+same_drawn seed harts offset (a ∷ first) (b ∷ second) one two within =
+    let at : offset ≡ offset + 0 = omega arith in
+    let heads : b ≡ a = one_drawn seed harts offset b a (two offset 0 at b refl) (one offset 0 at a refl) in
+    let tails : take (length first) second ≡ first =
+    same_drawn seed harts (offset + 1) first second (drawn_after seed harts offset a first one)
+    (drawn_after seed harts offset b second two) (omega arith) in
+    ap (λ e. e ∷ take (length first) second) heads ∙ ap (λ rest. a ∷ rest) tails
+
+drawn_of : (seed : ℕ) (state : ModelState) (harts left : ℕ) (events : List Event) → AreDrawn seed state harts left events →
+    AreDrawnFrom seed harts 0 events
+drawn_of seed state harts left events are place i at event found =
+    let here : place ≡ i = omega arith in
+    are.drawn place event (rw here found)
+
+-- none ends before another one does
+not_shorter : (seed : ℕ) (state : ModelState) (harts left : ℕ) (first second : List Event) →
+    AreDrawn seed state harts left first → AreDrawn seed state harts left second → length first < length second → ⊥
+not_shorter seed state harts left first second one two shorter =
+    let prefix : take (length first) second ≡ first =
+    same_drawn seed harts 0 first second (drawn_of seed state harts left first one) (drawn_of seed state harts left second two)
+    (omega arith) in
+    let steps : length second ≤ left = two.steps in
+    let going : is_over (state_after state first) ≡ false = rw prefix at (two.going (length first) shorter) in
+    elim one.ended [ inl all ↦ omega arith | inr over ↦ let no : true ≡ false = sym over ∙ going in cc ]
+
+pub one_drawn_run : (seed : ℕ) (state : ModelState) (harts left : ℕ) (first second : List Event) →
+    AreDrawn seed state harts left first → AreDrawn seed state harts left second → first ≡ second
+one_drawn_run seed state harts left first second one two =
+    elim (cases_order (length first) (length second)) [
+      | inl same ↦
+          let prefix : take (length first) second ≡ first =
+          same_drawn seed harts 0 first second (drawn_of seed state harts left first one) (drawn_of seed state harts left second two)
+          (omega arith) in
+          sym prefix ∙ ap (λ n. take n second) same ∙ take-length second
+      | inr (inl shorter) ↦ absurd (not_shorter seed state harts left first second one two shorter)
+      | inr (inr longer) ↦ absurd (not_shorter seed state harts left second first two one longer)
+    ]

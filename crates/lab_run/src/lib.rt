@@ -1,0 +1,19 @@
+//! Runs by other schedules than the round robin: drawn from a number, or listed.
+//!
+//! It stands on `machine`, on the events of `schedule` and on `drive`, and takes no memory. [`run_drawn`] makes the events
+//! that a seed draws until every hart has stopped or no step is left, so two runs with one seed are one
+//! ([`one_run_of_a_seed`]); [`run_listed`] makes those of a list, as many as there are steps.
+//!
+//! Where a doc comment names no other source, its rule is this project's profile.
+#![tactic(auto)]
+
+mod drawn;
+mod laws;
+mod listed;
+
+pub use drawn::run_drawn;
+pub use laws::one_run_of_a_seed;
+pub use listed::run_listed;
+
+#[cfg(test)]
+mod tests;

@@ -1,0 +1,99 @@
+use super::*;
+use el_base::{Chronicled, Config, Event, HartId, Kind, Mode};
+use elf_image::load;
+use machine::Machine;
+use std::alloc::Global;
+use std::process::Abort;
+use std::test::Fail;
+
+/// A program that prints 'A' and a newline in nine instructions, in one segment at 0x10000 that is the
+/// whole file.
+const FILE: [u8; 122] = [
+    0x7f, 0x45, 0x4c, 0x46, 0x01, 0x01, 0x01, 0x00, 0x00, 0x00, 0x00, 0x00, 0x00, 0x00, 0x00, 0x00,
+    0x02, 0x00, 0xf3, 0x00, 0x01, 0x00, 0x00, 0x00, 0x54, 0x00, 0x01, 0x00, 0x34, 0x00, 0x00, 0x00,
+    0x00, 0x00, 0x00, 0x00, 0x00, 0x00, 0x00, 0x00, 0x34, 0x00, 0x20, 0x00, 0x01, 0x00, 0x00, 0x00,
+    0x00, 0x00, 0x00, 0x00, 0x01, 0x00, 0x00, 0x00, 0x00, 0x00, 0x00, 0x00, 0x00, 0x00, 0x01, 0x00,
+    0x00, 0x00, 0x01, 0x00, 0x7a, 0x00, 0x00, 0x00, 0x7a, 0x00, 0x00, 0x00, 0x05, 0x00, 0x00, 0x00,
+    0x00, 0x10, 0x00, 0x00, 0x13, 0x05, 0x10, 0x00, 0x97, 0x05, 0x00, 0x00, 0x93, 0x85, 0x05, 0x02,
+    0x13, 0x06, 0x20, 0x00, 0x93, 0x08, 0x00, 0x04, 0x73, 0x00, 0x00, 0x00, 0x13, 0x05, 0x00, 0x00,
+    0x93, 0x08, 0xd0, 0x05, 0x73, 0x00, 0x00, 0x00, 0x41, 0x0a,
+];
+
+/// The events of three harts that the first numbers of SplitMix64 for the seed 1234567 stand for, as the page
+/// 'Pseudo-random numbers/Splitmix64' of Rosetta Code has them: 6457827717110365317, 3203168211198807973,
+/// 9817491932198370423, 4593380528125082431, 16408922859458223821, each modulo 12.
+const DRAWN: [(Kind, u8); 5] = [
+    (Kind::Order, 2),
+    (Kind::Order, 0),
+    (Kind::Deliver, 0),
+    (Kind::Deliver, 1),
+    (Kind::Order, 1),
+];
+
+fn event(kind: Kind, number: u8) -> Result<Event, Fail> {
+    let hart = HartId::new(number).ok_or("no such hart")?;
+    Ok(Event { kind, hart })
+}
+
+fn machine(rt: &impl Abort, alloc: Global, harts: u8, steps: u32) -> Result<Machine, Fail> {
+    assert!(rt; (1..=8).contains(&harts));
+    let image = load(alloc, &FILE, harts).map_err(|_| "no image")?;
+    assert_eq!(rt; image.harts(), harts);
+    let config = Config {
+        harts,
+        mode: Mode::Tlr,
+        steps,
+        ..Config::usual()
+    };
+    Ok(Machine::make(alloc, image, config).map_err(|_| "no machine")?)
+}
+
+#[test]
+fn a_seed_draws_the_events_of_a_run(rt: HostRuntime) -> Result<(), Fail> {
+    let mut machine = machine(&rt, rt.alloc(), 3, 5)?;
+    run_drawn(&mut machine, 1_234_567);
+    let history = machine.history();
+    assert_eq!(rt; history.length(), 5);
+    for (place, (kind, number)) in DRAWN.into_iter().enumerate() {
+        assert!(rt; place < history.length() as usize);
+        assert_eq!(rt; history.entry(place as u32).event, event(kind, number)?);
+    }
+    Ok(())
+}
+
+/// Each seed brings three harts to their end, with the program's output once a hart.
+#[test]
+fn drawn_runs_come_to_their_end(rt: HostRuntime) -> Result<(), Fail> {
+    for seed in 0..5 {
+        let mut machine = machine(&rt, rt.alloc(), 3, 100_000)?;
+        run_drawn(&mut machine, seed);
+        assert!(rt; machine.over());
+        assert_eq!(rt; machine.output(), b"A\nA\nA\n".as_slice());
+        assert_eq!(rt; machine.history().serial_len(), 27);
+    }
+    Ok(())
+}
+
+/// A list's events are made as far as there are steps.
+#[test]
+fn a_list_is_followed(rt: HostRuntime) -> Result<(), Fail> {
+    let events = [
+        event(Kind::Step, 1)?,
+        event(Kind::Order, 1)?,
+        event(Kind::Step, 0)?,
+    ];
+    for (steps, made) in [(100, 3), (3, 3), (2, 2), (1, 1)] {
+        let mut machine = machine(&rt, rt.alloc(), 2, steps)?;
+        assert_eq!(rt; machine.config().harts, 2);
+        assert!(rt; events.iter().all(|event| event.hart.number < 2));
+        run_listed(&mut machine, &events);
+        let history = machine.history();
+        assert_eq!(rt; history.length(), made);
+        for place in 0..made {
+            assert!(rt; place < history.length());
+            assert!(rt; (place as usize) < events.len());
+            assert_eq!(rt; history.entry(place).event, events[place as usize]);
+        }
+    }
+    Ok(())
+}

@@ -38,17 +38,23 @@ is_left() {
         { [ "$status" -eq 4 ] && is_prefix "$work/now/$1" "$work/whole/$1"; }
 }
 
+# is_whole WRITTEN..: everything is as if nothing had failed
+is_whole() {
+    local file
+    [ "$status" -eq "$ended" ] && cmp -s "$work/out" "$work/whole.out" && cmp -s "$work/err" "$work/whole.err" || return 1
+    for file in "$@"; do cmp -s "$work/now/$file" "$work/whole/$file" || return 1; done
+}
+
 # is_right KIND WRITTEN..: what is left where a call of this kind failed
 is_right() {
     local kind=$1 file
     shift
     for file in "$@"; do is_left "$file" || return 1; done
     case $kind in
-        malloc) # all of out or nothing of it, and nothing on err
-            [ "$status" -eq 5 ] && [ ! -s "$work/err" ] && { [ ! -s "$work/out" ] || cmp -s "$work/out" "$work/whole.out"; } ;;
-        short-*) # as if nothing had failed
-            [ "$status" -eq "$ended" ] && cmp -s "$work/out" "$work/whole.out" && cmp -s "$work/err" "$work/whole.err" &&
-                for file in "$@"; do cmp -s "$work/now/$file" "$work/whole/$file" || return 1; done ;;
+        malloc) # all of out or nothing of it, and nothing on err; or a list that was refused room to double took what it needs
+            [ "$status" -eq 5 ] && [ ! -s "$work/err" ] && { [ ! -s "$work/out" ] || cmp -s "$work/out" "$work/whole.out"; } ||
+                is_whole "$@" ;;
+        short-*) is_whole "$@" ;;
         *) # nothing that was put is lost, and nothing is put that would not have been
             [ "$status" -eq 4 ] && is_prefix "$work/out" "$work/whole.out" && is_prefix "$work/err" "$work/whole.err" ;;
     esac
@@ -88,6 +94,8 @@ each_call_fails "t c" run image --harts 2 --trace t --cert c --times
 each_call_fails "t" run image --harts 2 --mode plain --threads 20 --trace t
 each_call_fails "" replay image trace
 each_call_fails "t" replay image trace --trace t --times
+each_call_fails "" look image trace 20 --back 3
+each_call_fails "" find image trace 0 65644
 each_call_fails "" check image cert
 each_call_fails "g" gen bank 7 g
 each_call_fails "g" gen pairs 1 g

@@ -35,7 +35,7 @@ fn changed(
     let times = drawn.below(4).saturating_add(1);
     for _ in 0..times {
         let place = drawn.below(first.min(file.len()));
-        let value = drawn.below(256) as u8;
+        let value = u8::try_from(drawn.below(256)).unwrap_or(0);
         if let Some(byte) = bytes.get_mut(place) {
             *byte = value;
         }

@@ -73,27 +73,3 @@ fn drawn_runs_come_to_their_end(rt: HostRuntime) -> Result<(), Fail> {
     }
     Ok(())
 }
-
-/// A list's events are made as far as there are steps.
-#[test]
-fn a_list_is_followed(rt: HostRuntime) -> Result<(), Fail> {
-    let events = [
-        event(Kind::Step, 1)?,
-        event(Kind::Order, 1)?,
-        event(Kind::Step, 0)?,
-    ];
-    for (steps, made) in [(100, 3), (3, 3), (2, 2), (1, 1)] {
-        let mut machine = machine(&rt, rt.alloc(), 2, steps)?;
-        assert_eq!(rt; machine.config().harts, 2);
-        assert!(rt; events.iter().all(|event| event.hart.number < 2));
-        run_listed(&mut machine, &events);
-        let history = machine.history();
-        assert_eq!(rt; history.length(), made);
-        for place in 0..made {
-            assert!(rt; place < history.length());
-            assert!(rt; (place as usize) < events.len());
-            assert_eq!(rt; history.entry(place).event, events[place as usize]);
-        }
-    }
-    Ok(())
-}

@@ -1,9 +1,9 @@
-ghost use Rattle.std.specs.Prelude.{◌≡◌, ◌⊎◌, ℕ, ◌≤◌, ◌<◌, ◌+◌, ◌==◌, ◌∷◌, [], ◌++◌, List, map, length, position, slice_index_or, true, is_some};
+ghost use Rattle.std.specs.Prelude.{◌≡◌, ◌⊎◌, ℕ, ◌≤◌, ◌<◌, ◌+◌, ◌==◌, ◌∷◌, [], ◌++◌, List, map, length, option_map, position, slice_index_or, true, is_some};
 ghost use Rattle.std.specs.List.{remove};
 ghost use Rattle.cache_sets.specs.declared.way.Way as code;
 ghost use Rattle.cache_sets.specs.Keyed.{changed, count_of, found, fronted, without};
 ghost use Rattle.cache_sets.specs.Kept.{IsDropped, IsEmpty, IsFilled, IsSet, IsVictimPlace, MakesRoom, changed_set, cleared_way, committed_way, lettered_way, marked_way, new_way, number_of, shown_set};
-ghost use Rattle.cache_sets.specs.Residency.{has_unmarked, room_in, way_in};
+ghost use Rattle.cache_sets.specs.Residency.{evicted_in, has_unmarked, room_in, way_in};
 
 use crate::bits::Bits;
 use crate::way::Way;
@@ -162,6 +162,20 @@ impl Set {
         ensures { self.new ≡ changed_set committed_way self.old }
     {
         commit(self.ways.as_mut_slice());
+    }
+
+    /// The line that leaves where another comes: where the set has as many lines as ways, the least recent one without
+    /// bits.
+    pub fn victim(&self, ways: u8) -> Option<LineAddr>
+        ensures { option_map (λ gone. gone.number) result
+            ≡ option_map (λ way. way.line) (evicted_in ways (shown_set self.now)) }
+    {
+        if self.ways.len() < usize::from(ways) {
+            None
+        } else {
+            let place = self.victim_place()?;
+            Some(self.ways[place].line)
+        }
     }
 
     /// Where the least recent line without bits stands.

@@ -1,9 +1,9 @@
-ghost use Rattle.std.specs.Prelude.{◌≡◌, ◌≢◌, ◌<◌, ◌≤◌, ◌+◌, ◌*◌, ◌%◌, ◌↔◌, ℕ, true, false, IfOk, IsNone, List, Some, is_some, length};
+ghost use Rattle.std.specs.Prelude.{◌≡◌, ◌≢◌, ◌<◌, ◌≤◌, ◌+◌, ◌*◌, ◌%◌, ◌↔◌, ℕ, true, false, IfOk, IsNone, List, Some, is_some, length, option_map};
 ghost use Rattle.el_base.specs.Config.{IsInRange};
 ghost use Rattle.el_base.specs.declared.config.Config.{Config};
 ghost use Rattle.moesi.specs.declared.letter.Letter.TheVariants.{I};
 ghost use Rattle.cache_sets.specs.Bits.{bits_of};
-ghost use Rattle.cache_sets.specs.Cache.{has_marks, is_resident, letter_of, room_of, set_of, way_of, write_bits_of};
+ghost use Rattle.cache_sets.specs.Cache.{evicted_by, has_marks, is_resident, letter_of, room_of, set_of, way_of, write_bits_of};
 ghost use Rattle.cache_sets.specs.Cached.{bytes_of, copy_in, empty_cached, with_bytes};
 ghost use Rattle.cache_sets.specs.Calls.{IsCached, IsCleared, IsCommitted, IsFilledWith, IsLettered, IsMarked, IsTouched, IsWithout, IsWritten};
 ghost use Rattle.cache_sets.specs.declared.way.Way as code;
@@ -100,6 +100,15 @@ impl Sets {
         ensures cached { IsCached self.now }
     {
         set_of(self.sets.as_slice(), line).has_room_for(self.ways, line)
+    }
+
+    /// The line that would leave if this one came: the least recent line without bits of its set, where the set has as
+    /// many lines as ways; none where it has fewer, or where each of its lines has a bit.
+    pub fn victim(&self, line: LineAddr) -> Option<LineAddr>
+        ensures { option_map (λ gone. gone.number) result
+            ≡ option_map (λ way. way.line) (evicted_by self.now.ways self.now.residency line.number) }
+    {
+        set_of(self.sets.as_slice(), line).victim(self.ways)
     }
 
     /// Whether some line has a bit.

@@ -127,6 +127,7 @@ fn the_last_line_without_bits_leaves(rt: HostRuntime) -> Result<(), Fail> {
     assert_eq!(rt; fill(&mut cache, 6, Letter::S), None);
     touch(&mut cache, 5);
     // most recent first: 5, 6
+    assert_eq!(rt; cache.victim(line(7)), Some(line(6)));
     assert_eq!(rt; fill(&mut cache, 7, Letter::M), Some((6, Letter::S, 6, 6)));
     set_bit(&mut cache, 5, Need::Read);
     // 7, and 5 with a bit
@@ -148,6 +149,7 @@ fn the_last_line_without_bits_leaves(rt: HostRuntime) -> Result<(), Fail> {
     assert_eq!(rt; fill(&mut cache, 9, Letter::E), Some((5, Letter::E, 5, 5)));
     drop_line(&mut cache, 8);
     assert_eq!(rt; cache.letter(line(8)), Letter::I);
+    assert_eq!(rt; cache.victim(line(10)), None);
     assert_eq!(rt; fill(&mut cache, 10, Letter::S), None);
     Ok(())
 }

@@ -22,7 +22,7 @@ const PATIENCE: u32 = 32;
 
 impl<M: Chronicled + Drop> BusLock<M> {
     /// A lock round a value, and its only pass. It takes all memory that the lock ever needs. The error is
-    /// want of memory, with the value.
+    /// out of memory, with the value.
     pub fn make(alloc: Global, state: M) -> Result<(BusLock<M>, Pass), Kept<M>>
         ensures made { IfOk result (λ made. started_with made.0 ≡ state) }
         ensures pass { IfOk result (λ made. made.1 ≡ first_account (lock_id made.0) (M.opening state) (M.entries state)) }
@@ -140,7 +140,7 @@ impl<M: Chronicled + Drop> BusLock<M> {
     }
 }
 
-/// The value in a block of its own. The error is want of memory, with the value.
+/// The value in a block of its own. The error says that memory ran out, with the value.
 fn put_in_box<M: Drop>(alloc: Global, value: M) -> Result<Box<M>, Kept<M>>
     ensures put { IfOk result (λ home. home.value ≡ value) }
     ensures refused { IfErr result (λ refused. refused.value ≡ value) }

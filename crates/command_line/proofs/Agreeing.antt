@@ -29,7 +29,7 @@ pub are_texts : (words : List (String Global)) → AreTexts (texts words)
 are_texts [] = tt
 are_texts (word ∷ words) = (IsUtf8-string_bytes word, are_texts words)
 
--- an error that is a refusal of the words is no want of memory
+-- an error that is a refusal of the words is no lack of memory
 pub not_memory : {T : Type 0} (result : Result T WordsFault) (error : Error)
     → IsErrAnd result (λ fault. fault ≡ fault_by (kind_of error)) → result ≡ Err Usage → kind_of error ≡ OutOfMemory → ⊥
 not_memory (Ok given) error from usage memory = absurd from
@@ -67,7 +67,7 @@ module _ (form : Form) (words : List Text) (few : length form.positionals < usiz
             ∙ flag_of-all form fields name names.flag (flag_value form words name names fields e);
       }
 
-  -- a parse that fails, and not for want of memory
+  -- a parse that fails, and not for lack of memory
   pub no_fields : (error : Error) → (is_simple_and_free app ≡ true → HasKind (fault_of app words) error) → (kind_of error ≡ OutOfMemory → ⊥)
       → fields_of form words ≡ None
   no_fields error fails other = go (fields_of form words) refl agree

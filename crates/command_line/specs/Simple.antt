@@ -66,7 +66,7 @@ pub record HasFields (form : Form) (words : List (List ℕ)) (given : Given) : T
   pub values : (name : List ℕ) → is_among name form.flags ≡ false → given_for given name ≡ value_in fields name
   pub flags : (name : List ℕ) → NamesFlag form name → flag_text given name ≡ Some (bool_text (has_field fields name))
 
--- what an error of `clap` is: want of memory, or that it does not take the words
+-- what an error of `clap` is: out of memory, or that it does not take the words
 abbrev pub fault_by : ErrorKind → WordsFault
 fault_by OutOfMemory = NoMemory
 fault_by _ = Usage

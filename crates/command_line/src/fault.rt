@@ -5,7 +5,7 @@ use std::alloc::AllocError;
 pub enum WordsFault {
     /// The words are outside of the grammar.
     Usage,
-    /// Want of memory.
+    /// Out of memory.
     NoMemory,
 }
 

@@ -21,7 +21,7 @@ use std::thread::{Threads, join};
 /// passes the gate before each turn. Which driver comes next is the threads' affair; the history tells it
 /// afterwards, and what the machine has done is one run in that history's order.
 ///
-/// All memory is taken before the first event. The error is want of memory, with the machine as it was.
+/// All memory is taken before the first event. The error says that memory ran out, with the machine as it was.
 pub fn by_threads<R: Threads + Wait + Sync, G: Gate + Sync>(
     rt: &R,
     alloc: Global,

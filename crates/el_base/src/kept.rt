@@ -1,4 +1,4 @@
-/// Want of memory, and the value that a call was given, which it hands back as it was.
+/// Out of memory, with the value that a call was given, which it hands back as it was.
 #[derive(Debug, Drop)]
 pub struct Kept<T: Drop> {
     pub value: T,

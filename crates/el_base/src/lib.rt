@@ -1,5 +1,5 @@
 //! The words that every crate of the simulator speaks: harts and sets of harts, lines of memory, the
-//! configuration of a machine, its events with their outcomes, and the one answer for want of memory.
+//! configuration of a machine, its events with their outcomes, and the one answer that says that memory ran out.
 //!
 //! It stands on nothing but std, and no call of it takes memory. Contracts see a hart and a line by
 //! their `number`, a set of harts by the test `has_hart` on hart numbers, the losers of an event by

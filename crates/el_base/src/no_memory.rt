@@ -2,7 +2,7 @@ ghost use Rattle.std.specs.Prelude.{◌≡◌};
 
 use std::alloc::{AllocError, AllocFailed};
 
-/// Want of memory: the allocator could not give what a call asked for.
+/// Out of memory: the allocator could not give what a call asked for.
 ///
 /// It is the one free answer of this project. Nothing says when it comes, and no other fault is
 /// merged with it.

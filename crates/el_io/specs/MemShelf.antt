@@ -38,14 +38,14 @@ pub record OneFileWritten (before now : MemShelf) (name bytes : List ℕ) : Type
 abbrev pub ReadFails : MemShelf → List ℕ → Type 0
 ReadFails shelf name = NextFails (plan shelf) ⊎ (file shelf name ≡ None)
 
--- what a read answers, but for want of memory
+-- what a read answers, but for running out of memory
 abbrev pub ReadAnswers : MemShelf → List ℕ → ℕ → Result (Vec ℕ) ShelfFault → Type 0
 ReadAnswers shelf name limit (Ok bytes) = (¬ ReadFails shelf name) × (file shelf name ≡ Some bytes.items) × (length bytes.items ≤ limit)
 ReadAnswers shelf name limit (Err TooBig) = (¬ ReadFails shelf name) × (limit < length (contents shelf name))
 ReadAnswers shelf name limit (Err Failed) = ReadFails shelf name
 ReadAnswers shelf name limit (Err NoMemory) = Unit {0}
 
--- what a write answers, but for want of memory
+-- what a write answers, but for running out of memory
 abbrev pub WriteAnswers : MemShelf → Result (Unit {0}) ShelfFault → Type 0
 WriteAnswers shelf (Ok _) = ¬ NextFails (plan shelf)
 WriteAnswers shelf (Err Failed) = NextFails (plan shelf)

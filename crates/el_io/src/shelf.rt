@@ -16,7 +16,7 @@ pub enum ShelfFault {
     Failed,
     /// The file has more bytes than the limit. No write answers it.
     TooBig,
-    /// Want of memory. Nothing was read or written.
+    /// Out of memory. Nothing was read or written.
     NoMemory,
 }
 
@@ -55,7 +55,7 @@ pub trait Shelf {
     ///
     /// `Failed` comes only where this call went to the list of failed calls. Where the contents are
     /// told, `TooBig` comes exactly where the file has more bytes than the limit, but for `Failed`
-    /// and want of memory.
+    /// and out of memory.
     fn read(&mut self, alloc: Global, name: &str, limit: u32) -> Result<Vec<u8>, ShelfFault>
         ensures contents_stay { told self.new ≡ told self.old }
         ensures exact { IfOk result (λ bytes. Holds (told self.old) name.now bytes.items) }
@@ -67,7 +67,7 @@ pub trait Shelf {
     /// Makes the bytes the contents of the name. Every other name keeps its contents.
     ///
     /// `Failed` comes only where this call went to the list of failed calls; what the name holds is
-    /// then unknown. After want of memory no file has changed. It never answers `TooBig`.
+    /// then unknown. After `NoMemory` no file has changed. It never answers `TooBig`.
     fn write(&mut self, alloc: Global, name: &str, bytes: &[u8]) -> Result<(), ShelfFault>
         ensures written { OnOk result (Holds (told self.new) name.now bytes.now) }
         ensures others_stay { KeepsOthers (told self.old) (told self.new) name.now }

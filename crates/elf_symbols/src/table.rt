@@ -19,7 +19,7 @@ use std::marker::Model;
 pub enum SymbolsFault {
     /// The file is no ELF32 file, little endian, or its sections, its symbol table or the names are not whole.
     Broken,
-    /// Want of memory.
+    /// Out of memory.
     NoMemory,
 }
 
@@ -105,7 +105,7 @@ fn nearer(address: u32, best: Option<Symbol>, symbol: Symbol) -> Option<Symbol>
 }
 
 /// The symbols of a file: none where it has no symbol table. The answer is `Broken` exactly where the file is no ELF32
-/// file, little endian, or its table is not whole; nothing says when want of memory comes. The entries behind the first
+/// file, little endian, or its table is not whole; nothing says when memory runs out. The entries behind the first
 /// 65,536 are not read.
 pub fn read_symbols(alloc: Global, file: &[u8]) -> Result<Symbols, SymbolsFault>
     ensures read { IfOk result (λ symbols. symbols ≡ table_of file.now) }

@@ -14,7 +14,7 @@ fn main(rt: HostRuntime) -> ExitCode {
         Ok(words) => words,
         // A word that is no UTF-8 is in no command line, and no words are refused as one is.
         Err(error) if error.kind() == io::ErrorKind::InvalidData => Vec::new(rt.alloc()),
-        // The only other error of the words is want of memory.
+        // The only other error of the words is running out of memory.
         Err(_) => return ExitCode::from(Status::NoMemory.number()),
     };
     let mut shelf = FolderShelf::new(&rt, rt.alloc());

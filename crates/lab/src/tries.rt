@@ -102,7 +102,7 @@ impl Tries {
     }
 
     /// Notes an event that a machine has made, by what had run before it and what came of it. Nothing is said of the
-    /// sections after want of memory.
+    /// sections after `NoMemory`.
     pub(crate) fn note(
         &mut self,
         machine: &Machine,

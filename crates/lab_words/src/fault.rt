@@ -9,7 +9,7 @@ pub enum WordsFault {
     Shown { text: String },
     /// The words are outside of the grammar. This text says how, and what can be written in their place.
     Usage { text: String },
-    /// Want of memory.
+    /// Out of memory.
     NoMemory,
 }
 

@@ -8,7 +8,7 @@ pub enum MakeFault {
     /// faults' numbers.
     #[error("the configuration is out of range: {fault:?}")]
     Config { fault: ConfigFault },
-    /// Want of memory.
+    /// Out of memory.
     #[error("no memory for the machine")]
     NoMemory,
 }

@@ -95,7 +95,7 @@ impl Model for Machine {
 impl Machine {
     /// A machine before its first event, of an image that was made for the configuration's harts. It
     /// takes all memory of the run. An error is the fault of the configuration, if it has one, and
-    /// else want of memory.
+    /// else out of memory.
     pub fn make(alloc: Global, image: Image, config: Config) -> Result<Machine, MakeFault>
         requires one_hart_each { image.harts ≡ config.harts }
         ensures made { IfOk result (λ machine.

@@ -98,7 +98,7 @@ pub enum CertFault {
     /// that shows it.
     #[error("certificate fault {number} at byte {place}")]
     Bad { number: u8, place: u32 },
-    /// Want of memory.
+    /// Out of memory.
     #[error("no memory for the certificate")]
     NoMemory,
 }

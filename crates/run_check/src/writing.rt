@@ -131,7 +131,7 @@ fn spelled(alloc: Global, certificate: &Certificate) -> Result<Vec<u8>, NoMemory
 /// its contents.
 ///
 /// `Failed` comes only where the shelf lists this write among its failed calls; what the name holds is then
-/// unknown. After want of memory no file has changed. It never answers `TooBig`.
+/// unknown. After `NoMemory` no file has changed. It never answers `TooBig`.
 pub fn write_certificate<S: Shelf, C: Chronicled, R: Reached>(
     alloc: Global,
     shelf: &mut S,

@@ -14,7 +14,7 @@ pub enum OrderFault {
     BadLine { number: usize },
     /// There are more events than a run may have steps.
     TooLong,
-    /// Want of memory.
+    /// Out of memory.
     NoMemory,
 }
 

@@ -86,7 +86,7 @@ pub record PutNothing (before now : Told) : Type 0 where
   pub err : now.err ≡ before.err
   pub written : now.files ≡ before.files
 
--- a call that ended with this status gave exactly one of these answers; after want of memory or a fault of
+-- a call that ended with this status gave exactly one of these answers; after running out of memory or a fault of
 -- a device, it gave nothing or the beginning of one
 abbrev pub Comes : (Answer → Type 0) → Status → Told → Told → Type 0
 Comes Answers NoMemory before now =

@@ -101,7 +101,7 @@ StopsAfter first found (Refused refusal) = found ≡ Some refusal
 StopsAfter first found (Failed Device) = ⊥
 StopsAfter first found (Failed NoMemory) = first ≡ None
 
--- want of memory alone
+-- running out of memory alone
 abbrev pub OnlyMemory : Stop → Type 0
 OnlyMemory stop = stop ≡ Failed NoMemory
 

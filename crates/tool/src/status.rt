@@ -17,7 +17,7 @@ pub enum Status {
     StepLimit = 3,
     /// The shelf or a sink failed.
     DeviceFault = 4,
-    /// Want of memory.
+    /// Out of memory.
     NoMemory = 5,
     /// Another outcome came in a replay than its trace records.
     Differs = 6,

@@ -16,7 +16,7 @@ use trace_file::TraceFault;
 pub(crate) enum Fault {
     /// The shelf or a sink failed.
     Device,
-    /// Want of memory.
+    /// Out of memory.
     NoMemory,
 }
 

@@ -89,7 +89,7 @@ pub enum TraceFault {
     /// 3 version, 4 configuration, 5 event, 6 tail, 7 outcome. `place` is the place in the file that shows it.
     #[error("trace fault {number} at byte {place}")]
     Bad { number: u8, place: u32 },
-    /// Want of memory.
+    /// Out of memory.
     #[error("no memory for the trace")]
     NoMemory,
 }

@@ -130,7 +130,7 @@ fn spelled(alloc: Global, config: &Config, history: &History) -> Result<Vec<u8>,
 /// contents of the name. Every other name keeps its contents.
 ///
 /// `Failed` comes only where the shelf lists this write among its failed calls; what the name holds
-/// is then unknown. After want of memory no file has changed. It never answers `TooBig`.
+/// is then unknown. After `NoMemory` no file has changed. It never answers `TooBig`.
 pub fn write_trace<S: Shelf>(
     alloc: Global,
     shelf: &mut S,

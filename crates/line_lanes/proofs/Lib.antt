@@ -1,0 +1,4 @@
+mod Bytes
+mod Ones
+mod Puts
+pub mod Laws

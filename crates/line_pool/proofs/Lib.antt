@@ -1,0 +1,6 @@
+mod Counting
+mod Made
+mod Moves
+mod Places
+mod Steps
+pub mod Laws

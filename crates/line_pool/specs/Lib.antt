@@ -1,0 +1,5 @@
+pub mod Calls
+pub mod Keeping
+pub mod Kept
+pub mod Lending
+pub mod Pooled

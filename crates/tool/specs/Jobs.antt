@@ -18,7 +18,8 @@ use Rattle.run_check.specs.Spelling as certificates
 use Rattle.run_check.specs.Spelling.{IsCertificate}
 use Rattle.run_check.specs.declared.verdict.Verdict.{Verdict}
 use Rattle.trace_file.specs.Spelling.{IsTrace, outcomes, spelling}
-use Rattle.workload.specs.Image.{number_in}
+use Rattle.workload.specs.Image.{IsWorkload}
+use Rattle.workload.specs.declared.work.Work.{Work}
 use Rattle.tool.specs.declared.refusal.Refusal.{Refusal}
 use Rattle.tool.specs.declared.refusal.Refusal.TheVariants.{Usage}
 use Rattle.tool.specs.Answer.{Answer, Besides, differing, ended, found, generated, judged, looked, refused}
@@ -167,12 +168,12 @@ pub record IsCheckAnswer (image_name certificate_name : List ℕ) (told : Option
   pub certificate_file : Holds told certificate_name certificate
   pub exact : CheckAnswer image certificate answer
 
--- to write an image with this number to a file, whatever its kind: the image is what `workload` promises that it builds
-pub record IsGenAnswer (number : ℕ) (file : List ℕ) (answer : Answer) : Type 0 where
+-- to write the image of a kind with this number to a file
+pub record IsGenAnswer (kind : Work) (number : ℕ) (file : List ℕ) (answer : Answer) : Type 0 where
   pub image : List ℕ
   pub accepted : IsFaultless image
   pub within_limit : length image ≤ file_limit
-  pub numbered : number_in image ≡ number
+  pub is_workload : IsWorkload kind number image
   pub exact : answer ≡ generated file image
 
 -- an answer to a job; words that are none are refused
@@ -183,7 +184,7 @@ JobAnswer told (Some (Replay job)) answer = IsReplayAnswer job told answer
 JobAnswer told (Some (Look job)) answer = IsLookAnswer job told answer
 JobAnswer told (Some (Find job)) answer = IsFindAnswer job told answer
 JobAnswer told (Some (Check image certificate)) answer = IsCheckAnswer image certificate told answer
-JobAnswer told (Some (Gen kind number file)) answer = IsGenAnswer number file answer
+JobAnswer told (Some (Gen kind number file)) answer = IsGenAnswer kind number file answer
 
 -- an answer to these words
 abbrev pub IsAnswer : List (List ℕ) → Option Contents → Answer → Type 0

@@ -1,2 +1,10 @@
+pub mod Data
+pub mod Ending
 pub mod Extent
 pub mod Image
+pub mod Listing
+pub mod Mnemonics
+pub mod Parts
+pub mod Putting
+pub mod Registers
+pub mod Rounds

@@ -1,10 +1,13 @@
 ghost use Rattle.std.specs.Prelude.{◌≡◌, ◌<◌, ◌≤◌, length, IfOk, OnOk};
+ghost use Rattle.rv_asm.specs.Finished.{IsAssembled};
 ghost use Rattle.rv_word.specs.Validity.{Valid};
-ghost use Rattle.workload.specs.Extent.{Extent, HasRoom, grown};
+ghost use Rattle.workload.specs.Extent.{Extent, HasRoom, extent, grown};
+ghost use Rattle.workload.specs.Putting as listed;
 
+use crate::registers::Register;
 use el_base::NoMemory;
 use rv_asm::{Asm, AsmFault, Label};
-use rv_word::{Insn, Reg, Test};
+use rv_word::{Insn, Test};
 use std::alloc::Global;
 use std::marker::Model;
 
@@ -18,20 +21,22 @@ pub struct Program {
 }
 
 impl Model for Program {
-    ghost use Rattle.std.specs.Prelude.{All, IsSome, length};
-    ghost use Rattle.workload.specs.Extent.{Extent};
+    ghost use Rattle.std.specs.Prelude.{All, IsSome};
+    ghost use Rattle.rv_asm.specs.Assembly.{Assembly};
 
-    ghost Value = { Extent };
+    ghost Value = { Assembly };
 
-    ghost view = { λ p. record { words = length p.asm.items; labels = length p.asm.places } };
+    ghost view = { λ p. p.asm };
 
     ghost invariant = { λ p. All IsSome p.asm.places };
 }
 
 impl Program {
     /// A program without words.
+    #[tactic(auto, unfolding(crate::specs::Extent::extent, crate::specs::Putting::empty))]
     pub fn make(alloc: Global) -> Result<Program, NoMemory>
-        ensures { IfOk result (λ program. program ≡ record { words = 0; labels = 0 }) }
+        ensures size { IfOk result (λ program. extent program ≡ record { words = 0; labels = 0 }) }
+        ensures listed { IfOk result (λ program. program ≡ listed.empty) }
     {
         Ok(Program {
             asm: Asm::make(alloc)?,
@@ -39,19 +44,25 @@ impl Program {
     }
 
     /// Puts an instruction behind the others.
+    #[tactic(auto, unfolding(crate::specs::Extent::extent, crate::specs::Putting::put))]
     pub fn put(&mut self, insn: Insn) -> Result<(), NoMemory>
         requires valid { Valid insn }
-        requires room { HasRoom self.old 1 0 }
-        ensures { OnOk result (self.new ≡ grown self.old 1 0) }
+        requires room { HasRoom (extent self.old) 1 0 }
+        ensures size { OnOk result (extent self.new ≡ grown (extent self.old) 1 0) }
+        ensures listed { OnOk result (self.new ≡ listed.put insn self.old) }
     {
-        self.asm.insn(insn)
+        self.asm.insn(insn)?;
+        Ok(())
     }
 
     /// A label at the next word.
+    #[tactic(auto, unfolding(crate::specs::Extent::extent, crate::specs::Putting::here, crate::specs::Putting::next_label))]
     pub fn here(&mut self) -> Result<Label, NoMemory>
-        requires room { HasRoom self.old 0 1 }
-        ensures label { IfOk result (λ label. label.number ≡ self.old.labels) }
-        ensures program { OnOk result (self.new ≡ grown self.old 0 1) }
+        requires room { HasRoom (extent self.old) 0 1 }
+        ensures made { IfOk result (λ label. label.number ≡ (extent self.old).labels) }
+        ensures label { IfOk result (λ label. label ≡ listed.next_label self.old) }
+        ensures size { OnOk result (extent self.new ≡ grown (extent self.old) 0 1) }
+        ensures listed { OnOk result (self.new ≡ listed.here self.old) }
     {
         let label = self.asm.label()?;
         self.asm.place(label)?;
@@ -59,28 +70,41 @@ impl Program {
     }
 
     /// Branches back to the label.
-    pub fn branch(&mut self, test: Test, rs1: Reg, rs2: Reg, label: Label) -> Result<(), NoMemory>
-        requires made { label.number < self.old.labels }
-        requires room { HasRoom self.old 1 0 }
-        ensures { OnOk result (self.new ≡ grown self.old 1 0) }
+    #[tactic(auto, unfolding(crate::specs::Extent::extent, crate::specs::Putting::branch))]
+    pub fn branch(
+        &mut self,
+        test: Test,
+        rs1: Register,
+        rs2: Register,
+        label: Label,
+    ) -> Result<(), NoMemory>
+        requires made { label.number < (extent self.old).labels }
+        requires room { HasRoom (extent self.old) 1 0 }
+        ensures size { OnOk result (extent self.new ≡ grown (extent self.old) 1 0) }
+        ensures listed { OnOk result (self.new ≡ listed.branch test rs1 rs2 label self.old) }
     {
-        self.asm.branch(test, rs1, rs2, label)
+        self.asm.branch(test, rs1.reg(), rs2.reg(), label)?;
+        Ok(())
     }
 
     /// Jumps back to the label.
-    pub fn jump(&mut self, rd: Reg, label: Label) -> Result<(), NoMemory>
-        requires made { label.number < self.old.labels }
-        requires room { HasRoom self.old 1 0 }
-        ensures { OnOk result (self.new ≡ grown self.old 1 0) }
+    #[tactic(auto, unfolding(crate::specs::Extent::extent, crate::specs::Putting::jump))]
+    pub fn jump(&mut self, rd: Register, label: Label) -> Result<(), NoMemory>
+        requires made { label.number < (extent self.old).labels }
+        requires room { HasRoom (extent self.old) 1 0 }
+        ensures size { OnOk result (extent self.new ≡ grown (extent self.old) 1 0) }
+        ensures listed { OnOk result (self.new ≡ listed.jump rd label self.old) }
     {
-        self.asm.jump(rd, label)
+        self.asm.jump(rd.reg(), label)?;
+        Ok(())
     }
 
     /// The words in order.
-    #[tactic(auto, using(rv_asm::proofs::Faultless::all_placed, rv_asm::proofs::Faultless::short_near))]
+    #[tactic(auto, using(rv_asm::proofs::Faultless::all_placed, rv_asm::proofs::Faultless::short_near), unfolding(crate::specs::Extent::extent))]
     pub fn finish(self) -> Result<Vec<u32>, NoMemory>
-        requires { self.words ≤ MOST_WORDS }
-        ensures { IfOk result (λ words. length words.items ≡ self.words) }
+        requires { (extent self).words ≤ MOST_WORDS }
+        ensures size { IfOk result (λ words. length words.items ≡ (extent self).words) }
+        ensures assembled { IfOk result (λ words. IsAssembled self words.items) }
     {
         match self.asm.finish() {
             Ok(words) => Ok(words),

@@ -1,7 +1,8 @@
 //! What each hart does in each kind of workload.
 
 ghost use Rattle.std.specs.Prelude.{◌≡◌, OnOk};
-ghost use Rattle.workload.specs.Extent.{GrowsWithin, HasRoom, grown};
+ghost use Rattle.workload.specs.Extent.{GrowsWithin, HasRoom, extent, grown};
+ghost use Rattle.workload.specs.Rounds as rounds_of;
 
 use crate::layout::{LOCKS, WORDS};
 use crate::mnemonics::addi;
@@ -9,14 +10,15 @@ use crate::parts::{
     Taking, add_to_word, again, data_address, draw_line, give_lock, seed, small, take, take_lock,
 };
 use crate::program::Program;
-use crate::registers::{LEFT, LOCK, OTHER_LOCK, OTHER_WORD, ROUNDS, WORD};
+use crate::registers::Register::{Left, Lock, OtherLock, OtherWord, RoundsLeft, Word};
 use crate::work::Work;
 use el_base::NoMemory;
 
 /// The rounds of a kind.
 pub fn rounds(program: &mut Program, kind: Work) -> Result<(), NoMemory>
-    requires { HasRoom program.old 60 4 }
-    ensures { OnOk result (GrowsWithin program.old 60 4 program.new) }
+    requires { HasRoom (extent program.old) 60 4 }
+    ensures size { OnOk result (GrowsWithin (extent program.old) 60 4 (extent program.new)) }
+    ensures listed { OnOk result (program.new ≡ rounds_of.rounds kind program.old) }
 {
     match kind {
         Work::Counter => counter(program, Taking::BySwap),
@@ -29,92 +31,107 @@ pub fn rounds(program: &mut Program, kind: Work) -> Result<(), NoMemory>
 }
 
 /// 100 times: take the lock, in one way or the other, and add 1 to the word.
+#[tactic(auto, unfolding(crate::specs::Rounds::counter))]
 fn counter(program: &mut Program, taking: Taking) -> Result<(), NoMemory>
-    requires { HasRoom program.old 14 2 }
-    ensures { OnOk result (program.new ≡ grown program.old 14 2) }
+    requires { HasRoom (extent program.old) 14 2 }
+    ensures size { OnOk result (extent program.new ≡ grown (extent program.old) 14 2) }
+    ensures listed { OnOk result (program.new ≡ rounds_of.counter taking program.old) }
 {
-    data_address(program, LOCK, LOCKS)?;
-    data_address(program, WORD, WORDS)?;
-    small(program, ROUNDS, 100)?;
+    data_address(program, Lock, LOCKS)?;
+    data_address(program, Word, WORDS)?;
+    small(program, RoundsLeft, 100)?;
     let round = program.here()?;
-    take(program, taking, LOCK)?;
-    add_to_word(program, WORD, 1)?;
-    give_lock(program, LOCK)?;
-    again(program, ROUNDS, round)
+    take(program, taking, Lock)?;
+    add_to_word(program, Word, 1)?;
+    give_lock(program, Lock)?;
+    again(program, RoundsLeft, round)?;
+    Ok(())
 }
 
 /// 200 times: draw two accounts, take the lock, move 1 from the one to the other.
+#[tactic(auto, unfolding(crate::specs::Rounds::bank))]
 fn bank(program: &mut Program) -> Result<(), NoMemory>
-    requires { HasRoom program.old 47 3 }
-    ensures { OnOk result (program.new ≡ grown program.old 47 3) }
+    requires { HasRoom (extent program.old) 47 3 }
+    ensures size { OnOk result (extent program.new ≡ grown (extent program.old) 47 3) }
+    ensures listed { OnOk result (program.new ≡ rounds_of.bank program.old) }
 {
     seed(program)?;
-    data_address(program, LOCK, LOCKS)?;
-    small(program, ROUNDS, 200)?;
+    data_address(program, Lock, LOCKS)?;
+    small(program, RoundsLeft, 200)?;
     let round = program.here()?;
-    draw_line(program, WORD, 63)?;
-    program.put(addi(WORD, WORD, WORDS))?;
-    draw_line(program, OTHER_WORD, 63)?;
-    program.put(addi(OTHER_WORD, OTHER_WORD, WORDS))?;
-    take_lock(program, LOCK)?;
-    add_to_word(program, WORD, -1)?;
-    add_to_word(program, OTHER_WORD, 1)?;
-    give_lock(program, LOCK)?;
-    again(program, ROUNDS, round)
+    draw_line(program, Word, 63)?;
+    program.put(addi(Word, Word, WORDS))?;
+    draw_line(program, OtherWord, 63)?;
+    program.put(addi(OtherWord, OtherWord, WORDS))?;
+    take_lock(program, Lock)?;
+    add_to_word(program, Word, -1)?;
+    add_to_word(program, OtherWord, 1)?;
+    give_lock(program, Lock)?;
+    again(program, RoundsLeft, round)?;
+    Ok(())
 }
 
 /// 200 times: draw a bucket, take its lock, add 1 to it.
+#[tactic(auto, unfolding(crate::specs::Rounds::buckets))]
 fn buckets(program: &mut Program) -> Result<(), NoMemory>
-    requires { HasRoom program.old 34 3 }
-    ensures { OnOk result (program.new ≡ grown program.old 34 3) }
+    requires { HasRoom (extent program.old) 34 3 }
+    ensures size { OnOk result (extent program.new ≡ grown (extent program.old) 34 3) }
+    ensures listed { OnOk result (program.new ≡ rounds_of.buckets program.old) }
 {
     seed(program)?;
-    small(program, ROUNDS, 200)?;
+    small(program, RoundsLeft, 200)?;
     let round = program.here()?;
-    draw_line(program, WORD, 15)?;
-    program.put(addi(LOCK, WORD, LOCKS))?;
-    program.put(addi(WORD, WORD, WORDS))?;
-    take_lock(program, LOCK)?;
-    add_to_word(program, WORD, 1)?;
-    give_lock(program, LOCK)?;
-    again(program, ROUNDS, round)
+    draw_line(program, Word, 15)?;
+    program.put(addi(Lock, Word, LOCKS))?;
+    program.put(addi(Word, Word, WORDS))?;
+    take_lock(program, Lock)?;
+    add_to_word(program, Word, 1)?;
+    give_lock(program, Lock)?;
+    again(program, RoundsLeft, round)?;
+    Ok(())
 }
 
 /// 100 times: take both locks, add 1 to both words, give the locks back, the later one first.
+#[tactic(auto, unfolding(crate::specs::Rounds::locks))]
 fn locks(program: &mut Program) -> Result<(), NoMemory>
-    requires { HasRoom program.old 25 3 }
-    ensures { OnOk result (program.new ≡ grown program.old 25 3) }
+    requires { HasRoom (extent program.old) 25 3 }
+    ensures size { OnOk result (extent program.new ≡ grown (extent program.old) 25 3) }
+    ensures listed { OnOk result (program.new ≡ rounds_of.locks program.old) }
 {
-    data_address(program, LOCK, LOCKS)?;
-    data_address(program, OTHER_LOCK, LOCKS + 64)?;
-    data_address(program, WORD, WORDS)?;
-    data_address(program, OTHER_WORD, WORDS + 64)?;
-    small(program, ROUNDS, 100)?;
+    data_address(program, Lock, LOCKS)?;
+    data_address(program, OtherLock, LOCKS + 64)?;
+    data_address(program, Word, WORDS)?;
+    data_address(program, OtherWord, WORDS + 64)?;
+    small(program, RoundsLeft, 100)?;
     let round = program.here()?;
-    take_lock(program, LOCK)?;
-    take_lock(program, OTHER_LOCK)?;
-    add_to_word(program, WORD, 1)?;
-    add_to_word(program, OTHER_WORD, 1)?;
-    give_lock(program, OTHER_LOCK)?;
-    give_lock(program, LOCK)?;
-    again(program, ROUNDS, round)
+    take_lock(program, Lock)?;
+    take_lock(program, OtherLock)?;
+    add_to_word(program, Word, 1)?;
+    add_to_word(program, OtherWord, 1)?;
+    give_lock(program, OtherLock)?;
+    give_lock(program, Lock)?;
+    again(program, RoundsLeft, round)?;
+    Ok(())
 }
 
 /// 20 times: take the lock, add 1 to each of the words.
+#[tactic(auto, unfolding(crate::specs::Rounds::overflow))]
 fn overflow(program: &mut Program) -> Result<(), NoMemory>
-    requires { HasRoom program.old 18 3 }
-    ensures { OnOk result (program.new ≡ grown program.old 18 3) }
+    requires { HasRoom (extent program.old) 18 3 }
+    ensures size { OnOk result (extent program.new ≡ grown (extent program.old) 18 3) }
+    ensures listed { OnOk result (program.new ≡ rounds_of.overflow program.old) }
 {
-    data_address(program, LOCK, LOCKS)?;
-    small(program, ROUNDS, 20)?;
+    data_address(program, Lock, LOCKS)?;
+    small(program, RoundsLeft, 20)?;
     let round = program.here()?;
-    take_lock(program, LOCK)?;
-    data_address(program, WORD, WORDS)?;
-    small(program, LEFT, 20)?;
+    take_lock(program, Lock)?;
+    data_address(program, Word, WORDS)?;
+    small(program, Left, 20)?;
     let next = program.here()?;
-    add_to_word(program, WORD, 1)?;
-    program.put(addi(WORD, WORD, 64))?;
-    again(program, LEFT, next)?;
-    give_lock(program, LOCK)?;
-    again(program, ROUNDS, round)
+    add_to_word(program, Word, 1)?;
+    program.put(addi(Word, Word, 64))?;
+    again(program, Left, next)?;
+    give_lock(program, Lock)?;
+    again(program, RoundsLeft, round)?;
+    Ok(())
 }

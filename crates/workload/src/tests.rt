@@ -1,4 +1,5 @@
-//! Whole runs on plain memory, one step of each hart in turn.
+//! Whole runs on plain memory. In its turn each hart makes one step more than the one before it, so that harts drift
+//! apart and meet in each other's rounds: in lockstep a program without its locks may lose no update.
 
 use super::*;
 use crate::layout::{DATA_START, WORDS};
@@ -18,7 +19,9 @@ fn run(rt: &impl Abort, alloc: Global, file: &[u8], harts: u8) -> Result<Flat, F
     for _ in 0..1_000_000 {
         let mut running = false;
         for number in 0..harts {
-            step(rt, &mut flat, number);
+            for _ in 0..=number {
+                step(rt, &mut flat, number);
+            }
             running |= status(rt, &flat, number) == HartStatus::Running;
         }
         if !running {
@@ -39,6 +42,9 @@ fn status(rt: &impl Abort, flat: &Flat, number: u8) -> HartStatus {
     assert!(rt; usize::from(hart.number) < flat.harts());
     flat.status(hart)
 }
+
+/// Where the words stand in a file: behind a header of 52 bytes and two program headers of 32.
+const WORDS_PLACE: usize = 116;
 
 /// The word of this index among those that are counted in.
 fn word(rt: &impl Abort, flat: &Flat, index: u32) -> u32 {
@@ -119,5 +125,72 @@ fn the_same_arguments_give_the_same_file(rt: HostRuntime) -> Result<(), Fail> {
         assert!(rt; file == build(rt.alloc(), kind, 7)?);
         assert!(rt; file != build(rt.alloc(), kind, 8)?);
     }
+    Ok(())
+}
+
+/// The words of `Counter` as GNU as of binutils 2.40 writes them, of the same instructions with labels.
+const COUNTER: [u32; 51] = [
+    0x0000_0513,
+    0x05d0_0893,
+    0x0000_0073,
+    0x0001_1937,
+    0x0c09_0a93,
+    0x4c09_0b93,
+    0x0640_0993,
+    0x0010_0293,
+    0x000a_a303,
+    0xfe03_1ee3,
+    0x0c5a_a32f,
+    0xfe03_1ae3,
+    0x000b_a283,
+    0x0012_8293,
+    0x005b_a023,
+    0x0a0a_a02f,
+    0xfff9_8993,
+    0xfc09_9ce3,
+    0x0409_0293,
+    0x0010_0313,
+    0x0262_a02f,
+    0xfa05_16e3,
+    0x0409_2283,
+    0xfeb2_9ee3,
+    0x0ff0_000f,
+    0x4c09_0b93,
+    0x0010_0a13,
+    0x0000_0d13,
+    0x000b_a283,
+    0x005d_0d33,
+    0x040b_8b93,
+    0xfffa_0a13,
+    0xfe0a_18e3,
+    0x0809_0293,
+    0x0080_0313,
+    0x01cd_5393,
+    0x0123_83b3,
+    0x0103_c383,
+    0x0072_8023,
+    0x004d_1d13,
+    0x0012_8293,
+    0xfff3_0313,
+    0xfe03_12e3,
+    0x00a0_0393,
+    0x0072_8023,
+    0x0010_0513,
+    0x0809_0593,
+    0x0090_0613,
+    0x0400_0893,
+    0x0000_0073,
+    0xf39f_f06f,
+];
+
+#[test]
+fn words_are_those_of_the_assembler(rt: HostRuntime) -> Result<(), Fail> {
+    let mut wanted = Vec::new(rt.alloc());
+    for word in COUNTER {
+        wanted.extend_from_slice(&word.to_le_bytes())?;
+    }
+    let file = build(rt.alloc(), Work::Counter, 7)?;
+    let words = file.get(WORDS_PLACE..WORDS_PLACE + 4 * COUNTER.len());
+    assert_eq!(rt; words, Some(wanted.as_slice()));
     Ok(())
 }

@@ -1,4 +1,6 @@
+ghost use Rattle.std.specs.Prelude.{◌≡◌};
 ghost use Rattle.rv_word.specs.Validity.{FitsSignedBits};
+ghost use Rattle.workload.specs.Listing.{words_of};
 
 /// The kinds of workloads. In each, harts run rounds that take locks, and hart 0 tells a sum at the end. There are n
 /// harts.
@@ -22,7 +24,8 @@ pub enum Work {
 impl Work {
     /// How many words are added up at the end.
     pub(crate) fn words(self) -> i32
-        ensures { FitsSignedBits 12 result }
+        ensures exact { result ≡ words_of self }
+        ensures fits { FitsSignedBits 12 result }
     {
         match self {
             Work::Counter | Work::Pairs => 1,

@@ -15,3 +15,4 @@ pub mod Putting
 pub mod Adding
 pub mod Lining
 pub mod Waiting
+pub mod Parting

@@ -1,6 +1,8 @@
 -- lines that are put behind others, and what an event tells of lines
-use Rattle.std.proofs.Common.{◌≡◌, ◌∙◌, ℕ, zero, suc, ◌+◌, ◌<◌, ◌==◌, ◌||◌, nat_eq, Bool, true, false, cond, List, [], ◌∷◌, ◌++◌, Option, Some, None, length, take, get_or, refl, ap, sym, arith, append-nil, append_assoc, eq-eqb}
+use Rattle.std.proofs.Common.{◌≡◌, ◌∙◌, ℕ, zero, suc, ◌+◌, ◌<◌, ◌==◌, ◌||◌, nat_eq, Bool, true, false, cond, List, [], ◌∷◌, ◌++◌, Option, Some, None, length, take, get_or, refl, ap, subst, sym, arith, append-nil, append_assoc, eq-eqb}
 use Rattle.std.specs.Cmp.{IsEquivalence}
+use Rattle.cache_sets.specs.Cached.{Cached}
+use Rattle.coherence.specs.Caches.{cache_at}
 use Rattle.std.specs.HashSet.{HashSet, contains}
 use Rattle.std.specs.List.{IsDistinct, flat_map, list_any, range_with_len}
 use Rattle.std.specs.Option.{option_map}
@@ -13,6 +15,7 @@ use Rattle.el_base.proofs.Lines.{line_addr-of_line}
 use Rattle.el_base.specs.HartId.{hart_id}
 use Rattle.el_base.specs.LineAddr.{line_addr}
 use Rattle.el_base.specs.declared.events.Event.{Event}
+use Rattle.el_base.specs.declared.events.Kind.{Kind}
 use Rattle.el_base.specs.declared.events.Kind.TheVariants as kinds
 use Rattle.el_base.specs.declared.hart_id.HartId.{HartId}
 use Rattle.el_base.specs.declared.line.LineAddr.{LineAddr}
@@ -22,15 +25,17 @@ use Rattle.el_base.specs.declared.outcomes.Outcome.{Outcome}
 use Rattle.el_base.specs.declared.outcomes.Outcome.TheVariants as outcomes
 use Rattle.el_model.proofs.Coming.{by_their_rules}
 use Rattle.el_model.specs.Next.{next}
-use Rattle.el_model.specs.State.{ModelState}
+use Rattle.el_model.specs.State.{ModelState, cache_of, ordered_of}
+use Rattle.engine.specs.MainMemory.{back_by, back_for, if_dirty, leaving_line, line_written_back}
 use Rattle.lab.proofs.Noting.{line_back}
 use Rattle.lab.specs.LineRows.{AreLinesOf, AreSeenLines, has_line, is_line, is_on, same_line, with_line}
-use Rattle.lab.specs.Lines.{Asking, asked_in, facts_by, facts_in, loss_facts, losses_below, owner_facts, same_owner}
+use Rattle.lab.specs.Lines.{Asking, asked_in, back_facts, facts_by, facts_in, if_served, loss_facts, losses_below, owner_facts, same_owner}
 use Rattle.lab.specs.Tries.{line_waited_for}
 use Rattle.lab.specs.declared.lines.Fact.{Fact}
 use Rattle.lab.specs.declared.lines.LineFact.TheVariants.{Lost, Owner}
 use Rattle.machine.proofs.Continued.{state_of_continued}
 use Rattle.machine.specs.Story.{Story, continued, state_of}
+use Rattle.snoop.specs.Shows.{Kept, Shows}
 
 or_flip : (a b : Bool) → (a || (b || false)) ≡ cond b true a
 or_flip true true = refl
@@ -194,12 +199,17 @@ pub served_is_serve : (state : ModelState) (event : Event) (losers : Losers) (fr
     (next state event).outcome ≡ outcomes.Served losers freed → event.kind ≡ kinds.Serve
 served_is_serve state event losers freed is = ((by_their_rules state event (outcomes.Served losers freed)).0 is).serve
 
+-- what an event tells of lines, without the one that it writes back
+abbrev pub without_back : ModelState → ℕ → Event → List Fact
+without_back state place event =
+    facts_by place event.hart (asked_in state event.hart.number) (next state event).state (next state event).outcome
+
 -- what an event tells of lines, by what was asked for before it
 pub lines_told : (before after : Story) (event : Event) (outcome : Outcome) (place : ℕ) (asked : Option Asking) (old later : List Fact) →
     after ≡ continued before (event ∷ []) → outcome ≡ (next (state_of before) event).outcome → place ≡ length before.entries →
     (event.kind ≡ kinds.Serve → asked ≡ asked_in (state_of before) event.hart.number) →
     later ≡ old ++ facts_by place event.hart asked (state_of after) outcome →
-    later ≡ old ++ facts_in (state_of before) (length before.entries) event
+    later ≡ old ++ without_back (state_of before) (length before.entries) event
 lines_told before after event outcome place asked old later goes told at was is =
     let new : state_of after ≡ (next (state_of before) event).state = ap state_of goes ∙ state_of_continued before (event ∷ []) in
     let now = (next (state_of before) event).state in
@@ -210,6 +220,54 @@ lines_told before after event outcome place asked old later goes told at was is 
     ∙ ap (λ l. old ++ l)
     (facts_by-same (length before.entries) event.hart asked (asked_in (state_of before) event.hart.number) now (next (state_of before) event).outcome
     (λ losers freed served. was (served_is_serve (state_of before) event losers freed served)))
+
+-- what would leave a hart's cache, as the machine shows it
+pub leaving_told : (bus : Kept) (state : ModelState) (sets : Cached) (h line : ℕ) → Shows bus state →
+    sets ≡ cache_at bus.copies.caches h → h < length bus.agents →
+    if_dirty sets.residency (leaving_line sets.ways sets.residency line)
+    ≡ if_dirty (cache_of state h) (leaving_line state.config.ways (cache_of state h) line)
+leaving_told bus state sets h line shows is below =
+    let there : h < length state.harts = subst (λ n. h < n) shows.agent_each below in
+    ap (λ (c : Cached). if_dirty c.residency (leaving_line c.ways c.residency line)) is
+    ∙ ap (λ w. if_dirty (cache_at bus.copies.caches h).residency (leaving_line w (cache_at bus.copies.caches h).residency line)) (shows.ways h there)
+    ∙ ap (λ r. if_dirty r (leaving_line state.config.ways r line)) (shows.caches h)
+
+-- where nothing was served, nothing is written back
+none_back : (state : ModelState) (h : ℕ) (back : Option ℕ) (outcome : Outcome) (kind : Kind) →
+    ((losers : Losers) (freed : Freed) → outcome ≡ outcomes.Served losers freed → (kind ≡ kinds.Serve) × (back ≡ back_for state h (ordered_of state h))) →
+    if_served outcome back ≡ back_by state h outcome kind
+none_back state h back (outcomes.Served losers freed) kind of =
+    (of losers freed refl).1 ∙ ap (back_by state h (outcomes.Served losers freed)) (sym (of losers freed refl).0)
+none_back state h back _ kinds.Step of = refl
+none_back state h back _ kinds.Order of = refl
+none_back state h back _ kinds.Serve of = refl
+none_back state h back _ kinds.Deliver of = refl
+
+-- the line that an event writes back, by what would leave the cache of its hart
+back_is : (state : ModelState) (event : Event) (back : Option ℕ) →
+    (event.kind ≡ kinds.Serve → back ≡ back_for state event.hart.number (ordered_of state event.hart.number)) →
+    if_served (next state event).outcome back ≡ line_written_back state event
+unfolding line_written_back
+back_is state event back was =
+    none_back state event.hart.number back (next state event).outcome event.kind
+    (λ losers freed served. let serves = served_is_serve state event losers freed served in (serves, was serves))
+
+-- what an event tells of lines, with the one that it writes back
+pub back_told : (before : Story) (event : Event) (outcome : Outcome) (place : ℕ) (back : Option ℕ) (old now later : List Fact) →
+    outcome ≡ (next (state_of before) event).outcome → place ≡ length before.entries →
+    (event.kind ≡ kinds.Serve →
+    back ≡ back_for (state_of before) event.hart.number (ordered_of (state_of before) event.hart.number)) →
+    now ≡ old ++ without_back (state_of before) (length before.entries) event →
+    later ≡ now ++ back_facts place event.hart (if_served outcome back) →
+    later ≡ old ++ facts_in (state_of before) (length before.entries) event
+back_told before event outcome place back old now later told at was is more =
+    let facts = without_back (state_of before) (length before.entries) event in
+    more
+    ∙ ap (λ l. l ++ back_facts place event.hart (if_served outcome back)) is
+    ∙ append_assoc old facts (back_facts place event.hart (if_served outcome back))
+    ∙ ap (λ p. old ++ (facts ++ back_facts p event.hart (if_served outcome back))) at
+    ∙ ap (λ o. old ++ (facts ++ back_facts (length before.entries) event.hart (if_served o back))) told
+    ∙ ap (λ b. old ++ (facts ++ back_facts (length before.entries) event.hart b)) (back_is (state_of before) event back was)
 
 -- a change of owner, told
 pub owner_told : (place : ℕ) (line : LineAddr) (from to : Option HartId) →

@@ -10,3 +10,4 @@ pub mod Asked
 pub mod Waits
 pub mod LineRows
 pub mod LockRows
+pub mod Releases

@@ -11,7 +11,7 @@ use Rattle.lab.specs.declared.line_rows.LineCount.TheVariants as counted
 use Rattle.lab.specs.declared.line_rows.LineCounts as rows
 use Rattle.lab.specs.declared.lines.Fact.{Fact}
 use Rattle.lab.specs.declared.lines.LineFact.{LineFact}
-use Rattle.lab.specs.declared.lines.LineFact.TheVariants.{Missed, Served, Owner, Lost}
+use Rattle.lab.specs.declared.lines.LineFact.TheVariants.{Missed, Served, Owner, Lost, WroteBack}
 
 abbrev pub same_need : Need → Need → Bool
 same_need Read Read = true
@@ -24,6 +24,7 @@ is_counted (counted.Missed wanted) (Missed hart need) = same_need wanted need
 is_counted counted.Served (Served hart need) = true
 is_counted counted.Owner (Owner from to) = true
 is_counted (counted.Lost winner loser) (Lost by of) = (winner.number == by.number) && (loser.number == of.number)
+is_counted counted.WrittenBack (WroteBack hart) = true
 is_counted _ _ = false
 
 -- whether a line is the one of this number

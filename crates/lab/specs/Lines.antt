@@ -14,11 +14,12 @@ use Rattle.el_base.specs.declared.outcomes.Outcome.{Outcome}
 use Rattle.el_base.specs.declared.outcomes.Outcome.TheVariants as outcomes
 use Rattle.el_model.specs.Next.{next}
 use Rattle.el_model.specs.State.{ModelState, cache_of, ordered_of}
+use Rattle.engine.specs.MainMemory.{line_written_back}
 use Rattle.lab.specs.Told.{told_from}
 use Rattle.lab.specs.Tries.{line_waited_for}
 use Rattle.lab.specs.declared.lines.Fact.{Fact}
 use Rattle.lab.specs.declared.lines.LineFact.{LineFact}
-use Rattle.lab.specs.declared.lines.LineFact.TheVariants.{Missed, Served, Owner, Lost}
+use Rattle.lab.specs.declared.lines.LineFact.TheVariants.{Missed, Served, Owner, Lost, WroteBack}
 use Rattle.moesi.specs.declared.letter.Letter.{Letter}
 use Rattle.moesi.specs.declared.letter.Letter.TheVariants.{M, O, E, S, I}
 
@@ -99,9 +100,21 @@ facts_by place hart asked after (outcomes.Ordered losers freed) = losses_below p
 facts_by place hart asked after (outcomes.Delivered losers) = losses_below place after (beaten_by losers) 8
 facts_by place hart asked after _ = []
 
+-- a line left a hart's cache and was written back, if one was
+abbrev pub back_facts : ℕ → HartId → Option ℕ → List Fact
+back_facts place hart None = []
+back_facts place hart (Some line) = fact place line (WroteBack hart) ∷ []
+
+-- a line counts as written back where a request was served
+abbrev pub if_served : Outcome → Option ℕ → Option ℕ
+if_served (outcomes.Served losers freed) back = back
+if_served _ back = None
+
+-- and of the line that it writes back to main memory, if it writes one back
 abbrev pub facts_in : ModelState → ℕ → Event → List Fact
 facts_in state place event =
     facts_by place event.hart (asked_in state event.hart.number) (next state event).state (next state event).outcome
+    ++ back_facts place event.hart (line_written_back state event)
 
 -- what these events tell of lines, the first event at a place
 abbrev pub facts_from : ModelState → ℕ → List Event → List Fact

@@ -58,7 +58,8 @@ pub record IsDelivery (h : ℕ) (old : ModelState) (message : Option messages.Me
 -- what is told of an event of a hart, by its kind, between the states before and after it
 abbrev pub Tells : Kind → ℕ → ModelState → ModelState → What → Type 0
 Tells kinds.Step h old new (Step before action after) = IsStep h old new before action after
-Tells kinds.Order h old new (Order request) = option_map order.numbered request ≡ raised_of old h
+Tells kinds.Order h old new (Order request ahead) =
+    (option_map order.numbered request ≡ raised_of old h) × (ahead ≡ length old.order)
 Tells kinds.Serve h old new (Serve request before after) = IsServe h old new request before after
 Tells kinds.Deliver h old new (Deliver message about) = IsDelivery h old message about
 Tells _ _ _ _ _ = ⊥

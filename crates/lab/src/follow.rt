@@ -6,7 +6,7 @@ ghost use Rattle.lab.specs.Swaps.{swaps_from, swaps_in};
 ghost use Rattle.lab.specs.Tries.{AreLive, moment_of, noted, ran_in, tries_from};
 ghost use Rattle.machine.specs.Story.{continued, left_of, state_of};
 
-use crate::lines::{Fact, asked_before, note_lines};
+use crate::lines::{Fact, asked_before, back_before, note_back, note_lines};
 use crate::swaps::{PlainSwap, note_swap, swap_before};
 use crate::tries::{Counts, Tries};
 use el_base::{Chronicled, Event, HartId, MAX_HARTS, NoMemory};
@@ -66,6 +66,7 @@ fn make(machine: &mut Machine, watched: &mut Watched, event: Event) -> Result<()
     let ran = counts(machine);
     let swap = swap_before(machine, event);
     let asked = asked_before(machine, event);
+    let back = back_before(machine, event);
     let outcome = machine.step(event);
     watched.tries.note(machine, place, &ran, event, outcome)?;
     note_swap(&mut watched.swaps, outcome, swap)?;
@@ -76,7 +77,8 @@ fn make(machine: &mut Machine, watched: &mut Watched, event: Event) -> Result<()
         event.hart,
         asked,
         outcome,
-    )
+    )?;
+    note_back(&mut watched.facts, place, event.hart, back, outcome)
 }
 
 /// How many instructions the live section of each hart has run.

@@ -13,19 +13,24 @@ mod line_rows;
 mod lines;
 mod lock_rows;
 mod locks;
+mod releases;
 mod showing;
 mod swaps;
 mod tries;
 mod waits;
 
 pub use follow::{Watched, watch};
-pub use laws::{rows_sum_to_the_report, sections_are_those_of_the_report};
+pub use laws::{parts_sum_to_all, rows_sum_to_the_report, sections_are_those_of_the_report};
 pub use line_rows::{LineCount, LineCounts, line_counts, lines_of};
 pub use lines::{Fact, LineFact};
 pub use lock_rows::{AcquireCounts, Tallies, losses_to, lost_instr, plain_swaps, tally_acquires};
 pub use locks::acquires_of;
+pub use releases::{Parted, part_releases};
 pub use showing::{Letters, Shown, Sight, What, show};
 pub use swaps::{NotElided, PlainSwap};
 pub use timetable::{Times, tabulate};
 pub use tries::{Acquire, Ended, Tries, Try};
 pub use waits::{Wait, wait_of};
+
+#[cfg(test)]
+mod tests;

@@ -19,6 +19,8 @@ pub enum LineCount {
     Owner,
     /// Sections of one hart that were lost to another, which waited for it.
     Lost { winner: HartId, loser: HartId },
+    /// Its bytes written back to main memory.
+    WrittenBack,
 }
 
 /// How often something happened to each line.
@@ -61,6 +63,7 @@ fn is_counted(what: LineCount, fact: LineFact) -> bool
         LineFact::Served { .. } => what == LineCount::Served,
         LineFact::Owner { .. } => what == LineCount::Owner,
         LineFact::Lost { winner, loser } => what == LineCount::Lost { winner, loser },
+        LineFact::WroteBack { .. } => what == LineCount::WrittenBack,
     }
 }
 

@@ -6,15 +6,18 @@ ghost use Rattle.bus_order.specs.Order as order;
 ghost use Rattle.el_base.specs.Losers.{beaten_by};
 ghost use Rattle.el_base.specs.declared.events.Kind.TheVariants as kinds;
 ghost use Rattle.el_base.specs.declared.outcomes.Outcome.TheVariants as outcomes;
+ghost use Rattle.el_model.specs.State.{cache_of, ordered_of};
+ghost use Rattle.engine.specs.MainMemory.{back_for, if_dirty, leaving_line};
 ghost use Rattle.lab.specs.Asked.{numbered_asking};
-ghost use Rattle.lab.specs.Lines.{asked_in, facts_by, losses_below, owner_facts, owner_in, owns, same_owner, served_facts};
+ghost use Rattle.lab.specs.Lines.{asked_in, back_facts, facts_by, if_served, losses_below, owner_facts, owner_in, owns, same_owner, served_facts};
 ghost use Rattle.machine.specs.Story.{state_of};
 
 use crate::tries::waited_for;
 use bus_order::Request;
+use cache_sets::Sets;
 use el_base::{Event, HartId, Kind, LineAddr, Losers, MAX_HARTS, Need, NoMemory, Outcome};
 use machine::Machine;
-use moesi::Letter;
+use moesi::{Letter, is_dirty};
 
 /// What happened to a line at an event.
 #[derive(Clone, Copy, Debug, PartialEq, Eq)]
@@ -38,6 +41,11 @@ pub enum LineFact {
     Lost {
         winner: HartId,
         loser: HartId,
+    },
+    /// As a request of the hart for another line was served, it left the hart's cache, which had it as M or O: main memory
+    /// has its bytes from then on.
+    WroteBack {
+        hart: HartId,
     },
 }
 
@@ -108,6 +116,78 @@ fn owns(letter: Letter) -> bool
         Letter::M | Letter::O | Letter::E => true,
         Letter::S | Letter::I => false,
     }
+}
+
+/// The line that is written back where the request of an event's hart is served.
+pub(crate) fn back_before(machine: &Machine, event: Event) -> Option<LineAddr>
+    requires hart_exists { event.hart.number < machine.now.config.harts }
+    ensures { event.kind ≡ kinds.Serve → option_map (λ line. line.number) result
+        ≡ back_for (state_of machine.now) event.hart.number (ordered_of (state_of machine.now) event.hart.number) }
+{
+    match event.kind {
+        Kind::Serve => {
+            let request = machine.bus().requests().of(event.hart)?;
+            back_for(machine, event.hart, request.line)
+        }
+        _ => None,
+    }
+}
+
+/// The line that is written back where a request of a hart for this one is served.
+fn back_for(machine: &Machine, hart: HartId, line: LineAddr) -> Option<LineAddr>
+    requires hart_exists { hart.number < machine.now.config.harts }
+    ensures { option_map (λ line. line.number) result ≡ if_dirty (cache_of (state_of machine.now) hart.number)
+        (leaving_line (state_of machine.now).config.ways (cache_of (state_of machine.now) hart.number) line.number) }
+{
+    let sets = machine.bus().sets(hart);
+    if_dirty(sets, leaving(sets, line))
+}
+
+/// The line that leaves a cache as this one comes: none where this one is there.
+fn leaving(sets: &Sets, line: LineAddr) -> Option<LineAddr>
+    ensures { option_map (λ line. line.number) result ≡ leaving_line sets.now.ways sets.now.residency line.number }
+{
+    if sets.has(line) {
+        None
+    } else {
+        sets.victim(line)
+    }
+}
+
+/// A line of a cache, where it is modified or owned there.
+fn if_dirty(sets: &Sets, line: Option<LineAddr>) -> Option<LineAddr>
+    ensures { option_map (λ line. line.number) result
+        ≡ if_dirty sets.now.residency (option_map (λ line. line.number) line) }
+{
+    match line {
+        Some(line) if is_dirty(sets.letter(line)) => Some(line),
+        Some(_) => None,
+        None => None,
+    }
+}
+
+/// Notes that an event has written this line back, if there is one and a request was served.
+pub(crate) fn note_back(
+    facts: &mut Vec<Fact>,
+    place: u32,
+    hart: HartId,
+    back: Option<LineAddr>,
+    outcome: Outcome,
+) -> Result<(), NoMemory>
+    ensures { OnOk result (facts.new.items ≡ facts.old.items
+        ++ back_facts place hart (if_served outcome (option_map (λ line. line.number) back))) }
+{
+    match outcome {
+        Outcome::Served { .. } => {
+            if let Some(line) = back {
+                let line = Some(line);
+                let what = LineFact::WroteBack { hart };
+                facts.push(Fact { place, line, what })?;
+            }
+        }
+        _ => (),
+    }
+    Ok(())
 }
 
 /// Notes what an event has done to lines, by what its hart asked for before it.

@@ -38,9 +38,10 @@ pub enum What {
         action: Action,
         after: Sight,
     },
-    /// The request that the hart had raised.
+    /// The request that the hart had raised, and how many requests were in the order before the event.
     Order {
         request: Option<Request>,
+        ahead: usize,
     },
     /// The request that the hart had in the order, with the letters of its line before the event and after it.
     Serve {
@@ -98,6 +99,7 @@ pub fn show(machine: &mut Machine, event: Event) -> Shown
         Kind::Order => {
             let what = What::Order {
                 request: raised(machine, hart),
+                ahead: ordered_so_far(machine),
             };
             let outcome = machine.step(event);
             Shown {
@@ -160,6 +162,13 @@ fn raised(machine: &Machine, hart: HartId) -> Option<Request>
         Asked::Placed { .. } => None,
         Asked::Nothing => None,
     }
+}
+
+/// How many requests are in the order.
+fn ordered_so_far(machine: &Machine) -> usize
+    ensures { result ≡ length (state_of machine.now).order }
+{
+    machine.bus().requests().as_slice().len()
 }
 
 /// The request that a hart has in the order.

@@ -1,5 +1,5 @@
 -- the lines of more and more facts
-use Rattle.std.proofs.Common.{ap, refl, sym}
+use Rattle.std.proofs.Common.{refl}
 use Rattle.lab.proofs.Lining.{line_passed, line_put, no_line, no_line_yet}
 use Rattle.lab.proofs.line_rows.lines_of.Goals as goal
 use Rattle.lab.proofs.line_rows.lines_of.Goals.{in-Some+in_ok-put_line, in_default}

@@ -1,11 +1,10 @@
 -- the rows of more and more sections
-use Rattle.std.proofs.Common.{◌∙◌, ap, arith, refl}
+use Rattle.std.proofs.Common.{◌∙◌, ap, arith}
 use Rattle.chronicle.proofs.Tallies.{none_small, sum_fits}
 use Rattle.chronicle.specs.Tally.{plus}
 use Rattle.lab.proofs.Adding.{row_put, row_small}
 use Rattle.lab.proofs.Rows.{no_row}
 use Rattle.lab.proofs.lock_rows.tally_acquires.Goals as goal
-use Rattle.lab.specs.Locks.{of_acquire}
 
 pub loop-begun-init : goal.loop-begun-init
 loop-begun-init c = record {

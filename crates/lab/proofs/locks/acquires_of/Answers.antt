@@ -1,6 +1,6 @@
 -- the acquires of more and more sections and swaps
 use Rattle.std.proofs.Common.{arith, refl}
-use Rattle.lab.proofs.Putting.{acquire_put, acquires_stay, all_among, no_swap_yet, none_yet, swap_put}
+use Rattle.lab.proofs.Putting.{acquire_put, acquires_stay, all_among, none_yet, swap_put}
 use Rattle.lab.proofs.locks.acquires_of.Goals as goal
 
 pub loop-begun-init : goal.loop-begun-init

@@ -1,5 +1,5 @@
 -- the swap that comes next
-use Rattle.std.proofs.Common.{◌≡◌, ◌∙◌, ap, length, subst, sym}
+use Rattle.std.proofs.Common.{◌∙◌, ap, length, subst, sym}
 use Rattle.std.specs.Option.{option_map}
 use Rattle.core_step.proofs.Runs.{aligned}
 use Rattle.core_step.specs.Run.{IsAligned}
@@ -8,7 +8,6 @@ use Rattle.lab.proofs.swaps.next_swap.Goals as goal
 use Rattle.lab.specs.Swaps.{as_plain, next_plain}
 use Rattle.machine.specs.Story.{state_of}
 use Rattle.rv_alu.specs.declared.view.HartView.{HartView}
-use Rattle.rv_flat.specs.FlatState.{view_of}
 
 pub word_at-requires-clause-aligned : goal.word_at-requires-clause-aligned
 word_at-requires-clause-aligned c =

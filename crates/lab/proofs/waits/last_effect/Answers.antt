@@ -1,5 +1,5 @@
 -- one entry after another
-use Rattle.std.proofs.Common.{◌≡◌, ◌∙◌, ◌<◌, Some, ap, arith, cond, length, sym}
+use Rattle.std.proofs.Common.{◌∙◌, ◌<◌, Some, ap, arith, cond, length, sym}
 use Rattle.std.proofs.lemmas.Option.{get_or_from_slice_get}
 use Rattle.lab.proofs.Waiting.{last_more, last_told}
 use Rattle.lab.proofs.waits.last_effect.Goals as goal

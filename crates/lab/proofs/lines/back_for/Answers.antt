@@ -1,0 +1,15 @@
+-- what would be written back
+use Rattle.std.proofs.Common.{◌∙◌, ◌<◌, ap, length, subst, sym}
+use Rattle.engine.specs.MainMemory.{if_dirty}
+use Rattle.lab.proofs.Lining.{leaving_told}
+use Rattle.lab.proofs.lines.back_for.Goals as goal
+use Rattle.machine.specs.Story.{state_of}
+use Rattle.snoop.specs.Shows.{kept}
+
+pub returns : goal.returns
+returns c =
+    let h = c.args.hart.number in
+    c.if_dirty.ensures
+    ∙ ap (if_dirty c.sets-sets.result.now.residency) c.leaving.ensures
+    ∙ leaving_told (kept c.bus.result.now) (state_of c.args.machine.now) c.sets-sets.result.now h c.args.line.number c.bus.ensures.shows
+    c.sets-sets.ensures.exact (subst (λ n. h < n) (sym c.bus.ensures.harts) c.requires.hart_exists)

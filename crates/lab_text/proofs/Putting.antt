@@ -1,0 +1,35 @@
+-- items that are put behind others, hart by hart or register by register
+use Rattle.std.proofs.Common.{◌≡◌, ◌∙◌, ℕ, zero, suc, ◌+◌, List, [], ◌∷◌, ◌++◌, ap, sym, arith, append-nil, append_assoc}
+use Rattle.std.specs.List.{flat_map, range_with_len}
+use Rattle.std.proofs.lemmas.Grind.{flat_map-append}
+use Rattle.el_base.proofs.HartIds.{hart_id-of_hart}
+use Rattle.el_base.specs.HartId.{hart_id}
+use Rattle.el_base.specs.declared.hart_id.HartId.{HartId}
+
+-- a hart is the hart of its number
+pub hart_back : (hart : HartId) → hart_id hart.number ≡ hart
+hart_back hart = hart_id-of_hart hart
+
+range_more : (from n end : ℕ) → end ≡ from + n → range_with_len from (suc n) ≡ range_with_len from n ++ end ∷ []
+range_more from zero end is = ap (λ (m : ℕ). m ∷ []) (omega (arith, is))
+range_more from (suc n) end is = ap (λ (l : List ℕ). from ∷ l) (range_more (from + 1) n end (omega (arith, is)))
+
+-- what each number below the next one tells is what each below this one tells, and what this one does
+pub each_more : {A : Type 0} (f : ℕ → List A) (n : ℕ) →
+    flat_map f (range_with_len 0 (n + 1)) ≡ flat_map f (range_with_len 0 n) ++ f n
+each_more f n =
+    let next : n + 1 ≡ suc n = omega arith in
+    ap (λ m. flat_map f (range_with_len 0 m)) next
+    ∙ ap (flat_map f) (range_more 0 n n (omega arith))
+    ∙ flat_map-append f (range_with_len 0 n) (n ∷ [])
+    ∙ ap (λ (l : List _). flat_map f (range_with_len 0 n) ++ l) (append-nil (f n))
+
+-- one number more
+pub put_more : {A : Type 0} (f : ℕ → List A) (n : ℕ) (before now later : List A) →
+    now ≡ before ++ flat_map f (range_with_len 0 n) → later ≡ now ++ f n →
+    later ≡ before ++ flat_map f (range_with_len 0 (n + 1))
+put_more f n before now later reached more =
+    more
+    ∙ ap (λ l. l ++ f n) reached
+    ∙ append_assoc before (flat_map f (range_with_len 0 n)) (f n)
+    ∙ ap (λ l. before ++ l) (sym (each_more f n))

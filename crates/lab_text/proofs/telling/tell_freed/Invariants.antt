@@ -1,0 +1,11 @@
+use Rattle.std.proofs.Common.{◌≡◌, ◌≤◌, ◌+◌, ◌++◌}
+use Rattle.std.specs.List.{flat_map, range_with_len}
+use Rattle.arrayvec.specs.ArrayVec.{array_vec_len}
+use Rattle.el_base.specs.Freed.{count_in}
+use Rattle.lab_text.proofs.telling.tell_freed.Given as goal
+use Rattle.lab_text.specs.Items.{freed_item}
+
+abbrev pub invariant-loop-number : goal.invariant-loop-number
+invariant-loop-number l =
+    (l.list.items ≡ l.initial.list.items ++ flat_map (λ h. freed_item h (count_in l.freed h)) (range_with_len 0 l.number))
+    × (array_vec_len l.list ≤ array_vec_len l.initial.list + l.number)

@@ -1,0 +1,4 @@
+pub mod Kinds
+pub mod Scale
+pub mod Pieces
+pub mod Bars

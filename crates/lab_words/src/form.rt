@@ -5,7 +5,7 @@ use clap::{Arg, ArgAction, ArgGroup, Command};
 use std::alloc::{AllocError, Global};
 
 /// The version that `--version` tells.
-const VERSION: &str = "1.0.0";
+const VERSION: &str = "0.9.0";
 
 const ABOUT: &str = "Shows what happened in a run, to whom, and on which lock";
 

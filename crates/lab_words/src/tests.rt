@@ -246,7 +246,7 @@ fn what_is_wrong_is_told(rt: HostRuntime) -> Result<(), Fail> {
 #[test]
 fn help_and_version_are_shown(rt: HostRuntime) -> Result<(), Fail> {
     for (words, first) in [
-        ((&["--version"]).as_slice(), "elide-lab 1.0.0"),
+        ((&["--version"]).as_slice(), "elide-lab 0.9.0"),
         (
             &["--help"],
             "Shows what happened in a run, to whom, and on which lock",

@@ -1,7 +1,11 @@
--- the letters of a line, one hart after another
-use Rattle.std.proofs.Common.{◌≡◌, ◌∙◌, ℕ, ◌+◌, ◌<◌, ◌≤◌, List, length, set, get_or, ap, arith, inl, inr, length-set}
+-- the letters of a line, one hart after another, and places in the order
+use Rattle.std.proofs.Common.{◌≡◌, ◌∙◌, ◌==◌, ℕ, ◌+◌, ◌<◌, ◌≤◌, List, length, map, not, set, get_or, ap, arith, inl, inr, length-set, refl, subst}
 use Rattle.std.proofs.lemmas.Grind.{get_or-set_at}
-use Rattle.std.proofs.lemmas.List.{get_or-set_other}
+use Rattle.std.proofs.lemmas.List.{get_or-set_other, length-map}
+use Rattle.std.specs.List.{position}
+use Rattle.bus_order.specs.Order.{Request, numbered}
+use Rattle.bus_order.specs.declared.request.Request as requests
+use Rattle.el_base.proofs.ListLaws.{prefix_of_map}
 use Rattle.lab.proofs.Tracking.{equal_or}
 use Rattle.moesi.specs.declared.letter.Letter.{Letter}
 use Rattle.moesi.specs.declared.letter.Letter.TheVariants.{I}
@@ -28,3 +32,10 @@ letter_put wanted harts letters k place letter below at is before =
 pub letter_passed : (wanted : ℕ → Letter) (harts : ℕ) (letters : List Letter) (k : ℕ) → harts ≤ k →
     AreBelow wanted harts letters k → AreBelow wanted harts letters (k + 1)
 letter_passed wanted harts letters k past before = (before.0, λ h inside there. before.1 h (omega arith) there)
+
+-- a hart's request has one place, whether its order is told in numbers or not
+pub place_of_numbered : (list : List requests.Request) (order : List Request) (h : ℕ) → map numbered list ≡ order →
+    position (λ request. request.hart.number == h) list ≡ position (λ request. request.hart == h) order
+place_of_numbered list order h is =
+    subst (λ other. position (λ request. request.hart.number == h) list ≡ position (λ request. request.hart == h) other) is
+    (rw (prefix_of_map numbered (λ request. not (request.hart == h)) list) (rw (length-map list numbered) refl))

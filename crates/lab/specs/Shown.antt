@@ -1,5 +1,6 @@
 -- what one event was about
-use Rattle.std.specs.Prelude.{ℕ, ◌≡◌, ◌<◌, length, List, Option, None, Some, slice_get, slice_index_or}
+use Rattle.std.specs.Prelude.{ℕ, ◌≡◌, ◌<◌, ◌==◌, length, List, Option, None, Some, slice_get, slice_index_or}
+use Rattle.std.specs.List.{position}
 use Rattle.std.specs.Option.{option_map}
 use Rattle.bus_order.specs.Order as order
 use Rattle.bus_order.specs.Order.{Request}
@@ -44,6 +45,11 @@ pub record IsStep (h : ℕ) (old new : ModelState) (before : Sight) (action : Ac
   pub action_is : action ≡ action_of old.committed (shown_of old h)
   pub after_is : IsSightOf new h after
 
+-- of an order: the request that the hart had raised, and the place of its hart's request after the event
+pub record IsOrder (h : ℕ) (old new : ModelState) (request : Option requests.Request) (at : Option ℕ) : Type 0 where
+  pub request_is : option_map order.numbered request ≡ raised_of old h
+  pub place_is : at ≡ position (λ ordered. ordered.hart == h) new.order
+
 -- of a serve: the request that the hart had in the order, and the letters of its line before the event and after it
 pub record IsServe (h : ℕ) (old new : ModelState) (request : Option requests.Request) (before after : List Letter) : Type 0 where
   pub request_is : option_map order.numbered request ≡ ordered_of old h
@@ -58,8 +64,7 @@ pub record IsDelivery (h : ℕ) (old : ModelState) (message : Option messages.Me
 -- what is told of an event of a hart, by its kind, between the states before and after it
 abbrev pub Tells : Kind → ℕ → ModelState → ModelState → What → Type 0
 Tells kinds.Step h old new (Step before action after) = IsStep h old new before action after
-Tells kinds.Order h old new (Order request ahead) =
-    (option_map order.numbered request ≡ raised_of old h) × (ahead ≡ length old.order)
+Tells kinds.Order h old new (Order request at) = IsOrder h old new request at
 Tells kinds.Serve h old new (Serve request before after) = IsServe h old new request before after
 Tells kinds.Deliver h old new (Deliver message about) = IsDelivery h old message about
 Tells _ _ _ _ _ = ⊥

@@ -1,6 +1,7 @@
 //! What one event did.
 
-ghost use Rattle.std.specs.Prelude.{◌≡◌, ◌<◌, ◌≤◌, ◌∷◌, ℕ, [], length, slice_get, slice_index_or};
+ghost use Rattle.std.specs.Prelude.{◌≡◌, ◌<◌, ◌≤◌, ◌∷◌, ◌==◌, ℕ, [], length, slice_get, slice_index_or};
+ghost use Rattle.std.specs.List.{position};
 ghost use Rattle.std.specs.Option.{option_map};
 ghost use Rattle.bus_order.specs.Order as order;
 ghost use Rattle.cache_sets.specs.Cache.{letter_of};
@@ -38,10 +39,10 @@ pub enum What {
         action: Action,
         after: Sight,
     },
-    /// The request that the hart had raised, and how many requests were in the order before the event.
+    /// The request that the hart had raised, and where a request of its hart stands in the order after the event, from 0 on.
     Order {
         request: Option<Request>,
-        ahead: usize,
+        at: Option<usize>,
     },
     /// The request that the hart had in the order, with the letters of its line before the event and after it.
     Serve {
@@ -97,11 +98,10 @@ pub fn show(machine: &mut Machine, event: Event) -> Shown
             }
         }
         Kind::Order => {
-            let what = What::Order {
-                request: raised(machine, hart),
-                ahead: ordered_so_far(machine),
-            };
+            let request = raised(machine, hart);
             let outcome = machine.step(event);
+            let at = place_in_order(machine, hart);
+            let what = What::Order { request, at };
             Shown {
                 place,
                 event,
@@ -164,11 +164,20 @@ fn raised(machine: &Machine, hart: HartId) -> Option<Request>
     }
 }
 
-/// How many requests are in the order.
-fn ordered_so_far(machine: &Machine) -> usize
-    ensures { result ≡ length (state_of machine.now).order }
+/// Where a hart's request stands in the order.
+fn place_in_order(machine: &Machine, hart: HartId) -> Option<usize>
+    ensures { result ≡ position (λ request. request.hart == hart.number) (state_of machine.now).order }
 {
-    machine.bus().requests().as_slice().len()
+    place_of(machine.bus().requests().as_slice(), hart)
+}
+
+/// Where a hart's request stands among others.
+fn place_of(requests: &[Request], hart: HartId) -> Option<usize>
+    ensures { result ≡ position (λ request. request.hart.number == hart.number) requests.now }
+{
+    requests
+        .iter()
+        .position(|request| request.hart.number == hart.number)
 }
 
 /// The request that a hart has in the order.

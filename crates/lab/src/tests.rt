@@ -711,13 +711,20 @@ fn events_of_the_bus_show_requests_and_letters(rt: HostRuntime) -> Result<(), Fa
     after[1] = Letter::M;
     let request = Some(request);
     for (made, row, what) in [
-        (17, ORDER_1, What::Order { request, ahead: 0 }),
+        (
+            17,
+            ORDER_1,
+            What::Order {
+                request,
+                at: Some(0),
+            },
+        ),
         (
             17,
             ORDER,
             What::Order {
                 request: None,
-                ahead: 0,
+                at: None,
             },
         ),
         (

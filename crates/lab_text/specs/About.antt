@@ -41,7 +41,7 @@ what_about address outcome (Step before action after) =
     before.view.pc == address
     || access_on (line_number address) (footprint action)
     || bounds_section_on (line_number address) outcome before.section after.section
-what_about address outcome (Order request ahead) = request_on (line_number address) request
+what_about address outcome (Order request at) = request_on (line_number address) request
 what_about address outcome (Serve request before after) = request_on (line_number address) request
 what_about address outcome (Deliver message about) = request_on (line_number address) about
 

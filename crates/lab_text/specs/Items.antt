@@ -148,10 +148,10 @@ abbrev pub letter_items : List Letter → List Letter → List Item
 letter_items before after =
     flat_map (λ h. letter_item h (slice_index_or before h I) (slice_index_or after h I)) (range_with_len 0 8)
 
--- a request that is ordered, behind so many
-abbrev pub order_items : Option Request → ℕ → List Item
-order_items None ahead = []
-order_items (Some request) ahead = items.Asked request ∷ items.Ahead ahead ∷ []
+-- the place that a request took in the order
+abbrev pub place_items : Option ℕ → List Item
+place_items None = []
+place_items (Some place) = items.At place ∷ []
 
 -- the message that is taken, and of a probe the request that it tells of
 abbrev pub message_items : Option Message → List Item
@@ -165,7 +165,7 @@ about_items (Some request) = items.About request ∷ []
 -- what an event was about
 abbrev pub what_items : Outcome → What → List Item
 what_items outcome (Step before action after) = step_items outcome before action after
-what_items outcome (Order request ahead) = order_items request ahead
+what_items outcome (Order request at) = request_items request ++ place_items at
 what_items outcome (Serve request before after) = request_items request ++ letter_items before after
 what_items outcome (Deliver message about) = message_items message ++ about_items about
 

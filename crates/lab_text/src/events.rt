@@ -114,7 +114,7 @@ fn group_of(item: Item) -> Group {
         }
         Item::Missed { .. }
         | Item::Stalled
-        | Item::Ahead { .. }
+        | Item::At { .. }
         | Item::Turned { .. }
         | Item::Blocked { .. } => { Group::Bus }
         Item::Lost { .. } | Item::Freed { .. } => Group::Losses,

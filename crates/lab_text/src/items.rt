@@ -86,9 +86,9 @@ pub enum Item {
     Asked {
         request: Request,
     },
-    /// So many requests were in the order before the one that was ordered.
-    Ahead {
-        count: usize,
+    /// The place that the request took in the order, from 0 on.
+    At {
+        place: usize,
     },
     /// A hart's cache knows something else of the line.
     Turned {

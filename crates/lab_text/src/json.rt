@@ -262,7 +262,7 @@ fn write_bus<W: fmt::Write>(
         }
         Item::Stalled => f.write_str("{\"is\":\"waits\"}"),
         Item::Asked { request } => write_request(f, "request", request, symbols),
-        Item::Ahead { count } => write!(f, "{{\"is\":\"ahead\",\"count\":{count}}}"),
+        Item::At { place } => write!(f, "{{\"is\":\"place\",\"place\":{place}}}"),
         Item::About { request } => write_request(f, "about", request, symbols),
         Item::Turned { hart, from, to } => {
             let hart = hart.number;

@@ -171,7 +171,7 @@ fn write_bus<W: fmt::Write>(
             let request = RequestText { request, symbols };
             write!(f, "{request}")
         }
-        Item::Ahead { count } => write!(f, "{count} ahead"),
+        Item::At { place } => write!(f, "place {place}"),
         Item::Turned { hart, from, to } => {
             let hart = hart.number;
             let from = letter_word(from);

@@ -13,7 +13,7 @@ ghost use Rattle.lab_text.specs.Items.{
   loss_item,
   loss_items,
   message_items,
-  order_items,
+  place_items,
   outcome_items,
   request_items,
   same_letter,
@@ -41,7 +41,10 @@ pub(crate) fn tell_what(list: &mut List, outcome: Outcome, what: &What)
             action,
             after,
         } => tell_step(list, outcome, before, *action, after),
-        What::Order { request, ahead } => tell_order(list, *request, *ahead),
+        What::Order { request, at } => {
+            tell_request(list, *request);
+            tell_place(list, *at);
+        }
         What::Serve {
             request,
             before,
@@ -67,14 +70,13 @@ fn tell_request(list: &mut List, request: Option<Request>)
     }
 }
 
-fn tell_order(list: &mut List, request: Option<Request>, ahead: usize)
-    requires { array_vec_len list.old ≤ 8 }
-    ensures items { list.new.items ≡ list.old.items ++ order_items request ahead }
-    ensures few { array_vec_len list.new ≤ array_vec_len list.old + 2 }
+fn tell_place(list: &mut List, at: Option<usize>)
+    requires { array_vec_len list.old ≤ 9 }
+    ensures items { list.new.items ≡ list.old.items ++ place_items at }
+    ensures few { array_vec_len list.new ≤ array_vec_len list.old + 1 }
 {
-    if let Some(request) = request {
-        list.push(Item::Asked { request });
-        list.push(Item::Ahead { count: ahead });
+    if let Some(place) = at {
+        list.push(Item::At { place });
     }
 }
 

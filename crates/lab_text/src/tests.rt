@@ -167,9 +167,9 @@ const ITEMS: [(Item, &str, &str); 24] = [
         r#"{"is":"request","hart":1,"need":"write","line":{"at":66880,"name":"lock","offset":0},"stamp":3}"#,
     ),
     (
-        Item::Ahead { count: 2 },
-        "2 ahead",
-        r#"{"is":"ahead","count":2}"#,
+        Item::At { place: 2 },
+        "place 2",
+        r#"{"is":"place","place":2}"#,
     ),
     (
         Item::Turned {
@@ -354,7 +354,7 @@ fn delivered() -> Shown {
 fn idle() -> Shown {
     let what = What::Order {
         request: None,
-        ahead: 0,
+        at: None,
     };
     shown(422, Kind::Order, H0, Outcome::Idle, what)
 }

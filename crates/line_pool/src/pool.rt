@@ -95,6 +95,7 @@ impl Pool {
     }
 
     /// How many slots of an owner are out, those that were dropped among them.
+    #[tactic(auto, using(crate::proofs::Made::pooled))]
     pub fn out(&self, owner: u16) -> u16
         requires { owner < length (quotas_of self.now) }
         ensures exact { result ≡ out_of self.now owner }

@@ -265,6 +265,7 @@ def join(paths, to):
 ARRAY = """#!/bin/sh
 #SBATCH --array=1-{parts}
 #SBATCH --cpus-per-task=1
+#SBATCH --output={folder}/part-%a.log
 # Part N of the list, {each} runs of it. Behind the last: study/sweep.py join {folder}/part-*.jsonl --to FILE
 cd {root} || exit 2
 last=$((SLURM_ARRAY_TASK_ID * {each}))

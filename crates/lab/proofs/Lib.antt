@@ -16,3 +16,4 @@ pub mod Adding
 pub mod Lining
 pub mod Waiting
 pub mod Parting
+pub mod Firsting

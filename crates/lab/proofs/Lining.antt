@@ -1,5 +1,6 @@
 -- lines that are put behind others, and what an event tells of lines
-use Rattle.std.proofs.Common.{◌≡◌, ◌∙◌, ℕ, zero, suc, ◌+◌, ◌<◌, ◌==◌, ◌||◌, nat_eq, Bool, true, false, cond, List, [], ◌∷◌, ◌++◌, Option, Some, None, length, take, get_or, refl, ap, subst, sym, arith, append-nil, append_assoc, eq-eqb}
+use Rattle.std.proofs.Common.{◌≡◌, ◌∙◌, ℕ, zero, suc, ◌+◌, ◌<◌, ◌≤◌, ◌==◌, ◌||◌, nat_eq, Bool, true, false, cond, List, [], ◌∷◌, ◌++◌, Option, Some, None, length, take, get_or, refl, ap, subst, sym, arith, append-nil, append_assoc, eq-eqb}
+use Rattle.std.specs.Prelude.{filter_map}
 use Rattle.std.specs.Cmp.{IsEquivalence}
 use Rattle.cache_sets.specs.Cached.{Cached}
 use Rattle.coherence.specs.Caches.{cache_at}
@@ -8,6 +9,8 @@ use Rattle.std.specs.List.{IsDistinct, flat_map, list_any, range_with_len}
 use Rattle.std.specs.Option.{option_map}
 use Rattle.std.proofs.lemmas.Bool.Decides.{nat_tests}
 use Rattle.std.proofs.lemmas.Grind.{flat_map-append}
+use Rattle.std.proofs.lemmas.List.{take_all, take_more}
+use Rattle.std.proofs.lemmas.List.Elements.{filter_map-append}
 use Rattle.std.proofs.lemmas.List.Folds.{list_any-append, list_any_more}
 use Rattle.std.proofs.lemmas.Map.Keys.{IsDistinct-push}
 use Rattle.el_base.proofs.HartIds.{hart_id-of_hart}
@@ -27,8 +30,10 @@ use Rattle.el_model.proofs.Coming.{by_their_rules}
 use Rattle.el_model.specs.Next.{next}
 use Rattle.el_model.specs.State.{ModelState, cache_of, ordered_of}
 use Rattle.engine.specs.MainMemory.{back_by, back_for, if_dirty, leaving_line, line_written_back}
+use Rattle.lab.proofs.Firsting.{firsts_push}
 use Rattle.lab.proofs.Noting.{line_back}
-use Rattle.lab.specs.LineRows.{AreLinesOf, AreSeenLines, has_line, is_line, is_on, same_line, with_line}
+use Rattle.lab.specs.Firsts.{firsts}
+use Rattle.lab.specs.LineRows.{AreLinesOf, AreSeenLines, all_lines, has_line, is_line, is_on, same_line, with_line}
 use Rattle.lab.specs.Lines.{Asking, asked_in, back_facts, facts_by, facts_in, if_served, loss_facts, losses_below, owner_facts, same_owner}
 use Rattle.lab.specs.Tries.{line_waited_for}
 use Rattle.lab.specs.declared.lines.Fact.{Fact}
@@ -135,6 +140,44 @@ line_passed facts place fact lines below here is are = record {
       ∙ ap (λ (f : Fact). list_any (is_on number) (take place facts) || is_on number f) here
       ∙ sym (list_any_more (is_on number) facts place fact below);
 }
+
+-- in the order of their first facts
+line_pushed : (told : List LineAddr) (line : LineAddr) (lines : List LineAddr) → lines ≡ firsts same_line told →
+    with_line line lines ≡ firsts same_line (told ++ line ∷ [])
+line_pushed told line lines order =
+    ap (λ b. cond b lines (lines ++ line ∷ [])) (sym (has_turned line lines))
+    ∙ ap (λ l. cond (list_any (same_line line) l) l (l ++ line ∷ [])) order
+    ∙ sym (firsts_push same_line_is told line)
+
+-- one fact more
+one_told : (facts : List Fact) (place : ℕ) (fact : Fact) (line : Option LineAddr) → place < length facts →
+    fact ≡ get_or facts place fact → fact.line ≡ line →
+    all_lines (take (place + 1) facts) ≡ all_lines (take place facts) ++ filter_map (λ o. o) (line ∷ [])
+one_told facts place fact line below here is =
+    ap all_lines (take_more facts place fact below)
+    ∙ filter_map-append (λ (f : Fact). f.line) (take place facts) (get_or facts place fact ∷ [])
+    ∙ ap (λ (f : Fact). all_lines (take place facts) ++ filter_map (λ o. o) (f.line ∷ [])) (sym here)
+    ∙ ap (λ o. all_lines (take place facts) ++ filter_map (λ o. o) (o ∷ [])) is
+
+pub line_in_order : (facts : List Fact) (place : ℕ) (fact : Fact) (line : LineAddr) (lines : List LineAddr) → place < length facts →
+    fact ≡ get_or facts place fact → fact.line ≡ Some line → lines ≡ firsts same_line (all_lines (take place facts)) →
+    with_line line lines ≡ firsts same_line (all_lines (take (place + 1) facts))
+line_in_order facts place fact line lines below here is order =
+    line_pushed (all_lines (take place facts)) line lines order
+    ∙ sym (ap (firsts same_line) (one_told facts place fact (Some line) below here is))
+
+pub order_stays : (facts : List Fact) (place : ℕ) (fact : Fact) (lines : List LineAddr) → place < length facts →
+    fact ≡ get_or facts place fact → fact.line ≡ None → lines ≡ firsts same_line (all_lines (take place facts)) →
+    lines ≡ firsts same_line (all_lines (take (place + 1) facts))
+order_stays facts place fact lines below here is order =
+    order
+    ∙ ap (firsts same_line) (sym (append-nil (all_lines (take place facts))))
+    ∙ sym (ap (firsts same_line) (one_told facts place fact None below here is))
+
+pub lines_in_order : (facts : List Fact) (place : ℕ) (lines : List LineAddr) → length facts ≤ place →
+    lines ≡ firsts same_line (all_lines (take place facts)) → lines ≡ firsts same_line (all_lines facts)
+lines_in_order facts place lines past order =
+    order ∙ ap (λ (l : List Fact). firsts same_line (all_lines l)) (take_all place facts past)
 
 -- what a loss tells
 range_more : (from n end : ℕ) → end ≡ from + n → range_with_len from (suc n) ≡ range_with_len from n ++ end ∷ []

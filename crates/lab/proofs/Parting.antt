@@ -1,7 +1,7 @@
 -- sections parted by whether they give a lock back
-use Rattle.std.proofs.Common.{◌≡◌, ◌∙◌, ℕ, suc, ◌+◌, ◌<◌, ◌≤◌, nat_eq, nat_lt, Bool, true, false, cond, not, List, [], ◌∷◌, ◌++◌, Option, Some, None, length, take, get_or, filter, fold, refl, ap, sym, subst, arith, append-nil}
+use Rattle.std.proofs.Common.{◌≡◌, ◌∙◌, ℕ, suc, ◌+◌, ◌<◌, ◌≤◌, nat_eq, nat_lt, Bool, true, false, cond, not, List, [], ◌∷◌, ◌++◌, Option, Some, None, length, take, get_or, filter, refl, ap, sym, subst, arith}
 use Rattle.std.specs.Prelude.{sum_by}
-use Rattle.std.specs.HashMap.{HashMap, get}
+use Rattle.std.specs.HashMap.{get}
 use Rattle.std.specs.List.{prefix_len}
 use Rattle.std.proofs.lemmas.Bool.Decides.{nat_tests}
 use Rattle.std.proofs.lemmas.List.{take_all, take_more}
@@ -9,11 +9,10 @@ use Rattle.std.proofs.lemmas.List.Elements.{filter-append}
 use Rattle.std.proofs.lemmas.List.Filters.{sum_by-filter_both}
 use Rattle.std.proofs.lemmas.List.Sums.{fold_more, prefix_len_passes, prefix_len_stops}
 use Rattle.chronicle.specs.Tally.{plus}
-use Rattle.lab.specs.Locks.{of_acquire, tally_at, total_at}
+use Rattle.lab.specs.Locks.{tally_at}
 use Rattle.lab.specs.Releases.{AreLast, PartsSumToAll, is_before, is_release, last_on, newer_on, put_there, releases_of, takes_of}
 use Rattle.lab.specs.declared.releases.LastSwaps.{LastSwaps}
 use Rattle.lab.specs.declared.swaps.PlainSwap.{PlainSwap}
-use Rattle.lab.specs.declared.tries.Acquire.{Acquire}
 use Rattle.lab.specs.declared.tries.Try.{Try}
 
 -- what the two parts count is what all count

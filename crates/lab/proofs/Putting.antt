@@ -1,15 +1,16 @@
 -- keys that are put behind others, each once
-use Rattle.std.proofs.Common.{◌≡◌, ◌∙◌, ℕ, ◌+◌, ◌<◌, ◌≤◌, ◌==◌, ◌&&◌, ◌||◌, nat_eq, Bool, true, false, cond, List, [], ◌∷◌, ◌++◌, length, take, get_or, refl, ap, sym, subst, arith}
-use Rattle.std.specs.Prelude.{All}
+use Rattle.std.proofs.Common.{◌≡◌, ◌∙◌, ℕ, ◌+◌, ◌<◌, ◌≤◌, ◌||◌, Bool, true, false, cond, List, [], ◌∷◌, ◌++◌, length, map, take, get_or, refl, ap, append-nil, append_assoc, sym, subst, arith}
 use Rattle.std.specs.HashSet.{HashSet, contains}
 use Rattle.std.specs.List.{IsDistinct, list_any}
 use Rattle.std.proofs.lemmas.Bool.Decides.{nat_tests}
-use Rattle.std.proofs.lemmas.List.{take_all}
+use Rattle.std.proofs.lemmas.List.{map-append, take_all, take_more}
 use Rattle.std.proofs.lemmas.List.Elements.{All-more, All-weaker}
 use Rattle.std.proofs.lemmas.List.Folds.{list_any-append}
 use Rattle.std.proofs.lemmas.Map.Keys.{IsDistinct-push}
 use Rattle.lab.proofs.Classes.{same_is}
-use Rattle.lab.specs.Locks.{AreAcquiresOf, AreAmong, AreSeen, same_acquire, same_pair, with_acquire}
+use Rattle.lab.proofs.Firsting.{any_of_firsts, firsts_push}
+use Rattle.lab.specs.Firsts.{firsts}
+use Rattle.lab.specs.Locks.{AreAcquiresOf, AreAmong, AreOnlyOf, AreSeen, all_acquires, same_acquire, same_pair, with_acquire}
 use Rattle.lab.specs.declared.swaps.PlainSwap.{PlainSwap}
 use Rattle.lab.specs.declared.tries.Acquire.{Acquire}
 use Rattle.lab.specs.declared.tries.Try.{Try}
@@ -120,3 +121,47 @@ swap_put swaps place swap acquires below here are =
 pub all_among : (swaps : List PlainSwap) (place : ℕ) (acquires : List Acquire) → length swaps ≤ place → AreAmong (take place swaps) acquires →
     AreAmong swaps acquires
 all_among swaps place acquires past among = subst (λ l. AreAmong l acquires) (take_all place swaps past) among
+
+-- in the order of their first places
+in_order : (told more : List Acquire) (acquire : Acquire) (acquires : List Acquire) → acquires ≡ firsts same_acquire told →
+    more ≡ told ++ acquire ∷ [] → with_acquire acquire acquires ≡ firsts same_acquire more
+in_order told more acquire acquires order pushed =
+    ap (with_acquire acquire) order ∙ sym (firsts_push same_is told acquire) ∙ sym (ap (firsts same_acquire) pushed)
+
+-- one section more
+pub section_in_order : (tries : List Try) (place : ℕ) (try : Try) (acquires : List Acquire) → place < length tries →
+    try ≡ get_or tries place try → acquires ≡ firsts same_acquire (all_acquires (take place tries) []) →
+    with_acquire try.acquire acquires ≡ firsts same_acquire (all_acquires (take (place + 1) tries) [])
+section_in_order tries place try acquires below here order =
+    in_order (all_acquires (take place tries) []) (all_acquires (take (place + 1) tries) []) try.acquire acquires order (
+    append-nil (map (λ t. t.acquire) (take (place + 1) tries))
+    ∙ ap (λ (l : List Try). map (λ t. t.acquire) l) (take_more tries place try below)
+    ∙ map-append (λ (t : Try). t.acquire) (take place tries) (get_or tries place try ∷ [])
+    ∙ ap (λ (t : Try). map (λ u. u.acquire) (take place tries) ++ t.acquire ∷ []) (sym here)
+    ∙ ap (λ (l : List Acquire). l ++ try.acquire ∷ []) (sym (append-nil (map (λ t. t.acquire) (take place tries))))
+    )
+
+-- one swap more
+pub swap_in_order : (tries : List Try) (swaps : List PlainSwap) (place : ℕ) (swap : PlainSwap) (acquires : List Acquire) →
+    place < length swaps → swap ≡ get_or swaps place swap → acquires ≡ firsts same_acquire (all_acquires tries (take place swaps)) →
+    with_acquire swap.acquire acquires ≡ firsts same_acquire (all_acquires tries (take (place + 1) swaps))
+swap_in_order tries swaps place swap acquires below here order =
+    in_order (all_acquires tries (take place swaps)) (all_acquires tries (take (place + 1) swaps)) swap.acquire acquires order (
+    ap (λ (l : List PlainSwap). all_acquires tries l) (take_more swaps place swap below)
+    ∙ ap (λ (l : List Acquire). map (λ t. t.acquire) tries ++ l)
+    (map-append (λ (s : PlainSwap). s.acquire) (take place swaps) (get_or swaps place swap ∷ []))
+    ∙ ap (λ (s : PlainSwap). map (λ t. t.acquire) tries ++ (map (λ u. u.acquire) (take place swaps) ++ s.acquire ∷ [])) (sym here)
+    ∙ sym (append_assoc (map (λ t. t.acquire) tries) (map (λ s. s.acquire) (take place swaps)) (swap.acquire ∷ []))
+    )
+
+-- when all swaps were seen
+pub swaps_in_order : (tries : List Try) (swaps : List PlainSwap) (place : ℕ) (acquires : List Acquire) → length swaps ≤ place →
+    acquires ≡ firsts same_acquire (all_acquires tries (take place swaps)) → acquires ≡ firsts same_acquire (all_acquires tries swaps)
+swaps_in_order tries swaps place acquires past order =
+    order ∙ ap (λ (l : List PlainSwap). firsts same_acquire (all_acquires tries l)) (take_all place swaps past)
+
+-- so each of them is that of a section or a swap
+pub only_told : (tries : List Try) (swaps : List PlainSwap) (acquires : List Acquire) →
+    acquires ≡ firsts same_acquire (all_acquires tries swaps) → AreOnlyOf tries swaps acquires
+only_told tries swaps acquires order acquire =
+    ap (list_any (same_acquire acquire)) order ∙ any_of_firsts same_is acquire (all_acquires tries swaps)

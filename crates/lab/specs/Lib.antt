@@ -11,3 +11,4 @@ pub mod Waits
 pub mod LineRows
 pub mod LockRows
 pub mod Releases
+pub mod Firsts

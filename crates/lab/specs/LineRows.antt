@@ -1,5 +1,5 @@
 -- the facts of each line, counted
-use Rattle.std.specs.Prelude.{ℕ, ◌≡◌, Bool, true, false, ◌==◌, ◌&&◌, ◌++◌, ◌∷◌, [], List, Option, None, Some, count_by, nat_eq, unwrap_or, if◌then◌else◌}
+use Rattle.std.specs.Prelude.{ℕ, ◌≡◌, Bool, true, false, ◌==◌, ◌&&◌, ◌++◌, ◌∷◌, [], List, Option, None, Some, count_by, filter_map, nat_eq, unwrap_or, if◌then◌else◌}
 use Rattle.std.specs.HashMap.{get}
 use Rattle.std.specs.HashSet.{HashSet, contains}
 use Rattle.std.specs.List.{IsDistinct, list_any}
@@ -58,6 +58,10 @@ has_line lines number = list_any (λ line. line.number == number) lines
 pub record AreLinesOf (facts : List Fact) (lines : List LineAddr) : Type 0 where
   pub once : IsDistinct same_line lines
   pub each : (number : ℕ) → has_line lines number ≡ list_any (is_on number) facts
+
+-- the lines of facts
+abbrev pub all_lines : List Fact → List LineAddr
+all_lines facts = filter_map (λ fact. fact.line) facts
 
 -- lines with one more behind them, unless it is among them
 abbrev pub with_line : LineAddr → List LineAddr → List LineAddr

@@ -9,7 +9,6 @@ use Rattle.el_base.specs.LineAddr.{line_addr}
 use Rattle.el_base.specs.Losers.{beaten_by}
 use Rattle.el_base.specs.declared.events.Event.{Event}
 use Rattle.el_base.specs.declared.hart_id.HartId.{HartId}
-use Rattle.el_base.specs.declared.line.LineAddr.{LineAddr}
 use Rattle.el_base.specs.declared.outcomes.Outcome.{Outcome}
 use Rattle.el_base.specs.declared.outcomes.Outcome.TheVariants as outcomes
 use Rattle.el_model.specs.Next.{next}

@@ -1,5 +1,5 @@
 -- the sections of each acquire, counted
-use Rattle.std.specs.Prelude.{ℕ, ◌≡◌, ◌==◌, ◌&&◌, ◌++◌, ◌∷◌, [], All, Bool, true, List, nat_eq, sum_by, if◌then◌else◌}
+use Rattle.std.specs.Prelude.{ℕ, ◌≡◌, ◌==◌, ◌&&◌, ◌++◌, ◌∷◌, [], All, Bool, true, List, map, nat_eq, sum_by, if◌then◌else◌}
 use Rattle.std.specs.HashSet.{HashSet, contains}
 use Rattle.std.specs.List.{IsDistinct, list_any, range_with_len}
 use Rattle.chronicle.specs.Tally.{nothing, tally_of}
@@ -47,7 +47,16 @@ tally_at acquire tries = record {
   blocked = total_at (λ tally. tally.blocked) acquire tries;
 }
 
--- these are the acquires of some sections, each once
+-- the acquires of sections, and behind them those of swaps that ran outside of sections
+abbrev pub all_acquires : List Try → List PlainSwap → List Acquire
+all_acquires tries swaps = map (λ try. try.acquire) tries ++ map (λ swap. swap.acquire) swaps
+
+-- an acquire is among these exactly where a section or a swap has it
+abbrev pub AreOnlyOf : List Try → List PlainSwap → List Acquire → Type 0
+AreOnlyOf tries swaps acquires =
+    (acquire : Acquire) → list_any (same_acquire acquire) acquires ≡ list_any (same_acquire acquire) (all_acquires tries swaps)
+
+-- the acquires of some sections are among these, of which none is twice
 pub record AreAcquiresOf (tries : List Try) (acquires : List Acquire) : Type 0 where
   pub once : IsDistinct same_acquire acquires
   pub each : All (λ try. list_any (same_acquire try.acquire) acquires ≡ true) tries

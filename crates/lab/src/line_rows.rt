@@ -1,7 +1,8 @@
 //! The facts of each line, counted.
 
 ghost use Rattle.std.specs.Prelude.{◌≡◌, IfOk, OnOk};
-ghost use Rattle.lab.specs.LineRows.{AreCountsOf, AreLinesOf, AreSeenLines, is_counted, times_in, with_line};
+ghost use Rattle.lab.specs.Firsts.{firsts};
+ghost use Rattle.lab.specs.LineRows.{AreCountsOf, AreLinesOf, AreSeenLines, all_lines, is_counted, same_line, times_in, with_line};
 
 use crate::lines::{Fact, LineFact};
 use el_base::{HartId, LineAddr, Need, NoMemory};
@@ -69,7 +70,8 @@ fn is_counted(what: LineCount, fact: LineFact) -> bool
 
 /// The lines of facts, each once, in the order of their first facts.
 pub fn lines_of(alloc: Global, facts: &[Fact]) -> Result<Vec<LineAddr>, NoMemory>
-    ensures { IfOk result (λ lines. AreLinesOf facts.now lines.items) }
+    ensures lines { IfOk result (λ lines. AreLinesOf facts.now lines.items) }
+    ensures order { IfOk result (λ lines. lines.items ≡ firsts same_line (all_lines facts.now)) }
 {
     let mut lines = Vec::new(alloc);
     let mut seen = HashSet::new(alloc);

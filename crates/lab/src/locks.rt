@@ -1,9 +1,10 @@
 //! The sections of each acquire, counted.
 
-ghost use Rattle.std.specs.Prelude.{◌≡◌, ◌<◌, ◌^◌, IfOk, OnOk, length};
+ghost use Rattle.std.specs.Prelude.{◌≡◌, ◌<◌, ◌^◌, [], IfOk, OnOk, length};
 ghost use Rattle.chronicle.specs.Tally.{IsTallyOf, SumFits, plus};
 ghost use Rattle.lab.specs.Counts.{of_end};
-ghost use Rattle.lab.specs.Locks.{AreAcquiresOf, AreAmong, AreSeen, of_acquire, same_acquire, tally_at, with_acquire};
+ghost use Rattle.lab.specs.Firsts.{firsts};
+ghost use Rattle.lab.specs.Locks.{AreAcquiresOf, AreAmong, AreOnlyOf, AreSeen, all_acquires, of_acquire, same_acquire, tally_at, with_acquire};
 
 use crate::swaps::PlainSwap;
 use crate::tries::{Acquire, Ended, Tries, Try};
@@ -15,7 +16,9 @@ use std::collections::HashSet;
 impl Tries {
     /// The acquires of these sections, each once, in the order of their first sections.
     pub fn acquires(&self, alloc: Global) -> Result<Vec<Acquire>, NoMemory>
-        ensures { IfOk result (λ acquires. AreAcquiresOf self.now acquires.items) }
+        ensures sections { IfOk result (λ acquires. AreAcquiresOf self.now acquires.items) }
+        ensures only { IfOk result (λ acquires. AreOnlyOf self.now [] acquires.items) }
+        ensures order { IfOk result (λ acquires. acquires.items ≡ firsts same_acquire (all_acquires self.now [])) }
     {
         acquires_of(alloc, self.as_slice(), &[])
     }
@@ -39,6 +42,8 @@ pub fn acquires_of(
 ) -> Result<Vec<Acquire>, NoMemory>
     ensures sections { IfOk result (λ acquires. AreAcquiresOf tries.now acquires.items) }
     ensures swaps { IfOk result (λ acquires. AreAmong swaps.now acquires.items) }
+    ensures only { IfOk result (λ acquires. AreOnlyOf tries.now swaps.now acquires.items) }
+    ensures order { IfOk result (λ acquires. acquires.items ≡ firsts same_acquire (all_acquires tries.now swaps.now)) }
 {
     let mut acquires = Vec::new(alloc);
     let mut seen = HashSet::new(alloc);

@@ -590,6 +590,16 @@ fn rows_count_plain_swaps_by_their_reasons(rt: HostRuntime) -> Result<(), Fail> 
 }
 
 #[test]
+fn acquires_come_in_the_order_of_their_first_sections(rt: HostRuntime) -> Result<(), Fail> {
+    for (run, acquires) in [(&CROWDED, [TAKE, GIVE]), (&MIXED, [TAKE, KEEP])] {
+        let told = told(&rt, rt.alloc(), run)?;
+        let found = acquires_of(rt.alloc(), told.tries.as_slice(), &told.swaps)?;
+        assert_eq!(rt; found.as_slice(), acquires.as_slice());
+    }
+    Ok(())
+}
+
+#[test]
 fn rows_count_the_facts_of_a_line(rt: HostRuntime) -> Result<(), Fail> {
     let lost = LineCount::Lost {
         winner: SECOND,

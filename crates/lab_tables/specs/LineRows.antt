@@ -3,7 +3,8 @@ use Rattle.std.specs.Prelude.{ℕ, ◌≡◌, All, List, [], count_by, map, slic
 use Rattle.el_base.specs.declared.hart_id.HartId.{HartId}
 use Rattle.el_base.specs.declared.line.LineAddr.{LineAddr}
 use Rattle.el_base.specs.declared.outcomes.Need.TheVariants.{Read, Write}
-use Rattle.lab.specs.LineRows.{AreLinesOf, counts_on}
+use Rattle.lab.specs.Firsts.{firsts}
+use Rattle.lab.specs.LineRows.{AreLinesOf, all_lines, counts_on, same_line}
 use Rattle.lab.specs.declared.line_rows.LineCount.{LineCount}
 use Rattle.lab.specs.declared.line_rows.LineCount.TheVariants.{Missed, Served, Owner, Lost, WrittenBack}
 use Rattle.lab.specs.declared.lines.Fact.{Fact}
@@ -29,7 +30,9 @@ pub record IsLineRow (facts : List Fact) (row : LineRow) : Type 0 where
 abbrev pub lines_in : List LineRow → List LineAddr
 lines_in rows = map (λ row. row.line) rows
 
--- each line of these facts has one row, no other has one, and each row is that of its line
+-- each line of these facts has one row, no other has one, and each row is that of its line; the rows stand in the order
+-- of the lines' first facts
 pub record AreLineRows (facts : List Fact) (rows : List LineRow) : Type 0 where
   pub lines : AreLinesOf facts (lines_in rows)
+  pub order : lines_in rows ≡ firsts same_line (all_lines facts)
   pub right : All (IsLineRow facts) rows

@@ -1,7 +1,8 @@
 -- the rows of acquires
 use Rattle.std.specs.Prelude.{ℕ, ◌≡◌, ◌<◌, All, List, map, slice_index, sum_by, if◌then◌else◌}
 use Rattle.lab.specs.LockRows.{in_vain, lost_to, ran_for}
-use Rattle.lab.specs.Locks.{AreAcquiresOf, AreAmong, same_acquire, tally_at}
+use Rattle.lab.specs.Firsts.{firsts}
+use Rattle.lab.specs.Locks.{AreAcquiresOf, AreAmong, AreOnlyOf, all_acquires, same_acquire, tally_at}
 use Rattle.lab.specs.declared.swaps.NotElided.{NotElided}
 use Rattle.lab.specs.declared.swaps.NotElided.TheVariants.{PlainMode, Fallback, Confidence, NoCandidate}
 use Rattle.lab.specs.declared.swaps.PlainSwap.{PlainSwap}
@@ -42,8 +43,11 @@ pub record IsLockRow (what : LockKind) (tries : List Try) (swaps : List PlainSwa
 abbrev pub acquires_in : List LockRow → List Acquire
 acquires_in rows = map (λ row. row.acquire) rows
 
--- each acquire of these sections and swaps has one row, and each row is that of its acquire
+-- each acquire of these sections and swaps has one row, no other has one, and each row is that of its acquire; the rows
+-- stand in the order of the acquires' first sections, and behind them in that of their first swaps
 pub record AreLockRows (what : LockKind) (tries : List Try) (swaps : List PlainSwap) (rows : List LockRow) : Type 0 where
   pub sections : AreAcquiresOf tries (acquires_in rows)
   pub plain : AreAmong swaps (acquires_in rows)
+  pub only : AreOnlyOf tries swaps (acquires_in rows)
+  pub order : acquires_in rows ≡ firsts same_acquire (all_acquires tries swaps)
   pub right : All (IsLockRow what tries swaps) rows

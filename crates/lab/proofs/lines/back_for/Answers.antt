@@ -1,5 +1,5 @@
 -- what would be written back
-use Rattle.std.proofs.Common.{◌∙◌, ◌<◌, ap, length, subst, sym}
+use Rattle.std.proofs.Common.{◌∙◌, ◌<◌, ap, subst, sym}
 use Rattle.engine.specs.MainMemory.{if_dirty}
 use Rattle.lab.proofs.Lining.{leaving_told}
 use Rattle.lab.proofs.lines.back_for.Goals as goal

@@ -2,7 +2,7 @@
 use Rattle.std.proofs.Common.{◌≡◌, ◌∙◌, ◌+◌, arith, subst, sym, take}
 use Rattle.std.specs.Prelude.{All}
 use Rattle.std.proofs.lemmas.List.Elements.{All-push}
-use Rattle.lab.specs.Locks.{AreAcquiresOf, AreAmong}
+use Rattle.lab.specs.Locks.{AreAcquiresOf, AreAmong, AreOnlyOf}
 use Rattle.lab_tables.proofs.LockRowing.{rows_pushed, rows_whole}
 use Rattle.lab_tables.proofs.locks.lock_rows.Goals as goal
 use Rattle.lab_tables.specs.LockRows.{IsLockRow, acquires_in}
@@ -28,5 +28,7 @@ returns c =
     record {
       sections = subst (AreAcquiresOf c.args.tries.now) (sym c.deref-acquire-items.ensures.value ∙ sym whole) c.in_ok-acquires.ensures.sections;
       plain = subst (AreAmong c.args.swaps.now) (sym c.deref-acquire-items.ensures.value ∙ sym whole) c.in_ok-acquires.ensures.swaps;
+      only = subst (AreOnlyOf c.args.tries.now c.args.swaps.now) (sym c.deref-acquire-items.ensures.value ∙ sym whole) c.in_ok-acquires.ensures.only;
+      order = whole ∙ c.deref-acquire-items.ensures.value ∙ c.in_ok-acquires.ensures.order;
       right = c.loop-acquire.invariant.right;
     }

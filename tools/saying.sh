@@ -138,7 +138,7 @@ cure() {
         'file too big: '*) echo "is this the file that was meant?" ;;
         'place over the end: '*) echo "a place is a number of events, from 0 to those of the trace" ;;
         'back over the start: '*) echo "--back takes at most the place" ;;
-        'no such hart') echo "the trace has fewer harts: they are numbered from 0" ;;
+        'no such hart'*) echo "the trace has fewer harts: they are numbered from 0" ;;
     esac
 }
 

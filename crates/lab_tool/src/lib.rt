@@ -18,7 +18,7 @@ mod top_call;
 mod waiting;
 
 pub use status::Status;
-pub use top_call::laboratory;
+pub use top_call::{laboratory, perform};
 
 #[cfg(test)]
 mod tests;

@@ -1,5 +1,8 @@
 //! What is wrong with files, and with words over them.
 
+ghost use Rattle.std.specs.Prelude.{◌≡◌};
+ghost use Rattle.lab_tool.specs.Statuses.{status_of_refusal};
+
 use crate::status::Status;
 use el_base::{ConfigFault, FileFault};
 use std::fmt;
@@ -22,13 +25,17 @@ pub(crate) enum Refusal<'a> {
     TooLong { file: &'a str },
     /// A place is over the end of a trace with so many events.
     PlaceOverEnd { file: &'a str, events: usize },
+    /// The trace is of so many harts, which are numbered from 0 on, and no hart has this number.
+    NoSuchHart { file: &'a str, harts: u8 },
     /// At this place another outcome came than the trace records.
     Differs { file: &'a str, place: usize },
 }
 
 impl Refusal<'_> {
     /// How the program ends behind it.
-    pub(crate) fn status(self) -> Status {
+    pub(crate) fn status(self) -> Status
+        ensures { result ≡ status_of_refusal self.entry }
+    {
         match self {
             Refusal::Differs { .. } => Status::Differs,
             _ => Status::Refused,
@@ -60,6 +67,9 @@ impl fmt::Display for Refusal<'_> {
             }
             Refusal::PlaceOverEnd { file, events } => {
                 write!(f, "{file}: place over the end: events {events}")
+            }
+            Refusal::NoSuchHart { file, harts } => {
+                write!(f, "{file}: no such hart: harts {harts}")
             }
             Refusal::Differs { file, place } => {
                 write!(

@@ -1,16 +1,25 @@
 //! `run`: an image by another schedule than the round robin.
 
-ghost use Rattle.std.specs.Prelude.{◌≡◌, ◌<◌, ◌≤◌, [], All, IfOk, length};
-ghost use Rattle.el_base.specs.Config.{IsInRange};
+ghost use Rattle.std.specs.Prelude.{◌≡◌, ◌≢◌, ◌<◌, ◌≤◌, ◌++◌, All, IfOk, IfSome, OnOk, [], length, Some};
+ghost use Rattle.std.specs.Option.{option_map};
+ghost use Rattle.chronicle.specs.Chronicle.{events};
+ghost use Rattle.el_io.specs.Shelf.{Holds, KeepsOthers};
+ghost use Rattle.el_io.specs.Sink.{TookAll};
+ghost use Rattle.machine.specs.Story.{committed};
+ghost use Rattle.trace_file.specs.Spelling.{outcomes, spelling};
+ghost use Rattle.lab_tool.specs.Files.{HoldsNamed, KeepsBut, trace_of_run};
+ghost use Rattle.lab_tool.specs.Runs.{GoesBy};
+ghost use Rattle.lab_tool.specs.Statuses.{status_after};
 
 use crate::files::{image_of, read_file, symbols_of};
 use crate::refusal::Refusal;
 use crate::status::Status;
 use crate::stop::Stop;
 use crate::waiting::put_waits;
-use el_base::{Config, Event};
+use el_base::Event;
 use el_io::{Shelf, ShelfFault, Sink, put_all};
 use elf_image::IMAGE_FILE_LIMIT;
+use elf_symbols::Symbols;
 use lab_run::{run_drawn, run_listed};
 use lab_words::{RunCommand, Schedule};
 use machine::Machine;
@@ -30,29 +39,49 @@ pub(crate) fn run<'a, S: Shelf, O: Sink, E: Sink>(
     out: &mut O,
     err: &mut E,
     command: RunCommand<'a>,
-) -> Result<Status, Stop<'a>> {
+) -> Result<Status, Stop<'a>>
+    ensures { KeepsBut (trace_of_run command.entry) (S.told shelf.old) (S.told shelf.new) }
+{
     let config = command.config;
     if let Err(fault) = config.check() {
         return Err(Refusal::Config { fault }.into());
     }
     let file = read_file(alloc, shelf, command.image, IMAGE_FILE_LIMIT)?;
     let listed = listed_events(alloc, shelf, command.schedule, config.harts)?;
-    let symbols = symbols_of(alloc, &file, command.image, err)?;
     let image = image_of(alloc, &file, config.harts, command.image)?;
+    let symbols = symbols_of(alloc, &file, command.image, err)?;
     let mut machine = Machine::make(alloc, image, config)?;
-    match command.schedule {
-        Schedule::Random { seed } => run_drawn(&mut machine, seed),
-        Schedule::Order { .. } => run_listed(&mut machine, &listed),
-    }
+    make_events(&mut machine, command.schedule, &listed);
     put_all(out, machine.output())?;
-    if let Some(name) = command.trace {
-        write_trace_of(alloc, shelf, &machine, name)?;
+    write_trace_of(alloc, shelf, &machine, command.trace)?;
+    tell_end(alloc, err, &machine, &symbols)
+}
+
+/// Makes the events of a schedule: those that are drawn, or as many of the listed ones as steps are left.
+fn make_events(machine: &mut Machine, schedule: Schedule<'_>, listed: &[Event])
+    requires { All (λ event. event.hart.number < machine.old.config.harts) listed.now }
+    ensures { GoesBy schedule.entry listed.now machine.old machine.new }
+{
+    match schedule {
+        Schedule::Random { seed } => run_drawn(machine, seed),
+        Schedule::Order { .. } => run_listed(machine, listed),
     }
-    write_report(err, &machine)?;
+}
+
+/// Writes the report, and behind it a line for each hart that still runs, and tells how the run ended.
+fn tell_end<E: Sink>(
+    alloc: Global,
+    err: &mut E,
+    machine: &Machine,
+    symbols: &Symbols,
+) -> Result<Status, Stop<'static>>
+    ensures { IfOk result (λ status. status ≡ status_after machine.now) }
+{
+    write_report(err, machine)?;
     if machine.over() {
         return Ok(Status::Done);
     }
-    put_waits(alloc, err, &machine, &symbols)?;
+    put_waits(alloc, err, machine, symbols)?;
     Ok(Status::StillRuns)
 }
 
@@ -64,7 +93,8 @@ fn listed_events<'a, S: Shelf>(
     harts: u8,
 ) -> Result<Vec<Event>, Stop<'a>>
     requires { harts ≤ 8 }
-    ensures { IfOk result (λ events. All (λ event. event.hart.number < harts) events.items) }
+    ensures harts_exist { IfOk result (λ events. All (λ event. event.hart.number < harts) events.items) }
+    ensures files_stay { S.told shelf.new ≡ S.told shelf.old }
 {
     match schedule {
         Schedule::Random { .. } => Ok(Vec::new(alloc)),
@@ -93,12 +123,33 @@ fn order_of<'a>(
     }
 }
 
-/// Writes the trace of a run.
+/// Writes the trace of a run, where a file is named for it.
 fn write_trace_of<S: Shelf>(
     alloc: Global,
     shelf: &mut S,
     machine: &Machine,
+    name: Option<&str>,
+) -> Result<(), ShelfFault>
+    ensures files_stay { KeepsBut (option_map (λ file. file.now) name.entry) (S.told shelf.old) (S.told shelf.new) }
+    ensures written { OnOk result (HoldsNamed (option_map (λ file. file.now) name.entry) (S.told shelf.new)
+        (spelling machine.now.config (events machine.now.entries) (Some (outcomes machine.now.entries)))) }
+{
+    match name {
+        Some(name) => write_trace_to(alloc, shelf, machine, name),
+        None => Ok(()),
+    }
+}
+
+/// Writes the trace of a run to a file.
+fn write_trace_to<S: Shelf>(
+    alloc: Global,
+    shelf: &mut S,
+    machine: &Machine,
     name: &str,
-) -> Result<(), ShelfFault> {
+) -> Result<(), ShelfFault>
+    ensures others_stay { KeepsOthers (S.told shelf.old) (S.told shelf.new) name.now }
+    ensures written { OnOk result (Holds (S.told shelf.new) name.now
+        (spelling machine.now.config (events machine.now.entries) (Some (outcomes machine.now.entries)))) }
+{
     write_trace(alloc, shelf, name, &machine.config(), machine.history())
 }

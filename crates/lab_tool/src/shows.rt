@@ -1,6 +1,7 @@
 //! `show` and `state`: what events did, and how the machine stands between them.
 
-ghost use Rattle.std.specs.Prelude.{◌≡◌, ◌<◌, ◌≤◌, ◌∷◌, [], All, length, take};
+ghost use Rattle.std.specs.Prelude.{◌≡◌, ◌<◌, ◌≤◌, ◌∷◌, ◌||◌, [], All, IfSome, IsTrue, OnOk, length, take};
+ghost use Rattle.lab_text.specs.Items.{is_deed};
 ghost use Rattle.machine.specs.Story.{continued, left_of};
 
 use crate::files::{Recorded, read_recorded};
@@ -15,6 +16,7 @@ use lab_text::{Names, did_something, is_about, write_event, write_event_json, wr
 use lab_words::{Range, ShowCommand, Traced};
 use machine::Machine;
 use std::alloc::Global;
+use trace_file::Trace;
 
 /// How many bytes of lines are put at once, or some more.
 const PUT_AT: usize = 1 << 16;
@@ -26,13 +28,16 @@ pub(crate) fn show_events<'a, S: Shelf, O: Sink, E: Sink>(
     out: &mut O,
     err: &mut E,
     command: ShowCommand<'a>,
-) -> Result<(), Stop<'a>> {
+) -> Result<(), Stop<'a>>
+    ensures { S.told shelf.new ≡ S.told shelf.old }
+{
     let Recorded {
         mut machine,
         trace,
         image,
         symbols,
     } = read_recorded(alloc, shelf, err, command.traced)?;
+    check_range(&trace, command.range, command.traced.trace)?;
     let names = Names {
         symbols: &symbols,
         image: &image,
@@ -48,6 +53,22 @@ pub(crate) fn show_events<'a, S: Shelf, O: Sink, E: Sink>(
     check_outcomes(&machine, &trace, command.traced.trace)
 }
 
+/// Refuses a range that begins over the end of a trace, or of a hart that it has not.
+fn check_range<'a>(trace: &Trace, range: Range, file: &'a str) -> Result<(), Refusal<'a>>
+    ensures begins { OnOk result (range.from ≤ length trace.now.events) }
+    ensures hart_exists { OnOk result (IfSome range.hart (λ hart. hart < trace.now.config.harts)) }
+{
+    let events = trace.events.as_slice().len();
+    if range.from as usize > events {
+        return Err(Refusal::PlaceOverEnd { file, events });
+    }
+    let harts = trace.config.harts;
+    if range.hart.is_some_and(|hart| hart >= harts) {
+        return Err(Refusal::NoSuchHart { file, harts });
+    }
+    Ok(())
+}
+
 /// Makes these events, and puts a line for each that the command asks for.
 fn put_events<O: Sink>(
     alloc: Global,
@@ -59,6 +80,7 @@ fn put_events<O: Sink>(
 ) -> Result<(), Stop<'static>>
     requires harts_exist { All (λ event. event.hart.number < machine.old.config.harts) events.now }
     requires enough_steps { length events.now ≤ left_of machine.old }
+    ensures { OnOk result (machine.new ≡ continued machine.old events.now) }
 {
     let mut text = String::new(alloc);
     for event in events {
@@ -92,7 +114,11 @@ fn make(
 }
 
 /// Whether the command asks for an event.
-fn is_asked_for(command: &ShowCommand<'_>, shown: &Shown) -> bool {
+fn is_asked_for(command: &ShowCommand<'_>, shown: &Shown) -> bool
+    ensures within { IsTrue result → (command.now.range.from ≤ shown.now.place) × (shown.now.place ≤ command.now.range.to) }
+    ensures hart { IsTrue result → IfSome command.now.range.hart (λ hart. hart ≡ shown.now.event.hart.number) }
+    ensures did_something { IsTrue result → IsTrue (command.now.all || is_deed shown.now.outcome) }
+{
     let Range { from, to, hart, at } = command.range;
     from <= shown.place
         && shown.place <= to
@@ -124,21 +150,16 @@ pub(crate) fn show_state<'a, S: Shelf, O: Sink, E: Sink>(
     err: &mut E,
     traced: Traced<'a>,
     place: u32,
-) -> Result<(), Stop<'a>> {
+) -> Result<(), Stop<'a>>
+    ensures { S.told shelf.new ≡ S.told shelf.old }
+{
     let Recorded {
         mut machine,
         trace,
         image,
         symbols,
     } = read_recorded(alloc, shelf, err, traced)?;
-    let events = trace.events.as_slice();
-    let place = place as usize;
-    if place > events.len() {
-        let events = events.len();
-        let file = traced.trace;
-        return Err(Refusal::PlaceOverEnd { file, events }.into());
-    }
-    follow(&mut machine, first_of(events, place));
+    go_to(&mut machine, trace.events.as_slice(), place, traced.trace)?;
     let names = Names {
         symbols: &symbols,
         image: &image,
@@ -147,6 +168,27 @@ pub(crate) fn show_state<'a, S: Shelf, O: Sink, E: Sink>(
     write_state(&mut text, &machine, &names)?;
     put_all(out, text.as_bytes())?;
     check_outcomes(&machine, &trace, traced.trace)
+}
+
+/// Makes the events before a place.
+fn go_to<'a>(
+    machine: &mut Machine,
+    events: &[Event],
+    place: u32,
+    file: &'a str,
+) -> Result<(), Refusal<'a>>
+    requires harts_exist { All (λ event. event.hart.number < machine.old.config.harts) events.now }
+    requires enough_steps { length events.now ≤ left_of machine.old }
+    ensures there { OnOk result (machine.new ≡ continued machine.old (take place events.now)) }
+    ensures within { OnOk result (place ≤ length events.now) }
+{
+    let place = place as usize;
+    if place > events.len() {
+        let events = events.len();
+        return Err(Refusal::PlaceOverEnd { file, events });
+    }
+    follow(machine, first_of(events, place));
+    Ok(())
 }
 
 /// The first events of a list, so many of them.

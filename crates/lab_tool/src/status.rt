@@ -1,5 +1,8 @@
 //! How the program ends, by the number that its caller sees.
 
+ghost use Rattle.std.specs.Prelude.{◌≡◌};
+ghost use Rattle.lab_tool.specs.Statuses.{number_of};
+
 /// How the program ends.
 #[derive(Clone, Copy, Debug, PartialEq, Eq)]
 pub enum Status {
@@ -19,7 +22,9 @@ pub enum Status {
 
 impl Status {
     /// The exit status of the process.
-    pub fn number(self) -> u8 {
+    pub fn number(self) -> u8
+        ensures { result ≡ number_of self }
+    {
         self as u8
     }
 }

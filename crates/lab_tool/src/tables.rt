@@ -1,7 +1,10 @@
 //! `locks`, `lines`, `page` and `info`: what a whole run came to.
 
-ghost use Rattle.std.specs.Prelude.{◌<◌, ◌≤◌, ◌+◌, ◌^◌, IfOk, length};
+ghost use Rattle.std.specs.Prelude.{◌≡◌, ◌<◌, ◌≤◌, ◌+◌, ◌^◌, All, IfOk, [], length};
 ghost use Rattle.el_base.specs.declared.config.TheConstants.{MAX_STEPS};
+ghost use Rattle.el_io.specs.Shelf.{KeepsOthers};
+ghost use Rattle.machine.specs.Story.{left_of};
+ghost use Rattle.lab_tool.specs.Runs.{IsFollowed};
 
 use crate::files::{Recorded, read_file, read_recorded, trace_of};
 use crate::recorded::check_outcomes;
@@ -20,32 +23,46 @@ use trace_file::MAX_FILE_BYTES;
 
 /// A run that was followed to the end of its trace.
 #[derive(Drop)]
-struct Followed {
-    machine: Machine,
-    sections: Parted,
-    swaps: Vec<PlainSwap>,
-    facts: Vec<Fact>,
-    symbols: Symbols,
+pub(crate) struct Followed {
+    pub(crate) machine: Machine,
+    pub(crate) sections: Parted,
+    pub(crate) swaps: Vec<PlainSwap>,
+    pub(crate) facts: Vec<Fact>,
+    pub(crate) symbols: Symbols,
 }
 
-/// Follows a trace to its end.
-fn follow_to_end<'a, S: Shelf, E: Sink>(
+/// Reads a run, and follows its trace to the end.
+fn read_followed<'a, S: Shelf, E: Sink>(
     alloc: Global,
     shelf: &mut S,
     err: &mut E,
     traced: Traced<'a>,
 ) -> Result<Followed, Stop<'a>>
-    ensures { IfOk result (λ followed.
+    ensures few { IfOk result (λ followed.
         length followed.sections.takes.items + length followed.sections.releases.items ≤ MAX_STEPS) }
+    ensures files_stay { S.told shelf.new ≡ S.told shelf.old }
+{
+    let recorded = read_recorded(alloc, shelf, err, traced)?;
+    follow_to_end(alloc, recorded, traced.trace)
+}
+
+/// Follows a trace to its end.
+fn follow_to_end<'a>(alloc: Global, recorded: Recorded, file: &'a str) -> Result<Followed, Stop<'a>>
+    requires harts_exist { All (λ event. event.hart.number < recorded.machine.config.harts) recorded.trace.events }
+    requires enough_steps { length recorded.trace.events ≤ left_of recorded.machine }
+    requires new { recorded.machine.entries ≡ [] }
+    ensures few { IfOk result (λ followed.
+        length followed.sections.takes.items + length followed.sections.releases.items ≤ MAX_STEPS) }
+    ensures followed { IfOk result (IsFollowed recorded) }
 {
     let Recorded {
         mut machine,
         trace,
         symbols,
         ..
-    } = read_recorded(alloc, shelf, err, traced)?;
+    } = recorded;
     let watched = watch(alloc, &mut machine, trace.events.as_slice())?;
-    check_outcomes(&machine, &trace, traced.trace)?;
+    check_outcomes(&machine, &trace, file)?;
     let sections = part_releases(alloc, watched.tries.as_slice(), &watched.swaps)?;
     Ok(Followed {
         machine,
@@ -75,11 +92,17 @@ pub(crate) fn show_locks<'a, S: Shelf, O: Sink, E: Sink>(
     err: &mut E,
     traced: Traced<'a>,
     layout: Layout,
-) -> Result<(), Stop<'a>> {
-    let followed = follow_to_end(alloc, shelf, err, traced)?;
+) -> Result<(), Stop<'a>>
+    ensures { S.told shelf.new ≡ S.told shelf.old }
+{
+    let followed = read_followed(alloc, shelf, err, traced)?;
     let rows = all_lock_rows(alloc, &followed)?;
     let mut text = String::new(alloc);
-    write_locks(alloc, &mut text, &rows, &followed.symbols, layout)?;
+    if rows.is_empty() && layout == Layout::Text {
+        text.push_str("no acquire\n")?;
+    } else {
+        write_locks(alloc, &mut text, &rows, &followed.symbols, layout)?;
+    }
     put_all(out, text.as_bytes())?;
     if layout == Layout::Text {
         put_waits(alloc, out, &followed.machine, &followed.symbols)?;
@@ -95,11 +118,17 @@ pub(crate) fn show_lines<'a, S: Shelf, O: Sink, E: Sink>(
     err: &mut E,
     traced: Traced<'a>,
     layout: Layout,
-) -> Result<(), Stop<'a>> {
-    let followed = follow_to_end(alloc, shelf, err, traced)?;
+) -> Result<(), Stop<'a>>
+    ensures { S.told shelf.new ≡ S.told shelf.old }
+{
+    let followed = read_followed(alloc, shelf, err, traced)?;
     let rows = line_rows(alloc, &followed.facts)?;
     let mut text = String::new(alloc);
-    write_lines(alloc, &mut text, &rows, &followed.symbols, layout)?;
+    if rows.is_empty() && layout == Layout::Text {
+        text.push_str("no line\n")?;
+    } else {
+        write_lines(alloc, &mut text, &rows, &followed.symbols, layout)?;
+    }
     put_all(out, text.as_bytes())?;
     Ok(())
 }
@@ -111,8 +140,10 @@ pub(crate) fn write_page_to<'a, S: Shelf, E: Sink>(
     err: &mut E,
     traced: Traced<'a>,
     file: &'a str,
-) -> Result<(), Stop<'a>> {
-    let followed = follow_to_end(alloc, shelf, err, traced)?;
+) -> Result<(), Stop<'a>>
+    ensures { KeepsOthers (S.told shelf.old) (S.told shelf.new) file.now }
+{
+    let followed = read_followed(alloc, shelf, err, traced)?;
     let mut text = String::new(alloc);
     let run = Run {
         title: traced.image,
@@ -134,7 +165,9 @@ pub(crate) fn show_info<'a, S: Shelf, O: Sink>(
     shelf: &mut S,
     out: &mut O,
     file: &'a str,
-) -> Result<(), Stop<'a>> {
+) -> Result<(), Stop<'a>>
+    ensures { S.told shelf.new ≡ S.told shelf.old }
+{
     let bytes = read_file(alloc, shelf, file, MAX_FILE_BYTES)?;
     let trace = trace_of(alloc, &bytes, file)?;
     let mut text = String::new(alloc);

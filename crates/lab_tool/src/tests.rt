@@ -34,6 +34,7 @@ const TRACE: [u8; 116] = [
 ];
 
 /// How the program ended, what it put, and the files behind it.
+#[derive(Drop)]
 struct Ending {
     status: Status,
     out: SureSink,
@@ -41,17 +42,20 @@ struct Ending {
     shelf: SureShelf,
 }
 
-/// Does what these words ask for, over the worked image `i`, a trace of it `t`, its first half `h`, an order `o`, and one that
-/// is none, `x`.
+/// Does what these words ask for, over the worked image `i`, a trace of it `t`, its first half `h`, one in which the second event
+/// is recorded as a wait, `d`, an order `o`, and one that is none, `x`.
 fn answer(alloc: Global, words: &[&str]) -> Result<Ending, Fail> {
     let words: Vec<String> = words
         .iter()
         .map(|word| String::from_str(alloc, word))
         .try_collect(alloc)?;
-    let files: [(&str, &[u8]); 5] = [
+    let mut waits = TRACE;
+    waits[25] = 0x01;
+    let files: [(&str, &[u8]); 6] = [
         ("i", &HELLO),
         ("t", &TRACE),
         ("h", &TRACE[..60]),
+        ("d", &waits),
         ("o", b"step 0\nstep 0 # the second instruction\n"),
         ("x", b"step 0\n\nstep 8\n"),
     ];
@@ -102,6 +106,49 @@ const ROWS: &[(&[&str], Status, &str, &str)] = &[
         "error: t: image fault 2 Magic at byte 0\n",
     ),
     (
+        &["info", "none"],
+        Status::Refused,
+        "",
+        "error: none: trace fault 1 Short at byte 0\n",
+    ),
+    (
+        &["show", "i", "t", "--to", "0"],
+        Status::Done,
+        "0 hart 0 step 00010054 li a0,1: a0 = 0x1\n",
+        "",
+    ),
+    (
+        &["show", "i", "t", "--hart", "1"],
+        Status::Refused,
+        "",
+        "error: t: no such hart: harts 1\n",
+    ),
+    (
+        &["show", "i", "t", "--from", "38"],
+        Status::Refused,
+        "",
+        "error: t: place over the end: events 37\n",
+    ),
+    (
+        &["state", "i", "t", "0"],
+        Status::Done,
+        "hart 0 at 00010054, running\n",
+        "",
+    ),
+    (&["locks", "i", "t"], Status::Done, "no acquire\n", ""),
+    (
+        &["lines", "i", "t"],
+        Status::Done,
+        "line      missed_reads  served  owners\n00010040             1       1       1\n",
+        "",
+    ),
+    (
+        &["lines", "i", "d"],
+        Status::Differs,
+        "",
+        "error: d: at event 1 another outcome came than the trace records: is this its image?\n",
+    ),
+    (
         &["state", "i", "t", "38"],
         Status::Refused,
         "",
@@ -138,6 +185,19 @@ fn each_command_ends_as_it_should(rt: HostRuntime) -> Result<(), Fail> {
             "{words:?}"
         );
     }
+    Ok(())
+}
+
+/// The page goes to its file, and nothing is said.
+#[test]
+fn a_page_is_written(rt: HostRuntime) -> Result<(), Fail> {
+    let ending = answer(rt.alloc(), &["page", "i", "t", "p"])?;
+    assert!(rt;
+        ending.status == Status::Done
+            && ending.out.taken().is_empty()
+            && ending.err.taken().is_empty()
+            && ending.shelf.contents("p").starts_with(b"<!DOCTYPE html>\n")
+    );
     Ok(())
 }
 

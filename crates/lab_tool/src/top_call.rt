@@ -1,5 +1,10 @@
 //! The top call.
 
+ghost use Rattle.std.specs.Prelude.{◌≡◌, ◌≢◌, ◌⊎◌, ℕ, IfOk, List, MatchResult, OnOk, Option};
+ghost use Rattle.lab_tool.specs.Files.{KeepsBut, written_by};
+ghost use Rattle.lab_tool.specs.Statuses.{status_of_stop};
+ghost use Rattle.lab_tool.specs.declared.status.Status.TheVariants as statuses;
+
 use crate::running::run;
 use crate::shows::{show_events, show_state};
 use crate::status::Status;
@@ -20,22 +25,45 @@ pub fn laboratory<S: Shelf, O: Sink, E: Sink>(
     shelf: &mut S,
     out: &mut O,
     err: &mut E,
-) -> Status {
-    match obey(alloc, words, shelf, out, err) {
-        Ok(status) => status,
-        Err(stop) => tell_stop(alloc, &stop, out, err).unwrap_or(Status::DeviceFault),
+) -> Status
+    ensures { (file : Option (List ℕ)) × KeepsBut file (S.told shelf.old) (S.told shelf.new) }
+{
+    match read_words(alloc, words) {
+        Ok(command) => perform(alloc, command, shelf, out, err),
+        Err(fault) => end_by(alloc, &fault.into(), out, err),
     }
 }
 
-/// Does what the words ask for.
-fn obey<'a, S: Shelf, O: Sink, E: Sink>(
+/// Does a command, as [`laboratory`] does what words ask for.
+///
+/// `show`, `state`, `locks`, `lines` and `info` change no file, `page` changes the one that it names, and `run` the one of
+/// `--trace`, where it has that.
+pub fn perform<S: Shelf, O: Sink, E: Sink>(
     alloc: Global,
-    words: &'a [String],
+    command: Command<'_>,
     shelf: &mut S,
     out: &mut O,
     err: &mut E,
-) -> Result<Status, Stop<'a>> {
-    match read_words(alloc, words)? {
+) -> Status
+    ensures { KeepsBut (written_by command.entry) (S.told shelf.old) (S.told shelf.new) }
+{
+    match obey(alloc, command, shelf, out, err) {
+        Ok(status) => status,
+        Err(stop) => end_by(alloc, &stop, out, err),
+    }
+}
+
+/// Does a command up to what stops it.
+fn obey<'a, S: Shelf, O: Sink, E: Sink>(
+    alloc: Global,
+    command: Command<'a>,
+    shelf: &mut S,
+    out: &mut O,
+    err: &mut E,
+) -> Result<Status, Stop<'a>>
+    ensures { KeepsBut (written_by command.entry) (S.told shelf.old) (S.told shelf.new) }
+{
+    match command {
         Command::Show(command) => show_events(alloc, shelf, out, err, command)?,
         Command::State { traced, place } => show_state(alloc, shelf, out, err, traced, place)?,
         Command::Locks { traced, layout } => show_locks(alloc, shelf, out, err, traced, layout)?,
@@ -47,13 +75,26 @@ fn obey<'a, S: Shelf, O: Sink, E: Sink>(
     Ok(Status::Done)
 }
 
+/// Says why a command stopped, and tells how the program ends: as the stop has it, unless a sink fails or memory runs out
+/// meanwhile.
+fn end_by<O: Sink, E: Sink>(alloc: Global, stop: &Stop<'_>, out: &mut O, err: &mut E) -> Status
+    ensures { (result ≡ status_of_stop stop.now) ⊎ ((result ≡ statuses.DeviceFault) ⊎ (result ≡ statuses.NoMemory)) }
+{
+    match tell_stop(alloc, stop, out, err) {
+        Ok(status) => status,
+        Err(Failed) => Status::DeviceFault,
+    }
+}
+
 /// Says why a command stopped, and tells how the program ends.
 fn tell_stop<O: Sink, E: Sink>(
     alloc: Global,
     stop: &Stop<'_>,
     out: &mut O,
     err: &mut E,
-) -> Result<Status, Failed> {
+) -> Result<Status, Failed>
+    ensures { IfOk result (λ status. (status ≡ status_of_stop stop.now) ⊎ (status ≡ statuses.NoMemory)) }
+{
     match stop {
         Stop::Shown { text } => {
             put_all(out, text.as_bytes())?;

@@ -174,8 +174,9 @@ over_locks() {
     examples/locks/check.sh "$@" || failed=$((failed + 1))
 }
 
-# Builds the program where it is not built.
+# Builds the programs where they are not built.
 ./elide run crates/elide/data/hello.elf > /dev/null || exit 1
+./elide-lab --version > /dev/null || exit 1
 
 all_of examples
 over_locks
@@ -220,10 +221,12 @@ fails run examples/none.elf
 fails replay crates/elide/data/hello.elf examples
 fails gen counter 1 examples/none/image.elf
 piped
-# What the script ./elide says itself, the runs that a page shows, and the numbers of docs/STUDY.md, with tries of their own.
+# What the scripts say themselves, the laboratory on every example, the runs that a page shows, and the numbers of docs/STUDY.md,
+# with tries of their own.
 tools/check_words.sh || failed=$((failed + 1))
 if command -v python3 > /dev/null; then
-    tools/check_transcripts.py docs/CLASS.md docs/STUDY.md docs/TIMELINE.md || failed=$((failed + 1))
+    tools/lab_runs.py || failed=$((failed + 1))
+    tools/check_transcripts.py docs/CLASS.md docs/LAB.md docs/STUDY.md docs/TIMELINE.md || failed=$((failed + 1))
     study/check.sh || failed=$((failed + 1))
 fi
 echo "$passed passed, $failed failed"

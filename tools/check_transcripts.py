@@ -19,8 +19,8 @@ ROOT = pathlib.Path(__file__).resolve().parent.parent
 
 
 def printed(command, folder):
-    """What a command prints, run at the top of the repository; names that end in .trace, .cert or .image lie in the folder."""
-    words = [f"{folder}/{word}" if re.fullmatch(r"\w+\.(trace|cert|image)", word) else word
+    """What a command prints, run at the top of the repository; names that end in .trace, .cert, .image, .html or .order lie in the folder."""
+    words = [f"{folder}/{word}" if re.fullmatch(r"\w+\.(trace|cert|image|html|order)", word) else word
              for word in shlex.split(command)]
     done = subprocess.run(words, cwd=ROOT, capture_output=True, text=True)
     return (done.stdout + done.stderr).splitlines()

@@ -1,6 +1,6 @@
 #!/usr/bin/env bash
-# What the script ./elide says itself: help, its version, a line behind the statuses 4 and 5, and on a terminal a line of
-# help behind a refusal. The last line counts the tries.
+# What the scripts ./elide and ./elide-lab say themselves: help, a version, a line behind the statuses 4 and 5, and on a
+# terminal a line of help behind a refusal. The last line counts the tries.
 set -u
 cd "$(dirname "$0")/.." || exit 2
 passed=0
@@ -57,6 +57,12 @@ count --version
 count CHANGELOG.md names the version
 grep -qF "Version ${version#elide }." README.md
 count README.md names the version
+[ "$(./elide-lab --version)" = "elide-lab ${version#elide }" ]
+count the laboratory names the version
+[ "$(./elide-lab info "$folder/none" 2>&1)" = "elide-lab: no such file: $folder/none" ]
+count the laboratory names a file that is not there
+[ "$(./elide-lab page $image /dev/null "$folder/none/page" 2>&1)" = "error: /dev/null: trace fault 1 Short at byte 0" ]
+count the laboratory refuses a trace
 
 usage=$(crates/elide/out/elide 2>&1)
 says 2 "$usage

@@ -1,5 +1,5 @@
-# What the script ./elide says beside the program: help, the version, and a line where the program says nothing. Read by
-# ./elide, which sets `root`. The program's own bytes are passed on as they are.
+# What the scripts ./elide and ./elide-lab say beside their programs: help and the version of the first, and a line where
+# a program says nothing. They set `root` before they read this. The programs' own bytes are passed on as they are.
 
 # The part of README.md between its two marks, with its tables in columns.
 help() {
@@ -39,11 +39,11 @@ version() {
 # Why a file that was to be read may not have been, or nothing.
 why_unread() {
     if [ ! -e "$1" ]; then
-        echo "elide: no such file: $1"
+        echo "$name: no such file: $1"
     elif [ -d "$1" ]; then
-        echo "elide: a folder, and no file: $1"
+        echo "$name: a folder, and no file: $1"
     elif [ ! -r "$1" ]; then
-        echo "elide: cannot be read: $1"
+        echo "$name: cannot be read: $1"
     fi
 }
 
@@ -51,17 +51,17 @@ why_unread() {
 why_unwritten() {
     folder=$(dirname -- "$1")
     if [ -d "$1" ]; then
-        echo "elide: a folder, and no file: $1"
+        echo "$name: a folder, and no file: $1"
     elif [ ! -d "$folder" ]; then
-        echo "elide: no such folder: $folder"
+        echo "$name: no such folder: $folder"
     elif { [ -e "$1" ] && [ ! -w "$1" ]; } || { [ ! -e "$1" ] && [ ! -w "$folder" ]; }; then
-        echo "elide: cannot be written: $1"
+        echo "$name: cannot be written: $1"
     fi
 }
 
 # failed_file WORD..: why the first of a command's files failed, or nothing. Positional words are files to be read, which
-# comes first, but for the words of `gen` and the numbers of `look` and `find`; the third word of `gen` and the values of
-# --trace and --cert are written.
+# comes first, but for the words of `gen` and the numbers of `look`, `find` and `state`; the third words of `gen` and `page`
+# and the values of --trace and --cert are written. The value of --order is read.
 failed_file() {
     command=$1
     shift
@@ -77,20 +77,30 @@ failed_file() {
                 [ $# -lt 2 ] || shift
                 written "$1"
                 ;;
-            --times | --*=*) ;;
+            --order=*) unread_yet "${1#*=}" ;;
+            --order)
+                [ $# -lt 2 ] || shift
+                unread_yet "$1"
+                ;;
+            --times | --all | --json | --csv | --*=*) ;;
             --*) [ $# -lt 2 ] || shift ;;
             *)
                 at=$((at + 1))
                 case $command:$at in
-                    gen:1 | gen:2 | look:3 | find:3 | find:4) ;;
-                    gen:*) written "$1" ;;
-                    *) [ -n "$unread" ] || unread=$(why_unread "$1") ;;
+                    gen:1 | gen:2 | look:3 | find:3 | find:4 | state:3) ;;
+                    gen:* | page:3) written "$1" ;;
+                    *) unread_yet "$1" ;;
                 esac
                 ;;
         esac
         shift
     done
     echo "${unread:-$unwritten}"
+}
+
+# A file that a command reads.
+unread_yet() {
+    [ -n "$unread" ] || unread=$(why_unread "$1")
 }
 
 # A file that a command writes.
@@ -128,33 +138,35 @@ cure() {
         'file too big: '*) echo "is this the file that was meant?" ;;
         'place over the end: '*) echo "a place is a number of events, from 0 to those of the trace" ;;
         'back over the start: '*) echo "--back takes at most the place" ;;
-        'no such hart') echo "the trace has fewer harts: they are numbered from 0" ;;
+        'no such hart'*) echo "the trace has fewer harts: they are numbered from 0" ;;
     esac
 }
 
-# run_and_say WORD..: runs the program, and says behind it what its status leaves open. On a terminal a refusal gets a
-# line of help.
+# run_and_say NAME WORD..: runs the program, and says behind it what its status leaves open, under this name. On a terminal
+# a refusal gets a line of help: that of its line, behind 'error: FILE: ' where it has that.
 run_and_say() {
+    name=$1
+    shift
     if [ -t 2 ]; then
         said=$(mktemp) || exit 70
         help_line=
         "$program" "$@" 2>"$said"
         status=$?
         cat "$said" >&2
-        [ $status -ne 2 ] || help_line=$(cure "$(cat "$said")")
+        [ $status -ne 2 ] || help_line=$(cure "$(sed 's/^error: [^:]*: //' "$said")")
         rm -f "$said"
         [ -z "$help_line" ] || echo "help: $help_line" >&2
     else
         "$program" "$@"
         status=$?
     fi
-    case $status:$# in
-        2:0) help >&2 ;;
-        4:*)
+    case $name:$status:$# in
+        elide:2:0) help >&2 ;;
+        *:4:*)
             why=$(failed_file "$@")
-            echo "${why:-elide: a stream or a file failed while it was read or written}" >&2
+            echo "${why:-$name: a stream or a file failed while it was read or written}" >&2
             ;;
-        5:*) echo "elide: out of memory" >&2 ;;
+        *:5:*) echo "$name: out of memory" >&2 ;;
     esac
     exit $status
 }

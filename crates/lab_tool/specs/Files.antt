@@ -29,3 +29,8 @@ KeepsBut (Some name) before now = KeepsOthers before now name
 abbrev pub HoldsNamed : Option (List ℕ) → Option Contents → List ℕ → Type 0
 HoldsNamed None now bytes = Unit {0}
 HoldsNamed (Some name) now bytes = Holds now name bytes
+
+-- every file is as it was, but for at most one
+pub record ChangesOneAtMost (before now : Option Contents) : Type 0 where
+  pub file : Option (List ℕ)
+  pub keeps : KeepsBut file before now

@@ -33,6 +33,7 @@ const ORDER_FILE_LIMIT: u32 = 1 << 28;
 
 /// `run`: makes the events of a schedule, puts the program's output to `out` and the report to `err`, behind it a line
 /// for each hart that still runs, and writes the trace.
+#[tactic(auto, using(crate::proofs::Keeping::keeps_same, crate::proofs::Keeping::keeps_from))]
 pub(crate) fn run<'a, S: Shelf, O: Sink, E: Sink>(
     alloc: Global,
     shelf: &mut S,
@@ -124,6 +125,7 @@ fn order_of<'a>(
 }
 
 /// Writes the trace of a run, where a file is named for it.
+#[tactic(auto, using(crate::proofs::Keeping::keeps_same))]
 fn write_trace_of<S: Shelf>(
     alloc: Global,
     shelf: &mut S,

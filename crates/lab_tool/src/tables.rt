@@ -134,6 +134,7 @@ pub(crate) fn show_lines<'a, S: Shelf, O: Sink, E: Sink>(
 }
 
 /// `page`: the run as a picture with its tables, written to a file.
+#[tactic(auto, using(crate::proofs::Keeping::others_stay, crate::proofs::Keeping::others_from))]
 pub(crate) fn write_page_to<'a, S: Shelf, E: Sink>(
     alloc: Global,
     shelf: &mut S,

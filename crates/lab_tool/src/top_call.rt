@@ -1,7 +1,7 @@
 //! The top call.
 
-ghost use Rattle.std.specs.Prelude.{◌≡◌, ◌≢◌, ◌⊎◌, ℕ, IfOk, List, MatchResult, OnOk, Option};
-ghost use Rattle.lab_tool.specs.Files.{KeepsBut, written_by};
+ghost use Rattle.std.specs.Prelude.{◌≡◌, ◌⊎◌, IfOk};
+ghost use Rattle.lab_tool.specs.Files.{ChangesOneAtMost, KeepsBut, written_by};
 ghost use Rattle.lab_tool.specs.Statuses.{status_of_stop};
 ghost use Rattle.lab_tool.specs.declared.status.Status.TheVariants as statuses;
 
@@ -19,6 +19,7 @@ use std::alloc::Global;
 ///
 /// Help and the version go to `out`; a refusal is a line on `err`, behind what a run had put by then. Only `run` writes
 /// a trace, and only `page` writes another file.
+#[tactic(auto, using(crate::proofs::Keeping::none_changes, crate::proofs::Keeping::one_changes))]
 pub fn laboratory<S: Shelf, O: Sink, E: Sink>(
     alloc: Global,
     words: &[String],
@@ -26,7 +27,7 @@ pub fn laboratory<S: Shelf, O: Sink, E: Sink>(
     out: &mut O,
     err: &mut E,
 ) -> Status
-    ensures { (file : Option (List ℕ)) × KeepsBut file (S.told shelf.old) (S.told shelf.new) }
+    ensures { ChangesOneAtMost (S.told shelf.old) (S.told shelf.new) }
 {
     match read_words(alloc, words) {
         Ok(command) => perform(alloc, command, shelf, out, err),

@@ -1,9 +1,10 @@
 //! What an event did, as a line of text.
 
-use crate::items::{Item, Items};
+use crate::items::{Item, tell};
 use crate::names::Names;
 use crate::phrases::Phrase;
 use crate::words::kind_word;
+use arrayvec::ArrayVec;
 use el_base::{Losers, NoMemory, Outcome};
 use elf_symbols::Symbols;
 use lab::{Shown, What};
@@ -30,7 +31,9 @@ pub fn write_event(out: &mut String, shown: &Shown, names: &Names) -> Result<(),
     let kind = kind_word(shown.event.kind);
     write!(out, "{place} hart {hart} {kind}")?;
     write_instruction(out, shown, names)?;
-    write_items(out, &Items::of(shown), names.symbols)?;
+    let mut items = ArrayVec::new();
+    tell(&mut items, shown);
+    write_items(out, &items, names.symbols)?;
     write_nothing(out, shown.outcome)?;
     out.push('\n')?;
     Ok(())
@@ -57,9 +60,9 @@ fn write_pc(out: &mut String, pc: u32, names: &Names) -> Result<(), NoMemory> {
     Ok(())
 }
 
-fn write_items(out: &mut String, items: &Items, symbols: &Symbols) -> Result<(), NoMemory> {
+fn write_items(out: &mut String, items: &[Item], symbols: &Symbols) -> Result<(), NoMemory> {
     let mut last = Group::Head;
-    for item in items.as_slice() {
+    for item in items {
         let group = group_of(*item);
         out.push_str(separator(last, group))?;
         let phrase = Phrase {

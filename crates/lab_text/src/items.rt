@@ -168,8 +168,10 @@ impl Items {
     }
 }
 
+/// Tells what an event did, behind nothing. Who only reads the items calls this with a list of its own: an `Items` that is
+/// given back is copied whole.
 #[tactic(auto, unfolding(crate::specs::Items::items_of))]
-fn tell(list: &mut List, shown: &Shown)
+pub(crate) fn tell(list: &mut List, shown: &Shown)
     requires { list.old.items ≡ [] }
     ensures { list.new.items ≡ items_of shown.now }
 {

@@ -1,9 +1,10 @@
 //! What an event did, as an object of JSON (RFC 8259).
 
-use crate::items::{Item, Items};
+use crate::items::{Item, tell};
 use crate::names::Names;
 use crate::phrases::register_name;
 use crate::words::{cause_word, first_byte, kind_word, letter_word, need_word};
+use arrayvec::ArrayVec;
 use bus_order::Request;
 use el_base::{HartId, NoMemory, Why};
 use elf_symbols::Symbols;
@@ -28,7 +29,9 @@ pub fn write_event_json(out: &mut String, shown: &Shown, names: &Names) -> Resul
         write_pc(out, before.view.pc, names)?;
     }
     out.push_str(",\"did\":[")?;
-    write_items(out, &Items::of(shown), names.symbols)?;
+    let mut items = ArrayVec::new();
+    tell(&mut items, shown);
+    write_items(out, &items, names.symbols)?;
     out.push_str("]}\n")?;
     Ok(())
 }
@@ -46,9 +49,9 @@ fn write_pc(out: &mut String, pc: u32, names: &Names) -> Result<(), NoMemory> {
     Ok(())
 }
 
-fn write_items(out: &mut String, items: &Items, symbols: &Symbols) -> Result<(), NoMemory> {
+fn write_items(out: &mut String, items: &[Item], symbols: &Symbols) -> Result<(), NoMemory> {
     let mut separator = "";
-    for item in items.as_slice() {
+    for item in items {
         let member = Member {
             item: *item,
             symbols,

@@ -8,7 +8,7 @@ pub(crate) const STYLE: &str = "\
 body{font:14px/1.45 system-ui,sans-serif;margin:1.5em;color:var(--ink);background:var(--paper)}
 h1{font-size:1.3em;margin:0 0 .3em}h2{font-size:1.05em;margin:1.4em 0 .4em}p{margin:.3em 0}
 .wide{overflow-x:auto}
-svg{display:block;font:12px system-ui,sans-serif}
+svg{display:block;overflow:visible;font:12px system-ui,sans-serif}
 svg text{fill:var(--ink)}
 .lane{fill:var(--faint);opacity:.45}
 .tick{stroke:var(--faint);stroke-width:1}

@@ -65,6 +65,9 @@ fn answer(alloc: Global, words: &[&str]) -> Result<Ending, Fail> {
         names.push(String::from_str(alloc, name)?)?;
         contents.push(Vec::from_slice(alloc, bytes)?)?;
     }
+    if names.len() != contents.len() {
+        return Err("each file has a name".into());
+    }
     let mut shelf = SureShelf::make(alloc, &names, &contents)?;
     let mut out = SureSink::make(alloc, 1 << 16)?;
     let mut err = SureSink::make(alloc, 1 << 12)?;

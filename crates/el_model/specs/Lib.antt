@@ -8,6 +8,7 @@ pub mod Order
 pub mod Serve
 pub mod Deliver
 pub mod Plain
+pub mod Armed
 pub mod InSection
 pub mod Next
 pub mod Causes

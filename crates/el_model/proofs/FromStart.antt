@@ -23,9 +23,9 @@ steps_are_deeds state event step = rw step (step_deed state event.hart.number)
 -- no event changes the configuration
 kind_config : (state : ModelState) (h : ℕ) (kind : Kind) → (kind_turn state h kind).state.config ≡ state.config
 kind_config state h kinds.Step = ap (λ turn. turn.state.config) (step_deed state h).turn_is
-kind_config state h kinds.Order = (order_calm state h).keeps.config
-kind_config state h kinds.Serve = (serve_calm state h).keeps.config
-kind_config state h kinds.Deliver = (deliver_calm state h).keeps.config
+kind_config state h kinds.Order = (order_calm state h).frame.config
+kind_config state h kinds.Serve = (serve_calm state h).frame.config
+kind_config state h kinds.Deliver = (deliver_calm state h).frame.config
 
 pub next_config : (state : ModelState) (event : Event) → (next state event).state.config ≡ state.config
 unfolding next

@@ -1,10 +1,11 @@
--- what no event of the bus changes: the configuration, what is committed, and how many harts there are
+-- what no event of the bus changes: the configuration and how many harts there are; and what is committed, unless it lets a hart go
 use Rattle.std.proofs.Common.{◌≡◌, ◌∙◌, ℕ, suc, List, [], ◌∷◌, Option, Some, None, length, refl, ap}
 use Rattle.std.proofs.Math.ListN.{length-set}
 use Rattle.bus_order.specs.Order.{Request}
 use Rattle.el_base.specs.declared.config.Mode.{Mode}
 use Rattle.el_base.specs.declared.config.Mode.TheVariants.{Plain, Sle, Tlr}
-use Rattle.el_model.specs.Face.{faced, faced_if}
+use Rattle.el_model.specs.Armed.{let_go}
+use Rattle.el_model.specs.Face.{faced, met, met_if}
 use Rattle.el_model.specs.Order.{marked_by, marked_from, marking}
 use Rattle.el_model.specs.Serve.{served}
 use Rattle.el_model.specs.State.{Hart, ModelState, each_from, each_hart, with_hart}
@@ -13,6 +14,17 @@ pub record Keeps (old new : ModelState) : Type 0 where
   pub config : new.config ≡ old.config
   pub committed : new.committed ≡ old.committed
   pub count : length new.harts ≡ length old.harts
+
+-- the same without what is committed
+pub record Frame (old new : ModelState) : Type 0 where
+  pub config : new.config ≡ old.config
+  pub count : length new.harts ≡ length old.harts
+
+pub frame_of : {old new : ModelState} → Keeps old new → Frame old new
+frame_of keeps = record { config = keeps.config; count = keeps.count }
+
+pub frame_twice : {first second third : ModelState} → Frame first second → Frame second third → Frame first third
+frame_twice one two = record { config = two.config ∙ one.config; count = two.count ∙ one.count }
 
 pub keeps_all : (state : ModelState) → Keeps state state
 keeps_all state = record { config = refl; committed = refl; count = refl }
@@ -54,9 +66,16 @@ pub keeps_faced : (state : ModelState) (head : Request) → Keeps state (faced s
 unfolding faced
 keeps_faced state head = keeps_each_hart state _
 
-pub keeps_faced_if : (state : ModelState) (head : Option Request) → Keeps state (faced_if state head)
-keeps_faced_if state None = keeps_all state
-keeps_faced_if state (Some head) = keeps_faced state head
+pub frame_let_go : (state : ModelState) (head : Request) → Frame state (let_go state head)
+unfolding let_go
+frame_let_go state head = record { config = refl; count = length-each_from 0 _ state.harts }
+
+pub frame_met : (state : ModelState) (head : Request) → Frame state (met state head)
+frame_met state head = frame_twice (frame_let_go state head) (frame_of (keeps_faced _ head))
+
+pub frame_met_if : (state : ModelState) (head : Option Request) → Frame state (met_if state head)
+frame_met_if state None = frame_of (keeps_all state)
+frame_met_if state (Some head) = frame_met state head
 
 pub keeps_served : (state : ModelState) (request : Request) → Keeps state (served state request)
 unfolding served

@@ -13,49 +13,51 @@ use Rattle.el_base.specs.declared.outcomes.Need.{Need}
 use Rattle.el_base.specs.declared.outcomes.Need.TheVariants.{Read, Write}
 use Rattle.el_base.specs.declared.outcomes.Cause.{Cause}
 use Rattle.el_base.specs.declared.outcomes.Cause.TheVariants.{Room, Lines, Long, Call, Mixed}
-use Rattle.el_model.specs.Deed.{Begins, Buffers, Commits, Deed, DoesWhere, IsInside, Misses, MustRollBack, Rests, RollsBack, Runs, Waits, hart_after}
+use Rattle.el_model.specs.Armed.{freed_hart, is_freed, let_go, let_go_hart}
+use Rattle.el_model.specs.Deed.{Arms, Begins, Buffers, Commits, Continues, Deed, DoesWhere, Elides, IsArmed, IsInside, LetsGo, Misses, MustRollBack, Rests, RollsBack, Runs, Waits, hart_after}
 use Rattle.el_model.specs.Deliver.{deliver_turn}
-use Rattle.el_model.specs.Face.{Fate, LosesTo, Stays, Unmet, after_fate, deferring, faced, faced_hart, faced_if, fate_of, markers_for, winning_stamp}
+use Rattle.el_model.specs.Face.{Fate, LosesTo, Stays, Unmet, after_fate, deferring, faced, faced_hart, fate_of, markers_for, met, met_if, winning_stamp}
 use Rattle.el_model.specs.Next.{kind_turn, next, step_turn}
 use Rattle.el_model.specs.Order.{Alone, Behind, InFront, Place, before_face, marked_by, marked_from, marking, order_raised, order_turn, place_for, placed, placed_in_front, placed_last, unraised}
 use Rattle.el_model.specs.Plain.{after_access, after_candidate, after_touch, candidate_of, if_candidate, may_elide, watched}
 use Rattle.el_model.specs.Quiet.{IsPlain, IsSilent}
 use Rattle.el_model.specs.RollBack.{beaten, most_tries, out_of_section}
 use Rattle.el_model.specs.Serve.{Blocks, Free, Obstacle, bystander, given_up, obstacle_to, others_cache, own_copy, serve_ordered, serve_past, serve_turn, served, served_hart, serving, with_claim}
-use Rattle.el_model.specs.State.{Hart, ModelState, Section, hart_of, head_of, new_hart, ordered_of, post_all, raised_of}
-use Rattle.el_model.specs.Upcoming.{Swap, Touch, next_swap}
+use Rattle.el_model.specs.State.{Armed, Hart, ModelState, Section, hart_of, head_of, new_hart, ordered_of, post_all, raised_of}
+use Rattle.el_model.specs.Upcoming.{Swap, Touch, next_exchange}
 use Rattle.el_model.proofs.AllHarts.{All, all_each, all_with}
 use Rattle.el_model.proofs.Deeds.{step_deed}
 use Rattle.el_model.proofs.Tests.{by_test}
 use Rattle.mail.specs.Mailbox.{Message}
 use Rattle.pair_table.specs.Predictor.{Predictor, Watch}
+use Rattle.rv_flat.specs.FlatState.{view_of}
 use Rattle.stamp.specs.Stamps.{Stamp}
 
 pub new_is_plain : (sets : ℕ) → IsPlain (new_hart sets)
-new_is_plain sets = record { section = refl; unmarked = unmarked-empty sets; watch = refl }
+new_is_plain sets = record { section = refl; armed = refl; unmarked = unmarked-empty sets; watch = refl }
 
--- the same section and watch, and a cache without bits
-still_plain : (old new : Hart) → new.section ≡ old.section → new.predictor.watch ≡ old.predictor.watch → has_marks new.cache ≡ false →
+-- the same sections and watch, and a cache without bits
+still_plain : (old new : Hart) → new.section ≡ old.section → new.armed ≡ old.armed → new.predictor.watch ≡ old.predictor.watch → has_marks new.cache ≡ false →
     IsPlain old → IsPlain new
-still_plain old new section watch unmarked plain =
-    record { section = section ∙ plain.section; unmarked = unmarked; watch = watch ∙ plain.watch }
+still_plain old new section armed watch unmarked plain =
+    record { section = section ∙ plain.section; armed = armed ∙ plain.armed; unmarked = unmarked; watch = watch ∙ plain.watch }
 
 try_plain : (hart : Hart) (last : Bool) → IsPlain hart →
     IsPlain (if last then record hart { tries = 0; fallback = true } else record hart { tries = hart.tries + 1 })
-try_plain hart true plain = still_plain hart (record hart { tries = 0; fallback = true }) refl refl plain.unmarked plain
-try_plain hart false plain = still_plain hart (record hart { tries = hart.tries + 1 }) refl refl plain.unmarked plain
+try_plain hart true plain = still_plain hart (record hart { tries = 0; fallback = true }) refl refl refl plain.unmarked plain
+try_plain hart false plain = still_plain hart (record hart { tries = hart.tries + 1 }) refl refl refl plain.unmarked plain
 
 out_plain : (hart : Hart) → IsPlain hart → IsPlain (out_of_section hart)
-out_plain hart plain = record { section = refl; unmarked = unmarked-cleared hart.cache; watch = plain.watch }
+out_plain hart plain = record { section = refl; armed = refl; unmarked = unmarked-cleared hart.cache; watch = plain.watch }
 
 beaten_plain : (mode : Mode) (winner : Option Stamp) (hart : Hart) → IsPlain hart → IsPlain (beaten mode winner hart)
 beaten_plain Tlr winner hart plain =
-    record { section = refl; unmarked = unmarked-cleared hart.cache; watch = plain.watch }
+    record { section = refl; armed = refl; unmarked = unmarked-cleared hart.cache; watch = plain.watch }
 beaten_plain Sle winner hart plain = try_plain (out_of_section hart) (hart.tries + 1 == most_tries) (out_plain hart plain)
 beaten_plain Plain winner hart plain = try_plain (out_of_section hart) (hart.tries + 1 == most_tries) (out_plain hart plain)
 
 deferring_plain : (mode : Mode) (stamp : Option Stamp) (hart : Hart) → IsPlain hart → IsPlain (deferring mode stamp hart)
-deferring_plain Tlr stamp hart plain = record { section = plain.section; unmarked = plain.unmarked; watch = plain.watch }
+deferring_plain Tlr stamp hart plain = record { section = plain.section; armed = plain.armed; unmarked = plain.unmarked; watch = plain.watch }
 deferring_plain Sle stamp hart plain = plain
 deferring_plain Plain stamp hart plain = plain
 
@@ -67,7 +69,7 @@ fate_plain state head hart (LosesTo winner) plain = beaten_plain state.config.mo
 posted_plain : (messages : List Message) (hart : Hart) → IsPlain hart → IsPlain (post_all hart messages)
 posted_plain [] hart plain = plain
 posted_plain (message ∷ messages) hart plain =
-    posted_plain messages _ (still_plain hart _ refl refl plain.unmarked plain)
+    posted_plain messages _ (still_plain hart _ refl refl refl plain.unmarked plain)
 
 faced_plain : (state : ModelState) (head : Request) → All IsPlain state → All IsPlain (faced state head)
 unfolding faced
@@ -80,13 +82,27 @@ faced_plain state head all =
     (λ other. fate_plain state head hart (fate_of state head h hart) plain))
     all
 
-faced_if_plain : (state : ModelState) (head : Option Request) → All IsPlain state → All IsPlain (faced_if state head)
-faced_if_plain state None all = all
-faced_if_plain state (Some head) all = faced_plain state head all
+-- a hart that was let go has no armed section and no bits
+freed_plain : (state : ModelState) (head : Request) (h : ℕ) (hart : Hart) → IsPlain hart → IsPlain (freed_hart state head h hart)
+freed_plain state head h hart plain =
+    by_test IsPlain (is_freed head h hart) (let_go_hart (view_of state.committed h).pc hart) hart
+    (λ freed. record { section = plain.section; armed = refl; unmarked = unmarked-cleared hart.cache; watch = plain.watch })
+    (λ stays. plain)
+
+let_go_plain : (state : ModelState) (head : Request) → All IsPlain state → All IsPlain (let_go state head)
+unfolding let_go
+let_go_plain state head all = all_each IsPlain state (freed_hart state head) (new_is_plain 0) (freed_plain state head) all
+
+met_plain : (state : ModelState) (head : Request) → All IsPlain state → All IsPlain (met state head)
+met_plain state head all = faced_plain (let_go state head) head (let_go_plain state head all)
+
+met_if_plain : (state : ModelState) (head : Option Request) → All IsPlain state → All IsPlain (met_if state head)
+met_if_plain state None all = all
+met_if_plain state (Some head) all = met_plain state head all
 
 marked_plain : (mode : Mode) (state : ModelState) (sender h : ℕ) → All IsPlain state → All IsPlain (marked_from mode state sender h)
 marked_plain Tlr state sender h all =
-    all_with IsPlain state h _ (still_plain (hart_of state h) _ refl refl (all h).unmarked (all h)) all
+    all_with IsPlain state h _ (still_plain (hart_of state h) _ refl refl refl (all h).unmarked (all h)) all
 marked_plain Sle state sender h all = all
 marked_plain Plain state sender h all = all
 
@@ -101,16 +117,16 @@ marked_by_plain state (Some last) h all = marked_plain state.config.mode state l
 unraised_plain : (state : ModelState) (h : ℕ) → All IsPlain state → All IsPlain (unraised state h)
 unraised_plain state h all =
     all_with IsPlain state h (record (hart_of state h) { raised = None })
-    (still_plain (hart_of state h) (record (hart_of state h) { raised = None }) refl refl (all h).unmarked (all h)) all
+    (still_plain (hart_of state h) (record (hart_of state h) { raised = None }) refl refl refl (all h).unmarked (all h)) all
 
 placed_plain : (state : ModelState) (request : Request) (place : Place) → All IsPlain state → All IsPlain (placed state request place)
 unfolding placed
 placed_plain state request InFront all =
-    faced_plain (before_face state request InFront) request
+    met_plain (before_face state request InFront) request
     (marking_plain (placed_in_front state request) request.hart (head_of state request.line) (unraised_plain state request.hart all))
 placed_plain state request Behind all =
     marked_by_plain (placed_last state request) (tail_of state.order request.line) request.hart (unraised_plain state request.hart all)
-placed_plain state request Alone all = faced_plain (placed_last state request) request (unraised_plain state request.hart all)
+placed_plain state request Alone all = met_plain (placed_last state request) request (unraised_plain state request.hart all)
 
 raised_plain : (state : ModelState) (raised : Option Request) → All IsPlain state → All IsPlain (order_raised state raised).state
 raised_plain state None all = all
@@ -135,16 +151,16 @@ others_unmarked false Read cache line bare = given_unmarked Read cache line bare
 
 claim_plain : (section : Option Section) (request : Request) (hart : Hart) → section ≡ None → IsPlain hart →
     IsPlain (with_claim (is_some section) request hart)
-claim_plain None request hart none plain = still_plain hart _ refl refl plain.unmarked plain
+claim_plain None request hart none plain = still_plain hart _ refl refl refl plain.unmarked plain
 claim_plain (Some section) request hart none plain = absurd (cc)
 
 serving_plain : (state : ModelState) (request : Request) (hart : Hart) (own : Bool) → IsPlain hart →
     IsPlain (if own then served_hart state request hart else bystander state request hart)
 serving_plain state request hart true plain =
     claim_plain hart.section request _ plain.section
-    (still_plain hart _ refl refl (unmarked-touched _ request.line (own_unmarked state.config.ways _ request.need hart.cache request.line plain.unmarked)) plain)
+    (still_plain hart _ refl refl refl (unmarked-touched _ request.line (own_unmarked state.config.ways _ request.need hart.cache request.line plain.unmarked)) plain)
 serving_plain state request hart false plain =
-    still_plain hart _ refl refl (others_unmarked _ request.need hart.cache request.line plain.unmarked) plain
+    still_plain hart _ refl refl refl (others_unmarked _ request.need hart.cache request.line plain.unmarked) plain
 
 served_plain : (state : ModelState) (request : Request) → All IsPlain state → All IsPlain (served state request)
 unfolding served
@@ -156,7 +172,7 @@ past_plain : (state : ModelState) (request : Request) (obstacle : Obstacle) → 
     All IsPlain (serve_past state request obstacle).state
 past_plain state request (Blocks why by) all = all
 past_plain state request Free all =
-    faced_if_plain (served state request) (head_of (served state request) request.line) (served_plain state request all)
+    met_if_plain (served state request) (head_of (served state request) request.line) (served_plain state request all)
 
 ordered_plain : (state : ModelState) (request : Option Request) → All IsPlain state → All IsPlain (serve_ordered state request).state
 ordered_plain state None all = all
@@ -181,7 +197,7 @@ watched_none : (state : ModelState) (h : ℕ) (predictor : Predictor) (watch : O
 watched_none state h predictor None none = refl
 watched_none state h predictor (Some watch) none = absurd (cc)
 
-candidate_plain : (pc : ℕ) (had_watch : Bool) (candidate : Option Swap) (hart : Hart) → candidate ≡ None → IsPlain hart →
+candidate_plain : (pc : Option ℕ) (had_watch : Bool) (candidate : Option Swap) (hart : Hart) → candidate ≡ None → IsPlain hart →
     IsPlain (after_candidate pc had_watch candidate hart)
 candidate_plain pc had_watch None hart none plain = plain
 candidate_plain pc had_watch (Some swap) hart none plain = absurd (cc)
@@ -207,21 +223,31 @@ no_section state h section live plain = absurd (none_some (sym plain.section ∙
     none_some : {A : Type 0} {x : A} → None ≡ Some x → ⊥
     none_some same = absurd (cc)
 
+not_armed : {X : Type 0} (state : ModelState) (h : ℕ) (armed : Armed) → IsArmed state h armed → IsPlain (hart_of state h) → X
+not_armed state h armed is plain = absurd (none_some (sym plain.armed ∙ is.armed_is))
+  where
+    none_some : {A : Type 0} {x : A} → None ≡ Some x → ⊥
+    none_some same = absurd (cc)
+
 deed_plain : (state : ModelState) (h : ℕ) (deed : Deed) → state.config.mode ≡ Plain → DoesWhere state h deed →
     IsPlain (hart_of state h) → IsPlain (hart_after state h deed (hart_of state h))
 deed_plain state h Rests mode where_it plain = plain
 deed_plain state h Waits mode where_it plain = plain
-deed_plain state h (Misses line need) mode where_it plain = still_plain (hart_of state h) _ refl refl plain.unmarked plain
+deed_plain state h (Misses line need) mode where_it plain = still_plain (hart_of state h) _ refl refl refl plain.unmarked plain
 deed_plain state h (Runs touch) mode where_it plain =
     let hart = hart_of state h in
-    candidate_plain _ _ (candidate_of state h) _ (no_candidate state.config.mode (next_swap state.committed h) mode)
-    (still_plain hart _ refl (ap (λ predictor. predictor.watch) (watched_none state h hart.predictor hart.predictor.watch plain.watch))
+    candidate_plain _ _ (candidate_of state h) _ (no_candidate state.config.mode (next_exchange state.committed h) mode)
+    (still_plain hart _ refl refl (ap (λ predictor. predictor.watch) (watched_none state h hart.predictor hart.predictor.watch plain.watch))
     (touch_unmarked hart.cache touch plain.unmarked) plain)
 deed_plain state h (Begins swap) mode may plain = absurd (not_elided state.config.mode (hart_of state h) _ mode may.elidable.trusted)
 deed_plain state h (Buffers section touch) mode may plain = no_section state h section may.goes.goes_on.is_short.inside plain
 deed_plain state h (Commits section) mode may plain = no_section state h section may.goes_on.is_short.inside plain
 deed_plain state h (RollsBack section cause) mode must plain =
     no_section state h section (is_rolled state h section cause must) plain
+deed_plain state h (Arms word) mode may plain = absurd (not_elided state.config.mode (hart_of state h) _ mode may.reserving.trusted)
+deed_plain state h (Elides armed swap) mode may plain = not_armed state h armed may.is_armed plain
+deed_plain state h (Continues armed) mode may plain = not_armed state h armed may.is_armed plain
+deed_plain state h (LetsGo armed) mode must plain = not_armed state h armed must.is_armed plain
 
 step_plain : (state : ModelState) (h : ℕ) → state.config.mode ≡ Plain → All IsPlain state → All IsPlain (step_turn state h).state
 step_plain state h mode all =

@@ -11,7 +11,8 @@ use Rattle.el_base.specs.declared.config.Mode.{Mode}
 use Rattle.el_base.specs.declared.config.Mode.TheVariants.{Plain, Sle, Tlr}
 use Rattle.el_model.specs.Conflicts.{conflicts_with, meets_bit, stamp_in}
 use Rattle.el_model.specs.Deliver.{after_marker, after_probe, deliver_next, deliver_turn, delivered, forwarded, forwards_on, losers_by, loses_to_origin, nobody, one_lost, probe_losers, taken, told_of, told_on}
-use Rattle.el_model.specs.Face.{face_losers, face_losers_if, faced, faced_if}
+use Rattle.el_model.specs.Armed.{freed_hart, is_freed, let_go, let_go_hart}
+use Rattle.el_model.specs.Face.{met, met_if, met_losers, met_losers_if}
 use Rattle.el_base.specs.Winners.{winner_over}
 use Rattle.el_model.specs.Losses.{AreNumbered, HartsAreNumbered, restored, standing_of}
 use Rattle.el_model.specs.Next.{kind_turn, next}
@@ -22,11 +23,12 @@ use Rattle.el_model.specs.Order.{Alone, Behind, InFront, Place, before_face, los
 use Rattle.el_model.specs.Serve.{Blocks, Free, Obstacle, bystander, obstacle_to, serve_losers, serve_ordered, serve_past, serve_turn, served, served_hart, serving, with_claim}
 use Rattle.el_model.specs.State.{Hart, ModelState, hart_of, head_of, ordered_of, post_all, raised_of, with_hart}
 use Rattle.el_model.proofs.Harts.{each_hart_kept, hart_of-with_hart_other, hart_of-with_hart_same, with_hart_kept}
-use Rattle.el_model.proofs.Keeps.{Keeps, keeps_marking, keeps_served, keeps_twice, keeps_with_hart}
+use Rattle.el_model.proofs.Keeps.{Keeps, frame_let_go, frame_of, frame_twice, keeps_marking, keeps_served, keeps_twice, keeps_with_hart}
 use Rattle.el_model.proofs.Losing.{beaten_stands, face_restores, no_section_meets, post_all_stands}
 use Rattle.el_model.proofs.Tests.{by_test}
 use Rattle.el_model.proofs.Turns.{placed_in_front_keeps, placed_last_keeps}
 use Rattle.mail.specs.Mailbox.{Marker, Message, Probe, posted}
+use Rattle.rv_flat.specs.FlatState.{view_of}
 
 -- two states have a hart in the same standing
 abbrev Same : ModelState → ModelState → ℕ → Type 0
@@ -46,13 +48,24 @@ nobody_lost g = by_below (nat_lt g 8) refl
 unbeaten : (old new : ModelState) (g : ℕ) → Same old new g → Restores old new (beaten_by (losers_of (λ h. None)) g) g
 unbeaten old new g same = same ∙ sym (ap (λ w. restored old.config.mode w (standing_of (hart_of old g))) (nobody_lost g))
 
--- a face on a state in which each hart stands as before
+-- letting go leaves the standing of each hart
+freed_same : (state : ModelState) (head : Request) (h : ℕ) (hart : Hart) → standing_of (freed_hart state head h hart) ≡ standing_of hart
+freed_same state head h hart =
+    by_test (λ after. standing_of after ≡ standing_of hart) (is_freed head h hart) (let_go_hart (view_of state.committed h).pc hart) hart
+    (λ freed. refl) (λ stays. refl)
+
+let_go_same : (state : ModelState) (head : Request) (g : ℕ) → Same state (let_go state head) g
+unfolding let_go
+let_go_same state head g = each_hart_kept standing_of state (freed_hart state head) (freed_same state head) g
+
+-- a head is met in a state in which each hart stands as before
 after_face : (old mid : ModelState) (head : Request) (g : ℕ) → Keeps old mid → Same old mid g → length old.harts ≤ 8 →
-    head.hart < 8 → Restores old (faced mid head) (beaten_by (face_losers mid head) g) g
+    head.hart < 8 → Restores old (met mid head) (beaten_by (met_losers mid head) g) g
 after_face old mid head g keeps same few winner =
-    face_restores mid head g (let e = keeps.count in omega (arith, e)) winner
-    ∙ ap (λ mode. restored mode (beaten_by (face_losers mid head) g) (standing_of (hart_of mid g))) (ap (λ c. c.mode) keeps.config)
-    ∙ ap (restored old.config.mode (beaten_by (face_losers mid head) g)) same
+    let frame = frame_twice (frame_of keeps) (frame_let_go mid head) in
+    face_restores (let_go mid head) head g (let e = frame.count in omega (arith, e)) winner
+    ∙ ap (λ mode. restored mode (beaten_by (met_losers mid head) g) (standing_of (hart_of (let_go mid head) g))) (ap (λ c. c.mode) frame.config)
+    ∙ ap (restored old.config.mode (beaten_by (met_losers mid head) g)) (let_go_same mid head g ∙ same)
 
 marked_from_same : (mode : Mode) (state : ModelState) (sender h g : ℕ) → Same state (marked_from mode state sender h) g
 marked_from_same Tlr state sender h g =
@@ -103,14 +116,14 @@ served_same state request g =
 
 serve_face : (state : ModelState) (request : Request) (head : Option Request) (g : ℕ) → length state.harts ≤ 8 →
     ((next : Request) → head ≡ Some next → next.hart < 8) →
-    Restores state (faced_if (served state request) head) (beaten_by (face_losers_if (served state request) head) g) g
+    Restores state (met_if (served state request) head) (beaten_by (met_losers_if (served state request) head) g) g
 serve_face state request None g few winner = unbeaten state (served state request) g (served_same state request g)
 serve_face state request (Some next) g few winner =
     after_face state (served state request) next g (keeps_served state request) (served_same state request g) few (winner next refl)
 
 pub serve_restores : (state : ModelState) (request : Request) (g : ℕ) → length state.harts ≤ 8 →
     ((next : Request) → head_of (served state request) request.line ≡ Some next → next.hart < 8) →
-    Restores state (faced_if (served state request) (head_of (served state request) request.line)) (beaten_by (serve_losers state request) g) g
+    Restores state (met_if (served state request) (head_of (served state request) request.line)) (beaten_by (serve_losers state request) g) g
 serve_restores state request g few winner = serve_face state request (head_of (served state request) request.line) g few winner
 
 -- a message that only posts others

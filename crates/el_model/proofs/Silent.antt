@@ -6,10 +6,11 @@ use Rattle.el_base.specs.declared.config.Mode.TheVariants.{Plain, Sle, Tlr}
 use Rattle.el_base.specs.declared.events.Event.{Event}
 use Rattle.el_base.specs.declared.events.Kind.{Kind}
 use Rattle.el_base.specs.declared.events.Kind.TheVariants as kinds
+use Rattle.el_model.specs.Armed.{freed_hart, is_freed, let_go, let_go_hart}
 use Rattle.el_model.specs.Attempts.{opened}
-use Rattle.el_model.specs.Deed.{Begins, Buffers, Commits, Deed, Misses, Rests, RollsBack, Runs, Waits, hart_after}
+use Rattle.el_model.specs.Deed.{Arms, Begins, Buffers, Commits, Continues, Deed, Elides, LetsGo, Misses, Rests, RollsBack, Runs, Waits, hart_after}
 use Rattle.el_model.specs.Deliver.{deliver_turn}
-use Rattle.el_model.specs.Face.{Fate, LosesTo, Stays, Unmet, after_fate, deferring, faced, faced_hart, faced_if, fate_of, markers_for, winning_stamp}
+use Rattle.el_model.specs.Face.{Fate, LosesTo, Stays, Unmet, after_fate, deferring, faced, faced_hart, fate_of, markers_for, met, met_if, winning_stamp}
 use Rattle.el_model.specs.Next.{kind_turn, next, step_turn}
 use Rattle.el_model.specs.Order.{Alone, Behind, InFront, Place, before_face, marked_by, marked_from, marking, order_raised, order_turn, place_for, placed, placed_in_front, placed_last, unraised}
 use Rattle.el_model.specs.Plain.{after_candidate, candidate_of}
@@ -20,8 +21,9 @@ use Rattle.el_model.specs.State.{Hart, ModelState, hart_of, head_of, new_hart, o
 use Rattle.el_model.specs.Upcoming.{Swap}
 use Rattle.el_model.proofs.AllHarts.{All, all_each, all_with}
 use Rattle.el_model.proofs.Deeds.{step_deed}
-use Rattle.el_model.proofs.Keeps.{keeps_marking, keeps_served}
+use Rattle.el_model.proofs.Keeps.{frame_let_go, keeps_marking, keeps_served}
 use Rattle.el_model.proofs.Tests.{by_test}
+use Rattle.rv_flat.specs.FlatState.{view_of}
 use Rattle.stamp.specs.Stamps.{Stamp}
 
 pub new_is_silent : (sets : ℕ) → IsSilent (new_hart sets)
@@ -79,10 +81,25 @@ faced_silent state head stampless all =
     (λ other. fate_silent state head hart (fate_of state head h hart) silent))
     all
 
-faced_if_silent : (state : ModelState) (head : Option Request) → has_stamps state.config.mode ≡ false → All IsSilent state →
-    All IsSilent (faced_if state head)
-faced_if_silent state None stampless all = all
-faced_if_silent state (Some head) stampless all = faced_silent state head stampless all
+-- letting go opens no attempt and sends nothing
+freed_silent : (state : ModelState) (head : Request) (h : ℕ) (hart : Hart) → IsSilent hart → IsSilent (freed_hart state head h hart)
+freed_silent state head h hart silent =
+    by_test IsSilent (is_freed head h hart) (let_go_hart (view_of state.committed h).pc hart) hart
+    (λ freed. still_silent hart (let_go_hart (view_of state.committed h).pc hart) refl refl refl refl silent) (λ stays. silent)
+
+let_go_silent : (state : ModelState) (head : Request) → All IsSilent state → All IsSilent (let_go state head)
+unfolding let_go
+let_go_silent state head all = all_each IsSilent state (freed_hart state head) (new_is_silent 0) (freed_silent state head) all
+
+met_silent : (state : ModelState) (head : Request) → has_stamps state.config.mode ≡ false → All IsSilent state → All IsSilent (met state head)
+met_silent state head stampless all =
+    faced_silent (let_go state head) head (ap (λ config. has_stamps config.mode) (frame_let_go state head).config ∙ stampless)
+    (let_go_silent state head all)
+
+met_if_silent : (state : ModelState) (head : Option Request) → has_stamps state.config.mode ≡ false → All IsSilent state →
+    All IsSilent (met_if state head)
+met_if_silent state None stampless all = all
+met_if_silent state (Some head) stampless all = met_silent state head stampless all
 
 marked_silent : (mode : Mode) (state : ModelState) (sender h : ℕ) → has_stamps mode ≡ false → All IsSilent state →
     All IsSilent (marked_from mode state sender h)
@@ -113,11 +130,11 @@ placed_silent state request InFront stampless all =
     let front = placed_in_front state request in
     let kept = keeps_marking front request.hart (head_of state request.line) in
     let mode = ap (λ config. has_stamps config.mode) kept.config in
-    faced_silent (before_face state request InFront) request (mode ∙ stampless)
+    met_silent (before_face state request InFront) request (mode ∙ stampless)
     (marking_silent front request.hart (head_of state request.line) stampless (unraised_silent state request.hart all))
 placed_silent state request Behind stampless all =
     marked_by_silent (placed_last state request) (tail_of state.order request.line) request.hart stampless (unraised_silent state request.hart all)
-placed_silent state request Alone stampless all = faced_silent (placed_last state request) request stampless (unraised_silent state request.hart all)
+placed_silent state request Alone stampless all = met_silent (placed_last state request) request stampless (unraised_silent state request.hart all)
 
 claim_silent : (live : Bool) (request : Request) (hart : Hart) → IsSilent hart → IsSilent (with_claim live request hart)
 claim_silent true request hart silent = still_silent hart (with_claim true request hart) refl refl refl refl silent
@@ -157,7 +174,7 @@ past_silent : (state : ModelState) (request : Request) (obstacle : Obstacle) →
 past_silent state request (Blocks why by) stampless all = all
 past_silent state request Free stampless all =
     let after = served state request in
-    faced_if_silent after (head_of after request.line)
+    met_if_silent after (head_of after request.line)
     (ap (λ config. has_stamps config.mode) (keeps_served state request).config ∙ stampless)
     (served_silent state request all)
 
@@ -178,7 +195,7 @@ opened_none Tlr h clock attempt stampless none = absurd (cc)
 opened_none Sle h clock attempt stampless none = none
 opened_none Plain h clock attempt stampless none = none
 
-candidate_silent : (pc : ℕ) (had_watch : Bool) (candidate : Option Swap) (hart : Hart) → IsSilent hart →
+candidate_silent : (pc : Option ℕ) (had_watch : Bool) (candidate : Option Swap) (hart : Hart) → IsSilent hart →
     IsSilent (after_candidate pc had_watch candidate hart)
 candidate_silent pc had_watch None hart silent = silent
 candidate_silent pc had_watch (Some swap) hart silent = still_silent hart _ refl refl refl refl silent
@@ -200,6 +217,15 @@ deed_silent state h (Buffers section touch) hart stampless silent = still_silent
 deed_silent state h (Commits section) hart stampless silent = record { mail = silent.mail; told = silent.told; upstream = silent.upstream; attempt = refl }
 deed_silent state h (RollsBack section cause) hart stampless silent =
     record { mail = silent.mail; told = silent.told; upstream = silent.upstream; attempt = refl }
+deed_silent state h (Arms word) hart stampless silent = still_silent hart _ refl refl refl refl silent
+deed_silent state h (Elides armed swap) hart stampless silent = record {
+  mail = silent.mail;
+  told = silent.told;
+  upstream = silent.upstream;
+  attempt = opened_none state.config.mode h hart.clock hart.attempt stampless silent.attempt;
+}
+deed_silent state h (Continues armed) hart stampless silent = still_silent hart _ refl refl refl refl silent
+deed_silent state h (LetsGo armed) hart stampless silent = still_silent hart _ refl refl refl refl silent
 
 step_silent : (state : ModelState) (h : ℕ) → has_stamps state.config.mode ≡ false → All IsSilent state →
     All IsSilent (step_turn state h).state

@@ -10,6 +10,9 @@ pub mod ShortestLimit
 pub mod CallInside
 pub mod BufferedStore
 pub mod LostReservation
+pub mod ElidedPair
+pub mod LetGoByAWrite
+pub mod ArmedAtTheShortest
 pub mod ChainOfTwo
 pub mod ChainOfTwoElision
 pub mod FourLosses

@@ -53,7 +53,7 @@ unmet_if : (state : ModelState) (head : Request) (h : ℕ) (hart : Hart) (meets 
 unmet_if state head h hart true is = absurd (cc)
 unmet_if state head h hart false is = refl
 
-own_is_unmet : (state : ModelState) (head : Request) (h : ℕ) (hart : Hart) → (h == head.hart) ≡ true → fate_of state head h hart ≡ Unmet
+pub own_is_unmet : (state : ModelState) (head : Request) (h : ℕ) (hart : Hart) → (h == head.hart) ≡ true → fate_of state head h hart ≡ Unmet
 own_is_unmet state head h hart own =
     let same : (head.hart == h) ≡ true = grind arith in
     unmet_if state head h hart _ (rw same refl)
@@ -62,7 +62,7 @@ pub no_section_meets : (other meets : Bool) → ((other && false) && meets) ≡ 
 no_section_meets true meets = refl
 no_section_meets false meets = refl
 
-absent_is_unmet : (state : ModelState) (head : Request) (h : ℕ) → fate_of state head h (new_hart 0) ≡ Unmet
+pub absent_is_unmet : (state : ModelState) (head : Request) (h : ℕ) → fate_of state head h (new_hart 0) ≡ Unmet
 absent_is_unmet state head h =
     unmet_if state head h (new_hart 0) _ (no_section_meets (not (head.hart == h)) (meets_bit (new_hart 0) head.line head.need))
 

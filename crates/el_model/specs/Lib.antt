@@ -13,5 +13,6 @@ pub mod Next
 pub mod Causes
 pub mod Losses
 pub mod Deed
+pub mod BusEvent
 pub mod Quiet
 pub mod Laws

@@ -13,6 +13,7 @@ use Rattle.el_base.specs.Losers.{losers_of}
 use Rattle.el_base.specs.Winners.{winner_over}
 use Rattle.el_base.specs.declared.config.Mode.{Mode}
 use Rattle.el_base.specs.declared.config.Mode.TheVariants.{Plain, Sle, Tlr}
+use Rattle.el_base.specs.declared.events.Event.{Event}
 use Rattle.el_base.specs.declared.events.Kind.{Kind}
 use Rattle.el_base.specs.declared.events.Kind.TheVariants as kinds
 use Rattle.el_base.specs.declared.outcomes.Outcome.TheVariants.{Delivered, Ordered, Served}
@@ -23,14 +24,14 @@ use Rattle.el_model.specs.Conflicts.{conflicts_with, stamp_in}
 use Rattle.el_model.specs.Deliver.{after_probe, deliver_next, deliver_turn, delivered, forwarded, forwards_on, losers_by, loses_to_origin, nobody, one_lost, post_to, probe_losers, taken, told_of, told_on}
 use Rattle.el_model.specs.Face.{Fate, LosesTo, Stays, Unmet, after_fate, deferring, deferring_fate, face_losers, face_losers_if, faced, faced_hart, faced_if, fate_at, fate_of, markers_for, stays, winner_in, winning_stamp}
 use Rattle.el_model.specs.Laws.{BusEventsAreToldOnce}
-use Rattle.el_model.specs.Next.{kind_turn, next}
+use Rattle.el_model.specs.Next.{kind_turn, next, step_turn}
 use Rattle.el_model.specs.Order.{Alone, Behind, InFront, Place, before_face, losers_at, marked_by, marked_from, marking, order_raised, order_turn, place_for, placed, placed_in_front, placed_last, unraised}
 use Rattle.el_model.specs.RollBack.{beaten}
 use Rattle.el_model.specs.Serve.{Blocks, Free, Obstacle, obstacle_to, serve_losers, serve_ordered, serve_past, serve_turn, served, served_turn, serving}
 use Rattle.el_model.specs.State.{Hart, ModelState, Turn, count_up, each_hart, hart_of, head_of, idle, new_hart, ordered_of, ordered_on, post_all, raised_of, with_hart}
 use Rattle.el_model.proofs.EachHart.{Each, each_after, each_but_below, each_with}
 use Rattle.el_model.proofs.Harts.{hart_of-each_hart, hart_of-each_hart_past, hart_of-past, hart_of-with_hart_other, hart_of-with_hart_same, with_hart_kept}
-use Rattle.el_model.proofs.Keeps.{Keeps, keeps_each_hart, keeps_faced_if, keeps_marking, keeps_served, keeps_twice, keeps_with_hart}
+use Rattle.el_model.proofs.Keeps.{Keeps, keeps_all, keeps_each_hart, keeps_faced_if, keeps_marked_by, keeps_marking, keeps_served, keeps_twice, keeps_with_hart}
 use Rattle.el_model.proofs.Losing.{absent_is_unmet, own_is_unmet}
 use Rattle.el_model.proofs.Orders.{faced_order, message_order, placed_order, served_order}
 use Rattle.el_model.proofs.Tests.{by_test}
@@ -103,6 +104,17 @@ module _ (state : ModelState) (by : ℕ) (start : Start) where
       by_named true is rest = (are from (omega (arith, within)) is, rest)
       by_named false is rest = rest
 
+-- the state in which a head is faced
+pub keeps_as_faced : (state : ModelState) (by : ℕ) (start : Start) → Keeps state (as_faced state by start)
+keeps_as_faced state by Nothing = keeps_all state
+keeps_as_faced state by (Places request InFront) =
+    keeps_twice (placed_in_front_keeps state request) (keeps_marking (placed_in_front state request) request.hart (head_of state request.line))
+keeps_as_faced state by (Places request Behind) =
+    keeps_twice (placed_last_keeps state request) (keeps_marked_by (placed_last state request) (tail_of state.order request.line) request.hart)
+keeps_as_faced state by (Places request Alone) = placed_last_keeps state request
+keeps_as_faced state by (Serves request) = keeps_served state request
+keeps_as_faced state by (Takes message others) = keeps_with_hart state by (record (hart_of state by) { mail = others })
+
 -- a hart whose section stays is not the head's
 stays_apart : (state : ModelState) (head : Request) (h : ℕ) → is_some (stays (fate_at state head h)) ≡ true → h ≢ head.hart
 stays_apart state head h is same =
@@ -117,12 +129,12 @@ stays_there (LosesTo winner) is = absurd (cc)
 
 -- a head is faced
 module _ (state : ModelState) (by : ℕ) (start : Start) (head : Request) (is : faced_head state start ≡ Some head)
-    (keeps : Keeps state (as_faced state by start)) (each : Each (Unbeaten state by start) (as_faced state by start)) where
+    (each : Each (Unbeaten state by start) (as_faced state by start)) where
   abbrev mid : ModelState
   mid = as_faced state by start
 
   same_mode : mid.config.mode ≡ state.config.mode
-  same_mode = ap (λ config. config.mode) keeps.config
+  same_mode = ap (λ config. config.mode) (keeps_as_faced state by start).config
 
   deferring_becomes : (mode : Mode) → mid.config.mode ≡ mode → (h : ℕ) → h ≢ head.hart → fate_at mid head h ≡ Stays →
       Becomes state by start h None (deferring mode head.stamp (hart_of mid h))
@@ -146,7 +158,7 @@ module _ (state : ModelState) (by : ℕ) (start : Start) (head : Request) (is : 
       (λ h below stay.
       IsDeferred start head h
       (record { mode = sym same_mode ∙ in_mode; head_is = is; apart = stays_apart mid head h stay; fate = stays_there (fate_at mid head h) stay })
-      (subst (λ n. h < n) keeps.count below))
+      (subst (λ n. h < n) (keeps_as_faced state by start).count below))
   markers_posted Sle in_mode = tt
   markers_posted Plain in_mode = tt
 
@@ -262,13 +274,12 @@ module _ (state : ModelState) (by : ℕ) (request : Request) where
   place_event InFront may =
       placed_event InFront may (λ h. winner_in (fate_at (before_face state request InFront) request h))
       (faced_becomes state by (Places request InFront) request refl
-      (keeps_twice (placed_in_front_keeps state request) (keeps_marking (placed_in_front state request) request.hart (head_of state request.line)))
       (in_front_started (head_of state request.line) refl))
       (λ h. refl)
   place_event Behind may = placed_event Behind may (λ h. None) (behind_started (tail_of state.order request.line) refl) (λ h. refl)
   place_event Alone may =
       placed_event Alone may (λ h. winner_in (fate_at (placed_last state request) request h))
-      (faced_becomes state by (Places request Alone) request refl (placed_last_keeps state request) (unraised_started Alone)) (λ h. refl)
+      (faced_becomes state by (Places request Alone) request refl (unraised_started Alone)) (λ h. refl)
 
 raised_event : (state : ModelState) (by : ℕ) (raised : Option Request) → raised_of state by ≡ raised → IsBusEvent state by (order_raised state raised)
 raised_event state by None is = nothing_done state by (idle state) refl (λ h. refl)
@@ -303,7 +314,7 @@ serve_event state by request may (Some head) is =
       start = Serves request;
       where_it = may;
       lost = λ h. winner_in (fate_at after head h);
-      becomes = faced_becomes state by (Serves request) head is (keeps_served state request) (served_started state by request);
+      becomes = faced_becomes state by (Serves request) head is (served_started state by request);
       names = λ h. refl;
       faces = λ found is_found. ap (faced after) (some_same (sym is ∙ is_found));
       order = faced_order after (Some head) ∙ served_order state request;
@@ -581,3 +592,16 @@ bus_event state by kinds.Deliver bus = mail_event state by (hart_of state by).ma
 pub bus_events_are_told_once : BusEventsAreToldOnce
 unfolding next
 bus_events_are_told_once state event bus = bus_event state event.hart.number event.kind bus
+
+-- what holds of a step and of what an event of the bus is holds of each event
+by_kind : (P : Turn → Type 0) (state : ModelState) (h : ℕ) (kind : Kind) → P (step_turn state h) →
+    ((turn : Turn) → IsBusEvent state h turn → P turn) → P (kind_turn state h kind)
+by_kind P state h kinds.Step step bus = step
+by_kind P state h kinds.Order step bus = bus (kind_turn state h kinds.Order) (bus_event state h kinds.Order (λ same. absurd (cc)))
+by_kind P state h kinds.Serve step bus = bus (kind_turn state h kinds.Serve) (bus_event state h kinds.Serve (λ same. absurd (cc)))
+by_kind P state h kinds.Deliver step bus = bus (kind_turn state h kinds.Deliver) (bus_event state h kinds.Deliver (λ same. absurd (cc)))
+
+pub by_event : (P : Turn → Type 0) (state : ModelState) (event : Event) → P (step_turn state event.hart.number) →
+    ((turn : Turn) → IsBusEvent state event.hart.number turn → P turn) → P (next state event)
+unfolding next
+by_event P state event step bus = by_kind P state event.hart.number event.kind step bus

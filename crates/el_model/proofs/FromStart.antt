@@ -66,14 +66,12 @@ stampless_silent program config events mode =
 
 record InPlain (state : ModelState) : Type 0 where
   mode : state.config.mode ≡ Plain
-  silent : All IsSilent state
   plain : All IsPlain state
 
 next_in_plain : (state : ModelState) (event : Event) → InPlain state → InPlain (next state event).state
 next_in_plain state event now = record {
   mode = ap (λ config. config.mode) (next_config state event) ∙ now.mode;
-  silent = next_silent state event (ap has_stamps now.mode) now.silent;
-  plain = next_plain state event now.mode now.silent now.plain;
+  plain = next_plain state event now.mode now.plain;
 }
 
 first_plain : (program : Program) (config : Config) → All IsPlain (begin program config)
@@ -86,6 +84,5 @@ plain_plain program config events mode =
     (kept_after InPlain next_in_plain (begin program config) events
     (record {
       mode = ap (λ c. c.mode) (begin_config program config) ∙ mode;
-      silent = first_silent program config;
       plain = first_plain program config;
     })).plain

@@ -41,7 +41,7 @@ still : (state : ModelState) → Calm state (record { state = state; outcome = I
 still state = record { frame = frame_of (keeps_all state); effect = λ h. refl }
 
 -- what is committed as a head is met
-met_commits : (state : ModelState) (head : Request) → (met state head).committed ≡ run state.committed (order_of (freed_by state head))
+pub met_commits : (state : ModelState) (head : Request) → (met state head).committed ≡ run state.committed (order_of (freed_by state head))
 unfolding let_go
 met_commits state head = (keeps_faced (let_go state head) head).committed
 

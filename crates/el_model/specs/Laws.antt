@@ -8,6 +8,7 @@ use Rattle.el_base.specs.declared.events.Kind.TheVariants as kinds
 use Rattle.el_base.specs.declared.outcomes.Outcome.{Outcome}
 use Rattle.el_base.specs.declared.outcomes.Outcome.TheVariants as outcomes
 use Rattle.elf_image.specs.Program.{Program}
+use Rattle.el_model.specs.BusEvent.{IsBusEvent}
 use Rattle.el_model.specs.Causes.{ComesWhere}
 use Rattle.el_model.specs.Deed.{IsDeed}
 use Rattle.el_base.specs.Winners.{winner_over}
@@ -49,6 +50,11 @@ LosersAreRestored =
 abbrev pub StepsAreDeeds : Type 0
 StepsAreDeeds =
     (state : ModelState) (event : Event) → event.kind ≡ kinds.Step → IsDeed state event.hart.number (next state event)
+
+-- an event of the bus is a start and what becomes of each hart from there, one change after another, and changes nothing else
+abbrev pub BusEventsAreToldOnce : Type 0
+BusEventsAreToldOnce =
+    (state : ModelState) (event : Event) → event.kind ≢ kinds.Step → IsBusEvent state event.hart.number (next state event)
 
 -- in a mode without stamps, from the start on, no hart has a message, an origin that it was told of, a hart before it, or an attempt
 abbrev pub StamplessStaysSilent : Type 0

@@ -14,5 +14,6 @@ pub mod Next
 pub mod Causes
 pub mod Losses
 pub mod Deed
+pub mod BusEvent
 pub mod Quiet
 pub mod Laws

@@ -1,4 +1,5 @@
 ghost use Rattle.el_model.specs.Laws.{
+  BusEventsAreToldOnce,
   CommitsInSerialOrder,
   IdleChangesNothing,
   LosersAreRestored,
@@ -39,6 +40,14 @@ pub fn losers_are_restored()
 #[tactic(auto, using(crate::proofs::FromStart::steps_are_deeds))]
 pub fn steps_are_deeds()
     ensures { StepsAreDeeds }
+{}
+
+/// An event of the bus is told once: how it starts, and what becomes of each hart from there, one change after
+/// another. A message is told with its sender and why it is sent, a loss with the request that wins; the state is
+/// the one in which the head was faced, and what is committed stays.
+#[tactic(auto, using(crate::proofs::BusEvents::bus_events_are_told_once))]
+pub fn bus_events_are_told_once()
+    ensures { BusEventsAreToldOnce }
 {}
 
 /// In the modes without stamps nothing of messages and attempts ever arises.

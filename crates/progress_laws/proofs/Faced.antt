@@ -24,7 +24,7 @@ use Rattle.el_model.proofs.Tests.{by_test}
 use Rattle.progress_laws.proofs.Fewer.{bystander_fewer, fewer_moves, fewer_unmet, served_fewer}
 use Rattle.removal_laws.proofs.Bits.{Fewer, fewer_same}
 use Rattle.policy.specs.Winners.{wins_of}
-use Rattle.section_laws.proofs.EachHart.{each_with}
+use Rattle.el_model.proofs.EachHart.{each_with}
 use Rattle.section_laws.proofs.Moves.{faced_if_keeps, placed_keeps, served_keeps}
 use Rattle.section_laws.proofs.Waiting.{faced_order, order_at, placed_order}
 use Rattle.stamp.specs.Stamps.{Stamp}

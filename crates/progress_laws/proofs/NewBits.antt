@@ -25,7 +25,7 @@ use Rattle.progress_laws.proofs.Fewer.{fewer_unmet}
 use Rattle.removal_laws.proofs.Bits.{Fewer, NoMore, fewer_same, no_more_marked, no_more_same, no_more_touched, no_more_twice}
 use Rattle.section_laws.specs.EachHart.{HasBitsOnlyInside}
 use Rattle.section_laws.proofs.FreeLines.{first_not, not_met, second_not}
-use Rattle.section_laws.proofs.EachHart.{each_but}
+use Rattle.el_model.proofs.EachHart.{each_but}
 use Rattle.progress_laws.proofs.Cases.{false_true, true_false}
 
 -- what nobody else asks of a line, its head does not ask

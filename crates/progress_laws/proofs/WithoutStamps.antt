@@ -23,7 +23,7 @@ use Rattle.progress_laws.specs.Laws.{NoSectionRetainsWithoutStamps}
 use Rattle.progress_laws.specs.Ready.{ready_event}
 use Rattle.rv_alu.specs.declared.view.HartStatus.TheVariants.{Running}
 use Rattle.rv_flat.specs.FlatState.{status_of}
-use Rattle.section_laws.proofs.EachHart.{Each}
+use Rattle.el_model.proofs.EachHart.{Each}
 use Rattle.section_laws.proofs.EachKept.{first_each, next_keeps}
 use Rattle.section_laws.proofs.Numbered.{Once, first_once, next_once}
 use Rattle.section_laws.proofs.OnlyInside as only_inside

@@ -18,7 +18,7 @@ use Rattle.el_model.specs.Upcoming.{Swap}
 use Rattle.el_model.proofs.AllHarts.{all_first}
 use Rattle.el_model.proofs.FromStart.{kept_after, next_config}
 use Rattle.removal_laws.specs.Laws.{AttemptsAreCurrent, StampsAreDistinct}
-use Rattle.section_laws.proofs.EachHart.{Each}
+use Rattle.el_model.proofs.EachHart.{Each}
 use Rattle.section_laws.proofs.EachKept.{BusKept, bus_keeps}
 use Rattle.section_laws.proofs.Moves.{step_keeps}
 use Rattle.stamp.specs.Stamps.{Stamp}

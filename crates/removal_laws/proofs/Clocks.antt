@@ -26,7 +26,7 @@ use Rattle.removal_laws.specs.Laws.{IsLater, LaterAttemptsAreLater, StampsAreKep
 use Rattle.removal_laws.proofs.Attempts.{AllOpen, Own, always_open, always_own, attempts_kept, candidate_keeps, next_open, next_own}
 use Rattle.removal_laws.proofs.Bits.{no_less}
 use Rattle.section_laws.specs.Sections.{is_committed, is_rolled_back}
-use Rattle.section_laws.proofs.EachHart.{Each, each_but, each_with}
+use Rattle.el_model.proofs.EachHart.{Each, each_but, each_with}
 use Rattle.section_laws.proofs.EachKept.{BusKept, bus_keeps}
 use Rattle.section_laws.proofs.Moves.{step_keeps}
 use Rattle.stamp.specs.Stamps.{Stamp, next_clock_of}

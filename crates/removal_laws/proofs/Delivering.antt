@@ -17,7 +17,7 @@ use Rattle.removal_laws.proofs.Facing.{has_number, passed, passes}
 use Rattle.removal_laws.proofs.Grounds.{Grounds, Standing}
 use Rattle.removal_laws.proofs.Kept.{Owed}
 use Rattle.removal_laws.proofs.Probing.{Took, all_known, all_probed, debts_stand, first_or_later, first_there, later_there, took_nothing}
-use Rattle.section_laws.proofs.EachHart.{Each, each_but, each_with}
+use Rattle.el_model.proofs.EachHart.{Each, each_but, each_with}
 
 -- a set with one hart more
 pub more_has : (harts : List ℕ) (new hart : ℕ) → has harts hart ≡ true → has (included harts new) hart ≡ true

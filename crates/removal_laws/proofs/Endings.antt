@@ -19,7 +19,7 @@ use Rattle.removal_laws.proofs.Bits.{clash}
 use Rattle.removal_laws.proofs.Clocks.{closes_it}
 use Rattle.removal_laws.proofs.Facing.{live_below}
 use Rattle.removal_laws.proofs.Promises.{least_stamp_never_loses}
-use Rattle.section_laws.proofs.EachHart.{each_with}
+use Rattle.el_model.proofs.EachHart.{each_with}
 use Rattle.section_laws.proofs.Numbered.{requests_are_numbered}
 
 -- where a deed ends a section it closes an attempt

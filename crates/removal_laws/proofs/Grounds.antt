@@ -5,7 +5,7 @@ use Rattle.el_model.specs.State.{ModelState}
 use Rattle.removal_laws.specs.Facts.{Everywhere, Facts, Messages, Retaining}
 use Rattle.removal_laws.proofs.Attempts.{AllOpen, Own, next_open, next_own}
 use Rattle.removal_laws.proofs.Requests.{AllBelow, AllStamped, next_below, next_stamped}
-use Rattle.section_laws.proofs.EachHart.{Each}
+use Rattle.el_model.proofs.EachHart.{Each}
 use Rattle.section_laws.proofs.EachKept.{next_keeps}
 use Rattle.section_laws.proofs.Numbered.{Once, next_once}
 use Rattle.section_laws.proofs.OnlyInside as inside

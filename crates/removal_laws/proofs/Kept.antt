@@ -9,7 +9,7 @@ use Rattle.bus_order.proofs.Queues.{line_of_first_of}
 use Rattle.removal_laws.specs.Facts.{AreLinked, IsChained, IsLinked, IsWaiting, Knows, MayBeKnown, MayPrecede, MayRetain, Messages, Retaining}
 use Rattle.removal_laws.proofs.Bits.{Fewer, fewer_bit, fewer_conflicts}
 use Rattle.removal_laws.proofs.Posting.{Posted}
-use Rattle.section_laws.proofs.EachHart.{Each}
+use Rattle.el_model.proofs.EachHart.{Each}
 use Rattle.stamp.specs.Stamps.{is_before}
 
 -- chains

@@ -28,7 +28,7 @@ use Rattle.removal_laws.proofs.Ordering.{Ordering, base, base_below, base_messag
 use Rattle.removal_laws.proofs.Posting.{Posted, is_marked, marked, unchanged}
 use Rattle.removal_laws.proofs.Queues.{chained_before, chained_more, head_is, no_queue, tail_is}
 use Rattle.removal_laws.proofs.Requests.{raised_own}
-use Rattle.section_laws.proofs.EachHart.{each_with}
+use Rattle.el_model.proofs.EachHart.{each_with}
 use Rattle.section_laws.proofs.FreeLines.{has_head}
 use Rattle.section_laws.proofs.Numbered.{raised_exists}
 use Rattle.section_laws.proofs.Waiting.{free_of_order}

@@ -13,7 +13,7 @@ use Rattle.removal_laws.proofs.Bits.{Fewer, fewer_same, fewer_twice, no_less}
 use Rattle.removal_laws.proofs.Grounds.{Standing}
 use Rattle.removal_laws.proofs.Kept.{Owed, OwedOf, messages_moved, retaining_trimmed}
 use Rattle.removal_laws.proofs.Posting.{still_there, there_or_new}
-use Rattle.section_laws.proofs.EachHart.{Each}
+use Rattle.el_model.proofs.EachHart.{Each}
 use Rattle.stamp.specs.Stamps.{is_before}
 
 -- the links, origins and entries of a hart, after a message was taken and others were posted; `Up` and `Told` tell of the

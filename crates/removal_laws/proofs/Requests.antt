@@ -17,7 +17,7 @@ use Rattle.el_model.specs.Upcoming.{Swap}
 use Rattle.el_model.proofs.Deeds.{step_deed}
 use Rattle.el_model.proofs.Harts.{hart_of-past}
 use Rattle.removal_laws.proofs.Bits.{some_none, some_same}
-use Rattle.section_laws.proofs.EachHart.{Each, each_but}
+use Rattle.el_model.proofs.EachHart.{Each, each_but}
 use Rattle.section_laws.proofs.Moves.{Moves, deliver_keeps, faced_if_keeps, placed_keeps, served_keeps, step_keeps}
 use Rattle.section_laws.proofs.Numbered.{KeptInOrder, next_count, order_keeps}
 use Rattle.section_laws.proofs.Waiting.{Sound, faced_order, free_of_order, is_rolled, mail_order, no_request, order_at, order_other, placed_order}

@@ -26,7 +26,7 @@ use Rattle.removal_laws.specs.Facts.{Everywhere}
 use Rattle.removal_laws.proofs.Bits.{Meets, NoBitMore, clash, in_the_way, meets, meets_no_more, no_more_marked, no_more_touched, no_more_twice, some_none, some_same, write_of_read_marked, no_less}
 use Rattle.removal_laws.proofs.Grounds.{Grounds, Standing}
 use Rattle.removal_laws.proofs.Kept.{Moved, head_line, may_kept, messages_moved}
-use Rattle.section_laws.proofs.EachHart.{Each, each_but}
+use Rattle.el_model.proofs.EachHart.{Each, each_but}
 use Rattle.section_laws.proofs.FreeLines.{second_not}
 use Rattle.section_laws.proofs.Waiting.{no_request}
 

@@ -25,7 +25,7 @@ use Rattle.removal_laws.proofs.Delivering.{Entry, NoEntry, mail_exists, marker_s
 use Rattle.removal_laws.proofs.Grounds.{Grounds, Standing}
 use Rattle.removal_laws.proofs.Kept.{OwedOf, head_line, retained_before}
 use Rattle.removal_laws.proofs.Probing.{Took, debts_stand, first_or_later, first_there, later_there, probed, took_nothing}
-use Rattle.section_laws.proofs.EachHart.{Each, each_after, each_but}
+use Rattle.el_model.proofs.EachHart.{Each, each_after, each_but}
 use Rattle.section_laws.proofs.Moves.{seen_grows}
 use Rattle.stamp.specs.Stamps.{Stamp, is_before}
 

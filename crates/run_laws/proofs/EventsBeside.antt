@@ -11,7 +11,7 @@ use Rattle.rv_flat.specs.FlatState.{FlatState}
 use Rattle.rv_flat.specs.Memory.{AreBytes}
 use Rattle.rv_flat.specs.Run.{alone}
 use Rattle.section_laws.specs.Coherence.{AreCoherent, MayBeTogether}
-use Rattle.section_laws.proofs.EachHart.{Each}
+use Rattle.el_model.proofs.EachHart.{Each}
 use Rattle.run_laws.proofs.Beside.{WritesElsewhere, commit_beside, same_beside, step_beside}
 use Rattle.run_laws.proofs.Tests.{not_both}
 use Rattle.run_laws.proofs.WordStores.{releases}

@@ -19,7 +19,7 @@ use Rattle.el_model.proofs.Deeds.{step_deed}
 use Rattle.el_model.proofs.Harts.{hart_of-with_hart_other}
 use Rattle.el_model.proofs.Turns.{deliver_calm, order_calm, serve_calm}
 use Rattle.section_laws.specs.Once.{AreOnce}
-use Rattle.section_laws.proofs.EachHart.{Each, each_but, each_with}
+use Rattle.el_model.proofs.EachHart.{Each, each_but, each_with}
 use Rattle.section_laws.proofs.FreeLines.{unmet}
 use Rattle.section_laws.proofs.Moves.{Moves, deliver_keeps, faced_if_keeps, placed_keeps, served_keeps}
 use Rattle.run_laws.proofs.Bits.{KeepsBits, bits_claim, bits_others, bits_own, bits_touched, claim_section, run_kept, same_bits, some_bit}

@@ -41,7 +41,7 @@ use Rattle.section_laws.specs.Bounds.{CachesAreShaped, WaitingLinesHaveRoom, Wai
 use Rattle.section_laws.proofs.Bounded.{HasPlace, HasSome, IsConfigured, MayCover, configured_claimed, configured_cleared, configured_committed}
 use Rattle.section_laws.proofs.Bounded.{configured_covered, configured_empty, configured_marked, configured_others, configured_own, configured_touch}
 use Rattle.section_laws.proofs.Bounded.{configured_touched, place_cleared, place_others}
-use Rattle.section_laws.proofs.EachHart.{Each, each_but}
+use Rattle.el_model.proofs.EachHart.{Each, each_but}
 use Rattle.section_laws.proofs.EachKept.{first_each, next_keeps}
 use Rattle.section_laws.proofs.Moves.{Moves, deliver_keeps, faced_if_keeps, placed_keeps, served_keeps}
 use Rattle.section_laws.proofs.Numbered.{next_count, order_keeps, raised_exists}

@@ -34,7 +34,7 @@ use Rattle.moesi.specs.Letters.{may_of, may_write}
 use Rattle.moesi.specs.declared.letter.Letter.TheVariants.{M}
 use Rattle.section_laws.specs.Laws.{CopiesAreCoherent, WrittenLinesAreElsewhereInNoCache, WrittenLinesMayBeWritten}
 use Rattle.section_laws.specs.Coherence.{AreCoherent, AreOwned, IsOwned, MayBeTogether}
-use Rattle.section_laws.proofs.EachHart.{Each, each_with}
+use Rattle.el_model.proofs.EachHart.{Each, each_with}
 use Rattle.section_laws.proofs.EachKept as kept
 use Rattle.section_laws.proofs.FreeLines.{NotWritten, free_line}
 use Rattle.section_laws.proofs.Moves.{Moves, deliver_keeps, faced_if_keeps, placed_keeps, step_keeps}

@@ -13,7 +13,7 @@ use Rattle.el_model.specs.Serve.{Blocks, Free, Obstacle, bystander, obstacle_to,
 use Rattle.el_model.specs.State.{Hart, ModelState, begin, hart_of, head_of, new_hart, ordered_of, raised_of}
 use Rattle.el_model.proofs.AllHarts.{all_first}
 use Rattle.el_model.proofs.FromStart.{kept_after}
-use Rattle.section_laws.proofs.EachHart.{Each, each_with}
+use Rattle.el_model.proofs.EachHart.{Each, each_with}
 use Rattle.section_laws.proofs.Moves.{Moves, deliver_keeps, faced_if_keeps, placed_keeps, served_keeps, step_keeps}
 
 -- what is said of each hart is kept by the events of the bus

@@ -1,4 +1,3 @@
-pub mod EachHart
 pub mod Moves
 pub mod EachKept
 pub mod Statuses

@@ -38,7 +38,7 @@ use Rattle.mail.specs.Mailbox.{Marker, Message, Probe, posted}
 use Rattle.section_laws.specs.Messages.{IsMailbox, IsOther, IsSetOfOthers, MessagesAreFewerThanHarts, MessagesNameOthersOnce, NamesOthersOnce, named}
 use Rattle.section_laws.proofs.Boxes.{NameOthers, fewer_others, mailbox_of_served, mailbox_posted, mailbox_taken, mailbox_without_probe, no_mail}
 use Rattle.section_laws.proofs.Boxes.{no_others, oldest_other, origins_are_others, others_excluded, others_included, senders_are_others}
-use Rattle.section_laws.proofs.EachHart.{Each, each_after, each_with}
+use Rattle.el_model.proofs.EachHart.{Each, each_after, each_with}
 use Rattle.section_laws.proofs.Moves.{served_keeps, step_keeps}
 use Rattle.section_laws.proofs.Numbered.{Once, first_once, next_count, next_once, order_keeps, raised_exists}
 use Rattle.section_laws.proofs.OrderedHarts.{AreBelow, below_kept}

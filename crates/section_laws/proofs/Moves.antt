@@ -18,7 +18,7 @@ use Rattle.el_model.specs.State.{Hart, ModelState, hart_of, head_of, ordered_of,
 use Rattle.el_model.proofs.Deeds.{step_deed}
 use Rattle.el_model.proofs.Tests.{by_test}
 use Rattle.mail.specs.Mailbox.{Message, Marker, Probe, posted}
-use Rattle.section_laws.proofs.EachHart.{Each, each_after, each_with}
+use Rattle.el_model.proofs.EachHart.{Each, each_after, each_with}
 use Rattle.stamp.specs.Stamps.{Stamp}
 
 -- what is said of each hart is kept by these moves

@@ -23,7 +23,7 @@ use Rattle.el_model.proofs.Harts.{hart_of-past, hart_of-with_hart_same}
 use Rattle.mail.specs.Mailbox.{Message}
 use Rattle.pair_table.specs.Predictor.{confidence_of}
 use Rattle.section_laws.specs.Sections.{IsOfSection, NeverRunsCandidate, NoneBeginsAfterRollback, RunsCandidate, SectionStepsAreOfFiveKinds}
-use Rattle.section_laws.proofs.EachHart.{each_but}
+use Rattle.el_model.proofs.EachHart.{each_but}
 use Rattle.section_laws.proofs.EachKept.{BusKept, bus_keeps}
 use Rattle.section_laws.proofs.Waiting.{Sound, always_sound, is_rolled}
 

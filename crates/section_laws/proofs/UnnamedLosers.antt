@@ -18,7 +18,7 @@ use Rattle.el_model.specs.State.{Hart, ModelState, hart_of, head_of, ordered_of,
 use Rattle.el_model.proofs.Losing.{no_section_meets}
 use Rattle.el_model.proofs.Tests.{by_test}
 use Rattle.mail.specs.Mailbox.{Marker, Message, Probe}
-use Rattle.section_laws.proofs.EachHart.{each_with}
+use Rattle.el_model.proofs.EachHart.{each_with}
 use Rattle.section_laws.proofs.EachKept.{BusKept}
 use Rattle.section_laws.proofs.Moves.{before_keeps, served_keeps}
 use Rattle.stamp.specs.Stamps.{is_before}

@@ -36,7 +36,7 @@ use Rattle.rv_alu.specs.declared.view.HartStatus.{HartStatus}
 use Rattle.rv_alu.specs.declared.view.HartStatus.TheVariants.{Running}
 use Rattle.rv_flat.specs.FlatState.{status_of}
 use Rattle.section_laws.specs.Waiting.{HasNothing, OnlyHolds, WaitsForOne}
-use Rattle.section_laws.proofs.EachHart.{Each, each_but}
+use Rattle.el_model.proofs.EachHart.{Each, each_but}
 use Rattle.section_laws.proofs.Moves.{Moves, deliver_keeps, faced_if_keeps, placed_keeps, served_keeps}
 use Rattle.section_laws.proofs.Statuses.{alone_status, flat_status}
 

@@ -23,7 +23,7 @@ use Rattle.removal_laws.proofs.Attempts.{candidate_keeps}
 use Rattle.removal_laws.proofs.Facing.{live_below}
 use Rattle.run_laws.proofs.Tests.{not_both}
 use Rattle.section_laws.specs.Sections.{is_committed, is_rolled_back}
-use Rattle.section_laws.proofs.EachHart.{each_with}
+use Rattle.el_model.proofs.EachHart.{each_with}
 use Rattle.section_laws.proofs.Numbered.{requests_are_numbered}
 use Rattle.section_laws.proofs.SectionSteps.{live_exists}
 use Rattle.section_laws.proofs.UnnamedLosers.{unnamed_outside}

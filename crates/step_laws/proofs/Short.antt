@@ -25,7 +25,7 @@ use Rattle.pair_table.specs.Predictor.{Predictor, Watch, counting, judged, saw_w
 use Rattle.pair_table.specs.declared.seen.Seen.{Seen}
 use Rattle.pair_table.specs.declared.verdict.Verdict.{Verdict}
 use Rattle.pair_table.specs.declared.verdict.Verdict.TheVariants.{Up, Down}
-use Rattle.section_laws.proofs.EachHart.{Each}
+use Rattle.el_model.proofs.EachHart.{Each}
 use Rattle.section_laws.proofs.EachKept.{BusKept, bus_keeps}
 use Rattle.section_laws.proofs.Moves.{step_keeps}
 use Rattle.step_laws.specs.Counts.{IsSectionShort, IsWatchShort, SectionsAreShort, WatchesAreShort}

@@ -1,5 +1,5 @@
 -- what holds of each hart by its number, and still does after one hart or each has changed
-use Rattle.std.proofs.Common.{◌≡◌, ◌≢◌, ℕ, zero, suc, ◌≤◌, Bool, true, false, List, [], ◌∷◌, length, refl, sym, subst, inl, inr, ◌⊎◌, arith}
+use Rattle.std.proofs.Common.{◌≡◌, ◌≢◌, ℕ, zero, suc, ◌≤◌, ◌<◌, Bool, true, false, List, [], ◌∷◌, length, refl, sym, subst, inl, inr, ◌⊎◌, arith}
 use Rattle.std.specs.Prelude.{nat_lt, slice_index_or, slice_set}
 use Rattle.std.proofs.lemmas.Bool.{cases_eq, ltb-true, ltb-false}
 use Rattle.std.proofs.Math.ListN.{length-set}
@@ -39,19 +39,24 @@ hart_of-with_hart_past : (state : ModelState) (h : ℕ) (hart : Hart) → length
 hart_of-with_hart_past state h hart past =
     hart_of-past (with_hart state h hart) h (omega (arith, past, length-set state.harts h hart))
 
--- the same where nothing is known of the hart before
-with_by : (P : ℕ → Hart → Type 0) (state : ModelState) (h : ℕ) (hart : Hart) → P h hart → ((g : ℕ) → g ≢ h → P g (hart_of state g)) →
-    (length state.harts ≤ h → P h (new_hart 0)) → (g : ℕ) → (g ≡ h) ⊎ (g ≡ h → ⊥) → (below : Bool) →
-    nat_lt h (length state.harts) ≡ below → P g (hart_of (with_hart state h hart) g)
+-- the same where nothing is known of the hart before, or its change is known to do so for a hart of the machine alone
+with_by : (P : ℕ → Hart → Type 0) (state : ModelState) (h : ℕ) (hart : Hart) → (h < length state.harts → P h hart) →
+    ((g : ℕ) → g ≢ h → P g (hart_of state g)) → (length state.harts ≤ h → P h (new_hart 0)) → (g : ℕ) → (g ≡ h) ⊎ (g ≡ h → ⊥) →
+    (below : Bool) → nat_lt h (length state.harts) ≡ below → P g (hart_of (with_hart state h hart) g)
 with_by P state h hart new others absent g (inr apart) below is =
     subst (P g) (sym (hart_of-with_hart_other state h g hart apart)) (others g apart)
 with_by P state h hart new others absent g (inl same) true is =
-    rw same (subst (P h) (sym (hart_of-with_hart_same state h hart (ltb-true h (length state.harts) is))) new)
+    let below = ltb-true h (length state.harts) is in
+    rw same (subst (P h) (sym (hart_of-with_hart_same state h hart below)) (new below))
 with_by P state h hart new others absent g (inl same) false is =
     let past = ltb-false h (length state.harts) is in
     rw same (subst (P h) (sym (hart_of-with_hart_past state h hart past)) (absent past))
 
+pub each_but_below : (P : ℕ → Hart → Type 0) (state : ModelState) (h : ℕ) (hart : Hart) → (h < length state.harts → P h hart) →
+    ((g : ℕ) → g ≢ h → P g (hart_of state g)) → (length state.harts ≤ h → P h (new_hart 0)) → Each P (with_hart state h hart)
+each_but_below P state h hart new others absent g =
+    with_by P state h hart new others absent g (cases_eq g h) (nat_lt h (length state.harts)) refl
+
 pub each_but : (P : ℕ → Hart → Type 0) (state : ModelState) (h : ℕ) (hart : Hart) → P h hart →
     ((g : ℕ) → g ≢ h → P g (hart_of state g)) → (length state.harts ≤ h → P h (new_hart 0)) → Each P (with_hart state h hart)
-each_but P state h hart new others absent g =
-    with_by P state h hart new others absent g (cases_eq g h) (nat_lt h (length state.harts)) refl
+each_but P state h hart new others absent = each_but_below P state h hart (λ below. new) others absent

@@ -13,6 +13,8 @@ pub mod LostReservation
 pub mod ElidedPair
 pub mod LetGoByAWrite
 pub mod ArmedAtTheShortest
+pub mod MostArmed
+pub mod AnotherWord
 pub mod ChainOfTwo
 pub mod ChainOfTwoElision
 pub mod FourLosses

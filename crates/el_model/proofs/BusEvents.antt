@@ -7,6 +7,8 @@ use Rattle.std.proofs.lemmas.Bool.Decides.{nat_tests}
 use Rattle.bus_order.specs.Order.{Request, tail_of}
 use Rattle.bus_order.proofs.LookUps.{number_of_test, other_test, own_test}
 use Rattle.defer_list.specs.HartSet.{has, included}
+use Rattle.chronicle.specs.Serial.{taking_effect}
+use Rattle.el_base.proofs.FreedOrder.{no_one_in_order}
 use Rattle.el_base.proofs.MadeLosers.{unnamed_by_map}
 use Rattle.el_base.specs.Freed.{no_one_freed}
 use Rattle.el_base.specs.Losers.{losers_of}
@@ -17,7 +19,7 @@ use Rattle.el_base.specs.declared.events.Event.{Event}
 use Rattle.el_base.specs.declared.events.Kind.{Kind}
 use Rattle.el_base.specs.declared.events.Kind.TheVariants as kinds
 use Rattle.el_base.specs.declared.outcomes.Outcome.TheVariants.{Delivered, Ordered, Served}
-use Rattle.el_model.specs.BusEvent.{AtFace, AtProbe, Becomes, Defers, Forwards, IsAbsent, IsAnswered, IsBehind, IsBusEvent, IsDeferred, IsForwarded}
+use Rattle.el_model.specs.BusEvent.{AtFace, AtProbe, Becomes, Defers, Forwards, IsAbsent, IsAnswered, IsBehind, IsBusEvent, IsDeferred, IsForwarded, IsOfBus}
 use Rattle.el_model.specs.BusEvent.{IsPassed, IsPosted, IsSent, IsToldOn, LosesIt, LosesWhere, MayPlace, MayServe, Nothing, Places, Sees, Serves, Start}
 use Rattle.el_model.specs.BusEvent.{Starts, Takes, TellsOn, as_faced, faced_head, having_taken, started}
 use Rattle.el_model.specs.Conflicts.{conflicts_with, stamp_in}
@@ -31,11 +33,11 @@ use Rattle.el_model.specs.Serve.{Blocks, Free, Obstacle, obstacle_to, serve_lose
 use Rattle.el_model.specs.State.{Hart, ModelState, Turn, count_up, each_hart, hart_of, head_of, idle, new_hart, ordered_of, ordered_on, post_all, raised_of, with_hart}
 use Rattle.el_model.proofs.EachHart.{Each, each_after, each_but_below, each_with}
 use Rattle.el_model.proofs.Harts.{hart_of-each_hart, hart_of-each_hart_past, hart_of-past, hart_of-with_hart_other, hart_of-with_hart_same, with_hart_kept}
-use Rattle.el_model.proofs.Keeps.{Keeps, keeps_all, keeps_each_hart, keeps_faced_if, keeps_marked_by, keeps_marking, keeps_served, keeps_twice, keeps_with_hart}
+use Rattle.el_model.proofs.Keeps.{Keeps, keeps_all, keeps_each_hart, keeps_faced_if, keeps_marked_by, keeps_marking, keeps_message, keeps_placed}
+use Rattle.el_model.proofs.Keeps.{keeps_placed_in_front, keeps_placed_last, keeps_served, keeps_twice, keeps_with_hart}
 use Rattle.el_model.proofs.Losing.{absent_is_unmet, own_is_unmet}
 use Rattle.el_model.proofs.Orders.{faced_order, message_order, placed_order, served_order}
 use Rattle.el_model.proofs.Tests.{by_test}
-use Rattle.el_model.proofs.Turns.{message_keeps, placed_in_front_keeps, placed_keeps, placed_last_keeps}
 use Rattle.mail.specs.Mailbox.{Message, Marker, Probe, posted}
 use Rattle.stamp.specs.Stamps.{is_before}
 
@@ -108,10 +110,10 @@ module _ (state : ModelState) (by : ℕ) (start : Start) where
 pub keeps_as_faced : (state : ModelState) (by : ℕ) (start : Start) → Keeps state (as_faced state by start)
 keeps_as_faced state by Nothing = keeps_all state
 keeps_as_faced state by (Places request InFront) =
-    keeps_twice (placed_in_front_keeps state request) (keeps_marking (placed_in_front state request) request.hart (head_of state request.line))
+    keeps_twice (keeps_placed_in_front state request) (keeps_marking (placed_in_front state request) request.hart (head_of state request.line))
 keeps_as_faced state by (Places request Behind) =
-    keeps_twice (placed_last_keeps state request) (keeps_marked_by (placed_last state request) (tail_of state.order request.line) request.hart)
-keeps_as_faced state by (Places request Alone) = placed_last_keeps state request
+    keeps_twice (keeps_placed_last state request) (keeps_marked_by (placed_last state request) (tail_of state.order request.line) request.hart)
+keeps_as_faced state by (Places request Alone) = keeps_placed_last state request
 keeps_as_faced state by (Serves request) = keeps_served state request
 keeps_as_faced state by (Takes message others) = keeps_with_hart state by (record (hart_of state by) { mail = others })
 
@@ -197,16 +199,19 @@ module _ (state : ModelState) (by : ℕ) (start : Start) (head : Request) (is : 
           (subst (Becomes state by start h None) (none ∙ sym (hart_of-each_hart_past mid (faced_hart mid head) h past)) (each h))
 
 -- nothing is done
-nothing_done : (state : ModelState) (by : ℕ) (turn : Turn) → turn.state ≡ state → ((h : ℕ) → winner_over turn.outcome h ≡ None) → IsBusEvent state by turn
-nothing_done state by turn still unnamed = record {
+nothing_done : (state : ModelState) (by : ℕ) (turn : Turn) → turn.state ≡ state → IsOfBus turn.outcome → ((h : ℕ) → winner_over turn.outcome h ≡ None) →
+    ((h : ℕ) → taking_effect h turn.outcome ≡ []) → IsBusEvent state by turn
+nothing_done state by turn still of_bus unnamed no_effect = record {
   start = Nothing;
   where_it = tt;
   lost = λ h. None;
   becomes = λ h. rw still (left state by Nothing h refl);
+  of_bus = of_bus;
   names = λ h. unnamed h ∙ sym (unnamed_by_map (λ k. None) h refl);
   faces = λ head is. none_some is;
   order = ap (λ new. new.order) still;
   config = ap (λ new. new.config) still;
+  no_effect = no_effect;
   committed = ap (λ new. new.committed) still;
   count = ap (λ new. length new.harts) still;
 }
@@ -255,16 +260,18 @@ module _ (state : ModelState) (by : ℕ) (request : Request) where
       ((h : ℕ) → Becomes state by (Places request place) h (lost h) (hart_of (placed state request place) h)) →
       ((h : ℕ) → winner_over (placing place).outcome h ≡ winner_over (Delivered (losers_of lost)) h) → IsBusEvent state by (placing place)
   placed_event place may lost becomes names =
-      let keeps = placed_keeps state request place in
+      let keeps = keeps_placed state request place in
       record {
         start = Places request place;
         where_it = may;
         lost = lost;
         becomes = becomes;
+        of_bus = tt;
         names = names;
         faces = placed_faced place;
         order = placed_order state request place;
         config = keeps.config;
+        no_effect = λ h. no_one_in_order;
         committed = keeps.committed;
         count = keeps.count;
       }
@@ -282,7 +289,7 @@ module _ (state : ModelState) (by : ℕ) (request : Request) where
       (faced_becomes state by (Places request Alone) request refl (unraised_started Alone)) (λ h. refl)
 
 raised_event : (state : ModelState) (by : ℕ) (raised : Option Request) → raised_of state by ≡ raised → IsBusEvent state by (order_raised state raised)
-raised_event state by None is = nothing_done state by (idle state) refl (λ h. refl)
+raised_event state by None is = nothing_done state by (idle state) refl tt (λ h. refl) (λ h. refl)
 raised_event state by (Some request) is =
     place_event state by request (place_for state request) (record { raised = is; place_is = refl })
 
@@ -300,10 +307,12 @@ serve_event state by request may None is = record {
   where_it = may;
   lost = λ h. None;
   becomes = served_started state by request;
+  of_bus = tt;
   names = λ h. refl;
   faces = λ head is_head. none_some (sym is ∙ is_head);
   order = served_order state request;
   config = (keeps_served state request).config;
+  no_effect = λ h. no_one_in_order;
   committed = (keeps_served state request).committed;
   count = (keeps_served state request).count;
 }
@@ -315,23 +324,25 @@ serve_event state by request may (Some head) is =
       where_it = may;
       lost = λ h. winner_in (fate_at after head h);
       becomes = faced_becomes state by (Serves request) head is (served_started state by request);
+      of_bus = tt;
       names = λ h. refl;
       faces = λ found is_found. ap (faced after) (some_same (sym is ∙ is_found));
       order = faced_order after (Some head) ∙ served_order state request;
       config = keeps.config;
+      no_effect = λ h. no_one_in_order;
       committed = keeps.committed;
       count = keeps.count;
     }
 
 past_event : (state : ModelState) (by : ℕ) (request : Request) → ordered_of state by ≡ Some request → (obstacle : Obstacle) →
     obstacle_to state request ≡ obstacle → IsBusEvent state by (serve_past state request obstacle)
-past_event state by request ordered (Blocks why other) is = nothing_done state by (serve_past state request (Blocks why other)) refl (λ h. refl)
+past_event state by request ordered (Blocks why other) is = nothing_done state by (serve_past state request (Blocks why other)) refl tt (λ h. refl) (λ h. refl)
 past_event state by request ordered Free is =
     serve_event state by request (record { ordered = ordered; free = is }) (head_of (served state request) request.line) refl
 
 ordered_event : (state : ModelState) (by : ℕ) (ordered : Option Request) → ordered_of state by ≡ ordered →
     IsBusEvent state by (serve_ordered state ordered)
-ordered_event state by None is = nothing_done state by (idle state) refl (λ h. refl)
+ordered_event state by None is = nothing_done state by (idle state) refl tt (λ h. refl) (λ h. refl)
 ordered_event state by (Some request) is = past_event state by request is (obstacle_to state request) refl
 
 -- a message is taken
@@ -404,10 +415,12 @@ module _ (state : ModelState) (by : ℕ) (message : Message) (others : List Mess
     where_it = mail_is;
     lost = losers;
     becomes = becomes;
+    of_bus = tt;
     names = λ h. refl;
     faces = λ head is. none_some is;
     order = order;
     config = keeps.config;
+    no_effect = λ h. refl;
     committed = keeps.committed;
     count = keeps.count;
   }
@@ -453,7 +466,7 @@ module _ (state : ModelState) (by sender : ℕ) (others : List Message) (mail_is
           (sym (taken_own state by (Marker sender) others mail_is)) (own_taken state by (Marker sender) others mail_is))
           (λ g apart now. now) in
       taken_event state by (Marker sender) others mail_is (post_to preceded sender messages) (λ h. None)
-      (keeps_twice (taken_keeps state by (Marker sender) others mail_is) (message_keeps left_mail by (Marker sender)))
+      (keeps_twice (taken_keeps state by (Marker sender) others mail_is) (keeps_message left_mail by (Marker sender)))
       refl
       (each_with (Unbeaten state by (Takes (Marker sender) others)) preceded sender (post_all (hart_of preceded sender) messages)
       (all_sent state by (Takes (Marker sender) others) sender (hart_of preceded sender) messages
@@ -578,7 +591,7 @@ message_event state by (Probe origin) others is = by_told (has (hart_of (taken s
         (loses_to_origin (taken state by others) by (ordered_of (taken state by others) origin)) refl)
 
 mail_event : (state : ModelState) (by : ℕ) (mail : List Message) → (hart_of state by).mail ≡ mail → IsBusEvent state by (deliver_next state by mail)
-mail_event state by [] is = nothing_done state by (idle state) refl (λ h. refl)
+mail_event state by [] is = nothing_done state by (idle state) refl tt (λ h. refl) (λ h. refl)
 mail_event state by (message ∷ others) is = message_event state by message others is
 
 -- every event of the bus
@@ -592,6 +605,9 @@ bus_event state by kinds.Deliver bus = mail_event state by (hart_of state by).ma
 pub bus_events_are_told_once : BusEventsAreToldOnce
 unfolding next
 bus_events_are_told_once state event bus = bus_event state event.hart.number event.kind bus
+
+pub keeps_of_bus : {state : ModelState} {by : ℕ} {turn : Turn} → IsBusEvent state by turn → Keeps state turn.state
+keeps_of_bus done = record { config = done.config; committed = done.committed; count = done.count }
 
 -- what holds of a step and of what an event of the bus is holds of each event
 by_kind : (P : Turn → Type 0) (state : ModelState) (h : ℕ) (kind : Kind) → P (step_turn state h) →

@@ -1,13 +1,17 @@
 -- what no event of the bus changes: the configuration, what is committed, and how many harts there are
 use Rattle.std.proofs.Common.{◌≡◌, ◌∙◌, ℕ, suc, List, [], ◌∷◌, Option, Some, None, length, refl, ap}
 use Rattle.std.proofs.Math.ListN.{length-set}
-use Rattle.bus_order.specs.Order.{Request}
+use Rattle.bus_order.specs.Order.{Request, appended, in_front_of, tail_of}
+use Rattle.defer_list.specs.HartSet.{has}
 use Rattle.el_base.specs.declared.config.Mode.{Mode}
 use Rattle.el_base.specs.declared.config.Mode.TheVariants.{Plain, Sle, Tlr}
+use Rattle.el_model.specs.Deliver.{after_probe, delivered}
 use Rattle.el_model.specs.Face.{faced, faced_if}
-use Rattle.el_model.specs.Order.{marked_by, marked_from, marking}
+use Rattle.el_model.specs.Order.{Alone, Behind, InFront, Place, marked_by, marked_from, marking, placed, placed_in_front, placed_last}
 use Rattle.el_model.specs.Serve.{served}
-use Rattle.el_model.specs.State.{Hart, ModelState, each_from, each_hart, with_hart}
+use Rattle.el_model.specs.State.{Hart, ModelState, each_from, each_hart, hart_of, head_of, ordered_of, with_hart}
+use Rattle.el_model.proofs.Tests.{by_test}
+use Rattle.mail.specs.Mailbox.{Marker, Message, Probe}
 
 pub record Keeps (old new : ModelState) : Type 0 where
   pub config : new.config ≡ old.config
@@ -61,3 +65,27 @@ keeps_faced_if state (Some head) = keeps_faced state head
 pub keeps_served : (state : ModelState) (request : Request) → Keeps state (served state request)
 unfolding served
 keeps_served state request = record { config = refl; committed = refl; count = length-each_from 0 _ state.harts }
+
+pub keeps_placed_last : (state : ModelState) (request : Request) → Keeps state (placed_last state request)
+keeps_placed_last state request =
+    keeps_twice (keeps_with_hart state request.hart _) (keeps_reordered _ (appended state.order request))
+
+pub keeps_placed_in_front : (state : ModelState) (request : Request) → Keeps state (placed_in_front state request)
+keeps_placed_in_front state request =
+    keeps_twice (keeps_with_hart state request.hart _) (keeps_reordered _ (in_front_of state.order request))
+
+pub keeps_placed : (state : ModelState) (request : Request) (place : Place) → Keeps state (placed state request place)
+unfolding placed
+keeps_placed state request InFront =
+    keeps_twice (keeps_placed_in_front state request)
+    (keeps_twice (keeps_marking _ request.hart (head_of state request.line)) (keeps_faced _ request))
+keeps_placed state request Behind =
+    keeps_twice (keeps_placed_last state request) (keeps_marked_by _ (tail_of state.order request.line) request.hart)
+keeps_placed state request Alone = keeps_twice (keeps_placed_last state request) (keeps_faced _ request)
+
+pub keeps_message : (state : ModelState) (h : ℕ) (message : Message) → Keeps state (delivered state h message)
+unfolding delivered
+keeps_message state h (Marker sender) = keeps_twice (keeps_with_hart state h _) (keeps_with_hart _ sender _)
+keeps_message state h (Probe origin) =
+    by_test (Keeps state) (has (hart_of state h).told origin) state (after_probe state h origin (ordered_of state origin))
+    (λ known. keeps_all state) (λ new. keeps_twice (keeps_with_hart state h _) (keeps_each_hart _ _))

@@ -1,10 +1,13 @@
 -- an event of the bus, told once: how it starts, and what becomes of each hart from there, one change after another
-use Rattle.std.specs.Prelude.{ℕ, ◌≡◌, ◌≢◌, ◌<◌, ◌≤◌, ◌==◌, true, false, List, ◌∷◌, length, Option, None, Some, is_some, if◌then◌else◌}
+use Rattle.std.specs.Prelude.{ℕ, ◌≡◌, ◌≢◌, ◌<◌, ◌≤◌, ◌==◌, true, false, List, [], ◌∷◌, length, Option, None, Some, is_some, if◌then◌else◌}
 use Rattle.bus_order.specs.Order.{Request, appended, in_front_of, removed, tail_of}
+use Rattle.chronicle.specs.Serial.{taking_effect}
 use Rattle.defer_list.specs.HartSet.{has, included}
 use Rattle.el_base.specs.Losers.{beaten_by, losers_of}
 use Rattle.el_base.specs.Winners.{winner_over}
 use Rattle.el_base.specs.declared.config.Mode.TheVariants.{Tlr}
+use Rattle.el_base.specs.declared.outcomes.Outcome.{Outcome}
+use Rattle.el_base.specs.declared.outcomes.Outcome.TheVariants as outcomes
 use Rattle.el_model.specs.Attempts.{see}
 use Rattle.el_model.specs.Deliver.{loses_to_origin, taken}
 use Rattle.el_model.specs.Face.{LosesTo, Stays, fate_at, faced, stays, winning_stamp}
@@ -139,15 +142,27 @@ pub data Becomes (state : ModelState) (by : ℕ) (start : Start) (h : ℕ) : Opt
   LosesIt : (winner : ℕ) (stamp : Option Stamp) (hart : Hart) → LosesWhere state by start h winner stamp → Becomes state by start h None hart →
       Becomes state by start h (Some winner) (beaten state.config.mode stamp hart)
 
--- what an event of the bus is: a start, and what becomes of each hart from there; what is committed stays
+-- how an event of the bus may come out
+abbrev pub IsOfBus : Outcome → Type 0
+IsOfBus outcomes.Idle = Unit {0}
+IsOfBus (outcomes.Ordered losers freed) = Unit {0}
+IsOfBus (outcomes.Served losers freed) = Unit {0}
+IsOfBus (outcomes.Blocked why by) = Unit {0}
+IsOfBus (outcomes.Delivered losers) = Unit {0}
+IsOfBus _ = ⊥
+
+-- what an event of the bus is: a start, and what becomes of each hart from there; no instruction takes effect, and what is committed
+-- stays
 pub record IsBusEvent (state : ModelState) (by : ℕ) (turn : Turn) : Type 0 where
   pub start : Start
   pub where_it : StartsWhere state by start
   pub lost : ℕ → Option ℕ
   pub becomes : (h : ℕ) → Becomes state by start h (lost h) (hart_of turn.state h)
+  pub of_bus : IsOfBus turn.outcome
   pub names : (h : ℕ) → winner_over turn.outcome h ≡ beaten_by (losers_of lost) h
   pub faces : (head : Request) → faced_head state start ≡ Some head → turn.state ≡ faced (as_faced state by start) head
   pub order : turn.state.order ≡ order_after state start
   pub config : turn.state.config ≡ state.config
+  pub no_effect : (h : ℕ) → taking_effect h turn.outcome ≡ []
   pub committed : turn.state.committed ≡ state.committed
   pub count : length turn.state.harts ≡ length state.harts

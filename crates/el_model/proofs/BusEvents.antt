@@ -35,7 +35,7 @@ use Rattle.el_model.proofs.EachHart.{Each, each_after, each_but_below, each_with
 use Rattle.el_model.proofs.Harts.{hart_of-each_hart, hart_of-each_hart_past, hart_of-past, hart_of-with_hart_other, hart_of-with_hart_same, with_hart_kept}
 use Rattle.el_model.proofs.Keeps.{Keeps, keeps_all, keeps_each_hart, keeps_faced_if, keeps_marked_by, keeps_marking, keeps_message, keeps_placed}
 use Rattle.el_model.proofs.Keeps.{keeps_placed_in_front, keeps_placed_last, keeps_served, keeps_twice, keeps_with_hart}
-use Rattle.el_model.proofs.Losing.{absent_is_unmet, own_is_unmet}
+use Rattle.el_model.proofs.Losing.{outside_is_unmet, own_is_unmet}
 use Rattle.el_model.proofs.Orders.{faced_order, message_order, placed_order, served_order}
 use Rattle.el_model.proofs.Tests.{by_test}
 use Rattle.mail.specs.Mailbox.{Message, Marker, Probe, posted}
@@ -194,7 +194,7 @@ module _ (state : ModelState) (by : ℕ) (start : Start) (head : Request) (is : 
       by_count false is =
           let past = ltb-false h (length mid.harts) is in
           let none = hart_of-past mid h past in
-          let unmet : fate_at mid head h ≡ Unmet = ap (fate_of mid head h) none ∙ absent_is_unmet mid head h in
+          let unmet : fate_at mid head h ≡ Unmet = outside_is_unmet mid head h (hart_of mid h) (ap (λ hart. hart.section) none) in
           subst (λ fate. Becomes state by start h (winner_in fate) (hart_of (each_hart mid (faced_hart mid head)) h)) (sym unmet)
           (subst (Becomes state by start h None) (none ∙ sym (hart_of-each_hart_past mid (faced_hart mid head) h past)) (each h))
 
@@ -333,6 +333,16 @@ serve_event state by request may (Some head) is =
       committed = keeps.committed;
       count = keeps.count;
     }
+
+-- as a head is faced no hart has lost yet
+pub met_becomes : (state : ModelState) (by : ℕ) (start : Start) (head : Request) → faced_head state start ≡ Some head → (h : ℕ) →
+    Becomes state by start h None (hart_of (as_faced state by start) h)
+met_becomes state by Nothing head is h = absurd (cc)
+met_becomes state by (Places request InFront) head is h = in_front_started state by request (head_of state request.line) refl h
+met_becomes state by (Places request Behind) head is h = behind_started state by request (tail_of state.order request.line) refl h
+met_becomes state by (Places request Alone) head is h = unraised_started state by request Alone h
+met_becomes state by (Serves request) head is h = served_started state by request h
+met_becomes state by (Takes message others) head is h = absurd (cc)
 
 past_event : (state : ModelState) (by : ℕ) (request : Request) → ordered_of state by ≡ Some request → (obstacle : Obstacle) →
     obstacle_to state request ≡ obstacle → IsBusEvent state by (serve_past state request obstacle)

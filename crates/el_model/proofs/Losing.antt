@@ -1,6 +1,6 @@
 -- what a loss leaves of a section, and whom a fate may name: a hart does not meet its own request, without a section it meets none, and
 -- it loses to no hart that a machine does not have
-use Rattle.std.proofs.Common.{◌≡◌, ◌∙◌, ℕ, suc, ◌+◌, ◌<◌, ◌≤◌, Bool, true, false, ◌&&◌, not, ◌==◌, List, [], ◌∷◌, Option, Some, None, length, refl, ap, sym, arith, if◌then◌else◌}
+use Rattle.std.proofs.Common.{◌≡◌, ◌∙◌, ℕ, suc, ◌+◌, ◌<◌, ◌≤◌, Bool, true, false, ◌&&◌, not, ◌==◌, List, [], ◌∷◌, Option, Some, None, is_some, length, refl, ap, sym, arith, if◌then◌else◌}
 use Rattle.std.specs.Prelude.{IfSome, nat_lt}
 use Rattle.std.proofs.lemmas.Bool.{ltb-true, ltb-false}
 use Rattle.bus_order.specs.Order.{Request}
@@ -48,9 +48,11 @@ pub no_section_meets : (other meets : Bool) → ((other && false) && meets) ≡ 
 no_section_meets true meets = refl
 no_section_meets false meets = refl
 
-pub absent_is_unmet : (state : ModelState) (head : Request) (h : ℕ) → fate_of state head h (new_hart 0) ≡ Unmet
-absent_is_unmet state head h =
-    unmet_if state head h (new_hart 0) _ (no_section_meets (not (head.hart == h)) (meets_bit (new_hart 0) head.line head.need))
+pub outside_is_unmet : (state : ModelState) (head : Request) (h : ℕ) (hart : Hart) → hart.section ≡ None → fate_of state head h hart ≡ Unmet
+outside_is_unmet state head h hart none =
+    unmet_if state head h hart _
+    (ap (λ section. (not (head.hart == h) && is_some section) && meets_bit hart head.line head.need) none
+    ∙ no_section_meets (not (head.hart == h)) (meets_bit hart head.line head.need))
 
 -- the hart that wins over a told section is one of the machine's
 earlier_below : (stamp : ℕ → Option Stamp) (limit origin : ℕ) (other : Option ℕ) → origin < limit → IfSome other (λ o. o < limit) →

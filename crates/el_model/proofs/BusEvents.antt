@@ -3,7 +3,6 @@ use Rattle.std.proofs.Common.{◌≡◌, ◌≢◌, ◌∙◌, ℕ, suc, ◌+◌
 use Rattle.std.proofs.Common.{map, filter, refl, ap, sym, subst, arith, if◌then◌else◌}
 use Rattle.std.specs.Prelude.{nat_lt}
 use Rattle.std.proofs.lemmas.Bool.{ltb-true, ltb-false}
-use Rattle.std.proofs.lemmas.Bool.Decides.{nat_tests}
 use Rattle.bus_order.specs.Order.{Request, tail_of}
 use Rattle.bus_order.proofs.LookUps.{number_of_test, other_test, own_test}
 use Rattle.defer_list.specs.HartSet.{has, included}
@@ -19,24 +18,24 @@ use Rattle.el_base.specs.declared.events.Event.{Event}
 use Rattle.el_base.specs.declared.events.Kind.{Kind}
 use Rattle.el_base.specs.declared.events.Kind.TheVariants as kinds
 use Rattle.el_base.specs.declared.outcomes.Outcome.TheVariants.{Delivered, Ordered, Served}
-use Rattle.el_model.specs.BusEvent.{AtFace, AtProbe, Becomes, Defers, Forwards, IsAbsent, IsAnswered, IsBehind, IsBusEvent, IsDeferred, IsForwarded, IsOfBus}
-use Rattle.el_model.specs.BusEvent.{IsPassed, IsPosted, IsSent, IsToldOn, LosesIt, LosesWhere, MayPlace, MayServe, Nothing, Places, Sees, Serves, Start}
+use Rattle.el_model.specs.BusEvent.{AtFace, AtProbe, Becomes, Forwards, IsAbsent, IsAnswered, IsBehind, IsBusEvent, IsDeferred, IsForwarded, IsOfBus}
+use Rattle.el_model.specs.BusEvent.{IsPassed, IsPosted, IsSent, IsToldOn, LosesIt, MayPlace, MayServe, Nothing, Places, Sees, Serves, Start}
 use Rattle.el_model.specs.BusEvent.{Starts, Takes, TellsOn, as_faced, faced_head, having_taken, started}
 use Rattle.el_model.specs.Conflicts.{conflicts_with, stamp_in}
 use Rattle.el_model.specs.Deliver.{after_probe, deliver_next, deliver_turn, delivered, forwarded, forwards_on, losers_by, loses_to_origin, nobody, one_lost, post_to, probe_losers, taken, told_of, told_on}
-use Rattle.el_model.specs.Face.{Fate, LosesTo, Stays, Unmet, after_fate, deferring, deferring_fate, face_losers, face_losers_if, faced, faced_hart, faced_if, fate_at, fate_of, markers_for, stays, winner_in, winning_stamp}
+use Rattle.el_model.specs.Face.{Fate, LosesTo, Stays, Unmet, after_fate, deferring, face_losers, face_losers_if, faced, faced_hart, faced_if, fate_at, markers_for, stays, winner_in, winning_stamp}
 use Rattle.el_model.specs.Laws.{BusEventsAreToldOnce}
 use Rattle.el_model.specs.Next.{kind_turn, next, step_turn}
 use Rattle.el_model.specs.Order.{Alone, Behind, InFront, Place, before_face, losers_at, marked_by, marked_from, marking, order_raised, order_turn, place_for, placed, placed_in_front, placed_last, unraised}
 use Rattle.el_model.specs.RollBack.{beaten}
-use Rattle.el_model.specs.Serve.{Blocks, Free, Obstacle, obstacle_to, serve_losers, serve_ordered, serve_past, serve_turn, served, served_turn, serving}
+use Rattle.el_model.specs.Serve.{Blocks, Free, Obstacle, obstacle_to, serve_ordered, serve_past, serve_turn, served}
 use Rattle.el_model.specs.State.{Hart, ModelState, Turn, count_up, each_hart, hart_of, head_of, idle, new_hart, ordered_of, ordered_on, post_all, raised_of, with_hart}
 use Rattle.el_model.proofs.EachHart.{Each, each_after, each_but_below, each_with}
 use Rattle.el_model.proofs.Harts.{hart_of-each_hart, hart_of-each_hart_past, hart_of-past, hart_of-with_hart_other, hart_of-with_hart_same, with_hart_kept}
 use Rattle.el_model.proofs.Keeps.{Keeps, keeps_all, keeps_each_hart, keeps_faced_if, keeps_marked_by, keeps_marking, keeps_message, keeps_placed}
 use Rattle.el_model.proofs.Keeps.{keeps_placed_in_front, keeps_placed_last, keeps_served, keeps_twice, keeps_with_hart}
 use Rattle.el_model.proofs.Losing.{outside_is_unmet, own_is_unmet}
-use Rattle.el_model.proofs.Orders.{faced_order, message_order, placed_order, served_order}
+use Rattle.el_model.proofs.Orders.{faced_order, placed_order, served_order}
 use Rattle.el_model.proofs.Tests.{by_test}
 use Rattle.mail.specs.Mailbox.{Message, Marker, Probe, posted}
 use Rattle.stamp.specs.Stamps.{is_before}
@@ -173,7 +172,7 @@ module _ (state : ModelState) (by : ℕ) (start : Start) (head : Request) (is : 
           else after_fate mid head (fate_at mid head h) (hart_of mid h))
       by_own true test =
           let posted = subst (λ k. ArePosted state by start k (markers_for mid.config.mode mid head)) (sym (number_of_test h head.hart test))
-              (markers_posted mid.config.mode refl) in
+          (markers_posted mid.config.mode refl) in
           subst (λ fate. Becomes state by start h (winner_in fate) (post_all (hart_of mid h) (markers_for mid.config.mode mid head)))
           (sym (own_is_unmet mid head h (hart_of mid h) test))
           (all_sent state by start h (hart_of mid h) (markers_for mid.config.mode mid head) posted (each h))
@@ -471,10 +470,10 @@ module _ (state : ModelState) (by sender : ℕ) (others : List Message) (mail_is
       let preceded = with_hart left_mail by hart in
       let messages = Probe by ∷ map Probe (told_on left_mail by sender (ordered_of left_mail by)) in
       let before : Each (Unbeaten state by (Takes (Marker sender) others)) preceded =
-          taken_started state by (Marker sender) others mail_is (Unbeaten state by (Takes (Marker sender) others)) hart
-          (subst (λ old. Unbeaten state by (Takes (Marker sender) others) by (record old { upstream = included old.upstream sender }))
-          (sym (taken_own state by (Marker sender) others mail_is)) (own_taken state by (Marker sender) others mail_is))
-          (λ g apart now. now) in
+      taken_started state by (Marker sender) others mail_is (Unbeaten state by (Takes (Marker sender) others)) hart
+      (subst (λ old. Unbeaten state by (Takes (Marker sender) others) by (record old { upstream = included old.upstream sender }))
+      (sym (taken_own state by (Marker sender) others mail_is)) (own_taken state by (Marker sender) others mail_is))
+      (λ g apart now. now) in
       taken_event state by (Marker sender) others mail_is (post_to preceded sender messages) (λ h. None)
       (keeps_twice (taken_keeps state by (Marker sender) others mail_is) (keeps_message left_mail by (Marker sender)))
       refl
@@ -561,10 +560,10 @@ module _ (state : ModelState) (by origin : ℕ) (others : List Message) (mail_is
       let told = with_hart probe_left by (told_of probe_left by origin request) in
       let Lost : ℕ → Hart → Type 0 = λ h hart. Becomes state by probe_start h (lost_if loses h) hart in
       let each : Each Lost told =
-          taken_started state by (Probe origin) others mail_is Lost (told_of probe_left by origin request)
-          (subst (λ lost. Lost by (if lost then beaten state.config.mode (stamp_in request) told_hart else told_hart)) (sym loses_is)
-          (told_becomes request is loses loses_is))
-          (λ g apart now. subst (λ lost. Becomes state by probe_start g lost (hart_of state g)) (sym (not_lost loses g apart)) now) in
+      taken_started state by (Probe origin) others mail_is Lost (told_of probe_left by origin request)
+      (subst (λ lost. Lost by (if lost then beaten state.config.mode (stamp_in request) told_hart else told_hart)) (sym loses_is)
+      (told_becomes request is loses loses_is))
+      (λ g apart now. subst (λ lost. Becomes state by probe_start g lost (hart_of state g)) (sym (not_lost loses g apart)) now) in
       taken_event state by (Probe origin) others mail_is (after_probe probe_left by origin request) (lost_if loses)
       (keeps_twice (taken_keeps state by (Probe origin) others mail_is) (keeps_twice (keeps_with_hart probe_left by _) (keeps_each_hart told _)))
       refl
@@ -620,14 +619,14 @@ pub keeps_of_bus : {state : ModelState} {by : ℕ} {turn : Turn} → IsBusEvent 
 keeps_of_bus done = record { config = done.config; committed = done.committed; count = done.count }
 
 -- what holds of a step and of what an event of the bus is holds of each event
-by_kind : (P : Turn → Type 0) (state : ModelState) (h : ℕ) (kind : Kind) → P (step_turn state h) →
+pub by_kind : (P : Turn → Type 0) (state : ModelState) (h : ℕ) (kind : Kind) → (kind ≡ kinds.Step → P (step_turn state h)) →
     ((turn : Turn) → IsBusEvent state h turn → P turn) → P (kind_turn state h kind)
-by_kind P state h kinds.Step step bus = step
+by_kind P state h kinds.Step step bus = step refl
 by_kind P state h kinds.Order step bus = bus (kind_turn state h kinds.Order) (bus_event state h kinds.Order (λ same. absurd (cc)))
 by_kind P state h kinds.Serve step bus = bus (kind_turn state h kinds.Serve) (bus_event state h kinds.Serve (λ same. absurd (cc)))
 by_kind P state h kinds.Deliver step bus = bus (kind_turn state h kinds.Deliver) (bus_event state h kinds.Deliver (λ same. absurd (cc)))
 
-pub by_event : (P : Turn → Type 0) (state : ModelState) (event : Event) → P (step_turn state event.hart.number) →
+pub by_event : (P : Turn → Type 0) (state : ModelState) (event : Event) → (event.kind ≡ kinds.Step → P (step_turn state event.hart.number)) →
     ((turn : Turn) → IsBusEvent state event.hart.number turn → P turn) → P (next state event)
 unfolding next
 by_event P state event step bus = by_kind P state event.hart.number event.kind step bus

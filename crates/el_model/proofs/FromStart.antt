@@ -1,5 +1,5 @@
 -- what never arises from the start on, by induction over the events
-use Rattle.std.proofs.Common.{◌≡◌, ◌∙◌, ℕ, false, List, [], ◌∷◌, refl, ap}
+use Rattle.std.proofs.Common.{◌≡◌, ◌∙◌, false, List, [], ◌∷◌, refl, ap}
 use Rattle.el_base.specs.declared.config.Config.{Config}
 use Rattle.el_base.specs.declared.config.Mode.TheVariants.{Plain}
 use Rattle.el_base.specs.declared.events.Event.{Event}
@@ -22,7 +22,7 @@ steps_are_deeds state event step = rw step (step_deed state event.hart.number)
 pub next_config : (state : ModelState) (event : Event) → (next state event).state.config ≡ state.config
 next_config state event =
     by_event (λ turn. turn.state.config ≡ state.config) state event
-    (ap (λ turn. turn.state.config) (step_deed state event.hart.number).turn_is) (λ turn done. done.config)
+    (λ step. ap (λ turn. turn.state.config) (step_deed state event.hart.number).turn_is) (λ turn done. done.config)
 
 -- a fact that each event keeps holds after all of them
 pub kept_after : (P : ModelState → Type 0) → ((state : ModelState) (event : Event) → P state → P (next state event).state) →

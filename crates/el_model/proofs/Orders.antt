@@ -4,7 +4,7 @@ use Rattle.bus_order.specs.Order.{Request, removed, tail_of}
 use Rattle.defer_list.specs.HartSet.{has}
 use Rattle.el_base.specs.declared.config.Mode.{Mode}
 use Rattle.el_base.specs.declared.config.Mode.TheVariants.{Plain, Sle, Tlr}
-use Rattle.el_model.specs.BusEvent.{order_at}
+use Rattle.el_model.specs.BusEvent.{Nothing, Places, Serves, Start, Takes, as_faced, order_after, order_at}
 use Rattle.el_model.specs.Deliver.{after_probe, deliver_next, delivered, taken}
 use Rattle.el_model.specs.Face.{faced, faced_if}
 use Rattle.el_model.specs.Order.{Alone, Behind, InFront, Place, marked_by, marked_from, marking, placed, placed_in_front, placed_last}
@@ -51,3 +51,12 @@ message_order state h (Probe origin) =
 pub mail_order : (state : ModelState) (h : ℕ) (mail : List Message) → (deliver_next state h mail).state.order ≡ state.order
 mail_order state h [] = refl
 mail_order state h (message ∷ others) = message_order (taken state h others) h message
+
+-- as a head is faced
+pub order_as_faced : (state : ModelState) (by : ℕ) (start : Start) → (as_faced state by start).order ≡ order_after state start
+order_as_faced state by Nothing = refl
+order_as_faced state by (Places request InFront) = marking_order (placed_in_front state request) request.hart (head_of state request.line)
+order_as_faced state by (Places request Behind) = marked_by_order (placed_last state request) (tail_of state.order request.line) request.hart
+order_as_faced state by (Places request Alone) = refl
+order_as_faced state by (Serves request) = served_order state request
+order_as_faced state by (Takes message others) = refl

@@ -1,5 +1,5 @@
 -- where an event of the bus names no winner for a hart, its section, tries and flag are as they were; where it names one they are those after a loss
-use Rattle.std.proofs.Common.{◌≡◌, ◌≢◌, ◌∙◌, ℕ, ◌<◌, ◌≤◌, Bool, true, false, ◌&&◌, not, ◌==◌, List, [], ◌∷◌, Option, Some, None, is_some, length, refl, ap, sym, subst, arith, if◌then◌else◌}
+use Rattle.std.proofs.Common.{◌≡◌, ◌≢◌, ◌∙◌, ℕ, ◌<◌, Bool, true, false, ◌&&◌, not, ◌==◌, List, [], ◌∷◌, Option, Some, None, is_some, length, refl, ap, sym, subst, arith, if◌then◌else◌}
 use Rattle.std.specs.Prelude.{IfSome}
 use Rattle.std.proofs.lemmas.Bool.Decides.{nat_tests}
 use Rattle.bus_order.specs.Order.{Request, first_of, removed, request_of}
@@ -11,11 +11,11 @@ use Rattle.el_model.specs.BusEvent.{AtFace, AtProbe, Becomes, IsAbsent, IsBusEve
 use Rattle.el_model.specs.BusEvent.{as_faced, faced_head, having_taken, started}
 use Rattle.el_model.specs.Conflicts.{conflicts_with, meets_bit}
 use Rattle.el_model.specs.Deliver.{loses_to_origin}
-use Rattle.el_model.specs.Face.{LosesTo, fate_at, winner_in}
+use Rattle.el_model.specs.Face.{winner_in}
 use Rattle.el_model.specs.Losses.{AreNumbered, HartsAreNumbered, lost_in, restored, standing_of}
 use Rattle.el_model.specs.Next.{next}
 use Rattle.el_model.specs.Order.{Alone, Behind, InFront}
-use Rattle.el_model.specs.Serve.{bystander, served, served_hart, with_claim}
+use Rattle.el_model.specs.Serve.{bystander, served_hart, with_claim}
 use Rattle.el_model.specs.State.{Hart, ModelState, Turn, hart_of, head_of, section_of}
 use Rattle.el_model.proofs.BusEvents.{bus_events_are_told_once, keeps_as_faced, met_becomes}
 use Rattle.el_model.proofs.Losing.{beaten_stands, fate_below, no_section_meets, outside_is_unmet}

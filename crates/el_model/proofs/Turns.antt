@@ -50,5 +50,5 @@ step_effect state h = status_effect state h (status_of state.committed h)
 
 pub events_take_effect : EventsTakeEffect
 events_take_effect state event =
-    by_event (TakesEffect state event.hart.number) state event (step_effect state event.hart.number)
+    by_event (TakesEffect state event.hart.number) state event (λ step. step_effect state event.hart.number)
     (λ turn done. done.committed ∙ sym (ap (run state.committed) (done.no_effect event.hart.number)))

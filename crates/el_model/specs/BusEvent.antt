@@ -10,7 +10,7 @@ use Rattle.el_base.specs.declared.outcomes.Outcome.{Outcome}
 use Rattle.el_base.specs.declared.outcomes.Outcome.TheVariants as outcomes
 use Rattle.el_model.specs.Attempts.{see}
 use Rattle.el_model.specs.Deliver.{loses_to_origin, taken}
-use Rattle.el_model.specs.Face.{LosesTo, Stays, fate_at, faced, stays, winning_stamp}
+use Rattle.el_model.specs.Face.{LosesTo, Stays, fate_at, faced, winning_stamp}
 use Rattle.el_model.specs.Order.{Alone, Behind, InFront, Place, before_face, place_for}
 use Rattle.el_model.specs.RollBack.{beaten}
 use Rattle.el_model.specs.Serve.{Free, obstacle_to, served, serving}

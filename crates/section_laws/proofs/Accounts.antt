@@ -4,7 +4,6 @@ use Rattle.std.proofs.lemmas.Bool.{cases_eq}
 use Rattle.bus_order.proofs.LookUps.{other_test, own_test}
 use Rattle.el_base.specs.declared.config.Config.{Config}
 use Rattle.el_base.specs.declared.config.Mode.{Mode}
-use Rattle.el_base.specs.declared.config.Mode.TheVariants.{Plain, Sle, Tlr}
 use Rattle.el_base.specs.declared.events.Event.{Event}
 use Rattle.el_base.specs.declared.outcomes.Outcome.{Outcome}
 use Rattle.el_base.specs.declared.outcomes.Outcome.TheVariants as outcomes
@@ -12,18 +11,17 @@ use Rattle.elf_image.specs.Program.{Program}
 use Rattle.el_model.specs.BusEvent.{IsBusEvent, IsOfBus}
 use Rattle.el_model.specs.Deed.{Begins, Buffers, Commits, Deed, DoesWhere, Misses, Rests, RollsBack, Runs, Waits, done, hart_after, outcome_of}
 use Rattle.el_base.specs.Winners.{winner_over}
-use Rattle.el_model.specs.Losses.{Standing, lost_in, restored, standing_of}
+use Rattle.el_model.specs.Losses.{Standing, restored, standing_of}
 use Rattle.el_model.specs.Next.{entries_from, next, state_after, step_turn}
 use Rattle.el_model.specs.Plain.{after_candidate, candidate_of}
-use Rattle.el_model.specs.RollBack.{most_tries}
 use Rattle.el_model.specs.State.{Hart, ModelState, Section, Turn, begin, hart_of, is_live, new_hart, section_of}
 use Rattle.el_model.specs.Upcoming.{Swap}
 use Rattle.el_model.proofs.AllHarts.{all_first}
 use Rattle.el_model.proofs.BusEvents.{by_event}
 use Rattle.el_model.proofs.Deeds.{step_deed}
 use Rattle.el_model.proofs.Harts.{hart_of-with_hart_other, hart_of-with_hart_same, with_hart_kept}
+use Rattle.el_model.proofs.Losing.{lost_section}
 use Rattle.el_model.proofs.Restoring.{bus_restores, stays_outside, unnamed_outside}
-use Rattle.el_model.proofs.Tests.{by_test}
 use Rattle.rv_flat.proofs.RunsAfter.{runs-exists}
 use Rattle.section_laws.specs.Sections.{BegunSectionsAreAccountedFor, begins, commits, count_of, is_began, is_committed, is_rolled_back, loses, rolls_back}
 use Rattle.section_laws.proofs.Lengths.{AsMany, first_as_many, next_as_many}
@@ -125,15 +123,6 @@ no_end true outcomes.Armed g was now bus same = elim bus [ ]
 no_end true (outcomes.LetGo count) g was now bus same = elim bus [ ]
 no_end false outcome g was now bus same = omega (arith, same)
 
-lost_section : (mode : Mode) (old : Standing) → (lost_in mode old).section ≡ None
-lost_section Tlr old = refl
-lost_section Sle old =
-    by_test {A = Standing} (λ standing. standing.section ≡ None) (old.tries + 1 == most_tries) (record { section = None; tries = 0; fallback = true })
-    (record { section = None; tries = old.tries + 1; fallback = old.fallback }) (λ last. refl) (λ more. refl)
-lost_section Plain old =
-    by_test {A = Standing} (λ standing. standing.section ≡ None) (old.tries + 1 == most_tries) (record { section = None; tries = 0; fallback = true })
-    (record { section = None; tries = old.tries + 1; fallback = old.fallback }) (λ last. refl) (λ more. refl)
-
 restored_live : (mode : Mode) (winner : Option ℕ) (old new : Standing) → new ≡ restored mode winner old → is_some old.section ≡ true →
     one (is_some old.section) ≡ one (is_some winner) + one (is_some new.section)
 restored_live mode None old new is live =
@@ -163,7 +152,7 @@ next_balanced : (state : ModelState) (event : Event) (g : ℕ) → Numbered stat
     Balanced (event.hart.number == g) (next state event).outcome g (is_live state g) (is_live (next state event).state g)
 next_balanced state event g numbered many =
     by_event (λ turn. Balanced (event.hart.number == g) turn.outcome g (is_live state g) (is_live turn.state g)) state event
-    (step_balanced state event.hart.number g many)
+    (λ step. step_balanced state event.hart.number g many)
     (λ turn done. no_end (event.hart.number == g) turn.outcome g _ _ done.of_bus (bus_by done g numbered (section_of state g) refl))
 
 -- all events

@@ -302,15 +302,16 @@ bus_each : {state : ModelState} {by : ℕ} {turn : Turn} → IsBusEvent state by
 bus_each {state} {by} {turn} done now h =
     let ordered = request_of (order_after state done.start) in
     let within : Within state.config (length state.harts) ordered h (hart_of turn.state h) =
-        moved (moves state.config (length state.harts) ordered now.some) state by done.start h (λ past below. past_end h (length state.harts) past below)
-        (λ below. started_bounded state by done.start now done.where_it h) (done.becomes h) in
+    moved (moves state.config (length state.harts) ordered now.some) state by done.start h (λ past below. past_end h (length state.harts) past below)
+    (λ below. started_bounded state by done.start now done.where_it h) (done.becomes h) in
     rw done.order within
 
 next_each : (state : ModelState) (event : Event) → Bounded state →
     Each (Within state.config (length state.harts) (ordered_of (next state event).state)) (next state event).state
 next_each state event now =
     by_event (λ turn. Each (Within state.config (length state.harts) (ordered_of turn.state)) turn.state) state event
-    (let step = step_deed state event.hart.number in
+    (λ is.
+    let step = step_deed state event.hart.number in
     let each = step_each state event.hart.number now in
     rw step.turn_is (rw step.turn_is at each))
     (λ turn done. bus_each done now)

@@ -380,7 +380,7 @@ bus_stands {state} {by} {turn} done holds now = by_start done.start done.where_i
 
 next_stands : (state : ModelState) (event : Event) → Holds state → Stands state → Stands (next state event).state
 next_stands state event holds now =
-    by_event (λ turn. Stands turn.state) state event (step_stands state event.hart.number now) (λ turn done. bus_stands done holds now)
+    by_event (λ turn. Stands turn.state) state event (λ step. step_stands state event.hart.number now) (λ turn done. bus_stands done holds now)
 
 next_holds : (state : ModelState) (event : Event) → Holds state → Holds (next state event).state
 next_holds state event holds =

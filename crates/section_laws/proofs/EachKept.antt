@@ -56,7 +56,8 @@ module _ {P : Hart → Type 0} (kept : EachKept P) where
       Each (λ h hart. P hart) (next state event).state
   next_keeps state event each =
       by_event (λ turn. Each (λ h hart. P hart) turn.state) state event
-      (step_keeps (λ h hart. P hart) state event.hart.number
+      (λ step.
+      step_keeps (λ h hart. P hart) state event.hart.number
       (λ deed does. kept.deed state event.hart.number deed does (each event.hart.number)) each)
       (λ turn done. turn_keeps kept.bus done each)
 

@@ -45,7 +45,7 @@ step_as_many state h same =
 
 pub next_as_many : (state : ModelState) (event : Event) → AsMany state → AsMany (next state event).state
 next_as_many state event same =
-    by_event (λ turn. AsMany turn.state) state event (step_as_many state event.hart.number same) (λ turn done. kept_as_many (keeps_of_bus done) same)
+    by_event (λ turn. AsMany turn.state) state event (λ step. step_as_many state event.hart.number same) (λ turn done. kept_as_many (keeps_of_bus done) same)
 
 pub first_as_many : (program : Program) (config : Config) → AsMany (begin program config)
 unfolding begin start

@@ -183,7 +183,7 @@ next_holds : (count : ℕ) (state : ModelState) (event : Event) → Mailed count
 next_holds count state event now =
     let by = event.hart.number in
     by_event (λ turn. Each (Holds count) turn.state) state event
-    (step_keeps (Holds count) state by (λ deed does. deed_holds count state by deed (hart_of state by) (now.each by)) now.each)
+    (λ step. step_keeps (Holds count) state by (λ deed does. deed_holds count state by deed (hart_of state by) (now.each by)) now.each)
     (λ turn done h. becomes_holds count state by done.start h now done.where_it (done.becomes h))
 
 next_mailed : (count : ℕ) (state : ModelState) (event : Event) → Mailed count state → Mailed count (next state event).state

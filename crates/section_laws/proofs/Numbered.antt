@@ -29,7 +29,7 @@ use Rattle.section_laws.proofs.Waiting.{Sound, always_sound, free_of_order, next
 pub next_count : (state : ModelState) (event : Event) → length (next state event).state.harts ≡ length state.harts
 next_count state event =
     by_event (λ turn. length turn.state.harts ≡ length state.harts) state event
-    (let step = step_deed state event.hart.number in rw step.turn_is (length-set state.harts event.hart.number _)) (λ turn done. done.count)
+    (λ is. let step = step_deed state event.hart.number in rw step.turn_is (length-set state.harts event.hart.number _)) (λ turn done. done.count)
 
 -- what is kept of the order: by a request of a hart that has none, and as one is served
 pub record KeptInOrder (P : List Request → Type 0) (count : ℕ) : Type 0 where
@@ -73,7 +73,7 @@ module _ {P : List Request → Type 0} where
   pub order_keeps : (state : ModelState) (event : Event) → KeptInOrder P (length state.harts) → Sound state → P state.order →
       P (next state event).state.order
   order_keeps state event kept sound now =
-      by_event (λ turn. P turn.state.order) state event (let step = step_deed state event.hart.number in rw step.turn_is now)
+      by_event (λ turn. P turn.state.order) state event (λ is. let step = step_deed state event.hart.number in rw step.turn_is now)
       (λ turn done. rw done.order (start_keeps state event.hart.number done.start kept sound done.where_it now))
 
 -- no hart has two

@@ -22,7 +22,7 @@ use Rattle.el_model.proofs.Harts.{hart_of-past, hart_of-with_hart_same}
 use Rattle.pair_table.specs.Predictor.{confidence_of}
 use Rattle.section_laws.specs.Sections.{IsOfSection, NeverRunsCandidate, NoneBeginsAfterRollback, RunsCandidate, SectionStepsAreOfFiveKinds}
 use Rattle.el_model.proofs.EachHart.{each_but}
-use Rattle.section_laws.proofs.EachKept.{BusKept, bus_keeps}
+use Rattle.section_laws.proofs.EachKept.{BusKept, turn_keeps}
 use Rattle.section_laws.proofs.Waiting.{Sound, always_sound, is_rolled}
 
 not_live : {X : Type 0} (section : Option Section) → is_some section ≡ true → section ≡ None → X
@@ -118,21 +118,18 @@ step_flagged state h g none =
 flag_stays : (state : ModelState) (event : Event) (g : ℕ) → (RunsCandidate state g event → ⊥) →
     Flagged state g (hart_of (next state event).state g)
 unfolding next
-flag_stays state event g none = by_kind event.kind refl
-  where
-    by_kind : (kind : Kind) → event.kind ≡ kind → Flagged state g (hart_of (kind_turn state event.hart.number kind).state g)
-    by_kind kinds.Step step =
-        step_flagged state event.hart.number g
-        (λ own ran candidate.
-        none (record {
-          step = step;
-          own = sym own;
-          ran = ap (λ kind. (kind_turn state event.hart.number kind).outcome) step ∙ ran;
-          candidate = ap (λ k. is_some (candidate_of state k)) own ∙ candidate;
-        }))
-    by_kind kinds.Order is = bus_keeps (flag_kept state) state event.hart.number kinds.Order (λ same. absurd (cc)) (λ k was. was) g
-    by_kind kinds.Serve is = bus_keeps (flag_kept state) state event.hart.number kinds.Serve (λ same. absurd (cc)) (λ k was. was) g
-    by_kind kinds.Deliver is = bus_keeps (flag_kept state) state event.hart.number kinds.Deliver (λ same. absurd (cc)) (λ k was. was) g
+flag_stays state event g none =
+    by_event (λ turn. Flagged state g (hart_of turn.state g)) state event
+    (λ step.
+    step_flagged state event.hart.number g
+    (λ own ran candidate.
+    none (record {
+      step = step;
+      own = sym own;
+      ran = ap (λ kind. (kind_turn state event.hart.number kind).outcome) step ∙ ran;
+      candidate = ap (λ k. is_some (candidate_of state k)) own ∙ candidate;
+    })))
+    (λ turn done. turn_keeps (flag_kept state) done (λ k was. was) g)
 
 flag_stays_long : (state : ModelState) (events : List Event) (g : ℕ) → NeverRunsCandidate state g events →
     (hart_of state g).fallback ≡ true → (hart_of (state_after state events) g).fallback ≡ true
@@ -169,7 +166,7 @@ step_unflagged state h was began =
 unflagged : (state : ModelState) (event : Event) → (hart_of state event.hart.number).fallback ≡ true →
     (next state event).outcome ≢ outcomes.Began
 unflagged state event was =
-    by_event (λ turn. turn.outcome ≢ outcomes.Began) state event (step_unflagged state event.hart.number was)
+    by_event (λ turn. turn.outcome ≢ outcomes.Began) state event (λ step. step_unflagged state event.hart.number was)
     (λ turn done began. subst IsOfBus began done.of_bus)
 
 -- a rollback by the hart itself sets the flag
@@ -206,7 +203,7 @@ sets_flag : (state : ModelState) (event : Event) (cause : Cause) → (next state
     (hart_of (next state event).state event.hart.number).fallback ≡ true
 sets_flag state event cause =
     by_event (λ turn. turn.outcome ≡ outcomes.RolledBack cause → (hart_of turn.state event.hart.number).fallback ≡ true) state event
-    (step_sets_flag state event.hart.number cause) (λ turn done back. absurd (subst IsOfBus back done.of_bus))
+    (λ step. step_sets_flag state event.hart.number cause) (λ turn done back. absurd (subst IsOfBus back done.of_bus))
 
 pub none_begins_after_rollback : NoneBeginsAfterRollback
 none_begins_after_rollback state event later events cause back never own =

@@ -117,7 +117,7 @@ next_counts : (state : ModelState) (event : Event) →
     Counts state (next state event).state (length (taking_effect event.hart.number (next state event).outcome))
 next_counts state event =
     by_event (λ turn. Counts state turn.state (length (taking_effect event.hart.number turn.outcome))) state event
-    (step_counts state event.hart.number) (λ turn done. bus_counts done)
+    (λ step. step_counts state event.hart.number) (λ turn done. bus_counts done)
 
 all_count : (state : ModelState) (events : List Event) →
     length (serial (entries_from state events)) + weight (state_after state events).harts ≤ length events + weight state.harts

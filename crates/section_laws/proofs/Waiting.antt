@@ -214,8 +214,8 @@ bus_sound : {state : ModelState} {by : ℕ} {turn : Turn} → IsBusEvent state b
 bus_sound {state} {by} {turn} done sound h =
     let ordered = request_of (order_after state done.start) in
     let waits : Waiting (status_of state.committed) ordered h (hart_of turn.state h) =
-        moved (moves (status_of state.committed) ordered) state by done.start h (past_waits state by done.start sound done.where_it h)
-        (λ below. started_waits state by done.start sound done.where_it h) (done.becomes h) in
+    moved (moves (status_of state.committed) ordered) state by done.start h (past_waits state by done.start sound done.where_it h)
+    (λ below. started_waits state by done.start sound done.where_it h) (done.becomes h) in
     rw done.committed (rw done.order waits)
 
 -- a step
@@ -355,7 +355,7 @@ step_sound state h sound =
 
 pub next_sound : (state : ModelState) (event : Event) → Sound state → Sound (next state event).state
 next_sound state event sound =
-    by_event (λ turn. Sound turn.state) state event (step_sound state event.hart.number sound) (λ turn done. bus_sound done sound)
+    by_event (λ turn. Sound turn.state) state event (λ step. step_sound state event.hart.number sound) (λ turn done. bus_sound done sound)
 
 record IsFresh (hart : Hart) : Type 0 where
   no_section : hart.section ≡ None

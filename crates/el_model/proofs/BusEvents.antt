@@ -3,7 +3,6 @@ use Rattle.std.proofs.Common.{◌≡◌, ◌≢◌, ◌∙◌, ℕ, suc, ◌+◌
 use Rattle.std.proofs.Common.{map, filter, refl, ap, sym, subst, arith, if◌then◌else◌}
 use Rattle.std.specs.Prelude.{nat_lt}
 use Rattle.std.proofs.lemmas.Bool.{ltb-true, ltb-false}
-use Rattle.std.proofs.lemmas.Bool.Decides.{nat_tests}
 use Rattle.bus_order.specs.Order.{Request, tail_of}
 use Rattle.bus_order.proofs.LookUps.{number_of_test, other_test, own_test}
 use Rattle.defer_list.specs.HartSet.{has, included}
@@ -19,8 +18,8 @@ use Rattle.el_base.specs.declared.events.Event.{Event}
 use Rattle.el_base.specs.declared.events.Kind.{Kind}
 use Rattle.el_base.specs.declared.events.Kind.TheVariants as kinds
 use Rattle.el_base.specs.declared.outcomes.Outcome.TheVariants.{Delivered, Ordered, Served}
-use Rattle.el_model.specs.BusEvent.{AtFace, AtProbe, Becomes, Defers, Forwards, IsAbsent, IsAnswered, IsBehind, IsBusEvent, IsDeferred, IsForwarded, IsLetGo}
-use Rattle.el_model.specs.BusEvent.{IsPassed, IsPosted, IsSent, IsToldOn, LosesIt, LosesWhere, MayPlace, MayServe, Nothing, Places, Sees, Serves, Start}
+use Rattle.el_model.specs.BusEvent.{AtFace, AtProbe, Becomes, Forwards, IsAbsent, IsAnswered, IsBehind, IsBusEvent, IsDeferred, IsForwarded, IsLetGo, IsOfBus}
+use Rattle.el_model.specs.BusEvent.{IsPassed, IsPosted, IsSent, IsToldOn, LosesIt, MayPlace, MayServe, Nothing, Places, Sees, Serves, Start}
 use Rattle.el_model.specs.BusEvent.{Starts, Takes, TellsOn, as_faced, as_met, faced_head, freed_in, having_taken, started}
 use Rattle.el_model.specs.Armed.{freed_by, freed_hart, is_freed, let_go, let_go_hart}
 use Rattle.el_model.specs.Conflicts.{conflicts_with, stamp_in}
@@ -34,11 +33,11 @@ use Rattle.el_model.specs.Serve.{Blocks, Free, Obstacle, obstacle_to, serve_lose
 use Rattle.el_model.specs.State.{Hart, ModelState, Turn, count_up, each_hart, hart_of, head_of, idle, new_hart, ordered_of, ordered_on, post_all, raised_of, with_hart}
 use Rattle.el_model.proofs.EachHart.{Each, each_after, each_but_below, each_with}
 use Rattle.el_model.proofs.Harts.{hart_of-each_hart, hart_of-each_hart_past, hart_of-past, hart_of-with_hart_other, hart_of-with_hart_same, with_hart_kept}
-use Rattle.el_model.proofs.Keeps.{Frame, Keeps, frame_let_go, frame_met, frame_of, frame_twice, keeps_all, keeps_each_hart, keeps_served, keeps_twice, keeps_with_hart}
-use Rattle.el_model.proofs.Losing.{absent_is_unmet, own_is_unmet}
-use Rattle.el_model.proofs.Orders.{met_order, message_order, placed_order, served_order}
+use Rattle.el_model.proofs.Keeps.{Frame, Keeps, frame_let_go, frame_met, frame_of, frame_placed, frame_twice, keeps_all, keeps_before_face}
+use Rattle.el_model.proofs.Keeps.{keeps_each_hart, keeps_message, keeps_served, keeps_twice, keeps_with_hart, met_commits, placed_commits}
+use Rattle.el_model.proofs.Losing.{outside_is_unmet, own_is_unmet}
+use Rattle.el_model.proofs.Orders.{met_order, placed_order, served_order}
 use Rattle.el_model.proofs.Tests.{by_test}
-use Rattle.el_model.proofs.Turns.{before_face_keeps, message_keeps, met_commits, placed_commits, placed_frame}
 use Rattle.mail.specs.Mailbox.{Message, Marker, Probe, posted}
 use Rattle.rv_flat.specs.FlatState.{view_of}
 use Rattle.rv_flat.specs.Run.{run}
@@ -112,7 +111,7 @@ module _ (state : ModelState) (by : ℕ) (start : Start) where
 -- the state in which a head is met, and the one in which it is faced
 pub keeps_as_met : (state : ModelState) (by : ℕ) (start : Start) → Keeps state (as_met state by start)
 keeps_as_met state by Nothing = keeps_all state
-keeps_as_met state by (Places request place) = before_face_keeps state request place
+keeps_as_met state by (Places request place) = keeps_before_face state request place
 keeps_as_met state by (Serves request) = keeps_served state request
 keeps_as_met state by (Takes message others) = keeps_with_hart state by (record (hart_of state by) { mail = others })
 
@@ -211,18 +210,19 @@ module _ (state : ModelState) (by : ℕ) (start : Start) (head : Request) (is : 
       by_count false is =
           let past = ltb-false h (length mid.harts) is in
           let none = hart_of-past mid h past in
-          let unmet : fate_at mid head h ≡ Unmet = ap (fate_of mid head h) none ∙ absent_is_unmet mid head h in
+          let unmet : fate_at mid head h ≡ Unmet = outside_is_unmet mid head h (hart_of mid h) (ap (λ hart. hart.section) none) in
           subst (λ fate. Becomes state by start h (winner_in fate) (hart_of (each_hart mid (faced_hart mid head)) h)) (sym unmet)
           (subst (Becomes state by start h None) (none ∙ sym (hart_of-each_hart_past mid (faced_hart mid head) h past)) (each h))
 
 -- nothing is done
-nothing_done : (state : ModelState) (by : ℕ) (turn : Turn) → turn.state ≡ state → ((h : ℕ) → winner_over turn.outcome h ≡ None) →
+nothing_done : (state : ModelState) (by : ℕ) (turn : Turn) → turn.state ≡ state → IsOfBus turn.outcome → ((h : ℕ) → winner_over turn.outcome h ≡ None) →
     ((h : ℕ) → taking_effect h turn.outcome ≡ []) → IsBusEvent state by turn
-nothing_done state by turn still unnamed ineffective = record {
+nothing_done state by turn still of_bus unnamed ineffective = record {
   start = Nothing;
   where_it = tt;
   lost = λ h. None;
   becomes = λ h. rw still (left state by Nothing h refl);
+  of_bus = of_bus;
   names = λ h. unnamed h ∙ sym (unnamed_by_map (λ k. None) h refl);
   faces = λ head is. none_some is;
   order = ap (λ new. new.order) still;
@@ -281,12 +281,13 @@ module _ (state : ModelState) (by : ℕ) (request : Request) where
       ((h : ℕ) → Becomes state by (Places request place) h (lost h) (hart_of (placed state request place) h)) →
       ((h : ℕ) → winner_over (placing place).outcome h ≡ winner_over (Delivered (losers_of lost)) h) → IsBusEvent state by (placing place)
   placed_event place may lost becomes names =
-      let frame = placed_frame state request place in
+      let frame = frame_placed state request place in
       record {
         start = Places request place;
         where_it = may;
         lost = lost;
         becomes = becomes;
+        of_bus = tt;
         names = names;
         faces = placed_faced place;
         order = placed_order state request place;
@@ -309,7 +310,7 @@ module _ (state : ModelState) (by : ℕ) (request : Request) where
       (faced_becomes state by (Places request Alone) request refl (unraised_started Alone)) (λ h. refl)
 
 raised_event : (state : ModelState) (by : ℕ) (raised : Option Request) → raised_of state by ≡ raised → IsBusEvent state by (order_raised state raised)
-raised_event state by None is = nothing_done state by (idle state) refl (λ h. refl) (λ h. refl)
+raised_event state by None is = nothing_done state by (idle state) refl tt (λ h. refl) (λ h. refl)
 raised_event state by (Some request) is =
     place_event state by request (place_for state request) (record { raised = is; place_is = refl })
 
@@ -330,6 +331,7 @@ serve_event state by request may None is = record {
   where_it = may;
   lost = λ h. None;
   becomes = served_started state by request;
+  of_bus = tt;
   names = λ h. refl;
   faces = λ head is_head. none_some (sym is ∙ is_head);
   order = served_order state request;
@@ -351,6 +353,7 @@ serve_event state by request may (Some head) is =
       where_it = may;
       lost = λ h. winner_in (fate_at (let_go after head) head h);
       becomes = faced_becomes state by (Serves request) head is (served_started state by request);
+      of_bus = tt;
       names = λ h. refl;
       faces = λ found is_found. ap (met after) (some_same (sym is ∙ is_found));
       order = met_order after (Some head) ∙ served_order state request;
@@ -362,15 +365,29 @@ serve_event state by request may (Some head) is =
       count = frame.count;
     }
 
+-- as a head is met no hart has lost yet, nor as it is faced
+pub met_becomes : (state : ModelState) (by : ℕ) (start : Start) (head : Request) → faced_head state start ≡ Some head → (h : ℕ) →
+    Becomes state by start h None (hart_of (as_met state by start) h)
+met_becomes state by Nothing head is h = absurd (cc)
+met_becomes state by (Places request InFront) head is h = in_front_started state by request (head_of state request.line) refl h
+met_becomes state by (Places request Behind) head is h = behind_started state by request (tail_of state.order request.line) refl h
+met_becomes state by (Places request Alone) head is h = unraised_started state by request Alone h
+met_becomes state by (Serves request) head is h = served_started state by request h
+met_becomes state by (Takes message others) head is h = absurd (cc)
+
+pub freed_becomes_at : (state : ModelState) (by : ℕ) (start : Start) (head : Request) → faced_head state start ≡ Some head → (h : ℕ) →
+    Becomes state by start h None (hart_of (as_faced state by start head) h)
+freed_becomes_at state by start head is h = each state by start head is (met_becomes state by start head is) h
+
 past_event : (state : ModelState) (by : ℕ) (request : Request) → ordered_of state by ≡ Some request → (obstacle : Obstacle) →
     obstacle_to state request ≡ obstacle → IsBusEvent state by (serve_past state request obstacle)
-past_event state by request ordered (Blocks why other) is = nothing_done state by (serve_past state request (Blocks why other)) refl (λ h. refl) (λ h. refl)
+past_event state by request ordered (Blocks why other) is = nothing_done state by (serve_past state request (Blocks why other)) refl tt (λ h. refl) (λ h. refl)
 past_event state by request ordered Free is =
     serve_event state by request (record { ordered = ordered; free = is }) (head_of (served state request) request.line) refl
 
 ordered_event : (state : ModelState) (by : ℕ) (ordered : Option Request) → ordered_of state by ≡ ordered →
     IsBusEvent state by (serve_ordered state ordered)
-ordered_event state by None is = nothing_done state by (idle state) refl (λ h. refl) (λ h. refl)
+ordered_event state by None is = nothing_done state by (idle state) refl tt (λ h. refl) (λ h. refl)
 ordered_event state by (Some request) is = past_event state by request is (obstacle_to state request) refl
 
 -- a message is taken
@@ -443,6 +460,7 @@ module _ (state : ModelState) (by : ℕ) (message : Message) (others : List Mess
     where_it = mail_is;
     lost = losers;
     becomes = becomes;
+    of_bus = tt;
     names = λ h. refl;
     faces = λ head is. none_some is;
     order = order;
@@ -493,7 +511,7 @@ module _ (state : ModelState) (by sender : ℕ) (others : List Message) (mail_is
           (sym (taken_own state by (Marker sender) others mail_is)) (own_taken state by (Marker sender) others mail_is))
           (λ g apart now. now) in
       taken_event state by (Marker sender) others mail_is (post_to preceded sender messages) (λ h. None)
-      (keeps_twice (taken_keeps state by (Marker sender) others mail_is) (message_keeps left_mail by (Marker sender)))
+      (keeps_twice (taken_keeps state by (Marker sender) others mail_is) (keeps_message left_mail by (Marker sender)))
       refl
       (each_with (Unbeaten state by (Takes (Marker sender) others)) preceded sender (post_all (hart_of preceded sender) messages)
       (all_sent state by (Takes (Marker sender) others) sender (hart_of preceded sender) messages
@@ -618,7 +636,7 @@ message_event state by (Probe origin) others is = by_told (has (hart_of (taken s
         (loses_to_origin (taken state by others) by (ordered_of (taken state by others) origin)) refl)
 
 mail_event : (state : ModelState) (by : ℕ) (mail : List Message) → (hart_of state by).mail ≡ mail → IsBusEvent state by (deliver_next state by mail)
-mail_event state by [] is = nothing_done state by (idle state) refl (λ h. refl) (λ h. refl)
+mail_event state by [] is = nothing_done state by (idle state) refl tt (λ h. refl) (λ h. refl)
 mail_event state by (message ∷ others) is = message_event state by message others is
 
 -- every event of the bus
@@ -633,15 +651,18 @@ pub bus_events_are_told_once : BusEventsAreToldOnce
 unfolding next
 bus_events_are_told_once state event bus = bus_event state event.hart.number event.kind bus
 
+pub frame_of_bus : {state : ModelState} {by : ℕ} {turn : Turn} → IsBusEvent state by turn → Frame state turn.state
+frame_of_bus done = record { config = done.config; count = done.count }
+
 -- what holds of a step and of what an event of the bus is holds of each event
-by_kind : (P : Turn → Type 0) (state : ModelState) (h : ℕ) (kind : Kind) → P (step_turn state h) →
+pub by_kind : (P : Turn → Type 0) (state : ModelState) (h : ℕ) (kind : Kind) → (kind ≡ kinds.Step → P (step_turn state h)) →
     ((turn : Turn) → IsBusEvent state h turn → P turn) → P (kind_turn state h kind)
-by_kind P state h kinds.Step step bus = step
+by_kind P state h kinds.Step step bus = step refl
 by_kind P state h kinds.Order step bus = bus (kind_turn state h kinds.Order) (bus_event state h kinds.Order (λ same. absurd (cc)))
 by_kind P state h kinds.Serve step bus = bus (kind_turn state h kinds.Serve) (bus_event state h kinds.Serve (λ same. absurd (cc)))
 by_kind P state h kinds.Deliver step bus = bus (kind_turn state h kinds.Deliver) (bus_event state h kinds.Deliver (λ same. absurd (cc)))
 
-pub by_event : (P : Turn → Type 0) (state : ModelState) (event : Event) → P (step_turn state event.hart.number) →
+pub by_event : (P : Turn → Type 0) (state : ModelState) (event : Event) → (event.kind ≡ kinds.Step → P (step_turn state event.hart.number)) →
     ((turn : Turn) → IsBusEvent state event.hart.number turn → P turn) → P (next state event)
 unfolding next
 by_event P state event step bus = by_kind P state event.hart.number event.kind step bus

@@ -1,22 +1,17 @@
 -- what a loss leaves of a section, and whom a fate may name: a hart does not meet its own request, without a section it meets none, and
 -- it loses to no hart that a machine does not have
-use Rattle.std.proofs.Common.{◌≡◌, ◌∙◌, ℕ, suc, ◌+◌, ◌<◌, ◌≤◌, Bool, true, false, ◌&&◌, not, ◌==◌, List, [], ◌∷◌, Option, Some, None, length, refl, ap, sym, arith, if◌then◌else◌}
-use Rattle.std.specs.Prelude.{IfSome, nat_lt}
-use Rattle.std.proofs.lemmas.Bool.{ltb-true, ltb-false}
+use Rattle.std.proofs.Common.{◌≡◌, ◌∙◌, ℕ, suc, ◌+◌, ◌<◌, ◌≤◌, Bool, true, false, ◌&&◌, not, ◌==◌, List, [], ◌∷◌, Option, Some, None, is_some, length, refl, ap, arith, if◌then◌else◌}
+use Rattle.std.specs.Prelude.{IfSome}
 use Rattle.bus_order.specs.Order.{Request}
 use Rattle.defer_list.specs.HartSet.{has}
-use Rattle.el_base.proofs.MadeLosers.{beaten_by-beyond, beaten_by-losers_of}
-use Rattle.el_base.specs.Losers.{beaten_by}
 use Rattle.el_base.specs.declared.config.Mode.{Mode}
 use Rattle.el_base.specs.declared.config.Mode.TheVariants.{Plain, Sle, Tlr}
 use Rattle.el_model.specs.Conflicts.{conflicts, earlier, least_such, meets_bit, stamp_in, told_winner, wins_over}
-use Rattle.el_model.specs.Face.{Fate, LosesTo, Stays, Unmet, after_fate, deferring, deferring_fate, face_losers, faced, faced_hart, fate_at, fate_of, markers_for, told_fate, winner_in, winning_stamp}
-use Rattle.el_model.specs.Losses.{lost_in, restored, standing_of}
+use Rattle.el_model.specs.Face.{Fate, LosesTo, Unmet, deferring_fate, fate_of, told_fate, winner_in}
+use Rattle.el_model.specs.Losses.{Standing, lost_in, standing_of}
 use Rattle.el_model.specs.RollBack.{beaten, most_tries, out_of_section}
-use Rattle.el_model.specs.State.{Hart, ModelState, count_up, hart_of, new_hart, ordered_on, post_all}
-use Rattle.el_model.proofs.Harts.{hart_of-each_hart, hart_of-each_hart_past, hart_of-past}
+use Rattle.el_model.specs.State.{Hart, ModelState, count_up, ordered_on}
 use Rattle.el_model.proofs.Tests.{by_test}
-use Rattle.mail.specs.Mailbox.{Message, posted}
 use Rattle.stamp.specs.Stamps.{Stamp, is_before}
 
 try_stands : (hart : Hart) (last : Bool) →
@@ -31,6 +26,11 @@ pub beaten_stands : (mode : Mode) (winner : Option Stamp) (hart : Hart) →
 beaten_stands Tlr winner hart = refl
 beaten_stands Sle winner hart = try_stands (out_of_section hart) (hart.tries + 1 == most_tries)
 beaten_stands Plain winner hart = try_stands (out_of_section hart) (hart.tries + 1 == most_tries)
+
+pub lost_section : (mode : Mode) (old : Standing) → (lost_in mode old).section ≡ None
+lost_section Tlr old = refl
+lost_section Sle old = by_test {A = Standing} (λ standing. standing.section ≡ None) (old.tries + 1 == most_tries) _ _ (λ last. refl) (λ more. refl)
+lost_section Plain old = by_test {A = Standing} (λ standing. standing.section ≡ None) (old.tries + 1 == most_tries) _ _ (λ last. refl) (λ more. refl)
 
 -- a hart does not meet its own request, and without a section it meets none
 unmet_if : (state : ModelState) (head : Request) (h : ℕ) (hart : Hart) (meets : Bool) → meets ≡ false →
@@ -48,9 +48,11 @@ pub no_section_meets : (other meets : Bool) → ((other && false) && meets) ≡ 
 no_section_meets true meets = refl
 no_section_meets false meets = refl
 
-pub absent_is_unmet : (state : ModelState) (head : Request) (h : ℕ) → fate_of state head h (new_hart 0) ≡ Unmet
-absent_is_unmet state head h =
-    unmet_if state head h (new_hart 0) _ (no_section_meets (not (head.hart == h)) (meets_bit (new_hart 0) head.line head.need))
+pub outside_is_unmet : (state : ModelState) (head : Request) (h : ℕ) (hart : Hart) → hart.section ≡ None → fate_of state head h hart ≡ Unmet
+outside_is_unmet state head h hart none =
+    unmet_if state head h hart _
+    (ap (λ section. (not (head.hart == h) && is_some section) && meets_bit hart head.line head.need) none
+    ∙ no_section_meets (not (head.hart == h)) (meets_bit hart head.line head.need))
 
 -- the hart that wins over a told section is one of the machine's
 earlier_below : (stamp : ℕ → Option Stamp) (limit origin : ℕ) (other : Option ℕ) → origin < limit → IfSome other (λ o. o < limit) →

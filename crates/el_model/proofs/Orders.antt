@@ -4,7 +4,7 @@ use Rattle.bus_order.specs.Order.{Request, removed, tail_of}
 use Rattle.defer_list.specs.HartSet.{has}
 use Rattle.el_base.specs.declared.config.Mode.{Mode}
 use Rattle.el_base.specs.declared.config.Mode.TheVariants.{Plain, Sle, Tlr}
-use Rattle.el_model.specs.BusEvent.{order_at}
+use Rattle.el_model.specs.BusEvent.{Nothing, Places, Serves, Start, Takes, as_faced, as_met, order_after, order_at}
 use Rattle.el_model.specs.Deliver.{after_probe, deliver_next, delivered, taken}
 use Rattle.el_model.specs.Armed.{let_go}
 use Rattle.el_model.specs.Face.{faced, met_if}
@@ -52,3 +52,16 @@ message_order state h (Probe origin) =
 pub mail_order : (state : ModelState) (h : ℕ) (mail : List Message) → (deliver_next state h mail).state.order ≡ state.order
 mail_order state h [] = refl
 mail_order state h (message ∷ others) = message_order (taken state h others) h message
+
+-- as a head is met, and as it is faced
+pub order_as_met : (state : ModelState) (by : ℕ) (start : Start) → (as_met state by start).order ≡ order_after state start
+order_as_met state by Nothing = refl
+order_as_met state by (Places request InFront) = marking_order (placed_in_front state request) request.hart (head_of state request.line)
+order_as_met state by (Places request Behind) = marked_by_order (placed_last state request) (tail_of state.order request.line) request.hart
+order_as_met state by (Places request Alone) = refl
+order_as_met state by (Serves request) = served_order state request
+order_as_met state by (Takes message others) = refl
+
+pub order_as_faced : (state : ModelState) (by : ℕ) (start : Start) (head : Request) → (as_faced state by start head).order ≡ order_after state start
+unfolding let_go
+order_as_faced state by start head = order_as_met state by start

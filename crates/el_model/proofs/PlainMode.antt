@@ -1,5 +1,5 @@
 -- in the plain mode nothing of sections, bits and watches ever arises
-use Rattle.std.proofs.Common.{◌≡◌, ◌∙◌, ℕ, Bool, true, false, List, [], ◌∷◌, Option, None, Some, is_some, refl, ap, sym, if◌then◌else◌, ◌==◌, ◌+◌}
+use Rattle.std.proofs.Common.{◌≡◌, ◌∙◌, ℕ, Bool, true, false, List, Option, None, Some, is_some, refl, ap, sym, if◌then◌else◌, ◌==◌, ◌+◌}
 use Rattle.bus_order.specs.Order.{Request}
 use Rattle.cache_sets.specs.Cache.{has_marks, is_resident, touched}
 use Rattle.cache_sets.specs.Residency.{Way}
@@ -187,5 +187,5 @@ step_plain state h mode all =
 
 pub next_plain : (state : ModelState) (event : Event) → state.config.mode ≡ Plain → All IsPlain state → All IsPlain (next state event).state
 next_plain state event mode all =
-    by_event (λ turn. All IsPlain turn.state) state event (step_plain state event.hart.number mode all)
+    by_event (λ turn. All IsPlain turn.state) state event (λ step. step_plain state event.hart.number mode all)
     (λ turn done h. becomes_plain state event.hart.number done.start h (all h) (done.becomes h))

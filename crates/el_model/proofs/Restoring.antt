@@ -1,26 +1,28 @@
 -- where an event of the bus names no winner for a hart, its section, tries and flag are as they were; where it names one they are those after a loss
-use Rattle.std.proofs.Common.{◌≡◌, ◌≢◌, ◌∙◌, ℕ, ◌<◌, ◌≤◌, Bool, true, false, ◌==◌, List, [], ◌∷◌, Option, Some, None, is_some, length, refl, ap, sym, subst, arith, if◌then◌else◌}
+use Rattle.std.proofs.Common.{◌≡◌, ◌≢◌, ◌∙◌, ℕ, ◌<◌, Bool, true, false, ◌&&◌, not, ◌==◌, List, [], ◌∷◌, Option, Some, None, is_some, length, refl, ap, sym, subst, arith, if◌then◌else◌}
 use Rattle.std.specs.Prelude.{IfSome}
 use Rattle.std.proofs.lemmas.Bool.Decides.{nat_tests}
 use Rattle.bus_order.specs.Order.{Request, first_of, removed, request_of}
-use Rattle.el_base.proofs.MadeLosers.{beaten_by-losers_of}
+use Rattle.el_base.proofs.MadeLosers.{beaten_by-losers_of, unnamed_by_map}
 use Rattle.el_base.specs.Winners.{winner_over}
 use Rattle.el_base.specs.declared.events.Event.{Event}
 use Rattle.el_base.specs.declared.events.Kind.TheVariants as kinds
-use Rattle.el_model.specs.BusEvent.{AtFace, AtProbe, Becomes, IsAbsent, IsLetGo, IsSent, LosesIt, LosesWhere, Nothing, Places, Sees, Serves, Start, Starts, StartsWhere, Takes}
+use Rattle.el_model.specs.BusEvent.{AtFace, AtProbe, Becomes, IsAbsent, IsBusEvent, IsLetGo, IsSent, LosesIt, LosesWhere, Nothing, Places, Sees, Serves, Start, Starts, StartsWhere, Takes}
 use Rattle.el_model.specs.BusEvent.{as_faced, faced_head, having_taken, started}
-use Rattle.el_model.specs.Face.{LosesTo, fate_at, winner_in}
+use Rattle.el_model.specs.Conflicts.{conflicts_with, meets_bit}
+use Rattle.el_model.specs.Deliver.{loses_to_origin}
+use Rattle.el_model.specs.Face.{winner_in}
 use Rattle.el_model.specs.Losses.{AreNumbered, HartsAreNumbered, lost_in, restored, standing_of}
 use Rattle.el_model.specs.Next.{next}
 use Rattle.el_model.specs.Order.{Alone, Behind, InFront}
-use Rattle.el_model.specs.Serve.{bystander, served, served_hart, with_claim}
-use Rattle.el_model.specs.State.{Hart, ModelState, hart_of, head_of}
-use Rattle.el_model.proofs.BusEvents.{bus_event, frame_as_faced}
-use Rattle.el_model.proofs.Losing.{beaten_stands, fate_below}
+use Rattle.el_model.specs.Serve.{bystander, served_hart, with_claim}
+use Rattle.el_model.specs.State.{Hart, ModelState, Turn, hart_of, head_of, section_of}
+use Rattle.el_model.proofs.BusEvents.{bus_events_are_told_once, frame_as_faced, freed_becomes_at}
+use Rattle.el_model.proofs.Losing.{beaten_stands, fate_below, no_section_meets, outside_is_unmet}
 use Rattle.el_model.proofs.Orders.{served_order}
 use Rattle.el_model.proofs.Tests.{by_test}
 use Rattle.mail.specs.Mailbox.{Marker, Message, Probe}
-use Rattle.stamp.specs.Stamps.{Stamp}
+use Rattle.stamp.specs.Stamps.{Stamp, is_before}
 
 -- what an event with these losers leaves of a hart
 abbrev pub Restores : ModelState → ModelState → Option ℕ → ℕ → Type 0
@@ -46,7 +48,7 @@ started_same state by (Takes message others) h hart =
     by_test (λ new. standing_of new ≡ standing_of hart) (h == by) (having_taken message others hart) hart
     (λ own. taken_same message others hart) (λ other. refl)
 
-stands : (state : ModelState) (by : ℕ) (start : Start) (h : ℕ) {lost : Option ℕ} {hart : Hart} → Becomes state by start h lost hart →
+pub stands : (state : ModelState) (by : ℕ) (start : Start) (h : ℕ) {lost : Option ℕ} {hart : Hart} → Becomes state by start h lost hart →
     standing_of hart ≡ restored state.config.mode lost (standing_of (hart_of state h))
 stands state by start h (IsAbsent past) = refl
 stands state by start h (Starts below) = started_same state by start h (hart_of state h)
@@ -116,13 +118,57 @@ lost_numbered state by start h numbered where_it (IsLetGo head hart frees now) =
 lost_numbered state by start h numbered where_it (Sees head lost hart defers now) = lost_numbered state by start h numbered where_it now
 lost_numbered state by start h numbered where_it (LosesIt winner stamp hart loses now) = winner_numbered state by numbered where_it loses
 
-pub losers_restored : (state : ModelState) (event : Event) (g : ℕ) → HartsAreNumbered state → event.kind ≢ kinds.Step → g < length state.harts →
-    Restores state (next state event).state (winner_over (next state event).outcome g) g
-unfolding next
-losers_restored state event g numbered bus below =
-    let by = event.hart.number in
-    let done = bus_event state by event.kind bus in
+pub bus_restores : {state : ModelState} {by : ℕ} {turn : Turn} → IsBusEvent state by turn → (g : ℕ) → HartsAreNumbered state →
+    g < length state.harts → Restores state turn.state (winner_over turn.outcome g) g
+bus_restores {state} {by} done g numbered below =
     let few = numbered.few in
     stands state by done.start g (done.becomes g)
     ∙ ap (λ winner. restored state.config.mode winner (standing_of (hart_of state g)))
     (sym (done.names g ∙ beaten_by-losers_of done.lost g (omega (arith, few, below)) (lost_numbered state by done.start g numbered done.where_it (done.becomes g))))
+
+pub losers_restored : (state : ModelState) (event : Event) (g : ℕ) → HartsAreNumbered state → event.kind ≢ kinds.Step → g < length state.harts →
+    Restores state (next state event).state (winner_over (next state event).outcome g) g
+losers_restored state event g numbered bus below = bus_restores (bus_events_are_told_once state event bus) g numbered below
+
+-- without a section a hart loses to nobody, and has none after the event
+no_loss : (state : ModelState) (h : ℕ) (request : Request) → section_of state h ≡ None → loses_to_origin state h (Some request) ≡ true → ⊥
+no_loss state h request none loses =
+    let unmet = conflicts_not (head_of state request.line) h (hart_of state h) none in
+    let e = sym (ap (λ meets. meets && is_before request.stamp (hart_of state h).attempt) unmet) ∙ loses in absurd (cc)
+  where
+    conflicts_not : (head : Option Request) (h : ℕ) (hart : Hart) → hart.section ≡ None → conflicts_with head h hart ≡ false
+    conflicts_not None h hart none = refl
+    conflicts_not (Some head) h hart none =
+        ap (λ section. (not (head.hart == h) && is_some section) && meets_bit hart head.line head.need) none
+        ∙ no_section_meets (not (head.hart == h)) (meets_bit hart head.line head.need)
+
+pub loser_lives : (state : ModelState) (by : ℕ) {start : Start} {h winner : ℕ} {stamp : Option Stamp} → LosesWhere state by start h winner stamp →
+    section_of state h ≡ None → ⊥
+loser_lives state by (AtFace start head h winner is apart fate) none =
+    let mid = as_faced state by start head in
+    let outside = ap (λ standing. standing.section) (stands state by start h (freed_becomes_at state by start head is h)) ∙ none in
+    let e = sym (outside_is_unmet mid head h (hart_of mid h) outside) ∙ fate in
+    absurd (cc)
+loser_lives state by (AtProbe origin others request is loses) none = no_loss state by request none loses
+
+lost_none : (state : ModelState) (by : ℕ) (start : Start) (h : ℕ) {lost : Option ℕ} {hart : Hart} → section_of state h ≡ None →
+    Becomes state by start h lost hart → lost ≡ None
+lost_none state by start h none (IsAbsent past) = refl
+lost_none state by start h none (Starts below) = refl
+lost_none state by start h none (IsSent message lost hart sent now) = lost_none state by start h none now
+lost_none state by start h none (IsLetGo head hart frees now) = refl
+lost_none state by start h none (Sees head lost hart defers now) = lost_none state by start h none now
+lost_none state by start h none (LosesIt winner stamp hart loses now) = absurd (loser_lives state by loses none)
+
+pub unnamed_outside : {state : ModelState} {by : ℕ} {turn : Turn} → IsBusEvent state by turn → (g : ℕ) → section_of state g ≡ None →
+    winner_over turn.outcome g ≡ None
+unnamed_outside {state} {by} done g none =
+    done.names g ∙ unnamed_by_map done.lost g (lost_none state by done.start g none (done.becomes g))
+
+pub stays_outside : {state : ModelState} {by : ℕ} {turn : Turn} → IsBusEvent state by turn → (g : ℕ) → section_of state g ≡ None →
+    section_of turn.state g ≡ None
+stays_outside {state} {by} done g none =
+    ap (λ standing. standing.section)
+    (stands state by done.start g (done.becomes g)
+    ∙ ap (λ lost. restored state.config.mode lost (standing_of (hart_of state g))) (lost_none state by done.start g none (done.becomes g)))
+    ∙ none

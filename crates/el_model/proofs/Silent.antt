@@ -150,5 +150,5 @@ step_silent state h stampless all =
 pub next_silent : (state : ModelState) (event : Event) → has_stamps state.config.mode ≡ false → All IsSilent state →
     All IsSilent (next state event).state
 next_silent state event stampless all =
-    by_event (λ turn. All IsSilent turn.state) state event (step_silent state event.hart.number stampless all)
+    by_event (λ turn. All IsSilent turn.state) state event (λ step. step_silent state event.hart.number stampless all)
     (λ turn done h. becomes_silent state event.hart.number done.start h stampless all done.where_it (done.becomes h))

@@ -8,10 +8,12 @@ use Rattle.el_base.specs.declared.config.Mode.TheVariants.{Tlr}
 use Rattle.chronicle.specs.Serial.{taking_effect}
 use Rattle.el_base.specs.Freed.{order_of}
 use Rattle.el_base.specs.declared.freed.Freed.{Freed}
+use Rattle.el_base.specs.declared.outcomes.Outcome.{Outcome}
+use Rattle.el_base.specs.declared.outcomes.Outcome.TheVariants as outcomes
 use Rattle.el_model.specs.Armed.{is_freed, let_go, let_go_hart}
 use Rattle.el_model.specs.Attempts.{see}
 use Rattle.el_model.specs.Deliver.{loses_to_origin, taken}
-use Rattle.el_model.specs.Face.{LosesTo, Stays, fate_at, freed_if, met, stays, winning_stamp}
+use Rattle.el_model.specs.Face.{LosesTo, Stays, fate_at, freed_if, met, winning_stamp}
 use Rattle.el_model.specs.Order.{Alone, Behind, InFront, Place, before_face, place_for}
 use Rattle.el_model.specs.RollBack.{beaten}
 use Rattle.el_model.specs.Serve.{Free, obstacle_to, served, serving}
@@ -159,6 +161,15 @@ pub data Becomes (state : ModelState) (by : ℕ) (start : Start) (h : ℕ) : Opt
   LosesIt : (winner : ℕ) (stamp : Option Stamp) (hart : Hart) → LosesWhere state by start h winner stamp → Becomes state by start h None hart →
       Becomes state by start h (Some winner) (beaten state.config.mode stamp hart)
 
+-- how an event of the bus may come out
+abbrev pub IsOfBus : Outcome → Type 0
+IsOfBus outcomes.Idle = Unit {0}
+IsOfBus (outcomes.Ordered losers freed) = Unit {0}
+IsOfBus (outcomes.Served losers freed) = Unit {0}
+IsOfBus (outcomes.Blocked why by) = Unit {0}
+IsOfBus (outcomes.Delivered losers) = Unit {0}
+IsOfBus _ = ⊥
+
 -- what an event of the bus is: a start, and what becomes of each hart from there; what is committed stays, but for the instructions of
 -- the harts that it lets go
 pub record IsBusEvent (state : ModelState) (by : ℕ) (turn : Turn) : Type 0 where
@@ -166,6 +177,7 @@ pub record IsBusEvent (state : ModelState) (by : ℕ) (turn : Turn) : Type 0 whe
   pub where_it : StartsWhere state by start
   pub lost : ℕ → Option ℕ
   pub becomes : (h : ℕ) → Becomes state by start h (lost h) (hart_of turn.state h)
+  pub of_bus : IsOfBus turn.outcome
   pub names : (h : ℕ) → winner_over turn.outcome h ≡ beaten_by (losers_of lost) h
   pub faces : (head : Request) → faced_head state start ≡ Some head → turn.state ≡ met (as_met state by start) head
   pub order : turn.state.order ≡ order_after state start

@@ -1,6 +1,6 @@
 -- what the definitions come to
 use Rattle.std.specs.Prelude.{◌≡◌, ◌≢◌, ◌<◌, ◌↔◌, ℕ, false, List, length}
-use Rattle.chronicle.specs.Serial.{serial}
+use Rattle.chronicle.specs.Serial.{serial, taking_effect}
 use Rattle.el_base.specs.declared.config.Config.{Config}
 use Rattle.el_base.specs.declared.config.Mode.TheVariants.{Plain}
 use Rattle.el_base.specs.declared.events.Event.{Event}
@@ -26,6 +26,12 @@ CommitsInSerialOrder =
     (program : Program) (config : Config) (events : List Event) →
     (after program config events).committed
     ≡ run (start program) (serial (entries_from (begin program config) events))
+
+-- what is committed after an event is what the instructions that take effect in it leave of what was committed
+abbrev pub EventsTakeEffect : Type 0
+EventsTakeEffect =
+    (state : ModelState) (event : Event) →
+    (next state event).state.committed ≡ run state.committed (taking_effect event.hart.number (next state event).outcome)
 
 -- where there was nothing to do, nothing has changed
 abbrev pub IdleChangesNothing : Type 0

@@ -1,6 +1,7 @@
 ghost use Rattle.el_model.specs.Laws.{
   BusEventsAreToldOnce,
   CommitsInSerialOrder,
+  EventsTakeEffect,
   IdleChangesNothing,
   LosersAreRestored,
   OutcomesComeByTheirRules,
@@ -14,6 +15,13 @@ ghost use Rattle.el_model.specs.Laws.{
 #[tactic(auto, using(crate::proofs::Folds::serial_run), unfolding(crate::specs::State::begin))]
 pub fn commits_in_serial_order()
     ensures { CommitsInSerialOrder }
+{}
+
+/// What is committed after an event is what the instructions that take effect in it leave of what was committed.
+/// This is said of any state.
+#[tactic(auto, using(crate::proofs::Turns::events_take_effect))]
+pub fn events_take_effect()
+    ensures { EventsTakeEffect }
 {}
 
 /// Each outcome, with all that it tells, comes exactly where its rule says.

@@ -3,25 +3,25 @@ use Rattle.std.proofs.Common.{◌≡◌, ◌≢◌, ◌∙◌, ℕ, Bool, true, 
 use Rattle.bus_order.specs.Order.{IsOneEach, Request}
 use Rattle.cache_sets.specs.Cache.{bit_in, is_resident, way_of}
 use Rattle.el_base.specs.declared.events.Kind.{Kind}
-use Rattle.el_base.specs.declared.events.Kind.TheVariants as kinds
 use Rattle.el_base.specs.declared.outcomes.Need.{Need}
 use Rattle.el_base.specs.declared.outcomes.Need.TheVariants.{Write}
+use Rattle.el_model.specs.BusEvent.{IsBusEvent, Nothing, Places, Serves, Start, StartsWhere, Takes, having_taken, started}
 use Rattle.el_model.specs.Conflicts.{meets_bit}
 use Rattle.el_model.specs.Deed.{Begins, Buffers, Commits, Deed, DoesWhere, Misses, Rests, RollsBack, Runs, Waits, committed_after, hart_after}
 use Rattle.el_model.specs.InSection.{covered}
 use Rattle.el_model.specs.Next.{kind_turn, step_turn}
-use Rattle.el_model.specs.Order.{order_raised, order_turn, place_for}
 use Rattle.el_model.specs.Plain.{after_candidate, candidate_of}
-use Rattle.el_model.specs.Serve.{Blocks, Free, Obstacle, bystander, obstacle_to, others_have, own_copy, serve_ordered, serve_past, serve_turn, served, served_hart}
-use Rattle.el_model.specs.State.{Hart, ModelState, Section, cache_of, hart_of, head_of, ordered_of, raised_of, section_of}
+use Rattle.el_model.specs.Serve.{bystander, others_have, own_copy, served_hart}
+use Rattle.el_model.specs.State.{Hart, ModelState, Section, Turn, cache_of, hart_of, section_of}
 use Rattle.el_model.specs.Upcoming.{Swap}
+use Rattle.el_model.proofs.BusEvents.{by_kind}
 use Rattle.el_model.proofs.Deeds.{step_deed}
 use Rattle.el_model.proofs.Harts.{hart_of-with_hart_other}
-use Rattle.el_model.proofs.Turns.{deliver_calm, order_calm, serve_calm}
+use Rattle.el_model.proofs.Tests.{by_hart}
 use Rattle.section_laws.specs.Once.{AreOnce}
-use Rattle.el_model.proofs.EachHart.{Each, each_but, each_with}
+use Rattle.el_model.proofs.EachHart.{Each, each_but}
 use Rattle.section_laws.proofs.FreeLines.{unmet}
-use Rattle.section_laws.proofs.Moves.{Moves, deliver_keeps, faced_if_keeps, placed_keeps, served_keeps}
+use Rattle.section_laws.proofs.Moves.{Moves, moved, taken_keeps}
 use Rattle.run_laws.proofs.Bits.{KeepsBits, bits_claim, bits_others, bits_own, bits_touched, claim_section, run_kept, same_bits, some_bit}
 use Rattle.run_laws.proofs.EventsBeside.{AllCovered, Covered, Sound, deed_beside}
 use Rattle.run_laws.proofs.Growing.{begun_run, buffered_run}
@@ -52,13 +52,6 @@ moves old = record {
   gave_up = λ h hart now. now;
   tried = λ h hart more now. now;
 }
-
-raised_kept : (state : ModelState) (raised : Option Request) → Each (IsKept state) (order_raised state raised).state
-raised_kept state None = all_kept state
-raised_kept state (Some request) =
-    placed_keeps (moves state) state request (place_for state request)
-    (each_with (IsKept state) state request.hart (record (hart_of state request.hart) { raised = None })
-    (inr (refl, same_bits (cache_of state request.hart))) (all_kept state))
 
 -- a request is served
 own_kept : (state : ModelState) (request : Request) → AreOnce (cache_of state request.hart) →
@@ -95,40 +88,38 @@ bystander_kept state request h clear (Some section) live =
           need bit),
     )
 
-past_kept : (state : ModelState) (h : ℕ) (request : Request) (obstacle : Obstacle) → obstacle_to state request ≡ obstacle →
-    ordered_of state h ≡ Some request → IsOneEach state.order → ((g : ℕ) → AreOnce (cache_of state g)) →
-    Each (IsKept state) (serve_past state request obstacle).state
-past_kept state h request (Blocks why by) free is one once = all_kept state
-past_kept state h request Free free is one once =
-    faced_if_keeps (moves state) (served state request) (head_of (served state request) request.line)
-    (served_keeps (IsKept state) state request (own_kept state request (once request.hart))
-    (λ g apart.
-    bystander_kept state request g (λ section live. unmet state h g request section one is free apart live) (section_of state g) refl)
-    (all_kept state))
+started_kept : (state : ModelState) (by : ℕ) (start : Start) → StartsWhere state by start → IsOneEach state.order → ((g : ℕ) → AreOnce (cache_of state g)) →
+    (h : ℕ) → IsKept state h (started state by start h (hart_of state h))
+started_kept state by Nothing where_it one once h = all_kept state h
+started_kept state by (Places request place) where_it one once h =
+    by_hart (IsKept state h) h request.hart (record (hart_of state h) { raised = None }) (hart_of state h) (λ own. all_kept state h)
+    (λ other. all_kept state h)
+started_kept state by (Serves request) may one once h =
+    by_hart (IsKept state h) h request.hart (served_hart state request (hart_of state h)) (bystander state request (hart_of state h))
+    (λ own. rw own (own_kept state request (once request.hart)))
+    (λ apart.
+    bystander_kept state request h (λ section live. unmet state by h request section one may.ordered may.free apart live) (section_of state h) refl)
+started_kept state by (Takes message others) where_it one once h =
+    by_hart (IsKept state h) h by (having_taken message others (hart_of state h)) (hart_of state h)
+    (λ own. taken_keeps (moves state) message others h (hart_of state h) (all_kept state h)) (λ other. all_kept state h)
 
-ordered_kept : (state : ModelState) (h : ℕ) (ordered : Option Request) → ordered_of state h ≡ ordered → IsOneEach state.order →
-    ((g : ℕ) → AreOnce (cache_of state g)) → Each (IsKept state) (serve_ordered state ordered).state
-ordered_kept state h None is one once = all_kept state
-ordered_kept state h (Some request) is one once = past_kept state h request (obstacle_to state request) refl is one once
-
-pub bus_kept : (state : ModelState) (h : ℕ) (kind : Kind) → kind ≢ kinds.Step → IsOneEach state.order → ((g : ℕ) → AreOnce (cache_of state g)) →
-    Each (IsKept state) (kind_turn state h kind).state
-unfolding order_turn serve_turn
-bus_kept state h kinds.Step bus one once = absurd (bus refl)
-bus_kept state h kinds.Order bus one once = raised_kept state (raised_of state h)
-bus_kept state h kinds.Serve bus one once = ordered_kept state h (ordered_of state h) refl one once
-bus_kept state h kinds.Deliver bus one once = deliver_keeps (moves state) state h (all_kept state)
+pub turn_kept : {state : ModelState} {by : ℕ} {turn : Turn} → IsBusEvent state by turn → IsOneEach state.order → ((g : ℕ) → AreOnce (cache_of state g)) →
+    Each (IsKept state) turn.state
+turn_kept {state} {by} done one once h =
+    moved (moves state) state by done.start h (λ past. all_kept state h) (λ below. started_kept state by done.start done.where_it one once h)
+    (done.becomes h)
 
 -- an event of another hart leaves a section so too
-pub other_kept : (state : ModelState) (h g : ℕ) (kind : Kind) → g ≢ h → IsOneEach state.order → ((k : ℕ) → AreOnce (cache_of state k)) →
-    IsKept state g (hart_of (kind_turn state h kind).state g)
-other_kept state h g kinds.Step apart one once =
+pub other_step_kept : (state : ModelState) (h g : ℕ) → g ≢ h → IsKept state g (hart_of (step_turn state h).state g)
+other_step_kept state h g apart =
     let step = step_deed state h in
     rw step.turn_is
     (subst (IsKept state g) (sym (hart_of-with_hart_other state h g (hart_after state h step.deed (hart_of state h)) apart)) (all_kept state g))
-other_kept state h g kinds.Order apart one once = bus_kept state h kinds.Order (λ same. absurd (cc)) one once g
-other_kept state h g kinds.Serve apart one once = bus_kept state h kinds.Serve (λ same. absurd (cc)) one once g
-other_kept state h g kinds.Deliver apart one once = bus_kept state h kinds.Deliver (λ same. absurd (cc)) one once g
+
+pub other_kept : (state : ModelState) (h g : ℕ) (kind : Kind) → g ≢ h → IsOneEach state.order → ((k : ℕ) → AreOnce (cache_of state k)) →
+    IsKept state g (hart_of (kind_turn state h kind).state g)
+other_kept state h g kind apart one once =
+    by_kind (λ turn. IsKept state g (hart_of turn.state g)) state h kind (λ step. other_step_kept state h g apart) (λ turn done. turn_kept done one once g)
 
 -- what is kept is covered as before
 kept_covered : (state : ModelState) (h : ℕ) (hart : Hart) → IsKept state h hart → Covered state.committed h (hart_of state h) →
@@ -170,18 +161,13 @@ step_covered state h sound each =
     (λ past section is. none_some is))
 
 -- each event
-bus_covered : (state : ModelState) (h : ℕ) (kind : Kind) → kind ≢ kinds.Step → (kind_turn state h kind).state.committed ≡ state.committed →
-    IsOneEach state.order → ((g : ℕ) → AreOnce (cache_of state g)) → AllCovered state → AllCovered (kind_turn state h kind).state
-bus_covered state h kind bus same one once each g =
-    subst (λ committed. Covered committed g (hart_of (kind_turn state h kind).state g)) (sym same)
-    (kept_covered state g (hart_of (kind_turn state h kind).state g) (bus_kept state h kind bus one once g) (each g))
+bus_covered : {state : ModelState} {h : ℕ} {turn : Turn} → IsBusEvent state h turn → IsOneEach state.order → ((g : ℕ) → AreOnce (cache_of state g)) →
+    AllCovered state → AllCovered turn.state
+bus_covered {state} {h} {turn} done one once each g =
+    subst (λ committed. Covered committed g (hart_of turn.state g)) (sym done.committed)
+    (kept_covered state g (hart_of turn.state g) (turn_kept done one once g) (each g))
 
 pub kind_covered : (state : ModelState) (h : ℕ) (kind : Kind) → Sound state → IsOneEach state.order → ((g : ℕ) → AreOnce (cache_of state g)) →
     AllCovered state → AllCovered (kind_turn state h kind).state
-kind_covered state h kinds.Step sound one once each = step_covered state h sound each
-kind_covered state h kinds.Order sound one once each =
-    bus_covered state h kinds.Order (λ same. absurd (cc)) (order_calm state h).keeps.committed one once each
-kind_covered state h kinds.Serve sound one once each =
-    bus_covered state h kinds.Serve (λ same. absurd (cc)) (serve_calm state h).keeps.committed one once each
-kind_covered state h kinds.Deliver sound one once each =
-    bus_covered state h kinds.Deliver (λ same. absurd (cc)) (deliver_calm state h).keeps.committed one once each
+kind_covered state h kind sound one once each =
+    by_kind (λ turn. AllCovered turn.state) state h kind (λ step. step_covered state h sound each) (λ turn done. bus_covered done one once each)

@@ -4,14 +4,13 @@ use Rattle.cache_sets.specs.Residency.{Way}
 use Rattle.el_base.specs.declared.config.Config.{Config}
 use Rattle.el_base.specs.declared.events.Event.{Event}
 use Rattle.el_base.specs.declared.events.Kind.{Kind}
-use Rattle.el_base.specs.declared.events.Kind.TheVariants as kinds
 use Rattle.elf_image.specs.Program.{Program}
 use Rattle.el_model.specs.Deed.{Begins, Buffers, Commits, Deed, Misses, Rests, RollsBack, Runs, Waits, committed_after}
 use Rattle.el_model.specs.Next.{after, kind_turn, next}
 use Rattle.el_model.specs.State.{ModelState, begin, cache_of, new_hart, section_of}
 use Rattle.el_model.proofs.AllHarts.{all_first}
+use Rattle.el_model.proofs.BusEvents.{by_kind}
 use Rattle.el_model.proofs.Deeds.{step_deed}
-use Rattle.el_model.proofs.Turns.{deliver_calm, order_calm, serve_calm}
 use Rattle.rv_flat.proofs.RunsAfter.{keeps_bytes}
 use Rattle.rv_flat.specs.FlatState.{FlatState, start}
 use Rattle.rv_flat.specs.Memory.{AreBytes}
@@ -46,10 +45,10 @@ same_bytes : (old new : FlatState) → new ≡ old → AreBytes old.bytes → Ar
 same_bytes old new same bytes = subst (λ flat. AreBytes flat.bytes) (sym same) bytes
 
 kind_bytes : (state : ModelState) (h : ℕ) (kind : Kind) → AreBytes state.committed.bytes → AreBytes (kind_turn state h kind).state.committed.bytes
-kind_bytes state h kinds.Step bytes = let step = step_deed state h in rw step.turn_is (deed_bytes state h step.deed bytes)
-kind_bytes state h kinds.Order bytes = same_bytes state.committed _ (order_calm state h).keeps.committed bytes
-kind_bytes state h kinds.Serve bytes = same_bytes state.committed _ (serve_calm state h).keeps.committed bytes
-kind_bytes state h kinds.Deliver bytes = same_bytes state.committed _ (deliver_calm state h).keeps.committed bytes
+kind_bytes state h kind bytes =
+    by_kind (λ turn. AreBytes turn.state.committed.bytes) state h kind
+    (λ is. let step = step_deed state h in rw step.turn_is (deed_bytes state h step.deed bytes))
+    (λ turn done. same_bytes state.committed turn.state.committed done.committed bytes)
 
 -- what every event keeps
 record Holds (state : ModelState) : Type 0 where
@@ -104,14 +103,10 @@ unchanged g cache old new same = subst (IsChangeBeside g cache old) (sym same) (
 
 kind_beside : (state : ModelState) (h g : ℕ) (kind : Kind) → g ≢ h → Sound state → AllCovered state →
     IsChangeBeside g (cache_of state g) state.committed (kind_turn state h kind).state.committed
-kind_beside state h g kinds.Step apart sound covered =
-    let step = step_deed state h in rw step.turn_is (deed_beside state h g step.deed apart step.where_it sound covered)
-kind_beside state h g kinds.Order apart sound covered =
-    unchanged g (cache_of state g) state.committed _ (order_calm state h).keeps.committed
-kind_beside state h g kinds.Serve apart sound covered =
-    unchanged g (cache_of state g) state.committed _ (serve_calm state h).keeps.committed
-kind_beside state h g kinds.Deliver apart sound covered =
-    unchanged g (cache_of state g) state.committed _ (deliver_calm state h).keeps.committed
+kind_beside state h g kind apart sound covered =
+    by_kind (λ turn. IsChangeBeside g (cache_of state g) state.committed turn.state.committed) state h kind
+    (λ is. let step = step_deed state h in rw step.turn_is (deed_beside state h g step.deed apart step.where_it sound covered))
+    (λ turn done. unchanged g (cache_of state g) state.committed turn.state.committed done.committed)
 
 pub other_harts_change_nothing_covered : OtherHartsChangeNothingCovered
 unfolding next

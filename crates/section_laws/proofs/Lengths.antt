@@ -6,15 +6,13 @@ use Rattle.std.proofs.lemmas.List.{length-map, length-replicate}
 use Rattle.std.proofs.lemmas.List.FromFn.{length-range_with_len}
 use Rattle.el_base.specs.declared.config.Config.{Config}
 use Rattle.el_base.specs.declared.events.Event.{Event}
-use Rattle.el_base.specs.declared.events.Kind.{Kind}
-use Rattle.el_base.specs.declared.events.Kind.TheVariants as kinds
 use Rattle.elf_image.specs.Program.{Program}
 use Rattle.el_model.specs.Deed.{Begins, Buffers, Commits, Deed, Misses, Rests, RollsBack, Runs, Waits, committed_after}
-use Rattle.el_model.specs.Next.{kind_turn, next}
+use Rattle.el_model.specs.Next.{next, step_turn}
 use Rattle.el_model.specs.State.{ModelState, begin, new_hart}
+use Rattle.el_model.proofs.BusEvents.{by_event, keeps_of_bus}
 use Rattle.el_model.proofs.Deeds.{step_deed}
 use Rattle.el_model.proofs.Keeps.{Keeps}
-use Rattle.el_model.proofs.Turns.{deliver_calm, order_calm, serve_calm}
 use Rattle.rv_flat.specs.FlatState.{FlatState, first_view, start}
 use Rattle.rv_flat.specs.Run.{alone}
 use Rattle.rv_flat.specs.Step.{flat}
@@ -40,17 +38,14 @@ committed_count state h (RollsBack section cause) = refl
 kept_as_many : {state new : ModelState} → Keeps state new → AsMany state → AsMany new
 kept_as_many keeps same = keeps.count ∙ same ∙ ap (λ flat. length flat.harts) (sym keeps.committed)
 
-kind_as_many : (state : ModelState) (h : ℕ) (kind : Kind) → AsMany state → AsMany (kind_turn state h kind).state
-kind_as_many state h kinds.Step same =
+step_as_many : (state : ModelState) (h : ℕ) → AsMany state → AsMany (step_turn state h).state
+step_as_many state h same =
     let step = step_deed state h in
     rw step.turn_is (length-set state.harts h _ ∙ same ∙ sym (committed_count state h step.deed))
-kind_as_many state h kinds.Order same = kept_as_many (order_calm state h).keeps same
-kind_as_many state h kinds.Serve same = kept_as_many (serve_calm state h).keeps same
-kind_as_many state h kinds.Deliver same = kept_as_many (deliver_calm state h).keeps same
 
 pub next_as_many : (state : ModelState) (event : Event) → AsMany state → AsMany (next state event).state
-unfolding next
-next_as_many state event same = kind_as_many state event.hart.number event.kind same
+next_as_many state event same =
+    by_event (λ turn. AsMany turn.state) state event (λ step. step_as_many state event.hart.number same) (λ turn done. kept_as_many (keeps_of_bus done) same)
 
 pub first_as_many : (program : Program) (config : Config) → AsMany (begin program config)
 unfolding begin start

@@ -5,7 +5,6 @@ pub mod Waiting
 pub mod Numbered
 pub mod OrderedHarts
 pub mod SectionSteps
-pub mod UnnamedLosers
 pub mod Lengths
 pub mod Accounts
 pub mod Steady

@@ -8,23 +8,21 @@ use Rattle.el_base.specs.declared.events.Event.{Event}
 use Rattle.el_base.specs.declared.events.Kind.{Kind}
 use Rattle.el_base.specs.declared.events.Kind.TheVariants as kinds
 use Rattle.el_base.specs.declared.outcomes.Cause.{Cause}
-use Rattle.el_base.specs.declared.outcomes.Outcome.{Outcome}
 use Rattle.el_base.specs.declared.outcomes.Outcome.TheVariants as outcomes
+use Rattle.el_model.specs.BusEvent.{IsOfBus}
 use Rattle.el_model.specs.Deed.{Begins, Buffers, Commits, Deed, DoesWhere, Misses, Rests, RollsBack, Runs, Waits, done, hart_after, outcome_of}
 use Rattle.el_model.specs.Next.{after, kind_turn, next, state_after, step_turn}
-use Rattle.el_model.specs.Deliver.{deliver_next, deliver_turn}
-use Rattle.el_model.specs.Order.{order_raised, order_turn}
 use Rattle.el_model.specs.Plain.{after_candidate, candidate_of, elides, least_confidence, may_elide}
-use Rattle.el_model.specs.Serve.{Blocks, Free, Obstacle, obstacle_to, serve_ordered, serve_past, serve_turn, with_claim}
-use Rattle.el_model.specs.State.{Hart, ModelState, Section, hart_of, is_live, ordered_of, raised_of, section_of}
+use Rattle.el_model.specs.Serve.{with_claim}
+use Rattle.el_model.specs.State.{Hart, ModelState, Section, hart_of, is_live, section_of}
 use Rattle.el_model.specs.Upcoming.{Swap}
+use Rattle.el_model.proofs.BusEvents.{by_event}
 use Rattle.el_model.proofs.Deeds.{step_deed}
 use Rattle.el_model.proofs.Harts.{hart_of-past, hart_of-with_hart_same}
-use Rattle.mail.specs.Mailbox.{Message}
 use Rattle.pair_table.specs.Predictor.{confidence_of}
 use Rattle.section_laws.specs.Sections.{IsOfSection, NeverRunsCandidate, NoneBeginsAfterRollback, RunsCandidate, SectionStepsAreOfFiveKinds}
 use Rattle.el_model.proofs.EachHart.{each_but}
-use Rattle.section_laws.proofs.EachKept.{BusKept, bus_keeps}
+use Rattle.section_laws.proofs.EachKept.{BusKept, turn_keeps}
 use Rattle.section_laws.proofs.Waiting.{Sound, always_sound, is_rolled}
 
 not_live : {X : Type 0} (section : Option Section) → is_some section ≡ true → section ≡ None → X
@@ -117,21 +115,21 @@ step_flagged state h g none =
         each_but (λ k hart. (k ≡ h → ⊥) → Flagged state k hart) state h (hart_after state h deed (hart_of state h))
         (λ other. absurd (other refl)) (λ k differs other was. was) (λ past other. absurd (other refl)) g apart
 
-kind_flagged : (state : ModelState) (h g : ℕ) (kind : Kind) →
-    (kind ≡ kinds.Step → g ≡ h → (kind_turn state h kind).outcome ≡ outcomes.Ran → is_some (candidate_of state h) ≡ true → ⊥) →
-    Flagged state g (hart_of (kind_turn state h kind).state g)
-kind_flagged state h g kinds.Step none = step_flagged state h g (none refl)
-kind_flagged state h g kinds.Order none = bus_keeps (flag_kept state) state h kinds.Order (λ same. absurd (cc)) (λ k was. was) g
-kind_flagged state h g kinds.Serve none = bus_keeps (flag_kept state) state h kinds.Serve (λ same. absurd (cc)) (λ k was. was) g
-kind_flagged state h g kinds.Deliver none = bus_keeps (flag_kept state) state h kinds.Deliver (λ same. absurd (cc)) (λ k was. was) g
-
 flag_stays : (state : ModelState) (event : Event) (g : ℕ) → (RunsCandidate state g event → ⊥) →
     Flagged state g (hart_of (next state event).state g)
 unfolding next
 flag_stays state event g none =
-    kind_flagged state event.hart.number g event.kind
-    (λ step own ran candidate.
-    none (record { step = step; own = sym own; ran = ran; candidate = ap (λ k. is_some (candidate_of state k)) own ∙ candidate }))
+    by_event (λ turn. Flagged state g (hart_of turn.state g)) state event
+    (λ step.
+    step_flagged state event.hart.number g
+    (λ own ran candidate.
+    none (record {
+      step = step;
+      own = sym own;
+      ran = ap (λ kind. (kind_turn state event.hart.number kind).outcome) step ∙ ran;
+      candidate = ap (λ k. is_some (candidate_of state k)) own ∙ candidate;
+    })))
+    (λ turn done. turn_keeps (flag_kept state) done (λ k was. was) g)
 
 flag_stays_long : (state : ModelState) (events : List Event) (g : ℕ) → NeverRunsCandidate state g events →
     (hart_of state g).fallback ≡ true → (hart_of (state_after state events) g).fallback ≡ true
@@ -149,38 +147,6 @@ untrusted : {X : Type 0} (mode : Mode) (hart : Hart) (pc : ℕ) → hart.fallbac
 untrusted mode hart pc was trusted =
     refused (elides mode) hart.fallback (nat_le least_confidence (confidence_of hart.predictor pc)) was trusted
 
--- how an event of the bus may come out
-abbrev pub IsOfBus : Outcome → Type 0
-IsOfBus outcomes.Idle = Unit {0}
-IsOfBus (outcomes.Ordered losers freed) = Unit {0}
-IsOfBus (outcomes.Served losers freed) = Unit {0}
-IsOfBus (outcomes.Blocked why by) = Unit {0}
-IsOfBus (outcomes.Delivered losers) = Unit {0}
-IsOfBus _ = ⊥
-
-raised_of_bus : (state : ModelState) (raised : Option Request) → IsOfBus (order_raised state raised).outcome
-raised_of_bus state None = tt
-raised_of_bus state (Some request) = tt
-
-past_of_bus : (state : ModelState) (request : Request) (obstacle : Obstacle) → IsOfBus (serve_past state request obstacle).outcome
-past_of_bus state request Free = tt
-past_of_bus state request (Blocks why by) = tt
-
-ordered_of_bus : (state : ModelState) (ordered : Option Request) → IsOfBus (serve_ordered state ordered).outcome
-ordered_of_bus state None = tt
-ordered_of_bus state (Some request) = past_of_bus state request (obstacle_to state request)
-
-mail_of_bus : (state : ModelState) (h : ℕ) (mail : List Message) → IsOfBus (deliver_next state h mail).outcome
-mail_of_bus state h [] = tt
-mail_of_bus state h (message ∷ others) = tt
-
-pub of_bus : (state : ModelState) (h : ℕ) (kind : Kind) → kind ≢ kinds.Step → IsOfBus (kind_turn state h kind).outcome
-unfolding order_turn serve_turn deliver_turn
-of_bus state h kinds.Step bus = absurd (bus refl)
-of_bus state h kinds.Order bus = raised_of_bus state (raised_of state h)
-of_bus state h kinds.Serve bus = ordered_of_bus state (ordered_of state h)
-of_bus state h kinds.Deliver bus = mail_of_bus state h (hart_of state h).mail
-
 deed_unflagged : (state : ModelState) (h : ℕ) (deed : Deed) → DoesWhere state h deed → (hart_of state h).fallback ≡ true →
     outcome_of deed ≢ outcomes.Began
 deed_unflagged state h Rests does was began = absurd (cc)
@@ -192,19 +158,16 @@ deed_unflagged state h (Buffers section touch) does was began = absurd (cc)
 deed_unflagged state h (Commits section) does was began = absurd (cc)
 deed_unflagged state h (RollsBack section cause) does was began = absurd (cc)
 
-kind_unflagged : (state : ModelState) (h : ℕ) (kind : Kind) → (hart_of state h).fallback ≡ true →
-    (kind_turn state h kind).outcome ≢ outcomes.Began
-kind_unflagged state h kinds.Step was began =
+step_unflagged : (state : ModelState) (h : ℕ) → (hart_of state h).fallback ≡ true → (step_turn state h).outcome ≢ outcomes.Began
+step_unflagged state h was began =
     let step = step_deed state h in
     deed_unflagged state h step.deed step.where_it was (sym (ap (λ turn. turn.outcome) step.turn_is) ∙ began)
-kind_unflagged state h kinds.Order was began = absurd (subst IsOfBus began (of_bus state h kinds.Order (λ same. absurd (cc))))
-kind_unflagged state h kinds.Serve was began = absurd (subst IsOfBus began (of_bus state h kinds.Serve (λ same. absurd (cc))))
-kind_unflagged state h kinds.Deliver was began = absurd (subst IsOfBus began (of_bus state h kinds.Deliver (λ same. absurd (cc))))
 
 unflagged : (state : ModelState) (event : Event) → (hart_of state event.hart.number).fallback ≡ true →
     (next state event).outcome ≢ outcomes.Began
-unfolding next
-unflagged state event was = kind_unflagged state event.hart.number event.kind was
+unflagged state event was =
+    by_event (λ turn. turn.outcome ≢ outcomes.Began) state event (λ step. step_unflagged state event.hart.number was)
+    (λ turn done began. subst IsOfBus began done.of_bus)
 
 -- a rollback by the hart itself sets the flag
 exists_by : (state : ModelState) (h : ℕ) (section : Section) → section_of state h ≡ Some section → (below : Bool) →
@@ -230,19 +193,17 @@ deed_sets_flag state h (RollsBack section why) cause must back =
     (hart_of-with_hart_same state h (hart_after state h (RollsBack section why) (hart_of state h))
     (live_exists state h section (is_rolled state h section why must).live))
 
-kind_sets_flag : (state : ModelState) (h : ℕ) (kind : Kind) (cause : Cause) → (kind_turn state h kind).outcome ≡ outcomes.RolledBack cause →
-    (hart_of (kind_turn state h kind).state h).fallback ≡ true
-kind_sets_flag state h kinds.Step cause back =
+step_sets_flag : (state : ModelState) (h : ℕ) (cause : Cause) → (step_turn state h).outcome ≡ outcomes.RolledBack cause →
+    (hart_of (step_turn state h).state h).fallback ≡ true
+step_sets_flag state h cause back =
     let step = step_deed state h in
     rw step.turn_is (deed_sets_flag state h step.deed cause step.where_it (sym (ap (λ turn. turn.outcome) step.turn_is) ∙ back))
-kind_sets_flag state h kinds.Order cause back = absurd (subst IsOfBus back (of_bus state h kinds.Order (λ same. absurd (cc))))
-kind_sets_flag state h kinds.Serve cause back = absurd (subst IsOfBus back (of_bus state h kinds.Serve (λ same. absurd (cc))))
-kind_sets_flag state h kinds.Deliver cause back = absurd (subst IsOfBus back (of_bus state h kinds.Deliver (λ same. absurd (cc))))
 
 sets_flag : (state : ModelState) (event : Event) (cause : Cause) → (next state event).outcome ≡ outcomes.RolledBack cause →
     (hart_of (next state event).state event.hart.number).fallback ≡ true
-unfolding next
-sets_flag state event cause back = kind_sets_flag state event.hart.number event.kind cause back
+sets_flag state event cause =
+    by_event (λ turn. turn.outcome ≡ outcomes.RolledBack cause → (hart_of turn.state event.hart.number).fallback ≡ true) state event
+    (λ step. step_sets_flag state event.hart.number cause) (λ turn done back. absurd (subst IsOfBus back done.of_bus))
 
 pub none_begins_after_rollback : NoneBeginsAfterRollback
 none_begins_after_rollback state event later events cause back never own =

@@ -6,19 +6,18 @@ use Rattle.bus_order.specs.Order.{Request}
 use Rattle.chronicle.specs.Serial.{serial, taking_effect}
 use Rattle.el_base.specs.declared.config.Config.{Config}
 use Rattle.el_base.specs.declared.events.Event.{Event}
-use Rattle.el_base.specs.declared.events.Kind.{Kind}
-use Rattle.el_base.specs.declared.events.Kind.TheVariants as kinds
 use Rattle.elf_image.specs.Program.{Program}
+use Rattle.el_model.specs.BusEvent.{IsBusEvent}
 use Rattle.el_model.specs.Deed.{Begins, Buffers, Commits, Deed, DoesWhere, Misses, Rests, RollsBack, Runs, Waits, hart_after, outcome_of}
-use Rattle.el_model.specs.Next.{entries_from, kind_turn, next, state_after, step_turn}
+use Rattle.el_model.specs.Next.{entries_from, next, state_after, step_turn}
 use Rattle.el_model.specs.Plain.{after_candidate, candidate_of}
 use Rattle.el_model.specs.Serve.{with_claim}
-use Rattle.el_model.specs.State.{Hart, ModelState, Section, begin, hart_of, new_hart, section_of}
+use Rattle.el_model.specs.State.{Hart, ModelState, Section, Turn, begin, hart_of, new_hart, section_of}
 use Rattle.el_model.specs.Upcoming.{Swap}
+use Rattle.el_model.proofs.BusEvents.{by_event}
 use Rattle.el_model.proofs.Deeds.{step_deed}
-use Rattle.el_model.proofs.Turns.{Calm, deliver_calm, order_calm, serve_calm}
 use Rattle.section_laws.specs.Sections.{SerialOrderIsNoLonger}
-use Rattle.section_laws.proofs.EachKept.{BusKept, bus_keeps}
+use Rattle.section_laws.proofs.EachKept.{BusKept, turn_keeps}
 
 -- the instructions of live sections
 abbrev run_in : Option Section → ℕ
@@ -106,26 +105,19 @@ runs_no_more old = record {
   bystander = λ h state request hart now. now;
 }
 
-bus_counts : (state : ModelState) (h : ℕ) (kind : Kind) → kind ≢ kinds.Step → Calm state (kind_turn state h kind) →
-    Counts state (kind_turn state h kind).state (length (taking_effect h (kind_turn state h kind).outcome))
-bus_counts state h kind bus calm =
+bus_counts : {state : ModelState} {h : ℕ} {turn : Turn} → IsBusEvent state h turn →
+    Counts state turn.state (length (taking_effect h turn.outcome))
+bus_counts {state} {h} {turn} done =
     let less =
-    weight_less state.harts (kind_turn state h kind).state.harts (new_hart 0) calm.keeps.count
-    (bus_keeps (runs_no_more state) state h kind bus (λ g. omega arith)) in
-    let none = ap length (calm.no_effect h) in
+    weight_less state.harts turn.state.harts (new_hart 0) done.count (turn_keeps (runs_no_more state) done (λ g. omega arith)) in
+    let none = ap length (done.no_effect h) in
     omega (arith, less, none)
-
-kind_counts : (state : ModelState) (h : ℕ) (kind : Kind) →
-    Counts state (kind_turn state h kind).state (length (taking_effect h (kind_turn state h kind).outcome))
-kind_counts state h kinds.Step = step_counts state h
-kind_counts state h kinds.Order = bus_counts state h kinds.Order (λ same. absurd (cc)) (order_calm state h)
-kind_counts state h kinds.Serve = bus_counts state h kinds.Serve (λ same. absurd (cc)) (serve_calm state h)
-kind_counts state h kinds.Deliver = bus_counts state h kinds.Deliver (λ same. absurd (cc)) (deliver_calm state h)
 
 next_counts : (state : ModelState) (event : Event) →
     Counts state (next state event).state (length (taking_effect event.hart.number (next state event).outcome))
-unfolding next
-next_counts state event = kind_counts state event.hart.number event.kind
+next_counts state event =
+    by_event (λ turn. Counts state turn.state (length (taking_effect event.hart.number turn.outcome))) state event
+    (λ step. step_counts state event.hart.number) (λ turn done. bus_counts done)
 
 all_count : (state : ModelState) (events : List Event) →
     length (serial (entries_from state events)) + weight (state_after state events).harts ≤ length events + weight state.harts

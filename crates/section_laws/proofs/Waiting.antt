@@ -1,43 +1,35 @@
 -- each hart waits for one thing at most, and for none where it has stopped
 use Rattle.std.proofs.Common.{◌≡◌, ◌≢◌, ◌∙◌, ℕ, ◌≤◌, ◌+◌, Bool, false, ◌||◌, List, [], ◌∷◌, Option, None, Some, is_some, length, refl, ap, sym, subst, inl, inr, ◌⊎◌}
 use Rattle.std.proofs.lemmas.Bool.{cases_eq}
-use Rattle.bus_order.specs.Order.{Request, appended, in_front_of, removed, request_of, tail_of}
+use Rattle.bus_order.specs.Order.{Request, appended, in_front_of, removed, request_of}
 use Rattle.bus_order.proofs.LookUps.{request_of_appended_other, request_of_in_front_of_other, request_of_removed_other, request_of_removed_own}
 use Rattle.bus_order.proofs.Queues.{hart_of_request_of}
-use Rattle.defer_list.specs.HartSet.{has}
 use Rattle.el_base.specs.declared.config.Config.{Config}
-use Rattle.el_base.specs.declared.config.Mode.{Mode}
-use Rattle.el_base.specs.declared.config.Mode.TheVariants.{Plain, Sle, Tlr}
 use Rattle.el_base.specs.declared.outcomes.Cause.{Cause}
 use Rattle.el_base.specs.declared.outcomes.Cause.TheVariants.{Room, Lines, Long, Call, Mixed}
 use Rattle.el_base.specs.declared.outcomes.Need.{Need}
 use Rattle.el_base.specs.declared.events.Event.{Event}
-use Rattle.el_base.specs.declared.events.Kind.{Kind}
-use Rattle.el_base.specs.declared.events.Kind.TheVariants as kinds
 use Rattle.elf_image.specs.Program.{Program}
+use Rattle.el_model.specs.BusEvent.{IsBusEvent, Nothing, Places, Serves, Start, StartsWhere, Takes, having_taken, order_after, order_at, started}
 use Rattle.el_model.specs.Deed.{Begins, Buffers, Commits, Deed, DoesWhere, IsInside, IsOutside, Misses, MustRollBack, Rests, RollsBack, Runs, Waits, committed_after, done, hart_after}
-use Rattle.el_model.specs.Deliver.{after_probe, deliver_next, deliver_turn, delivered, taken}
-use Rattle.el_model.specs.Face.{faced, faced_if}
-use Rattle.el_model.specs.Next.{after, kind_turn, next, step_turn}
-use Rattle.el_model.specs.Order.{Alone, Behind, InFront, Place, marked_by, marked_from, marking, order_raised, order_turn, place_for, placed, placed_in_front, placed_last}
+use Rattle.el_model.specs.Next.{after, next, step_turn}
+use Rattle.el_model.specs.Order.{Alone, Behind, InFront, Place}
 use Rattle.el_model.specs.Plain.{after_candidate, candidate_of}
-use Rattle.el_model.specs.Serve.{Blocks, Free, Obstacle, obstacle_to, serve_ordered, serve_past, serve_turn, served, with_claim}
-use Rattle.el_model.specs.State.{Hart, ModelState, Section, begin, has_request, hart_of, head_of, new_hart, ordered_of, raised_of, section_of}
+use Rattle.el_model.specs.Serve.{bystander, served_hart, with_claim}
+use Rattle.el_model.specs.State.{Hart, ModelState, Section, Turn, begin, has_request, hart_of, new_hart, ordered_of, raised_of, section_of}
 use Rattle.el_model.specs.Upcoming.{Swap}
 use Rattle.el_model.proofs.AllHarts.{all_first}
+use Rattle.el_model.proofs.BusEvents.{by_event}
 use Rattle.el_model.proofs.Deeds.{step_deed}
 use Rattle.el_model.proofs.FromStart.{kept_after}
 use Rattle.el_model.proofs.Harts.{hart_of-past}
-use Rattle.el_model.proofs.Keeps.{keeps_faced_if}
-use Rattle.el_model.proofs.Tests.{by_test}
-use Rattle.el_model.proofs.Turns as turns
-use Rattle.mail.specs.Mailbox.{Marker, Message, Probe}
+use Rattle.el_model.proofs.Tests.{by_hart}
 use Rattle.rv_alu.specs.declared.view.HartStatus.{HartStatus}
 use Rattle.rv_alu.specs.declared.view.HartStatus.TheVariants.{Running}
 use Rattle.rv_flat.specs.FlatState.{status_of}
 use Rattle.section_laws.specs.Waiting.{HasNothing, OnlyHolds, WaitsForOne}
 use Rattle.el_model.proofs.EachHart.{Each, each_but}
-use Rattle.section_laws.proofs.Moves.{Moves, deliver_keeps, faced_if_keeps, placed_keeps, served_keeps}
+use Rattle.section_laws.proofs.Moves.{Moves, moved, taken_keeps}
 use Rattle.section_laws.proofs.Statuses.{alone_status, flat_status}
 
 -- of each hart, with these statuses and these requests in order
@@ -103,52 +95,6 @@ moves status ordered = record {
   tried = λ h hart more now. now;
 }
 
--- the order after each event of the bus
-marked_order : (mode : Mode) (state : ModelState) (sender h : ℕ) → (marked_from mode state sender h).order ≡ state.order
-marked_order Tlr state sender h = refl
-marked_order Sle state sender h = refl
-marked_order Plain state sender h = refl
-
-marked_by_order : (state : ModelState) (last : Option Request) (h : ℕ) → (marked_by state last h).order ≡ state.order
-marked_by_order state None h = refl
-marked_by_order state (Some last) h = marked_order state.config.mode state last.hart h
-
-marking_order : (state : ModelState) (h : ℕ) (former : Option Request) → (marking state h former).order ≡ state.order
-marking_order state h None = refl
-marking_order state h (Some former) = marked_order state.config.mode state h former.hart
-
-pub faced_order : (state : ModelState) (head : Option Request) → (faced_if state head).order ≡ state.order
-unfolding faced
-faced_order state None = refl
-faced_order state (Some head) = refl
-
-abbrev pub order_at : ModelState → Request → Place → List Request
-order_at state request InFront = in_front_of state.order request
-order_at state request Behind = appended state.order request
-order_at state request Alone = appended state.order request
-
-pub placed_order : (state : ModelState) (request : Request) (place : Place) → (placed state request place).order ≡ order_at state request place
-unfolding placed faced
-placed_order state request InFront = marking_order (placed_in_front state request) request.hart (head_of state request.line)
-placed_order state request Behind = marked_by_order (placed_last state request) (tail_of state.order request.line) request.hart
-placed_order state request Alone = refl
-
-pub message_order : (state : ModelState) (h : ℕ) (message : Message) → (delivered state h message).order ≡ state.order
-unfolding delivered
-message_order state h (Marker sender) = refl
-message_order state h (Probe origin) =
-    by_test (λ new. new.order ≡ state.order) (has (hart_of state h).told origin) state (after_probe state h origin (ordered_of state origin))
-    (λ known. refl) (λ new. refl)
-
-pub mail_order : (state : ModelState) (h : ℕ) (mail : List Message) → (deliver_next state h mail).state.order ≡ state.order
-mail_order state h [] = refl
-mail_order state h (message ∷ others) = message_order (taken state h others) h message
-
--- what is said with what is committed and ordered before an event of the bus is said after it
-same_state : (state new : ModelState) → new.committed ≡ state.committed → new.order ≡ state.order →
-    Each (Waiting (status_of state.committed) (ordered_of state)) new → Sound new
-same_state state new committed order each h = rw committed (rw order (each h))
-
 -- a request is ordered
 placed_waits : (h : ℕ) (status : HartStatus) (ordered : Option Request) (section : Option Section) (held : Option ℕ) (request : Request) →
     WaitsForOne h status None section (Some request) held → WaitsForOne h status ordered section None held
@@ -176,33 +122,6 @@ pub order_other : (state : ModelState) (request : Request) (place : Place) (g : 
 order_other state request InFront g apart = request_of_in_front_of_other state.order request g (λ same. apart (sym same))
 order_other state request Behind g apart = request_of_appended_other state.order request g (λ same. apart (sym same))
 order_other state request Alone g apart = request_of_appended_other state.order request g (λ same. apart (sym same))
-
-order_sound : (state : ModelState) (h : ℕ) (request : Request) (place : Place) → Sound state → raised_of state h ≡ Some request →
-    Sound (placed state request place)
-order_sound state h request place sound raised =
-    let ordered = request_of (order_at state request place) in
-    let status = status_of state.committed in
-    let own = (sound h).own request raised in
-    let mine : raised_of state request.hart ≡ Some request = ap (raised_of state) own ∙ raised in
-    let hart = hart_of state request.hart in
-    let before =
-    subst (λ o. WaitsForOne request.hart (status request.hart) o hart.section (Some request) hart.held)
-    (free_of_order state request.hart request sound mine)
-    (subst (λ r. WaitsForOne request.hart (status request.hart) (ordered_of state request.hart) hart.section r hart.held) mine
-    (sound request.hart)) in
-    let each =
-    placed_keeps (moves status ordered) state request place
-    (each_but (Waiting status ordered) state request.hart (record (hart_of state request.hart) { raised = None })
-    (placed_waits request.hart (status request.hart) (ordered request.hart) (hart_of state request.hart).section
-    (hart_of state request.hart).held request before)
-    (λ g apart. rw (order_other state request place g apart) (sound g))
-    (λ past. some_none (sym mine ∙ ap (λ hart. hart.raised) (hart_of-past state request.hart past)))) in
-    λ g. rw (turns.placed_keeps state request place).committed (rw (placed_order state request place) (each g))
-
-ordered_sound : (state : ModelState) (h : ℕ) (raised : Option Request) → raised_of state h ≡ raised → Sound state →
-    Sound (order_raised state raised).state
-ordered_sound state h None is sound = sound
-ordered_sound state h (Some request) is sound = order_sound state h request (place_for state request) sound is
 
 -- a request is served
 served_waits : (state : ModelState) (request : Request) (hart : Hart) (live : Option Section) → hart.section ≡ live →
@@ -232,49 +151,72 @@ served_waits state request hart (Some live) is status ordered found now new sect
     bare (inl none) = none
     bare (inr only) = some_none only.no_section
 
-serve_sound : (state : ModelState) (h : ℕ) (request : Request) → Sound state → ordered_of state h ≡ Some request →
-    Sound (served state request)
-unfolding served
-serve_sound state h request sound is =
-    let ordered = request_of (removed state.order request.hart) in
+-- each hart after the start of an event, and past the last hart
+started_waits : (state : ModelState) (by : ℕ) (start : Start) → Sound state → StartsWhere state by start → (h : ℕ) →
+    Waiting (status_of state.committed) (request_of (order_after state start)) h (started state by start h (hart_of state h))
+started_waits state by Nothing sound where_it h = sound h
+started_waits state by (Places request place) sound may h =
     let status = status_of state.committed in
-    let own = hart_of_request_of state.order h request is in
-    let mine : ordered_of state request.hart ≡ Some request = ap (ordered_of state) own ∙ is in
-    let hart = hart_of state request.hart in
-    served_keeps (Waiting status ordered) state request
-    (rw (request_of_removed_own state.order request.hart)
-    (served_waits state request hart hart.section refl (status request.hart) (ordered_of state request.hart) mine (sound request.hart) _
-    refl refl refl))
-    (λ g apart. rw (request_of_removed_other state.order request.hart g (λ same. apart (sym same))) (sound g))
-    (λ g. gone g (cases_eq g request.hart))
+    let ordered = request_of (order_at state request place) in
+    by_hart (Waiting status ordered h) h request.hart (record (hart_of state h) { raised = None }) (hart_of state h)
+    (λ own. rw own (placed_waits request.hart (status request.hart) (ordered request.hart) hart.section hart.held request before))
+    (λ apart. rw (order_other state request place h apart) (sound h))
   where
-    gone : (g : ℕ) → (g ≡ request.hart) ⊎ (g ≡ request.hart → ⊥) →
-        Waiting (status_of state.committed) (request_of (removed state.order request.hart)) g (hart_of state g)
-    gone g (inl same) =
-        rw same (rw (request_of_removed_own state.order request.hart)
-        (unordered request.hart _ _ _ _ _ (sound request.hart)))
-    gone g (inr apart) = rw (request_of_removed_other state.order request.hart g (λ same. apart (sym same))) (sound g)
+    hart : Hart
+    hart = hart_of state request.hart
 
-past_sound : (state : ModelState) (h : ℕ) (request : Request) (obstacle : Obstacle) → Sound state → ordered_of state h ≡ Some request →
-    Sound (serve_past state request obstacle).state
-past_sound state h request (Blocks why by) sound is = sound
-past_sound state h request Free sound is =
-    let after = served state request in
-    let head = head_of after request.line in
-    let each =
-    faced_if_keeps (moves (status_of after.committed) (ordered_of after)) after head (serve_sound state h request sound is) in
-    same_state after (faced_if after head) (keeps_faced_if after head).committed (faced_order after head) each
+    mine : raised_of state request.hart ≡ Some request
+    mine = ap (raised_of state) ((sound by).own request may.raised) ∙ may.raised
 
-taken_sound : (state : ModelState) (h : ℕ) (found : Option Request) → ordered_of state h ≡ found → Sound state →
-    Sound (serve_ordered state found).state
-taken_sound state h None is sound = sound
-taken_sound state h (Some request) is sound = past_sound state h request (obstacle_to state request) sound is
+    before : WaitsForOne request.hart (status_of state.committed request.hart) None (section_of state request.hart) (Some request) (hart_of state request.hart).held
+    before =
+        subst (λ o. WaitsForOne request.hart (status_of state.committed request.hart) o (section_of state request.hart) (Some request) (hart_of state request.hart).held)
+        (free_of_order state request.hart request sound mine)
+        (subst (λ r. WaitsForOne request.hart (status_of state.committed request.hart) (ordered_of state request.hart) (section_of state request.hart) r
+        (hart_of state request.hart).held) mine (sound request.hart))
+started_waits state by (Serves request) sound may h =
+    let status = status_of state.committed in
+    let ordered = request_of (removed state.order request.hart) in
+    by_hart (Waiting status ordered h) h request.hart (served_hart state request (hart_of state h)) (bystander state request (hart_of state h))
+    (λ own.
+    rw own (rw (request_of_removed_own state.order request.hart)
+    (served_waits state request (hart_of state request.hart) (section_of state request.hart) refl (status request.hart) (ordered_of state request.hart) mine
+    (sound request.hart) _ refl refl refl)))
+    (λ apart. rw (request_of_removed_other state.order request.hart h (λ same. apart (sym same))) (sound h))
+  where
+    mine : ordered_of state request.hart ≡ Some request
+    mine = ap (ordered_of state) (hart_of_request_of state.order by request may.ordered) ∙ may.ordered
+started_waits state by (Takes message others) sound where_it h =
+    let kept = moves (status_of state.committed) (ordered_of state) in
+    by_hart (Waiting (status_of state.committed) (ordered_of state) h) h by (having_taken message others (hart_of state h)) (hart_of state h)
+    (λ own. taken_keeps kept message others h (hart_of state h) (sound h)) (λ other. sound h)
 
-deliver_sound : (state : ModelState) (h : ℕ) → Sound state → Sound (deliver_turn state h).state
-unfolding deliver_turn
-deliver_sound state h sound =
-    same_state state (deliver_turn state h).state (turns.deliver_calm state h).keeps.committed (mail_order state h (hart_of state h).mail)
-    (deliver_keeps (moves (status_of state.committed) (ordered_of state)) state h sound)
+past_waits : (state : ModelState) (by : ℕ) (start : Start) → Sound state → StartsWhere state by start → (h : ℕ) → length state.harts ≤ h →
+    Waiting (status_of state.committed) (request_of (order_after state start)) h (hart_of state h)
+past_waits state by Nothing sound where_it h past = sound h
+past_waits state by (Places request place) sound may h past = by_own (cases_eq h request.hart)
+  where
+    by_own : (h ≡ request.hart) ⊎ (h ≡ request.hart → ⊥) →
+        Waiting (status_of state.committed) (request_of (order_at state request place)) h (hart_of state h)
+    by_own (inl same) =
+        let own = (sound by).own request may.raised in
+        some_none (sym may.raised ∙ ap (raised_of state) (sym own ∙ sym same) ∙ ap (λ hart. hart.raised) (hart_of-past state h past))
+    by_own (inr apart) = rw (order_other state request place h apart) (sound h)
+past_waits state by (Serves request) sound may h past = by_own (cases_eq h request.hart)
+  where
+    by_own : (h ≡ request.hart) ⊎ (h ≡ request.hart → ⊥) →
+        Waiting (status_of state.committed) (request_of (removed state.order request.hart)) h (hart_of state h)
+    by_own (inl same) = rw same (rw (request_of_removed_own state.order request.hart) (unordered request.hart _ _ _ _ _ (sound request.hart)))
+    by_own (inr apart) = rw (request_of_removed_other state.order request.hart h (λ same. apart (sym same))) (sound h)
+past_waits state by (Takes message others) sound where_it h past = sound h
+
+bus_sound : {state : ModelState} {by : ℕ} {turn : Turn} → IsBusEvent state by turn → Sound state → Sound turn.state
+bus_sound {state} {by} {turn} done sound h =
+    let ordered = request_of (order_after state done.start) in
+    let waits : Waiting (status_of state.committed) ordered h (hart_of turn.state h) =
+    moved (moves (status_of state.committed) ordered) state by done.start h (past_waits state by done.start sound done.where_it h)
+    (λ below. started_waits state by done.start sound done.where_it h) (done.becomes h) in
+    rw done.committed (rw done.order waits)
 
 -- a step
 pub record HasNoRequest (state : ModelState) (h : ℕ) : Type 0 where
@@ -411,16 +353,9 @@ step_sound state h sound =
     let step = step_deed state h in
     rw step.turn_is (deed_sound state h step.deed step.where_it sound)
 
-kind_sound : (state : ModelState) (h : ℕ) (kind : Kind) → Sound state → Sound (kind_turn state h kind).state
-unfolding order_turn serve_turn
-kind_sound state h kinds.Step sound = step_sound state h sound
-kind_sound state h kinds.Order sound = ordered_sound state h (raised_of state h) refl sound
-kind_sound state h kinds.Serve sound = taken_sound state h (ordered_of state h) refl sound
-kind_sound state h kinds.Deliver sound = deliver_sound state h sound
-
 pub next_sound : (state : ModelState) (event : Event) → Sound state → Sound (next state event).state
-unfolding next
-next_sound state event sound = kind_sound state event.hart.number event.kind sound
+next_sound state event sound =
+    by_event (λ turn. Sound turn.state) state event (λ step. step_sound state event.hart.number sound) (λ turn done. bus_sound done sound)
 
 record IsFresh (hart : Hart) : Type 0 where
   no_section : hart.section ≡ None

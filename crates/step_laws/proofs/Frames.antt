@@ -8,11 +8,10 @@ use Rattle.el_model.specs.Deed.{hart_after}
 use Rattle.el_model.specs.Next.{kind_turn, next}
 use Rattle.el_model.specs.Serve.{with_claim}
 use Rattle.el_model.specs.State.{Hart, ModelState, hart_of}
+use Rattle.el_model.proofs.BusEvents.{bus_events_are_told_once}
 use Rattle.el_model.proofs.Deeds.{step_deed}
 use Rattle.el_model.proofs.Harts.{hart_of-with_hart_other}
-use Rattle.el_model.proofs.Keeps.{Keeps}
-use Rattle.el_model.proofs.Turns.{deliver_calm, order_calm, serve_calm}
-use Rattle.section_laws.proofs.EachKept.{BusKept, bus_keeps}
+use Rattle.section_laws.proofs.EachKept.{BusKept, turn_keeps}
 use Rattle.step_laws.specs.Frames.{BusEventsKeep, LeavesOthers, StepsKeepOthers}
 
 -- a hart has the predictor that it had
@@ -39,21 +38,14 @@ same_predictor old = record {
   bystander = λ h state request hart now. now;
 }
 
-kind_keeps : (state : ModelState) (h : ℕ) (kind : Kind) → kind ≢ kinds.Step → Keeps state (kind_turn state h kind).state
-kind_keeps state h kinds.Step bus = absurd (bus refl)
-kind_keeps state h kinds.Order bus = (order_calm state h).keeps
-kind_keeps state h kinds.Serve bus = (serve_calm state h).keeps
-kind_keeps state h kinds.Deliver bus = (deliver_calm state h).keeps
-
 pub bus_events_keep : BusEventsKeep
-unfolding next
 bus_events_keep state event bus =
-    let keeps = kind_keeps state event.hart.number event.kind bus in
+    let done = bus_events_are_told_once state event bus in
     record {
-      committed = keeps.committed;
-      predictors = bus_keeps (same_predictor state) state event.hart.number event.kind bus (λ g. refl);
-      config = keeps.config;
-      count = keeps.count;
+      committed = done.committed;
+      predictors = turn_keeps (same_predictor state) done (λ g. refl);
+      config = done.config;
+      count = done.count;
     }
 
 kind_others : (state : ModelState) (h : ℕ) (kind : Kind) → kind ≡ kinds.Step → LeavesOthers state (kind_turn state h kind).state h

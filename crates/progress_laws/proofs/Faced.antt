@@ -24,8 +24,8 @@ use Rattle.el_model.proofs.BusEvents.{keeps_as_faced}
 use Rattle.el_model.proofs.Harts.{hart_of-each_hart, hart_of-each_hart_past}
 use Rattle.el_model.proofs.Orders.{served_order}
 use Rattle.el_model.proofs.Tests.{by_hart, by_test}
-use Rattle.progress_laws.proofs.Fewer.{bystander_fewer, fewer_moves, fewer_unmet, served_fewer}
-use Rattle.removal_laws.proofs.Bits.{Fewer, fewer_same}
+use Rattle.section_laws.proofs.Fewer.{bystander_fewer, fewer_moves, fewer_unmet, served_fewer}
+use Rattle.section_laws.proofs.Bits.{Fewer, fewer_same}
 use Rattle.policy.specs.Winners.{wins_of}
 use Rattle.section_laws.proofs.Moves.{moved, taken_keeps}
 use Rattle.stamp.specs.Stamps.{Stamp}

@@ -16,7 +16,7 @@ use Rattle.el_model.proofs.BusEvents.{by_event}
 use Rattle.el_model.proofs.Deeds.{step_deed}
 use Rattle.el_model.proofs.Harts.{hart_of-past}
 use Rattle.el_model.proofs.Tests.{by_hart}
-use Rattle.removal_laws.proofs.Bits.{some_none, some_same}
+use Rattle.section_laws.proofs.Bits.{some_none, some_same}
 use Rattle.el_model.proofs.EachHart.{Each}
 use Rattle.section_laws.proofs.Moves.{Moves, moved, step_keeps, taken_keeps}
 use Rattle.section_laws.proofs.Numbered.{next_count, order_keeps}

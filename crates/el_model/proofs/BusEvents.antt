@@ -1,5 +1,6 @@
 -- every event of the bus is told by its start and by what becomes of each hart from there
-use Rattle.std.proofs.Common.{◌≡◌, ◌≢◌, ◌∙◌, ℕ, suc, ◌+◌, ◌<◌, ◌≤◌, Bool, true, false, ◌&&◌, not, ◌==◌, List, [], ◌∷◌, Option, None, Some, is_some, length}
+use Rattle.std.proofs.Common.{◌≡◌, ◌≢◌, ◌∙◌, ℕ, suc, ◌+◌, ◌<◌, ◌≤◌, Bool, true, false, ◌&&◌, not, ◌==◌, List, [], ◌∷◌}
+use Rattle.std.proofs.Common.{Option, None, Some, is_some, length}
 use Rattle.std.proofs.Common.{map, filter, refl, ap, sym, subst, arith, if◌then◌else◌}
 use Rattle.std.specs.Prelude.{nat_lt}
 use Rattle.std.proofs.lemmas.Bool.{ltb-true, ltb-false}
@@ -18,21 +19,30 @@ use Rattle.el_base.specs.declared.events.Event.{Event}
 use Rattle.el_base.specs.declared.events.Kind.{Kind}
 use Rattle.el_base.specs.declared.events.Kind.TheVariants as kinds
 use Rattle.el_base.specs.declared.outcomes.Outcome.TheVariants.{Delivered, Ordered, Served}
-use Rattle.el_model.specs.BusEvent.{AtFace, AtProbe, Becomes, Forwards, IsAbsent, IsAnswered, IsBehind, IsBusEvent, IsDeferred, IsForwarded, IsOfBus}
-use Rattle.el_model.specs.BusEvent.{IsPassed, IsPosted, IsSent, IsToldOn, LosesIt, MayPlace, MayServe, Nothing, Places, Sees, Serves, Start}
+use Rattle.el_model.specs.BusEvent.{AtFace, AtProbe, Becomes, Forwards, IsAbsent, IsAnswered, IsBehind, IsBusEvent}
+use Rattle.el_model.specs.BusEvent.{IsDeferred, IsForwarded, IsOfBus}
+use Rattle.el_model.specs.BusEvent.{IsPassed, IsPosted, IsSent, IsToldOn, LosesIt, MayPlace, MayServe, Nothing, Places}
+use Rattle.el_model.specs.BusEvent.{Sees, Serves, Start}
 use Rattle.el_model.specs.BusEvent.{Starts, Takes, TellsOn, as_faced, faced_head, having_taken, started}
 use Rattle.el_model.specs.Conflicts.{conflicts_with, stamp_in}
-use Rattle.el_model.specs.Deliver.{after_probe, deliver_next, deliver_turn, delivered, forwarded, forwards_on, losers_by, loses_to_origin, nobody, one_lost, post_to, probe_losers, taken, told_of, told_on}
-use Rattle.el_model.specs.Face.{Fate, LosesTo, Stays, Unmet, after_fate, deferring, face_losers, face_losers_if, faced, faced_hart, faced_if, fate_at, markers_for, stays, winner_in, winning_stamp}
+use Rattle.el_model.specs.Deliver.{after_probe, deliver_next, deliver_turn, delivered, forwarded, forwards_on}
+use Rattle.el_model.specs.Deliver.{losers_by, loses_to_origin, nobody, one_lost, post_to, probe_losers, taken, told_of}
+use Rattle.el_model.specs.Deliver.{told_on}
+use Rattle.el_model.specs.Face.{Fate, LosesTo, Stays, Unmet, after_fate, deferring, face_losers, face_losers_if, faced}
+use Rattle.el_model.specs.Face.{faced_hart, faced_if, fate_at, markers_for, stays, winner_in, winning_stamp}
 use Rattle.el_model.specs.Laws.{BusEventsAreToldOnce}
 use Rattle.el_model.specs.Next.{kind_turn, next, step_turn}
-use Rattle.el_model.specs.Order.{Alone, Behind, InFront, Place, before_face, losers_at, marked_by, marked_from, marking, order_raised, order_turn, place_for, placed, placed_in_front, placed_last, unraised}
+use Rattle.el_model.specs.Order.{Alone, Behind, InFront, Place, before_face, losers_at, marked_by, marked_from, marking}
+use Rattle.el_model.specs.Order.{order_raised, order_turn, place_for, placed, placed_in_front, placed_last, unraised}
 use Rattle.el_model.specs.RollBack.{beaten}
 use Rattle.el_model.specs.Serve.{Blocks, Free, Obstacle, obstacle_to, serve_ordered, serve_past, serve_turn, served}
-use Rattle.el_model.specs.State.{Hart, ModelState, Turn, count_up, each_hart, hart_of, head_of, idle, new_hart, ordered_of, ordered_on, post_all, raised_of, with_hart}
+use Rattle.el_model.specs.State.{Hart, ModelState, Turn, count_up, each_hart, hart_of, head_of, idle, new_hart}
+use Rattle.el_model.specs.State.{ordered_of, ordered_on, post_all, raised_of, with_hart}
 use Rattle.el_model.proofs.EachHart.{Each, each_after, each_but_below, each_with}
-use Rattle.el_model.proofs.Harts.{hart_of-each_hart, hart_of-each_hart_past, hart_of-past, hart_of-with_hart_other, hart_of-with_hart_same, with_hart_kept}
-use Rattle.el_model.proofs.Keeps.{Keeps, keeps_all, keeps_each_hart, keeps_faced_if, keeps_marked_by, keeps_marking, keeps_message, keeps_placed}
+use Rattle.el_model.proofs.Harts.{hart_of-each_hart, hart_of-each_hart_past, hart_of-past, hart_of-with_hart_other}
+use Rattle.el_model.proofs.Harts.{hart_of-with_hart_same, with_hart_kept}
+use Rattle.el_model.proofs.Keeps.{Keeps, keeps_all, keeps_each_hart, keeps_faced_if, keeps_marked_by, keeps_marking}
+use Rattle.el_model.proofs.Keeps.{keeps_message, keeps_placed}
 use Rattle.el_model.proofs.Keeps.{keeps_placed_in_front, keeps_placed_last, keeps_served, keeps_twice, keeps_with_hart}
 use Rattle.el_model.proofs.Losing.{outside_is_unmet, own_is_unmet}
 use Rattle.el_model.proofs.Orders.{faced_order, placed_order, served_order}
@@ -71,7 +81,8 @@ module _ (state : ModelState) (by : ℕ) (start : Start) where
   each_started : Each Unbeaten (each_hart state (started state by start))
   each_started h = by_count (nat_lt h (length state.harts)) refl
     where
-      by_count : (below : Bool) → nat_lt h (length state.harts) ≡ below → Unbeaten h (hart_of (each_hart state (started state by start)) h)
+      by_count : (below : Bool) → nat_lt h (length state.harts) ≡ below →
+          Unbeaten h (hart_of (each_hart state (started state by start)) h)
       by_count true is =
           let below = ltb-true h (length state.harts) is in
           subst (Unbeaten h) (sym (hart_of-each_hart state (started state by start) h below)) (Starts below)
@@ -88,7 +99,8 @@ module _ (state : ModelState) (by : ℕ) (start : Start) where
   ArePosted h [] = Unit {0}
   ArePosted h (message ∷ messages) = IsPosted state by start h message × ArePosted h messages
 
-  all_sent : (h : ℕ) (hart : Hart) (messages : List Message) → ArePosted h messages → Unbeaten h hart → Unbeaten h (post_all hart messages)
+  all_sent : (h : ℕ) (hart : Hart) (messages : List Message) → ArePosted h messages → Unbeaten h hart →
+      Unbeaten h (post_all hart messages)
   all_sent h hart [] are now = now
   all_sent h hart (message ∷ messages) (is, are) now =
       all_sent h (record hart { mail = posted hart.mail message }) messages are (IsSent message None hart is now)
@@ -117,7 +129,8 @@ keeps_as_faced state by (Serves request) = keeps_served state request
 keeps_as_faced state by (Takes message others) = keeps_with_hart state by (record (hart_of state by) { mail = others })
 
 -- a hart whose section stays is not the head's
-stays_apart : (state : ModelState) (head : Request) (h : ℕ) → is_some (stays (fate_at state head h)) ≡ true → h ≢ head.hart
+stays_apart : (state : ModelState) (head : Request) (h : ℕ) → is_some (stays (fate_at state head h)) ≡ true →
+    h ≢ head.hart
 stays_apart state head h is same =
     let test : (h == head.hart) ≡ true = ap (λ k. k == head.hart) same ∙ own_test head.hart in
     let e = sym is ∙ ap (λ fate. is_some (stays fate)) (own_is_unmet state head h (hart_of state h) test) in
@@ -153,7 +166,8 @@ module _ (state : ModelState) (by : ℕ) (start : Start) (head : Request) (is : 
       subst (λ mode. Becomes state by start h (Some winner) (beaten mode stamp (hart_of mid h))) (sym same_mode)
       (LosesIt winner stamp (hart_of mid h) (AtFace start head h winner is apart fate) (each h))
 
-  markers_posted : (mode : Mode) → mid.config.mode ≡ mode → ArePosted state by start head.hart (markers_for mode mid head)
+  markers_posted : (mode : Mode) → mid.config.mode ≡ mode →
+      ArePosted state by start head.hart (markers_for mode mid head)
   markers_posted Tlr in_mode =
       listed state by start head.hart (length mid.harts) 0 Marker (λ h. is_some (stays (fate_at mid head h))) mid.harts (omega arith)
       (λ h below stay.
@@ -163,7 +177,8 @@ module _ (state : ModelState) (by : ℕ) (start : Start) (head : Request) (is : 
   markers_posted Sle in_mode = tt
   markers_posted Plain in_mode = tt
 
-  hart_becomes : (h : ℕ) → Becomes state by start h (winner_in (fate_at mid head h)) (faced_hart mid head h (hart_of mid h))
+  hart_becomes : (h : ℕ) → Becomes state by start h (winner_in (fate_at mid head h))
+      (faced_hart mid head h (hart_of mid h))
   hart_becomes h = by_own (h == head.hart) refl
     where
       by_own : (own : Bool) → (h == head.hart) ≡ own →
@@ -198,7 +213,8 @@ module _ (state : ModelState) (by : ℕ) (start : Start) (head : Request) (is : 
           (subst (Becomes state by start h None) (none ∙ sym (hart_of-each_hart_past mid (faced_hart mid head) h past)) (each h))
 
 -- nothing is done
-nothing_done : (state : ModelState) (by : ℕ) (turn : Turn) → turn.state ≡ state → IsOfBus turn.outcome → ((h : ℕ) → winner_over turn.outcome h ≡ None) →
+nothing_done : (state : ModelState) (by : ℕ) (turn : Turn) → turn.state ≡ state → IsOfBus turn.outcome →
+    ((h : ℕ) → winner_over turn.outcome h ≡ None) →
     ((h : ℕ) → taking_effect h turn.outcome ≡ []) → IsBusEvent state by turn
 nothing_done state by turn still of_bus unnamed no_effect = record {
   start = Nothing;
@@ -287,13 +303,15 @@ module _ (state : ModelState) (by : ℕ) (request : Request) where
       placed_event Alone may (λ h. winner_in (fate_at (placed_last state request) request h))
       (faced_becomes state by (Places request Alone) request refl (unraised_started Alone)) (λ h. refl)
 
-raised_event : (state : ModelState) (by : ℕ) (raised : Option Request) → raised_of state by ≡ raised → IsBusEvent state by (order_raised state raised)
+raised_event : (state : ModelState) (by : ℕ) (raised : Option Request) → raised_of state by ≡ raised →
+    IsBusEvent state by (order_raised state raised)
 raised_event state by None is = nothing_done state by (idle state) refl tt (λ h. refl) (λ h. refl)
 raised_event state by (Some request) is =
     place_event state by request (place_for state request) (record { raised = is; place_is = refl })
 
 -- a request is served
-served_started : (state : ModelState) (by : ℕ) (request : Request) → Each (Unbeaten state by (Serves request)) (served state request)
+served_started : (state : ModelState) (by : ℕ) (request : Request) → Each (Unbeaten state by (Serves request))
+    (served state request)
 unfolding served
 served_started state by request = each_started state by (Serves request)
 
@@ -334,7 +352,8 @@ serve_event state by request may (Some head) is =
     }
 
 -- as a head is faced no hart has lost yet
-pub met_becomes : (state : ModelState) (by : ℕ) (start : Start) (head : Request) → faced_head state start ≡ Some head → (h : ℕ) →
+pub met_becomes : (state : ModelState) (by : ℕ) (start : Start) (head : Request) → faced_head state start ≡ Some head →
+    (h : ℕ) →
     Becomes state by start h None (hart_of (as_faced state by start) h)
 met_becomes state by Nothing head is h = absurd (cc)
 met_becomes state by (Places request InFront) head is h = in_front_started state by request (head_of state request.line) refl h
@@ -343,7 +362,8 @@ met_becomes state by (Places request Alone) head is h = unraised_started state b
 met_becomes state by (Serves request) head is h = served_started state by request h
 met_becomes state by (Takes message others) head is h = absurd (cc)
 
-past_event : (state : ModelState) (by : ℕ) (request : Request) → ordered_of state by ≡ Some request → (obstacle : Obstacle) →
+past_event : (state : ModelState) (by : ℕ) (request : Request) → ordered_of state by ≡ Some request →
+    (obstacle : Obstacle) →
     obstacle_to state request ≡ obstacle → IsBusEvent state by (serve_past state request obstacle)
 past_event state by request ordered (Blocks why other) is = nothing_done state by (serve_past state request (Blocks why other)) refl tt (λ h. refl) (λ h. refl)
 past_event state by request ordered Free is =
@@ -371,7 +391,8 @@ is_there None is = absurd (cc)
 is_there (Some x) is = (x, refl)
 
 -- a hart with a message is one of the machine's
-pub with_mail : (state : ModelState) (h : ℕ) (message : Message) (others : List Message) → (hart_of state h).mail ≡ message ∷ others → h < length state.harts
+pub with_mail : (state : ModelState) (h : ℕ) (message : Message) (others : List Message) →
+    (hart_of state h).mail ≡ message ∷ others → h < length state.harts
 with_mail state h message others is = by_count (nat_lt h (length state.harts)) refl
   where
     by_count : (below : Bool) → nat_lt h (length state.harts) ≡ below → h < length state.harts
@@ -390,7 +411,8 @@ module _ (state : ModelState) (by : ℕ) (message : Message) (others : List Mess
   taken_own : hart_of (taken state by others) by ≡ record (hart_of state by) { mail = others }
   taken_own = hart_of-with_hart_same state by (record (hart_of state by) { mail = others }) exists
 
-  taken_same : {A : Type 0} (f : Hart → A) → f (record (hart_of state by) { mail = others }) ≡ f (hart_of state by) → (g : ℕ) →
+  taken_same : {A : Type 0} (f : Hart → A) → f (record (hart_of state by) { mail = others }) ≡ f (hart_of state by) →
+      (g : ℕ) →
       f (hart_of (taken state by others) g) ≡ f (hart_of state g)
   taken_same f kept g = with_hart_kept f state by (record (hart_of state by) { mail = others }) kept g
 
@@ -404,7 +426,8 @@ module _ (state : ModelState) (by : ℕ) (message : Message) (others : List Mess
   others_start g apart = ap (λ own. if own then having_taken message others (hart_of state g) else hart_of state g) (other_test g by apart)
 
   -- the hart becomes another besides
-  taken_started : (P : ℕ → Hart → Type 0) (hart : Hart) → P by hart → ((g : ℕ) → g ≢ by → Taking g (hart_of state g) → P g (hart_of state g)) →
+  taken_started : (P : ℕ → Hart → Type 0) (hart : Hart) → P by hart →
+      ((g : ℕ) → g ≢ by → Taking g (hart_of state g) → P g (hart_of state g)) →
       Each P (with_hart (taken state by others) by hart)
   taken_started P hart own other =
       each_but_below P (taken state by others) by hart (λ below. own)
@@ -497,7 +520,8 @@ module _ (state : ModelState) (by origin : ℕ) (others : List Message) (mail_is
   told_before : has (hart_of probe_left by).told origin ≡ has (hart_of state by).told origin
   told_before = ap (λ told. has told origin) (taken_same state by (Probe origin) others mail_is (λ hart. hart.told) refl by)
 
-  known_event : has (hart_of probe_left by).told origin ≡ true → IsBusEvent state by (record { state = probe_left; outcome = Delivered nobody })
+  known_event : has (hart_of probe_left by).told origin ≡ true →
+      IsBusEvent state by (record { state = probe_left; outcome = Delivered nobody })
   known_event known =
       taken_event state by (Probe origin) others mail_is probe_left (λ h. None) (taken_keeps state by (Probe origin) others mail_is) refl
       (one_started state by probe_start by (record (hart_of state by) { mail = others })
@@ -506,7 +530,8 @@ module _ (state : ModelState) (by origin : ℕ) (others : List Message) (mail_is
       ∙ own_start state by (Probe origin) others mail_is)
       (others_start state by (Probe origin) others mail_is))
 
-  loses_before : (request : Request) → loses_to_origin probe_left by (Some request) ≡ loses_to_origin state by (Some request)
+  loses_before : (request : Request) →
+      loses_to_origin probe_left by (Some request) ≡ loses_to_origin state by (Some request)
   loses_before request =
       taken_same state by (Probe origin) others mail_is (λ hart. conflicts_with (head_of state request.line) by hart && is_before request.stamp hart.attempt)
       (ap (λ meets. meets && is_before request.stamp (hart_of state by).attempt) (conflicts_same (head_of state request.line) by (hart_of state by) others))
@@ -524,7 +549,8 @@ module _ (state : ModelState) (by origin : ℕ) (others : List Message) (mail_is
       subst (λ old. Unbeaten state by probe_start by (record old { told = included old.told origin }))
       (sym (taken_own state by (Probe origin) others mail_is)) (own_taken state by (Probe origin) others mail_is)
 
-  told_becomes : (request : Option Request) → ordered_of state origin ≡ request → (loses : Bool) → loses_to_origin probe_left by request ≡ loses →
+  told_becomes : (request : Option Request) → ordered_of state origin ≡ request → (loses : Bool) →
+      loses_to_origin probe_left by request ≡ loses →
       Becomes state by probe_start by (lost_if loses by) (if loses then beaten state.config.mode (stamp_in request) told_hart else told_hart)
   told_becomes request is false loses = told_so
   told_becomes None is true loses = absurd (cc)
@@ -538,7 +564,8 @@ module _ (state : ModelState) (by origin : ℕ) (others : List Message) (mail_is
   not_lost false h apart = refl
 
   -- a hart is forwarded the probe
-  forwards_at : has (hart_of state by).told origin ≡ false → (request : Option Request) → ordered_of state origin ≡ request → (h : ℕ) →
+  forwards_at : has (hart_of state by).told origin ≡ false → (request : Option Request) →
+      ordered_of state origin ≡ request → (h : ℕ) →
       forwards_on probe_left by origin request h ≡ true → Forwards state by origin h
   forwards_at new None is h test = absurd (cc)
   forwards_at new (Some request) is h test =
@@ -553,7 +580,8 @@ module _ (state : ModelState) (by origin : ℕ) (others : List Message) (mail_is
         own = own;
       }))
 
-  probe_event : has (hart_of state by).told origin ≡ false → (request : Option Request) → ordered_of state origin ≡ request → (loses : Bool) →
+  probe_event : has (hart_of state by).told origin ≡ false → (request : Option Request) →
+      ordered_of state origin ≡ request → (loses : Bool) →
       loses_to_origin probe_left by request ≡ loses →
       IsBusEvent state by (record { state = after_probe probe_left by origin request; outcome = Delivered (losers_of (lost_if loses)) })
   probe_event new request is loses loses_is =
@@ -576,12 +604,14 @@ module _ (state : ModelState) (by origin : ℕ) (others : List Message) (mail_is
       each)
 
 -- whichever message
-losers_if : (loses : Bool) (by origin : ℕ) → losers_of (λ h. if loses then (if h == by then Some origin else None) else None)
+losers_if : (loses : Bool) (by origin : ℕ) →
+    losers_of (λ h. if loses then (if h == by then Some origin else None) else None)
     ≡ (if loses then one_lost by origin else nobody)
 losers_if true by origin = refl
 losers_if false by origin = refl
 
-message_event : (state : ModelState) (by : ℕ) (message : Message) (others : List Message) → (hart_of state by).mail ≡ message ∷ others →
+message_event : (state : ModelState) (by : ℕ) (message : Message) (others : List Message) →
+    (hart_of state by).mail ≡ message ∷ others →
     IsBusEvent state by (record { state = delivered (taken state by others) by message; outcome = Delivered (losers_by (taken state by others) by message) })
 unfolding delivered
 message_event state by (Marker sender) others is = marker_event state by sender others is
@@ -594,17 +624,23 @@ message_event state by (Probe origin) others is = by_told (has (hart_of (taken s
         })
     by_told true known = known_event state by origin others is known
     by_told false known =
-        subst (λ losers. IsBusEvent state by (record { state = after_probe (taken state by others) by origin (ordered_of (taken state by others) origin); outcome = Delivered losers }))
+        subst
+        (λ losers. IsBusEvent state by (record {
+          state = after_probe (taken state by others) by origin (ordered_of (taken state by others) origin);
+          outcome = Delivered losers;
+        }))
         (losers_if (loses_to_origin (taken state by others) by (ordered_of (taken state by others) origin)) by origin)
         (probe_event state by origin others is (sym (told_before state by origin others is) ∙ known) (ordered_of state origin) refl
         (loses_to_origin (taken state by others) by (ordered_of (taken state by others) origin)) refl)
 
-mail_event : (state : ModelState) (by : ℕ) (mail : List Message) → (hart_of state by).mail ≡ mail → IsBusEvent state by (deliver_next state by mail)
+mail_event : (state : ModelState) (by : ℕ) (mail : List Message) → (hart_of state by).mail ≡ mail →
+    IsBusEvent state by (deliver_next state by mail)
 mail_event state by [] is = nothing_done state by (idle state) refl tt (λ h. refl) (λ h. refl)
 mail_event state by (message ∷ others) is = message_event state by message others is
 
 -- every event of the bus
-pub bus_event : (state : ModelState) (by : ℕ) (kind : Kind) → kind ≢ kinds.Step → IsBusEvent state by (kind_turn state by kind)
+pub bus_event : (state : ModelState) (by : ℕ) (kind : Kind) → kind ≢ kinds.Step →
+    IsBusEvent state by (kind_turn state by kind)
 unfolding order_turn serve_turn deliver_turn
 bus_event state by kinds.Step bus = absurd (bus refl)
 bus_event state by kinds.Order bus = raised_event state by (raised_of state by) refl
@@ -619,14 +655,16 @@ pub keeps_of_bus : {state : ModelState} {by : ℕ} {turn : Turn} → IsBusEvent 
 keeps_of_bus done = record { config = done.config; committed = done.committed; count = done.count }
 
 -- what holds of a step and of what an event of the bus is holds of each event
-pub by_kind : (P : Turn → Type 0) (state : ModelState) (h : ℕ) (kind : Kind) → (kind ≡ kinds.Step → P (step_turn state h)) →
+pub by_kind : (P : Turn → Type 0) (state : ModelState) (h : ℕ) (kind : Kind) →
+    (kind ≡ kinds.Step → P (step_turn state h)) →
     ((turn : Turn) → IsBusEvent state h turn → P turn) → P (kind_turn state h kind)
 by_kind P state h kinds.Step step bus = step refl
 by_kind P state h kinds.Order step bus = bus (kind_turn state h kinds.Order) (bus_event state h kinds.Order (λ same. absurd (cc)))
 by_kind P state h kinds.Serve step bus = bus (kind_turn state h kinds.Serve) (bus_event state h kinds.Serve (λ same. absurd (cc)))
 by_kind P state h kinds.Deliver step bus = bus (kind_turn state h kinds.Deliver) (bus_event state h kinds.Deliver (λ same. absurd (cc)))
 
-pub by_event : (P : Turn → Type 0) (state : ModelState) (event : Event) → (event.kind ≡ kinds.Step → P (step_turn state event.hart.number)) →
+pub by_event : (P : Turn → Type 0) (state : ModelState) (event : Event) →
+    (event.kind ≡ kinds.Step → P (step_turn state event.hart.number)) →
     ((turn : Turn) → IsBusEvent state event.hart.number turn → P turn) → P (next state event)
 unfolding next
 by_event P state event step bus = by_kind P state event.hart.number event.kind step bus

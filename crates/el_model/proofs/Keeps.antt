@@ -7,7 +7,8 @@ use Rattle.el_base.specs.declared.config.Mode.{Mode}
 use Rattle.el_base.specs.declared.config.Mode.TheVariants.{Plain, Sle, Tlr}
 use Rattle.el_model.specs.Deliver.{after_probe, delivered}
 use Rattle.el_model.specs.Face.{faced, faced_if}
-use Rattle.el_model.specs.Order.{Alone, Behind, InFront, Place, marked_by, marked_from, marking, placed, placed_in_front, placed_last}
+use Rattle.el_model.specs.Order.{Alone, Behind, InFront, Place, marked_by, marked_from, marking, placed}
+use Rattle.el_model.specs.Order.{placed_in_front, placed_last}
 use Rattle.el_model.specs.Serve.{served}
 use Rattle.el_model.specs.State.{Hart, ModelState, each_from, each_hart, hart_of, head_of, ordered_of, with_hart}
 use Rattle.el_model.proofs.Tests.{by_test}

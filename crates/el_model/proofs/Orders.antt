@@ -7,7 +7,8 @@ use Rattle.el_base.specs.declared.config.Mode.TheVariants.{Plain, Sle, Tlr}
 use Rattle.el_model.specs.BusEvent.{Nothing, Places, Serves, Start, Takes, as_faced, order_after, order_at}
 use Rattle.el_model.specs.Deliver.{after_probe, deliver_next, delivered, taken}
 use Rattle.el_model.specs.Face.{faced, faced_if}
-use Rattle.el_model.specs.Order.{Alone, Behind, InFront, Place, marked_by, marked_from, marking, placed, placed_in_front, placed_last}
+use Rattle.el_model.specs.Order.{Alone, Behind, InFront, Place, marked_by, marked_from, marking, placed}
+use Rattle.el_model.specs.Order.{placed_in_front, placed_last}
 use Rattle.el_model.specs.Serve.{served}
 use Rattle.el_model.specs.State.{ModelState, head_of, ordered_of, hart_of}
 use Rattle.el_model.proofs.Tests.{by_test}
@@ -31,13 +32,15 @@ unfolding faced
 faced_order state None = refl
 faced_order state (Some head) = refl
 
-pub placed_order : (state : ModelState) (request : Request) (place : Place) → (placed state request place).order ≡ order_at state request place
+pub placed_order : (state : ModelState) (request : Request) (place : Place) →
+    (placed state request place).order ≡ order_at state request place
 unfolding placed faced
 placed_order state request InFront = marking_order (placed_in_front state request) request.hart (head_of state request.line)
 placed_order state request Behind = marked_by_order (placed_last state request) (tail_of state.order request.line) request.hart
 placed_order state request Alone = refl
 
-pub served_order : (state : ModelState) (request : Request) → (served state request).order ≡ removed state.order request.hart
+pub served_order : (state : ModelState) (request : Request) →
+    (served state request).order ≡ removed state.order request.hart
 unfolding served
 served_order state request = refl
 
@@ -48,12 +51,14 @@ message_order state h (Probe origin) =
     by_test (λ new. new.order ≡ state.order) (has (hart_of state h).told origin) state (after_probe state h origin (ordered_of state origin))
     (λ known. refl) (λ new. refl)
 
-pub mail_order : (state : ModelState) (h : ℕ) (mail : List Message) → (deliver_next state h mail).state.order ≡ state.order
+pub mail_order : (state : ModelState) (h : ℕ) (mail : List Message) →
+    (deliver_next state h mail).state.order ≡ state.order
 mail_order state h [] = refl
 mail_order state h (message ∷ others) = message_order (taken state h others) h message
 
 -- as a head is faced
-pub order_as_faced : (state : ModelState) (by : ℕ) (start : Start) → (as_faced state by start).order ≡ order_after state start
+pub order_as_faced : (state : ModelState) (by : ℕ) (start : Start) →
+    (as_faced state by start).order ≡ order_after state start
 order_as_faced state by Nothing = refl
 order_as_faced state by (Places request InFront) = marking_order (placed_in_front state request) request.hart (head_of state request.line)
 order_as_faced state by (Places request Behind) = marked_by_order (placed_last state request) (tail_of state.order request.line) request.hart

@@ -1,5 +1,6 @@
 -- an event of the bus, told once: how it starts, and what becomes of each hart from there, one change after another
-use Rattle.std.specs.Prelude.{ℕ, ◌≡◌, ◌≢◌, ◌<◌, ◌≤◌, ◌==◌, true, false, List, [], ◌∷◌, length, Option, None, Some, is_some, if◌then◌else◌}
+use Rattle.std.specs.Prelude.{ℕ, ◌≡◌, ◌≢◌, ◌<◌, ◌≤◌, ◌==◌, true, false, List, [], ◌∷◌, length, Option, None, Some}
+use Rattle.std.specs.Prelude.{is_some, if◌then◌else◌}
 use Rattle.bus_order.specs.Order.{Request, appended, in_front_of, removed, tail_of}
 use Rattle.chronicle.specs.Serial.{taking_effect}
 use Rattle.defer_list.specs.HartSet.{has, included}

@@ -1,5 +1,6 @@
 -- the losers of an event lost to harts that wait with less stamps
-use Rattle.std.proofs.Common.{◌≡◌, ◌∙◌, ◌≤◌, ◌&&◌, ℕ, Bool, true, false, Option, None, Some, refl, ap, sym, inl, inr, ◌⊎◌, subst, arith, if◌then◌else◌}
+use Rattle.std.proofs.Common.{◌≡◌, ◌∙◌, ◌≤◌, ◌&&◌, ℕ, true, Option, None, Some, refl, ap, sym, inl, inr}
+use Rattle.std.proofs.Common.{◌⊎◌, subst, arith, if◌then◌else◌}
 use Rattle.bus_order.specs.Order.{Request, first_of, removed, request_of}
 use Rattle.bus_order.proofs.LookUps.{own_test}
 use Rattle.bus_order.proofs.Orders.{one_each_removed}
@@ -9,7 +10,8 @@ use Rattle.el_base.proofs.MadeLosers.{named_by_map}
 use Rattle.el_base.specs.Winners.{winner_over}
 use Rattle.el_base.specs.declared.config.Mode.TheVariants.{Tlr}
 use Rattle.el_base.specs.declared.events.Event.{Event}
-use Rattle.el_model.specs.BusEvent.{AtFace, AtProbe, Becomes, IsAbsent, IsBusEvent, IsSent, LosesIt, LosesWhere, Nothing, Places, Sees, Serves}
+use Rattle.el_model.specs.BusEvent.{AtFace, AtProbe, Becomes, IsAbsent, IsBusEvent, IsSent, LosesIt, LosesWhere}
+use Rattle.el_model.specs.BusEvent.{Nothing, Places, Sees, Serves}
 use Rattle.el_model.specs.BusEvent.{Start, Starts, StartsWhere, Takes, as_faced, faced_head, order_after}
 use Rattle.el_model.specs.Conflicts.{retains, stamp_in, told_winner}
 use Rattle.el_model.specs.Deed.{Begins, Buffers, Commits, Deed, Misses, Rests, RollsBack, Runs, Waits, outcome_of}
@@ -17,7 +19,8 @@ use Rattle.el_model.specs.Face.{winning_stamp}
 use Rattle.el_model.specs.Next.{after, next, step_turn}
 use Rattle.el_model.specs.Order.{Alone, Behind, InFront}
 use Rattle.el_model.specs.RollBack.{beaten}
-use Rattle.el_model.specs.State.{Hart, ModelState, Turn, for_line, hart_of, numbers_of, ordered_of, ordered_on, raised_of}
+use Rattle.el_model.specs.State.{Hart, ModelState, Turn, for_line, hart_of, numbers_of, ordered_of, ordered_on}
+use Rattle.el_model.specs.State.{raised_of}
 use Rattle.el_model.proofs.BusEvents.{by_event, keeps_as_faced, met_becomes}
 use Rattle.el_model.proofs.Deeds.{step_deed}
 use Rattle.el_model.proofs.Orders.{order_as_faced, served_order}
@@ -48,7 +51,8 @@ record IsBeaten (state : ModelState) (by : ℕ) (start : Start) (g winner seen :
   loses : LosesWhere state by start g winner stamp
   saw : (at : Stamp) → stamp ≡ Some at → at.clock ≤ seen
 
-becomes_beaten : (state : ModelState) (by : ℕ) (start : Start) (g winner : ℕ) {lost : Option ℕ} {hart : Hart} → state.config.mode ≡ Tlr →
+becomes_beaten : (state : ModelState) (by : ℕ) (start : Start) (g winner : ℕ) {lost : Option ℕ} {hart : Hart} →
+    state.config.mode ≡ Tlr →
     lost ≡ Some winner → Becomes state by start g lost hart → IsBeaten state by start g winner hart.seen
 becomes_beaten state by start g winner mode is (IsAbsent past) = none_some is
 becomes_beaten state by start g winner mode is (Starts below) = none_some is
@@ -74,10 +78,12 @@ record WonBy (state : ModelState) (start : Start) (g winner : ℕ) (stamp : Opti
   earlier : is_before request.stamp (attempt_of state g) ≡ true
 
 -- a head that is faced is ordered
-placed_head : (state : ModelState) (by : ℕ) (request : Request) → Once state → raised_of state by ≡ Some request → ordered_of state request.hart ≡ None
+placed_head : (state : ModelState) (by : ℕ) (request : Request) → Once state → raised_of state by ≡ Some request →
+    ordered_of state request.hart ≡ None
 placed_head state by request once raised = free_of_order state request.hart request once.sound (raised_own state by request once.sound raised)
 
-head_ordered : (state : ModelState) (by : ℕ) (start : Start) (head : Request) → Once state → StartsWhere state by start →
+head_ordered : (state : ModelState) (by : ℕ) (start : Start) (head : Request) → Once state →
+    StartsWhere state by start →
     faced_head state start ≡ Some head → request_of (order_after state start) head.hart ≡ Some head
 head_ordered state by Nothing head once where_it is = none_some is
 head_ordered state by (Places request InFront) head once may is =
@@ -109,7 +115,8 @@ module _ (state : ModelState) (by : ℕ) (start : Start) (head : Request) (is : 
       ap (λ found. stamp_in (for_line head.line found)) (met_ordered head.hart ∙ head_ordered state by start head once where_it is)
       ∙ ap (λ same. stamp_in (if same then Some head else None)) (own_test head.line)
 
-  told_won : (found : Option Request) → ordered_on met winner head.line ≡ found → is_before (stamp_in found) (attempt_of met g) ≡ true →
+  told_won : (found : Option Request) → ordered_on met winner head.line ≡ found → is_before (stamp_in found)
+      (attempt_of met g) ≡ true →
       WonBy state start g winner (winning_stamp met head.line winner)
   told_won None on less = before_none (attempt_of met g) less
     where
@@ -140,7 +147,8 @@ module _ (state : ModelState) (by : ℕ) (start : Start) (head : Request) (is : 
           (least_passes (λ o. has (hart_of met g).told o && is_before (stamp_in (ordered_on met o head.line)) (hart_of met g).attempt)
           (λ o. stamp_in (ordered_on met o head.line)) (numbers_of met) winner told))
 
-won_by : (state : ModelState) (by : ℕ) {start : Start} {g winner : ℕ} {stamp : Option Stamp} → state.config.mode ≡ Tlr → Once state →
+won_by : (state : ModelState) (by : ℕ) {start : Start} {g winner : ℕ} {stamp : Option Stamp} → state.config.mode ≡ Tlr →
+    Once state →
     StartsWhere state by start → LosesWhere state by start g winner stamp → WonBy state start g winner stamp
 won_by state by mode once where_it (AtFace start head g winner is apart fate) =
     let met = as_faced state by start in
@@ -154,7 +162,8 @@ won_by state by mode once where_it (AtProbe origin others request is loses) = re
   earlier = second_of_both (retains state by request.line) _ loses;
 }
 
-turn_beats : {state : ModelState} {by : ℕ} {turn : Turn} → IsBusEvent state by turn → state.config.mode ≡ Tlr → Once state → (g winner : ℕ) →
+turn_beats : {state : ModelState} {by : ℕ} {turn : Turn} → IsBusEvent state by turn → state.config.mode ≡ Tlr →
+    Once state → (g winner : ℕ) →
     winner_over turn.outcome g ≡ Some winner → LosesToEarlier turn.state g winner
 turn_beats {state} {by} {turn} done mode once g winner lost =
     let beaten = becomes_beaten state by done.start g winner mode (named_by_map done.lost g winner (sym (done.names g) ∙ lost)) (done.becomes g) in
@@ -178,7 +187,8 @@ step_names_none (Buffers section touch) g winner is = absurd (cc)
 step_names_none (Commits section) g winner is = absurd (cc)
 step_names_none (RollsBack section cause) g winner is = absurd (cc)
 
-pub step_names : {X : Type 0} (state : ModelState) (h g winner : ℕ) → winner_over (step_turn state h).outcome g ≡ Some winner → X
+pub step_names : {X : Type 0} (state : ModelState) (h g winner : ℕ) →
+    winner_over (step_turn state h).outcome g ≡ Some winner → X
 step_names state h g winner lost =
     let step = step_deed state h in
     step_names_none step.deed g winner (subst (λ turn. winner_over turn.outcome g ≡ Some winner) step.turn_is lost)

@@ -62,7 +62,8 @@ bus_kept state stamp =
     attempts_kept (λ g section clock attempt. attempt_of state g ≡ Some stamp → attempt ≡ Some stamp)
     (record { lost = λ h section clock attempt now. now })
 
-step_kept : (state : ModelState) (h g : ℕ) (stamp : Stamp) → ((h == g) && closes_it (step_turn state h).outcome) ≡ false →
+step_kept : (state : ModelState) (h g : ℕ) (stamp : Stamp) →
+    ((h == g) && closes_it (step_turn state h).outcome) ≡ false →
     attempt_of state g ≡ Some stamp → attempt_of (step_turn state h).state g ≡ Some stamp
 step_kept state h g stamp =
     let step = step_deed state h in

@@ -1,5 +1,5 @@
 -- the section of the hart with the least stamp ends by a commit or by a rollback of its own
-use Rattle.std.proofs.Common.{◌≡◌, ◌≢◌, ◌∙◌, ◌==◌, ◌&&◌, ℕ, true, false, Option, None, Some, is_some, refl, ap, sym, subst}
+use Rattle.std.proofs.Common.{◌≡◌, ◌∙◌, ◌==◌, ◌&&◌, ℕ, true, false, Option, None, Some, is_some, refl, ap}
 use Rattle.bus_order.proofs.LookUps.{own_test}
 use Rattle.el_base.specs.declared.config.Mode.{Mode}
 use Rattle.el_model.specs.BusEvent.{IsBusEvent}
@@ -52,7 +52,8 @@ bus_leaves : (mode : Mode) (old new : Standing) (winner : Option ℕ) → new �
 bus_leaves mode old new None same none = ap (λ standing. is_some standing.section) same
 bus_leaves mode old new (Some winner) same none = absurd (cc)
 
-left : {X : Type 0} {state : ModelState} {by : ℕ} {turn : Turn} → IsBusEvent state by turn → (h : ℕ) → HartsAreNumbered state →
+left : {X : Type 0} {state : ModelState} {by : ℕ} {turn : Turn} → IsBusEvent state by turn → (h : ℕ) →
+    HartsAreNumbered state →
     winner_over turn.outcome h ≡ None → is_live state h ≡ true → is_live turn.state h ≡ false → X
 left {X} {state} {by} {turn} done h numbered unnamed live ended =
     clash ended

@@ -15,7 +15,6 @@ use Rattle.el_model.specs.Next.{after, kind_turn, next}
 use Rattle.el_model.specs.Serve.{Free, Obstacle, blocks_if, obstacle_to, other_head, serve_ordered, serve_past, serve_turn}
 use Rattle.el_model.specs.State.{ModelState, hart_of, head_of, is_held, numbers_of, ordered_of, section_of}
 use Rattle.el_model.proofs.BusEvents.{by_event}
-use Rattle.el_model.proofs.Deeds.{step_deed}
 use Rattle.removal_laws.specs.Facts.{Everywhere, Facts}
 use Rattle.removal_laws.specs.Laws.{HasLeast, HeadIsServed, IsLocked, LaterThanDeferredHeads, LaterThanWinners, LeastStampNeverLoses, LosesToEarlier, attempt_of, is_served}
 use Rattle.removal_laws.proofs.Beating.{next_beats, same_attempts, step_names}

@@ -1,5 +1,5 @@
 -- what holds still holds after a probe is delivered, and so after any message
-use Rattle.std.proofs.Common.{◌≡◌, ◌≤◌, ◌≢◌, ◌∙◌, ◌<◌, ◌==◌, ◌&&◌, ℕ, Bool, true, false, not, List, [], ◌∷◌, length, Option, None, Some, is_some, refl, ap, sym, inl, inr, ◌⊎◌, arith, subst}
+use Rattle.std.proofs.Common.{◌≡◌, ◌≢◌, ◌∙◌, ◌<◌, ◌==◌, ◌&&◌, ℕ, Bool, true, false, not, List, [], ◌∷◌, length, Option, None, Some, is_some, refl, ap, sym, inl, inr, ◌⊎◌, arith, subst}
 use Rattle.std.proofs.Math.ListN.{length-set}
 use Rattle.bus_order.specs.Order.{Request}
 use Rattle.bus_order.proofs.LookUps.{other_test, own_test}
@@ -18,8 +18,8 @@ use Rattle.el_model.proofs.Tests.{by_test}
 use Rattle.mail.specs.Mailbox.{Marker, Message, Probe, has_message, posted}
 use Rattle.mail.proofs.LookUps.{has_posted_own}
 use Rattle.removal_laws.specs.Facts.{IsLinked, Knows, MayBeKnown}
-use Rattle.removal_laws.specs.Laws.{LosesToEarlier}
-use Rattle.section_laws.proofs.Bits.{both, clash, fewer_ended, fewer_same, first_of_both, meets, second_of_both, some_same, some_none}
+use Rattle.section_laws.proofs.Bits.{both, clash, fewer_ended, fewer_same, first_of_both, meets}
+use Rattle.section_laws.proofs.Bits.{some_same}
 use Rattle.removal_laws.proofs.Delivering.{Entry, NoEntry, mail_exists, marker_stands, more_has, new_or_had, own_line}
 use Rattle.removal_laws.proofs.Grounds.{Grounds, Standing}
 use Rattle.removal_laws.proofs.Kept.{OwedOf, head_line, retained_before}

@@ -26,7 +26,8 @@ pub record BusKept (P : ℕ → Hart → Type 0) : Type 0 where
   pub bystander : (h : ℕ) (state : ModelState) (request : Request) (hart : Hart) → P h hart → P h (bystander state request hart)
 
 module _ {P : ℕ → Hart → Type 0} (kept : BusKept P) where
-  started_keeps : (state : ModelState) (by : ℕ) (start : Start) (h : ℕ) (hart : Hart) → P h hart → P h (started state by start h hart)
+  started_keeps : (state : ModelState) (by : ℕ) (start : Start) (h : ℕ) (hart : Hart) → P h hart →
+      P h (started state by start h hart)
   started_keeps state by Nothing h hart now = now
   started_keeps state by (Places request place) h hart now =
       by_hart (P h) h request.hart (record hart { raised = None }) hart (λ own. kept.unraised h hart now) (λ other. now)
@@ -36,12 +37,14 @@ module _ {P : ℕ → Hart → Type 0} (kept : BusKept P) where
   started_keeps state by (Takes message others) h hart now =
       by_hart (P h) h by (having_taken message others hart) hart (λ own. taken_keeps kept.moves message others h hart now) (λ other. now)
 
-  pub becomes_keeps : (state : ModelState) (by : ℕ) (start : Start) (h : ℕ) {lost : Option ℕ} {hart : Hart} → P h (hart_of state h) →
+  pub becomes_keeps : (state : ModelState) (by : ℕ) (start : Start) (h : ℕ) {lost : Option ℕ} {hart : Hart} →
+      P h (hart_of state h) →
       Becomes state by start h lost hart → P h hart
   becomes_keeps state by start h now becomes =
       moved kept.moves state by start h (λ past. now) (λ below. started_keeps state by start h (hart_of state h) now) becomes
 
-  pub turn_keeps : {state : ModelState} {by : ℕ} {turn : Turn} → IsBusEvent state by turn → Each P state → Each P turn.state
+  pub turn_keeps : {state : ModelState} {by : ℕ} {turn : Turn} → IsBusEvent state by turn → Each P state →
+      Each P turn.state
   turn_keeps {state} {by} done each h = becomes_keeps state by done.start h (each h) (done.becomes h)
 
   -- so does every event where its hart's deeds do

@@ -1,5 +1,6 @@
 -- every event of the bus is told by its start and by what becomes of each hart from there
-use Rattle.std.proofs.Common.{◌≡◌, ◌≢◌, ◌∙◌, ℕ, suc, ◌+◌, ◌<◌, ◌≤◌, Bool, true, false, ◌&&◌, not, ◌==◌, List, [], ◌∷◌, Option, None, Some, is_some, length}
+use Rattle.std.proofs.Common.{◌≡◌, ◌≢◌, ◌∙◌, ℕ, suc, ◌+◌, ◌<◌, ◌≤◌, Bool, true, false, ◌&&◌, not, ◌==◌, List, [], ◌∷◌}
+use Rattle.std.proofs.Common.{Option, None, Some, is_some, length}
 use Rattle.std.proofs.Common.{map, filter, refl, ap, sym, subst, arith, if◌then◌else◌}
 use Rattle.std.specs.Prelude.{nat_lt}
 use Rattle.std.proofs.lemmas.Bool.{ltb-true, ltb-false}
@@ -74,7 +75,8 @@ module _ (state : ModelState) (by : ℕ) (start : Start) where
   each_started : Each Unbeaten (each_hart state (started state by start))
   each_started h = by_count (nat_lt h (length state.harts)) refl
     where
-      by_count : (below : Bool) → nat_lt h (length state.harts) ≡ below → Unbeaten h (hart_of (each_hart state (started state by start)) h)
+      by_count : (below : Bool) → nat_lt h (length state.harts) ≡ below →
+          Unbeaten h (hart_of (each_hart state (started state by start)) h)
       by_count true is =
           let below = ltb-true h (length state.harts) is in
           subst (Unbeaten h) (sym (hart_of-each_hart state (started state by start) h below)) (Starts below)
@@ -91,7 +93,8 @@ module _ (state : ModelState) (by : ℕ) (start : Start) where
   ArePosted h [] = Unit {0}
   ArePosted h (message ∷ messages) = IsPosted state by start h message × ArePosted h messages
 
-  all_sent : (h : ℕ) (hart : Hart) (messages : List Message) → ArePosted h messages → Unbeaten h hart → Unbeaten h (post_all hart messages)
+  all_sent : (h : ℕ) (hart : Hart) (messages : List Message) → ArePosted h messages → Unbeaten h hart →
+      Unbeaten h (post_all hart messages)
   all_sent h hart [] are now = now
   all_sent h hart (message ∷ messages) (is, are) now =
       all_sent h (record hart { mail = posted hart.mail message }) messages are (IsSent message None hart is now)
@@ -119,7 +122,8 @@ pub frame_as_faced : (state : ModelState) (by : ℕ) (start : Start) (head : Req
 frame_as_faced state by start head = frame_twice (frame_of (keeps_as_met state by start)) (frame_let_go (as_met state by start) head)
 
 -- a hart whose section stays is not the head's
-stays_apart : (state : ModelState) (head : Request) (h : ℕ) → is_some (stays (fate_at state head h)) ≡ true → h ≢ head.hart
+stays_apart : (state : ModelState) (head : Request) (h : ℕ) → is_some (stays (fate_at state head h)) ≡ true →
+    h ≢ head.hart
 stays_apart state head h is same =
     let test : (h == head.hart) ≡ true = ap (λ k. k == head.hart) same ∙ own_test head.hart in
     let e = sym is ∙ ap (λ fate. is_some (stays fate)) (own_is_unmet state head h (hart_of state h) test) in
@@ -170,7 +174,8 @@ module _ (state : ModelState) (by : ℕ) (start : Start) (head : Request) (is : 
       subst (λ mode. Becomes state by start h (Some winner) (beaten mode stamp (hart_of mid h))) (sym same_mode)
       (LosesIt winner stamp (hart_of mid h) (AtFace start head h winner is apart fate) (each h))
 
-  markers_posted : (mode : Mode) → mid.config.mode ≡ mode → ArePosted state by start head.hart (markers_for mode mid head)
+  markers_posted : (mode : Mode) → mid.config.mode ≡ mode →
+      ArePosted state by start head.hart (markers_for mode mid head)
   markers_posted Tlr in_mode =
       listed state by start head.hart (length mid.harts) 0 Marker (λ h. is_some (stays (fate_at mid head h))) mid.harts (omega arith)
       (λ h below stay.
@@ -180,7 +185,8 @@ module _ (state : ModelState) (by : ℕ) (start : Start) (head : Request) (is : 
   markers_posted Sle in_mode = tt
   markers_posted Plain in_mode = tt
 
-  hart_becomes : (h : ℕ) → Becomes state by start h (winner_in (fate_at mid head h)) (faced_hart mid head h (hart_of mid h))
+  hart_becomes : (h : ℕ) → Becomes state by start h (winner_in (fate_at mid head h))
+      (faced_hart mid head h (hart_of mid h))
   hart_becomes h = by_own (h == head.hart) refl
     where
       by_own : (own : Bool) → (h == head.hart) ≡ own →
@@ -215,7 +221,8 @@ module _ (state : ModelState) (by : ℕ) (start : Start) (head : Request) (is : 
           (subst (Becomes state by start h None) (none ∙ sym (hart_of-each_hart_past mid (faced_hart mid head) h past)) (each h))
 
 -- nothing is done
-nothing_done : (state : ModelState) (by : ℕ) (turn : Turn) → turn.state ≡ state → IsOfBus turn.outcome → ((h : ℕ) → winner_over turn.outcome h ≡ None) →
+nothing_done : (state : ModelState) (by : ℕ) (turn : Turn) → turn.state ≡ state → IsOfBus turn.outcome →
+    ((h : ℕ) → winner_over turn.outcome h ≡ None) →
     ((h : ℕ) → taking_effect h turn.outcome ≡ []) → IsBusEvent state by turn
 nothing_done state by turn still of_bus unnamed ineffective = record {
   start = Nothing;
@@ -309,13 +316,15 @@ module _ (state : ModelState) (by : ℕ) (request : Request) where
       placed_event Alone may (λ h. winner_in (fate_at (let_go (placed_last state request) request) request h))
       (faced_becomes state by (Places request Alone) request refl (unraised_started Alone)) (λ h. refl)
 
-raised_event : (state : ModelState) (by : ℕ) (raised : Option Request) → raised_of state by ≡ raised → IsBusEvent state by (order_raised state raised)
+raised_event : (state : ModelState) (by : ℕ) (raised : Option Request) → raised_of state by ≡ raised →
+    IsBusEvent state by (order_raised state raised)
 raised_event state by None is = nothing_done state by (idle state) refl tt (λ h. refl) (λ h. refl)
 raised_event state by (Some request) is =
     place_event state by request (place_for state request) (record { raised = is; place_is = refl })
 
 -- a request is served
-served_started : (state : ModelState) (by : ℕ) (request : Request) → Each (Unbeaten state by (Serves request)) (served state request)
+served_started : (state : ModelState) (by : ℕ) (request : Request) → Each (Unbeaten state by (Serves request))
+    (served state request)
 unfolding served
 served_started state by request = each_started state by (Serves request)
 
@@ -407,7 +416,8 @@ is_there None is = absurd (cc)
 is_there (Some x) is = (x, refl)
 
 -- a hart with a message is one of the machine's
-pub with_mail : (state : ModelState) (h : ℕ) (message : Message) (others : List Message) → (hart_of state h).mail ≡ message ∷ others → h < length state.harts
+pub with_mail : (state : ModelState) (h : ℕ) (message : Message) (others : List Message) →
+    (hart_of state h).mail ≡ message ∷ others → h < length state.harts
 with_mail state h message others is = by_count (nat_lt h (length state.harts)) refl
   where
     by_count : (below : Bool) → nat_lt h (length state.harts) ≡ below → h < length state.harts
@@ -426,7 +436,8 @@ module _ (state : ModelState) (by : ℕ) (message : Message) (others : List Mess
   taken_own : hart_of (taken state by others) by ≡ record (hart_of state by) { mail = others }
   taken_own = hart_of-with_hart_same state by (record (hart_of state by) { mail = others }) exists
 
-  taken_same : {A : Type 0} (f : Hart → A) → f (record (hart_of state by) { mail = others }) ≡ f (hart_of state by) → (g : ℕ) →
+  taken_same : {A : Type 0} (f : Hart → A) → f (record (hart_of state by) { mail = others }) ≡ f (hart_of state by) →
+      (g : ℕ) →
       f (hart_of (taken state by others) g) ≡ f (hart_of state g)
   taken_same f kept g = with_hart_kept f state by (record (hart_of state by) { mail = others }) kept g
 
@@ -440,7 +451,8 @@ module _ (state : ModelState) (by : ℕ) (message : Message) (others : List Mess
   others_start g apart = ap (λ own. if own then having_taken message others (hart_of state g) else hart_of state g) (other_test g by apart)
 
   -- the hart becomes another besides
-  taken_started : (P : ℕ → Hart → Type 0) (hart : Hart) → P by hart → ((g : ℕ) → g ≢ by → Taking g (hart_of state g) → P g (hart_of state g)) →
+  taken_started : (P : ℕ → Hart → Type 0) (hart : Hart) → P by hart →
+      ((g : ℕ) → g ≢ by → Taking g (hart_of state g) → P g (hart_of state g)) →
       Each P (with_hart (taken state by others) by hart)
   taken_started P hart own other =
       each_but_below P (taken state by others) by hart (λ below. own)
@@ -533,7 +545,8 @@ module _ (state : ModelState) (by origin : ℕ) (others : List Message) (mail_is
   told_before : has (hart_of probe_left by).told origin ≡ has (hart_of state by).told origin
   told_before = ap (λ told. has told origin) (taken_same state by (Probe origin) others mail_is (λ hart. hart.told) refl by)
 
-  known_event : has (hart_of probe_left by).told origin ≡ true → IsBusEvent state by (record { state = probe_left; outcome = Delivered nobody })
+  known_event : has (hart_of probe_left by).told origin ≡ true →
+      IsBusEvent state by (record { state = probe_left; outcome = Delivered nobody })
   known_event known =
       taken_event state by (Probe origin) others mail_is probe_left (λ h. None) (taken_keeps state by (Probe origin) others mail_is) refl
       (one_started state by probe_start by (record (hart_of state by) { mail = others })
@@ -542,7 +555,8 @@ module _ (state : ModelState) (by origin : ℕ) (others : List Message) (mail_is
       ∙ own_start state by (Probe origin) others mail_is)
       (others_start state by (Probe origin) others mail_is))
 
-  loses_before : (request : Request) → loses_to_origin probe_left by (Some request) ≡ loses_to_origin state by (Some request)
+  loses_before : (request : Request) →
+      loses_to_origin probe_left by (Some request) ≡ loses_to_origin state by (Some request)
   loses_before request =
       taken_same state by (Probe origin) others mail_is (λ hart. conflicts_with (head_of state request.line) by hart && is_before request.stamp hart.attempt)
       (ap (λ meets. meets && is_before request.stamp (hart_of state by).attempt) (conflicts_same (head_of state request.line) by (hart_of state by) others))
@@ -560,7 +574,8 @@ module _ (state : ModelState) (by origin : ℕ) (others : List Message) (mail_is
       subst (λ old. Unbeaten state by probe_start by (record old { told = included old.told origin }))
       (sym (taken_own state by (Probe origin) others mail_is)) (own_taken state by (Probe origin) others mail_is)
 
-  told_becomes : (request : Option Request) → ordered_of state origin ≡ request → (loses : Bool) → loses_to_origin probe_left by request ≡ loses →
+  told_becomes : (request : Option Request) → ordered_of state origin ≡ request → (loses : Bool) →
+      loses_to_origin probe_left by request ≡ loses →
       Becomes state by probe_start by (lost_if loses by) (if loses then beaten state.config.mode (stamp_in request) told_hart else told_hart)
   told_becomes request is false loses = told_so
   told_becomes None is true loses = absurd (cc)
@@ -574,7 +589,8 @@ module _ (state : ModelState) (by origin : ℕ) (others : List Message) (mail_is
   not_lost false h apart = refl
 
   -- a hart is forwarded the probe
-  forwards_at : has (hart_of state by).told origin ≡ false → (request : Option Request) → ordered_of state origin ≡ request → (h : ℕ) →
+  forwards_at : has (hart_of state by).told origin ≡ false → (request : Option Request) →
+      ordered_of state origin ≡ request → (h : ℕ) →
       forwards_on probe_left by origin request h ≡ true → Forwards state by origin h
   forwards_at new None is h test = absurd (cc)
   forwards_at new (Some request) is h test =
@@ -589,7 +605,8 @@ module _ (state : ModelState) (by origin : ℕ) (others : List Message) (mail_is
         own = own;
       }))
 
-  probe_event : has (hart_of state by).told origin ≡ false → (request : Option Request) → ordered_of state origin ≡ request → (loses : Bool) →
+  probe_event : has (hart_of state by).told origin ≡ false → (request : Option Request) →
+      ordered_of state origin ≡ request → (loses : Bool) →
       loses_to_origin probe_left by request ≡ loses →
       IsBusEvent state by (record { state = after_probe probe_left by origin request; outcome = Delivered (losers_of (lost_if loses)) })
   probe_event new request is loses loses_is =
@@ -612,12 +629,14 @@ module _ (state : ModelState) (by origin : ℕ) (others : List Message) (mail_is
       each)
 
 -- whichever message
-losers_if : (loses : Bool) (by origin : ℕ) → losers_of (λ h. if loses then (if h == by then Some origin else None) else None)
+losers_if : (loses : Bool) (by origin : ℕ) →
+    losers_of (λ h. if loses then (if h == by then Some origin else None) else None)
     ≡ (if loses then one_lost by origin else nobody)
 losers_if true by origin = refl
 losers_if false by origin = refl
 
-message_event : (state : ModelState) (by : ℕ) (message : Message) (others : List Message) → (hart_of state by).mail ≡ message ∷ others →
+message_event : (state : ModelState) (by : ℕ) (message : Message) (others : List Message) →
+    (hart_of state by).mail ≡ message ∷ others →
     IsBusEvent state by (record { state = delivered (taken state by others) by message; outcome = Delivered (losers_by (taken state by others) by message) })
 unfolding delivered
 message_event state by (Marker sender) others is = marker_event state by sender others is
@@ -630,17 +649,23 @@ message_event state by (Probe origin) others is = by_told (has (hart_of (taken s
         })
     by_told true known = known_event state by origin others is known
     by_told false known =
-        subst (λ losers. IsBusEvent state by (record { state = after_probe (taken state by others) by origin (ordered_of (taken state by others) origin); outcome = Delivered losers }))
+        subst
+        (λ losers. IsBusEvent state by (record {
+          state = after_probe (taken state by others) by origin (ordered_of (taken state by others) origin);
+          outcome = Delivered losers;
+        }))
         (losers_if (loses_to_origin (taken state by others) by (ordered_of (taken state by others) origin)) by origin)
         (probe_event state by origin others is (sym (told_before state by origin others is) ∙ known) (ordered_of state origin) refl
         (loses_to_origin (taken state by others) by (ordered_of (taken state by others) origin)) refl)
 
-mail_event : (state : ModelState) (by : ℕ) (mail : List Message) → (hart_of state by).mail ≡ mail → IsBusEvent state by (deliver_next state by mail)
+mail_event : (state : ModelState) (by : ℕ) (mail : List Message) → (hart_of state by).mail ≡ mail →
+    IsBusEvent state by (deliver_next state by mail)
 mail_event state by [] is = nothing_done state by (idle state) refl tt (λ h. refl) (λ h. refl)
 mail_event state by (message ∷ others) is = message_event state by message others is
 
 -- every event of the bus
-pub bus_event : (state : ModelState) (by : ℕ) (kind : Kind) → kind ≢ kinds.Step → IsBusEvent state by (kind_turn state by kind)
+pub bus_event : (state : ModelState) (by : ℕ) (kind : Kind) → kind ≢ kinds.Step →
+    IsBusEvent state by (kind_turn state by kind)
 unfolding order_turn serve_turn deliver_turn
 bus_event state by kinds.Step bus = absurd (bus refl)
 bus_event state by kinds.Order bus = raised_event state by (raised_of state by) refl
@@ -655,14 +680,16 @@ pub frame_of_bus : {state : ModelState} {by : ℕ} {turn : Turn} → IsBusEvent 
 frame_of_bus done = record { config = done.config; count = done.count }
 
 -- what holds of a step and of what an event of the bus is holds of each event
-pub by_kind : (P : Turn → Type 0) (state : ModelState) (h : ℕ) (kind : Kind) → (kind ≡ kinds.Step → P (step_turn state h)) →
+pub by_kind : (P : Turn → Type 0) (state : ModelState) (h : ℕ) (kind : Kind) →
+    (kind ≡ kinds.Step → P (step_turn state h)) →
     ((turn : Turn) → IsBusEvent state h turn → P turn) → P (kind_turn state h kind)
 by_kind P state h kinds.Step step bus = step refl
 by_kind P state h kinds.Order step bus = bus (kind_turn state h kinds.Order) (bus_event state h kinds.Order (λ same. absurd (cc)))
 by_kind P state h kinds.Serve step bus = bus (kind_turn state h kinds.Serve) (bus_event state h kinds.Serve (λ same. absurd (cc)))
 by_kind P state h kinds.Deliver step bus = bus (kind_turn state h kinds.Deliver) (bus_event state h kinds.Deliver (λ same. absurd (cc)))
 
-pub by_event : (P : Turn → Type 0) (state : ModelState) (event : Event) → (event.kind ≡ kinds.Step → P (step_turn state event.hart.number)) →
+pub by_event : (P : Turn → Type 0) (state : ModelState) (event : Event) →
+    (event.kind ≡ kinds.Step → P (step_turn state event.hart.number)) →
     ((turn : Turn) → IsBusEvent state event.hart.number turn → P turn) → P (next state event)
 unfolding next
 by_event P state event step bus = by_kind P state event.hart.number event.kind step bus

@@ -1,5 +1,6 @@
 -- what holds of each hart by its number, and still does after one hart or each has changed
-use Rattle.std.proofs.Common.{◌≡◌, ◌≢◌, ℕ, zero, suc, ◌≤◌, ◌<◌, Bool, true, false, List, [], ◌∷◌, length, refl, sym, subst, inl, inr, ◌⊎◌, arith}
+use Rattle.std.proofs.Common.{◌≡◌, ◌≢◌, ℕ, zero, suc, ◌≤◌, ◌<◌, Bool, true, false, List, [], ◌∷◌, length, refl, sym}
+use Rattle.std.proofs.Common.{subst, inl, inr, ◌⊎◌, arith}
 use Rattle.std.specs.Prelude.{nat_lt, slice_index_or, slice_set}
 use Rattle.std.proofs.lemmas.Bool.{cases_eq, ltb-true, ltb-false}
 use Rattle.std.proofs.Math.ListN.{length-set}
@@ -52,7 +53,8 @@ with_by P state h hart new others absent g (inl same) false is =
     let past = ltb-false h (length state.harts) is in
     rw same (subst (P h) (sym (hart_of-with_hart_past state h hart past)) (absent past))
 
-pub each_but_below : (P : ℕ → Hart → Type 0) (state : ModelState) (h : ℕ) (hart : Hart) → (h < length state.harts → P h hart) →
+pub each_but_below : (P : ℕ → Hart → Type 0) (state : ModelState) (h : ℕ) (hart : Hart) →
+    (h < length state.harts → P h hart) →
     ((g : ℕ) → g ≢ h → P g (hart_of state g)) → (length state.harts ≤ h → P h (new_hart 0)) → Each P (with_hart state h hart)
 each_but_below P state h hart new others absent g =
     with_by P state h hart new others absent g (cases_eq g h) (nat_lt h (length state.harts)) refl

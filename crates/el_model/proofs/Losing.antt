@@ -1,6 +1,7 @@
 -- what a loss leaves of a section, and whom a fate may name: a hart does not meet its own request, without a section it meets none, and
 -- it loses to no hart that a machine does not have
-use Rattle.std.proofs.Common.{◌≡◌, ◌∙◌, ℕ, suc, ◌+◌, ◌<◌, ◌≤◌, Bool, true, false, ◌&&◌, not, ◌==◌, List, [], ◌∷◌, Option, Some, None, is_some, length, refl, ap, arith, if◌then◌else◌}
+use Rattle.std.proofs.Common.{◌≡◌, ◌∙◌, ℕ, suc, ◌+◌, ◌<◌, ◌≤◌, Bool, true, false, ◌&&◌, not, ◌==◌, List, [], ◌∷◌}
+use Rattle.std.proofs.Common.{Option, Some, None, is_some, length, refl, ap, arith, if◌then◌else◌}
 use Rattle.std.specs.Prelude.{IfSome}
 use Rattle.bus_order.specs.Order.{Request}
 use Rattle.defer_list.specs.HartSet.{has}
@@ -39,7 +40,8 @@ unmet_if : (state : ModelState) (head : Request) (h : ℕ) (hart : Hart) (meets 
 unmet_if state head h hart true is = absurd (cc)
 unmet_if state head h hart false is = refl
 
-pub own_is_unmet : (state : ModelState) (head : Request) (h : ℕ) (hart : Hart) → (h == head.hart) ≡ true → fate_of state head h hart ≡ Unmet
+pub own_is_unmet : (state : ModelState) (head : Request) (h : ℕ) (hart : Hart) → (h == head.hart) ≡ true →
+    fate_of state head h hart ≡ Unmet
 own_is_unmet state head h hart own =
     let same : (head.hart == h) ≡ true = grind arith in
     unmet_if state head h hart _ (rw same refl)
@@ -48,7 +50,8 @@ pub no_section_meets : (other meets : Bool) → ((other && false) && meets) ≡ 
 no_section_meets true meets = refl
 no_section_meets false meets = refl
 
-pub outside_is_unmet : (state : ModelState) (head : Request) (h : ℕ) (hart : Hart) → hart.section ≡ None → fate_of state head h hart ≡ Unmet
+pub outside_is_unmet : (state : ModelState) (head : Request) (h : ℕ) (hart : Hart) → hart.section ≡ None →
+    fate_of state head h hart ≡ Unmet
 outside_is_unmet state head h hart none =
     unmet_if state head h hart _
     (ap (λ section. (not (head.hart == h) && is_some section) && meets_bit hart head.line head.need) none

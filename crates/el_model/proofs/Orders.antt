@@ -38,7 +38,8 @@ placed_order state request InFront = marking_order (placed_in_front state reques
 placed_order state request Behind = marked_by_order (placed_last state request) (tail_of state.order request.line) request.hart
 placed_order state request Alone = refl
 
-pub served_order : (state : ModelState) (request : Request) → (served state request).order ≡ removed state.order request.hart
+pub served_order : (state : ModelState) (request : Request) →
+    (served state request).order ≡ removed state.order request.hart
 unfolding served
 served_order state request = refl
 
@@ -49,7 +50,8 @@ message_order state h (Probe origin) =
     by_test (λ new. new.order ≡ state.order) (has (hart_of state h).told origin) state (after_probe state h origin (ordered_of state origin))
     (λ known. refl) (λ new. refl)
 
-pub mail_order : (state : ModelState) (h : ℕ) (mail : List Message) → (deliver_next state h mail).state.order ≡ state.order
+pub mail_order : (state : ModelState) (h : ℕ) (mail : List Message) →
+    (deliver_next state h mail).state.order ≡ state.order
 mail_order state h [] = refl
 mail_order state h (message ∷ others) = message_order (taken state h others) h message
 

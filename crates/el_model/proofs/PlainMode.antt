@@ -1,5 +1,6 @@
 -- in the plain mode nothing of sections, bits and watches ever arises
-use Rattle.std.proofs.Common.{◌≡◌, ◌∙◌, ℕ, Bool, true, false, List, Option, None, Some, is_some, refl, ap, sym, if◌then◌else◌, ◌==◌, ◌+◌}
+use Rattle.std.proofs.Common.{◌≡◌, ◌∙◌, ℕ, Bool, true, false, List, Option, None, Some, is_some, refl, ap, sym}
+use Rattle.std.proofs.Common.{if◌then◌else◌, ◌==◌, ◌+◌}
 use Rattle.bus_order.specs.Order.{Request}
 use Rattle.cache_sets.specs.Cache.{has_marks, is_resident, touched}
 use Rattle.cache_sets.specs.Residency.{Way}
@@ -20,9 +21,10 @@ use Rattle.el_model.specs.RollBack.{beaten, most_tries, out_of_section}
 use Rattle.el_model.specs.Serve.{bystander, given_up, others_cache, own_copy, served_hart, with_claim}
 use Rattle.el_model.specs.State.{Armed, Hart, ModelState, Section, hart_of, new_hart}
 use Rattle.el_model.specs.Upcoming.{Swap, Touch, next_exchange}
-use Rattle.el_model.proofs.AllHarts.{All, all_with}
+use Rattle.el_model.proofs.AllHarts.{All}
 use Rattle.el_model.proofs.BusEvents.{by_event}
 use Rattle.el_model.proofs.Deeds.{step_deed}
+use Rattle.el_model.proofs.EachHart.{each_with}
 use Rattle.el_model.proofs.Tests.{by_test}
 use Rattle.mail.specs.Mailbox.{Marker, Message, Probe}
 use Rattle.pair_table.specs.Predictor.{Predictor, Watch}
@@ -85,7 +87,8 @@ taken_plain : (message : Message) (others : List Message) (hart : Hart) → IsPl
 taken_plain (Marker sender) others hart plain = still_plain hart _ refl refl refl plain.unmarked plain
 taken_plain (Probe origin) others hart plain = still_plain hart _ refl refl refl plain.unmarked plain
 
-started_plain : (state : ModelState) (by : ℕ) (start : Start) (h : ℕ) (hart : Hart) → IsPlain hart → IsPlain (started state by start h hart)
+started_plain : (state : ModelState) (by : ℕ) (start : Start) (h : ℕ) (hart : Hart) → IsPlain hart →
+    IsPlain (started state by start h hart)
 started_plain state by Nothing h hart plain = plain
 started_plain state by (Places request place) h hart plain =
     by_test IsPlain (h == request.hart) (record hart { raised = None }) hart (λ own. still_plain hart _ refl refl refl plain.unmarked plain) (λ other. plain)
@@ -93,7 +96,8 @@ started_plain state by (Serves request) h hart plain = serving_plain state reque
 started_plain state by (Takes message others) h hart plain =
     by_test IsPlain (h == by) (having_taken message others hart) hart (λ own. taken_plain message others hart plain) (λ other. plain)
 
-becomes_plain : (state : ModelState) (by : ℕ) (start : Start) (h : ℕ) {lost : Option ℕ} {hart : Hart} → IsPlain (hart_of state h) →
+becomes_plain : (state : ModelState) (by : ℕ) (start : Start) (h : ℕ) {lost : Option ℕ} {hart : Hart} →
+    IsPlain (hart_of state h) →
     Becomes state by start h lost hart → IsPlain hart
 becomes_plain state by start h plain (IsAbsent past) = plain
 becomes_plain state by start h plain (Starts below) = started_plain state by start h (hart_of state h) plain
@@ -182,10 +186,11 @@ step_plain : (state : ModelState) (h : ℕ) → state.config.mode ≡ Plain → 
 step_plain state h mode all =
     let step = step_deed state h in
     rw (step.turn_is)
-    (all_with IsPlain state h (hart_after state h step.deed (hart_of state h))
+    (each_with (λ g hart. IsPlain hart) state h (hart_after state h step.deed (hart_of state h))
     (deed_plain state h step.deed mode step.where_it (all h)) all)
 
-pub next_plain : (state : ModelState) (event : Event) → state.config.mode ≡ Plain → All IsPlain state → All IsPlain (next state event).state
+pub next_plain : (state : ModelState) (event : Event) → state.config.mode ≡ Plain → All IsPlain state →
+    All IsPlain (next state event).state
 next_plain state event mode all =
     by_event (λ turn. All IsPlain turn.state) state event (λ step. step_plain state event.hart.number mode all)
     (λ turn done h. becomes_plain state event.hart.number done.start h (all h) (done.becomes h))

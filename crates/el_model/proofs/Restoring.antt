@@ -1,5 +1,6 @@
 -- where an event of the bus names no winner for a hart, its section, tries and flag are as they were; where it names one they are those after a loss
-use Rattle.std.proofs.Common.{◌≡◌, ◌≢◌, ◌∙◌, ℕ, ◌<◌, Bool, true, false, ◌&&◌, not, ◌==◌, List, [], ◌∷◌, Option, Some, None, is_some, length, refl, ap, sym, subst, arith, if◌then◌else◌}
+use Rattle.std.proofs.Common.{◌≡◌, ◌≢◌, ◌∙◌, ℕ, ◌<◌, Bool, true, false, ◌&&◌, not, ◌==◌, List, [], ◌∷◌, Option, Some}
+use Rattle.std.proofs.Common.{None, is_some, length, refl, ap, sym, subst, arith, if◌then◌else◌}
 use Rattle.std.specs.Prelude.{IfSome}
 use Rattle.std.proofs.lemmas.Bool.Decides.{nat_tests}
 use Rattle.bus_order.specs.Order.{Request, first_of, removed, request_of}
@@ -33,11 +34,13 @@ claim_same : (live : Bool) (request : Request) (hart : Hart) → standing_of (wi
 claim_same true request hart = refl
 claim_same false request hart = refl
 
-taken_same : (message : Message) (others : List Message) (hart : Hart) → standing_of (having_taken message others hart) ≡ standing_of hart
+taken_same : (message : Message) (others : List Message) (hart : Hart) →
+    standing_of (having_taken message others hart) ≡ standing_of hart
 taken_same (Marker sender) others hart = refl
 taken_same (Probe origin) others hart = refl
 
-started_same : (state : ModelState) (by : ℕ) (start : Start) (h : ℕ) (hart : Hart) → standing_of (started state by start h hart) ≡ standing_of hart
+started_same : (state : ModelState) (by : ℕ) (start : Start) (h : ℕ) (hart : Hart) →
+    standing_of (started state by start h hart) ≡ standing_of hart
 started_same state by Nothing h hart = refl
 started_same state by (Places request place) h hart =
     by_test (λ new. standing_of new ≡ standing_of hart) (h == request.hart) (record hart { raised = None }) hart (λ own. refl) (λ other. refl)
@@ -48,7 +51,8 @@ started_same state by (Takes message others) h hart =
     by_test (λ new. standing_of new ≡ standing_of hart) (h == by) (having_taken message others hart) hart
     (λ own. taken_same message others hart) (λ other. refl)
 
-pub stands : (state : ModelState) (by : ℕ) (start : Start) (h : ℕ) {lost : Option ℕ} {hart : Hart} → Becomes state by start h lost hart →
+pub stands : (state : ModelState) (by : ℕ) (start : Start) (h : ℕ) {lost : Option ℕ} {hart : Hart} →
+    Becomes state by start h lost hart →
     standing_of hart ≡ restored state.config.mode lost (standing_of (hart_of state h))
 stands state by start h (IsAbsent past) = refl
 stands state by start h (Starts below) = started_same state by start h (hart_of state h)
@@ -86,7 +90,8 @@ request_numbered (first ∷ order) h request all is =
     chosen_hart first request h (first.hart == h) refl (request_of order h) all.0 (request_numbered order h request all.1) is
 
 -- so is a head that is faced, and a winner
-head_numbered : (state : ModelState) (by : ℕ) (start : Start) (head : Request) → HartsAreNumbered state → StartsWhere state by start →
+head_numbered : (state : ModelState) (by : ℕ) (start : Start) (head : Request) → HartsAreNumbered state →
+    StartsWhere state by start →
     faced_head state start ≡ Some head → head.hart < 8
 head_numbered state by Nothing head numbered where_it is = absurd (cc)
 head_numbered state by (Places request InFront) head numbered where_it is =
@@ -99,7 +104,8 @@ head_numbered state by (Serves request) head numbered where_it is =
     (sym (ap (λ order. first_of order request.line) (served_order state request)) ∙ is)
 head_numbered state by (Takes message others) head numbered where_it is = absurd (cc)
 
-winner_numbered : (state : ModelState) (by : ℕ) {start : Start} {h winner : ℕ} {stamp : Option Stamp} → HartsAreNumbered state →
+winner_numbered : (state : ModelState) (by : ℕ) {start : Start} {h winner : ℕ} {stamp : Option Stamp} →
+    HartsAreNumbered state →
     StartsWhere state by start → LosesWhere state by start h winner stamp → winner < 8
 winner_numbered state by numbered where_it (AtFace start head h winner is apart fate) =
     let mid = as_faced state by start head in
@@ -109,7 +115,8 @@ winner_numbered state by numbered where_it (AtFace start head h winner is apart 
 winner_numbered state by numbered where_it (AtProbe origin others request is loses) =
     request_numbered state.order origin request numbered.ordered is
 
-lost_numbered : (state : ModelState) (by : ℕ) (start : Start) (h : ℕ) {lost : Option ℕ} {hart : Hart} → HartsAreNumbered state →
+lost_numbered : (state : ModelState) (by : ℕ) (start : Start) (h : ℕ) {lost : Option ℕ} {hart : Hart} →
+    HartsAreNumbered state →
     StartsWhere state by start → Becomes state by start h lost hart → IfSome lost (λ w. w < 8)
 lost_numbered state by start h numbered where_it (IsAbsent past) = tt
 lost_numbered state by start h numbered where_it (Starts below) = tt
@@ -118,31 +125,38 @@ lost_numbered state by start h numbered where_it (IsLetGo head hart frees now) =
 lost_numbered state by start h numbered where_it (Sees head lost hart defers now) = lost_numbered state by start h numbered where_it now
 lost_numbered state by start h numbered where_it (LosesIt winner stamp hart loses now) = winner_numbered state by numbered where_it loses
 
-pub bus_restores : {state : ModelState} {by : ℕ} {turn : Turn} → IsBusEvent state by turn → (g : ℕ) → HartsAreNumbered state →
+pub bus_restores : {state : ModelState} {by : ℕ} {turn : Turn} → IsBusEvent state by turn → (g : ℕ) →
+    HartsAreNumbered state →
     g < length state.harts → Restores state turn.state (winner_over turn.outcome g) g
 bus_restores {state} {by} done g numbered below =
     let few = numbered.few in
     stands state by done.start g (done.becomes g)
     ∙ ap (λ winner. restored state.config.mode winner (standing_of (hart_of state g)))
-    (sym (done.names g ∙ beaten_by-losers_of done.lost g (omega (arith, few, below)) (lost_numbered state by done.start g numbered done.where_it (done.becomes g))))
+    (sym
+    (done.names g
+    ∙ beaten_by-losers_of done.lost g (omega (arith, few, below))
+    (lost_numbered state by done.start g numbered done.where_it (done.becomes g))))
 
 pub losers_restored : (state : ModelState) (event : Event) (g : ℕ) → HartsAreNumbered state → event.kind ≢ kinds.Step → g < length state.harts →
     Restores state (next state event).state (winner_over (next state event).outcome g) g
 losers_restored state event g numbered bus below = bus_restores (bus_events_are_told_once state event bus) g numbered below
 
 -- without a section a hart loses to nobody, and has none after the event
-no_loss : (state : ModelState) (h : ℕ) (request : Request) → section_of state h ≡ None → loses_to_origin state h (Some request) ≡ true → ⊥
+no_loss : (state : ModelState) (h : ℕ) (request : Request) → section_of state h ≡ None →
+    loses_to_origin state h (Some request) ≡ true → ⊥
 no_loss state h request none loses =
     let unmet = conflicts_not (head_of state request.line) h (hart_of state h) none in
     let e = sym (ap (λ meets. meets && is_before request.stamp (hart_of state h).attempt) unmet) ∙ loses in absurd (cc)
   where
-    conflicts_not : (head : Option Request) (h : ℕ) (hart : Hart) → hart.section ≡ None → conflicts_with head h hart ≡ false
+    conflicts_not : (head : Option Request) (h : ℕ) (hart : Hart) → hart.section ≡ None →
+        conflicts_with head h hart ≡ false
     conflicts_not None h hart none = refl
     conflicts_not (Some head) h hart none =
         ap (λ section. (not (head.hart == h) && is_some section) && meets_bit hart head.line head.need) none
         ∙ no_section_meets (not (head.hart == h)) (meets_bit hart head.line head.need)
 
-pub loser_lives : (state : ModelState) (by : ℕ) {start : Start} {h winner : ℕ} {stamp : Option Stamp} → LosesWhere state by start h winner stamp →
+pub loser_lives : (state : ModelState) (by : ℕ) {start : Start} {h winner : ℕ} {stamp : Option Stamp} →
+    LosesWhere state by start h winner stamp →
     section_of state h ≡ None → ⊥
 loser_lives state by (AtFace start head h winner is apart fate) none =
     let mid = as_faced state by start head in
@@ -151,7 +165,8 @@ loser_lives state by (AtFace start head h winner is apart fate) none =
     absurd (cc)
 loser_lives state by (AtProbe origin others request is loses) none = no_loss state by request none loses
 
-lost_none : (state : ModelState) (by : ℕ) (start : Start) (h : ℕ) {lost : Option ℕ} {hart : Hart} → section_of state h ≡ None →
+lost_none : (state : ModelState) (by : ℕ) (start : Start) (h : ℕ) {lost : Option ℕ} {hart : Hart} →
+    section_of state h ≡ None →
     Becomes state by start h lost hart → lost ≡ None
 lost_none state by start h none (IsAbsent past) = refl
 lost_none state by start h none (Starts below) = refl
@@ -160,12 +175,14 @@ lost_none state by start h none (IsLetGo head hart frees now) = refl
 lost_none state by start h none (Sees head lost hart defers now) = lost_none state by start h none now
 lost_none state by start h none (LosesIt winner stamp hart loses now) = absurd (loser_lives state by loses none)
 
-pub unnamed_outside : {state : ModelState} {by : ℕ} {turn : Turn} → IsBusEvent state by turn → (g : ℕ) → section_of state g ≡ None →
+pub unnamed_outside : {state : ModelState} {by : ℕ} {turn : Turn} → IsBusEvent state by turn → (g : ℕ) →
+    section_of state g ≡ None →
     winner_over turn.outcome g ≡ None
 unnamed_outside {state} {by} done g none =
     done.names g ∙ unnamed_by_map done.lost g (lost_none state by done.start g none (done.becomes g))
 
-pub stays_outside : {state : ModelState} {by : ℕ} {turn : Turn} → IsBusEvent state by turn → (g : ℕ) → section_of state g ≡ None →
+pub stays_outside : {state : ModelState} {by : ℕ} {turn : Turn} → IsBusEvent state by turn → (g : ℕ) →
+    section_of state g ≡ None →
     section_of turn.state g ≡ None
 stays_outside {state} {by} done g none =
     ap (λ standing. standing.section)

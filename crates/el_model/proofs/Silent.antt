@@ -1,5 +1,6 @@
 -- without stamps nothing of messages and attempts ever arises
-use Rattle.std.proofs.Common.{◌≡◌, ◌∙◌, ℕ, Bool, true, false, List, ◌∷◌, Option, None, Some, is_some, refl, ap, sym, if◌then◌else◌, ◌==◌, ◌+◌}
+use Rattle.std.proofs.Common.{◌≡◌, ◌∙◌, ℕ, Bool, true, false, List, ◌∷◌, Option, None, Some, is_some, refl, ap, sym}
+use Rattle.std.proofs.Common.{if◌then◌else◌, ◌==◌, ◌+◌}
 use Rattle.bus_order.specs.Order.{Request}
 use Rattle.el_base.specs.declared.config.Mode.{Mode}
 use Rattle.el_base.specs.declared.config.Mode.TheVariants.{Plain, Sle, Tlr}
@@ -16,9 +17,10 @@ use Rattle.el_model.specs.RollBack.{beaten, most_tries, out_of_section}
 use Rattle.el_model.specs.Serve.{bystander, served_hart, with_claim}
 use Rattle.el_model.specs.State.{Hart, ModelState, hart_of, new_hart}
 use Rattle.el_model.specs.Upcoming.{Swap}
-use Rattle.el_model.proofs.AllHarts.{All, all_with}
+use Rattle.el_model.proofs.AllHarts.{All}
 use Rattle.el_model.proofs.BusEvents.{by_event}
 use Rattle.el_model.proofs.Deeds.{step_deed}
+use Rattle.el_model.proofs.EachHart.{each_with}
 use Rattle.el_model.proofs.Tests.{by_test}
 use Rattle.mail.specs.Mailbox.{Message}
 use Rattle.rv_flat.specs.FlatState.{view_of}
@@ -67,10 +69,12 @@ serving_silent state request hart false silent =
 stamped : {X : Type 0} (mode : Mode) → has_stamps mode ≡ false → mode ≡ Tlr → X
 stamped mode stampless is = let e = sym (ap has_stamps is) ∙ stampless in absurd (cc)
 
-none_taken : {X : Type 0} (hart : Hart) (message : Message) (others : List Message) → IsSilent hart → hart.mail ≡ message ∷ others → X
+none_taken : {X : Type 0} (hart : Hart) (message : Message) (others : List Message) → IsSilent hart →
+    hart.mail ≡ message ∷ others → X
 none_taken hart message others silent is = let e = sym silent.mail ∙ is in absurd (cc)
 
-none_posted : {X : Type 0} (state : ModelState) (by : ℕ) {start : Start} {h : ℕ} {message : Message} → has_stamps state.config.mode ≡ false →
+none_posted : {X : Type 0} (state : ModelState) (by : ℕ) {start : Start} {h : ℕ} {message : Message} →
+    has_stamps state.config.mode ≡ false →
     All IsSilent state → StartsWhere state by start → IsPosted state by start h message → X
 none_posted state by stampless all where_it (IsBehind request last mode is) = stamped state.config.mode stampless mode
 none_posted state by stampless all where_it (IsPassed request former mode is) = stamped state.config.mode stampless mode
@@ -79,7 +83,8 @@ none_posted state by stampless all where_it (IsAnswered sender others) = none_ta
 none_posted state by stampless all where_it (IsToldOn sender others origin tells) = none_taken (hart_of state by) _ _ (all by) where_it
 none_posted state by stampless all where_it (IsForwarded origin others h forwards) = none_taken (hart_of state by) _ _ (all by) where_it
 
-started_silent : (state : ModelState) (by : ℕ) (start : Start) (h : ℕ) → All IsSilent state → StartsWhere state by start →
+started_silent : (state : ModelState) (by : ℕ) (start : Start) (h : ℕ) → All IsSilent state →
+    StartsWhere state by start →
     IsSilent (started state by start h (hart_of state h))
 started_silent state by Nothing h all where_it = all h
 started_silent state by (Places request place) h all where_it =
@@ -88,7 +93,8 @@ started_silent state by (Places request place) h all where_it =
 started_silent state by (Serves request) h all where_it = serving_silent state request (hart_of state h) (h == request.hart) (all h)
 started_silent state by (Takes message others) h all where_it = none_taken (hart_of state by) message others (all by) where_it
 
-becomes_silent : (state : ModelState) (by : ℕ) (start : Start) (h : ℕ) {lost : Option ℕ} {hart : Hart} → has_stamps state.config.mode ≡ false →
+becomes_silent : (state : ModelState) (by : ℕ) (start : Start) (h : ℕ) {lost : Option ℕ} {hart : Hart} →
+    has_stamps state.config.mode ≡ false →
     All IsSilent state → StartsWhere state by start → Becomes state by start h lost hart → IsSilent hart
 becomes_silent state by start h stampless all where_it (IsAbsent past) = all h
 becomes_silent state by start h stampless all where_it (Starts below) = started_silent state by start h all where_it
@@ -144,7 +150,7 @@ step_silent : (state : ModelState) (h : ℕ) → has_stamps state.config.mode �
 step_silent state h stampless all =
     let step = step_deed state h in
     rw (step.turn_is)
-    (all_with IsSilent state h (hart_after state h step.deed (hart_of state h))
+    (each_with (λ g hart. IsSilent hart) state h (hart_after state h step.deed (hart_of state h))
     (deed_silent state h step.deed (hart_of state h) stampless (all h)) all)
 
 pub next_silent : (state : ModelState) (event : Event) → has_stamps state.config.mode ≡ false → All IsSilent state →

@@ -44,7 +44,7 @@ use Rattle.el_model.specs.State.{ordered_of, ordered_on, raised_of, section_of}
 use Rattle.elf_image.specs.Program.{Program}
 use Rattle.machine.specs.Recording.{AreAmong, CanBeRecorded, OutcomesCanBeRecorded}
 use Rattle.mail.specs.Mailbox.{Marker, Message, Probe}
-use Rattle.removal_laws.proofs.Bits.{second_of_both, some_same}
+use Rattle.section_laws.proofs.Bits.{second_of_both, some_same}
 use Rattle.removal_laws.proofs.Delivering.{own_line}
 use Rattle.removal_laws.proofs.Facing.{least_passes}
 use Rattle.section_laws.proofs.Bounds.{Bounded, always_bounded}

@@ -4,17 +4,19 @@ use Rattle.std.proofs.Common.{Option, None, Some, is_some, length, refl, ap, sym
 use Rattle.std.specs.Option.{option_or}
 use Rattle.std.specs.Prelude.{nat_lt}
 use Rattle.std.proofs.lemmas.Bool.{ltb-true, ltb-false}
-use Rattle.bus_order.specs.Order.{IsOneEach, Request, first_of, removed}
+use Rattle.bus_order.specs.Order.{IsOneEach, Request, first_of}
 use Rattle.bus_order.proofs.LookUps.{first_of_appended_other, first_of_appended_own, first_of_in_front_of_other}
 use Rattle.bus_order.proofs.LookUps.{first_of_in_front_of_own, number_of_test, own_test}
 use Rattle.bus_order.proofs.Queues.{first_of_removed_other, hart_of_request_of, line_of_first_of}
 use Rattle.std.proofs.lemmas.Bool.{cases_eq}
 use Rattle.el_base.specs.declared.config.Mode.{Mode}
 use Rattle.el_base.specs.declared.config.Mode.TheVariants.{Plain, Sle, Tlr}
-use Rattle.el_model.specs.BusEvent.{IsBusEvent, Nothing, Places, Serves, Start, StartsWhere, Takes, as_faced, faced_head, having_taken, order_after}
+use Rattle.el_model.specs.BusEvent.{IsBusEvent, Nothing, Places, Serves, Start, StartsWhere, Takes, as_faced}
+use Rattle.el_model.specs.BusEvent.{faced_head, having_taken, order_after}
 use Rattle.el_model.specs.BusEvent.{order_at, started}
 use Rattle.el_model.specs.Conflicts.{conflicts, conflicts_with, meets_bit, retains, wins_over}
-use Rattle.el_model.specs.Face.{LosesTo, Unmet, after_fate, deferring_fate, faced, faced_hart, fate_of, markers_for, winning_stamp}
+use Rattle.el_model.specs.Face.{LosesTo, Unmet, after_fate, deferring_fate, faced, faced_hart, fate_of, markers_for}
+use Rattle.el_model.specs.Face.{winning_stamp}
 use Rattle.el_model.specs.Order.{Alone, Behind, InFront, Place, place_for}
 use Rattle.el_model.specs.Quiet.{has_stamps}
 use Rattle.el_model.specs.RollBack.{beaten, most_tries, out_of_section}
@@ -24,8 +26,8 @@ use Rattle.el_model.proofs.BusEvents.{keeps_as_faced}
 use Rattle.el_model.proofs.Harts.{hart_of-each_hart, hart_of-each_hart_past}
 use Rattle.el_model.proofs.Orders.{served_order}
 use Rattle.el_model.proofs.Tests.{by_hart, by_test}
-use Rattle.progress_laws.proofs.Fewer.{bystander_fewer, fewer_moves, fewer_unmet, served_fewer}
-use Rattle.removal_laws.proofs.Bits.{Fewer, fewer_same}
+use Rattle.section_laws.proofs.Fewer.{bystander_fewer, fewer_moves, fewer_unmet, served_fewer}
+use Rattle.section_laws.proofs.Bits.{Fewer, fewer_same}
 use Rattle.policy.specs.Winners.{wins_of}
 use Rattle.section_laws.proofs.Moves.{moved, taken_keeps}
 use Rattle.stamp.specs.Stamps.{Stamp}
@@ -164,7 +166,8 @@ own_head state by request Behind fit =
     })
 own_head state by request Alone fit = inr (first_of_appended_own state.order request ∙ ap (λ head. option_or head (Some request)) fit)
 
-head_after : (state : ModelState) (by : ℕ) (start : Start) → StartsWhere state by start → IsOneEach state.order → (line : ℕ) →
+head_after : (state : ModelState) (by : ℕ) (start : Start) → StartsWhere state by start → IsOneEach state.order →
+    (line : ℕ) →
     HeadAfter state by start line
 head_after state by Nothing where_it once line = inl (record { same = refl; fewer = as_before state line })
 head_after state by (Places request place) may once line = by_line (cases_eq line request.line)
@@ -196,14 +199,16 @@ head_after state by (Takes message others) where_it once line =
           (λ other. as_before state line h);
     })
 
-pub bus_unretained : {state : ModelState} {by : ℕ} {turn : Turn} → IsBusEvent state by turn → has_stamps state.config.mode ≡ false →
+pub bus_unretained : {state : ModelState} {by : ℕ} {turn : Turn} → IsBusEvent state by turn →
+    has_stamps state.config.mode ≡ false →
     IsOneEach state.order → NoneRetains state → NoneRetains turn.state
 bus_unretained {state} {by} {turn} done stampless once none h line = by_head (head_after state by done.start done.where_it once line)
   where
     new_head : head_of turn.state line ≡ first_of (order_after state done.start) line
     new_head = ap (λ order. first_of order line) done.order
 
-    met : (found : Option Request) → faced_head state done.start ≡ found → conflicts_with found h (hart_of turn.state h) ≡ false
+    met : (found : Option Request) → faced_head state done.start ≡ found →
+        conflicts_with found h (hart_of turn.state h) ≡ false
     met None is = refl
     met (Some head) is =
         ap (λ new. conflicts head h (hart_of new h)) (done.faces head is)

@@ -33,7 +33,7 @@ use Rattle.section_laws.proofs.Lengths.{AsMany, first_as_many, next_as_many}
 use Rattle.section_laws.proofs.Numbered.{one_ordered_request_each}
 use Rattle.section_laws.proofs.Waiting.{Sound, always_sound}
 use Rattle.progress_laws.proofs.Cases.{some_none, true_false}
-use Rattle.removal_laws.proofs.Bits.{second_of_both}
+use Rattle.section_laws.proofs.Bits.{second_of_both}
 
 -- an event of one of the machine's harts is progress
 pub record GetsOn (state : ModelState) : Type 0 where

@@ -1,7 +1,6 @@
 pub mod Cases
 pub mod Ready
 pub mod GettingOn
-pub mod Fewer
 pub mod Faced
 pub mod NewBits
 pub mod Over

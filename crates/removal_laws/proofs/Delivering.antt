@@ -12,7 +12,7 @@ use Rattle.el_model.specs.State.{Hart, ModelState, for_line, hart_of, numbers_of
 use Rattle.el_model.proofs.Harts.{hart_of-past, hart_of-with_hart_other, hart_of-with_hart_same}
 use Rattle.mail.specs.Mailbox.{Marker, Message, Probe, has_message}
 use Rattle.removal_laws.specs.Facts.{IsLinked, IsWaiting, Knows, MayBeKnown, MayPrecede}
-use Rattle.removal_laws.proofs.Bits.{both, clash, fewer_same, first_of_both, second_of_both, some_same}
+use Rattle.section_laws.proofs.Bits.{both, clash, fewer_same, first_of_both, second_of_both, some_same}
 use Rattle.removal_laws.proofs.Facing.{has_number, passed, passes}
 use Rattle.removal_laws.proofs.Grounds.{Grounds, Standing}
 use Rattle.removal_laws.proofs.Kept.{Owed}

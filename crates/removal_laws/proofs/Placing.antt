@@ -19,7 +19,8 @@ use Rattle.el_model.proofs.Harts.{hart_of-with_hart_same}
 use Rattle.el_model.proofs.Keeps.{keeps_marking}
 use Rattle.el_model.proofs.Tests.{by_test}
 use Rattle.removal_laws.specs.Facts.{Everywhere, IsChained, IsLinked, MayPrecede, Messages}
-use Rattle.removal_laws.proofs.Bits.{Fewer, both, clash, fewer_bit, fewer_twice, first_of_both, in_the_way, second_of_both, some_none, some_same}
+use Rattle.section_laws.proofs.Bits.{Fewer, both, clash, fewer_bit, fewer_twice, first_of_both, in_the_way}
+use Rattle.section_laws.proofs.Bits.{second_of_both, some_none, some_same}
 use Rattle.removal_laws.proofs.Faced.{Facing, FirstOn, Other, all_faced, faced_stands}
 use Rattle.removal_laws.proofs.Facing.{faced_retains}
 use Rattle.removal_laws.proofs.Grounds.{Grounds, Standing}

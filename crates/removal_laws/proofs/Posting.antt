@@ -10,7 +10,7 @@ use Rattle.mail.specs.Mailbox.{Marker, Message, Probe, has_message, posted, same
 use Rattle.mail.proofs.LookUps.{has_posted_other, has_posted_own}
 use Rattle.mail.proofs.OnceEach.{same_is_one}
 use Rattle.removal_laws.specs.Facts.{IsLinked, Knows, MayPrecede}
-use Rattle.removal_laws.proofs.Bits.{Fewer, fewer_ended, fewer_same, fewer_twice, no_less}
+use Rattle.section_laws.proofs.Bits.{Fewer, fewer_ended, fewer_same, fewer_twice, no_less}
 use Rattle.section_laws.proofs.Moves.{seen_grows}
 use Rattle.stamp.specs.Stamps.{Stamp}
 

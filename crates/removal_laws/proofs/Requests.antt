@@ -1,10 +1,13 @@
 -- a request has the stamp of its hart's attempt, and its hart is one of the machine's
-use Rattle.std.proofs.Common.{◌≡◌, ◌≢◌, ◌∙◌, ◌≤◌, ℕ, Bool, true, false, List, length, Option, None, Some, is_some, refl, ap, sym, inl, inr, ◌⊎◌, subst}
+use Rattle.std.proofs.Common.{◌≡◌, ◌∙◌, ◌≤◌, ℕ, Bool, true, false, length, Option, None, Some, is_some}
+use Rattle.std.proofs.Common.{ap, sym, inl, inr, ◌⊎◌, subst}
 use Rattle.std.proofs.lemmas.Bool.{cases_eq}
 use Rattle.bus_order.specs.Order.{Request, removed, request_of}
-use Rattle.bus_order.proofs.LookUps.{request_of_appended_own, request_of_in_front_of_own, request_of_removed_other, request_of_removed_own}
+use Rattle.bus_order.proofs.LookUps.{request_of_appended_own, request_of_in_front_of_own, request_of_removed_other}
+use Rattle.bus_order.proofs.LookUps.{request_of_removed_own}
 use Rattle.el_base.specs.declared.events.Event.{Event}
-use Rattle.el_model.specs.BusEvent.{IsBusEvent, Nothing, Places, Serves, Start, StartsWhere, Takes, having_taken, order_after, order_at, started}
+use Rattle.el_model.specs.BusEvent.{IsBusEvent, Nothing, Places, Serves, Start, StartsWhere, Takes, having_taken}
+use Rattle.el_model.specs.BusEvent.{order_after, order_at, started}
 use Rattle.el_model.specs.Deed.{Begins, Buffers, Commits, Deed, DoesWhere, Misses, Rests, RollsBack, Runs, Waits, hart_after}
 use Rattle.el_model.specs.Next.{next, step_turn}
 use Rattle.el_model.specs.Order.{Alone, Behind, InFront, Place}
@@ -16,7 +19,7 @@ use Rattle.el_model.proofs.BusEvents.{by_event}
 use Rattle.el_model.proofs.Deeds.{step_deed}
 use Rattle.el_model.proofs.Harts.{hart_of-past}
 use Rattle.el_model.proofs.Tests.{by_hart}
-use Rattle.removal_laws.proofs.Bits.{some_none, some_same}
+use Rattle.section_laws.proofs.Bits.{some_none, some_same}
 use Rattle.el_model.proofs.EachHart.{Each}
 use Rattle.section_laws.proofs.Moves.{Moves, moved, step_keeps, taken_keeps}
 use Rattle.section_laws.proofs.Numbered.{next_count, order_keeps}
@@ -67,7 +70,8 @@ served_ordered : (state : ModelState) (request : Request) (g : ℕ) → AllStamp
     Stamping (request_of (removed state.order request.hart)) g (hart_of state g)
 served_ordered state request g now = gone (cases_eq g request.hart)
   where
-    gone : (g ≡ request.hart) ⊎ (g ≡ request.hart → ⊥) → Stamping (request_of (removed state.order request.hart)) g (hart_of state g)
+    gone : (g ≡ request.hart) ⊎ (g ≡ request.hart → ⊥) →
+        Stamping (request_of (removed state.order request.hart)) g (hart_of state g)
     gone (inl same) = record {
       raised_is = (now g).raised_is;
       ordered_is = λ other is. some_none (sym is ∙ ap (request_of (removed state.order request.hart)) same ∙ request_of_removed_own state.order request.hart);
@@ -75,7 +79,8 @@ served_ordered state request g now = gone (cases_eq g request.hart)
     gone (inr apart) = rw (request_of_removed_other state.order request.hart g (λ same. apart (sym same))) (now g)
 
 -- each hart after the start of an event, and past the last hart
-started_stamped : (state : ModelState) (by : ℕ) (start : Start) → Sound state → AllStamped state → StartsWhere state by start → (h : ℕ) →
+started_stamped : (state : ModelState) (by : ℕ) (start : Start) → Sound state → AllStamped state →
+    StartsWhere state by start → (h : ℕ) →
     Stamping (request_of (order_after state start)) h (started state by start h (hart_of state h))
 started_stamped state by Nothing sound now where_it h = now h
 started_stamped state by (Places request place) sound now may h =
@@ -101,19 +106,22 @@ started_stamped state by (Takes message others) sound now where_it h =
     by_hart (Stamping (ordered_of state) h) h by (having_taken message others (hart_of state h)) (hart_of state h)
     (λ own. taken_keeps (moves (ordered_of state)) message others h (hart_of state h) (now h)) (λ other. now h)
 
-past_stamped : (state : ModelState) (by : ℕ) (start : Start) → Sound state → AllStamped state → StartsWhere state by start → (h : ℕ) →
+past_stamped : (state : ModelState) (by : ℕ) (start : Start) → Sound state → AllStamped state →
+    StartsWhere state by start → (h : ℕ) →
     length state.harts ≤ h → Stamping (request_of (order_after state start)) h (hart_of state h)
 past_stamped state by Nothing sound now where_it h past = now h
 past_stamped state by (Places request place) sound now may h past = by_own (cases_eq h request.hart)
   where
-    by_own : (h ≡ request.hart) ⊎ (h ≡ request.hart → ⊥) → Stamping (request_of (order_at state request place)) h (hart_of state h)
+    by_own : (h ≡ request.hart) ⊎ (h ≡ request.hart → ⊥) →
+        Stamping (request_of (order_at state request place)) h (hart_of state h)
     by_own (inl same) =
         some_none (sym (raised_own state by request sound may.raised) ∙ ap (raised_of state) (sym same) ∙ ap (λ hart. hart.raised) (hart_of-past state h past))
     by_own (inr apart) = rw (order_other state request place h apart) (now h)
 past_stamped state by (Serves request) sound now may h past = served_ordered state request h now
 past_stamped state by (Takes message others) sound now where_it h past = now h
 
-bus_stamped : {state : ModelState} {by : ℕ} {turn : Turn} → IsBusEvent state by turn → Sound state → AllStamped state → AllStamped turn.state
+bus_stamped : {state : ModelState} {by : ℕ} {turn : Turn} → IsBusEvent state by turn → Sound state → AllStamped state →
+    AllStamped turn.state
 bus_stamped {state} {by} {turn} done sound now h =
     let ordered = request_of (order_after state done.start) in
     let stamped : Stamping ordered h (hart_of turn.state h) =

@@ -13,7 +13,7 @@ use Rattle.el_model.specs.Serve.{Blocks, Free, Obstacle, obstacle_to, serve_orde
 use Rattle.el_model.specs.State.{ModelState, cache_of, for_line, hart_of, head_of, is_live, ordered_of, ordered_on, raised_of}
 use Rattle.el_model.proofs.Keeps.{keeps_served}
 use Rattle.removal_laws.specs.Facts.{AreLinked, Everywhere, IsChained, IsLinked, IsWaiting, MayRetain, Messages, Retaining}
-use Rattle.removal_laws.proofs.Bits.{clash, fewer_bit, some_none, some_same}
+use Rattle.section_laws.proofs.Bits.{clash, fewer_bit, some_none, some_same}
 use Rattle.removal_laws.proofs.Faced.{Facing, FirstOn, Other, all_faced, faced_stands}
 use Rattle.removal_laws.proofs.Grounds.{Grounds, Standing}
 use Rattle.removal_laws.proofs.Kept.{may_kept, retained_before, head_line}

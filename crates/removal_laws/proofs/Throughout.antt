@@ -17,7 +17,7 @@ use Rattle.mail.specs.Mailbox.{Marker, Probe, has_message}
 use Rattle.removal_laws.specs.Facts.{IsLinked, Knows}
 use Rattle.removal_laws.specs.Laws.{FactsHoldThroughout}
 use Rattle.removal_laws.proofs.Attempts.{always_open, first_own}
-use Rattle.removal_laws.proofs.Bits.{some_none}
+use Rattle.section_laws.proofs.Bits.{some_none}
 use Rattle.removal_laws.proofs.Grounds.{Grounds, Standing, facts_of, next_grounds}
 use Rattle.removal_laws.proofs.Placing.{ordered_stands}
 use Rattle.removal_laws.proofs.Serving.{taken_stands}

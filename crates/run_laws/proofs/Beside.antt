@@ -22,7 +22,8 @@ use Rattle.rv_flat.specs.Step.{flat}
 use Rattle.run_laws.proofs.Bits.{KeepsBits, covered_kept, same_bits}
 use Rattle.run_laws.proofs.Restored.{put_back}
 use Rattle.run_laws.proofs.Shown.{keeps_line, keeps_outside, puts_word, swap_stores, unwritten_shown, word_piece}
-use Rattle.run_laws.proofs.Survival.{alone_base, alone_more}
+use Rattle.run_laws.proofs.Alike.{alone_more}
+use Rattle.run_laws.proofs.Survival.{alone_base}
 use Rattle.run_laws.proofs.Tests.{not_both}
 use Rattle.run_laws.proofs.WordStores.{StoresWord, acquires}
 use Rattle.run_laws.specs.PrivateRun.{IsOutsideWord, IsChangeBeside, IsCoveredRun}

@@ -25,7 +25,7 @@ use Rattle.rv_flat.specs.Laws.{next_insn}
 use Rattle.rv_flat.specs.Run.{alone}
 use Rattle.rv_flat.specs.Step.{flat}
 use Rattle.run_laws.proofs.Bits.{bits_covered, bits_touched, covered_kept, marked_has_bit, step_kept}
-use Rattle.run_laws.proofs.Survival.{alone_more}
+use Rattle.run_laws.proofs.Alike.{alone_more}
 use Rattle.run_laws.proofs.Tests.{or_left, second_not}
 use Rattle.run_laws.proofs.WordStores.{acquires}
 use Rattle.run_laws.specs.PrivateRun.{HasItsBit, IsCoveredRun, IsCoveredStep}

@@ -5,7 +5,8 @@ use Rattle.cache_sets.specs.Cache.{bit_in, is_resident, way_of}
 use Rattle.el_base.specs.declared.events.Kind.{Kind}
 use Rattle.el_base.specs.declared.outcomes.Need.{Need}
 use Rattle.el_base.specs.declared.outcomes.Need.TheVariants.{Write}
-use Rattle.el_model.specs.BusEvent.{IsBusEvent, Nothing, Places, Serves, Start, StartsWhere, Takes, having_taken, started}
+use Rattle.el_model.specs.BusEvent.{IsBusEvent, Nothing, Places, Serves, Start, StartsWhere, Takes, having_taken}
+use Rattle.el_model.specs.BusEvent.{started}
 use Rattle.el_model.specs.Conflicts.{meets_bit}
 use Rattle.el_model.specs.Deed.{Begins, Buffers, Commits, Deed, DoesWhere, Misses, Rests, RollsBack, Runs, Waits, committed_after, hart_after}
 use Rattle.el_model.specs.InSection.{covered}
@@ -88,7 +89,8 @@ bystander_kept state request h clear (Some section) live =
           need bit),
     )
 
-started_kept : (state : ModelState) (by : ℕ) (start : Start) → StartsWhere state by start → IsOneEach state.order → ((g : ℕ) → AreOnce (cache_of state g)) →
+started_kept : (state : ModelState) (by : ℕ) (start : Start) → StartsWhere state by start → IsOneEach state.order →
+    ((g : ℕ) → AreOnce (cache_of state g)) →
     (h : ℕ) → IsKept state h (started state by start h (hart_of state h))
 started_kept state by Nothing where_it one once h = all_kept state h
 started_kept state by (Places request place) where_it one once h =
@@ -103,7 +105,8 @@ started_kept state by (Takes message others) where_it one once h =
     by_hart (IsKept state h) h by (having_taken message others (hart_of state h)) (hart_of state h)
     (λ own. taken_keeps (moves state) message others h (hart_of state h) (all_kept state h)) (λ other. all_kept state h)
 
-pub turn_kept : {state : ModelState} {by : ℕ} {turn : Turn} → IsBusEvent state by turn → IsOneEach state.order → ((g : ℕ) → AreOnce (cache_of state g)) →
+pub turn_kept : {state : ModelState} {by : ℕ} {turn : Turn} → IsBusEvent state by turn → IsOneEach state.order →
+    ((g : ℕ) → AreOnce (cache_of state g)) →
     Each (IsKept state) turn.state
 turn_kept {state} {by} done one once h =
     moved (moves state) state by done.start h (λ past. all_kept state h) (λ below. started_kept state by done.start done.where_it one once h)
@@ -116,7 +119,8 @@ other_step_kept state h g apart =
     rw step.turn_is
     (subst (IsKept state g) (sym (hart_of-with_hart_other state h g (hart_after state h step.deed (hart_of state h)) apart)) (all_kept state g))
 
-pub other_kept : (state : ModelState) (h g : ℕ) (kind : Kind) → g ≢ h → IsOneEach state.order → ((k : ℕ) → AreOnce (cache_of state k)) →
+pub other_kept : (state : ModelState) (h g : ℕ) (kind : Kind) → g ≢ h → IsOneEach state.order →
+    ((k : ℕ) → AreOnce (cache_of state k)) →
     IsKept state g (hart_of (kind_turn state h kind).state g)
 other_kept state h g kind apart one once =
     by_kind (λ turn. IsKept state g (hart_of turn.state g)) state h kind (λ step. other_step_kept state h g apart) (λ turn done. turn_kept done one once g)
@@ -161,7 +165,8 @@ step_covered state h sound each =
     (λ past section is. none_some is))
 
 -- each event
-bus_covered : {state : ModelState} {h : ℕ} {turn : Turn} → IsBusEvent state h turn → IsOneEach state.order → ((g : ℕ) → AreOnce (cache_of state g)) →
+bus_covered : {state : ModelState} {h : ℕ} {turn : Turn} → IsBusEvent state h turn → IsOneEach state.order →
+    ((g : ℕ) → AreOnce (cache_of state g)) →
     AllCovered state → AllCovered turn.state
 bus_covered {state} {h} {turn} done one once each g =
     subst (λ committed. Covered committed g (hart_of turn.state g)) (sym done.committed)

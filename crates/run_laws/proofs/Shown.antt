@@ -22,7 +22,8 @@ use Rattle.rv_flat.specs.Laws.{IsInOneLine, Writes, footprint_of, touched_in, wr
 use Rattle.rv_flat.specs.Memory.{byte_in, put_bytes}
 use Rattle.rv_flat.specs.Run.{alone}
 use Rattle.rv_flat.specs.Step.{flat, stored_by}
-use Rattle.run_laws.proofs.Survival.{alone_base, alone_more}
+use Rattle.run_laws.proofs.Alike.{alone_more}
+use Rattle.run_laws.proofs.Survival.{alone_base}
 use Rattle.run_laws.proofs.Tests.{not_both}
 use Rattle.run_laws.proofs.WordStores.{StoresWord, acquires}
 use Rattle.run_laws.specs.Laws.{CoveredRunsShowTheirOwn}

@@ -1,5 +1,5 @@
 -- a covered run survives a change beside its hart, and shows the same after it
-use Rattle.std.proofs.Common.{◌≡◌, ◌≤◌, ◌<◌, ◌+◌, ◌-◌, ◌∙◌, ℕ, zero, suc, true, false, ◌||◌, List, None, Some, arith, refl, ap, sym, subst, if◌then◌else◌}
+use Rattle.std.proofs.Common.{◌≡◌, ◌≤◌, ◌<◌, ◌+◌, ◌∙◌, ℕ, zero, suc, true, false, ◌||◌, List, None, Some, arith, refl, ap, sym, subst, if◌then◌else◌}
 use Rattle.cache_sets.specs.Cache.{has_bit, read_bit, write_bit}
 use Rattle.cache_sets.specs.Residency.{Way}
 use Rattle.elf_image.specs.Program.{code_word}
@@ -11,22 +11,19 @@ use Rattle.rv_alu.specs.Execution.{Execution, Goes, Stops, executed, store_in, v
 use Rattle.rv_alu.specs.Footprint.{AgreeOn, IsNoCall}
 use Rattle.rv_alu.specs.declared.view.HartStatus.TheVariants.{Running}
 use Rattle.rv_alu.specs.declared.view.HartView.{HartView}
-use Rattle.rv_flat.proofs.StepLaws.{alone_sum, keeps_shape}
+use Rattle.rv_flat.proofs.StepLaws.{keeps_shape}
 use Rattle.rv_flat.specs.FlatState.{FlatState, room_of, span_of, status_of, view_of}
 use Rattle.rv_flat.specs.Laws.{next_insn}
 use Rattle.rv_flat.specs.Memory.{byte_in}
 use Rattle.rv_flat.specs.Run.{alone}
 use Rattle.rv_flat.specs.Step.{flat}
-use Rattle.run_laws.proofs.Alike.{DidAlike, SamePlaces, did_alike, same_access, same_execution, same_insn, same_span}
+use Rattle.run_laws.proofs.Alike.{AlikeAt, DidAlike, SamePlaces, alike_runs, did_alike, same_access, same_execution}
+use Rattle.run_laws.proofs.Alike.{same_insn, same_span}
 use Rattle.run_laws.proofs.Tests.{first_not, or_left, second_not}
 use Rattle.run_laws.proofs.Touches.{SameOnBits, agree_there, on_bit}
 use Rattle.run_laws.proofs.WordStores.{Acquires, IsAtomic, acquires, swap_insn}
 use Rattle.run_laws.specs.Laws.{CoveredRunsSurvive}
 use Rattle.run_laws.specs.PrivateRun.{HasItsBit, IsChangeBeside, IsCoveredRun, IsCoveredStep, ShowsTheSame}
-
--- one step more at the end
-pub alone_more : (state : FlatState) (h n : ℕ) → alone state h (n + 1) ≡ flat (alone state h n) h
-alone_more state h n = alone_sum state h n 1
 
 pub places_of : (h : ℕ) (cache : List (List Way)) (old new : FlatState) → IsChangeBeside h cache old new → SamePlaces old new
 places_of h cache old new change = record { base = change.base; code = change.code; size = change.size }
@@ -123,42 +120,23 @@ module _ (h : ℕ) (cache : List (List Way)) (section : Section) (old new : Flat
       (goes_view (next_execution old h) (view_of new h) (view_of old h)
       (second_not (calls (next_insn old h)) _ (acquires old h _ run.acquire).stores.goes_on))
 
-  Since : ℕ → Type 0
-  Since n = DidAlike h old new (alone old h n) (alone new h n)
+  abbrev Since : ℕ → Type 0
+  Since n = AlikeAt h old new n
 
   bits_since : (n : ℕ) → Since n → SameOnBits cache (alone old h n) (alone new h n)
-  unfolding Since
   bits_since n since place bit =
       since.bytes place (change.bytes place (ap (λ base. has_bit cache (line_number (base + place))) (sym (alone_base old h n)) ∙ bit))
 
   same_at : (n : ℕ) → 1 ≤ n → n < section.count → Since n → SameStep (alone old h n) (alone new h n) h section.word cache
-  unfolding Since
   same_at n some less since =
       same_next (alone old h n) (alone new h n) h section.word cache since.places since.view (bits_since n since) (run.inside n some less)
 
-  more_alike : (n : ℕ) → 1 ≤ n → n < section.count → Since n → Since (n + 1)
-  unfolding Since
-  more_alike n some less since =
-      let left = alone old h n in
-      let right = alone new h n in
-      let runs = run.running n (omega arith) in
-      let did = did_alike left right h since.places runs (ap (λ view. view.status) since.view ∙ runs) (same_at n some less since).execution
-      (ap (view_after (next_execution left h)) since.view) in
-      rw (alone_more old h n, alone_more new h n)
-      (record { places = did.places; view = did.view; bytes = λ place is. did.bytes place (since.bytes place is) })
-
-  alike_at : (k n : ℕ) → n ≡ k + 1 → n ≤ section.count → Since n
-  unfolding Since
-  alike_at zero n is within = let one : n ≡ 1 = omega arith in rw one first_alike
-  alike_at (suc k) n is within =
-      let more : n ≡ k + 1 + 1 = omega arith in
-      rw more (more_alike (k + 1) (omega arith) (omega arith) (alike_at k (k + 1) refl (omega arith)))
-
   alike_from : (n : ℕ) → 1 ≤ n → n ≤ section.count → Since n
-  alike_from n some within = alike_at (n - 1) n (omega arith) within
+  alike_from =
+      alike_runs h 1 section.count old new first_alike
+      (λ n some less since. record { runs = run.running n (omega (arith, less)); execution = (same_at n some less since).execution })
 
   new_runs_on : (n : ℕ) → n ≤ section.count → status_of (alone new h n) h ≡ Running
-  unfolding Since
   new_runs_on zero within = new_runs
   new_runs_on (suc n) within =
       ap (λ view. view.status) (alike_from (suc n) (omega arith) within).view ∙ run.running (suc n) within
@@ -173,7 +151,6 @@ module _ (h : ℕ) (cache : List (List Way)) (section : Section) (old new : Flat
   }
 
   shows_same : ShowsTheSame h section.count old new
-  unfolding Since
   shows_same = let all = alike_from section.count run.some (omega arith) in record { view = all.view; bytes = all.bytes }
 
 pub survives : CoveredRunsSurvive

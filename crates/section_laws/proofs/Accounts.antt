@@ -132,7 +132,8 @@ restored_live mode (Some winner) old new is live =
     let gone = ap (λ section. one (is_some section)) (ap (λ standing. standing.section) is ∙ lost_section mode old) in
     omega (arith, gone, ap one live)
 
-bus_by : {state : ModelState} {by : ℕ} {turn : Turn} → IsBusEvent state by turn → (g : ℕ) → Numbered state → (section : Option Section) →
+bus_by : {state : ModelState} {by : ℕ} {turn : Turn} → IsBusEvent state by turn → (g : ℕ) → Numbered state →
+    (section : Option Section) →
     section_of state g ≡ section → one (is_live state g) ≡ one (is_some (winner_over turn.outcome g)) + one (is_live turn.state g)
 bus_by {state} done g numbered None none =
     let unnamed = ap (λ winner. one (is_some winner)) (unnamed_outside done g none) in

@@ -1,8 +1,8 @@
 -- every event keeps the caches within the bounds of the configuration
-use Rattle.std.proofs.Common.{◌≡◌, ◌≢◌, ◌∙◌, ℕ, zero, suc, ◌≤◌, ◌<◌, ◌||◌, Bool, true, false, List, [], ◌∷◌, Option, None, Some, is_some, length}
+use Rattle.std.proofs.Common.{◌≡◌, ◌∙◌, ℕ, zero, suc, ◌≤◌, ◌<◌, ◌||◌, Bool, true, false, List, [], ◌∷◌, Option, None, Some, is_some, length}
 use Rattle.std.proofs.Common.{replicate, refl, ap, sym, subst, inl, inr, ◌⊎◌, arith}
 use Rattle.std.specs.Prelude.{nat_lt, slice_index_or}
-use Rattle.std.proofs.lemmas.Bool.{cases_eq, ltb-true, ltb-false}
+use Rattle.std.proofs.lemmas.Bool.{ltb-true, ltb-false}
 use Rattle.std.proofs.lemmas.Bool.Decides.{nat_tests}
 use Rattle.std.specs.List.{count_by}
 use Rattle.std.proofs.lemmas.List.{length-replicate}
@@ -23,14 +23,16 @@ use Rattle.el_base.specs.declared.outcomes.Need.{Need}
 use Rattle.el_base.specs.declared.outcomes.Need.TheVariants.{Read, Write}
 use Rattle.el_base.proofs.Ranges.{at_least, ranges}
 use Rattle.elf_image.specs.Program.{Program}
-use Rattle.el_model.specs.BusEvent.{IsBusEvent, Nothing, Places, Serves, Start, StartsWhere, Takes, having_taken, order_after, order_at, started}
+use Rattle.el_model.specs.BusEvent.{IsBusEvent, Nothing, Places, Serves, Start, StartsWhere, Takes, having_taken}
+use Rattle.el_model.specs.BusEvent.{order_after, order_at, started}
 use Rattle.el_model.specs.Deed.{Begins, Buffers, Commits, Deed, DoesWhere, HasRoom, IsCoverable, Misses, Rests, RollsBack, Runs, Waits, hart_after}
 use Rattle.el_model.specs.InSection.{is_full}
 use Rattle.el_model.specs.Next.{after, next, step_turn}
 use Rattle.el_model.specs.Order.{Alone, Behind, InFront, Place}
 use Rattle.el_model.specs.Plain.{after_candidate, candidate_of}
 use Rattle.el_model.specs.Serve.{bystander, others_have, served_hart, with_claim}
-use Rattle.el_model.specs.State.{Hart, ModelState, Section, Turn, begin, cache_of, hart_of, new_hart, ordered_of, raised_of}
+use Rattle.el_model.specs.State.{Hart, ModelState, Section, Turn, begin, cache_of, hart_of, new_hart, ordered_of}
+use Rattle.el_model.specs.State.{raised_of}
 use Rattle.el_model.specs.Upcoming.{Swap, Touch}
 use Rattle.el_model.proofs.BusEvents.{by_event}
 use Rattle.el_model.proofs.Deeds.{step_deed}
@@ -49,7 +51,8 @@ use Rattle.section_laws.proofs.OnlyInside as inside
 use Rattle.section_laws.proofs.OrderedHarts.{AreBelow, below_kept}
 use Rattle.section_laws.proofs.Rooms.{room_unmarked}
 use Rattle.section_laws.proofs.ServedCaches.{own_after}
-use Rattle.section_laws.proofs.Waiting.{Sound, always_sound, free_of_order, is_rolled, next_sound, no_request, order_other}
+use Rattle.section_laws.proofs.Waiting.{Sound, always_sound, free_of_order, is_rolled, next_sound, no_request}
+use Rattle.section_laws.proofs.Waiting.{order_other}
 
 -- a hart's cache with what it has left for the hart's request, raised or ordered
 pub record IsBounded (config : Config) (cache : List (List Way)) (raised ordered : Option Request) : Type 0 where

@@ -1,5 +1,7 @@
 -- in every state that can be reached the copies of a line may be together, and written lines are owned
-use Rattle.std.proofs.Common.{◌≡◌, ◌≢◌, ◌∙◌, ◌<◌, ◌≤◌, ◌+◌, ◌==◌, ℕ, zero, suc, Bool, true, false, ◌&&◌, ◌||◌, not, List, [], ◌∷◌, length, Option, None, Some, is_some, refl, ap, sym, subst, inl, inr, ◌⊎◌, arith, if◌then◌else◌}
+use Rattle.std.proofs.Common.{◌≡◌, ◌≢◌, ◌∙◌, ◌<◌, ◌≤◌, ◌+◌, ◌==◌, ℕ, zero, suc, Bool, true, false, ◌&&◌, ◌||◌, not}
+use Rattle.std.proofs.Common.{List, [], ◌∷◌, length, Option, None, Some, is_some, refl, ap, sym, subst, inl, inr, ◌⊎◌}
+use Rattle.std.proofs.Common.{arith, if◌then◌else◌}
 use Rattle.std.specs.List.{list_any}
 use Rattle.std.specs.Prelude.{nat_lt}
 use Rattle.std.proofs.lemmas.Bool.{cases_eq, ltb-true, ltb-false}
@@ -15,13 +17,16 @@ use Rattle.el_base.specs.declared.events.Event.{Event}
 use Rattle.el_base.specs.declared.outcomes.Need.{Need}
 use Rattle.el_base.specs.declared.outcomes.Need.TheVariants.{Read, Write}
 use Rattle.elf_image.specs.Program.{Program}
-use Rattle.el_model.specs.BusEvent.{Becomes, IsBusEvent, Nothing, Places, Serves, Start, StartsWhere, Takes, having_taken, started}
+use Rattle.el_model.specs.BusEvent.{Becomes, IsBusEvent, Nothing, Places, Serves, Start, StartsWhere, Takes}
+use Rattle.el_model.specs.BusEvent.{having_taken, started}
 use Rattle.el_model.specs.Deed.{Begins, Buffers, Commits, Deed, DoesWhere, IsCoverable, IsPermitted, Misses, Rests, RollsBack, Runs, Waits, hart_after, is_refused, permits}
 use Rattle.el_model.specs.InSection.{covered}
 use Rattle.el_model.specs.Next.{after, next, step_turn}
 use Rattle.el_model.specs.Plain.{after_access, after_candidate, after_touch, candidate_of}
-use Rattle.el_model.specs.Serve.{bystander, others_cache, others_have, own_copy, served, served_hart, serving, with_claim}
-use Rattle.el_model.specs.State.{Hart, ModelState, Section, Turn, begin, cache_of, count_up, hart_of, new_hart, section_of}
+use Rattle.el_model.specs.Serve.{bystander, others_cache, others_have, own_copy, served, served_hart, serving}
+use Rattle.el_model.specs.Serve.{with_claim}
+use Rattle.el_model.specs.State.{Hart, ModelState, Section, Turn, begin, cache_of, count_up, hart_of, new_hart}
+use Rattle.el_model.specs.State.{section_of}
 use Rattle.el_model.specs.Upcoming.{Swap, Touch}
 use Rattle.el_model.proofs.AllHarts.{all_first}
 use Rattle.el_model.proofs.BusEvents.{by_event}
@@ -340,13 +345,15 @@ since_served state request h below =
     subst (λ hart. IsSteady hart.cache (serving state request h (hart_of state h)).cache) (sym (hart_of-each_hart state (serving state request) h below))
     (same_cache (serving state request h (hart_of state h)).cache)
 
-since_absent : (state : ModelState) (request : Request) (h : ℕ) → length state.harts ≤ h → IsSteady (cache_of (served state request) h) (cache_of state h)
+since_absent : (state : ModelState) (request : Request) (h : ℕ) → length state.harts ≤ h →
+    IsSteady (cache_of (served state request) h) (cache_of state h)
 unfolding served
 since_absent state request h past =
     subst (λ hart. IsSteady hart.cache (cache_of state h)) (sym (hart_of-each_hart_past state (serving state request) h past))
     (subst (λ hart. IsSteady [] hart.cache) (sym (hart_of-past state h past)) (same_cache []))
 
-bus_stands : {state : ModelState} {by : ℕ} {turn : Turn} → IsBusEvent state by turn → Holds state → Stands state → Stands turn.state
+bus_stands : {state : ModelState} {by : ℕ} {turn : Turn} → IsBusEvent state by turn → Holds state → Stands state →
+    Stands turn.state
 bus_stands {state} {by} {turn} done holds now = by_start done.start done.where_it done.becomes
   where
     since : (start : Start) → ((h : ℕ) → SteadySince state h (started state by start h (hart_of state h))) →
@@ -355,7 +362,8 @@ bus_stands {state} {by} {turn} done holds now = by_start done.start done.where_i
         steady_stands state turn.state now
         (λ h. moved (steady_moves state) state by start h (λ past. same_cache (cache_of state h)) (λ below. begun h) (becomes h))
 
-    by_start : (start : Start) → StartsWhere state by start → ((h : ℕ) → Becomes state by start h (done.lost h) (hart_of turn.state h)) →
+    by_start : (start : Start) → StartsWhere state by start →
+        ((h : ℕ) → Becomes state by start h (done.lost h) (hart_of turn.state h)) →
         Stands turn.state
     by_start Nothing where_it becomes = since Nothing (λ h. same_cache (cache_of state h)) becomes
     by_start (Places request place) where_it becomes =

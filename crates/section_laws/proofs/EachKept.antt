@@ -1,12 +1,12 @@
 -- what each change of a hart keeps, every event keeps, and so it holds of every state that can be reached
-use Rattle.std.proofs.Common.{◌≢◌, ℕ, List, None}
+use Rattle.std.proofs.Common.{◌≢◌, ℕ, List, Option, None}
 use Rattle.bus_order.specs.Order.{Request}
 use Rattle.el_base.specs.declared.config.Config.{Config}
 use Rattle.el_base.specs.declared.events.Event.{Event}
 use Rattle.el_base.specs.declared.events.Kind.{Kind}
 use Rattle.el_base.specs.declared.events.Kind.TheVariants as kinds
 use Rattle.elf_image.specs.Program.{Program}
-use Rattle.el_model.specs.BusEvent.{IsBusEvent, Nothing, Places, Serves, Start, Takes, having_taken, started}
+use Rattle.el_model.specs.BusEvent.{Becomes, IsBusEvent, Nothing, Places, Serves, Start, Takes, having_taken, started}
 use Rattle.el_model.specs.Deed.{Deed, DoesWhere, hart_after}
 use Rattle.el_model.specs.Next.{after, kind_turn, next}
 use Rattle.el_model.specs.Serve.{bystander, served_hart}
@@ -26,7 +26,8 @@ pub record BusKept (P : ℕ → Hart → Type 0) : Type 0 where
   pub bystander : (h : ℕ) (state : ModelState) (request : Request) (hart : Hart) → P h hart → P h (bystander state request hart)
 
 module _ {P : ℕ → Hart → Type 0} (kept : BusKept P) where
-  started_keeps : (state : ModelState) (by : ℕ) (start : Start) (h : ℕ) (hart : Hart) → P h hart → P h (started state by start h hart)
+  started_keeps : (state : ModelState) (by : ℕ) (start : Start) (h : ℕ) (hart : Hart) → P h hart →
+      P h (started state by start h hart)
   started_keeps state by Nothing h hart now = now
   started_keeps state by (Places request place) h hart now =
       by_hart (P h) h request.hart (record hart { raised = None }) hart (λ own. kept.unraised h hart now) (λ other. now)
@@ -36,10 +37,22 @@ module _ {P : ℕ → Hart → Type 0} (kept : BusKept P) where
   started_keeps state by (Takes message others) h hart now =
       by_hart (P h) h by (having_taken message others hart) hart (λ own. taken_keeps kept.moves message others h hart now) (λ other. now)
 
-  pub turn_keeps : {state : ModelState} {by : ℕ} {turn : Turn} → IsBusEvent state by turn → Each P state → Each P turn.state
-  turn_keeps {state} {by} done each h =
-      moved kept.moves state by done.start h (λ past. each h) (λ below. started_keeps state by done.start h (hart_of state h) (each h))
-      (done.becomes h)
+  pub becomes_keeps : (state : ModelState) (by : ℕ) (start : Start) (h : ℕ) {lost : Option ℕ} {hart : Hart} →
+      P h (hart_of state h) →
+      Becomes state by start h lost hart → P h hart
+  becomes_keeps state by start h now becomes =
+      moved kept.moves state by start h (λ past. now) (λ below. started_keeps state by start h (hart_of state h) now) becomes
+
+  pub turn_keeps : {state : ModelState} {by : ℕ} {turn : Turn} → IsBusEvent state by turn → Each P state →
+      Each P turn.state
+  turn_keeps {state} {by} done each h = becomes_keeps state by done.start h (each h) (done.becomes h)
+
+  -- so does every event where its hart's deeds do
+  pub event_keeps : (state : ModelState) (event : Event) →
+      ((deed : Deed) → DoesWhere state event.hart.number deed →
+      P event.hart.number (hart_after state event.hart.number deed (hart_of state event.hart.number))) → Each P state → Each P (next state event).state
+  event_keeps state event deeds each =
+      by_event (λ turn. Each P turn.state) state event (λ step. step_keeps P state event.hart.number deeds each) (λ turn done. turn_keeps done each)
 
   pub bus_keeps : (state : ModelState) (h : ℕ) (kind : Kind) → kind ≢ kinds.Step → Each P state → Each P (kind_turn state h kind).state
   bus_keeps state h kind bus each = turn_keeps (bus_event state h kind bus) each
@@ -55,11 +68,7 @@ module _ {P : Hart → Type 0} (kept : EachKept P) where
   pub next_keeps : (state : ModelState) (event : Event) → Each (λ h hart. P hart) state →
       Each (λ h hart. P hart) (next state event).state
   next_keeps state event each =
-      by_event (λ turn. Each (λ h hart. P hart) turn.state) state event
-      (λ step.
-      step_keeps (λ h hart. P hart) state event.hart.number
-      (λ deed does. kept.deed state event.hart.number deed does (each event.hart.number)) each)
-      (λ turn done. turn_keeps kept.bus done each)
+      event_keeps kept.bus state event (λ deed does. kept.deed state event.hart.number deed does (each event.hart.number)) each
 
   pub first_each : (program : Program) (config : Config) → Each (λ h hart. P hart) (begin program config)
   unfolding begin

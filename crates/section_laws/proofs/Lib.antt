@@ -8,6 +8,8 @@ pub mod SectionSteps
 pub mod Lengths
 pub mod Accounts
 pub mod Steady
+pub mod Bits
+pub mod Fewer
 pub mod FreeLines
 pub mod Serving
 pub mod OnlyInside

@@ -1,5 +1,6 @@
 -- every event keeps it that messages and sets name other harts of the machine, each once
-use Rattle.std.proofs.Common.{◌≡◌, ◌≢◌, ◌∙◌, ℕ, ◌+◌, ◌==◌, Bool, true, false, List, [], ◌∷◌, Option, None, Some, is_some, length}
+use Rattle.std.proofs.Common.{◌≡◌, ◌≢◌, ◌∙◌, ℕ, ◌+◌, ◌==◌, Bool, true, false, List, [], ◌∷◌, Option, None, Some}
+use Rattle.std.proofs.Common.{is_some, length}
 use Rattle.std.proofs.Common.{refl, ap, sym, subst, arith, if◌then◌else◌}
 use Rattle.std.proofs.lemmas.List.{length-replicate}
 use Rattle.bus_order.specs.Order.{Request, request_of}
@@ -9,8 +10,10 @@ use Rattle.el_base.specs.declared.config.Mode.{Mode}
 use Rattle.el_base.specs.declared.config.Mode.TheVariants.{Plain, Sle, Tlr}
 use Rattle.el_base.specs.declared.events.Event.{Event}
 use Rattle.elf_image.specs.Program.{Program}
-use Rattle.el_model.specs.BusEvent.{Becomes, IsAbsent, IsAnswered, IsBehind, IsDeferred, IsForwarded, IsPassed, IsPosted, IsSent, IsToldOn, LosesIt}
-use Rattle.el_model.specs.BusEvent.{Nothing, Places, Sees, Serves, Start, Starts, StartsWhere, Takes, having_taken, started}
+use Rattle.el_model.specs.BusEvent.{Becomes, IsAbsent, IsAnswered, IsBehind, IsDeferred, IsForwarded, IsPassed}
+use Rattle.el_model.specs.BusEvent.{IsPosted, IsSent, IsToldOn, LosesIt}
+use Rattle.el_model.specs.BusEvent.{Nothing, Places, Sees, Serves, Start, Starts, StartsWhere, Takes, having_taken}
+use Rattle.el_model.specs.BusEvent.{started}
 use Rattle.el_model.specs.Deed.{Begins, Buffers, Commits, Deed, Misses, Rests, RollsBack, Runs, Waits, hart_after}
 use Rattle.el_model.specs.Next.{after, next}
 use Rattle.el_model.specs.Plain.{after_candidate, candidate_of}
@@ -25,7 +28,8 @@ use Rattle.el_model.proofs.FromStart.{kept_after}
 use Rattle.el_model.proofs.Tests.{by_hart}
 use Rattle.mail.specs.Mailbox.{Marker, Message, Probe}
 use Rattle.section_laws.specs.Messages.{IsMailbox, IsOther, IsSetOfOthers, MessagesAreFewerThanHarts, MessagesNameOthersOnce, NamesOthersOnce, named}
-use Rattle.section_laws.proofs.Boxes.{fewer_others, mailbox_of_served, mailbox_posted, mailbox_taken, mailbox_without_probe, no_mail}
+use Rattle.section_laws.proofs.Boxes.{fewer_others, mailbox_of_served, mailbox_posted, mailbox_taken}
+use Rattle.section_laws.proofs.Boxes.{mailbox_without_probe, no_mail}
 use Rattle.section_laws.proofs.Boxes.{no_others, oldest_other, origins_are_others, others_excluded, others_included, senders_are_others}
 use Rattle.section_laws.proofs.Moves.{step_keeps}
 use Rattle.section_laws.proofs.Numbered.{Once, first_once, next_count, next_once, order_keeps, raised_exists}
@@ -66,22 +70,28 @@ apart_from : (order : List Request) (h : ℕ) (request : Request) → request_of
     request.hart ≢ h
 apart_from order h request is free same = some_none (sym is ∙ ap (request_of order) same ∙ free)
 
-not_ordered : (count : ℕ) (state : ModelState) (by : ℕ) (request : Request) → Mailed count state → raised_of state by ≡ Some request →
+not_ordered : (count : ℕ) (state : ModelState) (by : ℕ) (request : Request) → Mailed count state →
+    raised_of state by ≡ Some request →
     ordered_of state request.hart ≡ None
 not_ordered count state by request now raised =
     free_of_order state request.hart request now.once.sound (ap (raised_of state) ((now.once.sound by).own request raised) ∙ raised)
 
-taken_other : (count : ℕ) (state : ModelState) (by : ℕ) (message : Message) (others : List Message) → Mailed count state →
+taken_other : (count : ℕ) (state : ModelState) (by : ℕ) (message : Message) (others : List Message) →
+    Mailed count state →
     (hart_of state by).mail ≡ message ∷ others → IsOther count by (named message)
 taken_other count state by message others now is = oldest_other count by message others (subst (IsMailbox count by) is (now.each by).mail_is)
 
 -- who sends a message is another hart than the one to which it is posted, and so is an origin: the former head of a line, or the last
 -- one before a request that is ordered, has a request in order already
-posted_other : (count : ℕ) (state : ModelState) (by : ℕ) {start : Start} {h : ℕ} {message : Message} → Mailed count state →
+posted_other : (count : ℕ) (state : ModelState) (by : ℕ) {start : Start} {h : ℕ} {message : Message} →
+    Mailed count state →
     StartsWhere state by start → IsPosted state by start h message → IsOther count h (named message)
 posted_other count state by now may (IsBehind request last mode is) =
     let there = request_of_tail_of state.order request.line last now.once.once is in
-    record { exists = now.below last.hart last there; apart = apart_from state.order request.hart last there (not_ordered count state by request now may.raised) }
+    record {
+      exists = now.below last.hart last there;
+      apart = apart_from state.order request.hart last there (not_ordered count state by request now may.raised);
+    }
 posted_other count state by now may (IsPassed request former mode is) =
     let many = now.many in
     let there = request_of_first_of state.order request.line former now.once.once is in
@@ -107,7 +117,8 @@ claim_holds : (count h : ℕ) (live : Bool) (request : Request) (hart : Hart) �
 claim_holds count h true request hart now = now
 claim_holds count h false request hart now = now
 
-served_holds : (count : ℕ) (state : ModelState) (request : Request) (h : ℕ) (hart : Hart) → Holds count h hart → Holds count h (served_hart state request hart)
+served_holds : (count : ℕ) (state : ModelState) (request : Request) (h : ℕ) (hart : Hart) → Holds count h hart →
+    Holds count h (served_hart state request hart)
 served_holds count state request h hart now =
     claim_holds count h (is_some hart.section) request _
     (record {
@@ -117,7 +128,8 @@ served_holds count state request h hart now =
     })
 
 -- a message is taken
-taken_holds : (count : ℕ) (h : ℕ) (message : Message) (others : List Message) (hart : Hart) → hart.mail ≡ message ∷ others → Holds count h hart →
+taken_holds : (count : ℕ) (h : ℕ) (message : Message) (others : List Message) (hart : Hart) →
+    hart.mail ≡ message ∷ others → Holds count h hart →
     Holds count h (having_taken message others hart)
 taken_holds count h (Marker sender) others hart is now =
     let box = subst (IsMailbox count h) is now.mail_is in
@@ -134,7 +146,8 @@ taken_holds count h (Probe origin) others hart is now =
       upstream_is = now.upstream_is;
     }
 
-started_holds : (count : ℕ) (state : ModelState) (by : ℕ) (start : Start) (h : ℕ) → StartsWhere state by start → Each (Holds count) state →
+started_holds : (count : ℕ) (state : ModelState) (by : ℕ) (start : Start) (h : ℕ) → StartsWhere state by start →
+    Each (Holds count) state →
     Holds count h (started state by start h (hart_of state h))
 started_holds count state by Nothing h where_it each = each h
 started_holds count state by (Places request place) h where_it each =
@@ -151,7 +164,8 @@ started_holds count state by (Takes message others) h is each =
     by_hart (Holds count h) h by (having_taken message others (hart_of state h)) (hart_of state h)
     (λ own. taken_holds count h message others (hart_of state h) (ap (λ k. (hart_of state k).mail) own ∙ is) (each h)) (λ other. each h)
 
-becomes_holds : (count : ℕ) (state : ModelState) (by : ℕ) (start : Start) (h : ℕ) {lost : Option ℕ} {hart : Hart} → Mailed count state →
+becomes_holds : (count : ℕ) (state : ModelState) (by : ℕ) (start : Start) (h : ℕ) {lost : Option ℕ} {hart : Hart} →
+    Mailed count state →
     StartsWhere state by start → Becomes state by start h lost hart → Holds count h hart
 becomes_holds count state by start h now where_it (IsAbsent past) = now.each h
 becomes_holds count state by start h now where_it (Starts below) = started_holds count state by start h where_it now.each

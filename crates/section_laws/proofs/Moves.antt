@@ -1,6 +1,7 @@
 -- what an event of the bus does to each hart after its start, as a few moves: it is posted messages, is told of origins, has harts before
 -- it, sees stamps or loses its section
-use Rattle.std.proofs.Common.{◌≡◌, ◌<◌, ◌≤◌, ℕ, Bool, true, false, List, Option, None, Some, length, refl, if◌then◌else◌, ◌==◌, ◌+◌, arith}
+use Rattle.std.proofs.Common.{◌≡◌, ◌<◌, ◌≤◌, ℕ, Bool, true, false, List, Option, None, Some, length, refl}
+use Rattle.std.proofs.Common.{if◌then◌else◌, ◌==◌, ◌+◌, arith}
 use Rattle.defer_list.specs.HartSet.{included}
 use Rattle.el_base.specs.declared.config.Mode.{Mode}
 use Rattle.el_base.specs.declared.config.Mode.TheVariants.{Plain, Sle, Tlr}
@@ -42,7 +43,8 @@ module _ {P : ℕ → Hart → Type 0} (moves : Moves P) where
   beaten_keeps Sle winner h hart now = try_keeps h (out_of_section hart) (hart.tries + 1 == most_tries) refl (moves.lost h hart now)
   beaten_keeps Plain winner h hart now = try_keeps h (out_of_section hart) (hart.tries + 1 == most_tries) refl (moves.lost h hart now)
 
-  pub taken_keeps : (message : Message) (others : List Message) (h : ℕ) (hart : Hart) → P h hart → P h (having_taken message others hart)
+  pub taken_keeps : (message : Message) (others : List Message) (h : ℕ) (hart : Hart) → P h hart →
+      P h (having_taken message others hart)
   taken_keeps (Marker sender) others h hart now =
       moves.preceded h (record hart { mail = others }) (included hart.upstream sender) (moves.posted_to h hart others now)
   taken_keeps (Probe origin) others h hart now =

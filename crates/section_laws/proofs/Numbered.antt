@@ -1,5 +1,5 @@
 -- no hart has two requests in order, and each request is of a hart that a machine may have
-use Rattle.std.proofs.Common.{◌≡◌, ◌∙◌, ◌<◌, ◌≤◌, ◌==◌, ℕ, Bool, true, false, List, [], ◌∷◌, Option, None, Some, length, refl, ap, sym, arith}
+use Rattle.std.proofs.Common.{◌≡◌, ◌∙◌, ◌<◌, ◌≤◌, ◌==◌, ℕ, Bool, true, false, List, [], ◌∷◌, None, Some, length, refl, ap, sym, arith}
 use Rattle.std.specs.Prelude.{nat_lt}
 use Rattle.std.proofs.lemmas.Bool.{ltb-true, ltb-false}
 use Rattle.std.proofs.lemmas.Bool.Decides.{nat_tests}
@@ -16,7 +16,7 @@ use Rattle.el_model.specs.BusEvent.{Nothing, Places, Serves, Start, StartsWhere,
 use Rattle.el_model.specs.Losses.{AreNumbered, HartsAreNumbered}
 use Rattle.el_model.specs.Next.{after, next}
 use Rattle.el_model.specs.Order.{Alone, Behind, InFront, Place}
-use Rattle.el_model.specs.State.{ModelState, begin, hart_of, new_hart, raised_of}
+use Rattle.el_model.specs.State.{ModelState, begin, new_hart, raised_of}
 use Rattle.el_model.proofs.BusEvents.{by_event}
 use Rattle.el_model.proofs.Deeds.{step_deed}
 use Rattle.el_model.proofs.FromStart.{kept_after}
@@ -61,7 +61,8 @@ module _ {P : List Request → Type 0} where
   place_keeps state request Behind kept exists free now = kept.placed_last state.order request exists free now
   place_keeps state request Alone kept exists free now = kept.placed_last state.order request exists free now
 
-  start_keeps : (state : ModelState) (by : ℕ) (start : Start) → KeptInOrder P (length state.harts) → Sound state → StartsWhere state by start →
+  start_keeps : (state : ModelState) (by : ℕ) (start : Start) → KeptInOrder P (length state.harts) → Sound state →
+      StartsWhere state by start →
       P state.order → P (order_after state start)
   start_keeps state by Nothing kept sound where_it now = now
   start_keeps state by (Places request place) kept sound may now =

@@ -158,7 +158,8 @@ deed_unflagged state h (Buffers section touch) does was began = absurd (cc)
 deed_unflagged state h (Commits section) does was began = absurd (cc)
 deed_unflagged state h (RollsBack section cause) does was began = absurd (cc)
 
-step_unflagged : (state : ModelState) (h : ℕ) → (hart_of state h).fallback ≡ true → (step_turn state h).outcome ≢ outcomes.Began
+step_unflagged : (state : ModelState) (h : ℕ) → (hart_of state h).fallback ≡ true →
+    (step_turn state h).outcome ≢ outcomes.Began
 step_unflagged state h was began =
     let step = step_deed state h in
     deed_unflagged state h step.deed step.where_it was (sym (ap (λ turn. turn.outcome) step.turn_is) ∙ began)
@@ -193,7 +194,8 @@ deed_sets_flag state h (RollsBack section why) cause must back =
     (hart_of-with_hart_same state h (hart_after state h (RollsBack section why) (hart_of state h))
     (live_exists state h section (is_rolled state h section why must).live))
 
-step_sets_flag : (state : ModelState) (h : ℕ) (cause : Cause) → (step_turn state h).outcome ≡ outcomes.RolledBack cause →
+step_sets_flag : (state : ModelState) (h : ℕ) (cause : Cause) →
+    (step_turn state h).outcome ≡ outcomes.RolledBack cause →
     (hart_of (step_turn state h).state h).fallback ≡ true
 step_sets_flag state h cause back =
     let step = step_deed state h in

@@ -1,7 +1,7 @@
 -- each hart waits for one thing at most, and for none where it has stopped
-use Rattle.std.proofs.Common.{◌≡◌, ◌≢◌, ◌∙◌, ℕ, ◌≤◌, ◌+◌, Bool, false, ◌||◌, List, [], ◌∷◌, Option, None, Some, is_some, length, refl, ap, sym, subst, inl, inr, ◌⊎◌}
+use Rattle.std.proofs.Common.{◌≡◌, ◌≢◌, ◌∙◌, ℕ, ◌≤◌, ◌+◌, Bool, false, ◌||◌, List, Option, None, Some, is_some, length, refl, ap, sym, subst, inl, inr, ◌⊎◌}
 use Rattle.std.proofs.lemmas.Bool.{cases_eq}
-use Rattle.bus_order.specs.Order.{Request, appended, in_front_of, removed, request_of}
+use Rattle.bus_order.specs.Order.{Request, removed, request_of}
 use Rattle.bus_order.proofs.LookUps.{request_of_appended_other, request_of_in_front_of_other, request_of_removed_other, request_of_removed_own}
 use Rattle.bus_order.proofs.Queues.{hart_of_request_of}
 use Rattle.el_base.specs.declared.config.Config.{Config}
@@ -10,13 +10,15 @@ use Rattle.el_base.specs.declared.outcomes.Cause.TheVariants.{Room, Lines, Long,
 use Rattle.el_base.specs.declared.outcomes.Need.{Need}
 use Rattle.el_base.specs.declared.events.Event.{Event}
 use Rattle.elf_image.specs.Program.{Program}
-use Rattle.el_model.specs.BusEvent.{IsBusEvent, Nothing, Places, Serves, Start, StartsWhere, Takes, having_taken, order_after, order_at, started}
+use Rattle.el_model.specs.BusEvent.{IsBusEvent, Nothing, Places, Serves, Start, StartsWhere, Takes, having_taken}
+use Rattle.el_model.specs.BusEvent.{order_after, order_at, started}
 use Rattle.el_model.specs.Deed.{Begins, Buffers, Commits, Deed, DoesWhere, IsInside, IsOutside, Misses, MustRollBack, Rests, RollsBack, Runs, Waits, committed_after, done, hart_after}
 use Rattle.el_model.specs.Next.{after, next, step_turn}
 use Rattle.el_model.specs.Order.{Alone, Behind, InFront, Place}
 use Rattle.el_model.specs.Plain.{after_candidate, candidate_of}
 use Rattle.el_model.specs.Serve.{bystander, served_hart, with_claim}
-use Rattle.el_model.specs.State.{Hart, ModelState, Section, Turn, begin, has_request, hart_of, new_hart, ordered_of, raised_of, section_of}
+use Rattle.el_model.specs.State.{Hart, ModelState, Section, Turn, begin, has_request, hart_of, new_hart, ordered_of}
+use Rattle.el_model.specs.State.{raised_of, section_of}
 use Rattle.el_model.specs.Upcoming.{Swap}
 use Rattle.el_model.proofs.AllHarts.{all_first}
 use Rattle.el_model.proofs.BusEvents.{by_event}
@@ -168,12 +170,16 @@ started_waits state by (Places request place) sound may h =
     mine : raised_of state request.hart ≡ Some request
     mine = ap (raised_of state) ((sound by).own request may.raised) ∙ may.raised
 
-    before : WaitsForOne request.hart (status_of state.committed request.hart) None (section_of state request.hart) (Some request) (hart_of state request.hart).held
+    waits_for : Option Request → Option Request → Type 0
+    waits_for ordered raised =
+        WaitsForOne request.hart (status_of state.committed request.hart) ordered (section_of state request.hart) raised
+        (hart_of state request.hart).held
+
+    before : WaitsForOne request.hart (status_of state.committed request.hart) None (section_of state request.hart)
+        (Some request) (hart_of state request.hart).held
     before =
-        subst (λ o. WaitsForOne request.hart (status_of state.committed request.hart) o (section_of state request.hart) (Some request) (hart_of state request.hart).held)
-        (free_of_order state request.hart request sound mine)
-        (subst (λ r. WaitsForOne request.hart (status_of state.committed request.hart) (ordered_of state request.hart) (section_of state request.hart) r
-        (hart_of state request.hart).held) mine (sound request.hart))
+        subst (λ ordered. waits_for ordered (Some request)) (free_of_order state request.hart request sound mine)
+        (subst (waits_for (ordered_of state request.hart)) mine (sound request.hart))
 started_waits state by (Serves request) sound may h =
     let status = status_of state.committed in
     let ordered = request_of (removed state.order request.hart) in
@@ -191,7 +197,8 @@ started_waits state by (Takes message others) sound where_it h =
     by_hart (Waiting (status_of state.committed) (ordered_of state) h) h by (having_taken message others (hart_of state h)) (hart_of state h)
     (λ own. taken_keeps kept message others h (hart_of state h) (sound h)) (λ other. sound h)
 
-past_waits : (state : ModelState) (by : ℕ) (start : Start) → Sound state → StartsWhere state by start → (h : ℕ) → length state.harts ≤ h →
+past_waits : (state : ModelState) (by : ℕ) (start : Start) → Sound state → StartsWhere state by start → (h : ℕ) →
+    length state.harts ≤ h →
     Waiting (status_of state.committed) (request_of (order_after state start)) h (hart_of state h)
 past_waits state by Nothing sound where_it h past = sound h
 past_waits state by (Places request place) sound may h past = by_own (cases_eq h request.hart)

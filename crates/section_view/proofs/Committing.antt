@@ -21,7 +21,7 @@ use Rattle.rv_flat.specs.Run.{alone}
 use Rattle.rv_flat.specs.Step.{flat}
 use Rattle.run_laws.proofs.Restored.{put_back}
 use Rattle.run_laws.proofs.Shown.{keeps_outside, puts_word, shows_its_own, word_piece}
-use Rattle.run_laws.proofs.Survival.{alone_more}
+use Rattle.run_laws.proofs.Alike.{alone_more}
 use Rattle.run_laws.proofs.Tests.{or_left}
 use Rattle.run_laws.proofs.WordStores.{StoresWord, acquires, releases}
 use Rattle.run_laws.specs.PrivateRun.{IsCoveredRun, IsOutsideWord}

@@ -25,7 +25,7 @@ use Rattle.rv_flat.specs.Laws.{IsInOneLine, footprint_of, written_line}
 use Rattle.rv_flat.specs.Run.{alone}
 use Rattle.rv_flat.specs.Step.{flat, stored_by}
 use Rattle.run_laws.proofs.Shown.{running_footprint}
-use Rattle.run_laws.proofs.Survival.{alone_more}
+use Rattle.run_laws.proofs.Alike.{alone_more}
 use Rattle.run_laws.proofs.Tests.{or_left, or_right}
 use Rattle.run_laws.proofs.WordStores.{writes_store}
 use Rattle.run_laws.specs.PrivateRun.{HasItsBit, IsCoveredRun, IsCoveredStep, IsOutsideWord}

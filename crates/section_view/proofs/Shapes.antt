@@ -14,7 +14,7 @@ use Rattle.rv_flat.specs.Laws.{next_insn, touched_by}
 use Rattle.rv_flat.specs.Run.{alone, run}
 use Rattle.rv_flat.specs.Step.{appended_by, flat}
 use Rattle.run_laws.proofs.Alike.{no_call}
-use Rattle.run_laws.proofs.Survival.{alone_more}
+use Rattle.run_laws.proofs.Alike.{alone_more}
 use Rattle.run_laws.proofs.Tests.{first_not}
 use Rattle.run_laws.proofs.WordStores.{acquires}
 use Rattle.run_laws.specs.PrivateRun.{IsCoveredRun}

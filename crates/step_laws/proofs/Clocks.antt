@@ -9,8 +9,10 @@ use Rattle.el_base.specs.declared.config.Mode.TheVariants.{Plain, Sle, Tlr}
 use Rattle.el_base.specs.declared.events.Event.{Event}
 use Rattle.elf_image.specs.Program.{Program}
 use Rattle.el_model.specs.Attempts.{closed_clock, opened, see}
-use Rattle.el_model.specs.BusEvent.{AtFace, AtProbe, Becomes, IsAbsent, IsBusEvent, IsSent, LosesIt, LosesWhere, Nothing, Places, Sees, Serves}
-use Rattle.el_model.specs.BusEvent.{Start, Starts, StartsWhere, Takes, as_faced, faced_head, having_taken, order_after, order_at, started}
+use Rattle.el_model.specs.BusEvent.{AtFace, AtProbe, Becomes, IsAbsent, IsBusEvent, IsSent, LosesIt, LosesWhere}
+use Rattle.el_model.specs.BusEvent.{Nothing, Places, Sees, Serves}
+use Rattle.el_model.specs.BusEvent.{Start, Starts, StartsWhere, Takes, as_faced, faced_head, having_taken, order_after}
+use Rattle.el_model.specs.BusEvent.{order_at, started}
 use Rattle.el_model.specs.Conflicts.{stamp_in}
 use Rattle.el_model.specs.Deed.{Begins, Buffers, Commits, Deed, Misses, Rests, RollsBack, Runs, Waits, hart_after}
 use Rattle.el_model.specs.Face.{winning_stamp}
@@ -21,9 +23,10 @@ use Rattle.el_model.specs.RollBack.{beaten, most_tries, out_of_section}
 use Rattle.el_model.specs.Serve.{bystander, served_hart, with_claim}
 use Rattle.el_model.specs.State.{Hart, ModelState, Turn, begin, for_line, hart_of, new_hart, ordered_of, ordered_on}
 use Rattle.el_model.specs.Upcoming.{Swap}
-use Rattle.el_model.proofs.AllHarts.{all_first, all_with}
+use Rattle.el_model.proofs.AllHarts.{all_first}
 use Rattle.el_model.proofs.BusEvents.{by_event}
 use Rattle.el_model.proofs.Deeds.{step_deed}
+use Rattle.el_model.proofs.EachHart.{each_with}
 use Rattle.el_model.proofs.Orders.{order_as_faced, served_order}
 use Rattle.el_model.proofs.Tests.{by_hart, by_test}
 use Rattle.mail.specs.Mailbox.{Marker, Message, Probe}
@@ -142,7 +145,8 @@ module _ (most : ℕ) where
   start_up_to state by (Serves request) may now = removed_up_to state.order request.hart now.ordered
   start_up_to state by (Takes message others) where_it now = now.ordered
 
-  faced_up_to : (state : ModelState) (by : ℕ) (start : Start) (head : Request) → StartsWhere state by start → faced_head state start ≡ Some head →
+  faced_up_to : (state : ModelState) (by : ℕ) (start : Start) (head : Request) → StartsWhere state by start →
+      faced_head state start ≡ Some head →
       AreClocksUpTo most state → IsStampUpTo most head.stamp
   faced_up_to state by Nothing head where_it is now = absurd (cc)
   faced_up_to state by (Places request InFront) head may is now =
@@ -155,7 +159,8 @@ module _ (most : ℕ) where
       (head_up_to (removed state.order request.hart) request.line (removed_up_to state.order request.hart now.ordered))
   faced_up_to state by (Takes message others) head where_it is now = absurd (cc)
 
-  lost_up_to : (state : ModelState) (by : ℕ) {start : Start} {h winner : ℕ} {stamp : Option Stamp} → StartsWhere state by start →
+  lost_up_to : (state : ModelState) (by : ℕ) {start : Start} {h winner : ℕ} {stamp : Option Stamp} →
+      StartsWhere state by start →
       LosesWhere state by start h winner stamp → AreClocksUpTo most state → IsStampUpTo most stamp
   lost_up_to state by where_it (AtFace start head h winner is apart fate) now =
       winning_up_to (as_faced state by start) head.line winner
@@ -168,7 +173,8 @@ module _ (most : ℕ) where
   claim_up_to true request hart now = now
   claim_up_to false request hart now = now
 
-  taken_up_to : (message : Message) (others : List Message) (hart : Hart) → IsHartUpTo most hart → IsHartUpTo most (having_taken message others hart)
+  taken_up_to : (message : Message) (others : List Message) (hart : Hart) → IsHartUpTo most hart →
+      IsHartUpTo most (having_taken message others hart)
   taken_up_to (Marker sender) others hart now = now
   taken_up_to (Probe origin) others hart now = now
 
@@ -184,7 +190,8 @@ module _ (most : ℕ) where
   started_up_to state by (Takes message others) h hart now =
       by_hart (IsHartUpTo most) h by (having_taken message others hart) hart (λ own. taken_up_to message others hart now) (λ other. now)
 
-  becomes_up_to : (state : ModelState) (by : ℕ) (start : Start) (h : ℕ) {lost : Option ℕ} {hart : Hart} → StartsWhere state by start →
+  becomes_up_to : (state : ModelState) (by : ℕ) (start : Start) (h : ℕ) {lost : Option ℕ} {hart : Hart} →
+      StartsWhere state by start →
       AreClocksUpTo most state → Becomes state by start h lost hart → IsHartUpTo most hart
   becomes_up_to state by start h where_it now (IsAbsent past) = now.harts h
   becomes_up_to state by start h where_it now (Starts below) = started_up_to state by start h (hart_of state h) (now.harts h)
@@ -194,7 +201,8 @@ module _ (most : ℕ) where
   becomes_up_to state by start h where_it now (LosesIt winner stamp hart loses before) =
       beaten_up_to state.config.mode stamp hart (lost_up_to state by where_it loses now) (becomes_up_to state by start h where_it now before)
 
-  bus_up_to : {state : ModelState} {by : ℕ} {turn : Turn} → IsBusEvent state by turn → AreClocksUpTo most state → AreClocksUpTo most turn.state
+  bus_up_to : {state : ModelState} {by : ℕ} {turn : Turn} → IsBusEvent state by turn → AreClocksUpTo most state →
+      AreClocksUpTo most turn.state
   bus_up_to {state} {by} done now = record {
     harts = λ h. becomes_up_to state by done.start h done.where_it now (done.becomes h);
     ordered = subst (AreRequestsUpTo most) (sym done.order) (start_up_to state by done.start done.where_it now);
@@ -251,7 +259,7 @@ step_up_to most state h now =
     rw step.turn_is
     (record {
       harts =
-          all_with (IsHartUpTo (most + 1)) state h (hart_after state h step.deed (hart_of state h))
+          each_with (λ g hart. IsHartUpTo (most + 1) hart) state h (hart_after state h step.deed (hart_of state h))
           (deed_up_to most state h step.deed (hart_of state h) (now.harts h)) more.harts;
       ordered = more.ordered;
     })

@@ -1,5 +1,5 @@
 -- what an event leaves as it was
-use Rattle.std.proofs.Common.{◌≡◌, ◌≢◌, ◌∙◌, ℕ, Bool, true, false, is_some, refl}
+use Rattle.std.proofs.Common.{◌≡◌, ◌∙◌, ℕ, Bool, true, false, is_some, refl}
 use Rattle.std.proofs.Math.ListN.{length-set}
 use Rattle.bus_order.specs.Order.{Request}
 use Rattle.el_base.specs.declared.events.Kind.{Kind}

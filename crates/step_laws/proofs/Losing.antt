@@ -1,5 +1,5 @@
 -- only live sections are lost, and a section ends by its own hart's commit or rollback or by a loss
-use Rattle.std.proofs.Common.{◌≡◌, ◌≢◌, ◌∙◌, ◌<◌, ◌+◌, ◌==◌, ℕ, true, false, Option, None, Some, is_some, refl}
+use Rattle.std.proofs.Common.{◌≡◌, ◌≢◌, ◌∙◌, ◌<◌, ℕ, true, false, Option, None, Some, is_some, refl}
 use Rattle.std.proofs.Common.{ap, sym, subst, inl, inr, ◌⊎◌}
 use Rattle.el_base.proofs.MadeLosers.{winner_below}
 use Rattle.el_base.specs.declared.events.Event.{Event}
@@ -115,7 +115,8 @@ step_ends state h g =
     (λ k live ended. not_both live ended) g)
 
 -- where an event of the bus ends it, a winner is named
-bus_ends : {state : ModelState} {by : ℕ} {turn : Turn} → IsBusEvent state by turn → (h : ℕ) → HartsAreNumbered state → is_live state h ≡ true →
+bus_ends : {state : ModelState} {by : ℕ} {turn : Turn} → IsBusEvent state by turn → (h : ℕ) → HartsAreNumbered state →
+    is_live state h ≡ true →
     is_live turn.state h ≡ false → is_some (winner_over turn.outcome h) ≡ true
 bus_ends {state} {by} {turn} done h numbered live ended = by_winner (winner_over turn.outcome h) refl
   where
@@ -138,7 +139,8 @@ what_ends_a_section program config events event h same range live =
     (λ turn done outcome ended. inr (beaten (winner_over turn.outcome h) (ap (λ o. winner_over o h) (sym outcome)) (bus_ends done h numbered live ended)))
     refl
   where
-    beaten : (winner : Option ℕ) → winner_over (next (after program config events) event).outcome h ≡ winner → is_some winner ≡ true →
+    beaten : (winner : Option ℕ) → winner_over (next (after program config events) event).outcome h ≡ winner →
+        is_some winner ≡ true →
         IsBeaten (after program config events) event h
     beaten None none some = absurd (cc)
     beaten (Some winner) names some = record { winner = winner; names = names }

@@ -6,14 +6,12 @@ use Rattle.bus_order.specs.Order.{Request}
 use Rattle.el_base.specs.Config.{IsInRange}
 use Rattle.el_base.specs.declared.config.Config.{Config}
 use Rattle.el_base.specs.declared.events.Event.{Event}
-use Rattle.el_base.specs.declared.events.Kind.{Kind}
-use Rattle.el_base.specs.declared.events.Kind.TheVariants as kinds
 use Rattle.el_base.specs.declared.outcomes.Cause.{Cause}
 use Rattle.el_base.specs.declared.outcomes.Cause.TheVariants.{Room, Lines, Long, Call, Mixed}
 use Rattle.el_base.proofs.Ranges.{ranges}
 use Rattle.elf_image.specs.Program.{Program}
 use Rattle.el_model.specs.Deed.{Begins, Buffers, Commits, Deed, DoesWhere, Misses, Rests, RollsBack, Runs, Waits, hart_after}
-use Rattle.el_model.specs.Next.{after, kind_turn, next}
+use Rattle.el_model.specs.Next.{after, next}
 use Rattle.el_model.specs.Plain.{after_candidate, candidate_of, seen_by, watched}
 use Rattle.el_model.specs.RollBack.{blamed}
 use Rattle.el_model.specs.Serve.{with_claim}
@@ -26,8 +24,7 @@ use Rattle.pair_table.specs.declared.seen.Seen.{Seen}
 use Rattle.pair_table.specs.declared.verdict.Verdict.{Verdict}
 use Rattle.pair_table.specs.declared.verdict.Verdict.TheVariants.{Up, Down}
 use Rattle.el_model.proofs.EachHart.{Each}
-use Rattle.section_laws.proofs.EachKept.{BusKept, bus_keeps}
-use Rattle.section_laws.proofs.Moves.{step_keeps}
+use Rattle.section_laws.proofs.EachKept.{BusKept, event_keeps}
 use Rattle.step_laws.specs.Counts.{IsSectionShort, IsWatchShort, SectionsAreShort, WatchesAreShort}
 
 -- of a watch and a section that may be there
@@ -156,18 +153,11 @@ deed_holds state h (Commits section) does two now = record { of_section = tt; of
 deed_holds state h (RollsBack section cause) does two now =
     record { of_section = tt; of_watch = blamed_short state.config.long cause _ (hart_of state h).predictor now.of_watch }
 
-kind_holds : (state : ModelState) (h : ℕ) (kind : Kind) → HasTwo state.config.long → Each (Holds state.config.long) state →
-    Each (Holds state.config.long) (kind_turn state h kind).state
-kind_holds state h kinds.Step two now =
-    step_keeps (Holds state.config.long) state h (λ deed does. deed_holds state h deed does two (now h)) now
-kind_holds state h kinds.Order two now = bus_keeps (bus_kept state.config.long) state h kinds.Order (λ same. absurd (cc)) now
-kind_holds state h kinds.Serve two now = bus_keeps (bus_kept state.config.long) state h kinds.Serve (λ same. absurd (cc)) now
-kind_holds state h kinds.Deliver two now = bus_keeps (bus_kept state.config.long) state h kinds.Deliver (λ same. absurd (cc)) now
-
 next_holds : (state : ModelState) (event : Event) → HasTwo state.config.long → Each (Holds state.config.long) state →
     Each (Holds state.config.long) (next state event).state
-unfolding next
-next_holds state event two now = kind_holds state event.hart.number event.kind two now
+next_holds state event two now =
+    event_keeps (bus_kept state.config.long) state event
+    (λ deed does. deed_holds state event.hart.number deed does two (now event.hart.number)) now
 
 -- with a configuration in range
 record Short (config : Config) (state : ModelState) : Type 0 where

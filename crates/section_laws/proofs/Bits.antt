@@ -45,6 +45,10 @@ clash without with_it = never (sym without ∙ with_it)
     never : {X : Type 0} → false ≡ true → X
     never is = absurd (cc)
 
+pub unless : (b : Bool) → (b ≡ true → ⊥) → b ≡ false
+unless true never = absurd (never refl)
+unless false never = refl
+
 pub no_less : (n : ℕ) → n ≤ n
 no_less n = omega arith
 

@@ -17,11 +17,11 @@ use Rattle.el_base.specs.declared.events.Kind.TheVariants as kinds
 use Rattle.el_base.specs.declared.outcomes.Need.{Need}
 use Rattle.el_base.specs.declared.outcomes.Need.TheVariants.{Read, Write}
 use Rattle.elf_image.specs.Program.{Program}
-use Rattle.el_model.specs.Deed.{Begins, Buffers, Commits, Deed, DoesWhere, IsCoverable, IsPermitted, Misses, Rests, RollsBack, Runs, Waits, hart_after, is_refused, permits}
+use Rattle.el_model.specs.Deed.{Arms, Begins, Buffers, Commits, Continues, Deed, DoesWhere, Elides, IsCoverable, IsPermitted, LetsGo, Misses, Rests, RollsBack, Runs, Waits, hart_after, is_refused, permits}
 use Rattle.el_model.specs.Deliver.{deliver_turn}
 use Rattle.el_model.specs.InSection.{covered}
 use Rattle.el_model.specs.Next.{after, kind_turn, next, step_turn}
-use Rattle.el_model.specs.Face.{faced_if}
+use Rattle.el_model.specs.Face.{met_if}
 use Rattle.el_model.specs.Order.{order_raised, order_turn, place_for}
 use Rattle.el_model.specs.Plain.{after_access, after_candidate, after_touch, candidate_of}
 use Rattle.el_model.specs.Serve.{Blocks, Free, Obstacle, bystander, obstacle_to, others_cache, others_have, own_copy, serve_ordered, serve_past, serve_turn, served, served_hart, serving, with_claim}
@@ -34,10 +34,11 @@ use Rattle.moesi.specs.Letters.{may_of, may_write}
 use Rattle.moesi.specs.declared.letter.Letter.TheVariants.{M}
 use Rattle.section_laws.specs.Laws.{CopiesAreCoherent, WrittenLinesAreElsewhereInNoCache, WrittenLinesMayBeWritten}
 use Rattle.section_laws.specs.Coherence.{AreCoherent, AreOwned, IsOwned, MayBeTogether}
+use Rattle.section_laws.proofs.ArmedBits as bits
 use Rattle.section_laws.proofs.EachHart.{Each, each_with}
 use Rattle.section_laws.proofs.EachKept as kept
 use Rattle.section_laws.proofs.FreeLines.{NotWritten, free_line}
-use Rattle.section_laws.proofs.Moves.{Moves, deliver_keeps, faced_if_keeps, placed_keeps, step_keeps}
+use Rattle.section_laws.proofs.Moves.{Moves, deliver_keeps, met_if_keeps, placed_keeps, step_keeps}
 use Rattle.section_laws.proofs.Numbered.{Once, first_once, next_once}
 use Rattle.section_laws.proofs.OnlyInside as inside
 use Rattle.section_laws.proofs.Serving.{IsModified, own_owned, own_together, steady_others, steady_own, steady_owned, together_none, write_copy}
@@ -57,6 +58,7 @@ steady_moves old = record {
   preceded = λ h hart upstream now. now;
   saw = λ h hart seen later now. now;
   lost = λ h hart now line. way_twice _ (way_of hart.cache line) _ (now line) (steady_cleared hart.cache line);
+  freed = λ h pc hart armed now line. way_twice _ (way_of hart.cache line) _ (now line) (steady_cleared hart.cache line);
   gave_up = λ h hart now. now;
   tried = λ h hart more now. now;
 }
@@ -64,6 +66,7 @@ steady_moves old = record {
 pub record Holds (state : ModelState) : Type 0 where
   pub once : Once state
   pub inside : Each (λ h hart. inside.Holds hart) state
+  pub alone : Each (λ h hart. bits.Holds hart) state
   pub together : AreCoherent state
   pub owned : (h : ℕ) → AreOwned (cache_of state h)
 
@@ -99,7 +102,7 @@ touch_steady : (state : ModelState) (h : ℕ) (touch : Option Touch) → IsPermi
 touch_steady state h None permitted = same_cache (cache_of state h)
 touch_steady state h (Some touch) permitted = access_steady (cache_of state h) touch.line touch.need permitted
 
-candidate_cache : (pc : ℕ) (had_watch : Bool) (candidate : Option Swap) (hart : Hart) →
+candidate_cache : (pc : Option ℕ) (had_watch : Bool) (candidate : Option Swap) (hart : Hart) →
     (after_candidate pc had_watch candidate hart).cache ≡ hart.cache
 candidate_cache pc had_watch None hart = refl
 candidate_cache pc had_watch (Some swap) hart = refl
@@ -141,6 +144,10 @@ deed_steady state h (Begins swap) does owned = marked_steady (cache_of state h) 
 deed_steady state h (Buffers section touch) does owned = buffered_steady state h section touch does.coverable
 deed_steady state h (Commits section) does owned = steady_committed (cache_of state h) owned
 deed_steady state h (RollsBack section cause) does owned = steady_cleared (cache_of state h)
+deed_steady state h (Arms word) does owned = marked_steady (cache_of state h) _ Read (λ write. absurd (cc))
+deed_steady state h (Elides armed swap) does owned = marked_steady (cache_of state h) _ Read (λ write. absurd (cc))
+deed_steady state h (Continues armed) does owned = same_cache (cache_of state h)
+deed_steady state h (LetsGo armed) does owned = steady_cleared (cache_of state h)
 
 step_stands : (state : ModelState) (h : ℕ) → Stands state → Stands (step_turn state h).state
 step_stands state h now =
@@ -353,15 +360,15 @@ past_stands : (state : ModelState) (request : Request) (obstacle : Obstacle) →
 past_stands state request (Blocks why by) free now = now
 past_stands state request Free free now =
     let after = served state request in
-    steady_stands after (faced_if after (head_of after request.line)) (served_stands state request (free refl) now)
-    (faced_if_keeps (steady_moves after) after (head_of after request.line) (λ k. same_cache (cache_of after k)))
+    steady_stands after (met_if after (head_of after request.line)) (served_stands state request (free refl) now)
+    (met_if_keeps (steady_moves after) after (head_of after request.line) (λ k. same_cache (cache_of after k)))
 
 ordered_stands : (state : ModelState) (h : ℕ) (ordered : Option Request) → ordered_of state h ≡ ordered → Holds state → Stands state →
     Stands (serve_ordered state ordered).state
 ordered_stands state h None is holds now = now
 ordered_stands state h (Some request) is holds now =
     past_stands state request (obstacle_to state request)
-    (λ free. record { free = λ g apart read. free_line state h g request holds.once.once holds.inside is free apart read }) now
+    (λ free. record { free = λ g apart read. free_line state h g request holds.once.once holds.inside (λ k armed found. ((holds.alone k).1 armed found).no_other) is free apart read }) now
 
 kind_stands : (state : ModelState) (h : ℕ) (kind : Kind) → Holds state → Stands state → Stands (kind_turn state h kind).state
 unfolding order_turn serve_turn
@@ -374,12 +381,13 @@ next_stands : (state : ModelState) (event : Event) → Holds state → Stands st
 unfolding next
 next_stands state event holds now = kind_stands state event.hart.number event.kind holds now
 
-next_holds : (state : ModelState) (event : Event) → Holds state → Holds (next state event).state
+pub next_holds : (state : ModelState) (event : Event) → Holds state → Holds (next state event).state
 next_holds state event holds =
     let stands = next_stands state event holds (record { together = holds.together; owned = holds.owned }) in
     record {
       once = next_once state event holds.once;
       inside = kept.next_keeps inside.kept state event holds.inside;
+      alone = kept.next_keeps bits.kept state event holds.alone;
       together = stands.together;
       owned = stands.owned;
     }
@@ -396,10 +404,11 @@ unfolding begin
 first_empty program config h =
     all_first IsEmpty program.harts (new_hart config.sets) (new_hart 0) (new_is_empty config.sets) (new_is_empty 0) h
 
-first_holds : (program : Program) (config : Config) → Holds (begin program config)
+pub first_holds : (program : Program) (config : Config) → Holds (begin program config)
 first_holds program config = record {
   once = first_once program config;
   inside = kept.first_each inside.kept program config;
+  alone = kept.first_each bits.kept program config;
   together = λ g h apart line. rw ((first_empty program config g).none line) tt;
   owned = λ h line. rw ((first_empty program config h).none line) tt;
 }

@@ -14,7 +14,7 @@ use Rattle.el_model.specs.State.{Hart, ModelState, begin, hart_of, head_of, new_
 use Rattle.el_model.proofs.AllHarts.{all_first}
 use Rattle.el_model.proofs.FromStart.{kept_after}
 use Rattle.section_laws.proofs.EachHart.{Each, each_with}
-use Rattle.section_laws.proofs.Moves.{Moves, deliver_keeps, faced_if_keeps, placed_keeps, served_keeps, step_keeps}
+use Rattle.section_laws.proofs.Moves.{Moves, deliver_keeps, met_if_keeps, placed_keeps, served_keeps, step_keeps}
 
 -- what is said of each hart is kept by the events of the bus
 pub record BusKept (P : ℕ → Hart → Type 0) : Type 0 where
@@ -35,7 +35,7 @@ module _ {P : ℕ → Hart → Type 0} (kept : BusKept P) where
       Each P (serve_past state request obstacle).state
   past_keeps state request (Blocks why by) each = each
   past_keeps state request Free each =
-      faced_if_keeps kept.moves (served state request) (head_of (served state request) request.line)
+      met_if_keeps kept.moves (served state request) (head_of (served state request) request.line)
       (served_keeps P state request (kept.served request.hart state request (hart_of state request.hart) (each request.hart))
       (λ h other. kept.bystander h state request (hart_of state h) (each h)) each)
 

@@ -10,10 +10,14 @@ pub mod UnnamedLosers
 pub mod Lengths
 pub mod Accounts
 pub mod Steady
+pub mod Bits
 pub mod FreeLines
 pub mod Serving
 pub mod OnlyInside
+pub mod ArmedBits
 pub mod Coherence
+pub mod LetGone
+pub mod ArmedCounts
 pub mod TriesLeft
 pub mod Counters
 pub mod OnceEach

@@ -16,10 +16,11 @@ use Rattle.el_base.specs.declared.events.Event.{Event}
 use Rattle.el_base.specs.declared.events.Kind.{Kind}
 use Rattle.el_base.specs.declared.events.Kind.TheVariants as kinds
 use Rattle.elf_image.specs.Program.{Program}
+use Rattle.el_model.specs.Armed.{let_go}
 use Rattle.el_model.specs.Conflicts.{conflicts}
-use Rattle.el_model.specs.Deed.{Begins, Buffers, Commits, Deed, Misses, Rests, RollsBack, Runs, Waits, hart_after}
+use Rattle.el_model.specs.Deed.{Arms, Begins, Buffers, Commits, Continues, Deed, Elides, LetsGo, Misses, Rests, RollsBack, Runs, Waits, hart_after}
 use Rattle.el_model.specs.Deliver.{after_probe, deliver_next, deliver_turn, delivered, forwarded, forwards_on, loses_to_origin, taken, told_of, told_on}
-use Rattle.el_model.specs.Face.{Fate, LosesTo, Stays, Unmet, after_fate, deferring, faced, faced_hart, faced_if, fate_at, fate_of, markers_for, stays}
+use Rattle.el_model.specs.Face.{Fate, LosesTo, Stays, Unmet, after_fate, deferring, faced, faced_hart, fate_at, fate_of, markers_for, met, met_if, stays}
 use Rattle.el_model.specs.Face.{winning_stamp}
 use Rattle.el_model.specs.Next.{after, kind_turn, next}
 use Rattle.el_model.specs.Order.{Alone, Behind, InFront, Place, before_face, marked_by, marked_from, marking, order_raised, order_turn, place_for, placed}
@@ -32,14 +33,14 @@ use Rattle.el_model.specs.Upcoming.{Swap}
 use Rattle.el_model.proofs.AllHarts.{all_first}
 use Rattle.el_model.proofs.FromStart.{kept_after}
 use Rattle.el_model.proofs.Harts.{hart_of-past}
-use Rattle.el_model.proofs.Keeps.{keeps_marking, keeps_served}
+use Rattle.el_model.proofs.Keeps.{frame_let_go, keeps_marking, keeps_served}
 use Rattle.el_model.proofs.Tests.{by_test}
 use Rattle.mail.specs.Mailbox.{Marker, Message, Probe, posted}
 use Rattle.section_laws.specs.Messages.{IsMailbox, IsOther, IsSetOfOthers, MessagesAreFewerThanHarts, MessagesNameOthersOnce, NamesOthersOnce, named}
 use Rattle.section_laws.proofs.Boxes.{NameOthers, fewer_others, mailbox_of_served, mailbox_posted, mailbox_taken, mailbox_without_probe, no_mail}
 use Rattle.section_laws.proofs.Boxes.{no_others, oldest_other, origins_are_others, others_excluded, others_included, senders_are_others}
 use Rattle.section_laws.proofs.EachHart.{Each, each_after, each_with}
-use Rattle.section_laws.proofs.Moves.{served_keeps, step_keeps}
+use Rattle.section_laws.proofs.Moves.{let_go_each, served_keeps, step_keeps}
 use Rattle.section_laws.proofs.Numbered.{Once, first_once, next_count, next_once, order_keeps, raised_exists}
 use Rattle.section_laws.proofs.OrderedHarts.{AreBelow, below_kept}
 use Rattle.section_laws.proofs.Waiting.{free_of_order}
@@ -132,10 +133,16 @@ faced_holds count state head same each =
     (λ other. fate_holds count state head (fate_of state head h (hart_of state h)) h (hart_of state h) now))
     each
 
-faced_if_holds : (count : ℕ) (state : ModelState) (head : Option Request) → length state.harts ≡ count → Each (Holds count) state →
-    Each (Holds count) (faced_if state head)
-faced_if_holds count state None same each = each
-faced_if_holds count state (Some head) same each = faced_holds count state head same each
+met_holds : (count : ℕ) (state : ModelState) (head : Request) → length state.harts ≡ count → Each (Holds count) state →
+    Each (Holds count) (met state head)
+met_holds count state head same each =
+    faced_holds count (let_go state head) head ((frame_let_go state head).count ∙ same)
+    (let_go_each (Holds count) (λ h pc hart armed now. now) state head each)
+
+met_if_holds : (count : ℕ) (state : ModelState) (head : Option Request) → length state.harts ≡ count → Each (Holds count) state →
+    Each (Holds count) (met_if state head)
+met_if_holds count state None same each = each
+met_if_holds count state (Some head) same each = met_holds count state head same each
 
 -- a request is ordered: the former head of its line, or the last one before it, is another hart's
 marked_holds : (count : ℕ) (mode : Mode) (state : ModelState) (sender h : ℕ) → IsOther count h sender → Each (Holds count) state →
@@ -191,7 +198,7 @@ module _ (count : ℕ) (state : ModelState) (request : Request) (now : Mailed co
   place_holds : (place : Place) → Each (Holds count) (placed state request place)
   unfolding placed
   place_holds InFront =
-      faced_holds count (before_face state request InFront) request
+      met_holds count (before_face state request InFront) request
       ((keeps_marking (placed_in_front state request) request.hart (head_of state request.line)).count ∙ many_unraised)
       (before_in_front (head_of state request.line) refl)
     where
@@ -199,7 +206,7 @@ module _ (count : ℕ) (state : ModelState) (request : Request) (now : Mailed co
       many_unraised = length-set state.harts request.hart (record (hart_of state request.hart) { raised = None }) ∙ now.many
   place_holds Behind = before_last (tail_of state.order request.line) refl
   place_holds Alone =
-      faced_holds count (placed_last state request) request
+      met_holds count (placed_last state request) request
       (length-set state.harts request.hart (record (hart_of state request.hart) { raised = None }) ∙ now.many)
       (unraised_holds count state request.hart now.each)
 
@@ -237,7 +244,7 @@ past_holds : (count : ℕ) (state : ModelState) (request : Request) (obstacle : 
 past_holds count state request (Blocks why by) now = now.each
 past_holds count state request Free now =
     let after = served state request in
-    faced_if_holds count after (head_of after request.line) ((keeps_served state request).count ∙ now.many) (served_holds count state request now.each)
+    met_if_holds count after (head_of after request.line) ((keeps_served state request).count ∙ now.many) (served_holds count state request now.each)
 
 ordered_holds : (count : ℕ) (state : ModelState) (request : Option Request) → Mailed count state → Each (Holds count) (serve_ordered state request).state
 ordered_holds count state None now = now.each
@@ -350,7 +357,7 @@ mail_each count state h (message ∷ others) is now =
     (oldest_other count h message others (subst (IsMailbox count h) is (now.each h).mail_is)) (taken_holds count state h message others is now.each)
 
 -- a step
-candidate_holds : (count h pc : ℕ) (had_watch : Bool) (candidate : Option Swap) (hart : Hart) → Holds count h hart →
+candidate_holds : (count h : ℕ) (pc : Option ℕ) (had_watch : Bool) (candidate : Option Swap) (hart : Hart) → Holds count h hart →
     Holds count h (after_candidate pc had_watch candidate hart)
 candidate_holds count h pc had_watch None hart now = now
 candidate_holds count h pc had_watch (Some swap) hart now = now
@@ -364,6 +371,10 @@ deed_holds count state h (Begins swap) hart now = now
 deed_holds count state h (Buffers section touch) hart now = now
 deed_holds count state h (Commits section) hart now = now
 deed_holds count state h (RollsBack section cause) hart now = now
+deed_holds count state h (Arms word) hart now = now
+deed_holds count state h (Elides armed swap) hart now = now
+deed_holds count state h (Continues armed) hart now = now
+deed_holds count state h (LetsGo armed) hart now = now
 
 -- each event
 kind_holds : (count : ℕ) (state : ModelState) (h : ℕ) (kind : Kind) → Mailed count state → Each (Holds count) (kind_turn state h kind).state

@@ -1,15 +1,18 @@
--- what an event of the bus does to each hart, told once: it is posted messages, is told of origins, has harts before it, sees stamps
--- or loses its section; the hart of the request is placed or served besides
-use Rattle.std.proofs.Common.{◌≡◌, ◌≢◌, ◌≤◌, ℕ, Bool, true, false, List, [], ◌∷◌, Option, None, Some, map, refl, ap, sym, ◌∙◌, if◌then◌else◌, ◌==◌, ◌+◌, arith}
+-- what an event of the bus does to each hart, told once: it is posted messages, is told of origins, has harts before it, sees stamps,
+-- loses its live section or has its armed one let go; the hart of the request is placed or served besides
+use Rattle.std.proofs.Common.{◌≡◌, ◌≢◌, ◌≤◌, ℕ, Bool, true, false, ◌&&◌, not, List, [], ◌∷◌, Option, None, Some, is_some, map, refl, ap, sym, ◌∙◌, if◌then◌else◌, ◌==◌, ◌+◌, arith}
 use Rattle.bus_order.specs.Order.{Request, tail_of}
 use Rattle.bus_order.proofs.LookUps.{number_of_test, own_test}
+use Rattle.cache_sets.specs.Cache.{has_bit}
 use Rattle.defer_list.specs.HartSet.{has, included}
 use Rattle.el_base.specs.declared.config.Mode.{Mode}
 use Rattle.el_base.specs.declared.config.Mode.TheVariants.{Plain, Sle, Tlr}
+use Rattle.el_model.specs.Armed.{freed_hart, is_freed, let_go, let_go_hart}
 use Rattle.el_model.specs.Attempts.{seen_after}
+use Rattle.el_model.specs.Conflicts.{is_write}
 use Rattle.el_model.specs.Deed.{Deed, DoesWhere, hart_after}
 use Rattle.el_model.specs.Deliver.{after_probe, deliver_next, deliver_turn, delivered, forwarded, forwards_on, loses_to_origin, taken, told_of, told_on}
-use Rattle.el_model.specs.Face.{Fate, LosesTo, Stays, Unmet, after_fate, deferring, faced, faced_hart, faced_if, fate_of, markers_for, winning_stamp}
+use Rattle.el_model.specs.Face.{Fate, LosesTo, Stays, Unmet, after_fate, deferring, faced, faced_hart, fate_of, markers_for, met, met_if, winning_stamp}
 use Rattle.el_model.specs.Next.{step_turn}
 use Rattle.el_model.specs.Order.{Alone, Behind, InFront, Place, before_face, marked_by, marked_from, marking, placed, placed_in_front, placed_last, unraised}
 use Rattle.el_model.specs.RollBack.{beaten, most_tries, out_of_section}
@@ -18,6 +21,7 @@ use Rattle.el_model.specs.State.{Hart, ModelState, hart_of, head_of, ordered_of,
 use Rattle.el_model.proofs.Deeds.{step_deed}
 use Rattle.el_model.proofs.Tests.{by_test}
 use Rattle.mail.specs.Mailbox.{Message, Marker, Probe, posted}
+use Rattle.rv_flat.specs.FlatState.{view_of}
 use Rattle.section_laws.proofs.EachHart.{Each, each_after, each_with}
 use Rattle.stamp.specs.Stamps.{Stamp}
 
@@ -28,6 +32,7 @@ pub record Moves (P : ℕ → Hart → Type 0) : Type 0 where
   pub preceded : (h : ℕ) (hart : Hart) (upstream : List ℕ) → P h hart → P h (record hart { upstream = upstream })
   pub saw : (h : ℕ) (hart : Hart) (seen : ℕ) → hart.seen ≤ seen → P h hart → P h (record hart { seen = seen })
   pub lost : (h : ℕ) (hart : Hart) → P h hart → P h (out_of_section hart)
+  pub freed : (h pc : ℕ) (hart : Hart) → is_some hart.armed ≡ true → P h hart → P h (let_go_hart pc hart)
   pub gave_up : (h : ℕ) (hart : Hart) → P h hart → P h (record hart { tries = 0; fallback = true })
   pub tried : (h : ℕ) (hart : Hart) → (hart.tries + 1 == most_tries) ≡ false → P h hart → P h (record hart { tries = hart.tries + 1 })
 
@@ -35,6 +40,28 @@ pub record Moves (P : ℕ → Hart → Type 0) : Type 0 where
 pub seen_grows : (seen : ℕ) (stamp : Option Stamp) → seen ≤ seen_after seen stamp
 seen_grows seen None = omega arith
 seen_grows seen (Some stamp) = omega arith
+
+-- a hart that is let go is armed
+pub freed_is_armed : (head : Request) (h : ℕ) (hart : Hart) → is_freed head h hart ≡ true → is_some hart.armed ≡ true
+freed_is_armed head h hart = by (is_write head) (not (head.hart == h)) (is_some hart.armed) (has_bit hart.cache head.line)
+  where
+    by : (a b c d : Bool) → (a && b && c && d) ≡ true → c ≡ true
+    by true true true d freed = refl
+    by true true false d freed = absurd (cc)
+    by true false c d freed = absurd (cc)
+    by false b c d freed = absurd (cc)
+
+-- what each hart keeps as it is let go, each keeps as a head lets some go
+pub let_go_each : (P : ℕ → Hart → Type 0) → ((h pc : ℕ) (hart : Hart) → is_some hart.armed ≡ true → P h hart → P h (let_go_hart pc hart)) →
+    (state : ModelState) (head : Request) → Each P state → Each P (let_go state head)
+unfolding let_go
+let_go_each P keeps state head each =
+    each_after P state (freed_hart state head)
+    (λ h now.
+    by_test (P h) (is_freed head h (hart_of state h)) (let_go_hart (view_of state.committed h).pc (hart_of state h)) (hart_of state h)
+    (λ freed. keeps h (view_of state.committed h).pc (hart_of state h) (freed_is_armed head h (hart_of state h) freed) now)
+    (λ kept. now))
+    each
 
 module _ {P : ℕ → Hart → Type 0} (moves : Moves P) where
   pub post_keeps : (h : ℕ) (hart : Hart) (messages : List Message) → P h hart → P h (post_all hart messages)
@@ -75,9 +102,16 @@ module _ {P : ℕ → Hart → Type 0} (moves : Moves P) where
       (λ other. fate_keeps state head (fate_of state head h (hart_of state h)) h (hart_of state h) now))
       each
 
-  pub faced_if_keeps : (state : ModelState) (head : Option Request) → Each P state → Each P (faced_if state head)
-  faced_if_keeps state None each = each
-  faced_if_keeps state (Some head) each = faced_keeps state head each
+  -- a head is met: armed sections on its line are let go before it is faced
+  pub let_go_keeps : (state : ModelState) (head : Request) → Each P state → Each P (let_go state head)
+  let_go_keeps state head each = let_go_each P moves.freed state head each
+
+  pub met_keeps : (state : ModelState) (head : Request) → Each P state → Each P (met state head)
+  met_keeps state head each = faced_keeps (let_go state head) head (let_go_keeps state head each)
+
+  pub met_if_keeps : (state : ModelState) (head : Option Request) → Each P state → Each P (met_if state head)
+  met_if_keeps state None each = each
+  met_if_keeps state (Some head) each = met_keeps state head each
 
   -- a request is placed: its own hart has raised it no more
   marked_keeps : (mode : Mode) (state : ModelState) (sender h : ℕ) → Each P state → Each P (marked_from mode state sender h)
@@ -105,9 +139,9 @@ module _ {P : ℕ → Hart → Type 0} (moves : Moves P) where
       Each P (placed state request place)
   unfolding placed
   placed_keeps state request InFront each =
-      faced_keeps (before_face state request InFront) request (before_keeps state request InFront each)
+      met_keeps (before_face state request InFront) request (before_keeps state request InFront each)
   placed_keeps state request Behind each = before_keeps state request Behind each
-  placed_keeps state request Alone each = faced_keeps (before_face state request Alone) request (before_keeps state request Alone each)
+  placed_keeps state request Alone each = met_keeps (before_face state request Alone) request (before_keeps state request Alone each)
 
   -- a message is taken, and takes effect
   told_keeps : (state : ModelState) (h origin : ℕ) (request : Option Request) → Each P state → P h (told_of state h origin request)

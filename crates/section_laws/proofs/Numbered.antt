@@ -26,14 +26,14 @@ use Rattle.el_model.proofs.Harts.{hart_of-past}
 use Rattle.el_model.proofs.Tests.{by_test}
 use Rattle.el_model.proofs.Turns.{deliver_calm, order_calm, serve_calm}
 use Rattle.section_laws.specs.Laws.{EachHartWaitsForOne, OneOrderedRequestEach, RequestsAreNumbered}
-use Rattle.section_laws.proofs.Waiting.{Sound, always_sound, faced_order, free_of_order, mail_order, next_sound, order_at, placed_order}
+use Rattle.section_laws.proofs.Waiting.{Rested, Sound, always_settled, always_sound, free_of_order, mail_order, met_order, next_settled, order_at, placed_order, rested_in, settled_by, sound_in}
 
 -- no event changes how many harts there are
 kind_count : (state : ModelState) (h : ℕ) (kind : Kind) → length (kind_turn state h kind).state.harts ≡ length state.harts
 kind_count state h kinds.Step = let step = step_deed state h in rw step.turn_is (length-set state.harts h _)
-kind_count state h kinds.Order = (order_calm state h).keeps.count
-kind_count state h kinds.Serve = (serve_calm state h).keeps.count
-kind_count state h kinds.Deliver = (deliver_calm state h).keeps.count
+kind_count state h kinds.Order = (order_calm state h).frame.count
+kind_count state h kinds.Serve = (serve_calm state h).frame.count
+kind_count state h kinds.Deliver = (deliver_calm state h).frame.count
 
 pub next_count : (state : ModelState) (event : Event) → length (next state event).state.harts ≡ length state.harts
 unfolding next
@@ -84,7 +84,7 @@ module _ {P : List Request → Type 0} where
   past_keeps state request (Blocks why by) kept now = now
   past_keeps state request Free kept now =
       let after = served state request in
-      rw (faced_order after (head_of after request.line)) (kept.taken_out state.order request.hart now)
+      rw (met_order after (head_of after request.line)) (kept.taken_out state.order request.hart now)
 
   ordered_keeps : (state : ModelState) (found : Option Request) → KeptInOrder P (length state.harts) → P state.order →
       P (serve_ordered state found).state.order
@@ -107,6 +107,7 @@ module _ {P : List Request → Type 0} where
 -- no hart has two
 pub record Once (state : ModelState) : Type 0 where
   pub sound : Sound state
+  pub rested : Rested state
   pub once : IsOneEach state.order
 
 kept_once : (count : ℕ) → KeptInOrder IsOneEach count
@@ -118,13 +119,18 @@ kept_once count = record {
 
 pub next_once : (state : ModelState) (event : Event) → Once state → Once (next state event).state
 next_once state event now = record {
-  sound = next_sound state event now.sound;
+  sound = sound_in (next state event).state (next_settled state event (settled_by state now.sound now.rested));
+  rested = rested_in (next state event).state (next_settled state event (settled_by state now.sound now.rested));
   once = order_keeps state event (kept_once (length state.harts)) now.sound now.once;
 }
 
 pub first_once : (program : Program) (config : Config) → Once (begin program config)
 unfolding begin
-first_once program config = record { sound = always_sound program config []; once = one_each_none }
+first_once program config = record {
+  sound = always_sound program config [];
+  rested = rested_in (begin program config) (always_settled program config []);
+  once = one_each_none;
+}
 
 pub one_ordered_request_each : OneOrderedRequestEach
 one_ordered_request_each program config events =
@@ -159,12 +165,14 @@ kept_numbered count few = record {
 
 pub record Numbered (state : ModelState) : Type 0 where
   pub sound : Sound state
+  pub rested : Rested state
   pub few : length state.harts ≤ 8
   pub numbered : AreNumbered state.order
 
 pub next_numbered : (state : ModelState) (event : Event) → Numbered state → Numbered (next state event).state
 next_numbered state event now = record {
-  sound = next_sound state event now.sound;
+  sound = sound_in (next state event).state (next_settled state event (settled_by state now.sound now.rested));
+  rested = rested_in (next state event).state (next_settled state event (settled_by state now.sound now.rested));
   few = rw (next_count state event) now.few;
   numbered = order_keeps state event (kept_numbered (length state.harts) now.few) now.sound now.numbered;
 }
@@ -176,6 +184,7 @@ pub first_numbered : (program : Program) (config : Config) → program.harts ≡
 unfolding begin
 first_numbered program config same range = record {
   sound = always_sound program config [];
+  rested = rested_in (begin program config) (always_settled program config []);
   few = rw (length-replicate program.harts (new_hart config.sets)) (rw same (harts_in_range config range));
   numbered = tt;
 }

@@ -7,9 +7,10 @@ use Rattle.el_base.specs.Losers.{beaten_by}
 use Rattle.el_base.specs.declared.events.Kind.{Kind}
 use Rattle.el_base.specs.declared.events.Kind.TheVariants as kinds
 use Rattle.el_base.proofs.MadeLosers.{unnamed_by_map}
+use Rattle.el_model.specs.Armed.{let_go}
 use Rattle.el_model.specs.Conflicts.{conflicts_with, meets_bit, wins_over}
 use Rattle.el_model.specs.Deliver.{deliver_next, deliver_turn, losers_by, loses_to_origin, nobody, one_lost, probe_losers, taken}
-use Rattle.el_model.specs.Face.{LosesTo, Unmet, deferring_fate, face_losers, face_losers_if, fate_at, winner_in}
+use Rattle.el_model.specs.Face.{LosesTo, Unmet, deferring_fate, face_losers, fate_at, met_losers, met_losers_if, winner_in}
 use Rattle.el_base.specs.Winners.{winner_over}
 use Rattle.el_model.specs.Next.{kind_turn}
 use Rattle.el_model.specs.Order.{Alone, Behind, InFront, Place, before_face, losers_at, order_raised, order_turn, place_for}
@@ -20,7 +21,7 @@ use Rattle.el_model.proofs.Tests.{by_test}
 use Rattle.mail.specs.Mailbox.{Marker, Message, Probe}
 use Rattle.section_laws.proofs.EachHart.{each_with}
 use Rattle.section_laws.proofs.EachKept.{BusKept}
-use Rattle.section_laws.proofs.Moves.{before_keeps, served_keeps}
+use Rattle.section_laws.proofs.Moves.{before_keeps, let_go_keeps, served_keeps}
 use Rattle.stamp.specs.Stamps.{is_before}
 
 -- a hart that has no section yet still has none
@@ -39,6 +40,7 @@ stays_outside old = record {
     preceded = λ h hart upstream now. now;
     saw = λ h hart seen later now. now;
     lost = λ h hart now none. refl;
+    freed = λ h pc hart armed now. now;
     gave_up = λ h hart now. now;
     tried = λ h hart more now. now;
   };
@@ -64,6 +66,10 @@ face_unnamed : (state : ModelState) (head : Request) (g : ℕ) → section_of st
 unfolding face_losers
 face_unnamed state head g none = unnamed_by_map (λ h. winner_in (fate_at state head h)) g (unmet state head g none)
 
+met_unnamed : (state : ModelState) (head : Request) (g : ℕ) → section_of state g ≡ None → beaten_by (met_losers state head) g ≡ None
+met_unnamed state head g none =
+    face_unnamed (let_go state head) head g (let_go_keeps (stays_outside state).moves state head (λ h was. was) g none)
+
 before_outside : (state : ModelState) (request : Request) (place : Place) (g : ℕ) → section_of state g ≡ None →
     section_of (before_face state request place) g ≡ None
 before_outside state request place g none =
@@ -74,19 +80,19 @@ before_outside state request place g none =
 place_unnamed : (state : ModelState) (request : Request) (place : Place) (g : ℕ) → section_of state g ≡ None →
     beaten_by (losers_at state request place) g ≡ None
 place_unnamed state request InFront g none =
-    face_unnamed (before_face state request InFront) request g (before_outside state request InFront g none)
+    met_unnamed (before_face state request InFront) request g (before_outside state request InFront g none)
 place_unnamed state request Behind g none = unnamed_by_map (λ h. None) g refl
 place_unnamed state request Alone g none =
-    face_unnamed (before_face state request Alone) request g (before_outside state request Alone g none)
+    met_unnamed (before_face state request Alone) request g (before_outside state request Alone g none)
 
 raised_unnamed : (state : ModelState) (raised : Option Request) (g : ℕ) → section_of state g ≡ None →
     winner_over (order_raised state raised).outcome g ≡ None
 raised_unnamed state None g none = refl
 raised_unnamed state (Some request) g none = place_unnamed state request (place_for state request) g none
 
-head_unnamed : (state : ModelState) (head : Option Request) (g : ℕ) → section_of state g ≡ None → beaten_by (face_losers_if state head) g ≡ None
+head_unnamed : (state : ModelState) (head : Option Request) (g : ℕ) → section_of state g ≡ None → beaten_by (met_losers_if state head) g ≡ None
 head_unnamed state None g none = unnamed_by_map (λ h. None) g refl
-head_unnamed state (Some head) g none = face_unnamed state head g none
+head_unnamed state (Some head) g none = met_unnamed state head g none
 
 served_outside : (state : ModelState) (request : Request) (g : ℕ) → section_of state g ≡ None → section_of (served state request) g ≡ None
 served_outside state request g none =

@@ -1,0 +1,561 @@
+-- no armed hart but its own has read the line of a head that is to write, so a served write takes no armed hart's line
+use Rattle.std.proofs.Common.{◌≡◌, ◌≢◌, ◌∙◌, ◌==◌, ◌&&◌, ◌||◌, ◌⊎◌, ℕ, Bool, true, false, not, List, [], ◌∷◌, length, Option, None, Some, is_some, option_map, refl, ap, sym, subst, inl, inr, if◌then◌else◌}
+use Rattle.std.specs.Option.{option_or}
+use Rattle.std.proofs.lemmas.Bool.{cases_eq}
+use Rattle.bus_order.specs.Order.{Request, first_of, removed}
+use Rattle.bus_order.proofs.LookUps.{first_of_appended_other, first_of_appended_own, first_of_in_front_of_other, first_of_in_front_of_own, other_test}
+use Rattle.bus_order.proofs.Queues.{first_of_removed_other, hart_of_request_of, line_of_first_of}
+use Rattle.cache_sets.specs.Cache.{bit_in, has_bit, is_resident, letter_in, letter_of, lettered, marked, read_bit, touched, way_of, write_bit}
+use Rattle.cache_sets.specs.Residency.{Way, with_bit, with_letter}
+use Rattle.cache_sets.proofs.CacheLemmas.{way_of-lettered_other, way_of-lettered_same, way_of-marked_same, way_of-touched, way_of-without_line_other}
+use Rattle.el_base.specs.Line.{line_number}
+use Rattle.el_base.specs.declared.config.Config.{Config}
+use Rattle.el_base.specs.declared.events.Event.{Event}
+use Rattle.el_base.specs.declared.events.Kind.{Kind}
+use Rattle.el_base.specs.declared.events.Kind.TheVariants as kinds
+use Rattle.el_base.specs.declared.outcomes.Need.{Need}
+use Rattle.el_base.specs.declared.outcomes.Need.TheVariants.{Read, Write}
+use Rattle.elf_image.specs.Program.{Program}
+use Rattle.el_model.specs.Armed.{freed_hart, is_freed, let_go, let_go_hart}
+use Rattle.el_model.specs.Conflicts.{is_asked, is_wanted_to_write, is_write, writes}
+use Rattle.el_model.specs.Deed.{Arms, Begins, Buffers, Commits, Continues, Deed, DoesWhere, Elides, LetsGo, MayArm, Misses, Rests, RollsBack, Runs, Waits, hart_after}
+use Rattle.el_model.specs.Deliver.{deliver_turn}
+use Rattle.el_model.specs.Face.{met, met_if}
+use Rattle.el_model.specs.Next.{after, kind_turn, next, step_turn}
+use Rattle.el_model.specs.Order.{Alone, Behind, InFront, Place, before_face, order_raised, order_turn, place_for, placed, unraised}
+use Rattle.el_model.specs.Plain.{candidate_of}
+use Rattle.el_model.specs.RollBack.{out_of_section}
+use Rattle.el_model.specs.Serve.{Blocks, Free, Obstacle, bystander, obstacle_to, other_head, others_cache, serve_ordered, serve_past, serve_turn, served, served_hart, with_claim}
+use Rattle.el_model.specs.State.{Armed, Hart, ModelState, armed_of, begin, cache_of, hart_of, head_of, is_live, new_hart, ordered_of, raised_of}
+use Rattle.el_model.proofs.Deeds.{step_deed}
+use Rattle.el_model.proofs.AllHarts.{all_first}
+use Rattle.el_model.proofs.FromStart.{kept_after}
+use Rattle.el_model.proofs.Harts.{hart_of-past}
+use Rattle.el_model.proofs.Tests.{by_test}
+use Rattle.moesi.specs.Letters.{may_read}
+use Rattle.moesi.specs.declared.letter.Letter.{Letter}
+use Rattle.rv_flat.specs.FlatState.{status_of, view_of}
+use Rattle.section_laws.specs.EachHart.{HasOneReadBit}
+use Rattle.section_laws.specs.Laws.{ArmedHartsWaitForNothing, ArmedSectionsHaveOneReadBit, NoHartIsLiveAndArmed, OrderedWritesMeetNoArmedHart}
+use Rattle.section_laws.specs.Waiting.{RunsWithNothing}
+use Rattle.section_laws.proofs.ArmedBits as bits
+use Rattle.section_laws.proofs.Bits.{NoBitMore, no_more_any, no_more_others, no_more_same}
+use Rattle.section_laws.proofs.Coherence as coherence
+use Rattle.section_laws.proofs.EachHart.{Each, each_become, each_with}
+use Rattle.section_laws.proofs.FreeLines.{head_is, not_blocked}
+use Rattle.section_laws.proofs.Moves.{Moves, deliver_keeps, faced_keeps, met_if_keeps, placed_keeps, served_keeps, step_keeps}
+use Rattle.section_laws.proofs.Waiting.{Rested, candidate_armed, claim_armed, live_unarmed, mail_order, met_order, none_freed, order_at, placed_order, unarmed_ordered}
+
+none_some : {A X : Type 0} {x : A} → None ≡ Some x → X
+none_some wrong = absurd (cc)
+
+some_none : {A X : Type 0} {x : A} → Some x ≡ None → X
+some_none wrong = absurd (cc)
+
+same_some : {A : Type 0} {x y : A} → Some x ≡ Some y → x ≡ y
+same_some is = cc
+
+clash : {X : Type 0} {b : Bool} → b ≡ false → b ≡ true → X
+clash without with_it = never (sym without ∙ with_it)
+  where
+    never : {X : Type 0} → false ≡ true → X
+    never is = absurd (cc)
+
+-- a head lets no hart go
+abbrev pub Unfreed : Request → ℕ → Hart → Type 0
+Unfreed head h hart = is_freed head h hart ≡ false
+
+abbrev pub AllLetGone : ModelState → Type 0
+AllLetGone state = (line : ℕ) (head : Request) → head_of state line ≡ Some head → Each (Unfreed head) state
+
+moves : (head : Request) → Moves (Unfreed head)
+moves head = record {
+  posted_to = λ h hart mail now. now;
+  told = λ h hart told now. now;
+  preceded = λ h hart upstream now. now;
+  saw = λ h hart seen later now. now;
+  lost = λ h hart now. none_freed head h (out_of_section hart) refl;
+  freed = λ h pc hart armed now. none_freed head h (let_go_hart pc hart) refl;
+  gave_up = λ h hart now. now;
+  tried = λ h hart more now. now;
+}
+
+-- where no bit comes
+less : (x d new : Bool) → (new ≡ true → d ≡ true) → (x && d) ≡ false → (x && new) ≡ false
+less true true new fewer is = absurd (cc)
+less true false true fewer is = sym (fewer refl)
+less true false false fewer is = refl
+less false d new fewer is = refl
+
+fewer_unfreed : (head : Request) (h : ℕ) (old new : Hart) → is_some new.armed ≡ is_some old.armed → NoBitMore old.cache new.cache head.line →
+    Unfreed head h old → Unfreed head h new
+fewer_unfreed head h old new armed no_more now =
+    ap (λ is. is_write head && not (head.hart == h) && is && has_bit new.cache head.line) armed
+    ∙ less (is_write head && not (head.hart == h) && is_some old.armed) (has_bit old.cache head.line) (has_bit new.cache head.line)
+    (no_more_any (way_of old.cache head.line) (way_of new.cache head.line) no_more) now
+
+-- a head that is met
+gone_unfreed : (state : ModelState) (head : Request) → Each (Unfreed head) (let_go state head)
+unfolding let_go
+gone_unfreed state head =
+    each_become (Unfreed head) state (freed_hart state head)
+    (λ h.
+    by_test (Unfreed head h) (is_freed head h (hart_of state h)) (let_go_hart (view_of state.committed h).pc (hart_of state h)) (hart_of state h)
+    (λ freed. none_freed head h (let_go_hart (view_of state.committed h).pc (hart_of state h)) refl) (λ unfreed. unfreed))
+    (λ h past. none_freed head h (hart_of state h) (ap (λ hart. hart.armed) (hart_of-past state h past)))
+
+met_unfreed : (state : ModelState) (head : Request) → Each (Unfreed head) (met state head)
+met_unfreed state head = faced_keeps (moves head) (let_go state head) head (gone_unfreed state head)
+
+-- a request is ordered: as the head of its line it is met, and else the line has another
+abbrev IsInPlace : ModelState → Request → Place → Type 0
+IsInPlace state request InFront = Unit {0}
+IsInPlace state request Behind = is_some (head_of state request.line) ≡ true
+IsInPlace state request Alone = Unit {0}
+
+in_place : (state : ModelState) (request : Request) → IsInPlace state request (place_for state request)
+in_place state request =
+    by_test (IsInPlace state request) (is_live state request.hart && has_bit (cache_of state request.hart) request.line) InFront _ (λ own. tt)
+    (λ other. by_test (IsInPlace state request) (is_some (head_of state request.line)) Behind Alone (λ there. there) (λ none. tt))
+
+unraised_unfreed : (state : ModelState) (h : ℕ) (head : Request) → Each (Unfreed head) state → Each (Unfreed head) (unraised state h)
+unraised_unfreed state h head each = each_with (Unfreed head) state h (record (hart_of state h) { raised = None }) (each h) each
+
+other_first : (state : ModelState) (request : Request) (place : Place) (line : ℕ) → request.line ≢ line →
+    first_of (order_at state request place) line ≡ head_of state line
+other_first state request InFront line other = first_of_in_front_of_other state.order request line other
+other_first state request Behind line other = first_of_appended_other state.order request line other
+other_first state request Alone line other = first_of_appended_other state.order request line other
+
+own_unfreed : (state : ModelState) (request : Request) (place : Place) (head : Request) → IsInPlace state request place → AllLetGone state →
+    first_of (order_at state request place) request.line ≡ Some head → Each (Unfreed head) (placed state request place)
+unfolding placed
+own_unfreed state request InFront head there gone is =
+    subst (λ h. Each (Unfreed h) (met (before_face state request InFront) request))
+    (same_some (sym (first_of_in_front_of_own state.order request) ∙ is)) (met_unfreed (before_face state request InFront) request)
+own_unfreed state request Behind head there gone is =
+    placed_keeps (moves head) state request Behind
+    (unraised_unfreed state request.hart head (gone request.line head (first (head_of state request.line) there found)))
+  where
+    found : option_or (head_of state request.line) (Some request) ≡ Some head
+    found = sym (first_of_appended_own state.order request) ∙ is
+
+    first : (former : Option Request) → is_some former ≡ true → option_or former (Some request) ≡ Some head → former ≡ Some head
+    first None there is = absurd (cc)
+    first (Some former) there is = is
+own_unfreed state request Alone head there gone is =
+    by (head_of state request.line) refl (sym (first_of_appended_own state.order request) ∙ is)
+  where
+    alone : Each (Unfreed request) (met (before_face state request Alone) request)
+    alone = met_unfreed (before_face state request Alone) request
+
+    by : (former : Option Request) → head_of state request.line ≡ former → option_or former (Some request) ≡ Some head →
+        Each (Unfreed head) (met (before_face state request Alone) request)
+    by None none found = subst (λ h. Each (Unfreed h) (met (before_face state request Alone) request)) (same_some found) alone
+    by (Some former) some found =
+        placed_keeps (moves head) state request Alone
+        (unraised_unfreed state request.hart head (gone request.line head (some ∙ found)))
+
+placed_gone : (state : ModelState) (request : Request) (place : Place) → IsInPlace state request place → AllLetGone state →
+    AllLetGone (placed state request place)
+placed_gone state request place there gone line head found = by (cases_eq request.line line)
+  where
+    is : first_of (order_at state request place) line ≡ Some head
+    is = sym (ap (λ order. first_of order line) (placed_order state request place)) ∙ found
+
+    by : (request.line ≡ line) ⊎ (request.line ≡ line → ⊥) → Each (Unfreed head) (placed state request place)
+    by (inl same) =
+        own_unfreed state request place head there gone (ap (first_of (order_at state request place)) same ∙ is)
+    by (inr other) =
+        placed_keeps (moves head) state request place
+        (unraised_unfreed state request.hart head (gone line head (sym (other_first state request place line other) ∙ is)))
+
+raised_gone : (state : ModelState) (raised : Option Request) → AllLetGone state → AllLetGone (order_raised state raised).state
+raised_gone state None gone = gone
+raised_gone state (Some request) gone = placed_gone state request (place_for state request) (in_place state request) gone
+
+-- a request is served: its hart is not armed, and the others have no bit more
+served_unarmed : (state : ModelState) (h : ℕ) (request : Request) → Rested state → ordered_of state h ≡ Some request →
+    (served_hart state request (hart_of state request.hart)).armed ≡ None
+served_unarmed state h request rested is =
+    let hart = hart_of state request.hart in
+    let status = status_of state.committed request.hart in
+    let own = hart_of_request_of state.order h request is in
+    let mine : ordered_of state request.hart ≡ Some request = ap (ordered_of state) own ∙ is in
+    claim_armed (is_some hart.section) request _
+    ∙ unarmed_ordered hart.armed status request hart.section hart.raised hart.held
+    (subst (λ ordered. (hart.armed ≡ None) ⊎ RunsWithNothing status ordered hart.section hart.raised hart.held) mine (rested request.hart))
+
+served_unfreed : (state : ModelState) (h : ℕ) (request head : Request) → Rested state → ordered_of state h ≡ Some request →
+    Each (Unfreed head) state → Each (Unfreed head) (served state request)
+served_unfreed state h request head rested is each =
+    served_keeps (Unfreed head) state request
+    (none_freed head request.hart (served_hart state request (hart_of state request.hart)) (served_unarmed state h request rested is))
+    (λ g other.
+    fewer_unfreed head g (hart_of state g) (bystander state request (hart_of state g)) refl
+    (no_more_others (is_resident (cache_of state request.hart) request.line) request.need (cache_of state g) request.line head.line) (each g))
+    each
+
+served_order : (state : ModelState) (request : Request) → (served state request).order ≡ removed state.order request.hart
+unfolding served
+served_order state request = refl
+
+head_gone : (after : ModelState) (line : ℕ) (next head : Option Request) → head_of after line ≡ next →
+    ((found : Request) → next ≡ Some found → Each (Unfreed found) (met_if after next))
+head_gone after line None head is = λ found there. none_some there
+head_gone after line (Some next) head is =
+    λ found there. subst (λ h. Each (Unfreed h) (met after next)) (same_some there) (met_unfreed after next)
+
+served_gone : (state : ModelState) (h : ℕ) (request : Request) → coherence.Holds state → ordered_of state h ≡ Some request → AllLetGone state →
+    AllLetGone (met_if (served state request) (head_of (served state request) request.line))
+served_gone state h request holds is gone line head found = by (cases_eq request.line line)
+  where
+    after : ModelState
+    after = served state request
+
+    there : head_of (served state request) line ≡ Some head
+    there = sym (ap (λ order. first_of order line) (met_order (served state request) (head_of (served state request) request.line))) ∙ found
+
+    own : ordered_of state request.hart ≡ Some request
+    own = ap (ordered_of state) (hart_of_request_of state.order h request is) ∙ is
+
+    by : (request.line ≡ line) ⊎ (request.line ≡ line → ⊥) →
+        Each (Unfreed head) (met_if (served state request) (head_of (served state request) request.line))
+    by (inl same) =
+        head_gone after request.line (head_of after request.line) None refl head (ap (head_of after) same ∙ there)
+    by (inr other) =
+        met_if_keeps (moves head) after (head_of after request.line)
+        (served_unfreed state h request head holds.once.rested is
+        (gone line head
+        (sym (first_of_removed_other state.order request.hart line request holds.once.once own other)
+        ∙ sym (ap (λ order. first_of order line) (served_order state request)) ∙ there)))
+
+past_gone : (state : ModelState) (h : ℕ) (request : Request) (obstacle : Obstacle) → coherence.Holds state →
+    ordered_of state h ≡ Some request → AllLetGone state → AllLetGone (serve_past state request obstacle).state
+past_gone state h request (Blocks why by) holds is gone = gone
+past_gone state h request Free holds is gone = served_gone state h request holds is gone
+
+ordered_gone : (state : ModelState) (h : ℕ) (found : Option Request) → ordered_of state h ≡ found → coherence.Holds state → AllLetGone state →
+    AllLetGone (serve_ordered state found).state
+ordered_gone state h None is holds gone = gone
+ordered_gone state h (Some request) is holds gone = past_gone state h request (obstacle_to state request) holds is gone
+
+-- a hart arms only where no other hart waits to write
+unasked : (order : List Request) (h line : ℕ) (head : Request) → first_of order line ≡ Some head → is_asked is_write order h line ≡ false →
+    (is_write head && not (head.hart == h)) ≡ false
+unasked [] h line head is none = none_some is
+unasked (request ∷ order) h line head is none =
+    by (request.line == line) (unasked order h line head) is none
+  where
+    first : (other write rest : Bool) → ((other && write) || rest) ≡ false → (write && other) ≡ false
+    first true true rest none = absurd (cc)
+    first true false rest none = refl
+    first false true rest none = refl
+    first false false rest none = refl
+
+    by : (here : Bool) →
+        (first_of order line ≡ Some head → is_asked is_write order h line ≡ false → (is_write head && not (head.hart == h)) ≡ false) →
+        (if here then Some request else first_of order line) ≡ Some head →
+        ((here && not (request.hart == h) && is_write request) || is_asked is_write order h line) ≡ false →
+        (is_write head && not (head.hart == h)) ≡ false
+    by true rest is none =
+        subst (λ r. (is_write r && not (r.hart == h)) ≡ false) (same_some is)
+        (first (not (request.hart == h)) (is_write request) (is_asked is_write order h line) none)
+    by false rest is none = rest is none
+
+both_of : (a b : Bool) → (a && not b) ≡ true → (a ≡ true) × (b ≡ false)
+both_of true true is = absurd (cc)
+both_of true false is = (refl, refl)
+both_of false b is = absurd (cc)
+
+arming_unfreed : (state : ModelState) (h word : ℕ) (head : Request) → MayArm state h word → bits.Holds (hart_of state h) →
+    head_of state head.line ≡ Some head → Unfreed head h (hart_after state h (Arms word) (hart_of state h))
+arming_unfreed state h word head arms bare is = by (cases_eq head.line (line_number word))
+  where
+    new : Hart
+    new = hart_after state h (Arms word) (hart_of state h)
+
+    reads : bits.ReadsAlone word new.section new.cache
+    reads = bits.deed_alone state h (Arms word) arms bare (record { count = 1; word = word }) refl
+
+    open_line : may_read (letter_of (cache_of state h) (line_number word)) ≡ true × is_wanted_to_write state h (line_number word) ≡ false
+    open_line = both_of (may_read (letter_of (cache_of state h) (line_number word))) (is_wanted_to_write state h (line_number word)) arms.may_open
+
+    gone : (a b c : Bool) → a ≡ false → (a && b && c) ≡ false
+    gone true b c none = absurd (cc)
+    gone false b c none = refl
+
+    without : (a b c : Bool) → b ≡ false → c ≡ false → (a && (b || c)) ≡ false
+    without true true c none other = absurd (cc)
+    without true false c none other = other
+    without false b c none other = refl
+
+    by : (head.line ≡ line_number word) ⊎ (head.line ≡ line_number word → ⊥) → Unfreed head h new
+    by (inl same) =
+        gone (is_write head && not (head.hart == h)) (is_some new.armed) (has_bit new.cache head.line)
+        (unasked state.order h head.line head is (ap (is_wanted_to_write state h) same ∙ open_line.1))
+    by (inr other) =
+        without (is_write head && not (head.hart == h) && is_some new.armed) (read_bit new.cache head.line) (write_bit new.cache head.line)
+        (reads.no_other.alone head.line other) (reads.no_other.unwritten head.line)
+
+deed_unfreed : (state : ModelState) (h : ℕ) (deed : Deed) (head : Request) → DoesWhere state h deed → Rested state →
+    bits.Holds (hart_of state h) → head_of state head.line ≡ Some head → Unfreed head h (hart_of state h) →
+    Unfreed head h (hart_after state h deed (hart_of state h))
+deed_unfreed state h Rests head does rested bare is now = now
+deed_unfreed state h Waits head does rested bare is now = now
+deed_unfreed state h (Misses line need) head does rested bare is now = now
+deed_unfreed state h (Runs touch) head runs rested bare is now =
+    none_freed head h (hart_after state h (Runs touch) (hart_of state h)) (candidate_armed _ _ (candidate_of state h) _ ∙ runs.outside.unarmed)
+deed_unfreed state h (Begins swap) head does rested bare is now = none_freed head h (hart_after state h (Begins swap) (hart_of state h)) refl
+deed_unfreed state h (Buffers section touch) head buffers rested bare is now =
+    none_freed head h (hart_after state h (Buffers section touch) (hart_of state h)) (live_unarmed state h section rested buffers.goes.goes_on.is_short.inside.live)
+deed_unfreed state h (Commits section) head does rested bare is now = none_freed head h (hart_after state h (Commits section) (hart_of state h)) refl
+deed_unfreed state h (RollsBack section cause) head does rested bare is now = none_freed head h (hart_after state h (RollsBack section cause) (hart_of state h)) refl
+deed_unfreed state h (Arms word) head arms rested bare is now = arming_unfreed state h word head arms bare is
+deed_unfreed state h (Elides armed swap) head does rested bare is now = none_freed head h (hart_after state h (Elides armed swap) (hart_of state h)) refl
+deed_unfreed state h (Continues armed) head continues rested bare is now =
+    fewer_unfreed head h (hart_of state h) (hart_after state h (Continues armed) (hart_of state h))
+    (sym (ap is_some continues.is_armed.armed_is)) (no_more_same (way_of (cache_of state h) head.line)) now
+deed_unfreed state h (LetsGo armed) head does rested bare is now = none_freed head h (hart_after state h (LetsGo armed) (hart_of state h)) refl
+
+step_order : (state : ModelState) (h : ℕ) → (step_turn state h).state.order ≡ state.order
+step_order state h = let step = step_deed state h in ap (λ turn. turn.state.order) step.turn_is
+
+step_gone : (state : ModelState) (h : ℕ) → coherence.Holds state → AllLetGone state → AllLetGone (step_turn state h).state
+step_gone state h holds gone line head found =
+    let is : head_of state line ≡ Some head = sym (ap (λ order. first_of order line) (step_order state h)) ∙ found in
+    let own = line_of_first_of state.order line head is in
+    step_keeps (Unfreed head) state h
+    (λ deed does.
+    deed_unfreed state h deed head does holds.once.rested (holds.alone h) (ap (head_of state) own ∙ is) (gone line head is h))
+    (gone line head is)
+
+deliver_gone : (state : ModelState) (h : ℕ) → AllLetGone state → AllLetGone (deliver_turn state h).state
+unfolding deliver_turn
+deliver_gone state h gone line head found =
+    deliver_keeps (moves head) state h
+    (gone line head (sym (ap (λ order. first_of order line) (mail_order state h (hart_of state h).mail)) ∙ found))
+
+kind_gone : (state : ModelState) (h : ℕ) (kind : Kind) → coherence.Holds state → AllLetGone state → AllLetGone (kind_turn state h kind).state
+unfolding order_turn serve_turn
+kind_gone state h kinds.Step holds gone = step_gone state h holds gone
+kind_gone state h kinds.Order holds gone = raised_gone state (raised_of state h) gone
+kind_gone state h kinds.Serve holds gone = ordered_gone state h (ordered_of state h) refl holds gone
+kind_gone state h kinds.Deliver holds gone = deliver_gone state h gone
+
+-- an armed hart has read the line of its word
+abbrev pub ReadsItsLine : Hart → Type 0
+ReadsItsLine hart = (armed : Armed) → hart.armed ≡ Some armed → read_bit hart.cache (line_number armed.word) ≡ true
+
+reads_moves : Moves (λ h hart. ReadsItsLine hart)
+reads_moves = record {
+  posted_to = λ h hart mail now. now;
+  told = λ h hart told now. now;
+  preceded = λ h hart upstream now. now;
+  saw = λ h hart seen later now. now;
+  lost = λ h hart now armed is. none_some is;
+  freed = λ h pc hart freed now armed is. none_some is;
+  gave_up = λ h hart now. now;
+  tried = λ h hart more now. now;
+}
+
+same_word : {one other : Armed} → Some one ≡ Some other → one.word ≡ other.word
+same_word is = ap (λ armed. armed.word) (same_some is)
+
+marked_here : (cache : List (List Way)) (line : ℕ) → may_read (letter_of cache line) ≡ true →
+    read_bit (touched (marked cache line Read) line) line ≡ true
+marked_here cache line may =
+    ap (bit_in Read) (way_of-touched (marked cache line Read) line line ∙ way_of-marked_same cache line Read)
+    ∙ by (way_of cache line) may
+  where
+    by : (way : Option Way) → may_read (letter_in way) ≡ true → bit_in Read (option_map (with_bit Read) way) ≡ true
+    by None may = absurd (cc)
+    by (Some way) may = refl
+
+deed_reads : (state : ModelState) (h : ℕ) (deed : Deed) → DoesWhere state h deed → Rested state → ReadsItsLine (hart_of state h) →
+    ReadsItsLine (hart_after state h deed (hart_of state h))
+deed_reads state h Rests does rested now = now
+deed_reads state h Waits does rested now = now
+deed_reads state h (Misses line need) does rested now = now
+deed_reads state h (Runs touch) runs rested now = λ armed is.
+    none_some (sym (candidate_armed _ _ (candidate_of state h) _ ∙ runs.outside.unarmed) ∙ is)
+deed_reads state h (Begins swap) does rested now = λ armed is. none_some is
+deed_reads state h (Buffers section touch) buffers rested now = λ armed is.
+    none_some (sym (live_unarmed state h section rested buffers.goes.goes_on.is_short.inside.live) ∙ is)
+deed_reads state h (Commits section) does rested now = λ armed is. none_some is
+deed_reads state h (RollsBack section cause) does rested now = λ armed is. none_some is
+deed_reads state h (Arms word) arms rested now = λ armed is.
+    let line = line_number word in
+    let may =
+    both_of (may_read (letter_of (cache_of state h) line)) (is_wanted_to_write state h line) arms.may_open in
+    subst (λ w. read_bit (touched (marked (cache_of state h) (line_number word) Read) (line_number word)) (line_number w) ≡ true)
+    (same_word is) (marked_here (cache_of state h) (line_number word) may.0)
+deed_reads state h (Elides armed swap) does rested now = λ other is. none_some is
+deed_reads state h (Continues before) continues rested now = λ armed is.
+    subst (λ w. read_bit (cache_of state h) (line_number w) ≡ true) (same_word is) (now before continues.is_armed.armed_is)
+deed_reads state h (LetsGo armed) does rested now = λ other is. none_some is
+
+-- and a served request leaves it there
+lettered_read : (cache : List (List Way)) (line l : ℕ) → read_bit cache l ≡ true →
+    (letter : Letter) → read_bit (lettered cache line letter) l ≡ true
+lettered_read cache line l was letter = at (cases_eq l line)
+  where
+    same_bit : (way : Option Way) → bit_in Read (option_map (with_letter letter) way) ≡ bit_in Read way
+    same_bit None = refl
+    same_bit (Some way) = refl
+
+    at : (l ≡ line) ⊎ (l ≡ line → ⊥) → read_bit (lettered cache line letter) l ≡ true
+    at (inl same) =
+        ap (λ k. bit_in Read (way_of (lettered cache line letter) k)) same
+        ∙ ap (bit_in Read) (way_of-lettered_same cache line letter) ∙ same_bit (way_of cache line)
+        ∙ ap (read_bit cache) (sym same) ∙ was
+    at (inr other) = ap (bit_in Read) (way_of-lettered_other cache line l letter other) ∙ was
+
+others_read : (had : Bool) (need : Need) (cache : List (List Way)) (line l : ℕ) → (need ≡ Write → l ≢ line) → read_bit cache l ≡ true →
+    read_bit (others_cache had need cache line) l ≡ true
+others_read had Write cache line l apart was = ap (bit_in Read) (way_of-without_line_other cache line l (apart refl)) ∙ was
+others_read true Read cache line l apart was = was
+others_read false Read cache line l apart was = lettered_read cache line l was _
+
+read_has : (cache : List (List Way)) (line : ℕ) → read_bit cache line ≡ true → has_bit cache line ≡ true
+read_has cache line is = by (read_bit cache line) (write_bit cache line) is
+  where
+    by : (a b : Bool) → a ≡ true → (a || b) ≡ true
+    by true b is = refl
+    by false b is = absurd (cc)
+
+all_four : (a b c d : Bool) → a ≡ true → b ≡ true → c ≡ true → d ≡ true → (a && b && c && d) ≡ true
+all_four true true true true first second third fourth = refl
+all_four true true true false first second third fourth = absurd (cc)
+all_four true true false d first second third fourth = absurd (cc)
+all_four true false c d first second third fourth = absurd (cc)
+all_four false b c d first second third fourth = absurd (cc)
+
+written_apart : (state : ModelState) (request : Request) (g : ℕ) (armed : Armed) → Each (Unfreed request) state → g ≢ request.hart →
+    armed_of state g ≡ Some armed → ReadsItsLine (hart_of state g) → request.need ≡ Write → line_number armed.word ≢ request.line
+written_apart state request g armed gone apart is reads write same =
+    clash (gone g)
+    (all_four (is_write request) (not (request.hart == g)) (is_some (armed_of state g)) (has_bit (cache_of state g) request.line) (ap writes write)
+    (ap not (other_test request.hart g (λ own. apart (sym own)))) (ap is_some is)
+    (read_has (cache_of state g) request.line (ap (read_bit (cache_of state g)) (sym same) ∙ reads armed is)))
+
+-- what holds of every state that can be reached
+pub record Guarded (state : ModelState) : Type 0 where
+  pub holds : coherence.Holds state
+  pub gone : AllLetGone state
+  pub reads : Each (λ h hart. ReadsItsLine hart) state
+
+served_reads : (state : ModelState) (h : ℕ) (request : Request) → Guarded state → ordered_of state h ≡ Some request →
+    obstacle_to state request ≡ Free → Each (λ g hart. ReadsItsLine hart) (served state request)
+served_reads state h request now is free =
+    served_keeps (λ g hart. ReadsItsLine hart) state request
+    (λ armed armed_is. none_some (sym (served_unarmed state h request now.holds.once.rested is) ∙ armed_is))
+    (λ g apart armed armed_is.
+    others_read (is_resident (cache_of state request.hart) request.line) request.need (cache_of state g) request.line (line_number armed.word)
+    (written_apart state request g armed (now.gone request.line request head) apart armed_is (now.reads g)) (now.reads g armed armed_is))
+    now.reads
+  where
+    head : head_of state request.line ≡ Some request
+    head =
+        head_is state h request (head_of state request.line) now.holds.once.once is refl
+        (not_blocked _ (other_head request.hart (head_of state request.line)) _ free)
+
+past_reads : (state : ModelState) (h : ℕ) (request : Request) (obstacle : Obstacle) → obstacle_to state request ≡ obstacle → Guarded state →
+    ordered_of state h ≡ Some request → Each (λ g hart. ReadsItsLine hart) (serve_past state request obstacle).state
+past_reads state h request (Blocks why by) found now is = now.reads
+past_reads state h request Free found now is =
+    met_if_keeps reads_moves (served state request) (head_of (served state request) request.line) (served_reads state h request now is found)
+
+ordered_reads : (state : ModelState) (h : ℕ) (found : Option Request) → ordered_of state h ≡ found → Guarded state →
+    Each (λ g hart. ReadsItsLine hart) (serve_ordered state found).state
+ordered_reads state h None is now = now.reads
+ordered_reads state h (Some request) is now = past_reads state h request (obstacle_to state request) refl now is
+
+raised_reads : (state : ModelState) (raised : Option Request) → Each (λ g hart. ReadsItsLine hart) state →
+    Each (λ g hart. ReadsItsLine hart) (order_raised state raised).state
+raised_reads state None now = now
+raised_reads state (Some request) now =
+    placed_keeps reads_moves state request (place_for state request)
+    (each_with (λ g hart. ReadsItsLine hart) state request.hart (record (hart_of state request.hart) { raised = None }) (now request.hart) now)
+
+kind_reads : (state : ModelState) (h : ℕ) (kind : Kind) → Guarded state → Each (λ g hart. ReadsItsLine hart) (kind_turn state h kind).state
+unfolding order_turn serve_turn
+kind_reads state h kinds.Step now =
+    step_keeps (λ g hart. ReadsItsLine hart) state h (λ deed does. deed_reads state h deed does now.holds.once.rested (now.reads h)) now.reads
+kind_reads state h kinds.Order now = raised_reads state (raised_of state h) now.reads
+kind_reads state h kinds.Serve now = ordered_reads state h (ordered_of state h) refl now
+kind_reads state h kinds.Deliver now = deliver_keeps reads_moves state h now.reads
+
+next_gone : (state : ModelState) (event : Event) → Guarded state → AllLetGone (next state event).state
+unfolding next
+next_gone state event now = kind_gone state event.hart.number event.kind now.holds now.gone
+
+next_reads : (state : ModelState) (event : Event) → Guarded state → Each (λ h hart. ReadsItsLine hart) (next state event).state
+unfolding next
+next_reads state event now = kind_reads state event.hart.number event.kind now
+
+pub next_guarded : (state : ModelState) (event : Event) → Guarded state → Guarded (next state event).state
+next_guarded state event now = record {
+  holds = coherence.next_holds state event now.holds;
+  gone = next_gone state event now;
+  reads = next_reads state event now;
+}
+
+first_gone : (program : Program) (config : Config) → AllLetGone (begin program config)
+unfolding begin
+first_gone program config line head found = none_some found
+
+first_reads : (program : Program) (config : Config) → Each (λ h hart. ReadsItsLine hart) (begin program config)
+unfolding begin
+first_reads program config h =
+    all_first ReadsItsLine program.harts (new_hart config.sets) (new_hart 0) (λ armed is. none_some is) (λ armed is. none_some is) h
+
+pub first_guarded : (program : Program) (config : Config) → Guarded (begin program config)
+first_guarded program config = record {
+  holds = coherence.first_holds program config;
+  gone = first_gone program config;
+  reads = first_reads program config;
+}
+
+pub always_guarded : (program : Program) (config : Config) (events : List Event) → Guarded (after program config events)
+always_guarded program config events =
+    kept_after Guarded next_guarded (begin program config) events (first_guarded program config)
+
+-- the laws
+pub armed_sections_have_one_read_bit : ArmedSectionsHaveOneReadBit
+armed_sections_have_one_read_bit program config events h armed is =
+    let now = always_guarded program config events in
+    record { read = now.reads h armed is; no_other = ((now.holds.alone h).1 armed is).no_other }
+
+pub armed_harts_wait_for_nothing : ArmedHartsWaitForNothing
+armed_harts_wait_for_nothing program config events h armed is =
+    by ((always_guarded program config events).holds.once.rested h)
+  where
+    state : ModelState
+    state = after program config events
+
+    by : (armed_of state h ≡ None) ⊎
+        RunsWithNothing (status_of state.committed h) (ordered_of state h) (hart_of state h).section (hart_of state h).raised (hart_of state h).held →
+        RunsWithNothing (status_of state.committed h) (ordered_of state h) (hart_of state h).section (hart_of state h).raised (hart_of state h).held
+    by (inl none) = some_none (sym is ∙ none)
+    by (inr runs) = runs
+
+pub no_hart_is_live_and_armed : NoHartIsLiveAndArmed
+no_hart_is_live_and_armed program config events h armed is =
+    (((always_guarded program config events).holds.alone h).1 armed is).no_section
+
+pub ordered_writes_meet_no_armed_hart : OrderedWritesMeetNoArmedHart
+ordered_writes_meet_no_armed_hart program config events line head h armed found write apart is =
+    unless (has_bit (cache_of state h) line)
+    (λ bit.
+    clash ((always_guarded program config events).gone line head found h)
+    (all_four (is_write head) (not (head.hart == h)) (is_some (armed_of state h)) (has_bit (cache_of state h) head.line) (ap writes write)
+    (ap not (other_test head.hart h (λ own. apart (sym own)))) (ap is_some is)
+    (ap (has_bit (cache_of state h)) (line_of_first_of state.order line head found) ∙ bit)))
+  where
+    state : ModelState
+    state = after program config events
+
+    unless : (b : Bool) → (b ≡ true → ⊥) → b ≡ false
+    unless true never = absurd (never refl)
+    unless false never = refl

@@ -1,22 +1,21 @@
 -- an armed section has read the line of its word alone, and its hart has no live section
-use Rattle.std.proofs.Common.{◌≡◌, ◌≢◌, ◌∙◌, ◌||◌, ◌⊎◌, ℕ, Bool, true, false, List, Option, None, Some, is_some, refl, ap, sym, subst, inl, inr}
+use Rattle.std.proofs.Common.{◌≡◌, ◌∙◌, ◌||◌, ◌⊎◌, ℕ, Bool, true, false, List, Option, None, Some, is_some, refl, ap, sym, subst, inl, inr}
 use Rattle.std.proofs.lemmas.Bool.{cases_eq}
 use Rattle.bus_order.specs.Order.{Request}
 use Rattle.cache_sets.specs.Cache.{bit_in, has_marks, is_resident, marked, read_bit, touched, way_of, write_bit}
 use Rattle.cache_sets.specs.Residency.{Way}
-use Rattle.cache_sets.proofs.CacheLemmas.{way_of-touched}
 use Rattle.cache_sets.proofs.MarkLemmas.{no_marks}
 use Rattle.el_base.specs.Line.{line_number}
 use Rattle.el_base.specs.declared.outcomes.Need.TheVariants.{Read, Write}
 use Rattle.el_model.specs.Deed.{Arms, Begins, Buffers, Commits, Continues, Deed, DoesWhere, Elides, LetsGo, Misses, Rests, RollsBack, Runs, Waits, hart_after}
-use Rattle.el_model.specs.Plain.{after_candidate, candidate_of}
+use Rattle.el_model.specs.Plain.{candidate_of}
 use Rattle.el_model.specs.Serve.{others_have, own_copy, with_claim}
 use Rattle.el_model.specs.State.{Armed, Hart, ModelState, Section, cache_of, hart_of}
-use Rattle.el_model.specs.Upcoming.{Swap}
 use Rattle.section_laws.specs.EachHart.{HasNoOtherBit}
 use Rattle.section_laws.proofs.Bits.{NoBitMore, no_more_marked, no_more_others, no_more_own, no_more_touched, no_more_twice, write_of_read_marked}
 use Rattle.section_laws.proofs.EachKept.{BusKept, EachKept}
 use Rattle.section_laws.proofs.OnlyInside as inside
+use Rattle.section_laws.proofs.Waiting.{candidate_armed}
 
 pub record ReadsAlone (word : ℕ) (section : Option Section) (cache : List (List Way)) : Type 0 where
   pub no_section : section ≡ None
@@ -109,11 +108,6 @@ served_bits state request cache others line =
     (no_more_touched (own_copy state.config.ways others request.need cache request.line) request.line line)
 
 -- a deed
-candidate_armed : (pc : Option ℕ) (had_watch : Bool) (candidate : Option Swap) (hart : Hart) →
-    (after_candidate pc had_watch candidate hart).armed ≡ hart.armed
-candidate_armed pc had_watch None hart = refl
-candidate_armed pc had_watch (Some swap) hart = refl
-
 pub deed_alone : (state : ModelState) (h : ℕ) (deed : Deed) → DoesWhere state h deed → Holds (hart_of state h) →
     Alone (hart_after state h deed (hart_of state h))
 deed_alone state h Rests does now = now.1
@@ -157,18 +151,18 @@ kept = record {
     served = λ h state request hart now. (
       bare.served h state request hart now.0,
       claim_alone hart.section request hart _ refl refl refl
-      (served_bits state request hart.cache (others_have state request.hart request.line)) now.1,
+          (served_bits state request hart.cache (others_have state request.hart request.line)) now.1,
     );
     bystander = λ h state request hart now. (
       bare.bystander h state request hart now.0,
       λ armed is.
-      let reads = now.1 armed is in
-      record {
-        no_section = reads.no_section;
-        no_other =
-            fewer_bits armed.word hart.cache _
-            (no_more_others (is_resident (cache_of state request.hart) request.line) request.need hart.cache request.line) reads.no_other;
-      },
+          let reads = now.1 armed is in
+          record {
+            no_section = reads.no_section;
+            no_other =
+                fewer_bits armed.word hart.cache _
+                (no_more_others (is_resident (cache_of state request.hart) request.line) request.need hart.cache request.line) reads.no_other;
+          },
     );
   };
   deed = λ state h deed does now. (inside.kept.deed state h deed does now.0, deed_alone state h deed does now);

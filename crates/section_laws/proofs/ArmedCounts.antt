@@ -1,8 +1,7 @@
 -- an armed section has from 1 to 15 instructions, and fewer than a section may have
-use Rattle.std.proofs.Common.{◌≡◌, ◌∙◌, ◌≤◌, ◌<◌, ◌&&◌, ℕ, suc, Bool, true, false, List, Option, None, Some, is_some, refl, ap, sym, subst, arith}
+use Rattle.std.proofs.Common.{◌≡◌, ◌∙◌, ◌≤◌, ◌&&◌, ℕ, suc, Bool, true, false, None, Some, is_some, refl, ap, sym, subst, arith}
 use Rattle.std.specs.Prelude.{nat_lt}
 use Rattle.std.proofs.lemmas.Bool.{ltb-true}
-use Rattle.bus_order.specs.Order.{Request}
 use Rattle.el_base.proofs.Ranges.{at_least, ranges}
 use Rattle.el_base.specs.Config.{IsInRange}
 use Rattle.el_base.specs.declared.config.Config.{Config}
@@ -12,7 +11,7 @@ use Rattle.el_base.specs.declared.events.Kind.TheVariants as kinds
 use Rattle.elf_image.specs.Program.{Program}
 use Rattle.el_model.specs.Armed.{may_grow}
 use Rattle.el_model.specs.Deed.{Arms, Begins, Buffers, Commits, Continues, Deed, DoesWhere, Elides, LetsGo, Misses, Rests, RollsBack, Runs, Waits, hart_after}
-use Rattle.el_model.specs.Next.{after, kind_turn, next}
+use Rattle.el_model.specs.Next.{kind_turn, next}
 use Rattle.el_model.specs.Plain.{candidate_of}
 use Rattle.el_model.specs.State.{Armed, Hart, ModelState, begin, hart_of, new_hart}
 use Rattle.el_model.proofs.AllHarts.{all_first}

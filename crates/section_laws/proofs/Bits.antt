@@ -1,5 +1,5 @@
 -- how a change of a cache leaves no bit more
-use Rattle.std.proofs.Common.{◌≡◌, ◌≢◌, ◌∙◌, ◌||◌, ℕ, Bool, true, false, List, [], ◌∷◌, Option, None, Some, option_map, refl, ap, inl, inr, ◌⊎◌, arith}
+use Rattle.std.proofs.Common.{◌≡◌, ◌≢◌, ◌||◌, ℕ, Bool, true, false, List, [], ◌∷◌, Option, None, Some, option_map, refl, inl, inr, ◌⊎◌, arith}
 use Rattle.std.proofs.lemmas.Bool.{cases_eq}
 use Rattle.cache_sets.specs.Cache.{bit_in, filled_with, is_resident, letter_of, lettered, marked, touched, way_of, without_line}
 use Rattle.cache_sets.specs.Residency.{Way, with_bit, with_letter}

@@ -1,5 +1,5 @@
 -- no armed hart but its own has read the line of a head that is to write, so a served write takes no armed hart's line
-use Rattle.std.proofs.Common.{◌≡◌, ◌≢◌, ◌∙◌, ◌==◌, ◌&&◌, ◌||◌, ◌⊎◌, ℕ, Bool, true, false, not, List, [], ◌∷◌, length, Option, None, Some, is_some, option_map, refl, ap, sym, subst, inl, inr, if◌then◌else◌}
+use Rattle.std.proofs.Common.{◌≡◌, ◌≢◌, ◌∙◌, ◌==◌, ◌&&◌, ◌||◌, ◌⊎◌, ℕ, Bool, true, false, not, List, [], ◌∷◌, Option, None, Some, is_some, option_map, refl, ap, sym, subst, inl, inr, if◌then◌else◌}
 use Rattle.std.specs.Option.{option_or}
 use Rattle.std.proofs.lemmas.Bool.{cases_eq}
 use Rattle.bus_order.specs.Order.{Request, first_of, removed}
@@ -25,7 +25,7 @@ use Rattle.el_model.specs.Next.{after, kind_turn, next, step_turn}
 use Rattle.el_model.specs.Order.{Alone, Behind, InFront, Place, before_face, order_raised, order_turn, place_for, placed, unraised}
 use Rattle.el_model.specs.Plain.{candidate_of}
 use Rattle.el_model.specs.RollBack.{out_of_section}
-use Rattle.el_model.specs.Serve.{Blocks, Free, Obstacle, bystander, obstacle_to, other_head, others_cache, serve_ordered, serve_past, serve_turn, served, served_hart, with_claim}
+use Rattle.el_model.specs.Serve.{Blocks, Free, Obstacle, bystander, obstacle_to, other_head, others_cache, serve_ordered, serve_past, serve_turn, served, served_hart}
 use Rattle.el_model.specs.State.{Armed, Hart, ModelState, armed_of, begin, cache_of, hart_of, head_of, is_live, new_hart, ordered_of, raised_of}
 use Rattle.el_model.proofs.Deeds.{step_deed}
 use Rattle.el_model.proofs.AllHarts.{all_first}
@@ -35,7 +35,6 @@ use Rattle.el_model.proofs.Tests.{by_test}
 use Rattle.moesi.specs.Letters.{may_read}
 use Rattle.moesi.specs.declared.letter.Letter.{Letter}
 use Rattle.rv_flat.specs.FlatState.{status_of, view_of}
-use Rattle.section_laws.specs.EachHart.{HasOneReadBit}
 use Rattle.section_laws.specs.Laws.{ArmedHartsWaitForNothing, ArmedSectionsHaveOneReadBit, NoHartIsLiveAndArmed, OrderedWritesMeetNoArmedHart}
 use Rattle.section_laws.specs.Waiting.{RunsWithNothing}
 use Rattle.section_laws.proofs.ArmedBits as bits

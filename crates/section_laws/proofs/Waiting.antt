@@ -298,13 +298,14 @@ raised_standing state request ordered settled mine =
     subst (λ o. WaitsForOne request.hart (status request.hart) o hart.section (Some request) hart.held)
     (free_of_order state request.hart request (sound_in state settled) mine)
     (subst (λ r. WaitsForOne request.hart (status request.hart) (ordered_of state request.hart) hart.section r hart.held) mine
-    (settled request.hart).0) in
-    (placed_waits request.hart (status request.hart) ordered hart.section hart.held request waits,
-    inl
-    (unarmed_raised hart.armed (status request.hart) (ordered_of state request.hart) hart.section request hart.held
-    (subst
-    (λ r. (hart.armed ≡ None) ⊎ RunsWithNothing (status request.hart) (ordered_of state request.hart) hart.section r hart.held) mine
-    (settled request.hart).1)))
+    (settled request.hart).0) in (
+      placed_waits request.hart (status request.hart) ordered hart.section hart.held request waits,
+      inl
+          (unarmed_raised hart.armed (status request.hart) (ordered_of state request.hart) hart.section request hart.held
+          (subst
+          (λ r. (hart.armed ≡ None) ⊎ RunsWithNothing (status request.hart) (ordered_of state request.hart) hart.section r hart.held) mine
+          (settled request.hart).1)),
+    )
 
 order_settled : (state : ModelState) (h : ℕ) (request : Request) (place : Place) → Settled state → raised_of state h ≡ Some request →
     Settled (placed state request place)
@@ -369,14 +370,15 @@ serve_settled state h request settled is =
     let mine : ordered_of state request.hart ≡ Some request = ap (ordered_of state) own ∙ is in
     let hart = hart_of state request.hart in
     served_keeps (Standing status ordered) state request
-    (rw (request_of_removed_own state.order request.hart)
-    (served_waits state request hart hart.section refl (status request.hart) (ordered_of state request.hart) mine (settled request.hart).0 _
-    refl refl refl,
-    inl
-    (claim_armed (is_some hart.section) request _
-    ∙ unarmed_ordered hart.armed (status request.hart) request hart.section hart.raised hart.held
-    (subst (λ o. (hart.armed ≡ None) ⊎ RunsWithNothing (status request.hart) o hart.section hart.raised hart.held) mine
-    (settled request.hart).1))))
+    (rw (request_of_removed_own state.order request.hart) (
+      served_waits state request hart hart.section refl (status request.hart) (ordered_of state request.hart) mine (settled request.hart).0 _
+          refl refl refl,
+      inl
+          (claim_armed (is_some hart.section) request _
+          ∙ unarmed_ordered hart.armed (status request.hart) request hart.section hart.raised hart.held
+          (subst (λ o. (hart.armed ≡ None) ⊎ RunsWithNothing (status request.hart) o hart.section hart.raised hart.held) mine
+          (settled request.hart).1)),
+    ))
     (λ g apart. rw (request_of_removed_other state.order request.hart g (λ same. apart (sym same))) (settled g))
     (λ g. gone g (cases_eq g request.hart))
   where
@@ -632,10 +634,11 @@ first_settled program config h =
     let fresh =
     all_first IsFresh program.harts (new_hart config.sets) (new_hart 0)
     (record { no_section = refl; unarmed = refl; not_raised = refl; not_held = refl })
-    (record { no_section = refl; unarmed = refl; not_raised = refl; not_held = refl }) h in
-    (nothing h _ None _ _ _
-    (record { no_section = fresh.no_section; not_raised = fresh.not_raised; not_ordered = refl; not_held = fresh.not_held }),
-    inl fresh.unarmed)
+    (record { no_section = refl; unarmed = refl; not_raised = refl; not_held = refl }) h in (
+      nothing h _ None _ _ _
+          (record { no_section = fresh.no_section; not_raised = fresh.not_raised; not_ordered = refl; not_held = fresh.not_held }),
+      inl fresh.unarmed,
+    )
 
 pub always_settled : (program : Program) (config : Config) (events : List Event) → Settled (after program config events)
 always_settled program config events = kept_after Settled next_settled (begin program config) events (first_settled program config)

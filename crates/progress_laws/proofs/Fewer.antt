@@ -5,8 +5,9 @@ use Rattle.cache_sets.specs.Cache.{way_of}
 use Rattle.el_model.specs.Conflicts.{conflicts, conflicts_with}
 use Rattle.el_model.specs.Serve.{bystander, served_hart, with_claim}
 use Rattle.el_model.specs.State.{Hart, ModelState, Section}
-use Rattle.removal_laws.proofs.Bits.{Fewer, NoBitMore, clash, fewer_conflicts, fewer_ended}
-use Rattle.removal_laws.proofs.Bits.{no_more_marked, no_more_others, no_more_own, no_more_touched, no_more_twice}
+use Rattle.removal_laws.proofs.Bits.{Fewer, clash, fewer_conflicts, fewer_ended}
+use Rattle.section_laws.proofs.Bits.{NoBitMore}
+use Rattle.section_laws.proofs.Bits.{no_more_marked, no_more_others, no_more_own, no_more_touched, no_more_twice}
 use Rattle.section_laws.proofs.Moves.{Moves}
 use Rattle.progress_laws.proofs.Cases.{unless}
 

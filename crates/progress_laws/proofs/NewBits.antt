@@ -22,7 +22,8 @@ use Rattle.el_model.specs.Upcoming.{Swap, Touch}
 use Rattle.el_model.proofs.Deeds.{step_deed}
 use Rattle.progress_laws.proofs.Faced.{NoneRetains, dead_unmet}
 use Rattle.progress_laws.proofs.Fewer.{fewer_unmet}
-use Rattle.removal_laws.proofs.Bits.{Fewer, NoMore, fewer_same, no_more_marked, no_more_same, no_more_touched, no_more_twice}
+use Rattle.removal_laws.proofs.Bits.{Fewer, fewer_same}
+use Rattle.section_laws.proofs.Bits.{NoMore, no_more_marked, no_more_same, no_more_touched, no_more_twice}
 use Rattle.section_laws.specs.EachHart.{HasBitsOnlyInside}
 use Rattle.section_laws.proofs.FreeLines.{first_not, not_met, second_not}
 use Rattle.section_laws.proofs.EachHart.{each_but}

@@ -23,7 +23,8 @@ use Rattle.el_model.proofs.Deeds.{step_deed}
 use Rattle.el_model.proofs.Harts.{hart_of-past, with_hart_kept}
 use Rattle.mail.specs.Mailbox.{Marker, Message, Probe, has_message}
 use Rattle.removal_laws.specs.Facts.{Everywhere}
-use Rattle.removal_laws.proofs.Bits.{Meets, NoBitMore, clash, in_the_way, meets, meets_no_more, no_more_marked, no_more_touched, no_more_twice, some_none, some_same, write_of_read_marked, no_less}
+use Rattle.removal_laws.proofs.Bits.{Meets, clash, in_the_way, meets, meets_no_more, some_none, some_same, no_less}
+use Rattle.section_laws.proofs.Bits.{NoBitMore, no_more_marked, no_more_touched, no_more_twice, write_of_read_marked}
 use Rattle.removal_laws.proofs.Grounds.{Grounds, Standing}
 use Rattle.removal_laws.proofs.Kept.{Moved, head_line, may_kept, messages_moved}
 use Rattle.section_laws.proofs.EachHart.{Each, each_but}

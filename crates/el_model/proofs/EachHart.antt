@@ -23,6 +23,21 @@ pub each_after : (P : ℕ → Hart → Type 0) (state : ModelState) (becomes : �
     ((h : ℕ) → P h (hart_of state h) → P h (becomes h (hart_of state h))) → Each P state → Each P (each_hart state becomes)
 each_after P state becomes keeps each h = each_by P state becomes keeps h (each h) (nat_lt h (length state.harts)) refl
 
+-- what the change gives each hart, whatever was said of it before
+become_by : (P : ℕ → Hart → Type 0) (state : ModelState) (becomes : ℕ → Hart → Hart) (h : ℕ) → P h (becomes h (hart_of state h)) →
+    (length state.harts ≤ h → P h (hart_of state h)) → (below : Bool) → nat_lt h (length state.harts) ≡ below →
+    P h (hart_of (each_hart state becomes) h)
+become_by P state becomes h new absent true below =
+    subst (P h) (sym (hart_of-each_hart state becomes h (ltb-true h (length state.harts) below))) new
+become_by P state becomes h new absent false below =
+    let past = ltb-false h (length state.harts) below in
+    subst (P h) (sym (hart_of-each_hart_past state becomes h past)) (subst (P h) (hart_of-past state h past) (absent past))
+
+pub each_become : (P : ℕ → Hart → Type 0) (state : ModelState) (becomes : ℕ → Hart → Hart) →
+    ((h : ℕ) → P h (becomes h (hart_of state h))) → ((h : ℕ) → length state.harts ≤ h → P h (hart_of state h)) →
+    Each P (each_hart state becomes)
+each_become P state becomes new absent h = become_by P state becomes h (new h) (absent h) (nat_lt h (length state.harts)) refl
+
 set_each : (P : ℕ → Hart → Type 0) (harts : List Hart) (h : ℕ) (hart none : Hart) → P h hart →
     ((g : ℕ) → P g (slice_index_or harts g none)) → (g : ℕ) → P g (slice_index_or (slice_set harts h hart) g none)
 set_each P [] h hart none new each g = each g

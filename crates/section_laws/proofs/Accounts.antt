@@ -9,7 +9,7 @@ use Rattle.el_base.specs.declared.outcomes.Outcome.{Outcome}
 use Rattle.el_base.specs.declared.outcomes.Outcome.TheVariants as outcomes
 use Rattle.elf_image.specs.Program.{Program}
 use Rattle.el_model.specs.BusEvent.{IsBusEvent, IsOfBus}
-use Rattle.el_model.specs.Deed.{Begins, Buffers, Commits, Deed, DoesWhere, Misses, Rests, RollsBack, Runs, Waits, done, hart_after, outcome_of}
+use Rattle.el_model.specs.Deed.{Arms, Begins, Buffers, Commits, Continues, Deed, DoesWhere, Elides, LetsGo, Misses, Rests, RollsBack, Runs, Waits, done, hart_after, outcome_of}
 use Rattle.el_base.specs.Winners.{winner_over}
 use Rattle.el_model.specs.Losses.{Standing, restored, standing_of}
 use Rattle.el_model.specs.Next.{entries_from, next, state_after, step_turn}
@@ -48,7 +48,7 @@ deed_section : (state : ModelState) (h g : ℕ) (deed : Deed) →
 deed_section state h g deed same =
     with_hart_kept (λ hart. is_some hart.section) state h (hart_after state h deed (hart_of state h)) same g
 
-candidate_section : (pc : ℕ) (had_watch : Bool) (candidate : Option Swap) (hart : Hart) →
+candidate_section : (pc : Option ℕ) (had_watch : Bool) (candidate : Option Swap) (hart : Hart) →
     (after_candidate pc had_watch candidate hart).section ≡ hart.section
 candidate_section pc had_watch None hart = refl
 candidate_section pc had_watch (Some swap) hart = refl
@@ -73,6 +73,12 @@ own_deed state h (Runs touch) many does =
 own_deed state h (Begins swap) many begins =
     let flat_exists = runs-exists state.committed h begins.outside.running in
     starts _ _ (ap is_some begins.outside.no_section) (after_deed state h (Begins swap) (omega (arith, many, flat_exists)))
+own_deed state h (Arms word) many does = unchanged _ _ (deed_section state h h (Arms word) refl)
+own_deed state h (Elides armed swap) many elides =
+    let flat_exists = runs-exists state.committed h elides.is_armed.running in
+    starts _ _ (ap is_some elides.is_armed.no_section) (after_deed state h (Elides armed swap) (omega (arith, many, flat_exists)))
+own_deed state h (Continues armed) many does = unchanged _ _ (deed_section state h h (Continues armed) refl)
+own_deed state h (LetsGo armed) many does = unchanged _ _ (deed_section state h h (LetsGo armed) refl)
 own_deed state h (Buffers section touch) many buffers =
     unchanged _ _ (deed_section state h h (Buffers section touch) (sym (ap is_some buffers.goes.goes_on.is_short.inside.live)))
 own_deed state h (Commits section) many does =
@@ -98,6 +104,10 @@ other_deed state h g deed apart =
     by_deed (Buffers section touch) same = unchanged _ _ same
     by_deed (Commits section) same = unchanged _ _ same
     by_deed (RollsBack section cause) same = unchanged _ _ same
+    by_deed (Arms word) same = unchanged _ _ same
+    by_deed (Elides armed swap) same = unchanged _ _ same
+    by_deed (Continues armed) same = unchanged _ _ same
+    by_deed (LetsGo armed) same = unchanged _ _ same
 
 step_by : (state : ModelState) (h g : ℕ) (deed : Deed) → AsMany state → DoesWhere state h deed → (g ≡ h) ⊎ (g ≡ h → ⊥) →
     Balanced (h == g) (outcome_of deed) g (is_live state g) (is_live (done state h deed).state g)

@@ -25,7 +25,7 @@ use Rattle.el_base.proofs.Ranges.{at_least, ranges}
 use Rattle.elf_image.specs.Program.{Program}
 use Rattle.el_model.specs.BusEvent.{IsBusEvent, Nothing, Places, Serves, Start, StartsWhere, Takes, having_taken}
 use Rattle.el_model.specs.BusEvent.{order_after, order_at, started}
-use Rattle.el_model.specs.Deed.{Begins, Buffers, Commits, Deed, DoesWhere, HasRoom, IsCoverable, Misses, Rests, RollsBack, Runs, Waits, hart_after}
+use Rattle.el_model.specs.Deed.{Arms, Begins, Buffers, Commits, Continues, Deed, DoesWhere, Elides, HasRoom, IsCoverable, LetsGo, Misses, Rests, RollsBack, Runs, Waits, hart_after}
 use Rattle.el_model.specs.InSection.{is_full}
 use Rattle.el_model.specs.Next.{after, next, step_turn}
 use Rattle.el_model.specs.Order.{Alone, Behind, InFront, Place}
@@ -51,8 +51,8 @@ use Rattle.section_laws.proofs.OnlyInside as inside
 use Rattle.section_laws.proofs.OrderedHarts.{AreBelow, below_kept}
 use Rattle.section_laws.proofs.Rooms.{room_unmarked}
 use Rattle.section_laws.proofs.ServedCaches.{own_after}
-use Rattle.section_laws.proofs.Waiting.{Sound, always_sound, free_of_order, is_rolled, next_sound, no_request}
-use Rattle.section_laws.proofs.Waiting.{order_other}
+use Rattle.section_laws.proofs.Waiting.{Rested, Sound, always_settled, always_sound, free_of_order, is_rolled, next_settled, no_request}
+use Rattle.section_laws.proofs.Waiting.{order_other, rested_in, settled_by, sound_in}
 
 -- a hart's cache with what it has left for the hart's request, raised or ordered
 pub record IsBounded (config : Config) (cache : List (List Way)) (raised ordered : Option Request) : Type 0 where
@@ -95,6 +95,7 @@ moves config count ordered some = record {
   preceded = λ h hart upstream now. now;
   saw = λ h hart seen later now. now;
   lost = λ h hart now exists. lost_bounded config hart.cache hart.raised (ordered h) some (now exists);
+  freed = λ h pc hart now exists. lost_bounded config hart.cache hart.raised (ordered h) some (now exists);
   gave_up = λ h hart now. now;
   tried = λ h hart more now. now;
 }
@@ -159,7 +160,7 @@ missed_bounded state h request free now place = record {
   for_ordered = λ other is. some_none (sym is ∙ free);
 }
 
-candidate_bounded : (config : Config) (ordered : Option Request) (pc : ℕ) (had_watch : Bool) (candidate : Option Swap) (hart : Hart) →
+candidate_bounded : (config : Config) (ordered : Option Request) (pc : Option ℕ) (had_watch : Bool) (candidate : Option Swap) (hart : Hart) →
     IsBounded config hart.cache hart.raised ordered →
     IsBounded config (after_candidate pc had_watch candidate hart).cache (after_candidate pc had_watch candidate hart).raised ordered
 candidate_bounded config ordered pc had_watch None hart now = now
@@ -182,7 +183,7 @@ deed_bounded state h Waits does some bare now = now
 deed_bounded state h (Misses line need) (inl misses) some bare now =
     let request : Request = record { hart = h; line = line; need = need; stamp = (hart_of state h).attempt } in
     missed_bounded state h request (no_request state h misses.outside.free).not_ordered now.cache_is
-    (outside_place state.config (cache_of state h) request some (bare misses.outside.no_section))
+    (outside_place state.config (cache_of state h) request some (bare misses.outside.no_section misses.outside.unarmed))
 deed_bounded state h (Misses line need) (inr misses) some bare now =
     let request : Request = record { hart = h; line = line; need = need; stamp = (hart_of state h).attempt } in
     missed_bounded state h request (no_request state h misses.room.wants.goes.goes_on.is_short.inside.free).not_ordered now.cache_is
@@ -205,12 +206,25 @@ deed_bounded state h (Commits section) commits some bare now =
 deed_bounded state h (RollsBack section cause) must some bare now =
     let none = no_request state h (is_rolled state h section cause must).free in
     free_bounded state.config _ _ _ none.not_raised none.not_ordered (configured_cleared state.config (cache_of state h) now.cache_is)
+deed_bounded state h (Arms word) arms some bare now =
+    let none = no_request state h arms.outside.free in
+    free_bounded state.config _ _ _ none.not_raised none.not_ordered
+    (configured_touched state.config _ _ (configured_marked state.config (cache_of state h) _ Read now.cache_is (λ write. absurd (cc))))
+deed_bounded state h (Elides armed swap) elides some bare now =
+    let none = no_request state h elides.is_armed.free in
+    free_bounded state.config _ _ _ none.not_raised none.not_ordered
+    (configured_touched state.config _ _ (configured_marked state.config (cache_of state h) _ Read now.cache_is (λ write. absurd (cc))))
+deed_bounded state h (Continues armed) continues some bare now = now
+deed_bounded state h (LetsGo armed) lets_go some bare now =
+    let none = no_request state h lets_go.is_armed.free in
+    free_bounded state.config _ _ _ none.not_raised none.not_ordered (configured_cleared state.config (cache_of state h) now.cache_is)
 
 -- what holds of every state that can be reached, with as many harts as configured
 pub record Bounded (state : ModelState) : Type 0 where
   pub some : HasSome state.config
   pub count : length state.harts ≡ state.config.harts
   pub sound : Sound state
+  pub rested : Rested state
   pub bare : Each (λ h hart. inside.Holds hart) state
   pub exists : AreBelow (length state.harts) state.order
   pub each : Each (Within state.config (length state.harts) (ordered_of state)) state
@@ -327,7 +341,8 @@ next_bounded state event now =
     record {
       some = rw config now.some;
       count = count ∙ now.count ∙ ap (λ c. c.harts) (sym config);
-      sound = next_sound state event now.sound;
+      sound = sound_in (next state event).state (next_settled state event (settled_by state now.sound now.rested));
+      rested = rested_in (next state event).state (next_settled state event (settled_by state now.sound now.rested));
       bare = next_keeps inside.kept state event now.bare;
       exists = rw count (order_keeps state event (below_kept (length state.harts)) now.sound now.exists);
       each = rw config (rw count (next_each state event now));
@@ -364,6 +379,7 @@ first_bounded program config same range =
       some = some;
       count = count ∙ same;
       sound = always_sound program config [];
+      rested = rested_in (begin program config) (always_settled program config []);
       bare = first_each inside.kept program config;
       exists = λ h request is. none_some is;
       each = λ h below.

@@ -19,7 +19,7 @@ use Rattle.el_base.specs.declared.outcomes.Need.TheVariants.{Read, Write}
 use Rattle.elf_image.specs.Program.{Program}
 use Rattle.el_model.specs.BusEvent.{Becomes, IsBusEvent, Nothing, Places, Serves, Start, StartsWhere, Takes}
 use Rattle.el_model.specs.BusEvent.{having_taken, started}
-use Rattle.el_model.specs.Deed.{Begins, Buffers, Commits, Deed, DoesWhere, IsCoverable, IsPermitted, Misses, Rests, RollsBack, Runs, Waits, hart_after, is_refused, permits}
+use Rattle.el_model.specs.Deed.{Arms, Begins, Buffers, Commits, Continues, Deed, DoesWhere, Elides, IsCoverable, IsPermitted, LetsGo, Misses, Rests, RollsBack, Runs, Waits, hart_after, is_refused, permits}
 use Rattle.el_model.specs.InSection.{covered}
 use Rattle.el_model.specs.Next.{after, next, step_turn}
 use Rattle.el_model.specs.Plain.{after_access, after_candidate, after_touch, candidate_of}
@@ -38,6 +38,7 @@ use Rattle.moesi.specs.declared.letter.Letter.TheVariants.{M}
 use Rattle.section_laws.specs.Laws.{CopiesAreCoherent, WrittenLinesAreElsewhereInNoCache, WrittenLinesMayBeWritten}
 use Rattle.section_laws.specs.Coherence.{AreCoherent, AreOwned, IsOwned, MayBeTogether}
 use Rattle.el_model.proofs.EachHart.{Each}
+use Rattle.section_laws.proofs.ArmedBits as bits
 use Rattle.section_laws.proofs.EachKept as kept
 use Rattle.section_laws.proofs.FreeLines.{NotWritten, free_line}
 use Rattle.section_laws.proofs.Moves.{Moves, moved, step_keeps, taken_keeps}
@@ -60,6 +61,7 @@ steady_moves old = record {
   preceded = λ h hart upstream now. now;
   saw = λ h hart seen later now. now;
   lost = λ h hart now line. way_twice _ (way_of hart.cache line) _ (now line) (steady_cleared hart.cache line);
+  freed = λ h pc hart now line. way_twice _ (way_of hart.cache line) _ (now line) (steady_cleared hart.cache line);
   gave_up = λ h hart now. now;
   tried = λ h hart more now. now;
 }
@@ -67,6 +69,7 @@ steady_moves old = record {
 pub record Holds (state : ModelState) : Type 0 where
   pub once : Once state
   pub inside : Each (λ h hart. inside.Holds hart) state
+  pub alone : Each (λ h hart. bits.Holds hart) state
   pub together : AreCoherent state
   pub owned : (h : ℕ) → AreOwned (cache_of state h)
 
@@ -102,7 +105,7 @@ touch_steady : (state : ModelState) (h : ℕ) (touch : Option Touch) → IsPermi
 touch_steady state h None permitted = same_cache (cache_of state h)
 touch_steady state h (Some touch) permitted = access_steady (cache_of state h) touch.line touch.need permitted
 
-candidate_cache : (pc : ℕ) (had_watch : Bool) (candidate : Option Swap) (hart : Hart) →
+candidate_cache : (pc : Option ℕ) (had_watch : Bool) (candidate : Option Swap) (hart : Hart) →
     (after_candidate pc had_watch candidate hart).cache ≡ hart.cache
 candidate_cache pc had_watch None hart = refl
 candidate_cache pc had_watch (Some swap) hart = refl
@@ -144,6 +147,10 @@ deed_steady state h (Begins swap) does owned = marked_steady (cache_of state h) 
 deed_steady state h (Buffers section touch) does owned = buffered_steady state h section touch does.coverable
 deed_steady state h (Commits section) does owned = steady_committed (cache_of state h) owned
 deed_steady state h (RollsBack section cause) does owned = steady_cleared (cache_of state h)
+deed_steady state h (Arms word) does owned = marked_steady (cache_of state h) _ Read (λ write. absurd (cc))
+deed_steady state h (Elides armed swap) does owned = marked_steady (cache_of state h) _ Read (λ write. absurd (cc))
+deed_steady state h (Continues armed) does owned = same_cache (cache_of state h)
+deed_steady state h (LetsGo armed) does owned = steady_cleared (cache_of state h)
 
 step_stands : (state : ModelState) (h : ℕ) → Stands state → Stands (step_turn state h).state
 step_stands state h now =
@@ -375,7 +382,12 @@ bus_stands {state} {by} {turn} done holds now = by_start done.start done.where_i
     by_start (Serves request) may becomes =
         steady_stands (served state request) turn.state
         (served_stands state request
-        (record { free = λ g apart read. free_line state by g request holds.once.once holds.inside may.ordered may.free apart read }) now)
+        (record {
+          free = λ g apart read.
+              free_line state by g request holds.once.once holds.inside (λ k armed found. ((holds.alone k).1 armed found).no_other) may.ordered
+              may.free apart read;
+        })
+        now)
         (λ h.
         moved (steady_moves (served state request)) state by (Serves request) h (since_absent state request h) (since_served state request h) (becomes h))
     by_start (Takes message others) where_it becomes =
@@ -390,12 +402,13 @@ next_stands : (state : ModelState) (event : Event) → Holds state → Stands st
 next_stands state event holds now =
     by_event (λ turn. Stands turn.state) state event (λ step. step_stands state event.hart.number now) (λ turn done. bus_stands done holds now)
 
-next_holds : (state : ModelState) (event : Event) → Holds state → Holds (next state event).state
+pub next_holds : (state : ModelState) (event : Event) → Holds state → Holds (next state event).state
 next_holds state event holds =
     let stands = next_stands state event holds (record { together = holds.together; owned = holds.owned }) in
     record {
       once = next_once state event holds.once;
       inside = kept.next_keeps inside.kept state event holds.inside;
+      alone = kept.next_keeps bits.kept state event holds.alone;
       together = stands.together;
       owned = stands.owned;
     }
@@ -412,10 +425,11 @@ unfolding begin
 first_empty program config h =
     all_first IsEmpty program.harts (new_hart config.sets) (new_hart 0) (new_is_empty config.sets) (new_is_empty 0) h
 
-first_holds : (program : Program) (config : Config) → Holds (begin program config)
+pub first_holds : (program : Program) (config : Config) → Holds (begin program config)
 first_holds program config = record {
   once = first_once program config;
   inside = kept.first_each inside.kept program config;
+  alone = kept.first_each bits.kept program config;
   together = λ g h apart line. rw ((first_empty program config g).none line) tt;
   owned = λ h line. rw ((first_empty program config h).none line) tt;
 }

@@ -6,7 +6,7 @@ use Rattle.el_model.specs.Conflicts.{conflicts, conflicts_with}
 use Rattle.el_model.specs.Serve.{bystander, served_hart, with_claim}
 use Rattle.el_model.specs.State.{Hart, ModelState, Section}
 use Rattle.section_laws.proofs.Bits.{Fewer, NoBitMore, clash, fewer_conflicts, fewer_ended, unless}
-use Rattle.section_laws.proofs.Bits.{no_more_marked, no_more_others, no_more_own, no_more_touched, no_more_twice}
+use Rattle.section_laws.proofs.Bits.{no_more_cleared, no_more_marked, no_more_others, no_more_own, no_more_touched, no_more_twice}
 use Rattle.section_laws.proofs.Moves.{Moves}
 
 -- the moves of an event of the bus
@@ -17,6 +17,10 @@ fewer_moves line start = record {
   preceded = λ h hart upstream now. record { live = now.live; bits = now.bits };
   saw = λ h hart seen later now. record { live = now.live; bits = now.bits };
   lost = λ h hart now. fewer_ended line (start h) _ refl;
+  freed = λ h pc hart now. record {
+    live = now.live;
+    bits = λ live. no_more_twice _ (way_of hart.cache line) _ (now.bits live) (no_more_cleared hart.cache line);
+  };
   gave_up = λ h hart now. record { live = now.live; bits = now.bits };
   tried = λ h hart more now. record { live = now.live; bits = now.bits };
 }

@@ -13,7 +13,10 @@ pub mod Fewer
 pub mod FreeLines
 pub mod Serving
 pub mod OnlyInside
+pub mod ArmedBits
 pub mod Coherence
+pub mod LetGone
+pub mod ArmedCounts
 pub mod TriesLeft
 pub mod Counters
 pub mod OnceEach

@@ -10,11 +10,11 @@ use Rattle.el_base.specs.declared.config.Mode.{Mode}
 use Rattle.el_base.specs.declared.config.Mode.TheVariants.{Plain, Sle, Tlr}
 use Rattle.el_base.specs.declared.events.Event.{Event}
 use Rattle.elf_image.specs.Program.{Program}
-use Rattle.el_model.specs.BusEvent.{Becomes, IsAbsent, IsAnswered, IsBehind, IsDeferred, IsForwarded, IsPassed}
+use Rattle.el_model.specs.BusEvent.{Becomes, IsAbsent, IsAnswered, IsBehind, IsDeferred, IsForwarded, IsLetGo, IsPassed}
 use Rattle.el_model.specs.BusEvent.{IsPosted, IsSent, IsToldOn, LosesIt}
 use Rattle.el_model.specs.BusEvent.{Nothing, Places, Sees, Serves, Start, Starts, StartsWhere, Takes, having_taken}
 use Rattle.el_model.specs.BusEvent.{started}
-use Rattle.el_model.specs.Deed.{Begins, Buffers, Commits, Deed, Misses, Rests, RollsBack, Runs, Waits, hart_after}
+use Rattle.el_model.specs.Deed.{Arms, Begins, Buffers, Commits, Continues, Deed, Elides, LetsGo, Misses, Rests, RollsBack, Runs, Waits, hart_after}
 use Rattle.el_model.specs.Next.{after, next}
 use Rattle.el_model.specs.Plain.{after_candidate, candidate_of}
 use Rattle.el_model.specs.RollBack.{beaten, most_tries, out_of_section}
@@ -172,12 +172,13 @@ becomes_holds count state by start h now where_it (Starts below) = started_holds
 becomes_holds count state by start h now where_it (IsSent message lost hart sent before) =
     let held = becomes_holds count state by start h now where_it before in
     mail_holds count h hart _ (mailbox_posted count h hart.mail message (posted_other count state by now where_it sent) held.mail_is) held
+becomes_holds count state by start h now where_it (IsLetGo head hart frees before) = becomes_holds count state by start h now where_it before
 becomes_holds count state by start h now where_it (Sees head lost hart defers before) = becomes_holds count state by start h now where_it before
 becomes_holds count state by start h now where_it (LosesIt winner stamp hart loses before) =
     beaten_holds count state.config.mode stamp h hart (becomes_holds count state by start h now where_it before)
 
 -- a step
-candidate_holds : (count h pc : ℕ) (had_watch : Bool) (candidate : Option Swap) (hart : Hart) → Holds count h hart →
+candidate_holds : (count h : ℕ) (pc : Option ℕ) (had_watch : Bool) (candidate : Option Swap) (hart : Hart) → Holds count h hart →
     Holds count h (after_candidate pc had_watch candidate hart)
 candidate_holds count h pc had_watch None hart now = now
 candidate_holds count h pc had_watch (Some swap) hart now = now
@@ -191,6 +192,10 @@ deed_holds count state h (Begins swap) hart now = now
 deed_holds count state h (Buffers section touch) hart now = now
 deed_holds count state h (Commits section) hart now = now
 deed_holds count state h (RollsBack section cause) hart now = now
+deed_holds count state h (Arms word) hart now = now
+deed_holds count state h (Elides armed swap) hart now = now
+deed_holds count state h (Continues armed) hart now = now
+deed_holds count state h (LetsGo armed) hart now = now
 
 -- each event
 next_holds : (count : ℕ) (state : ModelState) (event : Event) → Mailed count state → Each (Holds count) (next state event).state

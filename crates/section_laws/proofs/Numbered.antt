@@ -23,7 +23,8 @@ use Rattle.el_model.proofs.FromStart.{kept_after}
 use Rattle.el_model.proofs.Harts.{hart_of-past}
 use Rattle.el_model.proofs.Tests.{by_test}
 use Rattle.section_laws.specs.Laws.{EachHartWaitsForOne, OneOrderedRequestEach, RequestsAreNumbered}
-use Rattle.section_laws.proofs.Waiting.{Sound, always_sound, free_of_order, next_sound}
+use Rattle.section_laws.proofs.Waiting.{Rested, Sound, always_settled, always_sound, free_of_order, next_settled, rested_in, settled_by}
+use Rattle.section_laws.proofs.Waiting.{sound_in}
 
 -- no event changes how many harts there are
 pub next_count : (state : ModelState) (event : Event) → length (next state event).state.harts ≡ length state.harts
@@ -80,6 +81,7 @@ module _ {P : List Request → Type 0} where
 -- no hart has two
 pub record Once (state : ModelState) : Type 0 where
   pub sound : Sound state
+  pub rested : Rested state
   pub once : IsOneEach state.order
 
 kept_once : (count : ℕ) → KeptInOrder IsOneEach count
@@ -91,13 +93,18 @@ kept_once count = record {
 
 pub next_once : (state : ModelState) (event : Event) → Once state → Once (next state event).state
 next_once state event now = record {
-  sound = next_sound state event now.sound;
+  sound = sound_in (next state event).state (next_settled state event (settled_by state now.sound now.rested));
+  rested = rested_in (next state event).state (next_settled state event (settled_by state now.sound now.rested));
   once = order_keeps state event (kept_once (length state.harts)) now.sound now.once;
 }
 
 pub first_once : (program : Program) (config : Config) → Once (begin program config)
 unfolding begin
-first_once program config = record { sound = always_sound program config []; once = one_each_none }
+first_once program config = record {
+  sound = always_sound program config [];
+  rested = rested_in (begin program config) (always_settled program config []);
+  once = one_each_none;
+}
 
 pub one_ordered_request_each : OneOrderedRequestEach
 one_ordered_request_each program config events =
@@ -132,12 +139,14 @@ kept_numbered count few = record {
 
 pub record Numbered (state : ModelState) : Type 0 where
   pub sound : Sound state
+  pub rested : Rested state
   pub few : length state.harts ≤ 8
   pub numbered : AreNumbered state.order
 
 pub next_numbered : (state : ModelState) (event : Event) → Numbered state → Numbered (next state event).state
 next_numbered state event now = record {
-  sound = next_sound state event now.sound;
+  sound = sound_in (next state event).state (next_settled state event (settled_by state now.sound now.rested));
+  rested = rested_in (next state event).state (next_settled state event (settled_by state now.sound now.rested));
   few = rw (next_count state event) now.few;
   numbered = order_keeps state event (kept_numbered (length state.harts) now.few) now.sound now.numbered;
 }
@@ -149,6 +158,7 @@ pub first_numbered : (program : Program) (config : Config) → program.harts ≡
 unfolding begin
 first_numbered program config same range = record {
   sound = always_sound program config [];
+  rested = rested_in (begin program config) (always_settled program config []);
   few = rw (length-replicate program.harts (new_hart config.sets)) (rw same (harts_in_range config range));
   numbered = tt;
 }

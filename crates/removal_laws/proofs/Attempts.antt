@@ -7,7 +7,7 @@ use Rattle.el_base.specs.declared.config.Mode.TheVariants.{Plain, Sle, Tlr}
 use Rattle.el_base.specs.declared.events.Event.{Event}
 use Rattle.elf_image.specs.Program.{Program}
 use Rattle.el_model.specs.Attempts.{opened}
-use Rattle.el_model.specs.Deed.{Begins, Buffers, Commits, Deed, DoesWhere, Misses, Rests, RollsBack, Runs, Waits, hart_after}
+use Rattle.el_model.specs.Deed.{Arms, Begins, Buffers, Commits, Continues, Deed, DoesWhere, Elides, LetsGo, Misses, Rests, RollsBack, Runs, Waits, hart_after}
 use Rattle.el_model.specs.Next.{after, next}
 use Rattle.el_model.specs.Plain.{after_candidate, candidate_of}
 use Rattle.el_model.specs.Serve.{with_claim}
@@ -46,6 +46,7 @@ module _ (P : ℕ → Option Section → ℕ → Option Stamp → Type 0) (keeps
       preceded = λ h hart upstream now. now;
       saw = λ h hart seen later now. now;
       lost = λ h hart now. keeps.lost h hart.section hart.clock hart.attempt now;
+      freed = λ h pc hart now. now;
       gave_up = λ h hart now. now;
       tried = λ h hart more now. now;
     };
@@ -55,7 +56,7 @@ module _ (P : ℕ → Option Section → ℕ → Option Stamp → Type 0) (keeps
   }
 
 -- a candidate that ran changes none of them
-pub candidate_keeps : (P : Option Section → ℕ → ℕ → Option Stamp → Type 0) (pc : ℕ) (had_watch : Bool) (candidate : Option Swap) (hart : Hart) →
+pub candidate_keeps : (P : Option Section → ℕ → ℕ → Option Stamp → Type 0) (pc : Option ℕ) (had_watch : Bool) (candidate : Option Swap) (hart : Hart) →
     P hart.section hart.clock hart.seen hart.attempt →
     P (after_candidate pc had_watch candidate hart).section (after_candidate pc had_watch candidate hart).clock
     (after_candidate pc had_watch candidate hart).seen (after_candidate pc had_watch candidate hart).attempt
@@ -90,6 +91,10 @@ own_deed state h (Begins swap) hart own = own_opened state.config.mode h hart.cl
 own_deed state h (Buffers section touch) hart own = own
 own_deed state h (Commits section) hart own = λ stamp is. none_some is
 own_deed state h (RollsBack section cause) hart own = λ stamp is. none_some is
+own_deed state h (Arms word) hart own = own
+own_deed state h (Elides armed swap) hart own = own_opened state.config.mode h hart.clock hart.attempt own
+own_deed state h (Continues armed) hart own = own
+own_deed state h (LetsGo armed) hart own = own
 
 pub next_own : (state : ModelState) (event : Event) → Each Own state → Each Own (next state event).state
 next_own state event own =
@@ -155,6 +160,11 @@ open_deed state h (Buffers section touch) does now =
     λ live. now.open_each h (ap is_some does.goes.goes_on.is_short.inside.live)
 open_deed state h (Commits section) does now = λ live. not_live live
 open_deed state h (RollsBack section cause) does now = λ live. not_live live
+open_deed state h (Arms word) does now = now.open_each h
+open_deed state h (Elides armed swap) does now =
+    λ live. opened_open state.config.mode h (hart_of state h).clock (hart_of state h).attempt now.mode
+open_deed state h (Continues armed) does now = now.open_each h
+open_deed state h (LetsGo armed) does now = now.open_each h
 
 pub next_open : (state : ModelState) (event : Event) → AllOpen state → AllOpen (next state event).state
 next_open state event now = record {

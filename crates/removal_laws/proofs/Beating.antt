@@ -10,18 +10,18 @@ use Rattle.el_base.proofs.MadeLosers.{named_by_map}
 use Rattle.el_base.specs.Winners.{winner_over}
 use Rattle.el_base.specs.declared.config.Mode.TheVariants.{Tlr}
 use Rattle.el_base.specs.declared.events.Event.{Event}
-use Rattle.el_model.specs.BusEvent.{AtFace, AtProbe, Becomes, IsAbsent, IsBusEvent, IsSent, LosesIt, LosesWhere}
+use Rattle.el_model.specs.BusEvent.{AtFace, AtProbe, Becomes, IsAbsent, IsBusEvent, IsLetGo, IsSent, LosesIt, LosesWhere}
 use Rattle.el_model.specs.BusEvent.{Nothing, Places, Sees, Serves}
 use Rattle.el_model.specs.BusEvent.{Start, Starts, StartsWhere, Takes, as_faced, faced_head, order_after}
 use Rattle.el_model.specs.Conflicts.{retains, stamp_in, told_winner}
-use Rattle.el_model.specs.Deed.{Begins, Buffers, Commits, Deed, Misses, Rests, RollsBack, Runs, Waits, outcome_of}
+use Rattle.el_model.specs.Deed.{Arms, Begins, Buffers, Commits, Continues, Deed, Elides, LetsGo, Misses, Rests, RollsBack, Runs, Waits, outcome_of}
 use Rattle.el_model.specs.Face.{winning_stamp}
 use Rattle.el_model.specs.Next.{after, next, step_turn}
 use Rattle.el_model.specs.Order.{Alone, Behind, InFront}
 use Rattle.el_model.specs.RollBack.{beaten}
 use Rattle.el_model.specs.State.{Hart, ModelState, Turn, for_line, hart_of, numbers_of, ordered_of, ordered_on}
 use Rattle.el_model.specs.State.{raised_of}
-use Rattle.el_model.proofs.BusEvents.{by_event, keeps_as_faced, met_becomes}
+use Rattle.el_model.proofs.BusEvents.{by_event, frame_as_faced, freed_becomes_at}
 use Rattle.el_model.proofs.Deeds.{step_deed}
 use Rattle.el_model.proofs.Orders.{order_as_faced, served_order}
 use Rattle.removal_laws.specs.Laws.{LosersLoseToEarlier, LosesToEarlier, attempt_of}
@@ -57,6 +57,7 @@ becomes_beaten : (state : ModelState) (by : ℕ) (start : Start) (g winner : ℕ
 becomes_beaten state by start g winner mode is (IsAbsent past) = none_some is
 becomes_beaten state by start g winner mode is (Starts below) = none_some is
 becomes_beaten state by start g winner mode is (IsSent message lost hart sent before) = becomes_beaten state by start g winner mode is before
+becomes_beaten state by start g winner mode is (IsLetGo head hart frees before) = none_some is
 becomes_beaten state by start g winner mode is (Sees head lost hart defers before) =
     let it = becomes_beaten state by start g winner mode is before in
     record {
@@ -101,60 +102,60 @@ head_ordered state by (Takes message others) head once where_it is = none_some i
 -- a section that is lost as a head is faced
 module _ (state : ModelState) (by : ℕ) (start : Start) (head : Request) (is : faced_head state start ≡ Some head) (once : Once state)
     (where_it : StartsWhere state by start) (g winner : ℕ) where
-  abbrev met : ModelState
-  met = as_faced state by start
+  abbrev mid : ModelState
+  mid = as_faced state by start head
 
-  met_attempt : attempt_of met g ≡ attempt_of state g
-  met_attempt = becomes_keeps (same_attempts state) state by start g refl (met_becomes state by start head is g)
+  mid_attempt : attempt_of mid g ≡ attempt_of state g
+  mid_attempt = becomes_keeps (same_attempts state) state by start g refl (freed_becomes_at state by start head is g)
 
-  met_ordered : (k : ℕ) → ordered_of met k ≡ request_of (order_after state start) k
-  met_ordered k = ap (λ order. request_of order k) (order_as_faced state by start)
+  mid_ordered : (k : ℕ) → ordered_of mid k ≡ request_of (order_after state start) k
+  mid_ordered k = ap (λ order. request_of order k) (order_as_faced state by start head)
 
-  head_stamp : winning_stamp met head.line head.hart ≡ head.stamp
+  head_stamp : winning_stamp mid head.line head.hart ≡ head.stamp
   head_stamp =
-      ap (λ found. stamp_in (for_line head.line found)) (met_ordered head.hart ∙ head_ordered state by start head once where_it is)
+      ap (λ found. stamp_in (for_line head.line found)) (mid_ordered head.hart ∙ head_ordered state by start head once where_it is)
       ∙ ap (λ same. stamp_in (if same then Some head else None)) (own_test head.line)
 
-  told_won : (found : Option Request) → ordered_on met winner head.line ≡ found → is_before (stamp_in found)
-      (attempt_of met g) ≡ true →
-      WonBy state start g winner (winning_stamp met head.line winner)
-  told_won None on less = before_none (attempt_of met g) less
+  told_won : (found : Option Request) → ordered_on mid winner head.line ≡ found → is_before (stamp_in found)
+      (attempt_of mid g) ≡ true →
+      WonBy state start g winner (winning_stamp mid head.line winner)
+  told_won None on less = before_none (attempt_of mid g) less
     where
       before_none : {X : Type 0} (attempt : Option Stamp) → is_before None attempt ≡ true → X
       before_none None less = absurd (cc)
       before_none (Some stamp) less = absurd (cc)
   told_won (Some request) on less = record {
     request = request;
-    waits = sym (met_ordered winner) ∙ (own_line head.line (ordered_of met winner) request on).0;
+    waits = sym (mid_ordered winner) ∙ (own_line head.line (ordered_of mid winner) request on).0;
     stamp_is = sym (ap stamp_in on);
-    earlier = subst (λ attempt. is_before request.stamp attempt ≡ true) met_attempt less;
+    earlier = subst (λ attempt. is_before request.stamp attempt ≡ true) mid_attempt less;
   }
 
-  face_won : Lost met head g (hart_of met g) winner → WonBy state start g winner (winning_stamp met head.line winner)
+  face_won : Lost mid head g (hart_of mid g) winner → WonBy state start g winner (winning_stamp mid head.line winner)
   face_won lost = by_why lost.why
     where
-      by_why : ((winner ≡ head.hart) × (is_before head.stamp (hart_of met g).attempt ≡ true)) ⊎ (told_winner met (hart_of met g) head.line ≡ Some winner) →
-          WonBy state start g winner (winning_stamp met head.line winner)
+      by_why : ((winner ≡ head.hart) × (is_before head.stamp (hart_of mid g).attempt ≡ true)) ⊎ (told_winner mid (hart_of mid g) head.line ≡ Some winner) →
+          WonBy state start g winner (winning_stamp mid head.line winner)
       by_why (inl (same, less)) = record {
         request = head;
         waits = subst (λ k. request_of (order_after state start) k ≡ Some head) (sym same) (head_ordered state by start head once where_it is);
-        stamp_is = sym (ap (winning_stamp met head.line) same ∙ head_stamp);
-        earlier = subst (λ attempt. is_before head.stamp attempt ≡ true) met_attempt less;
+        stamp_is = sym (ap (winning_stamp mid head.line) same ∙ head_stamp);
+        earlier = subst (λ attempt. is_before head.stamp attempt ≡ true) mid_attempt less;
       }
       by_why (inr told) =
-          told_won (ordered_on met winner head.line) refl
-          (second_of_both (has (hart_of met g).told winner) _
-          (least_passes (λ o. has (hart_of met g).told o && is_before (stamp_in (ordered_on met o head.line)) (hart_of met g).attempt)
-          (λ o. stamp_in (ordered_on met o head.line)) (numbers_of met) winner told))
+          told_won (ordered_on mid winner head.line) refl
+          (second_of_both (has (hart_of mid g).told winner) _
+          (least_passes (λ o. has (hart_of mid g).told o && is_before (stamp_in (ordered_on mid o head.line)) (hart_of mid g).attempt)
+          (λ o. stamp_in (ordered_on mid o head.line)) (numbers_of mid) winner told))
 
 won_by : (state : ModelState) (by : ℕ) {start : Start} {g winner : ℕ} {stamp : Option Stamp} → state.config.mode ≡ Tlr →
     Once state →
     StartsWhere state by start → LosesWhere state by start g winner stamp → WonBy state start g winner stamp
 won_by state by mode once where_it (AtFace start head g winner is apart fate) =
-    let met = as_faced state by start in
-    let met_mode = ap (λ config. config.mode) (keeps_as_faced state by start).config ∙ mode in
+    let mid = as_faced state by start head in
+    let mid_mode = ap (λ config. config.mode) (frame_as_faced state by start head).config ∙ mode in
     face_won state by start head is once where_it g winner
-    (subst (FateIs met head g (hart_of met g)) fate (fate_is met head g (hart_of met g) met_mode))
+    (subst (FateIs mid head g (hart_of mid g)) fate (fate_is mid head g (hart_of mid g) mid_mode))
 won_by state by mode once where_it (AtProbe origin others request is loses) = record {
   request = request;
   waits = is;
@@ -186,6 +187,10 @@ step_names_none (Begins swap) g winner is = absurd (cc)
 step_names_none (Buffers section touch) g winner is = absurd (cc)
 step_names_none (Commits section) g winner is = absurd (cc)
 step_names_none (RollsBack section cause) g winner is = absurd (cc)
+step_names_none (Arms word) g winner is = absurd (cc)
+step_names_none (Elides armed swap) g winner is = absurd (cc)
+step_names_none (Continues armed) g winner is = absurd (cc)
+step_names_none (LetsGo armed) g winner is = absurd (cc)
 
 pub step_names : {X : Type 0} (state : ModelState) (h g winner : ℕ) →
     winner_over (step_turn state h).outcome g ≡ Some winner → X

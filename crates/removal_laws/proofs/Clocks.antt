@@ -11,7 +11,7 @@ use Rattle.el_base.specs.declared.outcomes.Outcome.{Outcome}
 use Rattle.el_base.specs.declared.outcomes.Outcome.TheVariants as outcomes
 use Rattle.el_model.specs.Attempts.{closed_clock, opened}
 use Rattle.el_model.specs.BusEvent.{IsOfBus}
-use Rattle.el_model.specs.Deed.{Begins, Buffers, Commits, Deed, DoesWhere, IsInside, Misses, MustRollBack, Rests, RollsBack, Runs, Waits, done, hart_after, outcome_of}
+use Rattle.el_model.specs.Deed.{Arms, Begins, Buffers, Commits, Continues, Deed, DoesWhere, Elides, IsInside, LetsGo, Misses, MustRollBack, Rests, RollsBack, Runs, Waits, done, hart_after, outcome_of}
 use Rattle.el_model.specs.Next.{after, next, state_after, step_turn}
 use Rattle.el_model.specs.Plain.{candidate_of}
 use Rattle.el_model.specs.Serve.{with_claim}
@@ -56,6 +56,10 @@ deed_kept state h stamp (Begins swap) = λ still is. opened_kept state.config.mo
 deed_kept state h stamp (Buffers section touch) = λ still is. is
 deed_kept state h stamp (Commits section) = λ still is. own_closes h still
 deed_kept state h stamp (RollsBack section cause) = λ still is. own_closes h still
+deed_kept state h stamp (Arms word) = λ still is. is
+deed_kept state h stamp (Elides armed swap) = λ still is. opened_kept state.config.mode h (hart_of state h).clock _ stamp is
+deed_kept state h stamp (Continues armed) = λ still is. is
+deed_kept state h stamp (LetsGo armed) = λ still is. is
 
 bus_kept : (state : ModelState) (stamp : Stamp) → BusKept (λ g hart. attempt_of state g ≡ Some stamp → hart.attempt ≡ Some stamp)
 bus_kept state stamp =
@@ -109,6 +113,7 @@ bus_grows state = record {
     preceded = λ h hart upstream now. same_clocks (hart_of state h) hart _ refl refl now;
     saw = λ h hart seen later now. let saw = now.seen in record { clock = now.clock; seen = omega (arith, later, saw) };
     lost = λ h hart now. same_clocks (hart_of state h) hart _ refl refl now;
+    freed = λ h pc hart now. same_clocks (hart_of state h) hart _ refl refl now;
     gave_up = λ h hart now. same_clocks (hart_of state h) hart _ refl refl now;
     tried = λ h hart more now. same_clocks (hart_of state h) hart _ refl refl now;
   };
@@ -138,6 +143,10 @@ deed_grows state h (Begins swap) hart = same_clocks hart hart _ refl refl (ungro
 deed_grows state h (Buffers section touch) hart = same_clocks hart hart _ refl refl (ungrown hart)
 deed_grows state h (Commits section) hart = record { clock = closed_grows hart hart.attempt; seen = no_less hart.seen }
 deed_grows state h (RollsBack section cause) hart = record { clock = closed_grows hart hart.attempt; seen = no_less hart.seen }
+deed_grows state h (Arms word) hart = same_clocks hart hart _ refl refl (ungrown hart)
+deed_grows state h (Elides armed swap) hart = same_clocks hart hart _ refl refl (ungrown hart)
+deed_grows state h (Continues armed) hart = same_clocks hart hart _ refl refl (ungrown hart)
+deed_grows state h (LetsGo armed) hart = same_clocks hart hart _ refl refl (ungrown hart)
 
 next_grows : (state : ModelState) (event : Event) (g : ℕ) → Grown (hart_of state g) (hart_of (next state event).state g)
 next_grows state event =
@@ -191,6 +200,10 @@ deed_closes state h (Misses line need) does now = λ closing. never (h == h) clo
 deed_closes state h (Runs touch) does now = λ closing. never (h == h) closing
 deed_closes state h (Begins swap) does now = λ closing. never (h == h) closing
 deed_closes state h (Buffers section touch) does now = λ closing. never (h == h) closing
+deed_closes state h (Arms word) does now = λ closing. never (h == h) closing
+deed_closes state h (Elides armed swap) does now = λ closing. never (h == h) closing
+deed_closes state h (Continues armed) does now = λ closing. never (h == h) closing
+deed_closes state h (LetsGo armed) does now = λ closing. never (h == h) closing
 deed_closes state h (Commits section) does now =
     λ closing. attempt_closes (hart_of state h) _ (now.open_each h (ap is_some does.goes_on.is_short.inside.live)) refl
 deed_closes state h (RollsBack section cause) does now =
@@ -221,6 +234,10 @@ done_closes state h deed does now =
     past_closes state h (Runs touch) does past closing = never (h == h) closing
     past_closes state h (Begins swap) does past closing = never (h == h) closing
     past_closes state h (Buffers section touch) does past closing = never (h == h) closing
+    past_closes state h (Arms word) does past closing = never (h == h) closing
+    past_closes state h (Elides armed swap) does past closing = never (h == h) closing
+    past_closes state h (Continues armed) does past closing = never (h == h) closing
+    past_closes state h (LetsGo armed) does past closing = never (h == h) closing
     past_closes state h (Commits section) does past closing = live_exists state h past (ap is_some does.goes_on.is_short.inside.live)
     past_closes state h (RollsBack section cause) does past closing =
         live_exists state h past (ap is_some (inside state h section cause does).live)

@@ -3,7 +3,7 @@ use Rattle.std.proofs.Common.{◌≡◌, ◌∙◌, ◌==◌, ◌&&◌, ℕ, tru
 use Rattle.bus_order.proofs.LookUps.{own_test}
 use Rattle.el_base.specs.declared.config.Mode.{Mode}
 use Rattle.el_model.specs.BusEvent.{IsBusEvent}
-use Rattle.el_model.specs.Deed.{Begins, Buffers, Commits, Deed, Misses, Rests, RollsBack, Runs, Waits, hart_after, outcome_of}
+use Rattle.el_model.specs.Deed.{Arms, Begins, Buffers, Commits, Continues, Deed, Elides, LetsGo, Misses, Rests, RollsBack, Runs, Waits, hart_after, outcome_of}
 use Rattle.el_base.specs.Winners.{winner_over}
 use Rattle.el_model.specs.Losses.{HartsAreNumbered, Standing, restored, standing_of}
 use Rattle.el_model.specs.Next.{after, step_turn}
@@ -38,6 +38,10 @@ deed_ends state h (Begins swap) = λ live ended. clash ended refl
 deed_ends state h (Buffers section touch) = λ live ended. clash ended refl
 deed_ends state h (Commits section) = λ live ended. ap (λ b. b && true) (own_test h)
 deed_ends state h (RollsBack section cause) = λ live ended. ap (λ b. b && true) (own_test h)
+deed_ends state h (Arms word) = λ live ended. clash ended live
+deed_ends state h (Elides armed swap) = λ live ended. clash ended refl
+deed_ends state h (Continues armed) = λ live ended. clash ended live
+deed_ends state h (LetsGo armed) = λ live ended. clash ended live
 
 step_ends : (state : ModelState) (h g : ℕ) → is_live state g ≡ true → is_live (step_turn state h).state g ≡ false →
     ((h == g) && closes_it (step_turn state h).outcome) ≡ true

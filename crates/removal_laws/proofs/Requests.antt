@@ -8,7 +8,7 @@ use Rattle.bus_order.proofs.LookUps.{request_of_removed_own}
 use Rattle.el_base.specs.declared.events.Event.{Event}
 use Rattle.el_model.specs.BusEvent.{IsBusEvent, Nothing, Places, Serves, Start, StartsWhere, Takes, having_taken}
 use Rattle.el_model.specs.BusEvent.{order_after, order_at, started}
-use Rattle.el_model.specs.Deed.{Begins, Buffers, Commits, Deed, DoesWhere, Misses, Rests, RollsBack, Runs, Waits, hart_after}
+use Rattle.el_model.specs.Deed.{Arms, Begins, Buffers, Commits, Continues, Deed, DoesWhere, Elides, LetsGo, Misses, Rests, RollsBack, Runs, Waits, hart_after}
 use Rattle.el_model.specs.Next.{next, step_turn}
 use Rattle.el_model.specs.Order.{Alone, Behind, InFront, Place}
 use Rattle.el_model.specs.Plain.{after_candidate, candidate_of}
@@ -45,6 +45,7 @@ moves ordered = record {
   preceded = λ h hart upstream now. now;
   saw = λ h hart seen later now. now;
   lost = λ h hart now. now;
+  freed = λ h pc hart now. now;
   gave_up = λ h hart now. now;
   tried = λ h hart more now. now;
 }
@@ -130,7 +131,7 @@ bus_stamped {state} {by} {turn} done sound now h =
     rw done.order stamped
 
 -- a deed
-candidate_stamped : (ordered : Option Request) (pc : ℕ) (had_watch : Bool) (candidate : Option Swap) (hart : Hart) → HasStamp ordered hart.raised hart.attempt →
+candidate_stamped : (ordered : Option Request) (pc : Option ℕ) (had_watch : Bool) (candidate : Option Swap) (hart : Hart) → HasStamp ordered hart.raised hart.attempt →
     HasStamp ordered (after_candidate pc had_watch candidate hart).raised (after_candidate pc had_watch candidate hart).attempt
 candidate_stamped ordered pc had_watch None hart now = now
 candidate_stamped ordered pc had_watch (Some swap) hart now = now
@@ -161,6 +162,12 @@ deed_stamped state h (Commits section) does now =
 deed_stamped state h (RollsBack section cause) does now =
     let none = no_request state h (is_rolled state h section cause does).free in
     unasked (ordered_of state h) _ _ none.not_raised none.not_ordered
+deed_stamped state h (Arms word) does now = now h
+deed_stamped state h (Elides armed swap) does now =
+    let none = no_request state h does.is_armed.free in
+    unasked (ordered_of state h) _ _ none.not_raised none.not_ordered
+deed_stamped state h (Continues armed) does now = now h
+deed_stamped state h (LetsGo armed) does now = now h
 
 step_stamped : (state : ModelState) (h : ℕ) → AllStamped state → AllStamped (step_turn state h).state
 step_stamped state h now =

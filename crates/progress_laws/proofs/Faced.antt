@@ -22,7 +22,7 @@ use Rattle.el_model.specs.Quiet.{has_stamps}
 use Rattle.el_model.specs.RollBack.{beaten, most_tries, out_of_section}
 use Rattle.el_model.specs.Serve.{bystander, served_hart}
 use Rattle.el_model.specs.State.{Hart, ModelState, Turn, hart_of, head_of, new_hart, ordered_of, post_all}
-use Rattle.el_model.proofs.BusEvents.{keeps_as_faced}
+use Rattle.el_model.proofs.BusEvents.{frame_as_faced}
 use Rattle.el_model.proofs.Harts.{hart_of-each_hart, hart_of-each_hart_past}
 use Rattle.el_model.proofs.Orders.{served_order}
 use Rattle.el_model.proofs.Tests.{by_hart, by_test}
@@ -212,8 +212,8 @@ bus_unretained {state} {by} {turn} done stampless once none h line = by_head (he
     met None is = refl
     met (Some head) is =
         ap (λ new. conflicts head h (hart_of new h)) (done.faces head is)
-        ∙ faced_unmet (as_faced state by done.start) head h
-        (ap (λ config. has_stamps config.mode) (keeps_as_faced state by done.start).config ∙ stampless)
+        ∙ faced_unmet (as_faced state by done.start head) head h
+        (ap (λ config. has_stamps config.mode) (frame_as_faced state by done.start head).config ∙ stampless)
 
     by_head : HeadAfter state by done.start line → retains turn.state h line ≡ false
     by_head (inl stays) =

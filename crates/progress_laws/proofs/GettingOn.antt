@@ -13,7 +13,7 @@ use Rattle.el_base.specs.declared.events.Kind.TheVariants.{Step, Order, Serve, D
 use Rattle.el_base.specs.declared.outcomes.Why.TheVariants.{Behind, Retained, Locked}
 use Rattle.elf_image.specs.Program.{Program}
 use Rattle.el_model.specs.Conflicts.{first_such, holder_of, retainer_of, retains}
-use Rattle.el_model.specs.Deed.{Begins, Buffers, Commits, Deed, DoesWhere, Misses, Rests, RollsBack, Runs, Waits, outcome_of}
+use Rattle.el_model.specs.Deed.{Arms, Begins, Buffers, Commits, Continues, Deed, DoesWhere, Elides, LetsGo, Misses, Rests, RollsBack, Runs, Waits, outcome_of}
 use Rattle.el_model.specs.Deliver.{deliver_next, deliver_turn}
 use Rattle.el_model.specs.Next.{after, kind_turn}
 use Rattle.el_model.specs.Order.{order_raised, order_turn}
@@ -113,6 +113,10 @@ deed_gets_on state h (Begins swap) does running free = refl
 deed_gets_on state h (Buffers section touch) does running free = refl
 deed_gets_on state h (Commits section) does running free = refl
 deed_gets_on state h (RollsBack section cause) does running free = refl
+deed_gets_on state h (Arms word) does running free = refl
+deed_gets_on state h (Elides armed swap) does running free = refl
+deed_gets_on state h (Continues armed) does running free = refl
+deed_gets_on state h (LetsGo armed) does running free = refl
 
 pub free_gets_on : (state : ModelState) (h : ℕ) → AsMany state → status_of state.committed h ≡ Running → has_request state h ≡ false →
     GetsOn state

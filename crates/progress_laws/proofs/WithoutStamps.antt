@@ -20,17 +20,16 @@ use Rattle.progress_laws.specs.Ready.{ready_event}
 use Rattle.rv_alu.specs.declared.view.HartStatus.TheVariants.{Running}
 use Rattle.rv_flat.specs.FlatState.{status_of}
 use Rattle.el_model.proofs.EachHart.{Each}
+use Rattle.section_laws.proofs.ArmedBits as bits
 use Rattle.section_laws.proofs.EachKept.{first_each, next_keeps}
 use Rattle.section_laws.proofs.Numbered.{Once, first_once, next_once}
-use Rattle.section_laws.proofs.OnlyInside as only_inside
-use Rattle.section_laws.proofs.OnlyInside.{Holds}
 
 -- what holds in these modes
 record Stampless (state : ModelState) : Type 0 where
   mode : has_stamps state.config.mode ≡ false
   silent : All IsSilent state
   once : Once state
-  outside : Each (λ h hart. Holds hart) state
+  outside : Each (λ h hart. bits.Holds hart) state
   unretained : NoneRetains state
 
 next_unretained : (state : ModelState) (event : Event) → Stampless state → NoneRetains (next state event).state
@@ -43,7 +42,7 @@ next_stampless state event now = record {
   mode = ap (λ config. has_stamps config.mode) (next_config state event) ∙ now.mode;
   silent = next_silent state event now.mode now.silent;
   once = next_once state event now.once;
-  outside = next_keeps only_inside.kept state event now.outside;
+  outside = next_keeps bits.kept state event now.outside;
   unretained = next_unretained state event now;
 }
 
@@ -63,7 +62,7 @@ always_stampless program config events mode =
       mode = begin_mode program config mode;
       silent = stampless_silent program config [] mode;
       once = first_once program config;
-      outside = first_each only_inside.kept program config;
+      outside = first_each bits.kept program config;
       unretained = first_unretained program config;
     })
 

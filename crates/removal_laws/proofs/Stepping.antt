@@ -3,7 +3,7 @@ use Rattle.std.proofs.Common.{◌≡◌, ◌≢◌, ◌∙◌, ◌≤◌, ◌+�
 use Rattle.std.proofs.Math.ListN.{length-set}
 use Rattle.std.proofs.lemmas.Bool.{cases_eq}
 use Rattle.bus_order.specs.Order.{Request, first_of}
-use Rattle.bus_order.proofs.LookUps.{number_of_test, other_test}
+use Rattle.bus_order.proofs.LookUps.{other_test}
 use Rattle.cache_sets.specs.Cache.{bit_in, has_bit, has_marks, marked, read_bit, touched, way_of, write_bit}
 use Rattle.cache_sets.specs.Residency.{Way}
 use Rattle.cache_sets.proofs.CacheLemmas.{way_of-touched}
@@ -18,14 +18,15 @@ use Rattle.el_model.specs.InSection.{covered, is_covered}
 use Rattle.el_model.specs.Next.{step_turn}
 use Rattle.el_model.specs.Plain.{after_candidate, candidate_of}
 use Rattle.el_model.specs.State.{Armed, Hart, ModelState, Section, has_request, hart_of, head_of, ordered_of, raised_of}
-use Rattle.el_model.specs.Upcoming.{Swap, Touch, changes_word}
+use Rattle.el_model.specs.Upcoming.{Swap, Touch}
 use Rattle.el_model.proofs.Deeds.{step_deed}
 use Rattle.el_model.proofs.Harts.{hart_of-past, with_hart_kept}
 use Rattle.mail.specs.Mailbox.{Marker, Message, Probe, has_message}
 use Rattle.removal_laws.specs.Facts.{Everywhere}
 use Rattle.section_laws.proofs.Bits.{Meets, NoBitMore, clash, in_the_way, meets, meets_no_more, no_more_marked}
 use Rattle.section_laws.proofs.Bits.{no_more_touched, no_more_twice, some_none, some_same, write_of_read_marked}
-use Rattle.section_laws.proofs.Bits.{either, first_of_both, no_less}
+use Rattle.section_laws.proofs.ArmedBits.{completing}
+use Rattle.section_laws.proofs.Bits.{either, no_less}
 use Rattle.section_laws.specs.EachHart.{HasNoOtherBit}
 use Rattle.removal_laws.proofs.Grounds.{Grounds, Standing}
 use Rattle.removal_laws.proofs.Kept.{Moved, head_line, may_kept, messages_moved}
@@ -293,22 +294,14 @@ elided_stepped : (state : ModelState) (h : ℕ) (armed : Armed) (swap : Swap) �
 elided_stepped state h armed swap does grounds =
     let old = hart_of state h in
     let reads = ((grounds.clean h).1 armed does.is_armed.armed_is).no_other in
-    let open_line = unwanted_line (swap.word == armed.word && changes_word swap) (is_wanted_to_write state h (line_number armed.word)) does.completing in
-    let same : swap.word ≡ armed.word =
-    number_of_test swap.word armed.word
-    (first_of_both (swap.word == armed.word) (changes_word swap) (first_of_both (swap.word == armed.word && changes_word swap) _ does.completing)) in
+    let it = completing state h armed swap does.completing in
     free_stepped state h _ does.is_armed.free refl
     (λ l is.
     head_by state h l (hart_after state h (Elides armed swap) old) is
-    (λ head found own it.
-    reads_unmet state h armed.word old head reads open_line own it.other head.need refl
+    (λ head found own it_meets.
+    reads_unmet state h armed.word old head reads it.unwanted own it_meets.other head.need refl
     (wanted_bit state h (line_number swap.word) Read old (hart_after state h (Elides armed swap) old) head
-    (ap (λ word. is_wanted_to_write state h (line_number word)) same ∙ open_line) refl own it.other it.bit)))
-  where
-    unwanted_line : (a b : Bool) → (a && not b) ≡ true → b ≡ false
-    unwanted_line a false is = refl
-    unwanted_line true true is = absurd (cc)
-    unwanted_line false true is = absurd (cc)
+    (ap (λ word. is_wanted_to_write state h (line_number word)) it.same ∙ it.unwanted) refl own it_meets.other it_meets.bit)))
 
 deed_stepped : (state : ModelState) (h : ℕ) (deed : Deed) → DoesWhere state h deed → Grounds state → Standing state →
     Stepped state h (hart_after state h deed (hart_of state h))

@@ -1,19 +1,23 @@
 -- an armed section has read the line of its word alone, and its hart has no live section
-use Rattle.std.proofs.Common.{◌≡◌, ◌∙◌, ◌||◌, ◌⊎◌, ℕ, Bool, true, false, List, Option, None, Some, is_some, refl, ap, sym, subst, inl, inr}
+use Rattle.std.proofs.Common.{◌≡◌, ◌∙◌, ◌||◌, ◌⊎◌, ℕ, Bool, true, false, List, Option, None, Some, is_some, refl, ap, sym, subst, inl, inr, ◌&&◌, ◌==◌, not}
 use Rattle.std.proofs.lemmas.Bool.{cases_eq}
 use Rattle.bus_order.specs.Order.{Request}
+use Rattle.bus_order.proofs.LookUps.{number_of_test}
 use Rattle.cache_sets.specs.Cache.{bit_in, has_marks, is_resident, marked, read_bit, touched, way_of, write_bit}
 use Rattle.cache_sets.specs.Residency.{Way}
 use Rattle.cache_sets.proofs.MarkLemmas.{no_marks}
 use Rattle.el_base.specs.Line.{line_number}
 use Rattle.el_base.specs.declared.outcomes.Need.TheVariants.{Read, Write}
 use Rattle.el_model.specs.Deed.{Arms, Begins, Buffers, Commits, Continues, Deed, DoesWhere, Elides, LetsGo, Misses, Rests, RollsBack, Runs, Waits, hart_after}
+use Rattle.el_model.specs.Armed.{completes}
+use Rattle.el_model.specs.Conflicts.{is_wanted_to_write}
 use Rattle.el_model.specs.Plain.{candidate_of}
+use Rattle.el_model.specs.Upcoming.{Swap, changes_word}
 use Rattle.el_model.specs.Serve.{others_have, own_copy, with_claim}
 use Rattle.el_model.specs.State.{Armed, Hart, ModelState, Section, cache_of, hart_of}
 use Rattle.section_laws.specs.EachHart.{HasNoOtherBit}
 use Rattle.section_laws.proofs.Bits.{NoBitMore, clash, no_more_marked, no_more_others, no_more_own, no_more_touched, no_more_twice, unless}
-use Rattle.section_laws.proofs.Bits.{some_none, write_of_read_marked}
+use Rattle.section_laws.proofs.Bits.{first_of_both, second_of_both, some_none, write_of_read_marked}
 use Rattle.section_laws.proofs.EachKept.{BusKept, EachKept}
 use Rattle.section_laws.proofs.OnlyInside as inside
 use Rattle.section_laws.proofs.Waiting.{candidate_armed}
@@ -158,3 +162,25 @@ kept = record {
   where
     bare : BusKept (λ h hart. inside.Holds hart)
     bare = inside.kept.bus
+
+-- an SC that completes an armed section is to its word, changes that, and finds no other hart that waits to write there
+pub record IsCompleting (state : ModelState) (h : ℕ) (armed : Armed) (swap : Swap) : Type 0 where
+  pub same : swap.word ≡ armed.word
+  pub changes : changes_word swap ≡ true
+  pub unwanted : is_wanted_to_write state h (line_number armed.word) ≡ false
+
+pub completing : (state : ModelState) (h : ℕ) (armed : Armed) (swap : Swap) → completes state h armed swap ≡ true → IsCompleting state h armed swap
+completing state h armed swap is =
+    let first = first_of_both (swap.word == armed.word && changes_word swap) (not wanted) is in
+    record {
+      same = number_of_test swap.word armed.word (first_of_both (swap.word == armed.word) (changes_word swap) first);
+      changes = second_of_both (swap.word == armed.word) (changes_word swap) first;
+      unwanted = not_so wanted (second_of_both (swap.word == armed.word && changes_word swap) (not wanted) is);
+    }
+  where
+    wanted : Bool
+    wanted = is_wanted_to_write state h (line_number armed.word)
+
+    not_so : (b : Bool) → not b ≡ true → b ≡ false
+    not_so true is = absurd (cc)
+    not_so false is = refl

@@ -47,7 +47,7 @@ pub no_call : (insn : Option Insn) → calls insn ≡ false → IsNoCall insn
 no_call None none = tt
 no_call (Some insn) none = none
 
-touched-room : (insn : Option Insn) (view : HartView) (span : Span) (room other : ℕ) → IsNoCall insn →
+pub touched-room : (insn : Option Insn) (view : HartView) (span : Span) (room other : ℕ) → IsNoCall insn →
     insn_touched insn view span room ≡ insn_touched insn view span other
 touched-room None view span room other none = refl
 touched-room (Some insn) view span room other none =
@@ -115,6 +115,11 @@ did_alike left right h same left_runs right_runs does view = record {
       ∙ same_stored (store_in (next_execution left h)) left.base left.bytes right.bytes place same.size is
       ∙ sym (ap (λ new. slice_index new.bytes place) (running left h left_runs));
 }
+
+-- where memory lies
+pub alone_base : (state : FlatState) (h n : ℕ) → (alone state h n).base ≡ state.base
+alone_base state h zero = refl
+alone_base state h (suc n) = alone_base (flat state h) h n ∙ (keeps_shape state h).base
 
 -- one step more at the end
 pub alone_more : (state : FlatState) (h n : ℕ) → alone state h (n + 1) ≡ flat (alone state h n) h

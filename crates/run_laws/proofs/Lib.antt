@@ -2,6 +2,7 @@ pub mod Tests
 pub mod Touches
 pub mod Alike
 pub mod WordStores
+pub mod Reserving
 pub mod Survival
 pub mod Shown
 pub mod Bits
@@ -10,6 +11,7 @@ pub mod Restored
 pub mod Beside
 pub mod Reached
 pub mod EventsBeside
+pub mod LettingGo
 pub mod Kept
 pub mod Reachable
 pub mod OtherHarts

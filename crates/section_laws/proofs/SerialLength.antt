@@ -147,7 +147,7 @@ moves effects old = record {
 }
 
 -- a freed hart keeps nothing, and no more of it takes effect than it has kept
-freed_at_most : (state : ModelState) (head : Request) (g : ℕ) → count_in (freed_by state head) g ≤ freed_count head g (hart_of state g)
+pub freed_at_most : (state : ModelState) (head : Request) (g : ℕ) → count_in (freed_by state head) g ≤ freed_count head g (hart_of state g)
 freed_at_most state head g = by (nat_lt g 8) refl (nat_le (freed_count head g (hart_of state g)) 15) refl
   where
     by : (below : Bool) → nat_lt g 8 ≡ below → (small : Bool) → nat_le (freed_count head g (hart_of state g)) 15 ≡ small →

@@ -133,7 +133,7 @@ pub record DoesSame (h : ℕ) (left right : FlatState) : Type 0 where
   pub runs : status_of left h ≡ Running
   pub execution : next_execution right h ≡ next_execution left h
 
-alike_more : (h n : ℕ) (old new : FlatState) → AlikeAt h old new n → DoesSame h (alone old h n) (alone new h n) →
+pub alike_more : (h n : ℕ) (old new : FlatState) → AlikeAt h old new n → DoesSame h (alone old h n) (alone new h n) →
     AlikeAt h old new (n + 1)
 alike_more h n old new since same =
     let left = alone old h n in

@@ -9,12 +9,12 @@ use Rattle.el_base.specs.declared.config.Mode.TheVariants.{Plain, Sle, Tlr}
 use Rattle.el_base.specs.declared.events.Event.{Event}
 use Rattle.elf_image.specs.Program.{Program}
 use Rattle.el_model.specs.Attempts.{closed_clock, opened, see}
-use Rattle.el_model.specs.BusEvent.{AtFace, AtProbe, Becomes, IsAbsent, IsBusEvent, IsSent, LosesIt, LosesWhere}
+use Rattle.el_model.specs.BusEvent.{AtFace, AtProbe, Becomes, IsAbsent, IsBusEvent, IsLetGo, IsSent, LosesIt, LosesWhere}
 use Rattle.el_model.specs.BusEvent.{Nothing, Places, Sees, Serves}
 use Rattle.el_model.specs.BusEvent.{Start, Starts, StartsWhere, Takes, as_faced, faced_head, having_taken, order_after}
 use Rattle.el_model.specs.BusEvent.{order_at, started}
 use Rattle.el_model.specs.Conflicts.{stamp_in}
-use Rattle.el_model.specs.Deed.{Begins, Buffers, Commits, Deed, Misses, Rests, RollsBack, Runs, Waits, hart_after}
+use Rattle.el_model.specs.Deed.{Arms, Begins, Buffers, Commits, Continues, Deed, Elides, LetsGo, Misses, Rests, RollsBack, Runs, Waits, hart_after}
 use Rattle.el_model.specs.Face.{winning_stamp}
 use Rattle.el_model.specs.Next.{next, state_after, step_turn}
 use Rattle.el_model.specs.Order.{Alone, Behind, InFront, Place}
@@ -163,8 +163,8 @@ module _ (most : ℕ) where
       StartsWhere state by start →
       LosesWhere state by start h winner stamp → AreClocksUpTo most state → IsStampUpTo most stamp
   lost_up_to state by where_it (AtFace start head h winner is apart fate) now =
-      winning_up_to (as_faced state by start) head.line winner
-      (subst (AreRequestsUpTo most) (sym (order_as_faced state by start)) (start_up_to state by start where_it now))
+      winning_up_to (as_faced state by start head) head.line winner
+      (subst (AreRequestsUpTo most) (sym (order_as_faced state by start head)) (start_up_to state by start where_it now))
   lost_up_to state by where_it (AtProbe origin others request is loses) now =
       subst (IsRequestUpTo most) is (request_up_to state.order origin now.ordered)
 
@@ -196,6 +196,7 @@ module _ (most : ℕ) where
   becomes_up_to state by start h where_it now (IsAbsent past) = now.harts h
   becomes_up_to state by start h where_it now (Starts below) = started_up_to state by start h (hart_of state h) (now.harts h)
   becomes_up_to state by start h where_it now (IsSent message lost hart sent before) = becomes_up_to state by start h where_it now before
+  becomes_up_to state by start h where_it now (IsLetGo head hart frees before) = becomes_up_to state by start h where_it now before
   becomes_up_to state by start h where_it now (Sees head lost hart defers before) =
       saw_up_to head.stamp hart (faced_up_to state by start head where_it defers.head_is now) (becomes_up_to state by start h where_it now before)
   becomes_up_to state by start h where_it now (LosesIt winner stamp hart loses before) =
@@ -209,7 +210,7 @@ module _ (most : ℕ) where
   }
 
 -- a step: as an attempt closes, its hart's clock grows to one more than a clock that was there
-candidate_up_to : (most pc : ℕ) (had_watch : Bool) (candidate : Option Swap) (hart : Hart) → IsHartUpTo most hart →
+candidate_up_to : (most : ℕ) (pc : Option ℕ) (had_watch : Bool) (candidate : Option Swap) (hart : Hart) → IsHartUpTo most hart →
     IsHartUpTo most (after_candidate pc had_watch candidate hart)
 candidate_up_to most pc had_watch None hart now = now
 candidate_up_to most pc had_watch (Some swap) hart now = now
@@ -251,6 +252,17 @@ deed_up_to most state h (Commits section) hart now =
 deed_up_to most state h (RollsBack section cause) hart now =
     let more = one_more most hart now in
     record { of_clock = closed_up_to most hart hart.attempt now; of_seen = more.of_seen; of_attempt = tt; of_raised = more.of_raised }
+deed_up_to most state h (Arms word) hart now = one_more most hart now
+deed_up_to most state h (Elides armed swap) hart now =
+    let more = one_more most hart now in
+    record {
+      of_clock = more.of_clock;
+      of_seen = more.of_seen;
+      of_attempt = opened_up_to (most + 1) state.config.mode h hart.clock hart.attempt more.of_clock more.of_attempt;
+      of_raised = more.of_raised;
+    }
+deed_up_to most state h (Continues armed) hart now = one_more most hart now
+deed_up_to most state h (LetsGo armed) hart now = one_more most hart now
 
 step_up_to : (most : ℕ) (state : ModelState) (h : ℕ) → AreClocksUpTo most state → AreClocksUpTo (most + 1) (step_turn state h).state
 step_up_to most state h now =

@@ -1,5 +1,5 @@
 -- what an event leaves as it was
-use Rattle.std.proofs.Common.{◌≡◌, ◌∙◌, ℕ, Bool, true, false, is_some, refl}
+use Rattle.std.proofs.Common.{◌≡◌, ◌∙◌, ℕ, Bool, true, false, is_some, refl, ap, sym}
 use Rattle.std.proofs.Math.ListN.{length-set}
 use Rattle.bus_order.specs.Order.{Request}
 use Rattle.el_base.specs.declared.events.Kind.{Kind}
@@ -11,6 +11,7 @@ use Rattle.el_model.specs.State.{Hart, ModelState, hart_of}
 use Rattle.el_model.proofs.BusEvents.{bus_events_are_told_once}
 use Rattle.el_model.proofs.Deeds.{step_deed}
 use Rattle.el_model.proofs.Harts.{hart_of-with_hart_other}
+use Rattle.rv_flat.specs.Run.{run}
 use Rattle.section_laws.proofs.EachKept.{BusKept, turn_keeps}
 use Rattle.step_laws.specs.Frames.{BusEventsKeep, LeavesOthers, StepsKeepOthers}
 
@@ -30,6 +31,7 @@ same_predictor old = record {
     preceded = λ h hart upstream now. now;
     saw = λ h hart seen later now. now;
     lost = λ h hart now. now;
+    freed = λ h pc hart now. now;
     gave_up = λ h hart now. now;
     tried = λ h hart more now. now;
   };
@@ -42,7 +44,7 @@ pub bus_events_keep : BusEventsKeep
 bus_events_keep state event bus =
     let done = bus_events_are_told_once state event bus in
     record {
-      committed = done.committed;
+      committed = done.committed ∙ sym (ap (run state.committed) (done.effect event.hart.number));
       predictors = turn_keeps (same_predictor state) done (λ g. refl);
       config = done.config;
       count = done.count;

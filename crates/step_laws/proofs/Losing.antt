@@ -7,7 +7,7 @@ use Rattle.el_base.specs.declared.events.Kind.TheVariants as kinds
 use Rattle.el_base.specs.declared.outcomes.Outcome.{Outcome}
 use Rattle.el_base.specs.declared.outcomes.Outcome.TheVariants as outcomes
 use Rattle.el_model.specs.BusEvent.{IsBusEvent}
-use Rattle.el_model.specs.Deed.{Begins, Buffers, Commits, Deed, Misses, Rests, RollsBack, Runs, Waits, hart_after, outcome_of}
+use Rattle.el_model.specs.Deed.{Arms, Begins, Buffers, Commits, Continues, Deed, Elides, LetsGo, Misses, Rests, RollsBack, Runs, Waits, hart_after, outcome_of}
 use Rattle.el_base.specs.Winners.{winner_over}
 use Rattle.el_model.specs.Losses.{HartsAreNumbered, restored, standing_of}
 use Rattle.el_model.specs.Next.{after, kind_turn, next, step_turn}
@@ -55,6 +55,10 @@ deed_unnamed (Begins swap) g = refl
 deed_unnamed (Buffers section touch) g = refl
 deed_unnamed (Commits section) g = refl
 deed_unnamed (RollsBack section cause) g = refl
+deed_unnamed (Arms word) g = refl
+deed_unnamed (Elides armed swap) g = refl
+deed_unnamed (Continues armed) g = refl
+deed_unnamed (LetsGo armed) g = refl
 
 -- a loss ends the section
 lost_by : (state : ModelState) (event : Event) (g winner : ℕ) → HartsAreNumbered state →
@@ -105,6 +109,10 @@ deed_ends state h (Begins swap) live ended = not_both refl ended
 deed_ends state h (Buffers section touch) live ended = not_both refl ended
 deed_ends state h (Commits section) live ended = (refl, inl refl)
 deed_ends state h (RollsBack section cause) live ended = (refl, inr refl)
+deed_ends state h (Arms word) live ended = not_both live ended
+deed_ends state h (Elides armed swap) live ended = not_both refl ended
+deed_ends state h (Continues armed) live ended = not_both live ended
+deed_ends state h (LetsGo armed) live ended = not_both live ended
 
 step_ends : (state : ModelState) (h g : ℕ) → is_live state g ≡ true → is_live (step_turn state h).state g ≡ false →
     (h ≡ g) × HowItEnds (step_turn state h).outcome

@@ -35,8 +35,8 @@ pub fn only_live_sections_lose()
     ensures { OnlyLiveSectionsLose }
 {}
 
-/// An event that is no step leaves what is committed as it was, each hart's predictor, the configuration, and how
-/// many harts there are. This is said of any state.
+/// An event that is no step commits the instructions of the harts that it lets go and nothing else, and leaves each
+/// hart's predictor, the configuration, and how many harts there are. This is said of any state.
 #[tactic(auto, using(crate::proofs::Frames::bus_events_keep))]
 pub fn bus_events_keep()
     ensures { BusEventsKeep }

@@ -139,7 +139,7 @@ module _ (committed : FlatState) (h : ℕ) (cache : List (List Way)) (section : 
       unwritten_at (section.count - (run.before + 1)) section.count (omega (arith, some)) (omega arith) place bare outside
 
   -- in the lock word
-  lock_at : (k n : ℕ) → n ≡ run.before + k + 1 → n ≤ section.count → (place : ℕ) → section.word ≤ committed.base + place →
+  pub lock_at : (k n : ℕ) → n ≡ run.before + k + 1 → n ≤ section.count → (place : ℕ) → section.word ≤ committed.base + place →
       committed.base + place < section.word + 4 →
       slice_index (alone committed h n).bytes place ≡ slice_index (flat (alone committed h run.before) h).bytes place
   lock_at zero n is within place low high =

@@ -1,5 +1,5 @@
 -- each hart waits for one thing at most, and for none where it has stopped or is armed
-use Rattle.std.proofs.Common.{◌≡◌, ◌≢◌, ◌∙◌, ℕ, ◌≤◌, ◌<◌, ◌+◌, Bool, true, false, ◌||◌, List, [], Option, None, Some, is_some, length, refl, ap, sym, subst}
+use Rattle.std.proofs.Common.{◌≡◌, ◌≢◌, ◌∙◌, ℕ, ◌≤◌, ◌+◌, Bool, true, false, ◌||◌, List, Option, None, Some, is_some, length, refl, ap, sym, subst}
 use Rattle.std.proofs.Common.{inl, inr, ◌⊎◌}
 use Rattle.std.proofs.lemmas.Bool.{cases_eq}
 use Rattle.bus_order.specs.Order.{Request, removed, request_of}
@@ -13,10 +13,10 @@ use Rattle.el_base.specs.declared.outcomes.Need.{Need}
 use Rattle.el_base.specs.declared.events.Event.{Event}
 use Rattle.elf_image.specs.Program.{Program}
 use Rattle.el_model.specs.Armed.{freed_hart, is_freed, let_go, let_go_hart}
-use Rattle.el_model.specs.BusEvent.{IsBusEvent, Nothing, Places, Serves, Start, StartsWhere, Takes, as_met, faced_head, freed_in, having_taken}
+use Rattle.el_model.specs.BusEvent.{IsBusEvent, Nothing, Places, Serves, Start, StartsWhere, Takes, as_met, faced_head, having_taken}
 use Rattle.el_model.specs.BusEvent.{order_after, order_at, started}
 use Rattle.el_model.specs.Deed.{Arms, Begins, Buffers, Commits, Continues, Deed, DoesWhere, Elides, IsArmed, IsInside, IsOutside, LetsGo, Misses, MustRollBack, Rests, RollsBack, Runs, Waits, committed_after, done, hart_after}
-use Rattle.el_model.specs.Face.{faced, freed_if, met}
+use Rattle.el_model.specs.Face.{faced, met}
 use Rattle.el_model.specs.Next.{after, next, step_turn}
 use Rattle.el_model.specs.Order.{Alone, Behind, InFront, Place}
 use Rattle.el_model.specs.Plain.{after_candidate, candidate_of}
@@ -35,7 +35,6 @@ use Rattle.el_model.proofs.Tests.{by_hart, by_test}
 use Rattle.rv_alu.specs.declared.view.HartStatus.{HartStatus}
 use Rattle.rv_alu.specs.declared.view.HartStatus.TheVariants.{Running}
 use Rattle.rv_flat.specs.FlatState.{status_of, view_of}
-use Rattle.rv_flat.specs.Run.{run}
 use Rattle.section_laws.specs.Waiting.{HasNothing, OnlyHolds, RunsWithNothing, WaitsForOne}
 use Rattle.section_laws.proofs.Moves.{Moves, faced_keeps, freed_is_armed, moved, taken_keeps}
 use Rattle.section_laws.proofs.Statuses.{alone_status, flat_status, let_go_status}

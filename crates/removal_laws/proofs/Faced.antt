@@ -15,7 +15,7 @@ use Rattle.removal_laws.specs.Facts.{Everywhere, MayRetain, Messages, Retaining}
 use Rattle.removal_laws.proofs.Facing.{face_may, face_posts}
 use Rattle.removal_laws.proofs.Grounds.{Standing}
 use Rattle.removal_laws.proofs.Kept.{AllPosted, messages_moved, moved_by_post, retaining_posted}
-use Rattle.removal_laws.proofs.Posting.{Posted, let_go_posts, posted_twice, unchanged}
+use Rattle.removal_laws.proofs.Posting.{Posted, let_go_posts, unchanged}
 use Rattle.removal_laws.proofs.Requests.{AllBelow}
 use Rattle.rv_flat.specs.FlatState.{view_of}
 use Rattle.section_laws.proofs.Bits.{Fewer, fewer_twice}

@@ -17,7 +17,7 @@ use Rattle.el_model.specs.Losses.{standing_of}
 use Rattle.el_model.specs.Next.{kind_turn, step_turn}
 use Rattle.el_model.specs.Plain.{after_candidate, candidate_of}
 use Rattle.el_model.specs.Serve.{bystander, others_have, own_copy, served_hart}
-use Rattle.el_model.specs.State.{Armed, Hart, ModelState, Section, Turn, armed_of, cache_of, hart_of, ordered_of, raised_of, section_of}
+use Rattle.el_model.specs.State.{Hart, ModelState, Section, Turn, armed_of, cache_of, hart_of, ordered_of, raised_of, section_of}
 use Rattle.el_model.specs.Upcoming.{Swap}
 use Rattle.el_model.proofs.BusEvents.{by_kind}
 use Rattle.el_model.proofs.Deeds.{step_deed}

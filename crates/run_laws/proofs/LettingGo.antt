@@ -1,6 +1,6 @@
 -- what an event of the bus changes beside a hart: nothing, where it lets the hart not go
-use Rattle.std.proofs.Common.{◌≡◌, ◌≢◌, ◌∙◌, ◌≤◌, ◌+◌, ◌⊎◌, ℕ, zero, suc, Bool, true, false, List, Option, None, Some, is_some, replicate, refl, ap}
-use Rattle.std.proofs.Common.{sym, subst, arith, inl, inr, if◌then◌else◌}
+use Rattle.std.proofs.Common.{◌≡◌, ◌≢◌, ◌∙◌, ◌≤◌, ◌+◌, ◌⊎◌, ℕ, zero, suc, Bool, true, false, List, [], ◌∷◌, Option, None, Some, is_some, replicate, refl, ap}
+use Rattle.std.proofs.Common.{sym, subst, arith, inl, inr}
 use Rattle.bus_order.specs.Order.{Request}
 use Rattle.cache_sets.specs.Residency.{Way}
 use Rattle.el_base.proofs.FreedOrder.{order_below-more}
@@ -13,12 +13,13 @@ use Rattle.el_model.specs.Face.{freed_if, met}
 use Rattle.el_model.specs.Plain.{armed_count}
 use Rattle.el_model.specs.State.{Armed, Hart, ModelState, Turn, armed_of, cache_of, hart_of}
 use Rattle.el_model.proofs.BusEvents.{met_becomes}
-use Rattle.el_model.proofs.EachHart.{Each, each_become}
+use Rattle.el_model.proofs.EachHart.{each_become}
 use Rattle.el_model.proofs.Harts.{hart_of-past}
 use Rattle.el_model.proofs.Tests.{by_test}
-use Rattle.rv_flat.proofs.StepLaws.{run_append}
+use Rattle.rv_flat.proofs.StepLaws.{keeps_shape, run_append}
 use Rattle.rv_flat.specs.FlatState.{FlatState, view_of}
 use Rattle.rv_flat.specs.Run.{alone, run}
+use Rattle.rv_flat.specs.Step.{flat}
 use Rattle.section_laws.proofs.Bits.{clash}
 use Rattle.section_laws.proofs.EachKept.{BusKept, becomes_keeps}
 use Rattle.section_laws.proofs.Moves.{Moves, faced_keeps, freed_is_armed}
@@ -28,14 +29,19 @@ use Rattle.section_laws.proofs.Waiting.{claim_armed}
 use Rattle.run_laws.proofs.Beside.{armed_beside, beside_twice, same_beside}
 use Rattle.run_laws.proofs.Bits.{same_bits}
 use Rattle.run_laws.proofs.EventsBeside.{AllArmed}
+use Rattle.run_laws.proofs.Reserving.{armed_memory}
 use Rattle.run_laws.proofs.Survival.{armed_survives}
-use Rattle.run_laws.specs.PrivateRun.{IsArmedRun, IsChangeBeside}
+use Rattle.run_laws.specs.PrivateRun.{IsArmedRun, IsChangeBeside, KeepsMemory}
 
 -- so many instructions of a hart are of an armed run
 pub record HasRun (committed : FlatState) (h : ℕ) (cache : List (List Way)) (n : ℕ) : Type 0 where
   pub armed : Armed
   pub run : IsArmedRun committed h cache armed
   pub within : n ≤ armed.count
+
+run_base : (state : FlatState) (harts : List ℕ) → (run state harts).base ≡ state.base
+run_base state [] = refl
+run_base state (h ∷ harts) = run_base (flat state h) harts ∙ (keeps_shape state h).base
 
 -- the harts that are let go take effect one after another, and each survives what those before it changed
 module _ (committed : FlatState) (caches : ℕ → List (List Way)) (freed : Freed)
@@ -78,6 +84,26 @@ module _ (committed : FlatState) (caches : ℕ → List (List Way)) (freed : Fre
   pub freed_beside : (g : ℕ) → count_in freed g ≡ 0 → IsChangeBeside g (caches g) committed (run committed (order_of freed))
   unfolding order_of
   freed_beside g none = below_beside 8 g (inr none)
+
+  -- and memory is as it was
+  next_memory : (n count : ℕ) → count_in freed n ≡ count → (alone (after_below n) n count).bytes ≡ (after_below n).bytes
+  next_memory n zero is = refl
+  next_memory n (suc k) is =
+      let some : 1 ≤ count_in freed n = omega (arith, is) in
+      let mine = runs n some in
+      let within = mine.within in
+      armed_memory (after_below n) n (caches n) mine.armed
+      (armed_survives n (caches n) mine.armed committed (after_below n) mine.run (below_beside n n (inl (omega arith)))) (suc k)
+      (omega (arith, is, within))
+
+  below_memory : (n : ℕ) → (after_below n).bytes ≡ committed.bytes
+  below_memory zero = refl
+  below_memory (suc n) =
+      ap (λ state. state.bytes) (one_more n) ∙ next_memory n (count_in freed n) refl ∙ below_memory n
+
+  pub freed_memory : KeepsMemory committed (run committed (order_of freed))
+  unfolding order_of
+  freed_memory = record { base = run_base committed (order_below 8 freed); bytes = below_memory 8 }
 
 -- a hart that is armed in an event of the bus was so before, in the same section
 same_armed : (old : ModelState) → BusKept (λ h hart. (armed : Armed) → hart.armed ≡ Some armed → armed_of old h ≡ Some armed)
@@ -126,16 +152,22 @@ has_run state caches h n None most some runs = absurd (omega (arith, most, some)
 has_run state caches h n (Some armed) most some runs = record { armed = armed; run = runs armed refl; within = most }
 
 -- as a head lets harts go
+let_go_runs : (state : ModelState) (head : Request) → AllArmed state → (h : ℕ) → 1 ≤ count_in (freed_by state head) h →
+    HasRun state.committed h (cache_of state h) (count_in (freed_by state head) h)
+let_go_runs state head all h some =
+    let most = freed_at_most state head h in
+    let of_armed = freed_of_armed head h (hart_of state h) in
+    has_run state (cache_of state) h (count_in (freed_by state head) h) (armed_of state h) (omega (arith, most, of_armed)) some (all h)
+
 pub let_go_beside : (state : ModelState) (head : Request) (g : ℕ) → AllArmed state → is_freed head g (hart_of state g) ≡ false →
     IsChangeBeside g (cache_of state g) state.committed (let_go state head).committed
 unfolding let_go
 let_go_beside state head g all unfreed =
-    freed_beside state.committed (cache_of state) (freed_by state head)
-    (λ h some.
-    let most = freed_at_most state head h in
-    let of_armed = freed_of_armed head h (hart_of state h) in
-    has_run state (cache_of state) h (count_in (freed_by state head) h) (armed_of state h) (omega (arith, most, of_armed)) some (all h))
-    g (unfreed_count state head g unfreed)
+    freed_beside state.committed (cache_of state) (freed_by state head) (let_go_runs state head all) g (unfreed_count state head g unfreed)
+
+pub let_go_memory : (state : ModelState) (head : Request) → AllArmed state → KeepsMemory state.committed (let_go state head).committed
+unfolding let_go
+let_go_memory state head all = freed_memory state.committed (cache_of state) (freed_by state head) (let_go_runs state head all)
 
 -- and so in an event of the bus
 event_runs : (state : ModelState) (by : ℕ) (start : Start) → AllArmed state → (found : Option Request) → faced_head state start ≡ found →

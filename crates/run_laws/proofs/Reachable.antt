@@ -1,6 +1,5 @@
 -- in every state that can be reached live and armed sections run covered, and other harts change nothing that they show
 use Rattle.std.proofs.Common.{◌≡◌, ◌≢◌, ◌∙◌, ◌+◌, ◌⊎◌, ℕ, true, List, [], ◌∷◌, None, Some, is_some, replicate, refl, ap, sym, subst, inl, inr, arith}
-use Rattle.cache_sets.specs.Residency.{Way}
 use Rattle.el_base.specs.Freed.{count_in, order_of}
 use Rattle.el_base.specs.declared.config.Config.{Config}
 use Rattle.el_base.specs.declared.events.Event.{Event}
@@ -22,13 +21,14 @@ use Rattle.section_laws.proofs.Coherence.{copies_are_coherent, written_lines_are
 use Rattle.section_laws.proofs.LetGone.{always_guarded, next_guarded}
 use Rattle.section_laws.proofs.Numbered.{one_ordered_request_each}
 use Rattle.section_laws.proofs.OnceEach.{no_set_has_a_line_twice}
+use Rattle.run_laws.proofs.Alike.{alone_base}
 use Rattle.run_laws.proofs.EventsBeside.{AllArmed, AllCovered, Sound, deed_beside}
 use Rattle.run_laws.proofs.Kept.{kind_armed, kind_covered}
-use Rattle.run_laws.proofs.LettingGo.{IsGone, bus_beside, let_go_beside, spared_or_gone}
+use Rattle.run_laws.proofs.LettingGo.{IsGone, bus_beside, let_go_beside, let_go_memory, spared_or_gone}
 use Rattle.run_laws.proofs.Reached.{kept_along}
 use Rattle.run_laws.proofs.Reserving.{armed_memory}
 use Rattle.run_laws.proofs.Tests.{not_both}
-use Rattle.run_laws.specs.Laws.{ArmedRunsLeaveMemory, ArmedSectionsRunCovered, LettingGoChangesNothingBeside, LiveSectionsRunCovered}
+use Rattle.run_laws.specs.Laws.{ArmedRunsLeaveMemory, ArmedSectionsRunCovered, LettingGoChangesNothingBeside, LettingGoLeavesMemory, LiveSectionsRunCovered}
 use Rattle.run_laws.specs.Laws.{OtherHartsChangeNothingCovered}
 use Rattle.run_laws.specs.PrivateRun.{IsChangeBeside}
 
@@ -124,7 +124,14 @@ letting_go_changes_nothing_beside program config events head h bytes unfreed =
     let_go_beside (after program config events) head h (always_holds program config bytes events).armed_runs unfreed
 
 pub armed_runs_leave_memory : ArmedRunsLeaveMemory
-armed_runs_leave_memory committed h cache armed run = armed_memory committed h cache armed run armed.count (omega arith)
+armed_runs_leave_memory committed h cache armed run = record {
+  base = alone_base committed h armed.count;
+  bytes = armed_memory committed h cache armed run armed.count (omega arith);
+}
+
+pub letting_go_leaves_memory : LettingGoLeavesMemory
+letting_go_leaves_memory program config events head bytes =
+    let_go_memory (after program config events) head (always_holds program config bytes events).armed_runs
 
 -- an event of another hart that lets this one not go
 spared_beside : {state : ModelState} {by : ℕ} {turn : Turn} → (done : IsBusEvent state by turn) → AllArmed state → (g : ℕ) →

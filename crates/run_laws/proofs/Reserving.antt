@@ -7,7 +7,7 @@ use Rattle.cache_sets.specs.Residency.{Way}
 use Rattle.elf_image.specs.Program.{code_word}
 use Rattle.el_model.specs.Armed.{is_quiet}
 use Rattle.el_model.specs.State.{Armed}
-use Rattle.el_model.specs.Upcoming.{Swap, calls, calls_or_stops, is_load_reserved, is_store_conditional, next_access, next_conditional, next_execution}
+use Rattle.el_model.specs.Upcoming.{Swap, calls, calls_or_stops, is_load_reserved, is_store_conditional, next_access, next_conditional}
 use Rattle.el_model.specs.Upcoming.{next_reserved, next_store, next_touch, read_at, stops, swap_of, touch_of}
 use Rattle.rv_alu.specs.Action.{action_at, action_of, checked_of, has_reserved_of}
 use Rattle.rv_alu.specs.Cause.{load_access_fault, load_address_misaligned}

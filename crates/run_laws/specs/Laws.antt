@@ -16,7 +16,7 @@ use Rattle.el_model.specs.Upcoming.{is_release}
 use Rattle.rv_flat.specs.FlatState.{FlatState}
 use Rattle.rv_flat.specs.Memory.{AreBytes}
 use Rattle.rv_flat.specs.Run.{alone}
-use Rattle.run_laws.specs.PrivateRun.{IsArmedRun, IsChangeBeside, IsCoveredRun, ShowsItsOwn, ShowsTheSame}
+use Rattle.run_laws.specs.PrivateRun.{IsArmedRun, IsChangeBeside, IsCoveredRun, KeepsMemory, ShowsItsOwn, ShowsTheSame}
 
 -- a covered run depends on what its bits cover alone: after a change beside its hart it is covered as before, and shows the same
 abbrev pub CoveredRunsSurvive : Type 0
@@ -34,7 +34,7 @@ ArmedRunsSurvive =
 abbrev pub ArmedRunsLeaveMemory : Type 0
 ArmedRunsLeaveMemory =
     (committed : FlatState) (h : ℕ) (cache : List (List Way)) (armed : Armed) → IsArmedRun committed h cache armed →
-    (alone committed h armed.count).bytes ≡ committed.bytes
+    KeepsMemory committed (alone committed h armed.count)
 
 -- a covered run shows its new value in the lock word, and what is committed outside of that word and of the lines with its write bit
 abbrev pub CoveredRunsShowTheirOwn : Type 0
@@ -63,6 +63,12 @@ LettingGoChangesNothingBeside =
     is_freed head h (hart_of (after program config events) h) ≡ false →
     IsChangeBeside h (cache_of (after program config events) h) (after program config events).committed
     (let_go (after program config events) head).committed
+
+-- and memory is as it was
+abbrev pub LettingGoLeavesMemory : Type 0
+LettingGoLeavesMemory =
+    (program : Program) (config : Config) (events : List Event) (head : Request) → AreBytes program.bytes →
+    KeepsMemory (after program config events).committed (let_go (after program config events) head).committed
 
 -- an event of another hart changes what is committed beside each hart that it lets not go: nothing on a line with one of its bits, and of
 -- its view nothing but the reservation

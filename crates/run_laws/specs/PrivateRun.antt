@@ -67,6 +67,11 @@ pub record IsChangeBeside (h : ℕ) (cache : List (List Way)) (old new : FlatSta
   pub bytes : (place : ℕ) → has_bit cache (line_number (old.base + place)) ≡ true →
       slice_index new.bytes place ≡ slice_index old.bytes place
 
+-- memory is as it was
+pub record KeepsMemory (old new : FlatState) : Type 0 where
+  pub base : new.base ≡ old.base
+  pub bytes : new.bytes ≡ old.bytes
+
 -- so many steps of a hart alone show the same from two committed states: the same view, and each byte that is the same in
 -- both committed states the same
 pub record ShowsTheSame (h count : ℕ) (old new : FlatState) : Type 0 where

@@ -5,6 +5,7 @@ ghost use Rattle.run_laws.specs.Laws.{
   CoveredRunsShowTheirOwn,
   CoveredRunsSurvive,
   LettingGoChangesNothingBeside,
+  LettingGoLeavesMemory,
   LiveSectionsRunCovered,
   LoadedProgramsAreBytes,
   OtherHartsChangeNothingCovered,
@@ -27,7 +28,6 @@ pub fn armed_runs_survive()
 {}
 
 /// The private run of an armed section leaves memory as it was: none of its instructions stores.
-#[tactic(auto, using(crate::proofs::Reachable::armed_runs_leave_memory))]
 pub fn armed_runs_leave_memory()
     ensures { ArmedRunsLeaveMemory }
 {}
@@ -58,6 +58,11 @@ pub fn armed_sections_run_covered()
 /// a line with a bit of a hart that it lets not go, and of that hart's view nothing but the reservation.
 pub fn letting_go_changes_nothing_beside()
     ensures { LettingGoChangesNothingBeside }
+{}
+
+/// And memory lies where it did, with the bytes that it had.
+pub fn letting_go_leaves_memory()
+    ensures { LettingGoLeavesMemory }
 {}
 
 /// From a program whose memory is bytes, in every state that can be reached, an event of another hart that lets not

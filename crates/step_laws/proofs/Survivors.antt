@@ -10,7 +10,6 @@ use Rattle.el_model.specs.BusEvent.{IsBusEvent, freed_in}
 use Rattle.el_base.specs.Freed.{count_in}
 use Rattle.el_model.specs.State.{ModelState, Section, Turn, armed_of, cache_of, hart_of, is_live, section_of}
 use Rattle.el_model.proofs.BusEvents.{by_event}
-use Rattle.rv_flat.specs.FlatState.{FlatState}
 use Rattle.rv_flat.specs.Memory.{AreBytes}
 use Rattle.run_laws.proofs.Bits.{KeepsBits, run_kept}
 use Rattle.run_laws.proofs.Kept.{IsKept, other_step_kept, turn_kept}

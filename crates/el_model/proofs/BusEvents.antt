@@ -195,7 +195,7 @@ module _ (state : ModelState) (by : ℕ) (start : Start) (head : Request) (is : 
           else after_fate mid head (fate_at mid head h) (hart_of mid h))
       by_own true test =
           let posted = subst (λ k. ArePosted state by start k (markers_for mid.config.mode mid head)) (sym (number_of_test h head.hart test))
-              (markers_posted mid.config.mode refl) in
+          (markers_posted mid.config.mode refl) in
           subst (λ fate. Becomes state by start h (winner_in fate) (post_all (hart_of mid h) (markers_for mid.config.mode mid head)))
           (sym (own_is_unmet mid head h (hart_of mid h) test))
           (all_sent state by start h (hart_of mid h) (markers_for mid.config.mode mid head) posted (each h))
@@ -518,10 +518,10 @@ module _ (state : ModelState) (by sender : ℕ) (others : List Message) (mail_is
       let preceded = with_hart left_mail by hart in
       let messages = Probe by ∷ map Probe (told_on left_mail by sender (ordered_of left_mail by)) in
       let before : Each (Unbeaten state by (Takes (Marker sender) others)) preceded =
-          taken_started state by (Marker sender) others mail_is (Unbeaten state by (Takes (Marker sender) others)) hart
-          (subst (λ old. Unbeaten state by (Takes (Marker sender) others) by (record old { upstream = included old.upstream sender }))
-          (sym (taken_own state by (Marker sender) others mail_is)) (own_taken state by (Marker sender) others mail_is))
-          (λ g apart now. now) in
+      taken_started state by (Marker sender) others mail_is (Unbeaten state by (Takes (Marker sender) others)) hart
+      (subst (λ old. Unbeaten state by (Takes (Marker sender) others) by (record old { upstream = included old.upstream sender }))
+      (sym (taken_own state by (Marker sender) others mail_is)) (own_taken state by (Marker sender) others mail_is))
+      (λ g apart now. now) in
       taken_event state by (Marker sender) others mail_is (post_to preceded sender messages) (λ h. None)
       (keeps_twice (taken_keeps state by (Marker sender) others mail_is) (keeps_message left_mail by (Marker sender)))
       refl
@@ -613,10 +613,10 @@ module _ (state : ModelState) (by origin : ℕ) (others : List Message) (mail_is
       let told = with_hart probe_left by (told_of probe_left by origin request) in
       let Lost : ℕ → Hart → Type 0 = λ h hart. Becomes state by probe_start h (lost_if loses h) hart in
       let each : Each Lost told =
-          taken_started state by (Probe origin) others mail_is Lost (told_of probe_left by origin request)
-          (subst (λ lost. Lost by (if lost then beaten state.config.mode (stamp_in request) told_hart else told_hart)) (sym loses_is)
-          (told_becomes request is loses loses_is))
-          (λ g apart now. subst (λ lost. Becomes state by probe_start g lost (hart_of state g)) (sym (not_lost loses g apart)) now) in
+      taken_started state by (Probe origin) others mail_is Lost (told_of probe_left by origin request)
+      (subst (λ lost. Lost by (if lost then beaten state.config.mode (stamp_in request) told_hart else told_hart)) (sym loses_is)
+      (told_becomes request is loses loses_is))
+      (λ g apart now. subst (λ lost. Becomes state by probe_start g lost (hart_of state g)) (sym (not_lost loses g apart)) now) in
       taken_event state by (Probe origin) others mail_is (after_probe probe_left by origin request) (lost_if loses)
       (keeps_twice (taken_keeps state by (Probe origin) others mail_is) (keeps_twice (keeps_with_hart probe_left by _) (keeps_each_hart told _)))
       refl

@@ -16,7 +16,7 @@ mod laws;
 pub use laws::{
     armed_runs_leave_memory, armed_runs_survive, armed_sections_run_covered,
     covered_runs_show_their_own, covered_runs_survive, letting_go_changes_nothing_beside,
-    letting_go_leaves_memory,
-    live_sections_run_covered, loaded_programs_are_bytes, other_harts_change_nothing_covered,
-    other_harts_change_nothing_shown, releases_commit, sections_survive_other_harts,
+    letting_go_leaves_memory, live_sections_run_covered, loaded_programs_are_bytes,
+    other_harts_change_nothing_covered, other_harts_change_nothing_shown, releases_commit,
+    sections_survive_other_harts,
 };

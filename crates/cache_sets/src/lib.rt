@@ -9,6 +9,7 @@
 
 mod bits;
 mod evicted;
+mod line;
 mod set;
 mod sets;
 mod way;

@@ -2,6 +2,7 @@
 use Rattle.std.proofs.Common.{◌≡◌, ◌≢◌, ◌⊎◌, ℕ, zero, suc, ◌+◌, ◌*◌, ◌%◌, ◌≤◌, ◌<◌, true, false, List, ◌∷◌, length, map, get_or, Option, None, Some, option_map, is_some, refl, ap, sym, subst, ◌∙◌, arith}
 use Rattle.std.specs.Option.{option_map_or}
 use Rattle.std.specs.List.{sum_by}
+use Rattle.std.specs.Prelude.{slice_index}
 use Rattle.std.proofs.lemmas.Bool.Decides.{nat_tests}
 use Rattle.std.proofs.lemmas.List.{length-map}
 use Rattle.std.proofs.lemmas.List.Sums.{sum_by-cons}
@@ -96,9 +97,6 @@ module _ (ways marks writes : ℕ) (cache : List (List code.Line)) (line : LineA
     (sound : IsSound ways cache marks writes) (leaves : Leaves ways cache line.number gone)
     (room : room_of ways (residency_of cache) line.number ≡ true) (absent : is_resident (residency_of cache) line.number ≡ false)
     (valid : letter ≢ I) (slot : Slot) where
-  n : ℕ
-  n = line.number
-
   abbrev new_line : code.Line
   new_line = record { way = new_way line letter; slot = slot }
 
@@ -138,6 +136,10 @@ module _ (ways marks writes : ℕ) (cache : List (List code.Line)) (line : LineA
       by_line None none = refl
       by_line (Some l) none = absurd cc
 
+  -- what is behind it
+  behind : (l : ℕ) → l ≢ line.number → found number_of filled_set l ≡ found number_of (left_by (set_at cache line.number) gone) l
+  behind l other = grind (arith, nat_tests)
+
   -- what left was another line of the same set
   module _ (l : code.Line) (is : gone ≡ Some l) where
     gone_other : number_of l ≢ line.number
@@ -162,9 +164,6 @@ module _ (ways marks writes : ℕ) (cache : List (List code.Line)) (line : LineA
         ∙ behind (number_of l) gone_other
         ∙ ap (λ g. found number_of (left_by (set_at cache line.number) g) (number_of l)) is
         ∙ found-without_same number_of (set_at cache line.number) (number_of l)
-
-  behind : (l : ℕ) → l ≢ line.number → found number_of filled_set l ≡ found number_of (left_by (set_at cache line.number) gone) l
-  behind l other = grind (arith, nat_tests)
 
   new_at : line_at filled_lines line.number ≡ Some new_line
   new_at = line_at-with_same cache line.number filled_set line.number some_set refl ∙ grind (arith, nat_tests)

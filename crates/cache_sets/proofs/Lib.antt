@@ -7,12 +7,21 @@ pub mod Unmarked
 pub mod AbsentLetters
 pub mod AbsentLines
 pub mod WrittenLines
-mod VictimPlaces
-mod BitLemmas
-mod Shown
-mod Totals
-mod Slots
-mod Reached
-mod Counts
-mod Changes
-mod Fills
+pub mod VictimPlaces
+pub mod BitLemmas
+pub mod Shown
+pub mod Totals
+pub mod Slots
+pub mod Reached
+pub mod Counts
+pub mod Changes
+pub mod Loans
+pub mod Laws
+pub mod Drops
+pub mod Fills
+pub mod After
+pub mod Filled
+pub mod Every
+pub mod Rooms
+pub mod Made
+pub mod Readings

@@ -17,9 +17,9 @@ pub record Reaches (sets : List Set) (line number : ℕ) (set : Set) : Type 0 wh
   pub within : number < length sets
   pub read : set ≡ get_or sets number set
 
-pub reached : (sets slice : List Set) (line number : ℕ) (set : Set) → slice ≡ sets → number ≡ line % length slice → number < length slice
+pub reached : {sets slice : List Set} {line number : ℕ} {set : Set} → slice ≡ sets → number ≡ line % length slice → number < length slice
     → set ≡ get_or sets number set → Reaches sets line number set
-reached sets slice line number set same is within read = record {
+reached {sets} {slice} {line} {number} {set} same is within read = record {
   number_is = is ∙ ap (λ s. line % length s) same;
   within = omega (arith, within, ap length same);
   read = read;

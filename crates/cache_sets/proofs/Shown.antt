@@ -1,7 +1,7 @@
 -- What the lines of a cache show: the residency, each line's way and slot, and the copies that a pool's bytes make of them.
-use Rattle.std.proofs.Common.{◌≡◌, ◌≢◌, ℕ, zero, suc, ◌+◌, ◌%◌, ◌≤◌, ◌<◌, cond, eqb, List, [], ◌∷◌, length, map, get_or, Option, None, Some, option_map, refl, ap, sym, inl, inr, ◌∙◌, arith}
+use Rattle.std.proofs.Common.{◌≡◌, ◌≢◌, ℕ, zero, suc, ◌+◌, ◌%◌, ◌≤◌, ◌<◌, cond, eqb, List, [], ◌∷◌, length, map, get_or, Option, None, Some, option_map, is_some, refl, ap, sym, inl, inr, ◌∙◌, arith}
 use Rattle.std.specs.Option.{option_map_or}
-use Rattle.std.specs.List.{sum_by}
+use Rattle.std.specs.List.{position, sum_by}
 use Rattle.std.specs.Prelude.{slice_set}
 use Rattle.std.proofs.lemmas.Bool.{cases_eq}
 use Rattle.std.proofs.lemmas.Bool.Decides.{nat_tests}
@@ -18,7 +18,7 @@ use Rattle.cache_sets.specs.Kept.{line_at, number_of, residency_of, set_at, show
 use Rattle.cache_sets.specs.Residency.{Way, way_in}
 use Rattle.cache_sets.specs.Slotted.{lent, slot_in, slot_of}
 use Rattle.cache_sets.specs.WellFormed.{IsWellFormed}
-use Rattle.cache_sets.proofs.KeyedLemmas.{found-map}
+use Rattle.cache_sets.proofs.KeyedLemmas.{found-map, position-some}
 use Rattle.cache_sets.proofs.ResidencyLemmas.{line_of, way_in-found}
 
 -- the set of a line, and the way of a line in a set and in the cache
@@ -141,3 +141,13 @@ module _ (cache : List (List code.Line)) (line : ℕ) (set : List code.Line) whe
     | inl same ↦ line_at-with_same l some same ∙ kept ∙ ap (λ n. found number_of (get_or cache n []) l) (sym same)
     | inr other ↦ ap (λ s. found number_of s l) (set_at-with_other l other)
   ]
+
+-- a line is in a set exactly where it has a place there
+pub some_place : (lines : List code.Line) (line : ℕ) (place : Option ℕ) → place ≡ position (λ l. eqb (number_of l) line) lines
+    → is_some place ≡ is_some (way_in (map shown_line lines) line)
+some_place lines line place is =
+    ap is_some is ∙ position-some number_of lines line ∙ some_shown (found number_of lines line) ∙ ap is_some (sym (way_in_shown lines line))
+  where
+    some_shown : (l : Option code.Line) → is_some l ≡ is_some (option_map shown_line l)
+    some_shown None = refl
+    some_shown (Some l) = refl

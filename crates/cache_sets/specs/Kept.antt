@@ -1,5 +1,5 @@
 -- how a cache's fields show its sets, and what they keep
-use Rattle.std.specs.Prelude.{◌≡◌, ◌≢◌, ◌≤◌, ◌<◌, ◌%◌, ◌==◌, ℕ, true, List, [], ◌∷◌, map, length, count_by, sum_by, nat_lt, if◌then◌else◌, slice_index_or, slice_set, Option, None, Some, option_map, vec_capacity}
+use Rattle.std.specs.Prelude.{◌≡◌, ◌≢◌, ◌≤◌, ◌<◌, ◌%◌, ◌==◌, ℕ, true, All, List, [], ◌∷◌, map, length, count_by, sum_by, nat_lt, if◌then◌else◌, slice_index_or, slice_set, Option, None, Some, option_map, vec_capacity}
 use Rattle.std.specs.Option.{option_map_or}
 use Rattle.el_base.specs.declared.line.LineAddr.{LineAddr}
 use Rattle.el_base.specs.declared.outcomes.Need.{Need}
@@ -90,7 +90,7 @@ pub record IsEmpty (ways : ℕ) (set : Set) : Type 0 where
 -- so many sets that have no lines
 pub record AreEmpty (ways count : ℕ) (sets : List Set) : Type 0 where
   pub count_is : length sets ≡ count
-  pub each : (k : ℕ) (d : Set) → k < length sets → IsEmpty ways (slice_index_or sets k d)
+  pub each : All (IsEmpty ways) sets
 
 -- the lines that stay as one leaves, if one does
 abbrev pub left_by : List code.Line → Option code.Line → List code.Line

@@ -314,3 +314,80 @@ fn what_is_written_is_read_from_that_line_alone(rt: HostRuntime) -> Result<(), F
     assert_eq!(rt; cache.out(), 3);
     Ok(())
 }
+
+/// Two caches of one line each, with slots of one pool.
+#[derive(Drop)]
+struct Pair {
+    pool: Pool,
+    first: Sets,
+    second: Sets,
+}
+
+impl Model for Pair {
+    ghost use Rattle.std.specs.Prelude.{◌≢◌};
+    ghost use Rattle.cache_sets.specs.Slotted.{IsLent, Slotted};
+
+    ghost Value = { Slotted };
+
+    ghost view = { λ pair. pair.first };
+
+    ghost invariant = { λ pair. IsLent pair.pool pair.first × IsLent pair.pool pair.second × (pair.first.owner ≢ pair.second.owner) };
+}
+
+impl Pair {
+    /// Two caches without lines.
+    fn make(alloc: Global) -> Result<Pair, Fail> {
+        let config = Config {
+            sets: 1,
+            ways: 1,
+            ..Config::usual()
+        };
+        if config.check().is_err() {
+            return Err("no such cache".into());
+        }
+        let first = Sets::make(alloc, &config, 0)?;
+        let second = Sets::make(alloc, &config, 1)?;
+        let pool = Pool::make(alloc, &[1, 1])?;
+        Ok(Pair {
+            pool,
+            first,
+            second,
+        })
+    }
+
+    /// Fills a line of the first cache, and of the second, with bytes that are all one. Tells the first byte of a line
+    /// that left.
+    fn fill_first(&mut self, number: u8, byte: u8) -> Option<u8> {
+        let line = line(number);
+        if self.first.has(line) || !self.first.room(line) {
+            return None;
+        }
+        let gone = self
+            .first
+            .fill(&mut self.pool, line, Letter::E, &[byte; 64])?;
+        Some(gone.bytes[0])
+    }
+
+    fn fill_second(&mut self, number: u8, byte: u8) -> Option<u8> {
+        let line = line(number);
+        if self.second.has(line) || !self.second.room(line) {
+            return None;
+        }
+        let gone = self
+            .second
+            .fill(&mut self.pool, line, Letter::E, &[byte; 64])?;
+        Some(gone.bytes[0])
+    }
+}
+
+#[test]
+fn two_caches_have_a_slot_each(rt: HostRuntime) -> Result<(), Fail> {
+    let mut pair = Pair::make(rt.alloc())?;
+    assert_eq!(rt; pair.fill_first(4, 0x11), None);
+    assert_eq!(rt; pair.fill_second(4, 0x22), None);
+    assert_eq!(rt; pair.fill_first(5, 0x33), Some(0x11));
+    assert_eq!(rt; pair.fill_second(6, 0x44), Some(0x22));
+    assert_eq!(rt; pair.fill_first(6, 0x55), Some(0x33));
+    assert_eq!(rt; pair.fill_second(7, 0x66), Some(0x44));
+    Ok(())
+}

@@ -46,6 +46,10 @@ slot-sum g entries =
     fold-map (λ total s. total + g s) (λ (place : Place). place.slot) 0 (map shown entries)
     ∙ fold-map (λ total (place : Place). total + g place.slot) shown 0 entries
 
+slots_are : (entries : List code.Entry) → map (λ (place : Place). place.slot) (map shown entries) ≡ map (λ (e : code.Entry). e.slot) entries
+slots_are [] = refl
+slots_are (e ∷ entries) = ap (λ rest. e.slot ∷ rest) (slots_are entries)
+
 abbrev one_at : Slot → Slot → ℕ
 one_at slot other = if same_slot other slot then 1 else 0
 
@@ -107,10 +111,6 @@ module _ (pool : Pooled) (limit owner : ℕ) (entries : List code.Entry) (owes :
       slots =
           slots_are (set entries place y) ∙ map-set_same (λ (e : code.Entry). e.slot) entries place y x (same ∙ ap (λ (e : code.Entry). e.slot) read)
           ∙ sym (slots_are entries)
-        where
-          slots_are : (es : List code.Entry) → map (λ (p : Place). p.slot) (map shown es) ≡ map (λ (e : code.Entry). e.slot) es
-          slots_are [] = refl
-          slots_are (e ∷ es) = ap (λ rest. e.slot ∷ rest) (slots_are es)
 
   -- an entry came, with a slot that was taken, and was stored in
   module _ (between after : Pooled) (y : code.Entry) (slot : Slot) (bytes : List ℕ) (taken : IsTaken pool between owner slot)

@@ -26,8 +26,8 @@ use Rattle.cache_sets.proofs.Slots.{SameSlots, lent-moved, out-at}
 pub between : (P : Slotted → Slotted → Type 0) (shown old new after : Slotted) → shown ≡ old → after ≡ new → P shown new → P old after
 between P shown old new after is are holds = subst (λ a. P a after) is (subst (λ b. P shown b) (sym are) holds)
 
-module _ {ways owner marks writes : ℕ} {sets : List Set} {v : Slotted} {line number : ℕ} {old new : Set} (stands : Stands ways sets marks writes)
-    (is : shown_cache ways owner (lines_of sets) ≡ v) (at : Reaches sets line number old) (room : HasRoom old new) where
+module _ {ways owner marks writes : ℕ} {sets : List Set} {v : Slotted} {line number : ℕ} {old : Set} (new : Set)
+    (stands : Stands ways sets marks writes) (is : shown_cache ways owner (lines_of sets) ≡ v) (at : Reaches sets line number old) (room : HasRoom old new) where
   abbrev cache : List (List code.Line)
   cache = lines_of sets
 

@@ -10,7 +10,7 @@ use Rattle.moesi.specs.declared.letter.Letter.TheVariants.{I}
 use Rattle.line_pool.specs.declared.slot.Slot.{Slot}
 use Rattle.line_pool.specs.Pooled.{Pooled}
 use Rattle.cache_sets.specs.declared.line.Line as code
-use Rattle.cache_sets.specs.declared.way.Way as ways
+use Rattle.cache_sets.specs.declared.way.Way as known
 use Rattle.cache_sets.specs.Cache.{lettered, marked, set_of, touched, with_set, without_line, write_bits_of}
 use Rattle.cache_sets.specs.Cached.{Copy, copy_in, copy_with_letter}
 use Rattle.cache_sets.specs.Calls.{IsLettered, IsMarked, IsTouched, IsWithout}
@@ -138,13 +138,13 @@ module _ (ways marks writes : ℕ) (cache : List (List code.Line)) (line : ℕ) 
   }
 
 -- a change of a way in the code, of the way that it shows, and of the copy that the cache has
-record IsChange (code_change : ways.Way → ways.Way) (change : Way → Way) (copy_change : Copy → Copy) : Type 0 where
-  shown : (way : ways.Way) → shown_way (code_change way) ≡ change (shown_way way)
-  line : (way : ways.Way) → (code_change way).line ≡ way.line
-  named : (way : ways.Way) → ltb 3 way.bits.0 ≡ false → ltb 3 (code_change way).bits.0 ≡ false
-  copy : (pool : Pooled) (l : code.Line) → copy_of pool (with_way code_change l) ≡ copy_change (copy_of pool l)
+pub record IsChange (code_change : known.Way → known.Way) (change : Way → Way) (copy_change : Copy → Copy) : Type 0 where
+  pub shown : (way : known.Way) → shown_way (code_change way) ≡ change (shown_way way)
+  pub line : (way : known.Way) → (code_change way).line ≡ way.line
+  pub named : (way : known.Way) → ltb 3 way.bits.0 ≡ false → ltb 3 (code_change way).bits.0 ≡ false
+  pub copy : (pool : Pooled) (l : code.Line) → copy_of pool (with_way code_change l) ≡ copy_change (copy_of pool l)
 
-module _ (code_change : ways.Way → ways.Way) (change : Way → Way) (copy_change : Copy → Copy) (is : IsChange code_change change copy_change)
+module _ (code_change : known.Way → known.Way) (change : Way → Way) (copy_change : Copy → Copy) (is : IsChange code_change change copy_change)
     (ways marks writes : ℕ) (cache : List (List code.Line)) (line : ℕ) (sound : IsSound ways cache marks writes) where
   abbrev changed_set : List code.Line
   changed_set = changed number_of (with_way code_change) (set_at cache line) line

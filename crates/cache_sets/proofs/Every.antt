@@ -10,7 +10,7 @@ use Rattle.line_pool.specs.Pooled.{Pooled}
 use Rattle.line_pool.specs.Pooled as pools
 use Rattle.cache_sets.specs.declared.line.Line as code
 use Rattle.cache_sets.specs.declared.set.Set.{Set}
-use Rattle.cache_sets.specs.declared.way.Way as ways
+use Rattle.cache_sets.specs.declared.way.Way as known
 use Rattle.cache_sets.specs.Cache.{bit_in, cleared, committed, committed_way as spec_committed, write_bit, write_bits_of}
 use Rattle.cache_sets.specs.Cached.{copy_in, copy_with_letter}
 use Rattle.cache_sets.specs.Calls.{IsCleared, IsCommitted}
@@ -29,7 +29,7 @@ use Rattle.cache_sets.proofs.Totals.{total-map, total-none}
 use Rattle.cache_sets.proofs.WellFormedLemmas.{well_formed-cleared, well_formed-committed}
 
 -- the lines of sets that were all changed, and their room
-pub lines-changed : (change : ways.Way → ways.Way) (old new : List Set) → AreChanged change old new
+pub lines-changed : (change : known.Way → known.Way) (old new : List Set) → AreChanged change old new
     → lines_of new ≡ map (map (with_way change)) (lines_of old)
 lines-changed change [] [] changed = refl
 lines-changed change [] (set ∷ sets) changed = absurd (omega (arith, changed.count))
@@ -40,18 +40,18 @@ lines-changed change (set ∷ sets) (other ∷ others) changed =
     (lines-changed change sets others
     (record { count = omega (arith, changed.count); each = λ k d within. changed.each (suc k) d (omega (arith, within)) }))
 
-pub room-changed : (change : ways.Way → ways.Way) (ways : ℕ) (old new : List Set) → AreChanged change old new → HaveRoom ways old
+pub room-changed : (change : known.Way → known.Way) (ways : ℕ) (old new : List Set) → AreChanged change old new → HaveRoom ways old
     → HaveRoom ways new
 room-changed change ways old new changed room k d within =
     omega (arith, room k d (omega (arith, within, changed.count)), (changed.each k d (omega (arith, within, changed.count))).room)
 
 -- a change of a way in the code, and of the way that it shows
-record Clears (change : ways.Way → ways.Way) (shown_change : Way → Way) : Type 0 where
-  shown : (way : ways.Way) → shown_way (change way) ≡ shown_change (shown_way way)
-  line : (way : ways.Way) → (change way).line ≡ way.line
-  named : (way : ways.Way) → ltb 3 (change way).bits.0 ≡ false
+record Clears (change : known.Way → known.Way) (shown_change : Way → Way) : Type 0 where
+  shown : (way : known.Way) → shown_way (change way) ≡ shown_change (shown_way way)
+  line : (way : known.Way) → (change way).line ≡ way.line
+  named : (way : known.Way) → ltb 3 (change way).bits.0 ≡ false
 
-module _ (change : ways.Way → ways.Way) (shown_change : Way → Way) (clears : Clears change shown_change) where
+module _ (change : known.Way → known.Way) (shown_change : Way → Way) (clears : Clears change shown_change) where
   lines_shown : (lines : List code.Line) → map shown_line (map (with_way change) lines) ≡ map shown_change (map shown_line lines)
   lines_shown [] = refl
   lines_shown (l ∷ lines) =
@@ -100,7 +100,7 @@ module _ (change : ways.Way → ways.Way) (shown_change : Way → Way) (clears :
       both None = refl
       both (Some l) = refl
 
-pub slots-every : (change : ways.Way → ways.Way) (cache : List (List code.Line)) → SameSlots cache (map (map (with_way change)) cache)
+pub slots-every : (change : known.Way → known.Way) (cache : List (List code.Line)) → SameSlots cache (map (map (with_way change)) cache)
 slots-every change cache g = total-map (λ l. g l.slot) (with_way change) cache
 
 -- no line has a bit
@@ -162,7 +162,7 @@ module _ (ways marks writes : ℕ) (cache : List (List code.Line)) (sound : IsSo
   }
 
 -- the fields after a call that changed every set
-module _ {ways owner marks writes : ℕ} {sets : Vec Set Global} {slice new : List Set} {v : Slotted} (stands : Stands ways sets.items marks writes)
+module _ {ways owner marks writes : ℕ} (sets : Vec Set Global) {slice : List Set} (new : List Set) {v : Slotted} (stands : Stands ways sets.items marks writes)
     (is : shown_cache ways owner (lines_of sets.items) ≡ v) (same : slice ≡ sets.items) where
   abbrev cache : List (List code.Line)
   cache = lines_of sets.items
@@ -170,7 +170,7 @@ module _ {ways owner marks writes : ℕ} {sets : Vec Set Global} {slice new : Li
   abbrev after : Slotted
   after = shown_cache ways owner (lines_of (with_items sets new).items)
 
-  module _ (change : ways.Way → ways.Way) (changed : AreChanged change slice new) where
+  module _ (change : known.Way → known.Way) (changed : AreChanged change slice new) where
     whole : (with_items sets new).items ≡ new
     whole = with_items_is sets new (omega (arith, changed.count, ap length same, sets.ok.0))
 

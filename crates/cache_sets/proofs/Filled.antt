@@ -17,7 +17,7 @@ use Rattle.line_pool.proofs.OtherLaws.{owner-there}
 use Rattle.cache_sets.specs.declared.evicted.Evicted.{Evicted}
 use Rattle.cache_sets.specs.declared.line.Line as code
 use Rattle.cache_sets.specs.declared.set.Set.{Set}
-use Rattle.cache_sets.specs.declared.way.Way as ways
+use Rattle.cache_sets.specs.declared.way.Way as known
 use Rattle.cache_sets.specs.Cache.{is_resident, room_of, set_of, way_of}
 use Rattle.cache_sets.specs.Calls.{IsFilledWith}
 use Rattle.cache_sets.specs.Keyed.{found}
@@ -26,7 +26,7 @@ use Rattle.cache_sets.specs.Residency.{Way, evicted_in, room_in, way_in}
 use Rattle.cache_sets.specs.Slotted.{IsLent, Slotted, lent, slots_of}
 use Rattle.cache_sets.proofs.After.{after_is, between, stands-after}
 use Rattle.cache_sets.proofs.Changes.{once, some}
-use Rattle.cache_sets.proofs.Fills.{IsVacancy, Leaves, filled_lines, gone_at, is_filled, leaves-filled, lent-filled, sound-filled, vacancy}
+use Rattle.cache_sets.proofs.Fills.{IsVacancy, Leaves, filled_lines, filled_set, gone_at, is_filled, leaves-filled, lent-filled, sound-filled, vacancy}
 use Rattle.cache_sets.proofs.MarkLemmas as marks_of_all
 use Rattle.cache_sets.proofs.Reached.{Reaches, lines-reached, room-reached}
 use Rattle.cache_sets.proofs.ResidencyLemmas.{evicted_in-some}
@@ -60,7 +60,7 @@ told_some told (Some l) show is = ap is_some is
 exactly_fewer : (told : Option Evicted) (n ways : ℕ) → is_some told ≡ not (ltb n ways) → IsNone told ↔ (n < ways)
 exactly_fewer told n ways is = (λ none. grind (arith, nat_tests, none, is), λ fewer. grind (arith, nat_tests, fewer, is))
 
-module _ {ways owner marks writes : ℕ} {sets : List Set} {v : Slotted} {line : LineAddr} {number : ℕ} {old made : Set} {letter : Letter}
+module _ {ways owner marks writes : ℕ} {sets : List Set} {v : Slotted} (line : LineAddr) {number : ℕ} {old made : Set} {letter : Letter}
     {gone : Option code.Line} {before : Pooled} (stands : Stands ways sets marks writes) (is : shown_cache ways owner (lines_of sets) ≡ v)
     (at : Reaches sets line.number number old) (makes : MakesRoom ways old made gone)
     (room : room_of v.ways v.residency line.number ≡ true) (absent : is_resident v.residency line.number ≡ false) (valid : letter ≢ I)
@@ -100,6 +100,9 @@ module _ {ways owner marks writes : ℕ} {sets : List Set} {v : Slotted} {line :
       let there = gone_at ways marks writes cache line letter gone stands.sound it_leaves has_room not_there valid l.slot l same in
       (out-at before ways owner cache some_set (number_of l) l there owes_shown, owner-at before ways owner cache some_set (number_of l) l there owes_shown)
 
+  abbrev gone_count : Option code.Line → ℕ
+  gone_count g = option_map_or (λ l. 1) g 0
+
   -- with a line more there are no more lines than places
   module _ (slot : Slot) where
     abbrev lines_then : List (List code.Line)
@@ -114,7 +117,7 @@ module _ {ways owner marks writes : ℕ} {sets : List Set} {v : Slotted} {line :
           arith,
           total-filled (λ l. 1) cache line.number some_set (once ways marks writes cache line.number stands.sound) gone
               (record { way = new_way line letter; slot = slot }) it_leaves.there,
-          ap (λ g. option_map_or (λ (l : code.Line). 1) g 0) none,
+          ap gone_count none,
         )
 
     fits_then : total (λ l. 1) lines_then ≤ length cache * ways
@@ -123,7 +126,8 @@ module _ {ways owner marks writes : ℕ} {sets : List Set} {v : Slotted} {line :
           arith,
           marks_of_all.total-le (λ way. 1) ways (residency_of lines_then) sound_then.well_formed (λ way. omega arith),
           total-shown (λ way. 1) lines_then,
-          ap (λ n. n * ways) (length-map lines_then (map shown_line) ∙ length-with cache line.number _),
+          ap (λ n. n * ways) (length-map lines_then (map shown_line) ∙ length-with cache line.number
+              (filled_set ways marks writes cache line letter gone stands.sound it_leaves has_room not_there valid slot)),
         )
 
     pub set_then : length (left_by (set_at cache line.number) gone) + 1 ≤ ways
@@ -133,7 +137,9 @@ module _ {ways owner marks writes : ℕ} {sets : List Set} {v : Slotted} {line :
           sound_then.well_formed.within line.number,
           ap length (set_of_shown lines_then line.number),
           length-map (set_at lines_then line.number) shown_line,
-          ap length (set_at-with_same cache line.number _ line.number some_set refl),
+          ap length (set_at-with_same cache line.number
+              (filled_set ways marks writes cache line letter gone stands.sound it_leaves has_room not_there valid slot)
+              line.number some_set refl),
         )
 
   pub may_vacate : MayVacate before owner gone
@@ -149,7 +155,7 @@ module _ {ways owner marks writes : ℕ} {sets : List Set} {v : Slotted} {line :
           (owner-there before owner (omega (arith, few, more, quota)), λ same. omega (arith, few, more, quota, count, all, same))
       by_line (Some l) same = (held l same).0
 
-  module _ {between_them : Pooled} {slot : Slot} {told : Option Evicted} (vacated : IsVacated owner before between_them gone slot told) where
+  module _ (between_them : Pooled) (slot : Slot) (told : Option Evicted) (vacated : IsVacated owner before between_them gone slot told) where
     vacant : IsVacancy owner before between_them gone slot told
     vacant = vacancy owner before between_them gone slot told held vacated
 
@@ -166,7 +172,7 @@ module _ {ways owner marks writes : ℕ} {sets : List Set} {v : Slotted} {line :
           makes.room,
         )
 
-    module _ {last : Set} {way : ways.Way} {after : Pooled} {bytes : List ℕ} (written : IsWritten between_them after slot bytes)
+    module _ (last : Set) {way : known.Way} {after : Pooled} {bytes : List ℕ} (written : IsWritten between_them after slot bytes)
         (way_is : way ≡ new_way line letter) (put : last.lines.items ≡ record { way = way; slot = slot } ∷ made.lines.items)
         (same : HasRoom made last) where
       abbrev filling : List code.Line → List code.Line
@@ -177,19 +183,19 @@ module _ {ways owner marks writes : ℕ} {sets : List Set} {v : Slotted} {line :
           ∙ ap (λ lines. record { way = new_way line letter; slot = slot } ∷ lines) makes.left
 
       pub stands-filled : Stands ways (slice_set sets number last) marks writes
-      stands-filled = stands-after stands is at (same ∙ makes.room) filling does marks writes (sound_then slot)
+      stands-filled = stands-after last stands is at (same ∙ makes.room) filling does marks writes (sound_then slot)
 
       pub filled-after : IsFilledWith (lent before v) (lent after (shown_cache ways owner (lines_of (slice_set sets number last)))) line.number
           letter bytes told
       filled-after =
           between (λ a b. IsFilledWith (lent before a) (lent after b) line.number letter bytes told) _ _ _ _ is
-          (after_is stands is at (same ∙ makes.room) filling does)
+          (after_is last stands is at (same ∙ makes.room) filling does)
           (is_filled ways marks writes cache line letter gone stands.sound it_leaves has_room not_there valid slot owner before between_them after
           told bytes owes_shown vacant written)
 
       pub lent-after : IsLent after (shown_cache ways owner (lines_of (slice_set sets number last)))
       lent-after =
-          subst (IsLent after) (sym (after_is stands is at (same ∙ makes.room) filling does))
+          subst (IsLent after) (sym (after_is last stands is at (same ∙ makes.room) filling does))
           (lent-filled ways marks writes cache line letter gone stands.sound it_leaves has_room not_there valid slot owner before between_them after
           told bytes owes_shown vacant written)
 

@@ -25,3 +25,4 @@ pub mod Every
 pub mod Rooms
 pub mod Made
 pub mod Readings
+pub mod Sweeps

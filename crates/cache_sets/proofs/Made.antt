@@ -83,7 +83,7 @@ stands-made config sets in_range are =
 
 -- the first sets
 pub no_sets : (ways : ℕ) (sets : List Set) → sets ≡ [] → AreEmpty ways 0 sets
-no_sets ways [] none = record { count_is = refl; each = tt }
+no_sets ways [] none = record { count_is = refl; each = λ k d within. absurd (omega (arith, within)) }
 no_sets ways (set ∷ sets) none = absurd cc
 
 pub more_sets : (ways count : ℕ) (sets : List Set) (set : Set) → AreEmpty ways count sets → IsEmpty ways set

@@ -9,7 +9,7 @@ use Rattle.line_pool.specs.Pooled.{Pooled, is_out, no_slot}
 use Rattle.line_pool.specs.Pooled as pools
 use Rattle.cache_sets.specs.declared.line.Line as code
 use Rattle.cache_sets.specs.declared.set.Set.{Set}
-use Rattle.cache_sets.specs.declared.way.Way as ways
+use Rattle.cache_sets.specs.declared.way.Way as known
 use Rattle.cache_sets.specs.Bits.{bits_of}
 use Rattle.cache_sets.specs.Cache.{has_marks, is_resident, set_of, way_of}
 use Rattle.cache_sets.specs.Cached.{bytes_of}
@@ -51,7 +51,7 @@ module _ {ways owner marks writes : ℕ} {sets : List Set} {v : Slotted} (stands
     line-found : line_at (lines_of slice) line ≡ line_at cache line
     line-found = ap (λ s. line_at (lines_of s) line) same
 
-    pub way-found : (way : Option ways.Way) → way ≡ option_map (λ l. l.way) (line_at (lines_of slice) line)
+    pub way-found : (way : Option known.Way) → way ≡ option_map (λ l. l.way) (line_at (lines_of slice) line)
         → way_of v.residency line ≡ option_map shown_way way
     way-found way found =
         ap (λ w. way_of w.residency line) (sym is) ∙ way_of_shown cache line ∙ both (line_at cache line)
@@ -61,7 +61,7 @@ module _ {ways owner marks writes : ℕ} {sets : List Set} {v : Slotted} (stands
         both None = refl
         both (Some l) = refl
 
-    pub bits-found : (way : ways.Way) → Some way ≡ option_map (λ l. l.way) (line_at (lines_of slice) line)
+    pub bits-found : (way : known.Way) → Some way ≡ option_map (λ l. l.way) (line_at (lines_of slice) line)
         → way.bits ≡ bits_of (way_of v.residency line)
     bits-found way found = by_line (line_at cache line) refl (found ∙ ap (option_map (λ (l : code.Line). l.way)) line-found)
       where
@@ -72,7 +72,7 @@ module _ {ways owner marks writes : ℕ} {sets : List Set} {v : Slotted} (stands
             let few = part-at unnamed cache line some_set l there in
             let named : ltb 3 l.way.bits.0 ≡ false = grind (arith, nat_tests, few, stands.sound.named) in
             let mine : way ≡ l.way = same_Some way l.way own in
-            ap (λ (w : ways.Way). w.bits) mine ∙ sym (bits_of_shown l.way named)
+            ap (λ (w : known.Way). w.bits) mine ∙ sym (bits_of_shown l.way named)
             ∙ ap (λ w. bits_of (Some (shown_way w))) (sym mine) ∙ sym (ap bits_of (way-found (Some way) found))
 
     -- a line that is there, and its slot

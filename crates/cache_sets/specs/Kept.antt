@@ -12,7 +12,7 @@ use Rattle.moesi.specs.declared.letter.Letter.TheVariants.{M}
 use Rattle.cache_sets.specs.declared.evicted.Evicted.{Evicted}
 use Rattle.cache_sets.specs.declared.line.Line as code
 use Rattle.cache_sets.specs.declared.set.Set.{Set}
-use Rattle.cache_sets.specs.declared.way.Way as ways
+use Rattle.cache_sets.specs.declared.way.Way as known
 use Rattle.cache_sets.specs.Bits.{bits_of_number, has_need, with_need}
 use Rattle.cache_sets.specs.Keyed.{found, without}
 use Rattle.cache_sets.specs.Residency.{Way, evicted_in, is_marked, victim_in}
@@ -25,7 +25,7 @@ abbrev pub number_of : code.Line → ℕ
 number_of line = line.way.line.number
 
 -- a way as the definition has it, and that of a line
-abbrev pub shown_way : ways.Way → Way
+abbrev pub shown_way : known.Way → Way
 shown_way way =
     record { line = way.line.number; letter = way.letter; read = has_need Read way.bits; write = has_need Write way.bits }
 
@@ -52,24 +52,24 @@ shown_cache ways owner cache = record {
 }
 
 -- a way with another letter, with the bit of a need, without bits, and after its hart's section committed
-abbrev pub lettered_way : Letter → ways.Way → ways.Way
+abbrev pub lettered_way : Letter → known.Way → known.Way
 lettered_way letter way = record way { letter = letter }
 
-abbrev pub marked_way : Need → ways.Way → ways.Way
+abbrev pub marked_way : Need → known.Way → known.Way
 marked_way need way = record way { bits = with_need need way.bits }
 
-abbrev pub cleared_way : ways.Way → ways.Way
+abbrev pub cleared_way : known.Way → known.Way
 cleared_way way = record way { bits = bits_of_number 0 }
 
-abbrev pub committed_way : ways.Way → ways.Way
+abbrev pub committed_way : known.Way → known.Way
 committed_way way = record way { letter = if has_need Write way.bits then M else way.letter; bits = bits_of_number 0 }
 
 -- a line after a change of its way: its slot stays
-abbrev pub with_way : (ways.Way → ways.Way) → code.Line → code.Line
+abbrev pub with_way : (known.Way → known.Way) → code.Line → code.Line
 with_way change line = record { way = change line.way; slot = line.slot }
 
 -- the way of a line that comes
-abbrev pub new_way : LineAddr → Letter → ways.Way
+abbrev pub new_way : LineAddr → Letter → known.Way
 new_way line letter = record { line = line; letter = letter; bits = bits_of_number 0 }
 
 -- the place of the line that leaves a full set for another
@@ -137,11 +137,11 @@ abbrev pub with_lines : List (List code.Line) → ℕ → List code.Line → Lis
 with_lines cache line set = slice_set cache (line % length cache) set
 
 -- a set after a change of each of its ways, and all sets
-pub record IsChanged (change : ways.Way → ways.Way) (old new : Set) : Type 0 where
+pub record IsChanged (change : known.Way → known.Way) (old new : Set) : Type 0 where
   pub lines : new.lines.items ≡ map (with_way change) old.lines.items
   pub room : HasRoom old new
 
-pub record AreChanged (change : ways.Way → ways.Way) (old new : List Set) : Type 0 where
+pub record AreChanged (change : known.Way → known.Way) (old new : List Set) : Type 0 where
   pub count : length new ≡ length old
   pub each : (k : ℕ) (d : Set) → k < length old → IsChanged change (slice_index_or old k d) (slice_index_or new k d)
 

@@ -145,11 +145,17 @@ impl Set {
     }
 
     /// Where the least recent line without bits stands.
-    #[tactic(auto, using(crate::proofs::VictimPlaces::victim_from_behind))]
     fn victim_place(&self) -> Option<usize>
         ensures { IsVictimPlace self.now.lines.items result }
     {
-        self.lines.iter().rposition(|line| !line.way.is_marked())
+        let mut place = self.lines.len();
+        while place > 0 {
+            place -= 1;
+            if !self.lines[place].is_marked() {
+                return Some(place);
+            }
+        }
+        None
     }
 
     /// Makes room for a line that comes: where the set has as many lines as ways, the least recent line
@@ -190,7 +196,7 @@ fn clear(lines: &mut [Line])
     ensures { lines.new ≡ map (with_way cleared_way) lines.old }
 {
     for line in lines.iter_mut() {
-        line.way = line.way.cleared();
+        line.clear_bits();
     }
 }
 
@@ -199,6 +205,6 @@ fn commit(lines: &mut [Line])
     ensures { lines.new ≡ map (with_way committed_way) lines.old }
 {
     for line in lines.iter_mut() {
-        line.way = line.way.committed();
+        line.commit_bits();
     }
 }

@@ -252,18 +252,18 @@ impl Sets {
         pool.bytes(slot_in_use(self.sets.as_slice(), line))
     }
 
-    /// The bytes of a line that the cache has, to be written. What is written becomes the line's bytes, and all else
-    /// stays as it was.
-    pub fn bytes_mut<'a>(&mut self, pool: &'a mut Pool, line: LineAddr) -> &'a mut [u8; 64]
-        requires lent { IsLent pool.old self.old }
-        requires resident { is_resident self.old.residency line.number ≡ true }
-        ensures* lends { sem 𝓛 (LendsBytes pool.entry (slot_of self.old line.number) result) }
-        ensures value { result.now ≡ bytes_of (lent pool.old self.old) line.number }
-        ensures same { self.new ≡ self.old }
+    /// The bytes of a line that a cache has, to be written. What is written becomes the line's bytes, and all else stays
+    /// as it was. It is the pool that lends them.
+    pub fn bytes_mut<'a>(pool: &'a mut Pool, cache: &Sets, line: LineAddr) -> &'a mut [u8; 64]
+        requires lent { IsLent pool.old cache.now }
+        requires resident { is_resident cache.now.residency line.number ≡ true }
+        ensures* lends { sem 𝓛 (LendsBytes pool.entry (slot_of cache.now line.number) result) }
+        ensures value { result.now ≡ bytes_of (lent pool.old cache.now) line.number }
         ensures written { (bytes : List ℕ) →
-            IsWrittenIn pool.old (pools.with_bytes pool.old (slot_of self.old line.number) bytes) self.old line.number bytes }
+            IsWrittenIn pool.old (pools.with_bytes pool.old (slot_of cache.now line.number) bytes) cache.now line.number bytes }
     {
-        pool.bytes_mut(slot_in_use(self.sets.as_slice(), line))
+        let slot = slot_in_use(cache.sets.as_slice(), line);
+        pool.bytes_mut(slot)
     }
 }
 

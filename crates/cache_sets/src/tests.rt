@@ -114,7 +114,7 @@ impl Lent {
     fn write(&mut self, number: u8, at: u8, byte: u8) {
         let line = line(number);
         if self.sets.has(line) {
-            let bytes = self.sets.bytes_mut(&mut self.pool, line);
+            let bytes = Sets::bytes_mut(&mut self.pool, &self.sets, line);
             bytes[usize::from(at % 64)] = byte;
         }
     }

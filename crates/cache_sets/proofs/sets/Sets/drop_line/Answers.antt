@@ -16,7 +16,7 @@ remove-gone-requires c =
 pub give_back-requires : goal.give_back-requires
 give_back-requires c =
     let at = reached c.as_slice.ensures.value c.set_number-number.ensures.exact c.set_number-number.ensures.within c.index_mut-set.ensures.value in
-    gone-out c.self.invariant c.self.view_is at c.remove-gone.ensures.room c.remove-gone.ensures.left _ c.args.pool.now c.remove-gone.result
+    gone-out c.remove-gone.new.self c.self.invariant c.self.view_is at c.remove-gone.ensures.room c.remove-gone.ensures.left c.args.pool.now c.args.pool.now c.remove-gone.result
     c.requires.lent c.requires.resident c.remove-gone.ensures.gone
 
 pub overflow_sub-self : goal.overflow_sub-self
@@ -34,7 +34,7 @@ invariant_of-self c =
     let i = c.self.inside in
     let at = reached c.as_slice.ensures.value c.set_number-number.ensures.exact c.set_number-number.ensures.within c.index_mut-set.ensures.value in
     let bits = c.bits-before.ensures ∙ ap (λ (v : Slotted). bits_of (way_of v.residency c.args.line.number)) (sym c.self.view_is) in
-    stands-dropped c.self.invariant c.self.view_is at c.remove-gone.ensures.room c.remove-gone.ensures.left _ _
+    stands-dropped c.remove-gone.new.self c.self.invariant c.self.view_is at c.remove-gone.ensures.room c.remove-gone.ensures.left _ _
     ((λ k. i.marked - c.marks.ensures k) ∙ marks-after_drop _ _ _ _ _ _ c.self.invariant.sound bits)
     ((λ k. i.written - c.writes.ensures k) ∙ writes-after_drop _ _ _ _ _ _ c.self.invariant.sound bits)
 
@@ -43,12 +43,12 @@ returns c =
     let at = reached c.as_slice.ensures.value c.set_number-number.ensures.exact c.set_number-number.ensures.within c.index_mut-set.ensures.value in
     let own = ap (λ (v : Slotted). v.owner) c.self.view_is in
     record {
-      without = without-after c.self.invariant c.self.view_is at c.remove-gone.ensures.room c.remove-gone.ensures.left c.args.pool.now
+      without = without-after c.remove-gone.new.self c.self.invariant c.self.view_is at c.remove-gone.ensures.room c.remove-gone.ensures.left c.args.pool.now
           c.give_back.new.pool c.remove-gone.result c.requires.lent c.requires.resident c.remove-gone.ensures.gone c.give_back.ensures;
-      lent = lent-without c.self.invariant c.self.view_is at c.remove-gone.ensures.room c.remove-gone.ensures.left c.args.pool.now
+      lent = lent-without c.remove-gone.new.self c.self.invariant c.self.view_is at c.remove-gone.ensures.room c.remove-gone.ensures.left c.args.pool.now
           c.give_back.new.pool c.remove-gone.result c.requires.lent c.requires.resident c.remove-gone.ensures.gone c.give_back.ensures;
       others = subst (λ o. LeavesOthers o c.args.pool.now c.give_back.new.pool) own
-          (leaves-after c.self.invariant c.self.view_is at c.remove-gone.ensures.room c.remove-gone.ensures.left c.args.pool.now
+          (leaves-after c.remove-gone.new.self c.self.invariant c.self.view_is at c.remove-gone.ensures.room c.remove-gone.ensures.left c.args.pool.now
           c.give_back.new.pool c.remove-gone.result c.requires.lent c.requires.resident c.remove-gone.ensures.gone c.give_back.ensures);
       owner = own;
     }

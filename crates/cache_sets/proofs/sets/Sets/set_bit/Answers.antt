@@ -37,7 +37,7 @@ invariant_of-self c =
     let at = reached c.as_slice.ensures.value c.set_number-number.ensures.exact c.set_number-number.ensures.within c.index_mut-set.ensures.value in
     let bits = c.bits-before.ensures ∙ ap (λ (v : Slotted). bits_of (way_of v.residency c.args.line.number)) (sym c.self.view_is) in
     let resident = subst (λ (v : Slotted). is_resident v.residency c.args.line.number ≡ true) (sym c.self.view_is) c.requires in
-    stands-marked c.self.invariant c.self.view_is at c.set_bit.ensures.room c.args.need c.set_bit.ensures.lines _ _
+    stands-marked c.set_bit.new.self c.self.invariant c.self.view_is at c.set_bit.ensures.room c.args.need c.set_bit.ensures.lines _ _
     ((λ k. i.marked - c.marks.ensures k + c.marks-2.ensures k)
     ∙ marks-after_bit _ _ _ _ _ _ c.self.invariant.sound bits c.args.need c.with-after.result resident c.with-after.ensures)
     ((λ k. i.written - c.writes.ensures k + c.writes-2.ensures k)
@@ -47,7 +47,7 @@ pub returns : goal.returns
 returns c =
     let at = reached c.as_slice.ensures.value c.set_number-number.ensures.exact c.set_number-number.ensures.within c.index_mut-set.ensures.value in
     record {
-      marked = marked-after c.self.invariant c.self.view_is at c.set_bit.ensures.room c.args.need c.set_bit.ensures.lines;
-      lent = lent-marked c.self.invariant c.self.view_is at c.set_bit.ensures.room c.args.need c.set_bit.ensures.lines;
+      marked = marked-after c.set_bit.new.self c.self.invariant c.self.view_is at c.set_bit.ensures.room c.args.need c.set_bit.ensures.lines;
+      lent = lent-marked c.set_bit.new.self c.self.invariant c.self.view_is at c.set_bit.ensures.room c.args.need c.set_bit.ensures.lines;
       owner = ap (λ (v : Slotted). v.owner) c.self.view_is;
     }

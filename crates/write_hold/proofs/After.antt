@@ -22,7 +22,7 @@ use Rattle.write_hold.proofs.Slots.{entry-out, leaves-given_entry, leaves-stored
 use Rattle.write_hold.proofs.Steps.{finds_pushed, finds_removed, finds_set, found, is_of, stands_pushed, stands_removed, stands_set}
 
 module _ {limit owner room : ℕ} {entries : List code.Entry} {v : Slotted} (stands : Stands limit room entries) (is : hold_of limit owner entries ≡ v)
-    {pool : Pooled} (owes : IsLent pool v) {line : ℕ} where
+    {pool : Pooled} (owes : IsLent pool v) (line : ℕ) where
   owes_shown : IsLent pool (hold_of limit owner entries)
   owes_shown = subst (IsLent pool) (sym is) owes
 
@@ -61,9 +61,9 @@ module _ {limit owner room : ℕ} {entries : List code.Entry} {v : Slotted} (sta
       pub stands-drained : (more : ℕ) → room ≤ more → Stands limit more (remove entries place)
       stands-drained more grows = stands_removed entries line place x at read limit room more grows stands
 
-      pub drained-after : {was now : List ℕ} → IsMerged pool x was now
+      pub drained-after : (was now : List ℕ) → IsMerged pool x was now
           → IsDrained (lent pool v) (lent after (hold_of limit owner (remove entries place))) line was now
-      drained-after {was} {now} merged =
+      drained-after was now merged =
           subst (λ hold. IsDrained (lent pool hold) (lent after (hold_of limit owner (remove entries place))) line was now) is
           (shown_drained pool after limit owner line entries (remove entries place) x was now
           (finds_removed entries line place x at read (stands.once line)) (λ l entry apart there. given.bytes entry.slot) merged

@@ -178,3 +178,40 @@ module _ (pool : Pooled) (limit owner : ℕ) (entries : List code.Entry) (owes :
         )))
         given;
   }
+
+  -- the last entry left, and its slot was given back
+  module _ (rest : List code.Entry) (x : code.Entry) (is : entries ≡ rest ++ x ∷ []) where
+    less : (f : code.Entry → ℕ) → sum_by f rest + f x ≡ sum_by f entries
+    less f = sym (sum_by_push f rest x) ∙ ap (sum_by f) (sym is)
+
+    pub popped-out : is_out pool x.slot ≡ true
+    popped-out =
+        kept-out pool owner (slots_of (hold_of limit owner entries)) x.slot owes.keeps
+        (grind (arith, nat_tests, slot-sum (one_at x.slot) entries, less (λ e. one_at x.slot e.slot)))
+
+    popped-owner : owner_of x.slot ≡ owner
+    popped-owner =
+        kept-owner pool owner (slots_of (hold_of limit owner entries)) x.slot owes.keeps
+        (grind (arith, nat_tests, slot-sum (one_at x.slot) entries, less (λ e. one_at x.slot e.slot)))
+
+    module _ (after : Pooled) (given : IsGiven pool after x.slot) where
+      pub leaves-popped : LeavesOthers owner pool after
+      leaves-popped = subst (λ o. LeavesOthers o pool after) popped-owner (leaves-given pool after x.slot given)
+
+      pub lent-popped : IsLent after (hold_of limit owner rest)
+      lent-popped = record {
+        there = subst (λ quotas. owner < length quotas) (sym given.quotas) owes.there;
+        quota = ap (λ quotas. slice_index quotas owner) given.quotas ∙ owes.quota;
+        keeps =
+            keeps-given pool after owner (slots_of (hold_of limit owner rest)) x.slot
+            (keeps-permuted pool owner (slots_of (hold_of limit owner entries)) (x.slot ∷ slots_of (hold_of limit owner rest)) owes.keeps
+            (omega (arith, count-shown limit owner rest, count-shown limit owner entries, ap length is, length_push rest x))
+            (λ s. omega (
+              arith,
+              slot-sum (one_at s) rest,
+              slot-sum (one_at s) entries,
+              less (λ e. one_at s e.slot),
+              sum_by-cons (one_at s) x.slot (slots_of (hold_of limit owner rest)),
+            )))
+            given;
+      }

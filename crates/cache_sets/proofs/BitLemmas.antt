@@ -44,7 +44,6 @@ named_bits (suc (suc (suc (suc n)))) named = absurd (grind (arith, nat_tests))
 pub bits_of_shown : (way : code.Way) → ltb 3 way.bits.0 ≡ false → bits_of (Some (shown_way way)) ≡ way.bits
 bits_of_shown way named = ap bits_of_number (named_bits way.bits.0 named)
 
-
 -- bits that got a named one are named
 pub named-with_need : (need : Need) (n : ℕ) → ltb 3 n ≡ false → ltb 3 (bit_or n (bits_of_need need).0) ≡ false
 named-with_need Read n named = grind (arith, nat_tests, or_lt 2 n 1)

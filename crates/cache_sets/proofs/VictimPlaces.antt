@@ -46,9 +46,11 @@ marked_more lines place line within read own others k past inside d = elim (case
 
 pub victim_found : (lines : List code.Line) (place : ℕ) (line : code.Line) → place < length lines → line ≡ get_or lines place line
     → is_marked (shown_line line) ≡ false → MarkedFrom lines (place + 1) → IsVictimPlace lines (Some place)
-victim_found lines place line within read own others =
-    (within, victim_at lines place within
-    (λ d. ap (λ l. is_marked (shown_line l)) (sym (get_or_read lines place line within read d)) ∙ own) others)
+victim_found lines place line within read own others = (
+  within,
+  victim_at lines place within
+      (λ d. ap (λ l. is_marked (shown_line l)) (sym (get_or_read lines place line within read d)) ∙ own) others,
+)
 
 pub victim_missing : (lines : List code.Line) → MarkedFrom lines 0 → IsVictimPlace lines None
 victim_missing lines marked = no_victim_among lines (λ k within. marked k (omega arith) within)

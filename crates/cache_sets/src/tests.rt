@@ -56,9 +56,7 @@ impl Lent {
         if letter == Letter::I || self.sets.has(line) || !self.sets.room(line) {
             return None;
         }
-        let gone = self
-            .sets
-            .fill(&mut self.pool, line, letter, &[number; 64])?;
+        let gone = self.sets.fill(&mut self.pool, line, letter, &[number; 64])?;
         Some((gone.line.number, gone.letter, gone.bytes[0], gone.bytes[63]))
     }
 
@@ -306,10 +304,7 @@ fn what_is_written_is_read_from_that_line_alone(rt: HostRuntime) -> Result<(), F
             assert_eq!(rt; cache.read(number, at), Some(byte), "{number} {at}");
         }
     }
-    assert_eq!(rt;
-        cache.fill(6, Letter::E),
-        Some((2, Letter::M, 0x55, 0xaa))
-    );
+    assert_eq!(rt; cache.fill(6, Letter::E), Some((2, Letter::M, 0x55, 0xaa)));
     assert_eq!(rt; cache.read(2, 0), None);
     assert_eq!(rt; cache.out(), 3);
     Ok(())

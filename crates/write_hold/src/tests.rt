@@ -184,11 +184,7 @@ fn a_new_line_is_refused_at_the_limit_and_an_old_one_is_not(rt: HostRuntime) -> 
         (2, None, 2),
         (3, Some(2), 2),
     ] {
-        assert_eq!(rt;
-            hold.put(number, number, &[0xff])?,
-            refused,
-            "{number}"
-        );
+        assert_eq!(rt; hold.put(number, number, &[0xff])?, refused, "{number}");
         assert_eq!(rt; hold.hold.len(), held, "{number}");
     }
     assert!(rt; !hold.hold.has(line(3)));

@@ -13,9 +13,9 @@ returns-clause-exact c =
     let line = c.args.line.number in
     let answer = c.place_of.result in
     λ pool.
-        c.is_some.ensures
-        ∙ is_some_position (is_of line) entries answer (place_told entries _ line answer answer c.deref.ensures.value c.place_of.ensures refl)
-        ∙ sym (shown_holds pool entries line) ∙ ap (λ hold. holds (lent pool hold).entries line) c.self.view_is
+    c.is_some.ensures
+    ∙ is_some_position (is_of line) entries answer (place_told entries _ line answer answer c.deref.ensures.value c.place_of.ensures refl)
+    ∙ sym (shown_holds pool entries line) ∙ ap (λ hold. holds (lent pool hold).entries line) c.self.view_is
 
 pub returns-clause-sound : goal.returns-clause-sound
 returns-clause-sound c =

@@ -2,7 +2,6 @@
 use Rattle.std.proofs.Common.{◌≡◌, ◌∙◌, ℕ, Bool, true, false, List, [], ◌∷◌, Option, Some, None, refl, ap, sym, subst, inl, inr, if◌then◌else◌}
 use Rattle.std.specs.Prelude.{◌↔◌, ◌⊎◌}
 use Rattle.bus_order.specs.Order.{Request}
-use Rattle.el_base.specs.Freed.{no_one_freed}
 use Rattle.el_base.specs.LineAddr.{line_addr}
 use Rattle.el_base.specs.declared.events.Event.{Event}
 use Rattle.el_base.specs.declared.events.Kind.{Kind}
@@ -10,16 +9,19 @@ use Rattle.el_base.specs.declared.events.Kind.TheVariants as kinds
 use Rattle.el_base.specs.declared.outcomes.Need.{Need}
 use Rattle.el_base.specs.declared.outcomes.Outcome.{Outcome}
 use Rattle.el_base.specs.declared.outcomes.Outcome.TheVariants.{Idle, Stalled, Missed, Ran, Began, Buffered, Committed, RolledBack, Ordered, Served, Blocked, Delivered, Armed, LetGo}
-use Rattle.el_model.specs.Causes.{ComesWhere, Goes, GoesInside, GoesOutside, NothingToDo, Waits}
+use Rattle.el_model.specs.Armed.{ArmedRule, Continues, Elides, LetsGo, armed_rule, armed_turn, by_armed_rule}
+use Rattle.el_model.specs.Causes.{ComesWhere, Goes, GoesArmed, GoesInside, GoesOutside, NothingToDo, Waits}
 use Rattle.el_model.specs.Deliver.{deliver_next, deliver_turn}
 use Rattle.el_model.specs.InSection as inside
 use Rattle.el_model.specs.InSection.{SectionRule, by_section_rule, section_rule, section_turn}
-use Rattle.el_model.specs.Next.{going_turn, kind_turn, next, stalled, status_turn, step_turn}
-use Rattle.el_model.specs.Order.{order_raised, order_turn}
+use Rattle.el_model.specs.Next.{going_turn, kind_turn, next, outside_turn, stalled, status_turn, step_turn}
+use Rattle.el_model.specs.Order.{order_freed, order_raised, order_turn}
 use Rattle.el_model.specs.Plain as outside
 use Rattle.el_model.specs.Plain.{PlainRule, by_plain_rule, plain_rule, plain_turn}
-use Rattle.el_model.specs.Serve.{Blocks, Free, Obstacle, obstacle_to, serve_ordered, serve_past, serve_turn}
-use Rattle.el_model.specs.State.{ModelState, Section, Turn, has_request, hart_of, ordered_of, raised_of, section_of}
+use Rattle.el_model.specs.Serve.{Blocks, Free, Obstacle, obstacle_to, serve_freed, serve_ordered, serve_past, serve_turn}
+use Rattle.el_model.specs.State as states
+use Rattle.el_model.specs.State.{ModelState, Section, Turn, armed_of, has_request, hart_of, ordered_of, raised_of, section_of}
+use Rattle.el_model.specs.Upcoming.{Swap, Touch}
 use Rattle.mail.specs.Mailbox.{Message}
 use Rattle.rv_alu.specs.declared.view.HartStatus.{HartStatus}
 use Rattle.rv_alu.specs.declared.view.HartStatus.TheVariants.{Running, Exited, Trapped}
@@ -29,12 +31,28 @@ abbrev Told : ModelState → Event → Turn → Type 0
 Told state event turn = ComesWhere state event turn.outcome
 
 plain_told : (state : ModelState) (event : Event) → Goes state event → section_of state event.hart.number ≡ None →
-    (rule : PlainRule) → plain_rule state event.hart.number ≡ rule → Told state event (by_plain_rule state event.hart.number rule)
+    armed_of state event.hart.number ≡ None → (rule : PlainRule) → plain_rule state event.hart.number ≡ rule →
+    Told state event (by_plain_rule state event.hart.number rule)
 unfolding by_plain_rule
-plain_told state event goes out (outside.Runs touch) is = (touch, record { goes = goes; outside = out; rule_is = is })
-plain_told state event goes out (outside.Misses line need) is =
-    (line, refl, record { by_rule = inl (record { goes = goes; outside = out; rule_is = is }) })
-plain_told state event goes out (outside.Begins swap) is = (swap, record { goes = goes; outside = out; rule_is = is })
+plain_told state event goes out unarmed (outside.Runs touch) is =
+    (touch, record { goes = goes; outside = out; unarmed = unarmed; rule_is = is })
+plain_told state event goes out unarmed (outside.Misses line need) is =
+    (line, refl, record { by_rule = inl (record { goes = goes; outside = out; unarmed = unarmed; rule_is = is }) })
+plain_told state event goes out unarmed (outside.Begins swap) is =
+    (swap, record { by_rule = inl (record { goes = goes; outside = out; unarmed = unarmed; rule_is = is }) })
+plain_told state event goes out unarmed (outside.Arms word) is =
+    (word, record { goes = goes; outside = out; unarmed = unarmed; rule_is = is })
+
+armed_told : (state : ModelState) (event : Event) (armed : states.Armed) → Goes state event →
+    section_of state event.hart.number ≡ None → armed_of state event.hart.number ≡ Some armed → (rule : ArmedRule) →
+    armed_rule state event.hart.number armed ≡ rule → Told state event (by_armed_rule state event.hart.number armed rule)
+unfolding by_armed_rule
+armed_told state event armed goes out armed_is (Elides swap) is =
+    (swap, record { by_rule = inr (armed, record { goes = goes; outside = out; is_armed = armed_is; rule_is = is }) })
+armed_told state event armed goes out armed_is Continues is =
+    record { by_rule = inr (armed, record { goes = goes; outside = out; is_armed = armed_is; rule_is = is }) }
+armed_told state event armed goes out armed_is LetsGo is =
+    (armed, refl, record { goes = goes; outside = out; is_armed = armed_is; rule_is = is })
 
 section_told : (state : ModelState) (event : Event) (section : Section) → Goes state event →
     section_of state event.hart.number ≡ Some section → (rule : SectionRule) →
@@ -46,14 +64,23 @@ section_told state event section goes live (inside.RollsBack cause) is =
 section_told state event section goes live inside.Commits is =
     (section, refl, record { goes = goes; inside = live; rule_is = is })
 section_told state event section goes live (inside.Buffers touch) is =
-    (section, touch, record { goes = goes; inside = live; rule_is = is })
+    record { by_rule = inl (section, touch, record { goes = goes; inside = live; rule_is = is }) }
 section_told state event section goes live (inside.Misses line need) is =
     (line, refl, record { by_rule = inr (section, record { goes = goes; inside = live; rule_is = is }) })
 
+outside_told : (state : ModelState) (event : Event) → Goes state event → section_of state event.hart.number ≡ None →
+    (armed : Option states.Armed) → armed_of state event.hart.number ≡ armed →
+    Told state event (outside_turn state event.hart.number armed)
+unfolding plain_turn armed_turn
+outside_told state event goes out None is =
+    plain_told state event goes out is (plain_rule state event.hart.number) refl
+outside_told state event goes out (Some armed) is =
+    armed_told state event armed goes out is (armed_rule state event.hart.number armed) refl
+
 going_told : (state : ModelState) (event : Event) → Goes state event → (section : Option Section) →
     section_of state event.hart.number ≡ section → Told state event (going_turn state event.hart.number section)
-unfolding plain_turn section_turn
-going_told state event goes None is = plain_told state event goes is (plain_rule state event.hart.number) refl
+unfolding section_turn
+going_told state event goes None is = outside_told state event goes is (armed_of state event.hart.number) refl
 going_told state event goes (Some section) is =
     section_told state event section goes is (section_rule state event.hart.number section) refl
 
@@ -119,20 +146,26 @@ stopped_idle state h Running stopped = absurd (stopped refl)
 stopped_idle state h (Exited code) stopped = refl
 stopped_idle state h (Trapped cause pc) stopped = refl
 
-plain_comes : (state : ModelState) (event : Event) (rule : PlainRule) → Goes state event →
-    section_of state event.hart.number ≡ None → plain_rule state event.hart.number ≡ rule →
+plain_comes : (state : ModelState) (event : Event) (rule : PlainRule) → GoesOutside state event rule →
     next state event ≡ by_plain_rule state event.hart.number rule
 unfolding plain_turn
-plain_comes state event rule goes out is =
-    goes_turn state event goes ∙ ap (going_turn state event.hart.number) out ∙ ap (by_plain_rule state event.hart.number) is
+plain_comes state event rule w =
+    goes_turn state event w.goes ∙ ap (going_turn state event.hart.number) w.outside
+    ∙ ap (outside_turn state event.hart.number) w.unarmed ∙ ap (by_plain_rule state event.hart.number) w.rule_is
 
-section_comes : (state : ModelState) (event : Event) (section : Section) (rule : SectionRule) → Goes state event →
-    section_of state event.hart.number ≡ Some section → section_rule state event.hart.number section ≡ rule →
-    next state event ≡ by_section_rule state event.hart.number section rule
+armed_comes : (state : ModelState) (event : Event) (armed : states.Armed) (rule : ArmedRule) → GoesArmed state event armed rule →
+    next state event ≡ by_armed_rule state event.hart.number armed rule
+unfolding armed_turn
+armed_comes state event armed rule w =
+    goes_turn state event w.goes ∙ ap (going_turn state event.hart.number) w.outside
+    ∙ ap (outside_turn state event.hart.number) w.is_armed ∙ ap (by_armed_rule state event.hart.number armed) w.rule_is
+
+section_comes : (state : ModelState) (event : Event) (section : Section) (rule : SectionRule) →
+    GoesInside state event section rule → next state event ≡ by_section_rule state event.hart.number section rule
 unfolding section_turn
-section_comes state event section rule goes live is =
-    goes_turn state event goes ∙ ap (going_turn state event.hart.number) live
-    ∙ ap (by_section_rule state event.hart.number section) is
+section_comes state event section rule w =
+    goes_turn state event w.goes ∙ ap (going_turn state event.hart.number) w.inside
+    ∙ ap (by_section_rule state event.hart.number section) w.rule_is
 
 order_comes : (state : ModelState) (event : Event) (raised : Option Request) → event.kind ≡ kinds.Order →
     raised_of state event.hart.number ≡ raised → next state event ≡ order_raised state raised
@@ -165,35 +198,50 @@ missed_comes : (state : ModelState) (event : Event) (line : ℕ) (need : Need) �
     (next state event).outcome ≡ Missed (line_addr line) need
 unfolding by_plain_rule by_section_rule
 missed_comes state event line need (inl w) =
-    ap (λ turn. turn.outcome) (plain_comes state event (outside.Misses line need) w.goes w.outside w.rule_is)
+    ap (λ turn. turn.outcome) (plain_comes state event (outside.Misses line need) w)
 missed_comes state event line need (inr (section, w)) =
-    ap (λ turn. turn.outcome) (section_comes state event section (inside.Misses line need) w.goes w.inside w.rule_is)
+    ap (λ turn. turn.outcome) (section_comes state event section (inside.Misses line need) w)
+
+began_comes : (state : ModelState) (event : Event) (swap : Swap) →
+    (GoesOutside state event (outside.Begins swap) ⊎ ((armed : states.Armed) × GoesArmed state event armed (Elides swap))) →
+    (next state event).outcome ≡ Began
+unfolding by_plain_rule by_armed_rule
+began_comes state event swap (inl w) = ap (λ turn. turn.outcome) (plain_comes state event (outside.Begins swap) w)
+began_comes state event swap (inr (armed, w)) = ap (λ turn. turn.outcome) (armed_comes state event armed (Elides swap) w)
+
+buffered_comes : (state : ModelState) (event : Event) →
+    (((section : Section) × (touch : Option Touch) × GoesInside state event section (inside.Buffers touch))
+    ⊎ ((armed : states.Armed) × GoesArmed state event armed Continues)) →
+    (next state event).outcome ≡ Buffered
+unfolding by_section_rule by_armed_rule
+buffered_comes state event (inl (section, touch, w)) =
+    ap (λ turn. turn.outcome) (section_comes state event section (inside.Buffers touch) w)
+buffered_comes state event (inr (armed, w)) = ap (λ turn. turn.outcome) (armed_comes state event armed Continues w)
 
 comes : (state : ModelState) (event : Event) (outcome : Outcome) → ComesWhere state event outcome →
     (next state event).outcome ≡ outcome
-unfolding by_plain_rule by_section_rule
+unfolding by_plain_rule by_section_rule by_armed_rule
 comes state event Idle where_is = idle_comes state event where_is
 comes state event Stalled w = stall_comes state event w
 comes state event (Missed line need) (number, is, missed) =
     missed_comes state event number need missed.by_rule ∙ ap (λ l. Missed l need) (sym is)
 comes state event Ran (touch, w) =
-    ap (λ turn. turn.outcome) (plain_comes state event (outside.Runs touch) w.goes w.outside w.rule_is)
-comes state event Began (swap, w) =
-    ap (λ turn. turn.outcome) (plain_comes state event (outside.Begins swap) w.goes w.outside w.rule_is)
-comes state event Buffered (section, touch, w) =
-    ap (λ turn. turn.outcome) (section_comes state event section (inside.Buffers touch) w.goes w.inside w.rule_is)
+    ap (λ turn. turn.outcome) (plain_comes state event (outside.Runs touch) w)
+comes state event Began (swap, w) = began_comes state event swap w.by_rule
+comes state event Buffered w = buffered_comes state event w.by_rule
 comes state event (Committed count) (section, is, w) =
-    ap (λ turn. turn.outcome) (section_comes state event section inside.Commits w.goes w.inside w.rule_is)
+    ap (λ turn. turn.outcome) (section_comes state event section inside.Commits w)
     ∙ ap Committed (sym is)
 comes state event (RolledBack cause) (section, w) =
-    ap (λ turn. turn.outcome) (section_comes state event section (inside.RollsBack cause) w.goes w.inside w.rule_is)
+    ap (λ turn. turn.outcome) (section_comes state event section (inside.RollsBack cause) w)
 comes state event (Ordered losers freed) w =
     ap (λ turn. turn.outcome) (order_comes state event (Some w.request) w.order w.raised)
-    ∙ ap (λ l. Ordered l no_one_freed) (sym w.losers_are)
+    ∙ ap (λ l. Ordered l (order_freed state w.request)) (sym w.losers_are)
     ∙ ap (λ f. Ordered losers f) (sym w.freed_are)
 comes state event (Served losers freed) w =
     ap (λ turn. turn.outcome) (serve_comes state event (Some w.request) w.serve w.ordered)
-    ∙ ap (λ obstacle. (serve_past state w.request obstacle).outcome) w.free ∙ ap (λ l. Served l no_one_freed) (sym w.losers_are)
+    ∙ ap (λ obstacle. (serve_past state w.request obstacle).outcome) w.free
+    ∙ ap (λ l. Served l (serve_freed state w.request)) (sym w.losers_are)
     ∙ ap (λ f. Served losers f) (sym w.freed_are)
 comes state event (Blocked why by) w =
     ap (λ turn. turn.outcome) (serve_comes state event (Some w.request) w.serve w.ordered)
@@ -201,8 +249,9 @@ comes state event (Blocked why by) w =
 comes state event (Delivered losers) w =
     ap (λ turn. turn.outcome) (deliver_comes state event (w.message ∷ w.others) w.deliver w.mail)
     ∙ ap Delivered (sym w.losers_are)
-comes state event Armed w = elim w [ ]
-comes state event (LetGo count) w = elim w [ ]
+comes state event Armed (word, w) = ap (λ turn. turn.outcome) (plain_comes state event (outside.Arms word) w)
+comes state event (LetGo count) (armed, is, w) =
+    ap (λ turn. turn.outcome) (armed_comes state event armed LetsGo w) ∙ ap LetGo (sym is)
 
 pub by_their_rules : (state : ModelState) (event : Event) (outcome : Outcome) →
     ((next state event).outcome ≡ outcome) ↔ ComesWhere state event outcome

@@ -5,7 +5,7 @@ use Rattle.chronicle.specs.Serial.{serial, taking_effect}
 use Rattle.el_base.specs.declared.events.Event.{Event}
 use Rattle.el_model.specs.Next.{entries_from, next, outcomes_from, state_after}
 use Rattle.el_model.specs.State.{ModelState}
-use Rattle.el_model.proofs.Turns.{next_effect}
+use Rattle.el_model.proofs.Turns.{events_take_effect}
 use Rattle.rv_flat.specs.Run.{run}
 use Rattle.rv_flat.proofs.StepLaws.{run_append}
 
@@ -52,7 +52,7 @@ pub serial_run : (state : ModelState) (events : List Event) →
 serial_run state [] = refl
 serial_run state (event ∷ events) =
     serial_run (next state event).state events
-    ∙ ap (λ committed. run committed (serial (entries_from (next state event).state events))) (next_effect state event)
+    ∙ ap (λ committed. run committed (serial (entries_from (next state event).state events))) (events_take_effect state event)
     ∙ sym
     (run_append state.committed (taking_effect event.hart.number (next state event).outcome)
     (serial (entries_from (next state event).state events)))

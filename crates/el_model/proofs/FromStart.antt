@@ -1,19 +1,17 @@
 -- what never arises from the start on, by induction over the events
-use Rattle.std.proofs.Common.{◌≡◌, ◌∙◌, ℕ, false, List, [], ◌∷◌, refl, ap}
+use Rattle.std.proofs.Common.{◌≡◌, ◌∙◌, false, List, [], ◌∷◌, refl, ap}
 use Rattle.el_base.specs.declared.config.Config.{Config}
 use Rattle.el_base.specs.declared.config.Mode.TheVariants.{Plain}
 use Rattle.el_base.specs.declared.events.Event.{Event}
-use Rattle.el_base.specs.declared.events.Kind.{Kind}
-use Rattle.el_base.specs.declared.events.Kind.TheVariants as kinds
 use Rattle.elf_image.specs.Program.{Program}
 use Rattle.el_model.specs.Laws.{PlainStaysPlain, StepsAreDeeds, StamplessStaysSilent}
-use Rattle.el_model.specs.Next.{kind_turn, next, state_after}
+use Rattle.el_model.specs.Next.{next, state_after}
 use Rattle.el_model.specs.Quiet.{IsPlain, IsSilent, has_stamps}
 use Rattle.el_model.specs.State.{ModelState, begin, new_hart}
 use Rattle.el_model.proofs.AllHarts.{All, all_first}
+use Rattle.el_model.proofs.BusEvents.{by_event}
 use Rattle.el_model.proofs.Deeds.{step_deed}
 use Rattle.el_model.proofs.Silent.{new_is_silent, next_silent}
-use Rattle.el_model.proofs.Turns.{deliver_calm, order_calm, serve_calm}
 use Rattle.el_model.proofs.PlainMode.{new_is_plain, next_plain}
 
 pub steps_are_deeds : StepsAreDeeds
@@ -21,15 +19,10 @@ unfolding next
 steps_are_deeds state event step = rw step (step_deed state event.hart.number)
 
 -- no event changes the configuration
-kind_config : (state : ModelState) (h : ℕ) (kind : Kind) → (kind_turn state h kind).state.config ≡ state.config
-kind_config state h kinds.Step = ap (λ turn. turn.state.config) (step_deed state h).turn_is
-kind_config state h kinds.Order = (order_calm state h).keeps.config
-kind_config state h kinds.Serve = (serve_calm state h).keeps.config
-kind_config state h kinds.Deliver = (deliver_calm state h).keeps.config
-
 pub next_config : (state : ModelState) (event : Event) → (next state event).state.config ≡ state.config
-unfolding next
-next_config state event = kind_config state event.hart.number event.kind
+next_config state event =
+    by_event (λ turn. turn.state.config ≡ state.config) state event
+    (λ step. ap (λ turn. turn.state.config) (step_deed state event.hart.number).turn_is) (λ turn done. done.config)
 
 -- a fact that each event keeps holds after all of them
 pub kept_after : (P : ModelState → Type 0) → ((state : ModelState) (event : Event) → P state → P (next state event).state) →
@@ -66,14 +59,12 @@ stampless_silent program config events mode =
 
 record InPlain (state : ModelState) : Type 0 where
   mode : state.config.mode ≡ Plain
-  silent : All IsSilent state
   plain : All IsPlain state
 
 next_in_plain : (state : ModelState) (event : Event) → InPlain state → InPlain (next state event).state
 next_in_plain state event now = record {
   mode = ap (λ config. config.mode) (next_config state event) ∙ now.mode;
-  silent = next_silent state event (ap has_stamps now.mode) now.silent;
-  plain = next_plain state event now.mode now.silent now.plain;
+  plain = next_plain state event now.mode now.plain;
 }
 
 first_plain : (program : Program) (config : Config) → All IsPlain (begin program config)
@@ -86,6 +77,5 @@ plain_plain program config events mode =
     (kept_after InPlain next_in_plain (begin program config) events
     (record {
       mode = ap (λ c. c.mode) (begin_config program config) ∙ mode;
-      silent = first_silent program config;
       plain = first_plain program config;
     })).plain

@@ -1,7 +1,8 @@
 -- how a hart is read after each hart, or one, has changed
-use Rattle.std.proofs.Common.{◌≡◌, ◌≢◌, ℕ, zero, suc, ◌+◌, ◌<◌, ◌≤◌, List, [], ◌∷◌, length, refl, ap, arith}
+use Rattle.std.proofs.Common.{◌≡◌, ◌≢◌, ℕ, zero, suc, ◌+◌, ◌<◌, ◌≤◌, List, [], ◌∷◌, length, refl, arith}
 use Rattle.std.specs.Prelude.{slice_index_or, slice_set}
 use Rattle.std.proofs.lemmas.List.{get_or-set_same, get_or-set_other}
+use Rattle.el_model.proofs.Keeps.{length-each_from}
 use Rattle.el_model.specs.State.{Hart, ModelState, each_from, each_hart, hart_of, new_hart, with_hart}
 
 pub past_end : (harts : List Hart) (g : ℕ) (none : Hart) → length harts ≤ g → slice_index_or harts g none ≡ none
@@ -16,10 +17,6 @@ at_each from number becomes (hart ∷ harts) zero none below is = let e : number
 at_each from number becomes (hart ∷ harts) (suc g) none below is =
     at_each (suc from) number becomes harts g none (omega arith) (omega arith)
 
-length_each : (from : ℕ) (becomes : ℕ → Hart → Hart) (harts : List Hart) → length (each_from from becomes harts) ≡ length harts
-length_each from becomes [] = refl
-length_each from becomes (hart ∷ harts) = ap suc (length_each (suc from) becomes harts)
-
 pub hart_of-each_hart : (state : ModelState) (becomes : ℕ → Hart → Hart) (g : ℕ) → g < length state.harts →
     hart_of (each_hart state becomes) g ≡ becomes g (hart_of state g)
 hart_of-each_hart state becomes g below = at_each 0 g becomes state.harts g (new_hart 0) below (omega arith)
@@ -28,7 +25,7 @@ pub hart_of-each_hart_past : (state : ModelState) (becomes : ℕ → Hart → Ha
     hart_of (each_hart state becomes) g ≡ new_hart 0
 hart_of-each_hart_past state becomes g past =
     past_end (each_from 0 becomes state.harts) g (new_hart 0)
-    (let e = length_each 0 becomes state.harts in omega (arith, e))
+    (let e = length-each_from 0 becomes state.harts in omega (arith, e))
 
 pub hart_of-past : (state : ModelState) (g : ℕ) → length state.harts ≤ g → hart_of state g ≡ new_hart 0
 hart_of-past state g past = past_end state.harts g (new_hart 0) past

@@ -7,6 +7,9 @@ pub mod Harts
 pub mod Losing
 pub mod Restoring
 pub mod AllHarts
+pub mod EachHart
+pub mod Orders
+pub mod BusEvents
 pub mod Deeds
 pub mod Silent
 pub mod PlainMode

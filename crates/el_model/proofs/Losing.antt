@@ -1,26 +1,19 @@
--- where an event of the bus names no winner for a hart, its section, tries and flag are as they were; where it names one they are those after a loss
-use Rattle.std.proofs.Common.{◌≡◌, ◌∙◌, ℕ, suc, ◌+◌, ◌<◌, ◌≤◌, Bool, true, false, ◌&&◌, not, ◌==◌, List, [], ◌∷◌, Option, Some, None, length, refl, ap, sym, arith, if◌then◌else◌}
-use Rattle.std.specs.Prelude.{IfSome, nat_lt}
-use Rattle.std.proofs.lemmas.Bool.{ltb-true, ltb-false}
+-- what a loss leaves of a section, and whom a fate may name: a hart does not meet its own request, without a section it meets none, and
+-- it loses to no hart that a machine does not have
+use Rattle.std.proofs.Common.{◌≡◌, ◌∙◌, ℕ, suc, ◌+◌, ◌<◌, ◌≤◌, Bool, true, false, ◌&&◌, not, ◌==◌, List, [], ◌∷◌}
+use Rattle.std.proofs.Common.{Option, Some, None, is_some, length, refl, ap, arith, if◌then◌else◌}
+use Rattle.std.specs.Prelude.{IfSome}
 use Rattle.bus_order.specs.Order.{Request}
 use Rattle.defer_list.specs.HartSet.{has}
-use Rattle.el_base.proofs.MadeLosers.{beaten_by-beyond, beaten_by-losers_of}
-use Rattle.el_base.specs.Losers.{beaten_by}
 use Rattle.el_base.specs.declared.config.Mode.{Mode}
 use Rattle.el_base.specs.declared.config.Mode.TheVariants.{Plain, Sle, Tlr}
 use Rattle.el_model.specs.Conflicts.{conflicts, earlier, least_such, meets_bit, stamp_in, told_winner, wins_over}
-use Rattle.el_model.specs.Face.{Fate, LosesTo, Stays, Unmet, after_fate, deferring, deferring_fate, face_losers, faced, faced_hart, fate_at, fate_of, markers_for, told_fate, winner_in, winning_stamp}
-use Rattle.el_model.specs.Losses.{lost_in, restored, standing_of}
+use Rattle.el_model.specs.Face.{Fate, LosesTo, Unmet, deferring_fate, fate_of, told_fate, winner_in}
+use Rattle.el_model.specs.Losses.{Standing, lost_in, standing_of}
 use Rattle.el_model.specs.RollBack.{beaten, most_tries, out_of_section}
-use Rattle.el_model.specs.State.{Hart, ModelState, count_up, hart_of, new_hart, ordered_on, post_all}
-use Rattle.el_model.proofs.Harts.{hart_of-each_hart, hart_of-each_hart_past, hart_of-past}
+use Rattle.el_model.specs.State.{Hart, ModelState, count_up, ordered_on}
 use Rattle.el_model.proofs.Tests.{by_test}
-use Rattle.mail.specs.Mailbox.{Message, posted}
 use Rattle.stamp.specs.Stamps.{Stamp, is_before}
-
-pub post_all_stands : (hart : Hart) (messages : List Message) → standing_of (post_all hart messages) ≡ standing_of hart
-post_all_stands hart [] = refl
-post_all_stands hart (message ∷ messages) = post_all_stands (record hart { mail = posted hart.mail message }) messages
 
 try_stands : (hart : Hart) (last : Bool) →
     standing_of (if last then record hart { tries = 0; fallback = true } else record hart { tries = hart.tries + 1 })
@@ -35,16 +28,10 @@ beaten_stands Tlr winner hart = refl
 beaten_stands Sle winner hart = try_stands (out_of_section hart) (hart.tries + 1 == most_tries)
 beaten_stands Plain winner hart = try_stands (out_of_section hart) (hart.tries + 1 == most_tries)
 
-deferring_stands : (mode : Mode) (stamp : Option Stamp) (hart : Hart) → standing_of (deferring mode stamp hart) ≡ standing_of hart
-deferring_stands Tlr stamp hart = refl
-deferring_stands Sle stamp hart = refl
-deferring_stands Plain stamp hart = refl
-
-fate_stands : (state : ModelState) (head : Request) (hart : Hart) (fate : Fate) →
-    standing_of (after_fate state head fate hart) ≡ restored state.config.mode (winner_in fate) (standing_of hart)
-fate_stands state head hart Unmet = refl
-fate_stands state head hart Stays = deferring_stands state.config.mode head.stamp hart
-fate_stands state head hart (LosesTo winner) = beaten_stands state.config.mode (winning_stamp state head.line winner) hart
+pub lost_section : (mode : Mode) (old : Standing) → (lost_in mode old).section ≡ None
+lost_section Tlr old = refl
+lost_section Sle old = by_test {A = Standing} (λ standing. standing.section ≡ None) (old.tries + 1 == most_tries) _ _ (λ last. refl) (λ more. refl)
+lost_section Plain old = by_test {A = Standing} (λ standing. standing.section ≡ None) (old.tries + 1 == most_tries) _ _ (λ last. refl) (λ more. refl)
 
 -- a hart does not meet its own request, and without a section it meets none
 unmet_if : (state : ModelState) (head : Request) (h : ℕ) (hart : Hart) (meets : Bool) → meets ≡ false →
@@ -53,7 +40,8 @@ unmet_if : (state : ModelState) (head : Request) (h : ℕ) (hart : Hart) (meets 
 unmet_if state head h hart true is = absurd (cc)
 unmet_if state head h hart false is = refl
 
-own_is_unmet : (state : ModelState) (head : Request) (h : ℕ) (hart : Hart) → (h == head.hart) ≡ true → fate_of state head h hart ≡ Unmet
+pub own_is_unmet : (state : ModelState) (head : Request) (h : ℕ) (hart : Hart) → (h == head.hart) ≡ true →
+    fate_of state head h hart ≡ Unmet
 own_is_unmet state head h hart own =
     let same : (head.hart == h) ≡ true = grind arith in
     unmet_if state head h hart _ (rw same refl)
@@ -62,9 +50,12 @@ pub no_section_meets : (other meets : Bool) → ((other && false) && meets) ≡ 
 no_section_meets true meets = refl
 no_section_meets false meets = refl
 
-absent_is_unmet : (state : ModelState) (head : Request) (h : ℕ) → fate_of state head h (new_hart 0) ≡ Unmet
-absent_is_unmet state head h =
-    unmet_if state head h (new_hart 0) _ (no_section_meets (not (head.hart == h)) (meets_bit (new_hart 0) head.line head.need))
+pub outside_is_unmet : (state : ModelState) (head : Request) (h : ℕ) (hart : Hart) → hart.section ≡ None →
+    fate_of state head h hart ≡ Unmet
+outside_is_unmet state head h hart none =
+    unmet_if state head h hart _
+    (ap (λ section. (not (head.hart == h) && is_some section) && meets_bit hart head.line head.need) none
+    ∙ no_section_meets (not (head.hart == h)) (meets_bit hart head.line head.need))
 
 -- the hart that wins over a told section is one of the machine's
 earlier_below : (stamp : ℕ → Option Stamp) (limit origin : ℕ) (other : Option ℕ) → origin < limit → IfSome other (λ o. o < limit) →
@@ -91,7 +82,7 @@ told_below state hart line few =
     8 0 state.harts (omega arith)
 
 -- a fate names no hart that a machine does not have
-abbrev IsBelow : Fate → Type 0
+abbrev pub IsBelow : Fate → Type 0
 IsBelow fate = IfSome (winner_in fate) (λ w. w < 8)
 
 told_fate_below : (winner : Option ℕ) → IfSome winner (λ o. o < 8) → IsBelow (told_fate winner)
@@ -104,7 +95,7 @@ deferring_below Tlr state head hart few = told_fate_below _ (told_below state ha
 deferring_below Sle state head hart few = tt
 deferring_below Plain state head hart few = tt
 
-fate_below : (state : ModelState) (head : Request) (h : ℕ) (hart : Hart) → length state.harts ≤ 8 → head.hart < 8 →
+pub fate_below : (state : ModelState) (head : Request) (h : ℕ) (hart : Hart) → length state.harts ≤ 8 → head.hart < 8 →
     IsBelow (fate_of state head h hart)
 fate_below state head h hart few winner =
     by_test IsBelow (conflicts head h hart) _ Unmet
@@ -113,56 +104,3 @@ fate_below state head h hart few winner =
     (deferring_fate state.config.mode state head hart) (λ wins. winner)
     (λ stays. deferring_below state.config.mode state head hart few))
     (λ apart. tt)
-
--- who lost as a head was faced, hart by hart
-abbrev FaceRestores : ModelState → Request → ℕ → Type 0
-FaceRestores state head g =
-    standing_of (hart_of (faced state head) g)
-    ≡ restored state.config.mode (beaten_by (face_losers state head) g) (standing_of (hart_of state g))
-
-beaten_at : (state : ModelState) (head : Request) (g : ℕ) → length state.harts ≤ 8 → head.hart < 8 → g < 8 →
-    beaten_by (face_losers state head) g ≡ winner_in (fate_at state head g)
-unfolding face_losers
-beaten_at state head g few winner below =
-    beaten_by-losers_of (λ h. winner_in (fate_at state head h)) g below (fate_below state head g (hart_of state g) few winner)
-
-faced_stands : (state : ModelState) (head : Request) (g : ℕ) (hart : Hart) (own : Bool) → (g == head.hart) ≡ own →
-    standing_of (if own then post_all hart (markers_for state.config.mode state head)
-    else after_fate state head (fate_of state head g hart) hart)
-    ≡ restored state.config.mode (winner_in (fate_of state head g hart)) (standing_of hart)
-faced_stands state head g hart true own =
-    post_all_stands hart (markers_for state.config.mode state head)
-    ∙ sym (ap (λ fate. restored state.config.mode (winner_in fate) (standing_of hart)) (own_is_unmet state head g hart own))
-faced_stands state head g hart false other = fate_stands state head hart (fate_of state head g hart)
-
-face_within : (state : ModelState) (head : Request) (g : ℕ) → length state.harts ≤ 8 → head.hart < 8 → g < length state.harts →
-    FaceRestores state head g
-unfolding faced
-face_within state head g few winner below =
-    ap standing_of (hart_of-each_hart state (faced_hart state head) g below)
-    ∙ faced_stands state head g (hart_of state g) (g == head.hart) refl
-    ∙ sym (ap (λ w. restored state.config.mode w (standing_of (hart_of state g))) (beaten_at state head g few winner (omega arith)))
-
--- no hart past the last one has lost
-past_unbeaten : (state : ModelState) (head : Request) (g : ℕ) → length state.harts ≤ 8 → head.hart < 8 → length state.harts ≤ g →
-    (below : Bool) → nat_lt g 8 ≡ below → beaten_by (face_losers state head) g ≡ None
-past_unbeaten state head g few winner past true below =
-    beaten_at state head g few winner (ltb-true g 8 below)
-    ∙ ap (λ hart. winner_in (fate_of state head g hart)) (hart_of-past state g past)
-    ∙ ap winner_in (absent_is_unmet state head g)
-past_unbeaten state head g few winner past false below = beaten_by-beyond (face_losers state head) g (ltb-false g 8 below)
-
-face_past : (state : ModelState) (head : Request) (g : ℕ) → length state.harts ≤ 8 → head.hart < 8 → length state.harts ≤ g →
-    FaceRestores state head g
-unfolding faced
-face_past state head g few winner past =
-    ap standing_of (hart_of-each_hart_past state (faced_hart state head) g past ∙ sym (hart_of-past state g past))
-    ∙ sym (ap (λ w. restored state.config.mode w (standing_of (hart_of state g))) (past_unbeaten state head g few winner past _ refl))
-
-face_by : (state : ModelState) (head : Request) (g : ℕ) → length state.harts ≤ 8 → head.hart < 8 →
-    (below : Bool) → nat_lt g (length state.harts) ≡ below → FaceRestores state head g
-face_by state head g few winner true below = face_within state head g few winner (ltb-true g (length state.harts) below)
-face_by state head g few winner false below = face_past state head g few winner (ltb-false g (length state.harts) below)
-
-pub face_restores : (state : ModelState) (head : Request) (g : ℕ) → length state.harts ≤ 8 → head.hart < 8 → FaceRestores state head g
-face_restores state head g few winner = face_by state head g few winner (nat_lt g (length state.harts)) refl

@@ -1,27 +1,29 @@
 -- without stamps nothing of messages and attempts ever arises
-use Rattle.std.proofs.Common.{◌≡◌, ◌∙◌, ℕ, Bool, true, false, Option, None, Some, is_some, refl, ap, if◌then◌else◌, ◌==◌, ◌+◌}
-use Rattle.bus_order.specs.Order.{Request, tail_of}
+use Rattle.std.proofs.Common.{◌≡◌, ◌∙◌, ℕ, Bool, true, false, List, ◌∷◌, Option, None, Some, is_some, refl, ap, sym}
+use Rattle.std.proofs.Common.{if◌then◌else◌, ◌==◌, ◌+◌}
+use Rattle.bus_order.specs.Order.{Request}
 use Rattle.el_base.specs.declared.config.Mode.{Mode}
 use Rattle.el_base.specs.declared.config.Mode.TheVariants.{Plain, Sle, Tlr}
 use Rattle.el_base.specs.declared.events.Event.{Event}
-use Rattle.el_base.specs.declared.events.Kind.{Kind}
-use Rattle.el_base.specs.declared.events.Kind.TheVariants as kinds
+use Rattle.el_model.specs.Armed.{let_go_hart}
 use Rattle.el_model.specs.Attempts.{opened}
-use Rattle.el_model.specs.Deed.{Begins, Buffers, Commits, Deed, Misses, Rests, RollsBack, Runs, Waits, hart_after}
-use Rattle.el_model.specs.Deliver.{deliver_turn}
-use Rattle.el_model.specs.Face.{Fate, LosesTo, Stays, Unmet, after_fate, deferring, faced, faced_hart, faced_if, fate_of, markers_for, winning_stamp}
-use Rattle.el_model.specs.Next.{kind_turn, next, step_turn}
-use Rattle.el_model.specs.Order.{Alone, Behind, InFront, Place, before_face, marked_by, marked_from, marking, order_raised, order_turn, place_for, placed, placed_in_front, placed_last, unraised}
+use Rattle.el_model.specs.BusEvent.{Becomes, IsAbsent, IsAnswered, IsBehind, IsDeferred, IsForwarded, IsLetGo, IsPassed, IsPosted, IsSent, IsToldOn, LosesIt}
+use Rattle.el_model.specs.BusEvent.{Nothing, Places, Sees, Serves, Start, Starts, StartsWhere, Takes, started}
+use Rattle.el_model.specs.Deed.{Arms, Begins, Buffers, Commits, Continues, Deed, Elides, LetsGo, Misses, Rests, RollsBack, Runs, Waits, hart_after}
+use Rattle.el_model.specs.Next.{next, step_turn}
 use Rattle.el_model.specs.Plain.{after_candidate, candidate_of}
 use Rattle.el_model.specs.Quiet.{IsSilent, has_stamps}
 use Rattle.el_model.specs.RollBack.{beaten, most_tries, out_of_section}
-use Rattle.el_model.specs.Serve.{Blocks, Free, Obstacle, bystander, obstacle_to, serve_ordered, serve_past, serve_turn, served, served_hart, serving, with_claim}
-use Rattle.el_model.specs.State.{Hart, ModelState, hart_of, head_of, new_hart, ordered_of, post_all, raised_of}
+use Rattle.el_model.specs.Serve.{bystander, served_hart, with_claim}
+use Rattle.el_model.specs.State.{Hart, ModelState, hart_of, new_hart}
 use Rattle.el_model.specs.Upcoming.{Swap}
-use Rattle.el_model.proofs.AllHarts.{All, all_each, all_with}
+use Rattle.el_model.proofs.AllHarts.{All}
+use Rattle.el_model.proofs.BusEvents.{by_event}
 use Rattle.el_model.proofs.Deeds.{step_deed}
-use Rattle.el_model.proofs.Keeps.{keeps_marking, keeps_served}
+use Rattle.el_model.proofs.EachHart.{each_with}
 use Rattle.el_model.proofs.Tests.{by_test}
+use Rattle.mail.specs.Mailbox.{Message}
+use Rattle.rv_flat.specs.FlatState.{view_of}
 use Rattle.stamp.specs.Stamps.{Stamp}
 
 pub new_is_silent : (sets : ℕ) → IsSilent (new_hart sets)
@@ -51,74 +53,6 @@ beaten_silent Plain winner hart silent =
     try_silent (out_of_section hart) (hart.tries + 1 == most_tries)
     (record { mail = silent.mail; told = silent.told; upstream = silent.upstream; attempt = silent.attempt })
 
-deferring_silent : (mode : Mode) (stamp : Option Stamp) (hart : Hart) → IsSilent hart → IsSilent (deferring mode stamp hart)
-deferring_silent Tlr stamp hart silent = record { mail = silent.mail; told = silent.told; upstream = silent.upstream; attempt = silent.attempt }
-deferring_silent Sle stamp hart silent = silent
-deferring_silent Plain stamp hart silent = silent
-
-fate_silent : (state : ModelState) (head : Request) (hart : Hart) (fate : Fate) → IsSilent hart → IsSilent (after_fate state head fate hart)
-fate_silent state head hart Unmet silent = silent
-fate_silent state head hart Stays silent = deferring_silent state.config.mode head.stamp hart silent
-fate_silent state head hart (LosesTo winner) silent = beaten_silent state.config.mode (winning_stamp state head.line winner) hart silent
-
--- the markers of a face, where there are none
-markers_silent : (mode : Mode) (state : ModelState) (head : Request) (hart : Hart) → has_stamps mode ≡ false → IsSilent hart →
-    IsSilent (post_all hart (markers_for mode state head))
-markers_silent Tlr state head hart stampless silent = absurd (cc)
-markers_silent Sle state head hart stampless silent = silent
-markers_silent Plain state head hart stampless silent = silent
-
-faced_silent : (state : ModelState) (head : Request) → has_stamps state.config.mode ≡ false → All IsSilent state → All IsSilent (faced state head)
-unfolding faced
-faced_silent state head stampless all =
-    all_each IsSilent state (faced_hart state head) (new_is_silent 0)
-    (λ h hart silent.
-    by_test IsSilent (h == head.hart) (post_all hart (markers_for state.config.mode state head))
-    (after_fate state head (fate_of state head h hart) hart)
-    (λ own. markers_silent state.config.mode state head hart stampless silent)
-    (λ other. fate_silent state head hart (fate_of state head h hart) silent))
-    all
-
-faced_if_silent : (state : ModelState) (head : Option Request) → has_stamps state.config.mode ≡ false → All IsSilent state →
-    All IsSilent (faced_if state head)
-faced_if_silent state None stampless all = all
-faced_if_silent state (Some head) stampless all = faced_silent state head stampless all
-
-marked_silent : (mode : Mode) (state : ModelState) (sender h : ℕ) → has_stamps mode ≡ false → All IsSilent state →
-    All IsSilent (marked_from mode state sender h)
-marked_silent Tlr state sender h stampless all = absurd (cc)
-marked_silent Sle state sender h stampless all = all
-marked_silent Plain state sender h stampless all = all
-
-marking_silent : (state : ModelState) (h : ℕ) (former : Option Request) → has_stamps state.config.mode ≡ false → All IsSilent state →
-    All IsSilent (marking state h former)
-marking_silent state h None stampless all = all
-marking_silent state h (Some former) stampless all = marked_silent state.config.mode state h former.hart stampless all
-
-marked_by_silent : (state : ModelState) (last : Option Request) (h : ℕ) → has_stamps state.config.mode ≡ false → All IsSilent state →
-    All IsSilent (marked_by state last h)
-marked_by_silent state None h stampless all = all
-marked_by_silent state (Some last) h stampless all = marked_silent state.config.mode state last.hart h stampless all
-
-unraised_silent : (state : ModelState) (h : ℕ) → All IsSilent state →
-    All IsSilent (unraised state h)
-unraised_silent state h all =
-    all_with IsSilent state h (record (hart_of state h) { raised = None })
-    (still_silent (hart_of state h) (record (hart_of state h) { raised = None }) refl refl refl refl (all h)) all
-
-placed_silent : (state : ModelState) (request : Request) (place : Place) → has_stamps state.config.mode ≡ false → All IsSilent state →
-    All IsSilent (placed state request place)
-unfolding placed
-placed_silent state request InFront stampless all =
-    let front = placed_in_front state request in
-    let kept = keeps_marking front request.hart (head_of state request.line) in
-    let mode = ap (λ config. has_stamps config.mode) kept.config in
-    faced_silent (before_face state request InFront) request (mode ∙ stampless)
-    (marking_silent front request.hart (head_of state request.line) stampless (unraised_silent state request.hart all))
-placed_silent state request Behind stampless all =
-    marked_by_silent (placed_last state request) (tail_of state.order request.line) request.hart stampless (unraised_silent state request.hart all)
-placed_silent state request Alone stampless all = faced_silent (placed_last state request) request stampless (unraised_silent state request.hart all)
-
 claim_silent : (live : Bool) (request : Request) (hart : Hart) → IsSilent hart → IsSilent (with_claim live request hart)
 claim_silent true request hart silent = still_silent hart (with_claim true request hart) refl refl refl refl silent
 claim_silent false request hart silent = still_silent hart (with_claim false request hart) refl refl refl refl silent
@@ -131,45 +65,46 @@ serving_silent state request hart true silent =
 serving_silent state request hart false silent =
     record { mail = rw silent.mail refl; told = rw silent.told refl; upstream = silent.upstream; attempt = silent.attempt }
 
-served_silent : (state : ModelState) (request : Request) → All IsSilent state → All IsSilent (served state request)
-unfolding served
-served_silent state request all =
-    all_each IsSilent state (serving state request) (new_is_silent 0)
-    (λ h hart silent. serving_silent state request hart (h == request.hart) silent) all
+-- no message is posted, and none is taken
+stamped : {X : Type 0} (mode : Mode) → has_stamps mode ≡ false → mode ≡ Tlr → X
+stamped mode stampless is = let e = sym (ap has_stamps is) ∙ stampless in absurd (cc)
 
--- a message is taken out of no mailbox
-deliver_silent : (state : ModelState) (h : ℕ) → All IsSilent state → All IsSilent (deliver_turn state h).state
-unfolding deliver_turn
-deliver_silent state h all = rw (all h).mail all
+none_taken : {X : Type 0} (hart : Hart) (message : Message) (others : List Message) → IsSilent hart →
+    hart.mail ≡ message ∷ others → X
+none_taken hart message others silent is = let e = sym silent.mail ∙ is in absurd (cc)
 
-raised_silent : (state : ModelState) (raised : Option Request) → has_stamps state.config.mode ≡ false → All IsSilent state →
-    All IsSilent (order_raised state raised).state
-raised_silent state None stampless all = all
-raised_silent state (Some request) stampless all = placed_silent state request (place_for state request) stampless all
+none_posted : {X : Type 0} (state : ModelState) (by : ℕ) {start : Start} {h : ℕ} {message : Message} →
+    has_stamps state.config.mode ≡ false →
+    All IsSilent state → StartsWhere state by start → IsPosted state by start h message → X
+none_posted state by stampless all where_it (IsBehind request last mode is) = stamped state.config.mode stampless mode
+none_posted state by stampless all where_it (IsPassed request former mode is) = stamped state.config.mode stampless mode
+none_posted state by stampless all where_it (IsDeferred start head h defers below) = stamped state.config.mode stampless defers.mode
+none_posted state by stampless all where_it (IsAnswered sender others) = none_taken (hart_of state by) _ _ (all by) where_it
+none_posted state by stampless all where_it (IsToldOn sender others origin tells) = none_taken (hart_of state by) _ _ (all by) where_it
+none_posted state by stampless all where_it (IsForwarded origin others h forwards) = none_taken (hart_of state by) _ _ (all by) where_it
 
-order_silent : (state : ModelState) (h : ℕ) → has_stamps state.config.mode ≡ false → All IsSilent state →
-    All IsSilent (order_turn state h).state
-unfolding order_turn
-order_silent state h stampless all = raised_silent state (raised_of state h) stampless all
+started_silent : (state : ModelState) (by : ℕ) (start : Start) (h : ℕ) → All IsSilent state →
+    StartsWhere state by start →
+    IsSilent (started state by start h (hart_of state h))
+started_silent state by Nothing h all where_it = all h
+started_silent state by (Places request place) h all where_it =
+    by_test IsSilent (h == request.hart) (record (hart_of state h) { raised = None }) (hart_of state h)
+    (λ own. still_silent (hart_of state h) _ refl refl refl refl (all h)) (λ other. all h)
+started_silent state by (Serves request) h all where_it = serving_silent state request (hart_of state h) (h == request.hart) (all h)
+started_silent state by (Takes message others) h all where_it = none_taken (hart_of state by) message others (all by) where_it
 
-past_silent : (state : ModelState) (request : Request) (obstacle : Obstacle) → has_stamps state.config.mode ≡ false →
-    All IsSilent state → All IsSilent (serve_past state request obstacle).state
-past_silent state request (Blocks why by) stampless all = all
-past_silent state request Free stampless all =
-    let after = served state request in
-    faced_if_silent after (head_of after request.line)
-    (ap (λ config. has_stamps config.mode) (keeps_served state request).config ∙ stampless)
-    (served_silent state request all)
-
-ordered_silent : (state : ModelState) (request : Option Request) → has_stamps state.config.mode ≡ false →
-    All IsSilent state → All IsSilent (serve_ordered state request).state
-ordered_silent state None stampless all = all
-ordered_silent state (Some request) stampless all = past_silent state request (obstacle_to state request) stampless all
-
-serve_silent : (state : ModelState) (h : ℕ) → has_stamps state.config.mode ≡ false → All IsSilent state →
-    All IsSilent (serve_turn state h).state
-unfolding serve_turn
-serve_silent state h stampless all = ordered_silent state (ordered_of state h) stampless all
+becomes_silent : (state : ModelState) (by : ℕ) (start : Start) (h : ℕ) {lost : Option ℕ} {hart : Hart} →
+    has_stamps state.config.mode ≡ false →
+    All IsSilent state → StartsWhere state by start → Becomes state by start h lost hart → IsSilent hart
+becomes_silent state by start h stampless all where_it (IsAbsent past) = all h
+becomes_silent state by start h stampless all where_it (Starts below) = started_silent state by start h all where_it
+becomes_silent state by start h stampless all where_it (IsSent message lost hart sent now) = none_posted state by stampless all where_it sent
+becomes_silent state by start h stampless all where_it (IsLetGo head hart frees now) =
+    still_silent hart (let_go_hart (view_of state.committed h).pc hart) refl refl refl refl
+    (becomes_silent state by start h stampless all where_it now)
+becomes_silent state by start h stampless all where_it (Sees head lost hart defers now) = stamped state.config.mode stampless defers.mode
+becomes_silent state by start h stampless all where_it (LosesIt winner stamp hart loses now) =
+    beaten_silent state.config.mode stamp hart (becomes_silent state by start h stampless all where_it now)
 
 -- a hart's own deed opens no attempt
 opened_none : (mode : Mode) (h clock : ℕ) (attempt : Option Stamp) → has_stamps mode ≡ false → attempt ≡ None →
@@ -178,7 +113,7 @@ opened_none Tlr h clock attempt stampless none = absurd (cc)
 opened_none Sle h clock attempt stampless none = none
 opened_none Plain h clock attempt stampless none = none
 
-candidate_silent : (pc : ℕ) (had_watch : Bool) (candidate : Option Swap) (hart : Hart) → IsSilent hart →
+candidate_silent : (pc : Option ℕ) (had_watch : Bool) (candidate : Option Swap) (hart : Hart) → IsSilent hart →
     IsSilent (after_candidate pc had_watch candidate hart)
 candidate_silent pc had_watch None hart silent = silent
 candidate_silent pc had_watch (Some swap) hart silent = still_silent hart _ refl refl refl refl silent
@@ -200,23 +135,26 @@ deed_silent state h (Buffers section touch) hart stampless silent = still_silent
 deed_silent state h (Commits section) hart stampless silent = record { mail = silent.mail; told = silent.told; upstream = silent.upstream; attempt = refl }
 deed_silent state h (RollsBack section cause) hart stampless silent =
     record { mail = silent.mail; told = silent.told; upstream = silent.upstream; attempt = refl }
+deed_silent state h (Arms word) hart stampless silent = still_silent hart _ refl refl refl refl silent
+deed_silent state h (Elides armed swap) hart stampless silent = record {
+  mail = silent.mail;
+  told = silent.told;
+  upstream = silent.upstream;
+  attempt = opened_none state.config.mode h hart.clock hart.attempt stampless silent.attempt;
+}
+deed_silent state h (Continues armed) hart stampless silent = still_silent hart _ refl refl refl refl silent
+deed_silent state h (LetsGo armed) hart stampless silent = still_silent hart _ refl refl refl refl silent
 
 step_silent : (state : ModelState) (h : ℕ) → has_stamps state.config.mode ≡ false → All IsSilent state →
     All IsSilent (step_turn state h).state
 step_silent state h stampless all =
     let step = step_deed state h in
     rw (step.turn_is)
-    (all_with IsSilent state h (hart_after state h step.deed (hart_of state h))
+    (each_with (λ g hart. IsSilent hart) state h (hart_after state h step.deed (hart_of state h))
     (deed_silent state h step.deed (hart_of state h) stampless (all h)) all)
-
-kind_silent : (state : ModelState) (h : ℕ) (kind : Kind) → has_stamps state.config.mode ≡ false → All IsSilent state →
-    All IsSilent (kind_turn state h kind).state
-kind_silent state h kinds.Step stampless all = step_silent state h stampless all
-kind_silent state h kinds.Order stampless all = order_silent state h stampless all
-kind_silent state h kinds.Serve stampless all = serve_silent state h stampless all
-kind_silent state h kinds.Deliver stampless all = deliver_silent state h all
 
 pub next_silent : (state : ModelState) (event : Event) → has_stamps state.config.mode ≡ false → All IsSilent state →
     All IsSilent (next state event).state
-unfolding next
-next_silent state event stampless all = kind_silent state event.hart.number event.kind stampless all
+next_silent state event stampless all =
+    by_event (λ turn. All IsSilent turn.state) state event (λ step. step_silent state event.hart.number stampless all)
+    (λ turn done h. becomes_silent state event.hart.number done.start h stampless all done.where_it (done.becomes h))

@@ -1,5 +1,5 @@
 -- a step, told once: the frame that it keeps, and what its hart does
-use Rattle.std.specs.Prelude.{ℕ, ◌≡◌, ◌≢◌, ◌+◌, ◌⊎◌, ◌==◌, ◌||◌, Bool, true, false, not, Option, None, Some}
+use Rattle.std.specs.Prelude.{ℕ, ◌≡◌, ◌≢◌, ◌+◌, ◌⊎◌, ◌==◌, ◌&&◌, ◌||◌, Bool, true, false, not, Option, None, Some}
 use Rattle.cache_sets.specs.Cache.{letter_of, room_of}
 use Rattle.el_base.specs.Line.{line_number}
 use Rattle.el_base.specs.LineAddr.{line_addr}
@@ -9,12 +9,13 @@ use Rattle.el_base.specs.declared.outcomes.Need.{Need}
 use Rattle.el_base.specs.declared.outcomes.Need.TheVariants.{Read}
 use Rattle.el_base.specs.declared.outcomes.Outcome.{Outcome}
 use Rattle.el_base.specs.declared.outcomes.Outcome.TheVariants as outcomes
+use Rattle.el_model.specs.Armed.{completes, continued_hart, is_quiet, let_go_hart, may_grow, shown_armed}
 use Rattle.el_model.specs.Conflicts.{is_wanted, is_wanted_to_write}
 use Rattle.el_model.specs.InSection.{buffered_hart, committed_hart, is_covered, is_full, shown_in}
-use Rattle.el_model.specs.Plain.{began_hart, may_elide, missed_hart, ran_hart}
+use Rattle.el_model.specs.Plain.{arming_hart, began_hart, may_elide, missed_hart, ran_hart}
 use Rattle.el_model.specs.RollBack.{rolled_back}
-use Rattle.el_model.specs.State.{Hart, ModelState, Section, Turn, cache_of, has_request, hart_of, section_of, with_hart}
-use Rattle.el_model.specs.Upcoming.{Swap, Touch, calls_or_stops, changes_word, is_release, next_swap, next_touch, stores_to_word}
+use Rattle.el_model.specs.State.{Armed, Hart, ModelState, Section, Turn, armed_of, cache_of, has_request, hart_of, section_of, with_hart}
+use Rattle.el_model.specs.Upcoming.{Swap, Touch, calls_or_stops, changes_word, is_release, next_conditional, next_reserved, next_swap, next_touch, stores_to_word}
 use Rattle.moesi.specs.Letters.{may_of, may_read}
 use Rattle.rv_alu.specs.declared.view.HartStatus.TheVariants.{Running}
 use Rattle.rv_flat.specs.FlatState.{FlatState, status_of, view_of}
@@ -31,6 +32,10 @@ pub data Deed : Type 0 where
   Buffers : Section → Option Touch → Deed  -- one instruction of its section runs
   Commits : Section → Deed  -- its section takes effect
   RollsBack : Section → Cause → Deed  -- its section ends without effect
+  Arms : ℕ → Deed  -- its LR of a word is kept private
+  Elides : Armed → Swap → Deed  -- its section begins at the SC of its armed section
+  Continues : Armed → Deed  -- one more instruction of its armed section is kept private
+  LetsGo : Armed → Deed  -- its armed section takes effect, and is one no more
 
 -- the hart after its deed
 abbrev pub hart_after : ModelState → ℕ → Deed → Hart → Hart
@@ -43,11 +48,16 @@ hart_after state h (Buffers section touch) hart = buffered_hart section touch ha
 hart_after state h (Commits section) hart = committed_hart (view_of state.committed h).pc hart
 hart_after state h (RollsBack section cause) hart =
     rolled_back cause (view_of state.committed h).pc (record hart { held = None })
+hart_after state h (Arms word) hart = arming_hart word hart
+hart_after state h (Elides armed swap) hart = began_hart state.config.mode h swap hart
+hart_after state h (Continues armed) hart = continued_hart armed hart
+hart_after state h (LetsGo armed) hart = let_go_hart (view_of state.committed h).pc (record hart { held = None })
 
 -- what is committed after it
 abbrev pub committed_after : ModelState → ℕ → Deed → FlatState
 committed_after state h (Runs touch) = flat state.committed h
 committed_after state h (Commits section) = alone state.committed h (section.count + 1)
+committed_after state h (LetsGo armed) = alone state.committed h armed.count
 committed_after state h _ = state.committed
 
 -- how it is told
@@ -60,6 +70,10 @@ outcome_of (Begins swap) = outcomes.Began
 outcome_of (Buffers section touch) = outcomes.Buffered
 outcome_of (Commits section) = outcomes.Committed (section.count + 1)
 outcome_of (RollsBack section cause) = outcomes.RolledBack cause
+outcome_of (Arms word) = outcomes.Armed
+outcome_of (Elides armed swap) = outcomes.Began
+outcome_of (Continues armed) = outcomes.Buffered
+outcome_of (LetsGo armed) = outcomes.LetGo armed.count
 
 -- the frame: nothing but the hart and what is committed changes
 abbrev pub done : ModelState → ℕ → Deed → Turn
@@ -71,11 +85,18 @@ done state h deed = record {
   outcome = outcome_of deed;
 }
 
--- a hart that runs and waits for nothing, outside of a section and inside of one
+-- a hart that runs and waits for nothing: outside of a section, with an armed one, and inside of a live one
 pub record IsOutside (state : ModelState) (h : ℕ) : Type 0 where
   pub running : status_of state.committed h ≡ Running
   pub free : has_request state h ≡ false
   pub no_section : section_of state h ≡ None
+  pub unarmed : armed_of state h ≡ None
+
+pub record IsArmed (state : ModelState) (h : ℕ) (armed : Armed) : Type 0 where
+  pub running : status_of state.committed h ≡ Running
+  pub free : has_request state h ≡ false
+  pub no_section : section_of state h ≡ None
+  pub armed_is : armed_of state h ≡ Some armed
 
 pub record IsInside (state : ModelState) (h : ℕ) (section : Section) : Type 0 where
   pub running : status_of state.committed h ≡ Running
@@ -87,6 +108,16 @@ pub record IsElidable (state : ModelState) (h : ℕ) (swap : Swap) : Type 0 wher
   pub trusted : may_elide state.config.mode (hart_of state h) (view_of state.committed h).pc ≡ true
   pub next : next_swap state.committed h ≡ Some swap
 
+-- an LR at which its hart may arm comes next
+pub record IsReserving (state : ModelState) (h word : ℕ) : Type 0 where
+  pub trusted : may_elide state.config.mode (hart_of state h) (view_of state.committed h).pc ≡ true
+  pub next : next_reserved state.committed h ≡ Some word
+
+-- whether a hart may read the line of a word that no other hart waits to write
+abbrev pub is_open : ModelState → ℕ → ℕ → Bool
+is_open state h word =
+    may_read (letter_of (cache_of state h) (line_number word)) && not (is_wanted_to_write state h (line_number word))
+
 -- whether the letter of a line permits what an instruction does to it
 abbrev pub permits : ModelState → ℕ → Touch → Bool
 permits state h touch = may_of (letter_of (cache_of state h) touch.line) touch.need
@@ -96,10 +127,11 @@ abbrev pub IsPermitted : ModelState → ℕ → Option Touch → Type 0
 IsPermitted state h None = Unit {0}
 IsPermitted state h (Some touch) = permits state h touch ≡ true
 
--- it is no acquire that may be elided: no swap that changes its word
+-- it is no acquire that may be elided: no swap that changes its word, and no LR that arms its hart
 pub record MayRun (state : ModelState) (h : ℕ) (touch : Option Touch) : Type 0 where
   pub outside : IsOutside state h
   pub unelided : (swap : Swap) → IsElidable state h swap → changes_word swap ≡ false
+  pub unarming : (word : ℕ) → IsReserving state h word → is_open state h word ≡ false
   pub touches : next_touch state.committed h ≡ touch
   pub permitted : IsPermitted state h touch
 
@@ -110,6 +142,30 @@ pub record MayBegin (state : ModelState) (h : ℕ) (swap : Swap) : Type 0 where
   pub changes : changes_word swap ≡ true
   pub readable : may_read (letter_of (cache_of state h) (line_number swap.word)) ≡ true
   pub unwanted : is_wanted_to_write state h (line_number swap.word) ≡ false
+
+-- a hart arms at an LR, on a line that may be read and that no other hart waits to write
+pub record MayArm (state : ModelState) (h word : ℕ) : Type 0 where
+  pub outside : IsOutside state h
+  pub reserving : IsReserving state h word
+  pub may_open : is_open state h word ≡ true
+
+-- the SC of an armed section is elided where it changes the section's word, and no other hart waits to write there
+pub record MayElide (state : ModelState) (h : ℕ) (armed : Armed) (swap : Swap) : Type 0 where
+  pub is_armed : IsArmed state h armed
+  pub next : next_conditional (shown_armed state h armed) h ≡ Some swap
+  pub completing : completes state h armed swap ≡ true
+
+-- an armed section goes on where the next instruction touches no memory, is no SC and neither calls nor stops, and it may grow
+pub record MayContinue (state : ModelState) (h : ℕ) (armed : Armed) : Type 0 where
+  pub is_armed : IsArmed state h armed
+  pub quiet : is_quiet (shown_armed state h armed) h ≡ true
+  pub grows : may_grow state armed ≡ true
+
+-- and is let go where neither holds
+pub record MustLetGo (state : ModelState) (h : ℕ) (armed : Armed) : Type 0 where
+  pub is_armed : IsArmed state h armed
+  pub incomplete : (swap : Swap) → next_conditional (shown_armed state h armed) h ≡ Some swap → completes state h armed swap ≡ false
+  pub ends : (is_quiet (shown_armed state h armed) h && may_grow state armed) ≡ false
 
 -- outside of a section an instruction misses what it may not touch, and an acquire the line of its word
 pub record TouchMisses (state : ModelState) (h line : ℕ) (need : Need) : Type 0 where
@@ -223,6 +279,10 @@ DoesWhere state h (Begins swap) = MayBegin state h swap
 DoesWhere state h (Buffers section touch) = MayBuffer state h section touch
 DoesWhere state h (Commits section) = MayCommit state h section
 DoesWhere state h (RollsBack section cause) = MustRollBack state h section cause
+DoesWhere state h (Arms word) = MayArm state h word
+DoesWhere state h (Elides armed swap) = MayElide state h armed swap
+DoesWhere state h (Continues armed) = MayContinue state h armed
+DoesWhere state h (LetsGo armed) = MustLetGo state h armed
 
 -- what a step is: a deed of its hart, where the hart does it, and nothing else
 pub record IsDeed (state : ModelState) (h : ℕ) (turn : Turn) : Type 0 where

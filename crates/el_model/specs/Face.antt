@@ -1,10 +1,13 @@
 -- the head of a line meets the sections that conflict with it
 use Rattle.std.specs.Prelude.{ℕ, List, [], map, Option, None, Some, ◌==◌, if◌then◌else◌, filter, is_some}
 use Rattle.bus_order.specs.Order.{Request}
+use Rattle.el_base.specs.Freed.{no_one_freed}
 use Rattle.el_base.specs.Losers.{losers_of}
 use Rattle.el_base.specs.declared.config.Mode.{Mode}
 use Rattle.el_base.specs.declared.config.Mode.TheVariants.{Plain, Sle, Tlr}
+use Rattle.el_base.specs.declared.freed.Freed.{Freed}
 use Rattle.el_base.specs.declared.losers.Losers.{Losers}
+use Rattle.el_model.specs.Armed.{freed_by, let_go}
 use Rattle.el_model.specs.Attempts.{see}
 use Rattle.el_model.specs.Conflicts.{conflicts, stamp_in, told_winner, wins_over}
 use Rattle.el_model.specs.RollBack.{beaten}
@@ -85,11 +88,22 @@ faced state head = each_hart state (faced_hart state head)
 unfoldable pub face_losers : ModelState → Request → Losers
 face_losers state head = losers_of (λ h. winner_in (fate_at state head h))
 
--- the same where the line may have no head
-abbrev pub faced_if : ModelState → Option Request → ModelState
-faced_if state None = state
-faced_if state (Some head) = faced state head
+-- a new head lets go the armed sections that it meets, and is faced then
+abbrev pub met : ModelState → Request → ModelState
+met state head = faced (let_go state head) head
 
-abbrev pub face_losers_if : ModelState → Option Request → Losers
-face_losers_if state None = losers_of (λ h. None)
-face_losers_if state (Some head) = face_losers state head
+abbrev pub met_losers : ModelState → Request → Losers
+met_losers state head = face_losers (let_go state head) head
+
+-- the same where the line may have no head
+abbrev pub met_if : ModelState → Option Request → ModelState
+met_if state None = state
+met_if state (Some head) = met state head
+
+abbrev pub met_losers_if : ModelState → Option Request → Losers
+met_losers_if state None = losers_of (λ h. None)
+met_losers_if state (Some head) = met_losers state head
+
+abbrev pub freed_if : ModelState → Option Request → Freed
+freed_if state None = no_one_freed
+freed_if state (Some head) = freed_by state head

@@ -79,11 +79,12 @@ buffered_hart section touch hart =
       held = None;
     }
 
--- a hart after its section, whose acquire is at a pc, committed
+-- a hart after its section, whose acquire begins at a pc, committed
 abbrev pub committed_hart : ℕ → Hart → Hart
 committed_hart pc hart =
     record (close_attempt hart) {
       section = None;
+      armed = None;
       cache = committed hart.cache;
       held = None;
       tries = 0;

@@ -1,6 +1,6 @@
 -- what the definitions come to
 use Rattle.std.specs.Prelude.{◌≡◌, ◌≢◌, ◌<◌, ◌↔◌, ℕ, false, List, length}
-use Rattle.chronicle.specs.Serial.{serial}
+use Rattle.chronicle.specs.Serial.{serial, taking_effect}
 use Rattle.el_base.specs.declared.config.Config.{Config}
 use Rattle.el_base.specs.declared.config.Mode.TheVariants.{Plain}
 use Rattle.el_base.specs.declared.events.Event.{Event}
@@ -8,6 +8,7 @@ use Rattle.el_base.specs.declared.events.Kind.TheVariants as kinds
 use Rattle.el_base.specs.declared.outcomes.Outcome.{Outcome}
 use Rattle.el_base.specs.declared.outcomes.Outcome.TheVariants as outcomes
 use Rattle.elf_image.specs.Program.{Program}
+use Rattle.el_model.specs.BusEvent.{IsBusEvent}
 use Rattle.el_model.specs.Causes.{ComesWhere}
 use Rattle.el_model.specs.Deed.{IsDeed}
 use Rattle.el_base.specs.Winners.{winner_over}
@@ -25,6 +26,12 @@ CommitsInSerialOrder =
     (program : Program) (config : Config) (events : List Event) →
     (after program config events).committed
     ≡ run (start program) (serial (entries_from (begin program config) events))
+
+-- what is committed after an event is what the instructions that take effect in it leave of what was committed
+abbrev pub EventsTakeEffect : Type 0
+EventsTakeEffect =
+    (state : ModelState) (event : Event) →
+    (next state event).state.committed ≡ run state.committed (taking_effect event.hart.number (next state event).outcome)
 
 -- where there was nothing to do, nothing has changed
 abbrev pub IdleChangesNothing : Type 0
@@ -49,6 +56,11 @@ LosersAreRestored =
 abbrev pub StepsAreDeeds : Type 0
 StepsAreDeeds =
     (state : ModelState) (event : Event) → event.kind ≡ kinds.Step → IsDeed state event.hart.number (next state event)
+
+-- an event of the bus is a start and what becomes of each hart from there, one change after another, and changes nothing else
+abbrev pub BusEventsAreToldOnce : Type 0
+BusEventsAreToldOnce =
+    (state : ModelState) (event : Event) → event.kind ≢ kinds.Step → IsBusEvent state event.hart.number (next state event)
 
 -- in a mode without stamps, from the start on, no hart has a message, an origin that it was told of, a hart before it, or an attempt
 abbrev pub StamplessStaysSilent : Type 0

@@ -8,10 +8,12 @@ pub mod Order
 pub mod Serve
 pub mod Deliver
 pub mod Plain
+pub mod Armed
 pub mod InSection
 pub mod Next
 pub mod Causes
 pub mod Losses
 pub mod Deed
+pub mod BusEvent
 pub mod Quiet
 pub mod Laws

@@ -8,12 +8,13 @@ use Rattle.el_base.specs.declared.events.Kind.{Kind}
 use Rattle.el_base.specs.declared.events.Kind.TheVariants as kinds
 use Rattle.el_base.specs.declared.outcomes.Outcome.{Outcome}
 use Rattle.el_base.specs.declared.outcomes.Outcome.TheVariants.{Stalled}
+use Rattle.el_model.specs.Armed.{armed_turn, shown_armed}
 use Rattle.el_model.specs.Deliver.{deliver_turn}
 use Rattle.el_model.specs.InSection.{section_turn, shown_in}
 use Rattle.el_model.specs.Order.{order_turn}
 use Rattle.el_model.specs.Plain.{plain_turn}
 use Rattle.el_model.specs.Serve.{serve_turn}
-use Rattle.el_model.specs.State.{ModelState, Section, Turn, begin, has_request, idle, section_of}
+use Rattle.el_model.specs.State.{Armed, ModelState, Section, Turn, armed_of, begin, has_request, idle, section_of}
 use Rattle.elf_image.specs.Program.{Program}
 use Rattle.rv_alu.specs.declared.view.HartStatus.{HartStatus}
 use Rattle.rv_alu.specs.declared.view.HartStatus.TheVariants.{Running, Exited, Trapped}
@@ -25,8 +26,12 @@ abbrev pub stalled : ModelState → Turn
 stalled state = record { state = state; outcome = Stalled }
 
 -- a step of a hart that runs and waits for nothing
+abbrev pub outside_turn : ModelState → ℕ → Option Armed → Turn
+outside_turn state h None = plain_turn state h
+outside_turn state h (Some armed) = armed_turn state h armed
+
 abbrev pub going_turn : ModelState → ℕ → Option Section → Turn
-going_turn state h None = plain_turn state h
+going_turn state h None = outside_turn state h (armed_of state h)
 going_turn state h (Some section) = section_turn state h section
 
 abbrev pub running_turn : ModelState → ℕ → Turn
@@ -75,9 +80,13 @@ after program config events = state_after (begin program config) events
 abbrev pub outcomes : Program → Config → List Event → List Outcome
 outcomes program config events = outcomes_from (begin program config) events
 
--- what a hart itself sees: in a section what the section shows, else its committed view
+-- what a hart itself sees: in a live or armed section what the section shows, else its committed view
+abbrev pub view_outside : ModelState → ℕ → Option Armed → HartView
+view_outside state h None = view_of state.committed h
+view_outside state h (Some armed) = view_of (shown_armed state h armed) h
+
 abbrev pub view_in : ModelState → ℕ → Option Section → HartView
-view_in state h None = view_of state.committed h
+view_in state h None = view_outside state h (armed_of state h)
 view_in state h (Some section) = view_of (shown_in state h section) h
 
 abbrev pub shown_of : ModelState → ℕ → HartView

@@ -7,8 +7,10 @@ use Rattle.el_base.specs.declared.config.Mode.TheVariants.{Plain, Sle, Tlr}
 use Rattle.el_base.specs.declared.outcomes.Outcome.TheVariants.{Ordered}
 use Rattle.el_base.specs.Freed.{no_one_freed}
 use Rattle.el_base.specs.Losers.{losers_of}
+use Rattle.el_base.specs.declared.freed.Freed.{Freed}
 use Rattle.el_base.specs.declared.losers.Losers.{Losers}
-use Rattle.el_model.specs.Face.{face_losers, faced}
+use Rattle.el_model.specs.Armed.{freed_by}
+use Rattle.el_model.specs.Face.{met, met_losers}
 use Rattle.el_model.specs.State.{ModelState, Turn, cache_of, hart_of, head_of, idle, is_live, raised_of, with_hart}
 use Rattle.mail.specs.Mailbox.{Marker, posted}
 
@@ -61,24 +63,33 @@ before_face state request Alone = placed_last state request
 
 -- a request takes its place, and is faced unless it is behind others of its line, of which the last has sent it a marker
 unfoldable pub placed : ModelState → Request → Place → ModelState
-placed state request InFront = faced (before_face state request InFront) request
+placed state request InFront = met (before_face state request InFront) request
 placed state request Behind = before_face state request Behind
-placed state request Alone = faced (before_face state request Alone) request
+placed state request Alone = met (before_face state request Alone) request
 
 -- who loses to it
 abbrev pub losers_at : ModelState → Request → Place → Losers
-losers_at state request InFront = face_losers (before_face state request InFront) request
+losers_at state request InFront = met_losers (before_face state request InFront) request
 losers_at state request Behind = losers_of (λ h. None)
-losers_at state request Alone = face_losers (before_face state request Alone) request
+losers_at state request Alone = met_losers (before_face state request Alone) request
 
 abbrev pub order_losers : ModelState → Request → Losers
 order_losers state request = losers_at state request (place_for state request)
+
+-- and who is let go by it: nobody where it is behind others
+abbrev pub freed_at : ModelState → Request → Place → Freed
+freed_at state request InFront = freed_by (before_face state request InFront) request
+freed_at state request Behind = no_one_freed
+freed_at state request Alone = freed_by (before_face state request Alone) request
+
+abbrev pub order_freed : ModelState → Request → Freed
+order_freed state request = freed_at state request (place_for state request)
 
 abbrev pub order_raised : ModelState → Option Request → Turn
 order_raised state None = idle state
 order_raised state (Some request) = record {
   state = placed state request (place_for state request);
-  outcome = Ordered (order_losers state request) no_one_freed;
+  outcome = Ordered (order_losers state request) (order_freed state request);
 }
 
 unfoldable pub order_turn : ModelState → ℕ → Turn

@@ -12,9 +12,10 @@ pub record IsSilent (hart : Hart) : Type 0 where
   pub upstream : hart.upstream ≡ []
   pub attempt : hart.attempt ≡ None
 
--- a hart without a section, without bits, and without a watch
+-- a hart without a live or armed section, without bits, and without a watch
 pub record IsPlain (hart : Hart) : Type 0 where
   pub section : hart.section ≡ None
+  pub armed : hart.armed ≡ None
   pub unmarked : has_marks hart.cache ≡ false
   pub watch : hart.predictor.watch ≡ None
 

@@ -17,7 +17,7 @@ most_tries = 4
 
 -- a hart out of its section: no bits are left
 abbrev pub out_of_section : Hart → Hart
-out_of_section hart = record hart { section = None; cache = cleared hart.cache }
+out_of_section hart = record hart { section = None; armed = None; cache = cleared hart.cache }
 
 -- one more section was lost: the last that may be lost sets the fallback flag
 abbrev pub one_more_try : Hart → Hart

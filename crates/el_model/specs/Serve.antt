@@ -5,8 +5,8 @@ use Rattle.bus_order.specs.Order.{Request, removed}
 use Rattle.cache_sets.specs.Cache.{filled_with, is_resident, letter_of, lettered, marked, touched, without_line}
 use Rattle.cache_sets.specs.Residency.{Way}
 use Rattle.defer_list.specs.HartSet.{excluded}
-use Rattle.el_base.specs.Freed.{no_one_freed}
 use Rattle.el_base.specs.HartId.{hart_id}
+use Rattle.el_base.specs.declared.freed.Freed.{Freed}
 use Rattle.el_base.specs.declared.losers.Losers.{Losers}
 use Rattle.el_base.specs.declared.outcomes.Need.{Need}
 use Rattle.el_base.specs.declared.outcomes.Need.TheVariants.{Read, Write}
@@ -14,7 +14,7 @@ use Rattle.el_base.specs.declared.outcomes.Outcome.TheVariants.{Blocked, Served}
 use Rattle.el_base.specs.declared.outcomes.Why.{Why}
 use Rattle.el_base.specs.declared.outcomes.Why.TheVariants.{Behind, Retained, Locked}
 use Rattle.el_model.specs.Conflicts.{holder_of, retainer_of}
-use Rattle.el_model.specs.Face.{face_losers_if, faced_if}
+use Rattle.el_model.specs.Face.{freed_if, met_if, met_losers_if}
 use Rattle.el_model.specs.State.{Hart, ModelState, Turn, cache_of, each_hart, head_of, idle, numbers_of, ordered_of}
 use Rattle.mail.specs.Mailbox.{without_markers, without_probe}
 use Rattle.moesi.specs.Letters.{filled_of, on_read_of}
@@ -109,13 +109,18 @@ served state request =
 -- who loses as the next head of its line is faced
 abbrev pub serve_losers : ModelState → Request → Losers
 serve_losers state request =
-    let after = served state request in face_losers_if after (head_of after request.line)
+    let after = served state request in met_losers_if after (head_of after request.line)
+
+-- and who is let go
+abbrev pub serve_freed : ModelState → Request → Freed
+serve_freed state request =
+    let after = served state request in freed_if after (head_of after request.line)
 
 -- the request is served, and the next head of its line is faced
 abbrev pub served_turn : ModelState → Request → Turn
 served_turn state request = record {
-  state = let after = served state request in faced_if after (head_of after request.line);
-  outcome = Served (serve_losers state request) no_one_freed;
+  state = let after = served state request in met_if after (head_of after request.line);
+  outcome = Served (serve_losers state request) (serve_freed state request);
 }
 
 abbrev pub serve_past : ModelState → Request → Obstacle → Turn

@@ -20,9 +20,16 @@ pub record Section : Type 0 where
   pub old : ℕ
   pub new : ℕ
 
+-- an armed section: how many instructions it has run, from its LR on, and the word that the LR reserved. It has stored nothing
+pub record Armed : Type 0 where
+  pub count : ℕ
+  pub word : ℕ
+
 -- what a hart has beside its committed view
 pub record Hart : Type 0 where
   pub section : Option Section  -- its live section
+  pub armed : Option Armed  -- its armed section
+  pub last_lr : Option ℕ  -- the pc of the last LR that it ran outside of a section, or that was let go
   pub cache : List (List Way)  -- its cache
   pub raised : Option Request  -- its request that is not ordered yet
   pub held : Option ℕ  -- the line that it holds until its next step
@@ -52,6 +59,8 @@ pub record Turn : Type 0 where
 abbrev pub new_hart : ℕ → Hart
 new_hart sets = record {
   section = None;
+  armed = None;
+  last_lr = None;
   cache = empty_cache sets;
   raised = None;
   held = None;
@@ -81,6 +90,9 @@ hart_of state h = slice_index_or state.harts h (new_hart 0)
 
 abbrev pub section_of : ModelState → ℕ → Option Section
 section_of state h = (hart_of state h).section
+
+abbrev pub armed_of : ModelState → ℕ → Option Armed
+armed_of state h = (hart_of state h).armed
 
 abbrev pub is_live : ModelState → ℕ → Bool
 is_live state h = is_some (section_of state h)

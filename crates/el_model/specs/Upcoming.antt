@@ -5,6 +5,7 @@ use Rattle.el_base.specs.Line.{line_number}
 use Rattle.el_base.specs.declared.outcomes.Need.{Need}
 use Rattle.el_base.specs.declared.outcomes.Need.TheVariants as needs
 use Rattle.rv_alu.specs.Execution.{Execution, Goes, Stops, Store, store_in, touched}
+use Rattle.rv_alu.specs.Footprint as conditional
 use Rattle.rv_alu.specs.Footprint.{is_call}
 use Rattle.rv_alu.specs.Loaded.{loaded}
 use Rattle.rv_alu.specs.declared.footprint.Access.{Access}
@@ -25,7 +26,7 @@ pub record Touch : Type 0 where
   pub line : ℕ
   pub need : Need
 
--- a swap that does not trap: the address of its word, the word that it finds there, and the one that it stores
+-- a swap, or a pair of LR and SC, as far as it exchanges a word: its address, the word that it finds there, and the one that it stores
 pub record Swap : Type 0 where
   pub word : ℕ
   pub old : ℕ
@@ -69,6 +70,15 @@ abbrev pub is_swap : Option Insn → Bool
 is_swap (Some (insns.Amo op rd rs1 rs2 aq rl)) = is_swap_op op
 is_swap _ = false
 
+-- the instructions that reserve a word, and that store to it where it is still reserved
+abbrev pub is_load_reserved : Option Insn → Bool
+is_load_reserved (Some (insns.Lr rd rs1 aq rl)) = true
+is_load_reserved _ = false
+
+abbrev pub is_store_conditional : Option Insn → Bool
+is_store_conditional None = false
+is_store_conditional (Some insn) = conditional.is_store_conditional insn
+
 abbrev pub is_word : StoreWidth → Bool
 is_word widths.Word = true
 is_word _ = false
@@ -94,6 +104,28 @@ swap_of flat (Some store) = Some (record {
 -- the hart's next instruction where it is a swap that does not trap
 abbrev pub next_swap : FlatState → ℕ → Option Swap
 next_swap flat h = if is_swap (next_insn flat h) then swap_of flat (next_store flat h) else None
+
+-- the same where it is an SC that succeeds: it finds the word that the LR before it has read, unless that was stored to since, and then it
+-- finds what was stored
+abbrev pub next_conditional : FlatState → ℕ → Option Swap
+next_conditional flat h = if is_store_conditional (next_insn flat h) then swap_of flat (next_store flat h) else None
+
+-- the hart's next instruction where it exchanges a word: a swap that does not trap, or an SC that succeeds
+abbrev pub next_exchange : FlatState → ℕ → Option Swap
+next_exchange flat h =
+    if is_swap (next_insn flat h) || is_store_conditional (next_insn flat h) then swap_of flat (next_store flat h) else None
+
+-- the address that an access reads
+abbrev pub read_at : Access → Option ℕ
+read_at (Read address len) = Some address
+read_at Nothing = None
+read_at (Write address len) = None
+read_at (Trap cause) = None
+read_at (Exit code) = None
+
+-- the word of the hart's next instruction where it is an LR that does not trap
+abbrev pub next_reserved : FlatState → ℕ → Option ℕ
+next_reserved flat h = if is_load_reserved (next_insn flat h) then read_at (next_access flat h) else None
 
 -- whether a swap changes its word, which makes it a candidate for an acquire
 abbrev pub changes_word : Swap → Bool

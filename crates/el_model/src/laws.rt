@@ -1,5 +1,7 @@
 ghost use Rattle.el_model.specs.Laws.{
+  BusEventsAreToldOnce,
   CommitsInSerialOrder,
+  EventsTakeEffect,
   IdleChangesNothing,
   LosersAreRestored,
   OutcomesComeByTheirRules,
@@ -13,6 +15,13 @@ ghost use Rattle.el_model.specs.Laws.{
 #[tactic(auto, using(crate::proofs::Folds::serial_run), unfolding(crate::specs::State::begin))]
 pub fn commits_in_serial_order()
     ensures { CommitsInSerialOrder }
+{}
+
+/// What is committed after an event is what the instructions that take effect in it leave of what was committed.
+/// This is said of any state.
+#[tactic(auto, using(crate::proofs::Turns::events_take_effect))]
+pub fn events_take_effect()
+    ensures { EventsTakeEffect }
 {}
 
 /// Each outcome, with all that it tells, comes exactly where its rule says.
@@ -39,6 +48,14 @@ pub fn losers_are_restored()
 #[tactic(auto, using(crate::proofs::FromStart::steps_are_deeds))]
 pub fn steps_are_deeds()
     ensures { StepsAreDeeds }
+{}
+
+/// An event of the bus is told once: how it starts, and what becomes of each hart from there, one change after
+/// another. A message is told with its sender and why it is sent, a loss with the request that wins; the state is
+/// the one in which the head was faced, and what is committed stays.
+#[tactic(auto, using(crate::proofs::BusEvents::bus_events_are_told_once))]
+pub fn bus_events_are_told_once()
+    ensures { BusEventsAreToldOnce }
 {}
 
 /// In the modes without stamps nothing of messages and attempts ever arises.

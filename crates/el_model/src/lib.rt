@@ -19,6 +19,7 @@
 mod laws;
 
 pub use laws::{
-    commits_in_serial_order, idle_changes_nothing, losers_are_restored,
-    outcomes_come_by_their_rules, plain_stays_plain, stampless_stays_silent, steps_are_deeds,
+    bus_events_are_told_once, commits_in_serial_order, events_take_effect, idle_changes_nothing,
+    losers_are_restored, outcomes_come_by_their_rules, plain_stays_plain, stampless_stays_silent,
+    steps_are_deeds,
 };

@@ -5,12 +5,10 @@ use Rattle.el_base.specs.declared.config.Config.{Config}
 use Rattle.el_base.specs.declared.config.Mode.{Mode}
 use Rattle.el_base.specs.declared.config.Mode.TheVariants.{Plain, Sle, Tlr}
 use Rattle.el_base.specs.declared.events.Event.{Event}
-use Rattle.el_base.specs.declared.events.Kind.{Kind}
-use Rattle.el_base.specs.declared.events.Kind.TheVariants as kinds
 use Rattle.elf_image.specs.Program.{Program}
 use Rattle.el_model.specs.Attempts.{opened}
-use Rattle.el_model.specs.Deed.{Begins, Buffers, Commits, Deed, DoesWhere, Misses, Rests, RollsBack, Runs, Waits, hart_after}
-use Rattle.el_model.specs.Next.{after, kind_turn, next}
+use Rattle.el_model.specs.Deed.{Arms, Begins, Buffers, Commits, Continues, Deed, DoesWhere, Elides, LetsGo, Misses, Rests, RollsBack, Runs, Waits, hart_after}
+use Rattle.el_model.specs.Next.{after, next}
 use Rattle.el_model.specs.Plain.{after_candidate, candidate_of}
 use Rattle.el_model.specs.Serve.{with_claim}
 use Rattle.el_model.specs.State.{Hart, ModelState, Section, begin, hart_of, new_hart}
@@ -18,9 +16,8 @@ use Rattle.el_model.specs.Upcoming.{Swap}
 use Rattle.el_model.proofs.AllHarts.{all_first}
 use Rattle.el_model.proofs.FromStart.{kept_after, next_config}
 use Rattle.removal_laws.specs.Laws.{AttemptsAreCurrent, StampsAreDistinct}
-use Rattle.section_laws.proofs.EachHart.{Each}
-use Rattle.section_laws.proofs.EachKept.{BusKept, bus_keeps}
-use Rattle.section_laws.proofs.Moves.{step_keeps}
+use Rattle.el_model.proofs.EachHart.{Each}
+use Rattle.section_laws.proofs.EachKept.{BusKept, event_keeps}
 use Rattle.stamp.specs.Stamps.{Stamp}
 
 -- an attempt of this hart with this clock
@@ -49,6 +46,7 @@ module _ (P : ℕ → Option Section → ℕ → Option Stamp → Type 0) (keeps
       preceded = λ h hart upstream now. now;
       saw = λ h hart seen later now. now;
       lost = λ h hart now. keeps.lost h hart.section hart.clock hart.attempt now;
+      freed = λ h pc hart now. now;
       gave_up = λ h hart now. now;
       tried = λ h hart more now. now;
     };
@@ -58,7 +56,7 @@ module _ (P : ℕ → Option Section → ℕ → Option Stamp → Type 0) (keeps
   }
 
 -- a candidate that ran changes none of them
-pub candidate_keeps : (P : Option Section → ℕ → ℕ → Option Stamp → Type 0) (pc : ℕ) (had_watch : Bool) (candidate : Option Swap) (hart : Hart) →
+pub candidate_keeps : (P : Option Section → ℕ → ℕ → Option Stamp → Type 0) (pc : Option ℕ) (had_watch : Bool) (candidate : Option Swap) (hart : Hart) →
     P hart.section hart.clock hart.seen hart.attempt →
     P (after_candidate pc had_watch candidate hart).section (after_candidate pc had_watch candidate hart).clock
     (after_candidate pc had_watch candidate hart).seen (after_candidate pc had_watch candidate hart).attempt
@@ -93,16 +91,14 @@ own_deed state h (Begins swap) hart own = own_opened state.config.mode h hart.cl
 own_deed state h (Buffers section touch) hart own = own
 own_deed state h (Commits section) hart own = λ stamp is. none_some is
 own_deed state h (RollsBack section cause) hart own = λ stamp is. none_some is
-
-own_kind : (state : ModelState) (h : ℕ) (kind : Kind) → Each Own state → Each Own (kind_turn state h kind).state
-own_kind state h kinds.Step own = step_keeps Own state h (λ deed does. own_deed state h deed (hart_of state h) (own h)) own
-own_kind state h kinds.Order own = bus_keeps own_bus state h kinds.Order (λ same. absurd (cc)) own
-own_kind state h kinds.Serve own = bus_keeps own_bus state h kinds.Serve (λ same. absurd (cc)) own
-own_kind state h kinds.Deliver own = bus_keeps own_bus state h kinds.Deliver (λ same. absurd (cc)) own
+own_deed state h (Arms word) hart own = own
+own_deed state h (Elides armed swap) hart own = own_opened state.config.mode h hart.clock hart.attempt own
+own_deed state h (Continues armed) hart own = own
+own_deed state h (LetsGo armed) hart own = own
 
 pub next_own : (state : ModelState) (event : Event) → Each Own state → Each Own (next state event).state
-unfolding next
-next_own state event own = own_kind state event.hart.number event.kind own
+next_own state event own =
+    event_keeps own_bus state event (λ deed does. own_deed state event.hart.number deed (hart_of state event.hart.number) (own event.hart.number)) own
 
 record IsFresh (hart : Hart) : Type 0 where
   no_section : hart.section ≡ None
@@ -164,18 +160,16 @@ open_deed state h (Buffers section touch) does now =
     λ live. now.open_each h (ap is_some does.goes.goes_on.is_short.inside.live)
 open_deed state h (Commits section) does now = λ live. not_live live
 open_deed state h (RollsBack section cause) does now = λ live. not_live live
-
-open_kind : (state : ModelState) (h : ℕ) (kind : Kind) → AllOpen state → Each Open (kind_turn state h kind).state
-open_kind state h kinds.Step now = step_keeps Open state h (λ deed does. open_deed state h deed does now) now.open_each
-open_kind state h kinds.Order now = bus_keeps open_bus state h kinds.Order (λ same. absurd (cc)) now.open_each
-open_kind state h kinds.Serve now = bus_keeps open_bus state h kinds.Serve (λ same. absurd (cc)) now.open_each
-open_kind state h kinds.Deliver now = bus_keeps open_bus state h kinds.Deliver (λ same. absurd (cc)) now.open_each
+open_deed state h (Arms word) does now = now.open_each h
+open_deed state h (Elides armed swap) does now =
+    λ live. opened_open state.config.mode h (hart_of state h).clock (hart_of state h).attempt now.mode
+open_deed state h (Continues armed) does now = now.open_each h
+open_deed state h (LetsGo armed) does now = now.open_each h
 
 pub next_open : (state : ModelState) (event : Event) → AllOpen state → AllOpen (next state event).state
-unfolding next
 next_open state event now = record {
   mode = ap (λ config. config.mode) (next_config state event) ∙ now.mode;
-  open_each = open_kind state event.hart.number event.kind now;
+  open_each = event_keeps open_bus state event (λ deed does. open_deed state event.hart.number deed does now) now.open_each;
 }
 
 begin_mode : (program : Program) (config : Config) → config.mode ≡ Tlr → (begin program config).config.mode ≡ Tlr

@@ -14,7 +14,7 @@ use Rattle.el_model.specs.Next.{after}
 use Rattle.el_model.specs.State.{Hart, ModelState, cache_of, for_line, hart_of, head_of, ordered_of, ordered_on}
 use Rattle.removal_laws.specs.Facts.{AreLinked, Everywhere, Facts, IsChained, IsLinked, Knows}
 use Rattle.removal_laws.specs.Laws.{IsDelivered, LeastStampIsNotRetained, WaitsWithLeast}
-use Rattle.removal_laws.proofs.Bits.{Meets, clash, meets, or_second, some_none, some_same}
+use Rattle.section_laws.proofs.Bits.{Meets, clash, meets, or_second, some_none, some_same}
 use Rattle.removal_laws.proofs.Delivering.{own_line}
 use Rattle.removal_laws.proofs.Kept.{head_line}
 use Rattle.removal_laws.proofs.Queues.{IsHead, head_is}

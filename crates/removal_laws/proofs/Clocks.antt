@@ -5,30 +5,27 @@ use Rattle.bus_order.proofs.LookUps.{number_of_test, own_test}
 use Rattle.el_base.specs.declared.config.Mode.{Mode}
 use Rattle.el_base.specs.declared.config.Mode.TheVariants.{Plain, Sle, Tlr}
 use Rattle.el_base.specs.declared.events.Event.{Event}
-use Rattle.el_base.specs.declared.events.Kind.{Kind}
-use Rattle.el_base.specs.declared.events.Kind.TheVariants as kinds
 use Rattle.el_base.specs.declared.outcomes.Cause.{Cause}
 use Rattle.el_base.specs.declared.outcomes.Cause.TheVariants.{Room, Lines, Long, Call, Mixed}
 use Rattle.el_base.specs.declared.outcomes.Outcome.{Outcome}
+use Rattle.el_base.specs.declared.outcomes.Outcome.TheVariants as outcomes
 use Rattle.el_model.specs.Attempts.{closed_clock, opened}
-use Rattle.el_model.specs.Deed.{Begins, Buffers, Commits, Deed, DoesWhere, IsInside, Misses, MustRollBack, Rests, RollsBack, Runs, Waits, done, hart_after, outcome_of}
-use Rattle.el_model.specs.Deliver.{deliver_next, deliver_turn}
-use Rattle.el_model.specs.Order.{order_raised, order_turn}
-use Rattle.mail.specs.Mailbox.{Message}
-use Rattle.el_model.specs.Next.{after, kind_turn, next, state_after}
+use Rattle.el_model.specs.BusEvent.{IsOfBus}
+use Rattle.el_model.specs.Deed.{Arms, Begins, Buffers, Commits, Continues, Deed, DoesWhere, Elides, IsInside, LetsGo, Misses, MustRollBack, Rests, RollsBack, Runs, Waits, done, hart_after, outcome_of}
+use Rattle.el_model.specs.Next.{after, next, state_after, step_turn}
 use Rattle.el_model.specs.Plain.{candidate_of}
-use Rattle.el_model.specs.Serve.{Blocks, Free, Obstacle, obstacle_to, serve_ordered, serve_past, serve_turn, with_claim}
-use Rattle.el_model.specs.State.{Hart, ModelState, Section, hart_of, new_hart, ordered_of, raised_of, section_of}
+use Rattle.el_model.specs.Serve.{with_claim}
+use Rattle.el_model.specs.State.{Hart, ModelState, Section, hart_of, new_hart, section_of}
+use Rattle.el_model.proofs.BusEvents.{by_event}
 use Rattle.el_model.proofs.Deeds.{step_deed}
 use Rattle.el_model.proofs.FromStart.{kept_after}
 use Rattle.el_model.proofs.Harts.{hart_of-past}
 use Rattle.removal_laws.specs.Laws.{IsLater, LaterAttemptsAreLater, StampsAreKept, attempt_of, closes}
 use Rattle.removal_laws.proofs.Attempts.{AllOpen, Own, always_open, always_own, attempts_kept, candidate_keeps, next_open, next_own}
-use Rattle.removal_laws.proofs.Bits.{no_less}
+use Rattle.section_laws.proofs.Bits.{no_less}
 use Rattle.section_laws.specs.Sections.{is_committed, is_rolled_back}
-use Rattle.section_laws.proofs.EachHart.{Each, each_but, each_with}
-use Rattle.section_laws.proofs.EachKept.{BusKept, bus_keeps}
-use Rattle.section_laws.proofs.Moves.{step_keeps}
+use Rattle.el_model.proofs.EachHart.{Each, each_but, each_with}
+use Rattle.section_laws.proofs.EachKept.{BusKept, event_keeps, turn_keeps}
 use Rattle.stamp.specs.Stamps.{Stamp, next_clock_of}
 
 -- whether this outcome closes the attempt of its hart
@@ -59,27 +56,31 @@ deed_kept state h stamp (Begins swap) = λ still is. opened_kept state.config.mo
 deed_kept state h stamp (Buffers section touch) = λ still is. is
 deed_kept state h stamp (Commits section) = λ still is. own_closes h still
 deed_kept state h stamp (RollsBack section cause) = λ still is. own_closes h still
+deed_kept state h stamp (Arms word) = λ still is. is
+deed_kept state h stamp (Elides armed swap) = λ still is. opened_kept state.config.mode h (hart_of state h).clock _ stamp is
+deed_kept state h stamp (Continues armed) = λ still is. is
+deed_kept state h stamp (LetsGo armed) = λ still is. is
 
 bus_kept : (state : ModelState) (stamp : Stamp) → BusKept (λ g hart. attempt_of state g ≡ Some stamp → hart.attempt ≡ Some stamp)
 bus_kept state stamp =
     attempts_kept (λ g section clock attempt. attempt_of state g ≡ Some stamp → attempt ≡ Some stamp)
     (record { lost = λ h section clock attempt now. now })
 
-kind_kept : (state : ModelState) (h : ℕ) (kind : Kind) (g : ℕ) (stamp : Stamp) → ((h == g) && closes_it (kind_turn state h kind).outcome) ≡ false →
-    attempt_of state g ≡ Some stamp → attempt_of (kind_turn state h kind).state g ≡ Some stamp
-kind_kept state h kinds.Step g stamp =
+step_kept : (state : ModelState) (h g : ℕ) (stamp : Stamp) →
+    ((h == g) && closes_it (step_turn state h).outcome) ≡ false →
+    attempt_of state g ≡ Some stamp → attempt_of (step_turn state h).state g ≡ Some stamp
+step_kept state h g stamp =
     let step = step_deed state h in
     rw step.turn_is
     (each_with (Kept state (λ k. (h == k) && closes_it (outcome_of step.deed)) stamp) state h
     (hart_after state h step.deed (hart_of state h)) (deed_kept state h stamp step.deed) (λ k still is. is) g)
-kind_kept state h kinds.Order g stamp = λ still. bus_keeps (bus_kept state stamp) state h kinds.Order (λ same. absurd (cc)) (λ k is. is) g
-kind_kept state h kinds.Serve g stamp = λ still. bus_keeps (bus_kept state stamp) state h kinds.Serve (λ same. absurd (cc)) (λ k is. is) g
-kind_kept state h kinds.Deliver g stamp = λ still. bus_keeps (bus_kept state stamp) state h kinds.Deliver (λ same. absurd (cc)) (λ k is. is) g
 
 next_kept : (state : ModelState) (event : Event) (g : ℕ) (stamp : Stamp) → closes state event g ≡ false →
     attempt_of state g ≡ Some stamp → attempt_of (next state event).state g ≡ Some stamp
-unfolding next
-next_kept state event g stamp still is = kind_kept state event.hart.number event.kind g stamp still is
+next_kept state event g stamp =
+    by_event
+    (λ turn. ((event.hart.number == g) && closes_it turn.outcome) ≡ false → attempt_of state g ≡ Some stamp → attempt_of turn.state g ≡ Some stamp)
+    state event (λ step. step_kept state event.hart.number g stamp) (λ turn done still. turn_keeps (bus_kept state stamp) done (λ k is. is) g)
 
 pub stamps_are_kept : StampsAreKept
 stamps_are_kept state h [] stamp still is = is
@@ -112,6 +113,7 @@ bus_grows state = record {
     preceded = λ h hart upstream now. same_clocks (hart_of state h) hart _ refl refl now;
     saw = λ h hart seen later now. let saw = now.seen in record { clock = now.clock; seen = omega (arith, later, saw) };
     lost = λ h hart now. same_clocks (hart_of state h) hart _ refl refl now;
+    freed = λ h pc hart now. same_clocks (hart_of state h) hart _ refl refl now;
     gave_up = λ h hart now. same_clocks (hart_of state h) hart _ refl refl now;
     tried = λ h hart more now. same_clocks (hart_of state h) hart _ refl refl now;
   };
@@ -141,17 +143,15 @@ deed_grows state h (Begins swap) hart = same_clocks hart hart _ refl refl (ungro
 deed_grows state h (Buffers section touch) hart = same_clocks hart hart _ refl refl (ungrown hart)
 deed_grows state h (Commits section) hart = record { clock = closed_grows hart hart.attempt; seen = no_less hart.seen }
 deed_grows state h (RollsBack section cause) hart = record { clock = closed_grows hart hart.attempt; seen = no_less hart.seen }
-
-kind_grows : (state : ModelState) (h : ℕ) (kind : Kind) (g : ℕ) → Grown (hart_of state g) (hart_of (kind_turn state h kind).state g)
-kind_grows state h kinds.Step g =
-    step_keeps (Growing state) state h (λ deed does. deed_grows state h deed (hart_of state h)) (λ k. ungrown (hart_of state k)) g
-kind_grows state h kinds.Order g = bus_keeps (bus_grows state) state h kinds.Order (λ same. absurd (cc)) (λ k. ungrown (hart_of state k)) g
-kind_grows state h kinds.Serve g = bus_keeps (bus_grows state) state h kinds.Serve (λ same. absurd (cc)) (λ k. ungrown (hart_of state k)) g
-kind_grows state h kinds.Deliver g = bus_keeps (bus_grows state) state h kinds.Deliver (λ same. absurd (cc)) (λ k. ungrown (hart_of state k)) g
+deed_grows state h (Arms word) hart = same_clocks hart hart _ refl refl (ungrown hart)
+deed_grows state h (Elides armed swap) hart = same_clocks hart hart _ refl refl (ungrown hart)
+deed_grows state h (Continues armed) hart = same_clocks hart hart _ refl refl (ungrown hart)
+deed_grows state h (LetsGo armed) hart = same_clocks hart hart _ refl refl (ungrown hart)
 
 next_grows : (state : ModelState) (event : Event) (g : ℕ) → Grown (hart_of state g) (hart_of (next state event).state g)
-unfolding next
-next_grows state event g = kind_grows state event.hart.number event.kind g
+next_grows state event =
+    event_keeps (bus_grows state) state event (λ deed does. deed_grows state event.hart.number deed (hart_of state event.hart.number))
+    (λ k. ungrown (hart_of state k))
 
 all_grow : (state : ModelState) (events : List Event) (g : ℕ) → Grown (hart_of state g) (hart_of (state_after state events) g)
 all_grow state [] g = ungrown (hart_of state g)
@@ -200,6 +200,10 @@ deed_closes state h (Misses line need) does now = λ closing. never (h == h) clo
 deed_closes state h (Runs touch) does now = λ closing. never (h == h) closing
 deed_closes state h (Begins swap) does now = λ closing. never (h == h) closing
 deed_closes state h (Buffers section touch) does now = λ closing. never (h == h) closing
+deed_closes state h (Arms word) does now = λ closing. never (h == h) closing
+deed_closes state h (Elides armed swap) does now = λ closing. never (h == h) closing
+deed_closes state h (Continues armed) does now = λ closing. never (h == h) closing
+deed_closes state h (LetsGo armed) does now = λ closing. never (h == h) closing
 deed_closes state h (Commits section) does now =
     λ closing. attempt_closes (hart_of state h) _ (now.open_each h (ap is_some does.goes_on.is_short.inside.live)) refl
 deed_closes state h (RollsBack section cause) does now =
@@ -230,45 +234,44 @@ done_closes state h deed does now =
     past_closes state h (Runs touch) does past closing = never (h == h) closing
     past_closes state h (Begins swap) does past closing = never (h == h) closing
     past_closes state h (Buffers section touch) does past closing = never (h == h) closing
+    past_closes state h (Arms word) does past closing = never (h == h) closing
+    past_closes state h (Elides armed swap) does past closing = never (h == h) closing
+    past_closes state h (Continues armed) does past closing = never (h == h) closing
+    past_closes state h (LetsGo armed) does past closing = never (h == h) closing
     past_closes state h (Commits section) does past closing = live_exists state h past (ap is_some does.goes_on.is_short.inside.live)
     past_closes state h (RollsBack section cause) does past closing =
         live_exists state h past (ap is_some (inside state h section cause does).live)
 
 -- no event of the bus closes an attempt
-order_closes : (state : ModelState) (raised : Option Request) → closes_it (order_raised state raised).outcome ≡ false
-order_closes state None = refl
-order_closes state (Some request) = refl
+closes_not : {X : Type 0} (own : Bool) (outcome : Outcome) → IsOfBus outcome → (own && closes_it outcome) ≡ true → X
+closes_not false outcome bus closing = absurd (cc)
+closes_not true outcomes.Idle bus closing = absurd (cc)
+closes_not true (outcomes.Ordered losers freed) bus closing = absurd (cc)
+closes_not true (outcomes.Served losers freed) bus closing = absurd (cc)
+closes_not true (outcomes.Blocked why by) bus closing = absurd (cc)
+closes_not true (outcomes.Delivered losers) bus closing = absurd (cc)
+closes_not true outcomes.Stalled bus closing = elim bus [ ]
+closes_not true (outcomes.Missed line need) bus closing = elim bus [ ]
+closes_not true outcomes.Ran bus closing = elim bus [ ]
+closes_not true outcomes.Began bus closing = elim bus [ ]
+closes_not true outcomes.Buffered bus closing = elim bus [ ]
+closes_not true (outcomes.Committed count) bus closing = elim bus [ ]
+closes_not true (outcomes.RolledBack cause) bus closing = elim bus [ ]
+closes_not true outcomes.Armed bus closing = elim bus [ ]
+closes_not true (outcomes.LetGo count) bus closing = elim bus [ ]
 
-past_closes : (state : ModelState) (request : Request) (obstacle : Obstacle) → closes_it (serve_past state request obstacle).outcome ≡ false
-past_closes state request Free = refl
-past_closes state request (Blocks why by) = refl
-
-serve_closes : (state : ModelState) (request : Option Request) → closes_it (serve_ordered state request).outcome ≡ false
-serve_closes state None = refl
-serve_closes state (Some request) = past_closes state request (obstacle_to state request)
-
-mail_closes : (state : ModelState) (h : ℕ) (mail : List Message) → closes_it (deliver_next state h mail).outcome ≡ false
-mail_closes state h [] = refl
-mail_closes state h (message ∷ others) = refl
-
-not_closing : {X : Type 0} (own : Bool) (outcome : Outcome) → closes_it outcome ≡ false → (own && closes_it outcome) ≡ true → X
-not_closing true outcome still closing = let e = sym still ∙ closing in absurd (cc)
-not_closing false outcome still closing = absurd (cc)
-
-kind_closes : (state : ModelState) (h : ℕ) (kind : Kind) (g : ℕ) → AllOpen state →
-    ((h == g) && closes_it (kind_turn state h kind).outcome) ≡ true → Closed (hart_of state g) (hart_of (kind_turn state h kind).state g)
-unfolding order_turn serve_turn deliver_turn
-kind_closes state h kinds.Step g now =
+step_closes : (state : ModelState) (h g : ℕ) → AllOpen state →
+    ((h == g) && closes_it (step_turn state h).outcome) ≡ true → Closed (hart_of state g) (hart_of (step_turn state h).state g)
+step_closes state h g now =
     let step = step_deed state h in
     rw step.turn_is (done_closes state h step.deed step.where_it now g)
-kind_closes state h kinds.Order g now = not_closing (h == g) _ (order_closes state (raised_of state h))
-kind_closes state h kinds.Serve g now = not_closing (h == g) _ (serve_closes state (ordered_of state h))
-kind_closes state h kinds.Deliver g now = not_closing (h == g) _ (mail_closes state h (hart_of state h).mail)
 
 next_closes : (state : ModelState) (event : Event) (g : ℕ) → AllOpen state → closes state event g ≡ true →
     Closed (hart_of state g) (hart_of (next state event).state g)
-unfolding next
-next_closes state event g now closing = kind_closes state event.hart.number event.kind g now closing
+next_closes state event g now =
+    by_event (λ turn. ((event.hart.number == g) && closes_it turn.outcome) ≡ true → Closed (hart_of state g) (hart_of turn.state g)) state event
+    (λ step. step_closes state event.hart.number g now)
+    (λ turn done closing. closes_not (event.hart.number == g) turn.outcome done.of_bus closing)
 
 pub later_from : (first : ModelState) (between afterwards : List Event) (closing : Event) (h : ℕ) (later : Stamp) → Each Own first → AllOpen first →
     closes (state_after first between) closing h ≡ true →

@@ -12,12 +12,12 @@ use Rattle.el_model.specs.State.{Hart, ModelState, for_line, hart_of, numbers_of
 use Rattle.el_model.proofs.Harts.{hart_of-past, hart_of-with_hart_other, hart_of-with_hart_same}
 use Rattle.mail.specs.Mailbox.{Marker, Message, Probe, has_message}
 use Rattle.removal_laws.specs.Facts.{IsLinked, IsWaiting, Knows, MayBeKnown, MayPrecede}
-use Rattle.removal_laws.proofs.Bits.{both, clash, fewer_same, first_of_both, second_of_both, some_same}
+use Rattle.section_laws.proofs.Bits.{both, clash, fewer_same, first_of_both, second_of_both, some_same}
 use Rattle.removal_laws.proofs.Facing.{has_number, passed, passes}
 use Rattle.removal_laws.proofs.Grounds.{Grounds, Standing}
 use Rattle.removal_laws.proofs.Kept.{Owed}
 use Rattle.removal_laws.proofs.Probing.{Took, all_known, all_probed, debts_stand, first_or_later, first_there, later_there, took_nothing}
-use Rattle.section_laws.proofs.EachHart.{Each, each_but, each_with}
+use Rattle.el_model.proofs.EachHart.{Each, each_but, each_with}
 
 -- a set with one hart more
 pub more_has : (harts : List ℕ) (new hart : ℕ) → has harts hart ≡ true → has (included harts new) hart ≡ true

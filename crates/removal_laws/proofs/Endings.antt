@@ -1,25 +1,24 @@
 -- the section of the hart with the least stamp ends by a commit or by a rollback of its own
-use Rattle.std.proofs.Common.{◌≡◌, ◌≢◌, ◌∙◌, ◌==◌, ◌&&◌, ℕ, true, false, Option, None, Some, is_some, refl, ap, sym, subst}
+use Rattle.std.proofs.Common.{◌≡◌, ◌∙◌, ◌==◌, ◌&&◌, ℕ, true, false, Option, None, Some, is_some, refl, ap}
 use Rattle.bus_order.proofs.LookUps.{own_test}
 use Rattle.el_base.specs.declared.config.Mode.{Mode}
-use Rattle.el_base.specs.declared.events.Event.{Event}
-use Rattle.el_base.specs.declared.events.Kind.{Kind}
-use Rattle.el_base.specs.declared.events.Kind.TheVariants as kinds
-use Rattle.el_model.specs.Deed.{Begins, Buffers, Commits, Deed, Misses, Rests, RollsBack, Runs, Waits, hart_after, outcome_of}
+use Rattle.el_model.specs.BusEvent.{IsBusEvent}
+use Rattle.el_model.specs.Deed.{Arms, Begins, Buffers, Commits, Continues, Deed, Elides, LetsGo, Misses, Rests, RollsBack, Runs, Waits, hart_after, outcome_of}
 use Rattle.el_base.specs.Winners.{winner_over}
-use Rattle.el_model.specs.Losses.{Standing, restored, standing_of}
-use Rattle.el_model.specs.Next.{after, kind_turn, next}
+use Rattle.el_model.specs.Losses.{HartsAreNumbered, Standing, restored, standing_of}
+use Rattle.el_model.specs.Next.{after, step_turn}
 use Rattle.el_model.specs.Plain.{candidate_of}
-use Rattle.el_model.specs.State.{Hart, ModelState, hart_of, is_live}
+use Rattle.el_model.specs.State.{Hart, ModelState, Turn, hart_of, is_live}
+use Rattle.el_model.proofs.BusEvents.{by_event}
 use Rattle.el_model.proofs.Deeds.{step_deed}
-use Rattle.el_model.proofs.Restoring.{losers_restored}
-use Rattle.removal_laws.specs.Laws.{LeastEndsItsOwnSection, closes}
+use Rattle.el_model.proofs.Restoring.{bus_restores}
+use Rattle.removal_laws.specs.Laws.{LeastEndsItsOwnSection}
 use Rattle.removal_laws.proofs.Attempts.{candidate_keeps}
-use Rattle.removal_laws.proofs.Bits.{clash}
+use Rattle.section_laws.proofs.Bits.{clash}
 use Rattle.removal_laws.proofs.Clocks.{closes_it}
 use Rattle.removal_laws.proofs.Facing.{live_below}
 use Rattle.removal_laws.proofs.Promises.{least_stamp_never_loses}
-use Rattle.section_laws.proofs.EachHart.{each_with}
+use Rattle.el_model.proofs.EachHart.{each_with}
 use Rattle.section_laws.proofs.Numbered.{requests_are_numbered}
 
 -- where a deed ends a section it closes an attempt
@@ -39,9 +38,13 @@ deed_ends state h (Begins swap) = λ live ended. clash ended refl
 deed_ends state h (Buffers section touch) = λ live ended. clash ended refl
 deed_ends state h (Commits section) = λ live ended. ap (λ b. b && true) (own_test h)
 deed_ends state h (RollsBack section cause) = λ live ended. ap (λ b. b && true) (own_test h)
+deed_ends state h (Arms word) = λ live ended. clash ended live
+deed_ends state h (Elides armed swap) = λ live ended. clash ended refl
+deed_ends state h (Continues armed) = λ live ended. clash ended live
+deed_ends state h (LetsGo armed) = λ live ended. clash ended live
 
-step_ends : (state : ModelState) (h g : ℕ) → is_live state g ≡ true → is_live (kind_turn state h kinds.Step).state g ≡ false →
-    ((h == g) && closes_it (kind_turn state h kinds.Step).outcome) ≡ true
+step_ends : (state : ModelState) (h g : ℕ) → is_live state g ≡ true → is_live (step_turn state h).state g ≡ false →
+    ((h == g) && closes_it (step_turn state h).outcome) ≡ true
 step_ends state h g =
     let step = step_deed state h in
     rw step.turn_is
@@ -53,30 +56,19 @@ bus_leaves : (mode : Mode) (old new : Standing) (winner : Option ℕ) → new �
 bus_leaves mode old new None same none = ap (λ standing. is_some standing.section) same
 bus_leaves mode old new (Some winner) same none = absurd (cc)
 
-left : {X : Type 0} (state : ModelState) (event : Event) (h : ℕ) → standing_of (hart_of (next state event).state h)
-    ≡ restored state.config.mode (winner_over (next state event).outcome h) (standing_of (hart_of state h)) →
-    winner_over (next state event).outcome h ≡ None → is_live state h ≡ true → is_live (next state event).state h ≡ false → X
-left state event h kept unnamed live ended =
+left : {X : Type 0} {state : ModelState} {by : ℕ} {turn : Turn} → IsBusEvent state by turn → (h : ℕ) →
+    HartsAreNumbered state →
+    winner_over turn.outcome h ≡ None → is_live state h ≡ true → is_live turn.state h ≡ false → X
+left {X} {state} {by} {turn} done h numbered unnamed live ended =
     clash ended
-    (bus_leaves state.config.mode (standing_of (hart_of state h)) (standing_of (hart_of (next state event).state h))
-    (winner_over (next state event).outcome h) kept unnamed ∙ live)
-
-kind_ends : (state : ModelState) (event : Event) (h : ℕ) → (kind : Kind) → event.kind ≡ kind →
-    (event.kind ≢ kinds.Step → standing_of (hart_of (next state event).state h)
-    ≡ restored state.config.mode (winner_over (next state event).outcome h) (standing_of (hart_of state h))) →
-    winner_over (next state event).outcome h ≡ None → is_live state h ≡ true → is_live (next state event).state h ≡ false →
-    closes state event h ≡ true
-unfolding next
-kind_ends state event h kinds.Step is kept unnamed live ended =
-    subst (λ k. is_live (kind_turn state event.hart.number k).state h ≡ false → ((event.hart.number == h)
-    && closes_it (kind_turn state event.hart.number k).outcome) ≡ true) (sym is) (step_ends state event.hart.number h live) ended
-kind_ends state event h kinds.Order is kept unnamed live ended = left state event h (kept (λ same. absurd (cc))) unnamed live ended
-kind_ends state event h kinds.Serve is kept unnamed live ended = left state event h (kept (λ same. absurd (cc))) unnamed live ended
-kind_ends state event h kinds.Deliver is kept unnamed live ended = left state event h (kept (λ same. absurd (cc))) unnamed live ended
+    (bus_leaves state.config.mode (standing_of (hart_of state h)) (standing_of (hart_of turn.state h)) (winner_over turn.outcome h)
+    (bus_restores done h numbered (live_below state h live)) unnamed ∙ live)
 
 pub least_ends_its_own_section : LeastEndsItsOwnSection
-least_ends_its_own_section program config events event h stamp mode same range least live ended =
+least_ends_its_own_section program config events event h stamp mode same range least live =
     let state = after program config events in
-    kind_ends state event h event.kind refl
-    (λ bus. losers_restored state event h (requests_are_numbered program config events same range) bus (live_below state h live))
-    (least_stamp_never_loses program config events event h stamp mode least) live ended
+    let numbered = requests_are_numbered program config events same range in
+    by_event
+    (λ turn. winner_over turn.outcome h ≡ None → is_live turn.state h ≡ false → ((event.hart.number == h) && closes_it turn.outcome) ≡ true) state event
+    (λ step unnamed. step_ends state event.hart.number h live) (λ turn done unnamed. left done h numbered unnamed live)
+    (least_stamp_never_loses program config events event h stamp mode least)

@@ -14,9 +14,9 @@ use Rattle.el_model.specs.State.{Hart, ModelState, count_up, for_line, hart_of, 
 use Rattle.el_model.proofs.Harts.{hart_of-each_hart, hart_of-each_hart_past, hart_of-past}
 use Rattle.el_model.proofs.Tests.{by_test}
 use Rattle.removal_laws.specs.Facts.{IsLinked, IsWaiting, MayPrecede, MayRetain}
-use Rattle.removal_laws.proofs.Bits.{clash, meets, some_none, some_same}
+use Rattle.section_laws.proofs.Bits.{clash, meets, some_none, some_same}
 use Rattle.removal_laws.proofs.Posting.{Posted, all_linked, all_marked, losing, posted_twice, seeing, unchanged}
-use Rattle.section_laws.proofs.EachHart.{Each, each_after}
+use Rattle.el_model.proofs.EachHart.{Each, each_after}
 use Rattle.stamp.specs.Stamps.{Stamp, is_before}
 
 -- the numbers of the harts

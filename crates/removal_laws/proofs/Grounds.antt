@@ -5,10 +5,10 @@ use Rattle.el_model.specs.State.{ModelState}
 use Rattle.removal_laws.specs.Facts.{Everywhere, Facts, Messages, Retaining}
 use Rattle.removal_laws.proofs.Attempts.{AllOpen, Own, next_open, next_own}
 use Rattle.removal_laws.proofs.Requests.{AllBelow, AllStamped, next_below, next_stamped}
-use Rattle.section_laws.proofs.EachHart.{Each}
+use Rattle.el_model.proofs.EachHart.{Each}
+use Rattle.section_laws.proofs.ArmedBits as bits
 use Rattle.section_laws.proofs.EachKept.{next_keeps}
 use Rattle.section_laws.proofs.Numbered.{Once, next_once}
-use Rattle.section_laws.proofs.OnlyInside as inside
 
 pub record Grounds (state : ModelState) : Type 0 where
   pub once : Once state
@@ -16,7 +16,7 @@ pub record Grounds (state : ModelState) : Type 0 where
   pub opened : AllOpen state
   pub stamped : AllStamped state
   pub below : AllBelow state
-  pub clean : Each (λ h hart. inside.Holds hart) state
+  pub clean : Each (λ h hart. bits.Holds hart) state
 
 pub next_grounds : (state : ModelState) (event : Event) → Grounds state → Grounds (next state event).state
 next_grounds state event now = record {
@@ -25,7 +25,7 @@ next_grounds state event now = record {
   opened = next_open state event now.opened;
   stamped = next_stamped state event now.once.sound now.stamped;
   below = next_below state event now.once.sound now.below;
-  clean = next_keeps inside.kept state event now.clean;
+  clean = next_keeps bits.kept state event now.clean;
 }
 
 pub record Standing (state : ModelState) : Type 0 where

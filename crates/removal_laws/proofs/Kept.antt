@@ -7,9 +7,9 @@ use Rattle.el_model.specs.Conflicts.{conflicts_with}
 use Rattle.el_model.specs.State.{Hart, ModelState, cache_of, for_line, hart_of, head_of, is_live, ordered_on}
 use Rattle.bus_order.proofs.Queues.{line_of_first_of}
 use Rattle.removal_laws.specs.Facts.{AreLinked, IsChained, IsLinked, IsWaiting, Knows, MayBeKnown, MayPrecede, MayRetain, Messages, Retaining}
-use Rattle.removal_laws.proofs.Bits.{Fewer, fewer_bit, fewer_conflicts}
+use Rattle.section_laws.proofs.Bits.{Fewer, fewer_bit, fewer_conflicts}
 use Rattle.removal_laws.proofs.Posting.{Posted}
-use Rattle.section_laws.proofs.EachHart.{Each}
+use Rattle.el_model.proofs.EachHart.{Each}
 use Rattle.stamp.specs.Stamps.{is_before}
 
 -- chains

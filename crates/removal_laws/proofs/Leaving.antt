@@ -13,7 +13,8 @@ use Rattle.el_model.proofs.Harts.{hart_of-each_hart, hart_of-each_hart_past, har
 use Rattle.mail.specs.Mailbox.{Marker, Message, Probe, has_message, without_markers, without_probe}
 use Rattle.mail.proofs.LookUps.{has_without_markers_marker, has_without_markers_probe, has_without_probe_other, has_without_probe_own}
 use Rattle.removal_laws.specs.Facts.{IsLinked, Knows}
-use Rattle.removal_laws.proofs.Bits.{Fewer, NoMore, clash, no_more_marked, no_more_others, no_more_own, no_more_touched, no_more_twice}
+use Rattle.section_laws.proofs.Bits.{Fewer, NoMore, clash, no_more_marked, no_more_others, no_more_own, no_more_touched}
+use Rattle.section_laws.proofs.Bits.{no_more_twice}
 
 -- as the request of a hart h on a line is served: h has no links any more and nobody knows of it, and the rest stays
 pub record Left (h line g : ℕ) (old new : Hart) : Type 0 where

@@ -12,15 +12,17 @@ use Rattle.el_base.specs.declared.config.Mode.TheVariants.{Plain, Sle, Tlr}
 use Rattle.el_base.specs.declared.outcomes.Need.{Need}
 use Rattle.el_base.specs.declared.outcomes.Need.TheVariants.{Read, Write}
 use Rattle.el_model.specs.Conflicts.{conflicts_with, meets_bit, retains}
-use Rattle.el_model.specs.Face.{faced}
+use Rattle.el_model.specs.Armed.{let_go}
+use Rattle.el_model.specs.Face.{met}
 use Rattle.el_model.specs.Order.{Alone, Behind, InFront, marked_by, marked_from, marking, order_raised, place_for, placed}
 use Rattle.el_model.specs.State.{Hart, ModelState, cache_of, hart_of, head_of, is_live, ordered_of, raised_of}
 use Rattle.el_model.proofs.Harts.{hart_of-with_hart_same}
-use Rattle.el_model.proofs.Keeps.{keeps_marking}
+use Rattle.el_model.proofs.Keeps.{frame_let_go, keeps_marking}
 use Rattle.el_model.proofs.Tests.{by_test}
 use Rattle.removal_laws.specs.Facts.{Everywhere, IsChained, IsLinked, MayPrecede, Messages}
-use Rattle.removal_laws.proofs.Bits.{Fewer, both, clash, fewer_bit, fewer_twice, first_of_both, in_the_way, second_of_both, some_none, some_same}
-use Rattle.removal_laws.proofs.Faced.{Facing, FirstOn, Other, all_faced, faced_stands}
+use Rattle.section_laws.proofs.Bits.{Fewer, both, clash, fewer_bit, fewer_twice, first_of_both, in_the_way}
+use Rattle.section_laws.proofs.Bits.{second_of_both, some_none, some_same}
+use Rattle.removal_laws.proofs.Faced.{Facing, FirstOn, Other, all_let_go, met_fewer, met_stands}
 use Rattle.removal_laws.proofs.Facing.{faced_retains}
 use Rattle.removal_laws.proofs.Grounds.{Grounds, Standing}
 use Rattle.removal_laws.proofs.Kept.{AllPosted, chained_kept, messages_moved, moved_by_post, retaining_posted}
@@ -28,7 +30,7 @@ use Rattle.removal_laws.proofs.Ordering.{Ordering, base, base_below, base_messag
 use Rattle.removal_laws.proofs.Posting.{Posted, is_marked, marked, unchanged}
 use Rattle.removal_laws.proofs.Queues.{chained_before, chained_more, head_is, no_queue, tail_is}
 use Rattle.removal_laws.proofs.Requests.{raised_own}
-use Rattle.section_laws.proofs.EachHart.{each_with}
+use Rattle.el_model.proofs.EachHart.{each_with}
 use Rattle.section_laws.proofs.FreeLines.{has_head}
 use Rattle.section_laws.proofs.Numbered.{raised_exists}
 use Rattle.section_laws.proofs.Waiting.{free_of_order}
@@ -183,9 +185,9 @@ module _ (state : ModelState) (request : Request) (grounds : Grounds state) (ord
 
   pub alone_stands : head_of state request.line ≡ None → Standing (placed state request Alone)
   unfolding placed
-  alone_stands no_head = faced_stands (base state request Alone) request (alone_facing no_head) first
+  alone_stands no_head = met_stands (base state request Alone) request (alone_facing no_head) first
     where
-      first : FirstOn (base state request Alone) (faced (base state request Alone) request) request.line
+      first : FirstOn (base state request Alone) (met (base state request Alone) request) request.line
       first h found line is live bit = by (cases_eq h request.hart)
         where
           by : (h ≡ request.hart) ⊎ (h ≡ request.hart → ⊥) → head_of (base state request Alone) found.line ≡ Some found
@@ -259,21 +261,21 @@ module _ (state : ModelState) (request : Request) (grounds : Grounds state) (ord
   meets_write hart line Read is bit = absurd (cc)
 
   front_first : is_live state request.hart ≡ true → has_bit (cache_of state request.hart) request.line ≡ true →
-      FirstOn front (faced front request) request.line
+      FirstOn front (met front request) request.line
   front_first own_live own_bit h found line is live bit = by (cases_eq h request.hart)
     where
       posts : AllPosted (base state request InFront) front
       posts = front_posts
 
-      faced_posts : AllPosted front (faced front request)
-      faced_posts = all_faced front request front_facing
+      freed : AllPosted front (let_go front request)
+      freed = all_let_go front request
 
-      fewer : Fewer found.line (hart_of state h) (hart_of (faced front request) h)
+      fewer : Fewer found.line (hart_of state h) (hart_of (met front request) h)
       fewer =
-          fewer_twice found.line (hart_of state h) (hart_of front h) (hart_of (faced front request) h)
+          fewer_twice found.line (hart_of state h) (hart_of front h) (hart_of (met front request) h)
           (fewer_twice found.line (hart_of state h) (hart_of (base state request InFront) h) (hart_of front h)
           (same_bits state request InFront grounds ordering standing found.line h) ((posts.each_posted h).fewer found.line))
-          ((faced_posts.each_posted h).fewer found.line)
+          (met_fewer front request front_facing h found.line)
 
       in_base : ordered_of (base state request InFront) h ≡ Some found
       in_base = subst (λ o. request_of o h ≡ Some found) posts.order is
@@ -282,7 +284,7 @@ module _ (state : ModelState) (request : Request) (grounds : Grounds state) (ord
       old_live = fewer.live live
 
       old_bit : has_bit (cache_of state h) found.line ≡ true
-      old_bit = fewer_bit found.line (hart_of state h) (hart_of (faced front request) h) fewer live bit
+      old_bit = fewer_bit found.line (hart_of state h) (hart_of (met front request) h) fewer live bit
 
       own_need : request.need ≡ Write
       own_need = standing.retaining.raised request.hart request ordering.raised own_live own_bit
@@ -300,19 +302,22 @@ module _ (state : ModelState) (request : Request) (grounds : Grounds state) (ord
                 (rw line own_bit);
           }))
 
-      stayed : h ≢ request.hart → is_before request.stamp (hart_of front h).attempt ≡ false
+      freed_mode : (let_go front request).config.mode ≡ Tlr
+      freed_mode = ap (λ config. config.mode) (frame_let_go front request).config ∙ front_facing.mode
+
+      stayed : h ≢ request.hart → is_before request.stamp (hart_of (let_go front request) h).attempt ≡ false
       stayed apart =
-          (faced_retains front request h front_facing.mode
-          (in_the_way request h (hart_of (faced front request) h)
+          (faced_retains (let_go front request) request h freed_mode
+          (in_the_way request h (hart_of (met front request) h)
           (record {
             other = λ same. apart (sym same);
             live = live;
-            bit = meets_write (hart_of (faced front request) h) request.line request.need own_need
-                (subst (λ l. has_bit (cache_of (faced front request) h) l ≡ true) line bit);
+            bit = meets_write (hart_of (met front request) h) request.line request.need own_need
+                (subst (λ l. has_bit (cache_of (met front request) h) l ≡ true) line bit);
           }))).stayed.not_after
 
-      same_attempt : (hart_of front h).attempt ≡ (hart_of state h).attempt
-      same_attempt = (posts.each_posted h).attempt ∙ ap (λ hart. hart.attempt) (mask state request InFront h)
+      same_attempt : (hart_of (let_go front request) h).attempt ≡ (hart_of state h).attempt
+      same_attempt = (freed.each_posted h).attempt ∙ (posts.each_posted h).attempt ∙ ap (λ hart. hart.attempt) (mask state request InFront h)
 
       tie : {X : Type 0} → h ≢ request.hart → ordered_of state h ≡ Some found → X
       tie apart was =
@@ -336,7 +341,7 @@ module _ (state : ModelState) (request : Request) (grounds : Grounds state) (ord
   pub front_stands : is_live state request.hart ≡ true → has_bit (cache_of state request.hart) request.line ≡ true →
       Standing (placed state request InFront)
   unfolding placed
-  front_stands own_live own_bit = faced_stands front request front_facing (front_first own_live own_bit)
+  front_stands own_live own_bit = met_stands front request front_facing (front_first own_live own_bit)
 
   -- wherever it goes
   pub placed_stands : Standing (placed state request (place_for state request))

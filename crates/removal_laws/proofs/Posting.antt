@@ -1,7 +1,8 @@
--- a hart that is posted messages, sees a stamp or loses its section, and nothing else
+-- a hart that is posted messages, sees a stamp, loses its section or has its armed one let go, and nothing else
 use Rattle.std.proofs.Common.{◌≡◌, ◌∙◌, ◌≤◌, ◌==◌, ℕ, Bool, true, false, List, [], ◌∷◌, map, Option, refl, sym, inl, inr, ◌⊎◌, arith, subst, if◌then◌else◌}
 use Rattle.bus_order.proofs.LookUps.{number_of_test, own_test}
 use Rattle.defer_list.specs.HartSet.{has}
+use Rattle.el_model.specs.Armed.{let_go_hart}
 use Rattle.el_model.specs.Attempts.{see}
 use Rattle.el_model.specs.RollBack.{out_of_section}
 use Rattle.el_model.specs.State.{Hart, ModelState, post_all}
@@ -10,7 +11,7 @@ use Rattle.mail.specs.Mailbox.{Marker, Message, Probe, has_message, posted, same
 use Rattle.mail.proofs.LookUps.{has_posted_other, has_posted_own}
 use Rattle.mail.proofs.OnceEach.{same_is_one}
 use Rattle.removal_laws.specs.Facts.{IsLinked, Knows, MayPrecede}
-use Rattle.removal_laws.proofs.Bits.{Fewer, fewer_ended, fewer_same, fewer_twice, no_less}
+use Rattle.section_laws.proofs.Bits.{Fewer, fewer_ended, fewer_same, fewer_twice, no_less, no_more_cleared}
 use Rattle.section_laws.proofs.Moves.{seen_grows}
 use Rattle.stamp.specs.Stamps.{Stamp}
 
@@ -92,6 +93,11 @@ pub losing : (state : ModelState) (g : ℕ) (hart : Hart) → Posted state g har
 losing state g hart =
     posted_same state g hart (out_of_section hart) refl refl refl refl refl (no_less hart.seen)
     (λ line. fewer_ended line hart (out_of_section hart) refl)
+
+pub let_go_posts : (state : ModelState) (g pc : ℕ) (hart : Hart) → Posted state g hart (let_go_hart pc hart)
+let_go_posts state g pc hart =
+    posted_same state g hart (let_go_hart pc hart) refl refl refl refl refl (no_less hart.seen)
+    (λ line. record { live = λ live. live; bits = λ live. no_more_cleared hart.cache line })
 
 -- a marker is posted
 marker_sender : (a b : ℕ) → Marker a ≡ Marker b → a ≡ b

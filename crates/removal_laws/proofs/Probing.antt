@@ -9,11 +9,11 @@ use Rattle.mail.specs.Mailbox.{Marker, Message, Probe, has_message, posted, same
 use Rattle.mail.proofs.LookUps.{has_posted_own}
 use Rattle.mail.proofs.OnceEach.{same_as_itself, same_is_one}
 use Rattle.removal_laws.specs.Facts.{Everywhere, IsLinked, Knows, MayBeKnown}
-use Rattle.removal_laws.proofs.Bits.{Fewer, fewer_same, fewer_twice, no_less}
+use Rattle.section_laws.proofs.Bits.{Fewer, fewer_same, fewer_twice, no_less}
 use Rattle.removal_laws.proofs.Grounds.{Standing}
 use Rattle.removal_laws.proofs.Kept.{Owed, OwedOf, messages_moved, retaining_trimmed}
 use Rattle.removal_laws.proofs.Posting.{still_there, there_or_new}
-use Rattle.section_laws.proofs.EachHart.{Each}
+use Rattle.el_model.proofs.EachHart.{Each}
 use Rattle.stamp.specs.Stamps.{is_before}
 
 -- the links, origins and entries of a hart, after a message was taken and others were posted; `Up` and `Told` tell of the

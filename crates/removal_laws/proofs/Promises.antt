@@ -14,41 +14,28 @@ use Rattle.el_base.specs.Winners.{winner_over}
 use Rattle.el_model.specs.Next.{after, kind_turn, next}
 use Rattle.el_model.specs.Serve.{Free, Obstacle, blocks_if, obstacle_to, other_head, serve_ordered, serve_past, serve_turn}
 use Rattle.el_model.specs.State.{ModelState, hart_of, head_of, is_held, numbers_of, ordered_of, section_of}
-use Rattle.el_model.proofs.Deeds.{step_deed}
+use Rattle.el_model.proofs.BusEvents.{by_event}
 use Rattle.removal_laws.specs.Facts.{Everywhere, Facts}
 use Rattle.removal_laws.specs.Laws.{HasLeast, HeadIsServed, IsLocked, LaterThanDeferredHeads, LaterThanWinners, LeastStampNeverLoses, LosesToEarlier, attempt_of, is_served}
-use Rattle.removal_laws.proofs.Attempts.{attempts_kept}
-use Rattle.removal_laws.proofs.Beating.{next_beats, step_names_none}
-use Rattle.removal_laws.proofs.Bits.{clash, second_of_both, some_none, some_same}
+use Rattle.removal_laws.proofs.Beating.{next_beats, same_attempts, step_names}
+use Rattle.section_laws.proofs.Bits.{clash, second_of_both, some_none, some_same}
 use Rattle.removal_laws.proofs.Climbing.{least_stamp_is_not_retained}
 use Rattle.removal_laws.proofs.Clocks.{later_from}
 use Rattle.removal_laws.proofs.Grounds.{Grounds, facts_of}
 use Rattle.removal_laws.proofs.Kept.{head_line}
 use Rattle.removal_laws.proofs.Throughout.{always_holds, next_holds}
 use Rattle.section_laws.specs.Waiting.{OnlyHolds}
-use Rattle.section_laws.proofs.EachKept.{BusKept, bus_keeps}
+use Rattle.section_laws.proofs.EachKept.{turn_keeps}
 use Rattle.section_laws.proofs.Waiting.{Sound}
 use Rattle.stamp.specs.Stamps.{Stamp, is_before, less_of}
 use Rattle.stamp.proofs.StampOrder.{less_strict}
 
--- an event of the bus opens and closes no attempt
-same_attempts : (state : ModelState) → BusKept (λ g hart. hart.attempt ≡ attempt_of state g)
-same_attempts state =
-    attempts_kept (λ g section clock attempt. attempt ≡ attempt_of state g) (record { lost = λ h section clock attempt now. now })
-
-losing_keeps : (state : ModelState) (h : ℕ) (kind : Kind) (g winner : ℕ) → winner_over (kind_turn state h kind).outcome g ≡ Some winner → (k : ℕ) →
-    attempt_of (kind_turn state h kind).state k ≡ attempt_of state k
-losing_keeps state h kinds.Step g winner lost k =
-    let step = step_deed state h in
-    step_names_none step.deed g winner (subst (λ turn. winner_over turn.outcome g ≡ Some winner) step.turn_is lost)
-losing_keeps state h kinds.Order g winner lost k = bus_keeps (same_attempts state) state h kinds.Order (λ same. absurd (cc)) (λ i. refl) k
-losing_keeps state h kinds.Serve g winner lost k = bus_keeps (same_attempts state) state h kinds.Serve (λ same. absurd (cc)) (λ i. refl) k
-losing_keeps state h kinds.Deliver g winner lost k = bus_keeps (same_attempts state) state h kinds.Deliver (λ same. absurd (cc)) (λ i. refl) k
-
+-- an event that names a winner opens and closes no attempt
 attempts_stay : (state : ModelState) (event : Event) (g winner : ℕ) → winner_over (next state event).outcome g ≡ Some winner → (k : ℕ) →
     attempt_of (next state event).state k ≡ attempt_of state k
-unfolding next
-attempts_stay state event g winner lost k = losing_keeps state event.hart.number event.kind g winner lost k
+attempts_stay state event g winner =
+    by_event (λ turn. winner_over turn.outcome g ≡ Some winner → (k : ℕ) → attempt_of turn.state k ≡ attempt_of state k) state event
+    (λ step lost. step_names state event.hart.number g winner lost) (λ turn done lost. turn_keeps (same_attempts state) done (λ i. refl))
 
 -- the least stamp comes after none
 least_after_none : {X : Type 0} (state : ModelState) (h winner : ℕ) (stamp : Stamp) (won : Option Stamp) → HasLeast state h stamp →
@@ -82,7 +69,7 @@ least_stamp_never_loses program config events event h stamp mode least =
         let now = always_holds program config events mode in
         let later = next_holds state event now in
         least_loses_not state (next state event).state h winner stamp (facts_of (next state event).state later.grounds later.standing)
-        (attempts_stay state event h winner is) least (next_beats state event now.grounds now.standing h winner is)
+        (attempts_stay state event h winner is) least (next_beats state event now.grounds.opened.mode now.grounds.once h winner is)
 
 -- later attempts
 pub later_than_winners : LaterThanWinners
@@ -90,7 +77,7 @@ later_than_winners program config events between afterwards event closing g winn
     let state = after program config events in
     let now = always_holds program config events mode in
     let new = next_holds state event now in
-    let beats = next_beats state event now.grounds now.standing g winner lost in
+    let beats = next_beats state event now.grounds.opened.mode now.grounds.once g winner lost in
     let same : beats.request ≡ request = some_same (sym beats.waits ∙ waits) in
     let saw = beats.seen stamp (ap (λ r. r.stamp) same ∙ stamp_is) in
     let later_is =

@@ -8,13 +8,13 @@ use Rattle.bus_order.proofs.Queues.{first_of_removed_other, hart_of_request_of, 
 use Rattle.cache_sets.specs.Cache.{has_bit}
 use Rattle.el_base.specs.declared.outcomes.Why.TheVariants.{Behind}
 use Rattle.el_model.specs.Conflicts.{conflicts_with, retains}
-use Rattle.el_model.specs.Face.{faced, faced_if}
+use Rattle.el_model.specs.Face.{met, met_if}
 use Rattle.el_model.specs.Serve.{Blocks, Free, Obstacle, obstacle_to, serve_ordered, serve_past, served}
 use Rattle.el_model.specs.State.{ModelState, cache_of, for_line, hart_of, head_of, is_live, ordered_of, ordered_on, raised_of}
 use Rattle.el_model.proofs.Keeps.{keeps_served}
 use Rattle.removal_laws.specs.Facts.{AreLinked, Everywhere, IsChained, IsLinked, IsWaiting, MayRetain, Messages, Retaining}
-use Rattle.removal_laws.proofs.Bits.{clash, fewer_bit, some_none, some_same}
-use Rattle.removal_laws.proofs.Faced.{Facing, FirstOn, Other, all_faced, faced_stands}
+use Rattle.section_laws.proofs.Bits.{clash, fewer_bit, some_none, some_same}
+use Rattle.removal_laws.proofs.Faced.{Facing, FirstOn, Other, met_fewer, met_stands}
 use Rattle.removal_laws.proofs.Grounds.{Grounds, Standing}
 use Rattle.removal_laws.proofs.Kept.{may_kept, retained_before, head_line}
 use Rattle.removal_laws.proofs.Leaving.{Left, served_left}
@@ -228,12 +228,11 @@ module _ (state : ModelState) (request : Request) (grounds : Grounds state) (ser
         retaining = subst (λ l. Retaining (Other l) after) (sym line) served_retaining;
       }
 
-  next_first : (next : Request) → head_of after request.line ≡ Some next → FirstOn after (faced after next) next.line
+  next_first : (next : Request) → head_of after request.line ≡ Some next → FirstOn after (met after next) next.line
   next_first next is g found line waits live bit =
-      let posts = all_faced after next (next_facing next is) in
-      let fewer = (posts.each_posted g).fewer found.line in
+      let fewer = met_fewer after next (next_facing next is) g found.line in
       no_bit_there g found (line ∙ head_line after request.line next is) waits (fewer.live live)
-      (fewer_bit found.line (hart_of after g) (hart_of (faced after next) g) fewer live bit)
+      (fewer_bit found.line (hart_of after g) (hart_of (met after next) g) fewer live bit)
 
   no_next : head_of after request.line ≡ None → Standing after
   no_next none = record {
@@ -261,12 +260,12 @@ module _ (state : ModelState) (request : Request) (grounds : Grounds state) (ser
       first_by h found is live bit (inl same) = absurd (has_head after.order h found is (ap (head_of after) same ∙ none))
       first_by h found is live bit (inr apart) = served_retaining.first h found apart is live bit
 
-  pub served_stands : Standing (faced_if after (head_of after request.line))
+  pub served_stands : Standing (met_if after (head_of after request.line))
   served_stands = by (head_of after request.line) refl
     where
-      by : (next : Option Request) → head_of after request.line ≡ next → Standing (faced_if after next)
+      by : (next : Option Request) → head_of after request.line ≡ next → Standing (met_if after next)
       by None none = no_next none
-      by (Some next) is = faced_stands after next (next_facing next is) (next_first next is)
+      by (Some next) is = met_stands after next (next_facing next is) (next_first next is)
 
 past_stands : (state : ModelState) (request : Request) (obstacle : Obstacle) → obstacle_to state request ≡ obstacle → Grounds state →
     ordered_of state request.hart ≡ Some request → Standing state → Standing (serve_past state request obstacle).state

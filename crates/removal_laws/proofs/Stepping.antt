@@ -12,21 +12,25 @@ use Rattle.defer_list.specs.HartSet.{has}
 use Rattle.el_base.specs.Line.{line_number}
 use Rattle.el_base.specs.declared.outcomes.Need.{Need}
 use Rattle.el_base.specs.declared.outcomes.Need.TheVariants.{Read, Write}
-use Rattle.el_model.specs.Conflicts.{conflicts_with, is_asked, is_wanted, is_write, meets_bit}
-use Rattle.el_model.specs.Deed.{Begins, Buffers, Commits, Deed, DoesWhere, IsCoverable, Misses, Rests, RollsBack, Runs, Waits, done, hart_after, permits}
+use Rattle.el_model.specs.Conflicts.{conflicts_with, is_asked, is_wanted, is_wanted_to_write, is_write, meets_bit}
+use Rattle.el_model.specs.Deed.{Arms, Begins, Buffers, Commits, Continues, Deed, DoesWhere, Elides, IsCoverable, LetsGo, MayElide, Misses, Rests, RollsBack, Runs, Waits, done, hart_after, permits}
 use Rattle.el_model.specs.InSection.{covered, is_covered}
 use Rattle.el_model.specs.Next.{step_turn}
 use Rattle.el_model.specs.Plain.{after_candidate, candidate_of}
-use Rattle.el_model.specs.State.{Hart, ModelState, Section, has_request, hart_of, head_of, ordered_of, raised_of}
+use Rattle.el_model.specs.State.{Armed, Hart, ModelState, Section, has_request, hart_of, head_of, ordered_of, raised_of}
 use Rattle.el_model.specs.Upcoming.{Swap, Touch}
 use Rattle.el_model.proofs.Deeds.{step_deed}
 use Rattle.el_model.proofs.Harts.{hart_of-past, with_hart_kept}
 use Rattle.mail.specs.Mailbox.{Marker, Message, Probe, has_message}
 use Rattle.removal_laws.specs.Facts.{Everywhere}
-use Rattle.removal_laws.proofs.Bits.{Meets, NoBitMore, clash, in_the_way, meets, meets_no_more, no_more_marked, no_more_touched, no_more_twice, some_none, some_same, write_of_read_marked, no_less}
+use Rattle.section_laws.proofs.Bits.{Meets, NoBitMore, clash, in_the_way, meets, meets_no_more, no_more_marked}
+use Rattle.section_laws.proofs.Bits.{no_more_touched, no_more_twice, some_none, some_same, write_of_read_marked}
+use Rattle.section_laws.proofs.ArmedBits.{completing}
+use Rattle.section_laws.proofs.Bits.{either, no_less}
+use Rattle.section_laws.specs.EachHart.{HasNoOtherBit}
 use Rattle.removal_laws.proofs.Grounds.{Grounds, Standing}
 use Rattle.removal_laws.proofs.Kept.{Moved, head_line, may_kept, messages_moved}
-use Rattle.section_laws.proofs.EachHart.{Each, each_but}
+use Rattle.el_model.proofs.EachHart.{Each, each_but}
 use Rattle.section_laws.proofs.FreeLines.{second_not}
 use Rattle.section_laws.proofs.Waiting.{no_request}
 
@@ -39,7 +43,7 @@ record Contents : Type 0 where
 abbrev contents : Hart → Contents
 contents hart = record { mail = hart.mail; told = hart.told; upstream = hart.upstream }
 
-candidate_contents : (pc : ℕ) (had_watch : Bool) (candidate : Option Swap) (hart : Hart) →
+candidate_contents : (pc : Option ℕ) (had_watch : Bool) (candidate : Option Swap) (hart : Hart) →
     contents (after_candidate pc had_watch candidate hart) ≡ contents hart
 candidate_contents pc had_watch None hart = refl
 candidate_contents pc had_watch (Some swap) hart = refl
@@ -53,6 +57,10 @@ deed_contents state h (Begins swap) hart = refl
 deed_contents state h (Buffers section touch) hart = refl
 deed_contents state h (Commits section) hart = refl
 deed_contents state h (RollsBack section cause) hart = refl
+deed_contents state h (Arms word) hart = refl
+deed_contents state h (Elides armed swap) hart = refl
+deed_contents state h (Continues armed) hart = refl
+deed_contents state h (LetsGo armed) hart = refl
 
 abbrev LinkedIn : Contents → ℕ → Type 0
 LinkedIn all before = (has_message all.mail (Marker before) ≡ true) ⊎ (has all.upstream before ≡ true)
@@ -254,7 +262,7 @@ missed_write : (cache : List (List Way)) (line : ℕ) (need : Need) → is_cover
 missed_write cache line Write uncovered bit = refl
 missed_write cache line Read uncovered bit = clash uncovered bit
 
-candidate_section : (pc : ℕ) (had_watch : Bool) (candidate : Option Swap) (hart : Hart) → hart.section ≡ None →
+candidate_section : (pc : Option ℕ) (had_watch : Bool) (candidate : Option Swap) (hart : Hart) → hart.section ≡ None →
     (after_candidate pc had_watch candidate hart).section ≡ None
 candidate_section pc had_watch None hart none = none
 candidate_section pc had_watch (Some swap) hart none = none
@@ -264,6 +272,36 @@ missed_aside : (head : Option Request) (g : ℕ) (hart : Hart) (raised : Option 
     conflicts_with head g hart ≡ true
 missed_aside None g hart raised is = is
 missed_aside (Some request) g hart raised is = is
+
+-- the one bit of an armed section is a read bit on a line that no other hart waits to write, and so it meets no head
+reads_unmet : {X : Type 0} (state : ModelState) (h word : ℕ) (hart : Hart) (head : Request) → HasNoOtherBit word hart.cache →
+    is_wanted_to_write state h (line_number word) ≡ false → head_of state head.line ≡ Some head → head.hart ≢ h →
+    (need : Need) → head.need ≡ need → meets_bit hart head.line need ≡ true → X
+reads_unmet state h word hart head reads unwanted is apart Read need bit = clash (reads.unwritten head.line) bit
+reads_unmet {X} state h word hart head reads unwanted is apart Write need bit =
+    by (either (read_bit hart.cache head.line) (write_bit hart.cache head.line) bit) (cases_eq head.line (line_number word))
+  where
+    by : (read_bit hart.cache head.line ≡ true) ⊎ (write_bit hart.cache head.line ≡ true) →
+        (head.line ≡ line_number word) ⊎ (head.line ≡ line_number word → ⊥) → X
+    by (inr written) where_it = clash (reads.unwritten head.line) written
+    by (inl read) (inr other) = clash (reads.alone head.line other) read
+    by (inl read) (inl same) =
+        clash (asked_not is_write state.order h (line_number word) head unwanted (subst (λ l. first_of state.order l ≡ Some head) same is) apart)
+        (ap (λ n. is_write (record head { need = n })) need)
+
+elided_stepped : (state : ModelState) (h : ℕ) (armed : Armed) (swap : Swap) → MayElide state h armed swap → Grounds state →
+    Stepped state h (hart_after state h (Elides armed swap) (hart_of state h))
+elided_stepped state h armed swap does grounds =
+    let old = hart_of state h in
+    let reads = ((grounds.clean h).1 armed does.is_armed.armed_is).no_other in
+    let it = completing state h armed swap does.completing in
+    free_stepped state h _ does.is_armed.free refl
+    (λ l is.
+    head_by state h l (hart_after state h (Elides armed swap) old) is
+    (λ head found own it_meets.
+    reads_unmet state h armed.word old head reads it.unwanted own it_meets.other head.need refl
+    (wanted_bit state h (line_number swap.word) Read old (hart_after state h (Elides armed swap) old) head
+    (ap (λ word. is_wanted_to_write state h (line_number word)) it.same ∙ it.unwanted) refl own it_meets.other it_meets.bit)))
 
 deed_stepped : (state : ModelState) (h : ℕ) (deed : Deed) → DoesWhere state h deed → Grounds state → Standing state →
     Stepped state h (hart_after state h deed (hart_of state h))
@@ -290,7 +328,7 @@ deed_stepped state h (Begins swap) does grounds standing =
     (λ l is.
     head_by state h l (hart_after state h (Begins swap) old) is
     (λ head found own it.
-    clash (bare old head.line head.need (grounds.clean h does.outside.no_section))
+    clash (bare old head.line head.need ((grounds.clean h).0 does.outside.no_section does.outside.unarmed))
     (wanted_bit state h line Read old (hart_after state h (Begins swap) old) head does.unwanted refl own it.other it.bit)))
 deed_stepped state h (Buffers section touch) does grounds standing =
     let inside = does.goes.goes_on.is_short.inside in
@@ -300,6 +338,10 @@ deed_stepped state h (Buffers section touch) does grounds standing =
     (touch_bits state h section (record section { count = section.count + 1 }) touch does.coverable) is)
 deed_stepped state h (Commits section) does grounds standing = outside_stepped state h _ refl
 deed_stepped state h (RollsBack section cause) does grounds standing = outside_stepped state h _ refl
+deed_stepped state h (Arms word) does grounds standing = outside_stepped state h _ does.outside.no_section
+deed_stepped state h (Elides armed swap) does grounds standing = elided_stepped state h armed swap does grounds
+deed_stepped state h (Continues armed) does grounds standing = outside_stepped state h _ does.is_armed.no_section
+deed_stepped state h (LetsGo armed) does grounds standing = outside_stepped state h _ does.is_armed.no_section
 
 -- a hart past the last one
 done_stepped : (state : ModelState) (h : ℕ) (deed : Deed) → DoesWhere state h deed → Grounds state → Standing state →

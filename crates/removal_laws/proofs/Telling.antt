@@ -1,5 +1,5 @@
 -- what holds still holds after a probe is delivered, and so after any message
-use Rattle.std.proofs.Common.{◌≡◌, ◌≤◌, ◌≢◌, ◌∙◌, ◌<◌, ◌==◌, ◌&&◌, ℕ, Bool, true, false, not, List, [], ◌∷◌, length, Option, None, Some, is_some, refl, ap, sym, inl, inr, ◌⊎◌, arith, subst}
+use Rattle.std.proofs.Common.{◌≡◌, ◌≢◌, ◌∙◌, ◌<◌, ◌==◌, ◌&&◌, ℕ, Bool, true, false, not, List, [], ◌∷◌, length, Option, None, Some, is_some, refl, ap, sym, inl, inr, ◌⊎◌, arith, subst}
 use Rattle.std.proofs.Math.ListN.{length-set}
 use Rattle.bus_order.specs.Order.{Request}
 use Rattle.bus_order.proofs.LookUps.{other_test, own_test}
@@ -18,14 +18,13 @@ use Rattle.el_model.proofs.Tests.{by_test}
 use Rattle.mail.specs.Mailbox.{Marker, Message, Probe, has_message, posted}
 use Rattle.mail.proofs.LookUps.{has_posted_own}
 use Rattle.removal_laws.specs.Facts.{IsLinked, Knows, MayBeKnown}
-use Rattle.removal_laws.specs.Laws.{LosesToEarlier}
-use Rattle.removal_laws.proofs.Facing.{saw_clock}
-use Rattle.removal_laws.proofs.Bits.{both, clash, fewer_ended, fewer_same, first_of_both, meets, second_of_both, some_same, some_none}
+use Rattle.section_laws.proofs.Bits.{both, clash, fewer_ended, fewer_same, first_of_both, meets}
+use Rattle.section_laws.proofs.Bits.{some_same}
 use Rattle.removal_laws.proofs.Delivering.{Entry, NoEntry, mail_exists, marker_stands, more_has, new_or_had, own_line}
 use Rattle.removal_laws.proofs.Grounds.{Grounds, Standing}
 use Rattle.removal_laws.proofs.Kept.{OwedOf, head_line, retained_before}
 use Rattle.removal_laws.proofs.Probing.{Took, debts_stand, first_or_later, first_there, later_there, probed, took_nothing}
-use Rattle.section_laws.proofs.EachHart.{Each, each_after, each_but}
+use Rattle.el_model.proofs.EachHart.{Each, each_after, each_but}
 use Rattle.section_laws.proofs.Moves.{seen_grows}
 use Rattle.stamp.specs.Stamps.{Stamp, is_before}
 
@@ -339,43 +338,6 @@ module _ (state : ModelState) (h origin : ℕ) (others : List Message) (mail : (
             (probe_safe line waiting (subst (λ o. ordered_on state o line ≡ Some waiting) new.1 waits)
             (subst (λ k. conflicts_with (head_of state line) k (hart_of probe_final k) ≡ true) new.0 meets));
       }) standing
-
-  -- to whom the hart lost
-  final_seen : (hart_of probe_final h).seen ≡ (hart_of told h).seen
-  final_seen =
-      each_hart_kept (λ hart. hart.seen) told (forwarded first h origin request)
-      (λ g hart.
-      by_test (λ new. new.seen ≡ hart.seen) (forwards_on first h origin request g) (record hart { mail = posted hart.mail (Probe origin) }) hart
-      (λ sent. refl) (λ kept. refl)) h
-
-  told_seen : (found : Option Request) (asked : Request) (stamp : Stamp) → found ≡ Some asked → asked.stamp ≡ Some stamp →
-      (lost : Bool) → loses_to_origin first h found ≡ lost → lost ≡ true → stamp.clock ≤ (told_of first h origin found).seen
-  told_seen None asked stamp found is lost which loses_it = some_none (sym found)
-  told_seen (Some waiting) asked stamp found is false which loses_it = absurd (cc)
-  told_seen (Some waiting) asked stamp found is true which loses_it =
-      rw which
-      (subst (λ m. stamp.clock ≤ (beaten m waiting.stamp (told_hart (hart_of first h))).seen) (sym grounds.opened.mode)
-      (saw_clock (hart_of first h).seen waiting.stamp stamp (ap (λ r. r.stamp) (some_same found) ∙ is)))
-
-  lost_by : (found : Option Request) → loses_to_origin first h found ≡ true → request ≡ found → LosesToEarlier probe_final h origin
-  lost_by None lost is = absurd (cc)
-  lost_by (Some asked) lost is =
-      let here = exists in
-      let at_told = hart_of-with_hart_same first h (told_of first h origin request) (rw first_count here) in
-      record {
-        request = asked;
-        waits = is;
-        earlier =
-            rw (probe_took h).attempt
-            (subst (λ hart. is_before asked.stamp hart.attempt ≡ true) at_first
-            (second_of_both (retains first h asked.line) (is_before asked.stamp (hart_of first h).attempt) lost));
-        seen = λ stamp stamp_is.
-            rw final_seen
-            (rw at_told (told_seen request asked stamp is stamp_is (loses_to_origin first h request) refl (ap (loses_to_origin first h) is ∙ lost)));
-      }
-
-  pub probe_beats : loses ≡ true → LosesToEarlier probe_final h origin
-  probe_beats lost = lost_by request lost refl
 
 -- whatever the message
 message_stands : (state : ModelState) (h : ℕ) (message : Message) (others : List Message) → (hart_of state h).mail ≡ message ∷ others → Grounds state →

@@ -17,15 +17,15 @@ use Rattle.mail.specs.Mailbox.{Marker, Probe, has_message}
 use Rattle.removal_laws.specs.Facts.{IsLinked, Knows}
 use Rattle.removal_laws.specs.Laws.{FactsHoldThroughout}
 use Rattle.removal_laws.proofs.Attempts.{always_open, first_own}
-use Rattle.removal_laws.proofs.Bits.{some_none}
+use Rattle.section_laws.proofs.Bits.{some_none}
 use Rattle.removal_laws.proofs.Grounds.{Grounds, Standing, facts_of, next_grounds}
 use Rattle.removal_laws.proofs.Placing.{ordered_stands}
 use Rattle.removal_laws.proofs.Serving.{taken_stands}
 use Rattle.removal_laws.proofs.Stepping.{step_stands}
 use Rattle.removal_laws.proofs.Telling.{delivered_stands}
+use Rattle.section_laws.proofs.ArmedBits as bits
 use Rattle.section_laws.proofs.EachKept.{first_each}
 use Rattle.section_laws.proofs.Numbered.{first_once}
-use Rattle.section_laws.proofs.OnlyInside as inside
 
 kind_stands : (state : ModelState) (h : ℕ) (kind : Kind) → Grounds state → Standing state → Standing (kind_turn state h kind).state
 unfolding order_turn serve_turn
@@ -82,7 +82,7 @@ first_holds program config mode = record {
       ordered_is = λ request is. absurd (cc);
     };
     below = λ h request is. absurd (cc);
-    clean = first_each inside.kept program config;
+    clean = first_each bits.kept program config;
   };
   standing = record {
     messages = record {

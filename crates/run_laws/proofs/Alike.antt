@@ -1,5 +1,6 @@
 -- a hart does the same next in two states that are alike to it, and after it they are alike
-use Rattle.std.proofs.Common.{◌≡◌, ◌+◌, ◌-◌, ◌∙◌, ℕ, false, List, Option, None, Some, length, refl, ap, sym}
+use Rattle.std.proofs.Common.{◌≡◌, ◌≤◌, ◌<◌, ◌+◌, ◌-◌, ◌∙◌, ℕ, zero, suc, arith, false, List, Option, None, Some}
+use Rattle.std.proofs.Common.{length, refl, ap, sym}
 use Rattle.std.specs.Prelude.{slice_index}
 use Rattle.cache_sets.specs.Residency.{Way}
 use Rattle.elf_image.specs.Program.{code_word}
@@ -12,10 +13,11 @@ use Rattle.rv_alu.specs.declared.view.HartStatus.TheVariants.{Running}
 use Rattle.rv_alu.specs.declared.view.HartView.{HartView}
 use Rattle.rv_flat.proofs.PutBytes.{put_bytes-same}
 use Rattle.rv_flat.proofs.RunsAfter.{runs-exists}
-use Rattle.rv_flat.proofs.StepLaws.{keeps_shape, own_view, running}
+use Rattle.rv_flat.proofs.StepLaws.{alone_sum, keeps_shape, own_view, running}
 use Rattle.rv_flat.specs.FlatState.{FlatState, room_of, span_of, status_of, view_of}
 use Rattle.rv_flat.specs.Laws.{next_insn}
 use Rattle.rv_flat.specs.Memory.{byte_in}
+use Rattle.rv_flat.specs.Run.{alone}
 use Rattle.rv_flat.specs.Step.{flat, stored_by}
 use Rattle.rv_word.specs.declared.insn.Insn.{Insn}
 use Rattle.run_laws.proofs.Touches.{IsOnBit, SameOnBits, agree_there}
@@ -45,7 +47,7 @@ pub no_call : (insn : Option Insn) → calls insn ≡ false → IsNoCall insn
 no_call None none = tt
 no_call (Some insn) none = none
 
-touched-room : (insn : Option Insn) (view : HartView) (span : Span) (room other : ℕ) → IsNoCall insn →
+pub touched-room : (insn : Option Insn) (view : HartView) (span : Span) (room other : ℕ) → IsNoCall insn →
     insn_touched insn view span room ≡ insn_touched insn view span other
 touched-room None view span room other none = refl
 touched-room (Some insn) view span room other none =
@@ -113,3 +115,43 @@ did_alike left right h same left_runs right_runs does view = record {
       ∙ same_stored (store_in (next_execution left h)) left.base left.bytes right.bytes place same.size is
       ∙ sym (ap (λ new. slice_index new.bytes place) (running left h left_runs));
 }
+
+-- where memory lies
+pub alone_base : (state : FlatState) (h n : ℕ) → (alone state h n).base ≡ state.base
+alone_base state h zero = refl
+alone_base state h (suc n) = alone_base (flat state h) h n ∙ (keeps_shape state h).base
+
+-- one step more at the end
+pub alone_more : (state : FlatState) (h n : ℕ) → alone state h (n + 1) ≡ flat (alone state h n) h
+alone_more state h n = alone_sum state h n 1
+
+-- two runs of a hart that are alike after so many steps, and of which the next does the same
+abbrev pub AlikeAt : ℕ → FlatState → FlatState → ℕ → Type 0
+AlikeAt h old new n = DidAlike h old new (alone old h n) (alone new h n)
+
+pub record DoesSame (h : ℕ) (left right : FlatState) : Type 0 where
+  pub runs : status_of left h ≡ Running
+  pub execution : next_execution right h ≡ next_execution left h
+
+pub alike_more : (h n : ℕ) (old new : FlatState) → AlikeAt h old new n → DoesSame h (alone old h n) (alone new h n) →
+    AlikeAt h old new (n + 1)
+alike_more h n old new since same =
+    let left = alone old h n in
+    let right = alone new h n in
+    let did = did_alike left right h since.places same.runs (ap (λ view. view.status) since.view ∙ same.runs) same.execution
+    (ap (view_after (next_execution left h)) since.view) in
+    rw (alone_more old h n, alone_more new h n)
+    (record { places = did.places; view = did.view; bytes = λ place is. did.bytes place (since.bytes place is) })
+
+-- runs that are alike after some steps stay so as long as each next step does the same
+module _ (h first last : ℕ) (old new : FlatState) (begins : AlikeAt h old new first)
+    (goes : (n : ℕ) → first ≤ n → n < last → AlikeAt h old new n → DoesSame h (alone old h n) (alone new h n)) where
+  alike_after : (k n : ℕ) → n ≡ first + k → n ≤ last → AlikeAt h old new n
+  alike_after zero n is within = let same : n ≡ first = omega (arith, is) in rw same begins
+  alike_after (suc k) n is within =
+      let one_more : n ≡ first + k + 1 = omega (arith, is) in
+      let before = alike_after k (first + k) refl (omega (arith, is, within)) in
+      rw one_more (alike_more h (first + k) old new before (goes (first + k) (omega arith) (omega (arith, is, within)) before))
+
+  pub alike_runs : (n : ℕ) → first ≤ n → n ≤ last → AlikeAt h old new n
+  alike_runs n some within = alike_after (n - first) n (omega (arith, some)) within

@@ -6,7 +6,7 @@ use Rattle.cache_sets.specs.Cache.{has_bit, write_bit}
 use Rattle.cache_sets.specs.Residency.{Way}
 use Rattle.el_base.specs.Line.{line_number}
 use Rattle.el_base.specs.declared.outcomes.Need.TheVariants as needs
-use Rattle.el_model.specs.State.{Section}
+use Rattle.el_model.specs.State.{Armed, Section}
 use Rattle.el_model.specs.Upcoming.{next_touch}
 use Rattle.rv_alu.specs.Loaded.{loaded}
 use Rattle.rv_alu.specs.declared.footprint.Access.{Access}
@@ -21,11 +21,12 @@ use Rattle.rv_flat.specs.Run.{alone}
 use Rattle.rv_flat.specs.Step.{flat}
 use Rattle.run_laws.proofs.Bits.{KeepsBits, covered_kept, same_bits}
 use Rattle.run_laws.proofs.Restored.{put_back}
-use Rattle.run_laws.proofs.Shown.{keeps_line, keeps_outside, puts_word, swap_stores, unwritten_shown, word_piece}
-use Rattle.run_laws.proofs.Survival.{alone_base, alone_more}
+use Rattle.run_laws.proofs.Shown.{keeps_line, keeps_outside, puts_word, unwritten_shown, word_there}
+use Rattle.run_laws.proofs.Alike.{alone_base, alone_more}
 use Rattle.run_laws.proofs.Tests.{not_both}
-use Rattle.run_laws.proofs.WordStores.{StoresWord, acquires}
-use Rattle.run_laws.specs.PrivateRun.{IsOutsideWord, IsChangeBeside, IsCoveredRun}
+use Rattle.run_laws.proofs.Reserving.{acquires_at, armed_memory}
+use Rattle.run_laws.proofs.WordStores.{StoresWord}
+use Rattle.run_laws.specs.PrivateRun.{IsArmedRun, IsOutsideWord, IsChangeBeside, IsCoveredRun}
 
 -- where no line has a bit, a change beside a hart is one of its reservation alone
 abbrev IsSeenBeside : ℕ → FlatState → FlatState → Type 0
@@ -103,6 +104,13 @@ step_beside state h g cache apart runs elsewhere =
     with_bytes g cache state (flat state h) (seen_flat state h g apart)
     (λ place bit. keeps_line state h place runs (λ touch. not_both bit (elsewhere (line_number (state.base + place)) touch)))
 
+-- an armed run that takes effect, or part of it, changes no memory
+pub armed_beside : (state : FlatState) (h g : ℕ) (own other : List (List Way)) (armed : Armed) (n : ℕ) → g ≢ h → IsArmedRun state h own armed →
+    n ≤ armed.count → IsChangeBeside g other state (alone state h n)
+armed_beside state h g own other armed n apart run within =
+    with_bytes g other state (alone state h n) (seen_alone state h g n apart)
+    (λ place bit. ap (λ bytes. slice_index bytes place) (armed_memory state h own armed run n within))
+
 in_word : (word address : ℕ) → ((word ≤ address) × (address < word + 4)) ⊎ IsOutsideWord word address
 in_word word address = by (nat_lt address word) (nat_lt address (word + 4)) refl refl
   where
@@ -119,7 +127,7 @@ module _ (committed : FlatState) (h g : ℕ) (own other : List (List Way)) (sect
     (run : IsCoveredRun committed h own section) (release : StoresWord (alone committed h section.count) h section.word section.old)
     (bytes : AreBytes committed.bytes) (separate : (line : ℕ) → write_bit own line ≡ true → has_bit other line ≡ false) where
   old_is : section.old ≡ loaded (byte_in committed.base committed.bytes) section.word 4
-  old_is = (acquires committed h _ run.acquire).old
+  old_is = (acquires_at committed h own run.before _ run.acquire).old
 
   released_bytes : (flat (alone committed h section.count) h).bytes
       ≡ put_bytes (alone committed h section.count).bytes (section.word - committed.base) 4 (loaded (byte_in committed.base committed.bytes) section.word 4)
@@ -137,7 +145,7 @@ module _ (committed : FlatState) (h g : ℕ) (own other : List (List Way)) (sect
       ((section.word ≤ committed.base + place) × (committed.base + place < section.word + 4)) ⊎ IsOutsideWord section.word (committed.base + place) →
       slice_index (flat (alone committed h section.count) h).bytes place ≡ slice_index committed.bytes place
   final place bit (inl (low, high)) =
-      let piece = word_piece committed h section.word section.new (swap_stores committed h own section run) in
+      let piece = word_there committed h own section run in
       let base : committed.base ≤ section.word = piece.from_base in
       let end : section.word + 4 ≤ committed.base + length committed.bytes = piece.before_end in
       let size = (seen_alone committed h g section.count apart).size in

@@ -1,5 +1,5 @@
 -- which changes of a cache keep the bits of a section, and a covered run is covered by more bits too
-use Rattle.std.proofs.Common.{◌≡◌, ◌≢◌, ◌∙◌, ◌==◌, ◌||◌, ℕ, Bool, true, false, List, [], ◌∷◌, Option, None, Some, is_some, refl, ap, sym, inl, inr, ◌⊎◌, if◌then◌else◌, option_map}
+use Rattle.std.proofs.Common.{◌≡◌, ◌≢◌, ◌∙◌, ◌==◌, ◌||◌, ℕ, zero, suc, Bool, true, false, List, [], ◌∷◌, Option, None, Some, is_some, refl, ap, sym, inl, inr, ◌⊎◌, if◌then◌else◌, option_map}
 use Rattle.std.specs.Prelude.{slice_index_or}
 use Rattle.std.specs.Option.{option_or}
 use Rattle.std.proofs.lemmas.Bool.{cases_eq}
@@ -13,15 +13,15 @@ use Rattle.el_base.specs.declared.outcomes.Need.{Need}
 use Rattle.el_base.specs.declared.outcomes.Need.TheVariants.{Read, Write}
 use Rattle.el_model.specs.InSection.{covered, is_covered}
 use Rattle.el_model.specs.Serve.{others_cache, own_copy, with_claim}
-use Rattle.el_model.specs.State.{Hart, Section}
-use Rattle.el_model.specs.Upcoming.{Touch}
+use Rattle.el_model.specs.State.{Armed, Hart, Section}
+use Rattle.el_model.specs.Upcoming.{Swap, Touch}
 use Rattle.el_model.proofs.Tests.{by_test}
 use Rattle.moesi.specs.declared.letter.Letter.{Letter}
 use Rattle.rv_flat.specs.FlatState.{FlatState}
 use Rattle.section_laws.specs.Once.{AreOnce, IsOnce}
 use Rattle.section_laws.proofs.OnceEach.{once_at}
 use Rattle.run_laws.proofs.Tests.{or_right}
-use Rattle.run_laws.specs.PrivateRun.{HasItsBit, IsCoveredRun, IsCoveredStep}
+use Rattle.run_laws.specs.PrivateRun.{HasItsBit, IsAcquire, IsArmedRun, IsCoveredRun, IsCoveredStep}
 
 -- each bit on a line is kept
 abbrev pub KeepsBit : List (List Way) → List (List Way) → ℕ → Type 0
@@ -79,7 +79,7 @@ pub marked_has_bit : (cache : List (List Way)) (line : ℕ) (need : Need) → is
     bit_in need (way_of (marked cache line need) line) ≡ true
 marked_has_bit cache line need resident = ap (bit_in need) (way_of-marked_same cache line need) ∙ new_bit need (way_of cache line) resident
 
-bits_twice : (one two three : List (List Way)) (line : ℕ) → KeepsBit one two line → KeepsBit two three line → KeepsBit one three line
+pub bits_twice : (one two three : List (List Way)) (line : ℕ) → KeepsBit one two line → KeepsBit two three line → KeepsBit one three line
 bits_twice one two three line first second need bit = second need (first need bit)
 
 -- a line that leaves a set for another has no bit
@@ -193,11 +193,27 @@ step_kept shown h word old new keeps step = record {
   bit = bit_kept old new _ keeps step.bit;
 }
 
+pub armed_kept : (committed : FlatState) (h : ℕ) (old new : List (List Way)) (armed : Armed) → KeepsBits old new →
+    IsArmedRun committed h old armed → IsArmedRun committed h new armed
+armed_kept committed h old new armed keeps run = record {
+  some = run.some;
+  reserve = run.reserve;
+  read = keeps _ Read run.read;
+  running = run.running;
+  quiet = run.quiet;
+}
+
+pub acquire_kept : (committed : FlatState) (h : ℕ) (old new : List (List Way)) (before : ℕ) (swap : Swap) → KeepsBits old new →
+    IsAcquire committed h old before swap → IsAcquire committed h new before swap
+acquire_kept committed h old new zero swap keeps is = is
+acquire_kept committed h old new (suc n) swap keeps (run, is) = (armed_kept committed h old new _ keeps run, is)
+
 pub run_kept : (committed : FlatState) (h : ℕ) (old new : List (List Way)) (section : Section) → KeepsBits old new →
     IsCoveredRun committed h old section → IsCoveredRun committed h new section
 run_kept committed h old new section keeps run = record {
+  before = run.before;
   some = run.some;
-  acquire = run.acquire;
+  acquire = acquire_kept committed h old new run.before _ keeps run.acquire;
   read = keeps _ Read run.read;
   running = run.running;
   inside = λ n some less. step_kept _ h section.word old new keeps (run.inside n some less);

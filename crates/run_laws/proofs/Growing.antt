@@ -1,16 +1,18 @@
--- a section that begins has a covered run, and one more instruction of a section is covered too
-use Rattle.std.proofs.Common.{◌≡◌, ◌∙◌, ◌≤◌, ◌<◌, ◌+◌, ◌||◌, not, ℕ, zero, suc, Bool, true, false, List, Option, None, Some, is_some, refl, ap, inl, inr, ◌⊎◌, arith}
+-- a section that begins has a covered run, and one more instruction of a section is covered too; so of an armed section
+use Rattle.std.proofs.Common.{◌≡◌, ◌∙◌, ◌≤◌, ◌<◌, ◌+◌, ◌||◌, not, ℕ, zero, suc, Bool, true, false, List, Option, None, Some, is_some, refl, ap, sym, subst, inl, inr, ◌⊎◌, arith}
 use Rattle.std.proofs.lemmas.Bool.{cases_eq}
 use Rattle.cache_sets.specs.Cache.{bit_in, letter_in, marked, read_bit, touched, way_of, write_bit}
 use Rattle.cache_sets.specs.Residency.{Way}
 use Rattle.el_base.specs.Line.{line_number}
 use Rattle.el_base.specs.declared.outcomes.Need.{Need}
 use Rattle.el_base.specs.declared.outcomes.Need.TheVariants.{Read, Write}
-use Rattle.el_model.specs.Deed.{IsCoverable, MayBegin, MayBuffer, permits}
+use Rattle.el_model.specs.Armed.{is_quiet}
+use Rattle.el_model.specs.Deed.{IsCoverable, MayArm, MayBegin, MayBuffer, MayContinue, MayElide, permits}
 use Rattle.el_model.specs.InSection.{covered, is_covered}
-use Rattle.el_model.specs.State.{ModelState, Section, cache_of}
-use Rattle.el_model.specs.Upcoming.{Swap, Touch, calls, next_execution, stops}
-use Rattle.moesi.specs.Letters.{may_of}
+use Rattle.el_model.specs.Plain.{armed_count}
+use Rattle.el_model.specs.State.{Armed, ModelState, Section, armed_of, cache_of}
+use Rattle.el_model.specs.Upcoming.{Swap, Touch, calls, calls_or_stops, next_conditional, next_execution, stops}
+use Rattle.moesi.specs.Letters.{may_of, may_read}
 use Rattle.rv_alu.specs.Action.{action_at}
 use Rattle.rv_alu.specs.Execution.{executed, perform, view_after}
 use Rattle.rv_alu.specs.declared.action.Action.{Action}
@@ -24,11 +26,12 @@ use Rattle.rv_flat.specs.FlatState.{FlatState, status_of, view_of}
 use Rattle.rv_flat.specs.Laws.{next_insn}
 use Rattle.rv_flat.specs.Run.{alone}
 use Rattle.rv_flat.specs.Step.{flat}
-use Rattle.run_laws.proofs.Bits.{bits_covered, bits_touched, covered_kept, marked_has_bit, step_kept}
-use Rattle.run_laws.proofs.Survival.{alone_more}
-use Rattle.run_laws.proofs.Tests.{or_left, second_not}
-use Rattle.run_laws.proofs.WordStores.{acquires}
-use Rattle.run_laws.specs.PrivateRun.{HasItsBit, IsCoveredRun, IsCoveredStep}
+use Rattle.run_laws.proofs.Bits.{KeepsBits, acquire_kept, bits_covered, bits_marked, bits_touched, bits_twice, covered_kept, marked_has_bit, step_kept}
+use Rattle.run_laws.proofs.Alike.{alone_more}
+use Rattle.run_laws.proofs.Reserving.{acquires_at, quiet_of, reserves}
+use Rattle.run_laws.proofs.Tests.{first_of_both, or_left, second_not}
+use Rattle.run_laws.specs.PrivateRun.{HasItsBit, IsAcquire, IsArmedRun, IsCoveredRun, IsCoveredStep}
+use Rattle.section_laws.proofs.ArmedBits.{completing}
 
 -- an instruction that does not stop its hart leaves it as it was in this
 perform_status : (action : Action) (view : HartView) (byte : ℕ → ℕ) → stops (perform action view byte) ≡ false →
@@ -51,29 +54,115 @@ resident_way None Read may = absurd (cc)
 resident_way None Write may = absurd (cc)
 resident_way (Some way) need may = refl
 
+-- a hart still runs after one more instruction that neither calls nor stops it
+one_more_runs : (committed : FlatState) (h count : ℕ) → ((n : ℕ) → n ≤ count → status_of (alone committed h n) h ≡ Running) →
+    calls_or_stops (alone committed h count) h ≡ false → (n : ℕ) → n ≤ count + 1 → status_of (alone committed h n) h ≡ Running
+one_more_runs committed h count running goes_on n within = by (cases_eq n (count + 1))
+  where
+    by : (n ≡ count + 1) ⊎ (n ≡ count + 1 → ⊥) → status_of (alone committed h n) h ≡ Running
+    by (inl last) =
+        ap (λ m. status_of (alone committed h m) h) last ∙ ap (λ state. status_of state h) (alone_more committed h count)
+        ∙ goes_on_running (alone committed h count) h (running count (omega arith)) (second_not (calls (next_insn (alone committed h count) h)) _ goes_on)
+    by (inr before) = running n (omega (arith, within))
+
+-- the bits as the line of a word gets the read bit
+keeps_marked : (cache : List (List Way)) (line : ℕ) → KeepsBits cache (touched (marked cache line Read) line)
+keeps_marked cache line l = bits_twice cache (marked cache line Read) _ l (bits_marked cache line Read l) (bits_touched (marked cache line Read) line l)
+
+read_marked : (cache : List (List Way)) (line : ℕ) → may_read (letter_in (way_of cache line)) ≡ true →
+    read_bit (touched (marked cache line Read) line) line ≡ true
+read_marked cache line may =
+    bits_touched (marked cache line Read) line line Read (marked_has_bit cache line Read (resident_way (way_of cache line) Read may))
+
 -- a section that begins
+begun : (committed : FlatState) (h : ℕ) (cache : List (List Way)) (before : ℕ) (swap : Swap) → IsAcquire committed h cache before swap →
+    read_bit (touched (marked cache (line_number swap.word) Read) (line_number swap.word)) (line_number swap.word) ≡ true →
+    ((n : ℕ) → n ≤ before → status_of (alone committed h n) h ≡ Running) →
+    IsCoveredRun committed h (touched (marked cache (line_number swap.word) Read) (line_number swap.word))
+    (record { count = suc before; word = swap.word; old = swap.old; new = swap.new })
+begun committed h cache before swap is read running = record {
+  before = before;
+  some = omega arith;
+  acquire = acquire_kept committed h cache _ before swap (keeps_marked cache (line_number swap.word)) is;
+  read = read;
+  running = λ n within.
+      one_more_runs committed h before running (acquires_at committed h cache before swap is).stores.goes_on n (omega (arith, within));
+  inside = λ n past less. absurd (omega (arith, past, less));
+}
+
 pub begun_run : (state : ModelState) (h : ℕ) (swap : Swap) → MayBegin state h swap →
     IsCoveredRun state.committed h (touched (marked (cache_of state h) (line_number swap.word) Read) (line_number swap.word))
-    (record { count = 1; word = swap.word; old = swap.old; new = swap.new })
-begun_run state h swap may = record {
+    (record { count = suc (armed_count (armed_of state h)); word = swap.word; old = swap.old; new = swap.new })
+begun_run state h swap may =
+    subst
+    (λ armed.
+    IsCoveredRun state.committed h (touched (marked (cache_of state h) (line_number swap.word) Read) (line_number swap.word))
+    (record { count = suc (armed_count armed); word = swap.word; old = swap.old; new = swap.new }))
+    (sym may.outside.unarmed)
+    (begun state.committed h (cache_of state h) 0 swap may.elidable.next (read_marked (cache_of state h) (line_number swap.word) may.readable)
+    (λ n within. let none : n ≡ 0 = omega (arith, within) in rw none may.outside.running))
+
+-- at the SC of an armed section
+acquire_armed : (committed : FlatState) (h : ℕ) (cache : List (List Way)) (armed : Armed) (swap : Swap) → IsArmedRun committed h cache armed →
+    swap.word ≡ armed.word → next_conditional (alone committed h armed.count) h ≡ Some swap → IsAcquire committed h cache armed.count swap
+acquire_armed committed h cache armed swap run same next = by armed.count refl next
+  where
+    renamed : (n : ℕ) → armed.count ≡ suc n → IsArmedRun committed h cache (record { count = suc n; word = swap.word })
+    renamed n is =
+        subst (λ count. IsArmedRun committed h cache (record { count = count; word = swap.word })) is
+        (subst (λ word. IsArmedRun committed h cache (record { count = armed.count; word = word })) (sym same) run)
+
+    by : (count : ℕ) → armed.count ≡ count → next_conditional (alone committed h count) h ≡ Some swap → IsAcquire committed h cache count swap
+    by zero is next = let some = run.some in absurd (omega (arith, is, some))
+    by (suc n) is next = (renamed n is, next)
+
+pub elided_run : (state : ModelState) (h : ℕ) (armed : Armed) (swap : Swap) → MayElide state h armed swap →
+    IsArmedRun state.committed h (cache_of state h) armed →
+    IsCoveredRun state.committed h (touched (marked (cache_of state h) (line_number swap.word) Read) (line_number swap.word))
+    (record { count = suc (armed_count (armed_of state h)); word = swap.word; old = swap.old; new = swap.new })
+elided_run state h armed swap may run =
+    let same = (completing state h armed swap may.completing).same in
+    subst
+    (λ found.
+    IsCoveredRun state.committed h (touched (marked (cache_of state h) (line_number swap.word) Read) (line_number swap.word))
+    (record { count = suc (armed_count found); word = swap.word; old = swap.old; new = swap.new }))
+    (sym may.is_armed.armed_is)
+    (begun state.committed h (cache_of state h) armed.count swap
+    (acquire_armed state.committed h (cache_of state h) armed swap run same may.next)
+    (keeps_marked (cache_of state h) (line_number swap.word) (line_number swap.word) Read
+    (ap (λ word. read_bit (cache_of state h) (line_number word)) same ∙ run.read))
+    run.running)
+
+-- an armed section that begins, and one more instruction of it
+pub arming_run : (state : ModelState) (h word : ℕ) → MayArm state h word →
+    IsArmedRun state.committed h (touched (marked (cache_of state h) (line_number word) Read) (line_number word)) (record { count = 1; word = word })
+arming_run state h word may = record {
   some = omega arith;
-  acquire = may.elidable.next;
+  reserve = may.reserving.next;
   read =
-      bits_touched (marked (cache_of state h) line Read) line line Read
-      (marked_has_bit (cache_of state h) line Read (resident_way (way_of (cache_of state h) line) Read may.readable));
-  running = running;
-  inside = λ n some less. absurd (omega arith);
+      read_marked (cache_of state h) (line_number word)
+      (first_of_both (may_read (letter_in (way_of (cache_of state h) (line_number word)))) _ may.may_open);
+  running = λ n within.
+      one_more_runs state.committed h 0 (λ n none. let zero_is : n ≡ 0 = omega (arith, none) in rw zero_is may.outside.running)
+      (reserves state.committed h word may.reserving.next).goes_on n (omega (arith, within));
+  quiet = λ n some less. absurd (omega (arith, some, less));
+}
+
+pub continued_run : (state : ModelState) (h : ℕ) (armed : Armed) → MayContinue state h armed →
+    IsArmedRun state.committed h (cache_of state h) armed → IsArmedRun state.committed h (cache_of state h) (record armed { count = suc armed.count })
+continued_run state h armed may run = record {
+  some = omega arith;
+  reserve = run.reserve;
+  read = run.read;
+  running = λ n within.
+      one_more_runs state.committed h armed.count run.running (quiet_of (alone state.committed h armed.count) h may.quiet).goes_on n
+      (omega (arith, within));
+  quiet = λ n some less. quiet n some less (cases_eq n armed.count);
 }
   where
-    line : ℕ
-    line = line_number swap.word
-
-    running : (n : ℕ) → n ≤ 1 → status_of (alone state.committed h n) h ≡ Running
-    running zero within = may.outside.running
-    running (suc n) within =
-        let none : n ≡ 0 = omega arith in
-        rw none (goes_on_running state.committed h may.outside.running
-        (second_not (calls (next_insn state.committed h)) _ (acquires state.committed h swap may.elidable.next).stores.goes_on))
+    quiet : (n : ℕ) → 1 ≤ n → n < suc armed.count → (n ≡ armed.count) ⊎ (n ≡ armed.count → ⊥) → is_quiet (alone state.committed h n) h ≡ true
+    quiet n some less (inl last) = rw last may.quiet
+    quiet n some less (inr before) = run.quiet n some (omega (arith, less))
 
 -- one more instruction
 own_covered : (cache : List (List Way)) (line : ℕ) (need : Need) → bit_in need (way_of cache line) ≡ true → is_covered cache line need ≡ true
@@ -102,34 +191,22 @@ pub buffered_run : (state : ModelState) (h : ℕ) (section : Section) (touch : O
     IsCoveredRun state.committed h (cache_of state h) section →
     IsCoveredRun state.committed h (covered (cache_of state h) touch) (record section { count = section.count + 1 })
 buffered_run state h section touch may run = record {
-  some = omega arith;
-  acquire = run.acquire;
+  before = run.before;
+  some = let some = run.some in omega (arith, some);
+  acquire = acquire_kept state.committed h (cache_of state h) _ run.before _ (bits_covered (cache_of state h) touch) run.acquire;
   read = bits_covered (cache_of state h) touch (line_number section.word) Read run.read;
-  running = λ n within. running n within (cases_eq n (section.count + 1));
-  inside = λ n some less. inside n some less (cases_eq n section.count);
+  running = one_more_runs state.committed h section.count run.running may.goes.goes_on.calls;
+  inside = λ n past less. inside n past less (cases_eq n section.count);
 }
   where
-    shown : FlatState
-    shown = alone state.committed h section.count
-
-    new : List (List Way)
-    new = covered (cache_of state h) touch
-
-    running : (n : ℕ) → n ≤ section.count + 1 → (n ≡ section.count + 1) ⊎ (n ≡ section.count + 1 → ⊥) →
-        status_of (alone state.committed h n) h ≡ Running
-    running n within (inl last) =
-        rw last (rw (alone_more state.committed h section.count)
-        (goes_on_running (alone state.committed h section.count) h (run.running section.count (omega arith))
-        (second_not (calls (next_insn (alone state.committed h section.count) h)) _ may.goes.goes_on.calls)))
-    running n within (inr before) = run.running n (omega arith)
-
-    inside : (n : ℕ) → 1 ≤ n → n < section.count + 1 → (n ≡ section.count) ⊎ (n ≡ section.count → ⊥) →
+    inside : (n : ℕ) → run.before < n → n < section.count + 1 → (n ≡ section.count) ⊎ (n ≡ section.count → ⊥) →
         IsCoveredStep (alone state.committed h n) h section.word (covered (cache_of state h) touch)
-    inside n some less (inl last) =
+    inside n past less (inl last) =
         rw last (record {
           goes_on = may.goes.goes_on.calls;
           unmixed = may.goes.mixes;
           bit = rw may.touches (now_covered state h section touch may.coverable);
         })
-    inside n some less (inr before) =
-        step_kept (alone state.committed h n) h section.word (cache_of state h) _ (bits_covered (cache_of state h) touch) (run.inside n some (omega arith))
+    inside n past less (inr before) =
+        step_kept (alone state.committed h n) h section.word (cache_of state h) _ (bits_covered (cache_of state h) touch)
+        (run.inside n past (omega (arith, less)))

@@ -1,33 +1,46 @@
--- every event keeps each live section's private run covered
-use Rattle.std.proofs.Common.{◌≡◌, ◌≢◌, ◌∙◌, ℕ, Bool, true, false, Option, None, Some, is_some, refl, ap, sym, subst, inl, inr, ◌⊎◌}
+-- every event keeps the private run of each live section covered, and that of each armed one
+use Rattle.std.proofs.Common.{◌≡◌, ◌≢◌, ◌∙◌, ℕ, Bool, true, false, List, Option, None, Some, is_some, refl, ap, sym, subst, inl, inr, ◌⊎◌}
 use Rattle.bus_order.specs.Order.{IsOneEach, Request}
 use Rattle.cache_sets.specs.Cache.{bit_in, is_resident, way_of}
+use Rattle.el_base.specs.Freed.{count_in}
 use Rattle.el_base.specs.declared.events.Kind.{Kind}
-use Rattle.el_base.specs.declared.events.Kind.TheVariants as kinds
 use Rattle.el_base.specs.declared.outcomes.Need.{Need}
 use Rattle.el_base.specs.declared.outcomes.Need.TheVariants.{Write}
+use Rattle.el_model.specs.Armed.{let_go_hart}
+use Rattle.el_model.specs.BusEvent.{Becomes, IsAbsent, IsBusEvent, IsLetGo, IsSent, LosesIt, Nothing, Places, Sees, Serves, Start, Starts}
+use Rattle.el_model.specs.BusEvent.{StartsWhere, Takes, freed_in, having_taken, started}
 use Rattle.el_model.specs.Conflicts.{meets_bit}
-use Rattle.el_model.specs.Deed.{Begins, Buffers, Commits, Deed, DoesWhere, Misses, Rests, RollsBack, Runs, Waits, committed_after, hart_after}
+use Rattle.el_model.specs.Deed.{Arms, Begins, Buffers, Commits, Continues, Deed, DoesWhere, Elides, LetsGo, Misses, Rests, RollsBack, Runs, Waits}
+use Rattle.el_model.specs.Deed.{committed_after, hart_after}
 use Rattle.el_model.specs.InSection.{covered}
+use Rattle.el_model.specs.Losses.{standing_of}
 use Rattle.el_model.specs.Next.{kind_turn, step_turn}
-use Rattle.el_model.specs.Order.{order_raised, order_turn, place_for}
 use Rattle.el_model.specs.Plain.{after_candidate, candidate_of}
-use Rattle.el_model.specs.Serve.{Blocks, Free, Obstacle, bystander, obstacle_to, others_have, own_copy, serve_ordered, serve_past, serve_turn, served, served_hart}
-use Rattle.el_model.specs.State.{Hart, ModelState, Section, cache_of, hart_of, head_of, ordered_of, raised_of, section_of}
+use Rattle.el_model.specs.Serve.{bystander, others_have, own_copy, served_hart}
+use Rattle.el_model.specs.State.{Hart, ModelState, Section, Turn, armed_of, cache_of, hart_of, ordered_of, raised_of, section_of}
 use Rattle.el_model.specs.Upcoming.{Swap}
+use Rattle.el_model.proofs.BusEvents.{by_kind}
 use Rattle.el_model.proofs.Deeds.{step_deed}
+use Rattle.el_model.proofs.EachHart.{Each, each_but}
 use Rattle.el_model.proofs.Harts.{hart_of-with_hart_other}
-use Rattle.el_model.proofs.Turns.{deliver_calm, order_calm, serve_calm}
+use Rattle.el_model.proofs.Losing.{lost_section}
+use Rattle.el_model.proofs.Restoring.{stands}
+use Rattle.el_model.proofs.Tests.{by_hart}
+use Rattle.mail.specs.Mailbox.{Marker, Message, Probe}
+use Rattle.rv_flat.specs.FlatState.{status_of, view_of}
 use Rattle.section_laws.specs.Once.{AreOnce}
-use Rattle.section_laws.proofs.EachHart.{Each, each_but, each_with}
+use Rattle.section_laws.specs.Waiting.{RunsWithNothing}
 use Rattle.section_laws.proofs.FreeLines.{unmet}
-use Rattle.section_laws.proofs.Moves.{Moves, deliver_keeps, faced_if_keeps, placed_keeps, served_keeps}
-use Rattle.run_laws.proofs.Bits.{KeepsBits, bits_claim, bits_others, bits_own, bits_touched, claim_section, run_kept, same_bits, some_bit}
-use Rattle.run_laws.proofs.EventsBeside.{AllCovered, Covered, Sound, deed_beside}
-use Rattle.run_laws.proofs.Growing.{begun_run, buffered_run}
-use Rattle.run_laws.proofs.Survival.{survives}
+use Rattle.section_laws.proofs.LetGone.{ReadsItsLine}
+use Rattle.section_laws.proofs.Waiting.{Rested, candidate_armed}
+use Rattle.run_laws.proofs.Bits.{KeepsBits, armed_kept, bits_claim, bits_covered, bits_others, bits_own, bits_touched, claim_section, run_kept}
+use Rattle.run_laws.proofs.Bits.{same_bits, some_bit}
+use Rattle.run_laws.proofs.EventsBeside.{AllArmed, AllCovered, ArmedCovered, Covered, Sound, deed_beside}
+use Rattle.run_laws.proofs.Growing.{arming_run, begun_run, buffered_run, continued_run, elided_run}
+use Rattle.run_laws.proofs.LettingGo.{IsGone, bus_beside, frees_armed, spared_or_gone, was_armed}
+use Rattle.run_laws.proofs.Survival.{armed_survives, survives}
 use Rattle.run_laws.proofs.Tests.{not_both}
-use Rattle.run_laws.specs.PrivateRun.{IsCoveredRun}
+use Rattle.run_laws.specs.PrivateRun.{IsArmedRun, IsCoveredRun}
 
 none_some : {A X : Type 0} {x : A} → None ≡ Some x → X
 none_some wrong = absurd (cc)
@@ -42,23 +55,39 @@ IsKept old h hart = (hart.section ≡ None) ⊎ ((hart.section ≡ section_of ol
 all_kept : (state : ModelState) → Each (IsKept state) state
 all_kept state h = inr (refl, same_bits (cache_of state h))
 
-moves : (old : ModelState) → Moves (IsKept old)
-moves old = record {
-  posted_to = λ h hart mail now. now;
-  told = λ h hart told now. now;
-  preceded = λ h hart upstream now. now;
-  saw = λ h hart seen later now. now;
-  lost = λ h hart now. inl refl;
-  gave_up = λ h hart now. now;
-  tried = λ h hart more now. now;
-}
+-- a section that is not live is none of which a hart is let go: it has ended, or there was none
+let_go_kept : (state : ModelState) (h pc : ℕ) (hart : Hart) → section_of state h ≡ None → IsKept state h hart → IsKept state h (let_go_hart pc hart)
+let_go_kept state h pc hart none (inl ended) = inl ended
+let_go_kept state h pc hart none (inr (same, keeps)) = inl (same ∙ none)
 
-raised_kept : (state : ModelState) (raised : Option Request) → Each (IsKept state) (order_raised state raised).state
-raised_kept state None = all_kept state
-raised_kept state (Some request) =
-    placed_keeps (moves state) state request (place_for state request)
-    (each_with (IsKept state) state request.hart (record (hart_of state request.hart) { raised = None })
-    (inr (refl, same_bits (cache_of state request.hart))) (all_kept state))
+-- an armed hart has no live section
+armed_outside : (state : ModelState) (h : ℕ) → Rested state → is_some (armed_of state h) ≡ true → section_of state h ≡ None
+armed_outside state h rested armed = by (rested h)
+  where
+    by : (armed_of state h ≡ None) ⊎
+        RunsWithNothing (status_of state.committed h) (ordered_of state h) (section_of state h) (raised_of state h) (hart_of state h).held →
+        section_of state h ≡ None
+    by (inl none) = not_both armed (ap is_some none)
+    by (inr runs) = runs.nothing.no_section
+
+becomes_kept : (state : ModelState) (by : ℕ) (start : Start) (h : ℕ) {lost : Option ℕ} {hart : Hart} → Rested state →
+    IsKept state h (started state by start h (hart_of state h)) → Becomes state by start h lost hart → IsKept state h hart
+becomes_kept state by start h rested begun (IsAbsent past) = all_kept state h
+becomes_kept state by start h rested begun (Starts below) = begun
+becomes_kept state by start h rested begun (IsSent message lost hart sent before) = becomes_kept state by start h rested begun before
+becomes_kept state by start h rested begun (IsLetGo head hart frees before) =
+    let_go_kept state h (view_of state.committed h).pc hart (armed_outside state h rested (frees_armed state by start h head frees))
+    (becomes_kept state by start h rested begun before)
+becomes_kept state by start h rested begun (Sees head lost hart defers before) = becomes_kept state by start h rested begun before
+becomes_kept state by start h rested begun (LosesIt winner stamp hart loses before) =
+    inl
+    (ap (λ standing. standing.section) (stands state by start h (LosesIt winner stamp hart loses before))
+    ∙ lost_section state.config.mode (standing_of (hart_of state h)))
+
+taken_kept : (state : ModelState) (message : Message) (others : List Message) (h : ℕ) →
+    IsKept state h (having_taken message others (hart_of state h))
+taken_kept state (Marker sender) others h = all_kept state h
+taken_kept state (Probe origin) others h = all_kept state h
 
 -- a request is served
 own_kept : (state : ModelState) (request : Request) → AreOnce (cache_of state request.hart) →
@@ -95,93 +124,155 @@ bystander_kept state request h clear (Some section) live =
           need bit),
     )
 
-past_kept : (state : ModelState) (h : ℕ) (request : Request) (obstacle : Obstacle) → obstacle_to state request ≡ obstacle →
-    ordered_of state h ≡ Some request → IsOneEach state.order → ((g : ℕ) → AreOnce (cache_of state g)) →
-    Each (IsKept state) (serve_past state request obstacle).state
-past_kept state h request (Blocks why by) free is one once = all_kept state
-past_kept state h request Free free is one once =
-    faced_if_keeps (moves state) (served state request) (head_of (served state request) request.line)
-    (served_keeps (IsKept state) state request (own_kept state request (once request.hart))
-    (λ g apart.
-    bystander_kept state request g (λ section live. unmet state h g request section one is free apart live) (section_of state g) refl)
-    (all_kept state))
+started_kept : (state : ModelState) (by : ℕ) (start : Start) → StartsWhere state by start → IsOneEach state.order →
+    ((g : ℕ) → AreOnce (cache_of state g)) →
+    (h : ℕ) → IsKept state h (started state by start h (hart_of state h))
+started_kept state by Nothing where_it one once h = all_kept state h
+started_kept state by (Places request place) where_it one once h =
+    by_hart (IsKept state h) h request.hart (record (hart_of state h) { raised = None }) (hart_of state h) (λ own. all_kept state h)
+    (λ other. all_kept state h)
+started_kept state by (Serves request) may one once h =
+    by_hart (IsKept state h) h request.hart (served_hart state request (hart_of state h)) (bystander state request (hart_of state h))
+    (λ own. rw own (own_kept state request (once request.hart)))
+    (λ apart.
+    bystander_kept state request h (λ section live. unmet state by h request section one may.ordered may.free apart live) (section_of state h) refl)
+started_kept state by (Takes message others) where_it one once h =
+    by_hart (IsKept state h) h by (having_taken message others (hart_of state h)) (hart_of state h)
+    (λ own. taken_kept state message others h) (λ other. all_kept state h)
 
-ordered_kept : (state : ModelState) (h : ℕ) (ordered : Option Request) → ordered_of state h ≡ ordered → IsOneEach state.order →
-    ((g : ℕ) → AreOnce (cache_of state g)) → Each (IsKept state) (serve_ordered state ordered).state
-ordered_kept state h None is one once = all_kept state
-ordered_kept state h (Some request) is one once = past_kept state h request (obstacle_to state request) refl is one once
-
-pub bus_kept : (state : ModelState) (h : ℕ) (kind : Kind) → kind ≢ kinds.Step → IsOneEach state.order → ((g : ℕ) → AreOnce (cache_of state g)) →
-    Each (IsKept state) (kind_turn state h kind).state
-unfolding order_turn serve_turn
-bus_kept state h kinds.Step bus one once = absurd (bus refl)
-bus_kept state h kinds.Order bus one once = raised_kept state (raised_of state h)
-bus_kept state h kinds.Serve bus one once = ordered_kept state h (ordered_of state h) refl one once
-bus_kept state h kinds.Deliver bus one once = deliver_keeps (moves state) state h (all_kept state)
+pub turn_kept : {state : ModelState} {by : ℕ} {turn : Turn} → IsBusEvent state by turn → Rested state → IsOneEach state.order →
+    ((g : ℕ) → AreOnce (cache_of state g)) →
+    Each (IsKept state) turn.state
+turn_kept {state} {by} done rested one once h =
+    becomes_kept state by done.start h rested (started_kept state by done.start done.where_it one once h) (done.becomes h)
 
 -- an event of another hart leaves a section so too
-pub other_kept : (state : ModelState) (h g : ℕ) (kind : Kind) → g ≢ h → IsOneEach state.order → ((k : ℕ) → AreOnce (cache_of state k)) →
-    IsKept state g (hart_of (kind_turn state h kind).state g)
-other_kept state h g kinds.Step apart one once =
+pub other_step_kept : (state : ModelState) (h g : ℕ) → g ≢ h → IsKept state g (hart_of (step_turn state h).state g)
+other_step_kept state h g apart =
     let step = step_deed state h in
     rw step.turn_is
     (subst (IsKept state g) (sym (hart_of-with_hart_other state h g (hart_after state h step.deed (hart_of state h)) apart)) (all_kept state g))
-other_kept state h g kinds.Order apart one once = bus_kept state h kinds.Order (λ same. absurd (cc)) one once g
-other_kept state h g kinds.Serve apart one once = bus_kept state h kinds.Serve (λ same. absurd (cc)) one once g
-other_kept state h g kinds.Deliver apart one once = bus_kept state h kinds.Deliver (λ same. absurd (cc)) one once g
 
--- what is kept is covered as before
-kept_covered : (state : ModelState) (h : ℕ) (hart : Hart) → IsKept state h hart → Covered state.committed h (hart_of state h) →
-    Covered state.committed h hart
-kept_covered state h hart (inl none) now section is = none_some (sym none ∙ is)
-kept_covered state h hart (inr (same, keeps)) now section is =
-    run_kept state.committed h (cache_of state h) hart.cache section keeps (now section (sym same ∙ is))
+pub other_kept : (state : ModelState) (h g : ℕ) (kind : Kind) → g ≢ h → Rested state → IsOneEach state.order →
+    ((k : ℕ) → AreOnce (cache_of state k)) →
+    IsKept state g (hart_of (kind_turn state h kind).state g)
+other_kept state h g kind apart rested one once =
+    by_kind (λ turn. IsKept state g (hart_of turn.state g)) state h kind (λ step. other_step_kept state h g apart)
+    (λ turn done. turn_kept done rested one once g)
 
 -- a deed of its own hart
-candidate_section : (pc : ℕ) (had_watch : Bool) (candidate : Option Swap) (hart : Hart) →
+candidate_section : (pc : Option ℕ) (had_watch : Bool) (candidate : Option Swap) (hart : Hart) →
     (after_candidate pc had_watch candidate hart).section ≡ hart.section
 candidate_section pc had_watch None hart = refl
 candidate_section pc had_watch (Some swap) hart = refl
 
-own_covered : (state : ModelState) (h : ℕ) (deed : Deed) → DoesWhere state h deed → AllCovered state →
+own_covered : (state : ModelState) (h : ℕ) (deed : Deed) → DoesWhere state h deed → AllCovered state → AllArmed state →
     Covered (committed_after state h deed) h (hart_after state h deed (hart_of state h))
-own_covered state h Rests does each section is = each h section is
-own_covered state h Waits does each section is = each h section is
-own_covered state h (Misses line need) does each section is = each h section is
-own_covered state h (Runs touch) does each section is =
+own_covered state h Rests does each armed_runs section is = each h section is
+own_covered state h Waits does each armed_runs section is = each h section is
+own_covered state h (Misses line need) does each armed_runs section is = each h section is
+own_covered state h (Runs touch) does each armed_runs section is =
     none_some (sym does.outside.no_section ∙ sym (candidate_section _ _ (candidate_of state h) _) ∙ is)
-own_covered state h (Begins swap) does each section is =
+own_covered state h (Begins swap) does each armed_runs section is =
     subst (IsCoveredRun state.committed h _) (same_some _ section is) (begun_run state h swap does)
-own_covered state h (Buffers before touch) does each section is =
+own_covered state h (Buffers before touch) does each armed_runs section is =
     subst (IsCoveredRun state.committed h (covered (cache_of state h) touch)) (same_some _ section is)
     (buffered_run state h before touch does (each h before does.goes.goes_on.is_short.inside.live))
-own_covered state h (Commits before) does each section is = none_some is
-own_covered state h (RollsBack before cause) does each section is = none_some is
+own_covered state h (Commits before) does each armed_runs section is = none_some is
+own_covered state h (RollsBack before cause) does each armed_runs section is = none_some is
+own_covered state h (Arms word) does each armed_runs section is = none_some (sym does.outside.no_section ∙ is)
+own_covered state h (Elides armed swap) does each armed_runs section is =
+    subst (IsCoveredRun state.committed h _) (same_some _ section is)
+    (elided_run state h armed swap does (armed_runs h armed does.is_armed.armed_is))
+own_covered state h (Continues armed) does each armed_runs section is = none_some (sym does.is_armed.no_section ∙ is)
+own_covered state h (LetsGo armed) does each armed_runs section is = none_some (sym does.is_armed.no_section ∙ is)
 
-step_covered : (state : ModelState) (h : ℕ) → Sound state → AllCovered state → AllCovered (step_turn state h).state
-step_covered state h sound each =
+-- and of its armed section
+own_armed : (state : ModelState) (h : ℕ) (deed : Deed) → DoesWhere state h deed → AllArmed state →
+    ArmedCovered (committed_after state h deed) h (hart_after state h deed (hart_of state h))
+own_armed state h Rests does each armed is = each h armed is
+own_armed state h Waits does each armed is = each h armed is
+own_armed state h (Misses line need) does each armed is = each h armed is
+own_armed state h (Runs touch) does each armed is =
+    none_some (sym (candidate_armed _ _ (candidate_of state h) _ ∙ does.outside.unarmed) ∙ is)
+own_armed state h (Begins swap) does each armed is = none_some is
+own_armed state h (Buffers section touch) does each armed is =
+    armed_kept state.committed h (cache_of state h) _ armed (bits_covered (cache_of state h) touch) (each h armed is)
+own_armed state h (Commits section) does each armed is = none_some is
+own_armed state h (RollsBack section cause) does each armed is = none_some is
+own_armed state h (Arms word) does each armed is =
+    subst (IsArmedRun state.committed h _) (same_some _ armed is) (arming_run state h word does)
+own_armed state h (Elides before swap) does each armed is = none_some is
+own_armed state h (Continues before) does each armed is =
+    subst (IsArmedRun state.committed h _) (same_some _ armed is)
+    (continued_run state h before does (each h before does.is_armed.armed_is))
+own_armed state h (LetsGo before) does each armed is = none_some is
+
+-- a step
+step_covered : (state : ModelState) (h : ℕ) → Sound state → AllCovered state → AllArmed state → AllCovered (step_turn state h).state
+step_covered state h sound each armed_runs =
     let step = step_deed state h in
     rw step.turn_is
     (each_but (Covered (committed_after state h step.deed)) state h (hart_after state h step.deed (hart_of state h))
-    (own_covered state h step.deed step.where_it each)
+    (own_covered state h step.deed step.where_it each armed_runs)
     (λ g apart section is.
     (survives g (cache_of state g) section state.committed (committed_after state h step.deed) (each g section is)
-    (deed_beside state h g step.deed apart step.where_it sound each)).0)
+    (deed_beside state h g step.deed apart step.where_it sound each armed_runs)).0)
     (λ past section is. none_some is))
 
--- each event
-bus_covered : (state : ModelState) (h : ℕ) (kind : Kind) → kind ≢ kinds.Step → (kind_turn state h kind).state.committed ≡ state.committed →
-    IsOneEach state.order → ((g : ℕ) → AreOnce (cache_of state g)) → AllCovered state → AllCovered (kind_turn state h kind).state
-bus_covered state h kind bus same one once each g =
-    subst (λ committed. Covered committed g (hart_of (kind_turn state h kind).state g)) (sym same)
-    (kept_covered state g (hart_of (kind_turn state h kind).state g) (bus_kept state h kind bus one once g) (each g))
+step_armed : (state : ModelState) (h : ℕ) → Sound state → AllCovered state → AllArmed state → AllArmed (step_turn state h).state
+step_armed state h sound each armed_runs =
+    let step = step_deed state h in
+    rw step.turn_is
+    (each_but (ArmedCovered (committed_after state h step.deed)) state h (hart_after state h step.deed (hart_of state h))
+    (own_armed state h step.deed step.where_it armed_runs)
+    (λ g apart armed is.
+    armed_survives g (cache_of state g) armed state.committed (committed_after state h step.deed) (armed_runs g armed is)
+    (deed_beside state h g step.deed apart step.where_it sound each armed_runs))
+    (λ past armed is. none_some is))
 
-pub kind_covered : (state : ModelState) (h : ℕ) (kind : Kind) → Sound state → IsOneEach state.order → ((g : ℕ) → AreOnce (cache_of state g)) →
-    AllCovered state → AllCovered (kind_turn state h kind).state
-kind_covered state h kinds.Step sound one once each = step_covered state h sound each
-kind_covered state h kinds.Order sound one once each =
-    bus_covered state h kinds.Order (λ same. absurd (cc)) (order_calm state h).keeps.committed one once each
-kind_covered state h kinds.Serve sound one once each =
-    bus_covered state h kinds.Serve (λ same. absurd (cc)) (serve_calm state h).keeps.committed one once each
-kind_covered state h kinds.Deliver sound one once each =
-    bus_covered state h kinds.Deliver (λ same. absurd (cc)) (deliver_calm state h).keeps.committed one once each
+-- an event of the bus: a section that is kept is covered as before, and so is an armed one
+bus_covered : {state : ModelState} {h : ℕ} {turn : Turn} → IsBusEvent state h turn → Rested state → IsOneEach state.order →
+    ((g : ℕ) → AreOnce (cache_of state g)) →
+    AllCovered state → AllArmed state → AllCovered turn.state
+bus_covered {state} {h} {turn} done rested one once each armed_runs g section is = by (turn_kept done rested one once g)
+  where
+    of_kept : section_of state g ≡ Some section → KeepsBits (cache_of state g) (cache_of turn.state g) →
+        (count_in (freed_in state h done.start) g ≡ 0) ⊎ IsGone state turn.state g → IsCoveredRun turn.state.committed g (cache_of turn.state g) section
+    of_kept live keeps (inl spared) =
+        run_kept turn.state.committed g (cache_of state g) (cache_of turn.state g) section keeps
+        (survives g (cache_of state g) section state.committed turn.state.committed (each g section live) (bus_beside done armed_runs g spared)).0
+    of_kept live keeps (inr gone) = none_some (sym (armed_outside state g rested gone.was) ∙ live)
+
+    by : IsKept state g (hart_of turn.state g) → IsCoveredRun turn.state.committed g (cache_of turn.state g) section
+    by (inl ended) = none_some (sym ended ∙ is)
+    by (inr (same, keeps)) = of_kept (sym same ∙ is) keeps (spared_or_gone done g)
+
+bus_armed : {state : ModelState} {h : ℕ} {turn : Turn} → IsBusEvent state h turn → AllArmed state → Each (λ g hart. ReadsItsLine hart) turn.state →
+    AllArmed turn.state
+bus_armed {state} {h} {turn} done armed_runs reads g armed is = by (spared_or_gone done g)
+  where
+    survived : (count_in (freed_in state h done.start) g ≡ 0) → IsArmedRun turn.state.committed g (cache_of state g) armed
+    survived spared =
+        armed_survives g (cache_of state g) armed state.committed turn.state.committed
+        (armed_runs g armed (was_armed state h done.start g (done.becomes g) armed is)) (bus_beside done armed_runs g spared)
+
+    by : (count_in (freed_in state h done.start) g ≡ 0) ⊎ IsGone state turn.state g →
+        IsArmedRun turn.state.committed g (cache_of turn.state g) armed
+    by (inl spared) =
+        let run = survived spared in
+        record { some = run.some; reserve = run.reserve; read = reads g armed is; running = run.running; quiet = run.quiet }
+    by (inr gone) = none_some (sym gone.unarmed ∙ is)
+
+-- each event
+pub kind_covered : (state : ModelState) (h : ℕ) (kind : Kind) → Sound state → Rested state → IsOneEach state.order →
+    ((g : ℕ) → AreOnce (cache_of state g)) → AllCovered state → AllArmed state → AllCovered (kind_turn state h kind).state
+kind_covered state h kind sound rested one once each armed_runs =
+    by_kind (λ turn. AllCovered turn.state) state h kind (λ step. step_covered state h sound each armed_runs)
+    (λ turn done. bus_covered done rested one once each armed_runs)
+
+pub kind_armed : (state : ModelState) (h : ℕ) (kind : Kind) → Sound state → AllCovered state → AllArmed state →
+    Each (λ g hart. ReadsItsLine hart) (kind_turn state h kind).state → AllArmed (kind_turn state h kind).state
+kind_armed state h kind sound each armed_runs =
+    by_kind (λ turn. Each (λ g hart. ReadsItsLine hart) turn.state → AllArmed turn.state) state h kind
+    (λ step reads. step_armed state h sound each armed_runs) (λ turn done reads. bus_armed done armed_runs reads)

@@ -1,13 +1,14 @@
 -- a live section survives every event of other harts, and shows the same after them
-use Rattle.std.proofs.Common.{◌≡◌, ◌≢◌, ◌∙◌, ℕ, true, List, [], ◌∷◌, ◌++◌, None, is_some, refl, ap, sym, subst, inl, inr, ◌⊎◌}
+use Rattle.std.proofs.Common.{◌≡◌, ◌≢◌, ◌∙◌, ℕ, true, List, [], ◌∷◌, ◌++◌, None, Some, is_some, refl, ap, sym, subst, inl, inr, ◌⊎◌}
 use Rattle.el_base.specs.declared.config.Config.{Config}
 use Rattle.el_base.specs.declared.events.Event.{Event}
 use Rattle.elf_image.specs.Program.{Program}
 use Rattle.el_model.specs.Next.{after, kind_turn, next, state_after}
-use Rattle.el_model.specs.State.{ModelState, begin, cache_of, hart_of, section_of}
+use Rattle.el_model.specs.State.{ModelState, Section, armed_of, begin, cache_of, hart_of, section_of}
 use Rattle.rv_flat.specs.Memory.{AreBytes}
 use Rattle.section_laws.proofs.Numbered.{one_ordered_request_each}
 use Rattle.section_laws.proofs.OnceEach.{no_set_has_a_line_twice}
+use Rattle.section_laws.proofs.Waiting.{always_settled, live_unarmed, rested_in}
 use Rattle.run_laws.proofs.Beside.{beside_twice, same_beside}
 use Rattle.run_laws.proofs.Bits.{KeepsBits, same_bits}
 use Rattle.run_laws.proofs.Kept.{IsKept, other_kept}
@@ -28,25 +29,45 @@ abbrev EndedOrSince : ModelState → ℕ → ModelState → Type 0
 EndedOrSince old h new = (section_of new h ≡ None) ⊎ Since old new h
 
 since_more : (old state new : ModelState) (h : ℕ) → IsKept state h (hart_of new h) →
-    IsChangeBeside h (cache_of state h) state.committed new.committed → EndedOrSince old h state → EndedOrSince old h new
-since_more old state new h (inl ended) change before = inl ended
-since_more old state new h (inr (same, keeps)) change (inl ended) = inl (same ∙ ended)
-since_more old state new h (inr (same, keeps)) change (inr since) =
+    IsChangeBeside h (cache_of state h) state.committed new.committed → Since old state h → EndedOrSince old h new
+since_more old state new h (inl ended) change since = inl ended
+since_more old state new h (inr (same, keeps)) change since =
     inr (record {
       same = same ∙ since.same;
       keeps = λ line need bit. keeps line need (since.keeps line need bit);
       change = beside_twice h (cache_of old h) (cache_of state h) old.committed state.committed new.committed since.keeps since.change change;
     })
 
-module _ (program : Program) (config : Config) (bytes : AreBytes program.bytes) (old : ModelState) (h : ℕ) where
+ended_more : (old state new : ModelState) (h : ℕ) → IsKept state h (hart_of new h) → section_of state h ≡ None → EndedOrSince old h new
+ended_more old state new h (inl ended) none = inl ended
+ended_more old state new h (inr (same, keeps)) none = inl (same ∙ none)
+
+-- of a section that was live
+module _ (program : Program) (config : Config) (bytes : AreBytes program.bytes) (old : ModelState) (h : ℕ) (section : Section)
+    (was_live : section_of old h ≡ Some section) where
+  -- while it lives its hart is not armed
+  unarmed_since : {X : Type 0} (done : List Event) → Since old (after program config done) h → is_some (armed_of (after program config done) h) ≡ true → X
+  unarmed_since done since armed =
+      let state = after program config done in
+      not_both armed (ap is_some (live_unarmed state h section (rested_in state (always_settled program config done)) (since.same ∙ was_live)))
+
   since_event : (done : List Event) (event : Event) → event.hart.number ≢ h → EndedOrSince old h (after program config done) →
       EndedOrSince old h (next (after program config done) event).state
   unfolding next
-  since_event done event apart =
-      since_more old (after program config done) (kind_turn (after program config done) event.hart.number event.kind).state h
-      (other_kept (after program config done) event.hart.number h event.kind (λ same. apart (sym same))
-      (one_ordered_request_each program config done) (no_set_has_a_line_twice program config done))
-      (other_harts_change_nothing_covered program config done event h bytes apart)
+  since_event done event apart now = by now
+    where
+      kept : IsKept (after program config done) h (hart_of (kind_turn (after program config done) event.hart.number event.kind).state h)
+      kept =
+          other_kept (after program config done) event.hart.number h event.kind (λ same. apart (sym same))
+          (rested_in (after program config done) (always_settled program config done)) (one_ordered_request_each program config done)
+          (no_set_has_a_line_twice program config done)
+
+      by : EndedOrSince old h (after program config done) →
+          EndedOrSince old h (kind_turn (after program config done) event.hart.number event.kind).state
+      by (inl ended) = ended_more old (after program config done) (kind_turn (after program config done) event.hart.number event.kind).state h kept ended
+      by (inr since) =
+          since_more old (after program config done) (kind_turn (after program config done) event.hart.number event.kind).state h kept
+          (other_harts_change_nothing_covered program config done event h bytes apart (λ armed. unarmed_since done since armed)) since
 
   since_events : (done others : List Event) → AreOfOthers h others → EndedOrSince old h (after program config done) →
       EndedOrSince old h (state_after (after program config done) others)
@@ -69,7 +90,7 @@ sections_survive_other_harts program config events others h section bytes apart 
       keeps = same_bits (cache_of old h);
       change = same_beside h (cache_of old h) old.committed;
     }) in
-    let since = still_live old new h (since_events program config bytes old h events others apart first) lives in
+    let since = still_live old new h (since_events program config bytes old h section live events others apart first) lives in
     record {
       same = since.same ∙ live;
       shows =

@@ -22,9 +22,10 @@ use Rattle.rv_flat.specs.Laws.{IsInOneLine, Writes, footprint_of, touched_in, wr
 use Rattle.rv_flat.specs.Memory.{byte_in, put_bytes}
 use Rattle.rv_flat.specs.Run.{alone}
 use Rattle.rv_flat.specs.Step.{flat, stored_by}
-use Rattle.run_laws.proofs.Survival.{alone_base, alone_more}
+use Rattle.run_laws.proofs.Alike.{alone_base, alone_more}
 use Rattle.run_laws.proofs.Tests.{not_both}
-use Rattle.run_laws.proofs.WordStores.{StoresWord, acquires}
+use Rattle.run_laws.proofs.Reserving.{AcquiresAt, acquires_at}
+use Rattle.run_laws.proofs.WordStores.{StoresWord}
 use Rattle.run_laws.specs.Laws.{CoveredRunsShowTheirOwn}
 use Rattle.run_laws.specs.PrivateRun.{HasItsBit, IsCoveredRun, IsOutsideWord}
 
@@ -91,61 +92,91 @@ keeps_word state h word place runs apart low high =
     (subst (λ access. Writes access (state.base + place)) (running_footprint state h runs) there))
 
 module _ (committed : FlatState) (h : ℕ) (cache : List (List Way)) (section : Section) (run : IsCoveredRun committed h cache section) where
-  pub swap_stores : StoresWord committed h section.word section.new
-  swap_stores = (acquires committed h _ run.acquire).stores
+  acquired : AcquiresAt committed h run.before (record { word = section.word; old = section.old; new = section.new })
+  acquired = acquires_at committed h cache run.before _ run.acquire
+
+  pub swap_stores : StoresWord (alone committed h run.before) h section.word section.new
+  swap_stores = acquired.stores
+
+  -- the acquire is the first that stores
+  before_it : (place : ℕ) → slice_index (alone committed h run.before).bytes place ≡ slice_index committed.bytes place
+  before_it place = ap (λ bytes. slice_index bytes place) acquired.memory
+
+  runs_there : status_of (alone committed h run.before) h ≡ Running
+  runs_there = let some = run.some in run.running run.before (omega (arith, some))
 
   unwritten : (touch : Option Touch) → HasItsBit cache touch → (line : ℕ) → write_bit cache line ≡ false → touch ≢ Some (write_to line)
   unwritten None bit line bare is = absurd (cc)
   unwritten (Some touch) bit line bare is = not_both (subst (HasItsBit cache) is bit) bare
 
   -- outside of the written lines and of the lock word
-  unwritten_at : (k n : ℕ) → n ≡ k + 1 → n ≤ section.count → (place : ℕ) → write_bit cache (line_number (committed.base + place)) ≡ false →
-      IsOutsideWord section.word (committed.base + place) → slice_index (alone committed h n).bytes place ≡ slice_index committed.bytes place
+  unwritten_at : (k n : ℕ) → n ≡ run.before + k + 1 → n ≤ section.count → (place : ℕ) →
+      write_bit cache (line_number (committed.base + place)) ≡ false → IsOutsideWord section.word (committed.base + place) →
+      slice_index (alone committed h n).bytes place ≡ slice_index committed.bytes place
   unwritten_at zero n is within place bare outside =
-      let one : n ≡ 1 = omega arith in
-      rw one (keeps_outside committed h section.word section.new place (run.running 0 (omega arith)) swap_stores outside)
+      let one : n ≡ run.before + 1 = omega (arith, is) in
+      ap (λ m. slice_index (alone committed h m).bytes place) one
+      ∙ ap (λ state. slice_index state.bytes place) (alone_more committed h run.before)
+      ∙ keeps_outside (alone committed h run.before) h section.word section.new place runs_there swap_stores
+      (subst (λ base. IsOutsideWord section.word (base + place)) (sym (alone_base committed h run.before)) outside)
+      ∙ before_it place
   unwritten_at (suc k) n is within place bare outside =
-      let more : n ≡ k + 1 + 1 = omega arith in
-      let before = alone committed h (k + 1) in
-      let step = run.inside (k + 1) (omega arith) (omega arith) in
-      rw more
-      (rw (alone_more committed h (k + 1))
-      (keeps_line before h place (run.running (k + 1) (omega arith))
-      (unwritten (next_touch before h) step.bit _
-      (ap (λ base. write_bit cache (line_number (base + place))) (alone_base committed h (k + 1)) ∙ bare))
-      ∙ unwritten_at k (k + 1) refl (omega arith) place bare outside))
+      let more : n ≡ run.before + k + 1 + 1 = omega (arith, is) in
+      let last : ℕ = run.before + k + 1 in
+      let step = run.inside (run.before + k + 1) (omega arith) (omega (arith, is, within)) in
+      ap (λ m. slice_index (alone committed h m).bytes place) more
+      ∙ ap (λ state. slice_index state.bytes place) (alone_more committed h (run.before + k + 1))
+      ∙ keeps_line (alone committed h (run.before + k + 1)) h place (run.running (run.before + k + 1) (omega (arith, is, within)))
+      (unwritten (next_touch (alone committed h (run.before + k + 1)) h) step.bit _
+      (ap (λ base. write_bit cache (line_number (base + place))) (alone_base committed h (run.before + k + 1)) ∙ bare))
+      ∙ unwritten_at k (run.before + k + 1) refl (omega (arith, is, within)) place bare outside
 
   pub unwritten_shown : (place : ℕ) → write_bit cache (line_number (committed.base + place)) ≡ false →
       IsOutsideWord section.word (committed.base + place) →
       slice_index (alone committed h section.count).bytes place ≡ slice_index committed.bytes place
   unwritten_shown place bare outside =
-      let some = run.some in unwritten_at (section.count - 1) section.count (omega arith) (omega arith) place bare outside
+      let some = run.some in
+      unwritten_at (section.count - (run.before + 1)) section.count (omega (arith, some)) (omega arith) place bare outside
 
   -- in the lock word
-  pub lock_at : (k n : ℕ) → n ≡ k + 1 → n ≤ section.count → (place : ℕ) → section.word ≤ committed.base + place →
-      committed.base + place < section.word + 4 → slice_index (alone committed h n).bytes place ≡ slice_index (flat committed h).bytes place
-  lock_at zero n is within place low high = let one : n ≡ 1 = omega arith in rw one refl
+  pub lock_at : (k n : ℕ) → n ≡ run.before + k + 1 → n ≤ section.count → (place : ℕ) → section.word ≤ committed.base + place →
+      committed.base + place < section.word + 4 →
+      slice_index (alone committed h n).bytes place ≡ slice_index (flat (alone committed h run.before) h).bytes place
+  lock_at zero n is within place low high =
+      let one : n ≡ run.before + 1 = omega (arith, is) in
+      ap (λ m. slice_index (alone committed h m).bytes place) one
+      ∙ ap (λ state. slice_index state.bytes place) (alone_more committed h run.before)
   lock_at (suc k) n is within place low high =
-      let more : n ≡ k + 1 + 1 = omega arith in
-      let before = alone committed h (k + 1) in
-      let base = alone_base committed h (k + 1) in
-      let step = run.inside (k + 1) (omega arith) (omega arith) in
-      rw more
-      (rw (alone_more committed h (k + 1))
-      (keeps_word before h section.word place (run.running (k + 1) (omega arith)) step.unmixed (omega (arith, base, low)) (omega (arith, base, high))
-      ∙ lock_at k (k + 1) refl (omega arith) place low high))
+      let more : n ≡ run.before + k + 1 + 1 = omega (arith, is) in
+      let base = alone_base committed h (run.before + k + 1) in
+      let step = run.inside (run.before + k + 1) (omega arith) (omega (arith, is, within)) in
+      ap (λ m. slice_index (alone committed h m).bytes place) more
+      ∙ ap (λ state. slice_index state.bytes place) (alone_more committed h (run.before + k + 1))
+      ∙ keeps_word (alone committed h (run.before + k + 1)) h section.word place (run.running (run.before + k + 1) (omega (arith, is, within)))
+      step.unmixed (omega (arith, base, low)) (omega (arith, base, high))
+      ∙ lock_at k (run.before + k + 1) refl (omega (arith, is, within)) place low high
+
+  pub word_there : IsPiece (span_of committed) section.word 4
+  word_there =
+      subst (λ bytes. IsPiece (record { base = committed.base; end = committed.base + length bytes }) section.word 4) acquired.memory
+      (subst (λ base. IsPiece (record { base = base; end = base + length (alone committed h run.before).bytes }) section.word 4)
+      (alone_base committed h run.before) (word_piece (alone committed h run.before) h section.word section.new swap_stores))
 
   lock_shown : loaded (byte_in committed.base (alone committed h section.count).bytes) section.word 4 ≡ section.new % 2 ^ 32
   lock_shown =
       let some = run.some in
-      let piece = word_piece committed h section.word section.new swap_stores in
+      let piece = word_there in
       let base : committed.base ≤ section.word = piece.from_base in
       let end : section.word + 4 ≤ committed.base + length committed.bytes = piece.before_end in
-      loaded-same (byte_in committed.base (alone committed h section.count).bytes) (byte_in committed.base (flat committed h).bytes) section.word 4
-      (λ address low high. lock_at (section.count - 1) section.count (omega arith) (omega arith) (address - committed.base) (omega arith) (omega arith))
+      let there = alone committed h run.before in
+      let same : length there.bytes ≡ length committed.bytes = ap length acquired.memory in
+      loaded-same (byte_in committed.base (alone committed h section.count).bytes) (byte_in committed.base (flat there h).bytes) section.word 4
+      (λ address low high.
+      lock_at (section.count - (run.before + 1)) section.count (omega (arith, some)) (omega arith) (address - committed.base) (omega arith) (omega arith))
       ∙ ap (λ bytes. loaded (byte_in committed.base bytes) section.word 4)
-      (puts_word committed h section.word section.new (run.running 0 (omega arith)) swap_stores)
-      ∙ loaded-put_bytes committed.base committed.bytes section.word (section.word - committed.base) 4 section.new (omega arith) (omega arith)
+      (puts_word there h section.word section.new runs_there swap_stores
+      ∙ ap (λ base. put_bytes there.bytes (section.word - base) 4 section.new) (alone_base committed h run.before))
+      ∙ loaded-put_bytes committed.base there.bytes section.word (section.word - committed.base) 4 section.new (omega arith) (omega (arith, same))
 
 pub shows_its_own : CoveredRunsShowTheirOwn
 shows_its_own committed h cache section run = record {

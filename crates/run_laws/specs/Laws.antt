@@ -1,5 +1,6 @@
 -- what holds of the private runs of live sections
-use Rattle.std.specs.Prelude.{ℕ, ◌≡◌, ◌≢◌, ◌+◌, true, false, List, [], ◌∷◌, Some}
+use Rattle.std.specs.Prelude.{ℕ, ◌≡◌, ◌≢◌, ◌+◌, true, false, List, [], ◌∷◌, Some, is_some}
+use Rattle.bus_order.specs.Order.{Request}
 use Rattle.cache_sets.specs.Residency.{Way}
 use Rattle.el_base.specs.declared.config.Config.{Config}
 use Rattle.el_base.specs.declared.events.Event.{Event}
@@ -7,20 +8,33 @@ use Rattle.el_base.specs.declared.events.Kind.TheVariants as kinds
 use Rattle.el_base.specs.declared.outcomes.Outcome.TheVariants.{Committed}
 use Rattle.elf_image.specs.Loaded.{program_of}
 use Rattle.elf_image.specs.Program.{Program}
+use Rattle.el_model.specs.Armed.{is_freed, let_go}
 use Rattle.el_model.specs.InSection.{shown_in}
 use Rattle.el_model.specs.Next.{after, next, state_after}
-use Rattle.el_model.specs.State.{ModelState, Section, cache_of, has_request, is_live, section_of}
+use Rattle.el_model.specs.State.{Armed, ModelState, Section, armed_of, cache_of, has_request, hart_of, is_live, section_of}
 use Rattle.el_model.specs.Upcoming.{is_release}
 use Rattle.rv_flat.specs.FlatState.{FlatState}
 use Rattle.rv_flat.specs.Memory.{AreBytes}
 use Rattle.rv_flat.specs.Run.{alone}
-use Rattle.run_laws.specs.PrivateRun.{IsChangeBeside, IsCoveredRun, ShowsItsOwn, ShowsTheSame}
+use Rattle.run_laws.specs.PrivateRun.{IsArmedRun, IsChangeBeside, IsCoveredRun, KeepsAllButAView, KeepsMemory, ShowsItsOwn, ShowsTheSame}
 
 -- a covered run depends on what its bits cover alone: after a change beside its hart it is covered as before, and shows the same
 abbrev pub CoveredRunsSurvive : Type 0
 CoveredRunsSurvive =
     (h : ℕ) (cache : List (List Way)) (section : Section) (old new : FlatState) → IsCoveredRun old h cache section →
     IsChangeBeside h cache old new → IsCoveredRun new h cache section × ShowsTheSame h section.count old new
+
+-- so does an armed run
+abbrev pub ArmedRunsSurvive : Type 0
+ArmedRunsSurvive =
+    (h : ℕ) (cache : List (List Way)) (armed : Armed) (old new : FlatState) → IsArmedRun old h cache armed → IsChangeBeside h cache old new →
+    IsArmedRun new h cache armed × ShowsTheSame h armed.count old new
+
+-- an armed run leaves all but the view of its hart as it was: it stores nothing, and so ends no other hart's reservation
+abbrev pub ArmedRunsKeepAllButAView : Type 0
+ArmedRunsKeepAllButAView =
+    (committed : FlatState) (h : ℕ) (cache : List (List Way)) (armed : Armed) → IsArmedRun committed h cache armed →
+    KeepsAllButAView h committed (alone committed h armed.count)
 
 -- a covered run shows its new value in the lock word, and what is committed outside of that word and of the lines with its write bit
 abbrev pub CoveredRunsShowTheirOwn : Type 0
@@ -35,11 +49,33 @@ LiveSectionsRunCovered =
     section_of (after program config events) h ≡ Some section →
     IsCoveredRun (after program config events).committed h (cache_of (after program config events) h) section
 
--- an event of another hart changes what is committed beside each hart: nothing on a line with one of its bits, and of its view
--- nothing but the reservation
+-- the same of the private run of each armed section
+abbrev pub ArmedSectionsRunCovered : Type 0
+ArmedSectionsRunCovered =
+    (program : Program) (config : Config) (events : List Event) (h : ℕ) (armed : Armed) → AreBytes program.bytes →
+    armed_of (after program config events) h ≡ Some armed →
+    IsArmedRun (after program config events).committed h (cache_of (after program config events) h) armed
+
+-- as a head lets armed sections go, nothing changes beside a hart that it lets not go
+abbrev pub LettingGoChangesNothingBeside : Type 0
+LettingGoChangesNothingBeside =
+    (program : Program) (config : Config) (events : List Event) (head : Request) (h : ℕ) → AreBytes program.bytes →
+    is_freed head h (hart_of (after program config events) h) ≡ false →
+    IsChangeBeside h (cache_of (after program config events) h) (after program config events).committed
+    (let_go (after program config events) head).committed
+
+-- and memory is as it was
+abbrev pub LettingGoLeavesMemory : Type 0
+LettingGoLeavesMemory =
+    (program : Program) (config : Config) (events : List Event) (head : Request) → AreBytes program.bytes →
+    KeepsMemory (after program config events).committed (let_go (after program config events) head).committed
+
+-- an event of another hart changes what is committed beside each hart that it lets not go: nothing on a line with one of its bits, and of
+-- its view nothing but the reservation
 abbrev pub OtherHartsChangeNothingCovered : Type 0
 OtherHartsChangeNothingCovered =
     (program : Program) (config : Config) (events : List Event) (event : Event) (h : ℕ) → AreBytes program.bytes → event.hart.number ≢ h →
+    (is_some (armed_of (after program config events) h) ≡ true → is_some (armed_of (next (after program config events) event).state h) ≡ true) →
     IsChangeBeside h (cache_of (after program config events) h) (after program config events).committed
     (next (after program config events) event).state.committed
 

@@ -1,11 +1,12 @@
--- the private run of a live section: the steps of its hart alone, from what is committed on
-use Rattle.std.specs.Prelude.{ℕ, ◌≡◌, ◌≤◌, ◌<◌, ◌+◌, ◌%◌, ◌^◌, true, false, List, length, Option, None, Some, slice_index}
+-- the private run of an armed or a live section: the steps of its hart alone, from what is committed on
+use Rattle.std.specs.Prelude.{ℕ, zero, suc, ◌≡◌, ◌≢◌, ◌≤◌, ◌<◌, ◌+◌, ◌%◌, ◌^◌, true, false, List, length, Option, None, Some, slice_index}
 use Rattle.cache_sets.specs.Cache.{has_bit, read_bit, write_bit}
 use Rattle.cache_sets.specs.Residency.{Way}
 use Rattle.el_base.specs.Line.{line_number}
+use Rattle.el_model.specs.Armed.{is_quiet}
 use Rattle.el_model.specs.InSection.{is_covered}
-use Rattle.el_model.specs.State.{Section}
-use Rattle.el_model.specs.Upcoming.{Touch, calls_or_stops, next_swap, next_touch, stores_to_word}
+use Rattle.el_model.specs.State.{Armed, Section}
+use Rattle.el_model.specs.Upcoming.{Swap, Touch, calls_or_stops, next_conditional, next_reserved, next_swap, next_touch, stores_to_word}
 use Rattle.rv_alu.specs.Loaded.{loaded}
 use Rattle.rv_alu.specs.declared.view.HartStatus.TheVariants.{Running}
 use Rattle.rv_flat.specs.FlatState.{FlatState, status_of, view_of}
@@ -24,19 +25,37 @@ pub record IsCoveredStep (shown : FlatState) (h word : ℕ) (cache : List (List 
   pub unmixed : stores_to_word shown h word ≡ false
   pub bit : HasItsBit cache (next_touch shown h)
 
+-- the private run of an armed section: an LR of its word, on a line with the read bit, and behind it instructions that touch no memory, are
+-- no SC and neither call nor stop their hart
+pub record IsArmedRun (committed : FlatState) (h : ℕ) (cache : List (List Way)) (armed : Armed) : Type 0 where
+  -- at least the LR has run
+  pub some : 1 ≤ armed.count
+  pub reserve : next_reserved committed h ≡ Some armed.word
+  pub read : read_bit cache (line_number armed.word) ≡ true
+  -- the hart runs before each of the instructions, and after the last one
+  pub running : (n : ℕ) → n ≤ armed.count → status_of (alone committed h n) h ≡ Running
+  pub quiet : (n : ℕ) → 1 ≤ n → n < armed.count → is_quiet (alone committed h n) h ≡ true
+
+-- a section acquires a word by an exchange, behind so many instructions: a swap that comes next, or an SC behind an armed section's run
+abbrev pub IsAcquire : FlatState → ℕ → List (List Way) → ℕ → Swap → Type 0
+IsAcquire committed h cache zero swap = next_swap committed h ≡ Some swap
+IsAcquire committed h cache (suc n) swap =
+    IsArmedRun committed h cache (record { count = suc n; word = swap.word })
+    × (next_conditional (alone committed h (suc n)) h ≡ Some swap)
+
 -- the private run of a section is covered by the bits of its hart's cache
 pub record IsCoveredRun (committed : FlatState) (h : ℕ) (cache : List (List Way)) (section : Section) : Type 0 where
-  -- at least the acquire has run
-  pub some : 1 ≤ section.count
-  -- the acquire is the swap that comes next in the committed state: it finds the old value in the lock word, as it is
-  -- committed now, and would store the new one
-  pub acquire : next_swap committed h ≡ Some (record { word = section.word; old = section.old; new = section.new })
+  -- how many instructions come before the acquire, which at least has run
+  pub before : ℕ
+  pub some : before < section.count
+  -- the acquire finds the old value in the lock word, as it is committed now, and would store the new one
+  pub acquire : IsAcquire committed h cache before (record { word = section.word; old = section.old; new = section.new })
   -- the line of the lock word has the read bit
   pub read : read_bit cache (line_number section.word) ≡ true
   -- the hart runs before each of the instructions, and after the last one
   pub running : (n : ℕ) → n ≤ section.count → status_of (alone committed h n) h ≡ Running
   -- each instruction after the acquire is covered
-  pub inside : (n : ℕ) → 1 ≤ n → n < section.count → IsCoveredStep (alone committed h n) h section.word cache
+  pub inside : (n : ℕ) → before < n → n < section.count → IsCoveredStep (alone committed h n) h section.word cache
 
 -- what is committed has changed beside a hart: nothing on a line with one of its bits, and of its view nothing but the reservation
 pub record IsChangeBeside (h : ℕ) (cache : List (List Way)) (old new : FlatState) : Type 0 where
@@ -47,6 +66,24 @@ pub record IsChangeBeside (h : ℕ) (cache : List (List Way)) (old new : FlatSta
   pub view : view_of new h ≡ record (view_of old h) { reserved = (view_of new h).reserved }
   pub bytes : (place : ℕ) → has_bit cache (line_number (old.base + place)) ≡ true →
       slice_index new.bytes place ≡ slice_index old.bytes place
+
+-- memory is as it was
+pub record KeepsMemory (old new : FlatState) : Type 0 where
+  pub base : new.base ≡ old.base
+  pub bytes : new.bytes ≡ old.bytes
+
+-- memory, code, output and how many harts there are, as they were
+pub record KeepsAllButViews (old new : FlatState) : Type 0 where
+  pub base : new.base ≡ old.base
+  pub bytes : new.bytes ≡ old.bytes
+  pub code : new.code ≡ old.code
+  pub output : new.output ≡ old.output
+  pub harts : length new.harts ≡ length old.harts
+
+-- and the view of each hart but one, with its reservation
+pub record KeepsAllButAView (h : ℕ) (old new : FlatState) : Type 0 where
+  pub rest : KeepsAllButViews old new
+  pub others : (g : ℕ) → g ≢ h → view_of new g ≡ view_of old g
 
 -- so many steps of a hart alone show the same from two committed states: the same view, and each byte that is the same in
 -- both committed states the same

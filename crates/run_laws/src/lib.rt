@@ -1,4 +1,4 @@
-//! Laws of what live sections show: whatever the events, in every mode, a section's private run is covered by its access
+//! Laws of what live and armed sections show: whatever the events, in every mode, a section's private run is covered by its access
 //! bits, and another hart's event leaves what it shows while it lives: its view, and each byte whose committed value stays.
 //!
 //! In the definition a live section has no bytes: it shows what the steps of its hart alone come to, from what is
@@ -14,7 +14,9 @@
 mod laws;
 
 pub use laws::{
-    covered_runs_show_their_own, covered_runs_survive, live_sections_run_covered,
-    loaded_programs_are_bytes, other_harts_change_nothing_covered,
-    other_harts_change_nothing_shown, releases_commit, sections_survive_other_harts,
+    armed_runs_keep_all_but_a_view, armed_runs_survive, armed_sections_run_covered,
+    covered_runs_show_their_own, covered_runs_survive, letting_go_changes_nothing_beside,
+    letting_go_leaves_memory, live_sections_run_covered, loaded_programs_are_bytes,
+    other_harts_change_nothing_covered, other_harts_change_nothing_shown, releases_commit,
+    sections_survive_other_harts,
 };

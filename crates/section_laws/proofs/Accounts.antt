@@ -4,33 +4,29 @@ use Rattle.std.proofs.lemmas.Bool.{cases_eq}
 use Rattle.bus_order.proofs.LookUps.{other_test, own_test}
 use Rattle.el_base.specs.declared.config.Config.{Config}
 use Rattle.el_base.specs.declared.config.Mode.{Mode}
-use Rattle.el_base.specs.declared.config.Mode.TheVariants.{Plain, Sle, Tlr}
 use Rattle.el_base.specs.declared.events.Event.{Event}
-use Rattle.el_base.specs.declared.events.Kind.{Kind}
-use Rattle.el_base.specs.declared.events.Kind.TheVariants as kinds
 use Rattle.el_base.specs.declared.outcomes.Outcome.{Outcome}
 use Rattle.el_base.specs.declared.outcomes.Outcome.TheVariants as outcomes
 use Rattle.elf_image.specs.Program.{Program}
-use Rattle.el_model.specs.Deed.{Begins, Buffers, Commits, Deed, DoesWhere, Misses, Rests, RollsBack, Runs, Waits, done, hart_after, outcome_of}
+use Rattle.el_model.specs.BusEvent.{IsBusEvent, IsOfBus}
+use Rattle.el_model.specs.Deed.{Arms, Begins, Buffers, Commits, Continues, Deed, DoesWhere, Elides, LetsGo, Misses, Rests, RollsBack, Runs, Waits, done, hart_after, outcome_of}
 use Rattle.el_base.specs.Winners.{winner_over}
-use Rattle.el_model.specs.Losses.{Standing, lost_in, restored, standing_of}
+use Rattle.el_model.specs.Losses.{Standing, restored, standing_of}
 use Rattle.el_model.specs.Next.{entries_from, next, state_after, step_turn}
 use Rattle.el_model.specs.Plain.{after_candidate, candidate_of}
-use Rattle.el_model.specs.RollBack.{most_tries}
-use Rattle.el_model.specs.State.{Hart, ModelState, Section, begin, hart_of, is_live, new_hart, section_of}
+use Rattle.el_model.specs.State.{Hart, ModelState, Section, Turn, begin, hart_of, is_live, new_hart, section_of}
 use Rattle.el_model.specs.Upcoming.{Swap}
 use Rattle.el_model.proofs.AllHarts.{all_first}
+use Rattle.el_model.proofs.BusEvents.{by_event}
 use Rattle.el_model.proofs.Deeds.{step_deed}
 use Rattle.el_model.proofs.Harts.{hart_of-with_hart_other, hart_of-with_hart_same, with_hart_kept}
-use Rattle.el_model.proofs.Restoring.{losers_restored}
-use Rattle.el_model.proofs.Tests.{by_test}
+use Rattle.el_model.proofs.Losing.{lost_section}
+use Rattle.el_model.proofs.Restoring.{bus_restores, stays_outside, unnamed_outside}
 use Rattle.rv_flat.proofs.RunsAfter.{runs-exists}
 use Rattle.section_laws.specs.Sections.{BegunSectionsAreAccountedFor, begins, commits, count_of, is_began, is_committed, is_rolled_back, loses, rolls_back}
-use Rattle.section_laws.proofs.EachKept.{bus_keeps}
 use Rattle.section_laws.proofs.Lengths.{AsMany, first_as_many, next_as_many}
 use Rattle.section_laws.proofs.Numbered.{Numbered, first_numbered, next_numbered, numbers_of_state}
-use Rattle.section_laws.proofs.SectionSteps.{IsOfBus, live_exists, of_bus}
-use Rattle.section_laws.proofs.UnnamedLosers.{stays_outside, unnamed_outside}
+use Rattle.section_laws.proofs.SectionSteps.{live_exists}
 use Rattle.section_laws.proofs.Waiting.{is_rolled}
 
 -- one event: a section that was live or begins has ended, or is live
@@ -52,7 +48,7 @@ deed_section : (state : ModelState) (h g : ℕ) (deed : Deed) →
 deed_section state h g deed same =
     with_hart_kept (λ hart. is_some hart.section) state h (hart_after state h deed (hart_of state h)) same g
 
-candidate_section : (pc : ℕ) (had_watch : Bool) (candidate : Option Swap) (hart : Hart) →
+candidate_section : (pc : Option ℕ) (had_watch : Bool) (candidate : Option Swap) (hart : Hart) →
     (after_candidate pc had_watch candidate hart).section ≡ hart.section
 candidate_section pc had_watch None hart = refl
 candidate_section pc had_watch (Some swap) hart = refl
@@ -77,6 +73,12 @@ own_deed state h (Runs touch) many does =
 own_deed state h (Begins swap) many begins =
     let flat_exists = runs-exists state.committed h begins.outside.running in
     starts _ _ (ap is_some begins.outside.no_section) (after_deed state h (Begins swap) (omega (arith, many, flat_exists)))
+own_deed state h (Arms word) many does = unchanged _ _ (deed_section state h h (Arms word) refl)
+own_deed state h (Elides armed swap) many elides =
+    let flat_exists = runs-exists state.committed h elides.is_armed.running in
+    starts _ _ (ap is_some elides.is_armed.no_section) (after_deed state h (Elides armed swap) (omega (arith, many, flat_exists)))
+own_deed state h (Continues armed) many does = unchanged _ _ (deed_section state h h (Continues armed) refl)
+own_deed state h (LetsGo armed) many does = unchanged _ _ (deed_section state h h (LetsGo armed) refl)
 own_deed state h (Buffers section touch) many buffers =
     unchanged _ _ (deed_section state h h (Buffers section touch) (sym (ap is_some buffers.goes.goes_on.is_short.inside.live)))
 own_deed state h (Commits section) many does =
@@ -102,6 +104,10 @@ other_deed state h g deed apart =
     by_deed (Buffers section touch) same = unchanged _ _ same
     by_deed (Commits section) same = unchanged _ _ same
     by_deed (RollsBack section cause) same = unchanged _ _ same
+    by_deed (Arms word) same = unchanged _ _ same
+    by_deed (Elides armed swap) same = unchanged _ _ same
+    by_deed (Continues armed) same = unchanged _ _ same
+    by_deed (LetsGo armed) same = unchanged _ _ same
 
 step_by : (state : ModelState) (h g : ℕ) (deed : Deed) → AsMany state → DoesWhere state h deed → (g ≡ h) ⊎ (g ≡ h → ⊥) →
     Balanced (h == g) (outcome_of deed) g (is_live state g) (is_live (done state h deed).state g)
@@ -127,15 +133,6 @@ no_end true outcomes.Armed g was now bus same = elim bus [ ]
 no_end true (outcomes.LetGo count) g was now bus same = elim bus [ ]
 no_end false outcome g was now bus same = omega (arith, same)
 
-lost_section : (mode : Mode) (old : Standing) → (lost_in mode old).section ≡ None
-lost_section Tlr old = refl
-lost_section Sle old =
-    by_test {A = Standing} (λ standing. standing.section ≡ None) (old.tries + 1 == most_tries) (record { section = None; tries = 0; fallback = true })
-    (record { section = None; tries = old.tries + 1; fallback = old.fallback }) (λ last. refl) (λ more. refl)
-lost_section Plain old =
-    by_test {A = Standing} (λ standing. standing.section ≡ None) (old.tries + 1 == most_tries) (record { section = None; tries = 0; fallback = true })
-    (record { section = None; tries = old.tries + 1; fallback = old.fallback }) (λ last. refl) (λ more. refl)
-
 restored_live : (mode : Mode) (winner : Option ℕ) (old new : Standing) → new ≡ restored mode winner old → is_some old.section ≡ true →
     one (is_some old.section) ≡ one (is_some winner) + one (is_some new.section)
 restored_live mode None old new is live =
@@ -145,26 +142,16 @@ restored_live mode (Some winner) old new is live =
     let gone = ap (λ section. one (is_some section)) (ap (λ standing. standing.section) is ∙ lost_section mode old) in
     omega (arith, gone, ap one live)
 
-bus_by : (state : ModelState) (event : Event) (g : ℕ) → Numbered state → event.kind ≢ kinds.Step → (section : Option Section) →
-    section_of state g ≡ section →
-    one (is_live state g) ≡ one (is_some (winner_over (next state event).outcome g)) + one (is_live (next state event).state g)
-unfolding next
-bus_by state event g numbered bus None none =
-    let unnamed = ap (λ winner. one (is_some winner)) (unnamed_outside state event.hart.number event.kind g bus none) in
-    let outside = ap (λ section. one (is_some section))
-    (bus_keeps (stays_outside state) state event.hart.number event.kind bus (λ h was. was) g none) in
+bus_by : {state : ModelState} {by : ℕ} {turn : Turn} → IsBusEvent state by turn → (g : ℕ) → Numbered state →
+    (section : Option Section) →
+    section_of state g ≡ section → one (is_live state g) ≡ one (is_some (winner_over turn.outcome g)) + one (is_live turn.state g)
+bus_by {state} done g numbered None none =
+    let unnamed = ap (λ winner. one (is_some winner)) (unnamed_outside done g none) in
+    let outside = ap (λ section. one (is_some section)) (stays_outside done g none) in
     omega (arith, unnamed, outside, ap (λ section. one (is_some section)) none)
-bus_by state event g numbered bus (Some section) live =
-    restored_live state.config.mode (winner_over (next state event).outcome g) (standing_of (hart_of state g))
-    (standing_of (hart_of (next state event).state g))
-    (losers_restored state event g (numbers_of_state state numbered) bus (live_exists state g section live)) (ap is_some live)
-
-bus_balanced : (state : ModelState) (event : Event) (g : ℕ) → event.kind ≢ kinds.Step → Numbered state →
-    Balanced (event.hart.number == g) (next state event).outcome g (is_live state g) (is_live (next state event).state g)
-unfolding next
-bus_balanced state event g bus numbered =
-    no_end (event.hart.number == g) (next state event).outcome g _ _ (of_bus state event.hart.number event.kind bus)
-    (bus_by state event g numbered bus (section_of state g) refl)
+bus_by {state} {by} {turn} done g numbered (Some section) live =
+    restored_live state.config.mode (winner_over turn.outcome g) (standing_of (hart_of state g)) (standing_of (hart_of turn.state g))
+    (bus_restores done g (numbers_of_state state numbered) (live_exists state g section live)) (ap is_some live)
 
 step_balanced : (state : ModelState) (h g : ℕ) → AsMany state →
     Balanced (h == g) (step_turn state h).outcome g (is_live state g) (is_live (step_turn state h).state g)
@@ -172,22 +159,12 @@ step_balanced state h g many =
     let step = step_deed state h in
     rw step.turn_is (step_by state h g step.deed many step.where_it (cases_eq g h))
 
-kind_balanced : (state : ModelState) (event : Event) (g : ℕ) (kind : Kind) → event.kind ≡ kind → Numbered state → AsMany state →
+next_balanced : (state : ModelState) (event : Event) (g : ℕ) → Numbered state → AsMany state →
     Balanced (event.hart.number == g) (next state event).outcome g (is_live state g) (is_live (next state event).state g)
-unfolding next
-kind_balanced state event g kinds.Step is numbered many = rw is (step_balanced state event.hart.number g many)
-kind_balanced state event g kinds.Order is numbered many = bus_balanced state event g (λ same. differs (sym is ∙ same)) numbered
-  where
-    differs : kinds.Order ≡ kinds.Step → ⊥
-    differs same = absurd (cc)
-kind_balanced state event g kinds.Serve is numbered many = bus_balanced state event g (λ same. differs (sym is ∙ same)) numbered
-  where
-    differs : kinds.Serve ≡ kinds.Step → ⊥
-    differs same = absurd (cc)
-kind_balanced state event g kinds.Deliver is numbered many = bus_balanced state event g (λ same. differs (sym is ∙ same)) numbered
-  where
-    differs : kinds.Deliver ≡ kinds.Step → ⊥
-    differs same = absurd (cc)
+next_balanced state event g numbered many =
+    by_event (λ turn. Balanced (event.hart.number == g) turn.outcome g (is_live state g) (is_live turn.state g)) state event
+    (λ step. step_balanced state event.hart.number g many)
+    (λ turn done. no_end (event.hart.number == g) turn.outcome g _ _ done.of_bus (bus_by done g numbered (section_of state g) refl))
 
 -- all events
 accounted : (state : ModelState) (events : List Event) (g : ℕ) → Numbered state → AsMany state →
@@ -197,7 +174,7 @@ accounted : (state : ModelState) (events : List Event) (g : ℕ) → Numbered st
 accounted state [] g numbered many = omega arith
 accounted state (event ∷ events) g numbered many =
     let later = accounted (next state event).state events g (next_numbered state event numbered) (next_as_many state event many) in
-    let now = kind_balanced state event g event.kind refl numbered many in
+    let now = next_balanced state event g numbered many in
     omega (arith, later, now)
 
 first_outside : (program : Program) (config : Config) (h : ℕ) → is_live (begin program config) h ≡ false

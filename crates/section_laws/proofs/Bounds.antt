@@ -1,8 +1,8 @@
 -- every event keeps the caches within the bounds of the configuration
-use Rattle.std.proofs.Common.{◌≡◌, ◌≢◌, ◌∙◌, ℕ, zero, suc, ◌≤◌, ◌<◌, ◌||◌, Bool, true, false, List, [], ◌∷◌, Option, None, Some, is_some, length}
+use Rattle.std.proofs.Common.{◌≡◌, ◌∙◌, ℕ, zero, suc, ◌≤◌, ◌<◌, ◌||◌, Bool, true, false, List, [], ◌∷◌, Option, None, Some, is_some, length}
 use Rattle.std.proofs.Common.{replicate, refl, ap, sym, subst, inl, inr, ◌⊎◌, arith}
 use Rattle.std.specs.Prelude.{nat_lt, slice_index_or}
-use Rattle.std.proofs.lemmas.Bool.{cases_eq, ltb-true, ltb-false}
+use Rattle.std.proofs.lemmas.Bool.{ltb-true, ltb-false}
 use Rattle.std.proofs.lemmas.Bool.Decides.{nat_tests}
 use Rattle.std.specs.List.{count_by}
 use Rattle.std.proofs.lemmas.List.{length-replicate}
@@ -19,38 +19,40 @@ use Rattle.el_base.specs.Config.{IsInRange, allows}
 use Rattle.el_base.specs.declared.config.Config.{Config}
 use Rattle.el_base.specs.declared.config.ConfigFault.TheVariants.{Sets}
 use Rattle.el_base.specs.declared.events.Event.{Event}
-use Rattle.el_base.specs.declared.events.Kind.{Kind}
-use Rattle.el_base.specs.declared.events.Kind.TheVariants as kinds
 use Rattle.el_base.specs.declared.outcomes.Need.{Need}
 use Rattle.el_base.specs.declared.outcomes.Need.TheVariants.{Read, Write}
 use Rattle.el_base.proofs.Ranges.{at_least, ranges}
 use Rattle.elf_image.specs.Program.{Program}
-use Rattle.el_model.specs.Deed.{Begins, Buffers, Commits, Deed, DoesWhere, HasRoom, IsCoverable, Misses, Rests, RollsBack, Runs, Waits, hart_after}
+use Rattle.el_model.specs.BusEvent.{IsBusEvent, Nothing, Places, Serves, Start, StartsWhere, Takes, having_taken}
+use Rattle.el_model.specs.BusEvent.{order_after, order_at, started}
+use Rattle.el_model.specs.Deed.{Arms, Begins, Buffers, Commits, Continues, Deed, DoesWhere, Elides, HasRoom, IsCoverable, LetsGo, Misses, Rests, RollsBack, Runs, Waits, hart_after}
 use Rattle.el_model.specs.InSection.{is_full}
-use Rattle.el_model.specs.Next.{after, kind_turn, next, step_turn}
-use Rattle.el_model.specs.Deliver.{deliver_turn}
-use Rattle.el_model.specs.Order.{Alone, Behind, InFront, Place, order_raised, order_turn, place_for, placed}
+use Rattle.el_model.specs.Next.{after, next, step_turn}
+use Rattle.el_model.specs.Order.{Alone, Behind, InFront, Place}
 use Rattle.el_model.specs.Plain.{after_candidate, candidate_of}
-use Rattle.el_model.specs.Serve.{Blocks, Free, Obstacle, bystander, obstacle_to, others_have, serve_ordered, serve_past, serve_turn, served, with_claim}
-use Rattle.el_model.specs.State.{Hart, ModelState, Section, begin, cache_of, hart_of, head_of, new_hart, ordered_of, raised_of}
+use Rattle.el_model.specs.Serve.{bystander, others_have, served_hart, with_claim}
+use Rattle.el_model.specs.State.{Hart, ModelState, Section, Turn, begin, cache_of, hart_of, new_hart, ordered_of}
+use Rattle.el_model.specs.State.{raised_of}
 use Rattle.el_model.specs.Upcoming.{Swap, Touch}
+use Rattle.el_model.proofs.BusEvents.{by_event}
 use Rattle.el_model.proofs.Deeds.{step_deed}
 use Rattle.el_model.proofs.FromStart.{kept_after, next_config}
 use Rattle.el_model.proofs.Harts.{hart_of-past}
+use Rattle.el_model.proofs.Tests.{by_hart}
 use Rattle.section_laws.specs.Bounds.{CachesAreShaped, WaitingLinesHaveRoom, WaitingWritesAreSpared, WaitsWith, WrittenLinesAreFew}
 use Rattle.section_laws.proofs.Bounded.{HasPlace, HasSome, IsConfigured, MayCover, configured_claimed, configured_cleared, configured_committed}
 use Rattle.section_laws.proofs.Bounded.{configured_covered, configured_empty, configured_marked, configured_others, configured_own, configured_touch}
 use Rattle.section_laws.proofs.Bounded.{configured_touched, place_cleared, place_others}
-use Rattle.section_laws.proofs.EachHart.{Each, each_but}
+use Rattle.el_model.proofs.EachHart.{Each, each_but}
 use Rattle.section_laws.proofs.EachKept.{first_each, next_keeps}
-use Rattle.section_laws.proofs.Moves.{Moves, deliver_keeps, faced_if_keeps, placed_keeps, served_keeps}
+use Rattle.section_laws.proofs.Moves.{Moves, moved, taken_keeps}
 use Rattle.section_laws.proofs.Numbered.{next_count, order_keeps, raised_exists}
 use Rattle.section_laws.proofs.OnlyInside as inside
 use Rattle.section_laws.proofs.OrderedHarts.{AreBelow, below_kept}
 use Rattle.section_laws.proofs.Rooms.{room_unmarked}
 use Rattle.section_laws.proofs.ServedCaches.{own_after}
-use Rattle.section_laws.proofs.Waiting.{Sound, always_sound, faced_order, free_of_order, is_rolled, mail_order, next_sound, no_request, order_at}
-use Rattle.section_laws.proofs.Waiting.{order_other, placed_order}
+use Rattle.section_laws.proofs.Waiting.{Rested, Sound, always_settled, always_sound, free_of_order, is_rolled, next_settled, no_request}
+use Rattle.section_laws.proofs.Waiting.{order_other, rested_in, settled_by, sound_in}
 
 -- a hart's cache with what it has left for the hart's request, raised or ordered
 pub record IsBounded (config : Config) (cache : List (List Way)) (raised ordered : Option Request) : Type 0 where
@@ -93,6 +95,7 @@ moves config count ordered some = record {
   preceded = λ h hart upstream now. now;
   saw = λ h hart seen later now. now;
   lost = λ h hart now exists. lost_bounded config hart.cache hart.raised (ordered h) some (now exists);
+  freed = λ h pc hart now exists. lost_bounded config hart.cache hart.raised (ordered h) some (now exists);
   gave_up = λ h hart now. now;
   tried = λ h hart more now. now;
 }
@@ -157,7 +160,7 @@ missed_bounded state h request free now place = record {
   for_ordered = λ other is. some_none (sym is ∙ free);
 }
 
-candidate_bounded : (config : Config) (ordered : Option Request) (pc : ℕ) (had_watch : Bool) (candidate : Option Swap) (hart : Hart) →
+candidate_bounded : (config : Config) (ordered : Option Request) (pc : Option ℕ) (had_watch : Bool) (candidate : Option Swap) (hart : Hart) →
     IsBounded config hart.cache hart.raised ordered →
     IsBounded config (after_candidate pc had_watch candidate hart).cache (after_candidate pc had_watch candidate hart).raised ordered
 candidate_bounded config ordered pc had_watch None hart now = now
@@ -180,7 +183,7 @@ deed_bounded state h Waits does some bare now = now
 deed_bounded state h (Misses line need) (inl misses) some bare now =
     let request : Request = record { hart = h; line = line; need = need; stamp = (hart_of state h).attempt } in
     missed_bounded state h request (no_request state h misses.outside.free).not_ordered now.cache_is
-    (outside_place state.config (cache_of state h) request some (bare misses.outside.no_section))
+    (outside_place state.config (cache_of state h) request some (bare misses.outside.no_section misses.outside.unarmed))
 deed_bounded state h (Misses line need) (inr misses) some bare now =
     let request : Request = record { hart = h; line = line; need = need; stamp = (hart_of state h).attempt } in
     missed_bounded state h request (no_request state h misses.room.wants.goes.goes_on.is_short.inside.free).not_ordered now.cache_is
@@ -203,12 +206,25 @@ deed_bounded state h (Commits section) commits some bare now =
 deed_bounded state h (RollsBack section cause) must some bare now =
     let none = no_request state h (is_rolled state h section cause must).free in
     free_bounded state.config _ _ _ none.not_raised none.not_ordered (configured_cleared state.config (cache_of state h) now.cache_is)
+deed_bounded state h (Arms word) arms some bare now =
+    let none = no_request state h arms.outside.free in
+    free_bounded state.config _ _ _ none.not_raised none.not_ordered
+    (configured_touched state.config _ _ (configured_marked state.config (cache_of state h) _ Read now.cache_is (λ write. absurd (cc))))
+deed_bounded state h (Elides armed swap) elides some bare now =
+    let none = no_request state h elides.is_armed.free in
+    free_bounded state.config _ _ _ none.not_raised none.not_ordered
+    (configured_touched state.config _ _ (configured_marked state.config (cache_of state h) _ Read now.cache_is (λ write. absurd (cc))))
+deed_bounded state h (Continues armed) continues some bare now = now
+deed_bounded state h (LetsGo armed) lets_go some bare now =
+    let none = no_request state h lets_go.is_armed.free in
+    free_bounded state.config _ _ _ none.not_raised none.not_ordered (configured_cleared state.config (cache_of state h) now.cache_is)
 
 -- what holds of every state that can be reached, with as many harts as configured
 pub record Bounded (state : ModelState) : Type 0 where
   pub some : HasSome state.config
   pub count : length state.harts ≡ state.config.harts
   pub sound : Sound state
+  pub rested : Rested state
   pub bare : Each (λ h hart. inside.Holds hart) state
   pub exists : AreBelow (length state.harts) state.order
   pub each : Each (Within state.config (length state.harts) (ordered_of state)) state
@@ -240,27 +256,6 @@ ordered_bounded config cache raised ordered before request was is now = record {
   for_ordered = λ other asked. now.for_raised other (was ∙ sym is ∙ asked);
 }
 
-placed_each : (state : ModelState) (h : ℕ) (request : Request) (place : Place) → Bounded state → raised_of state h ≡ Some request →
-    Each (Within state.config (length state.harts) (request_of (order_at state request place))) (placed state request place)
-placed_each state h request place now raised =
-    let ordered = request_of (order_at state request place) in
-    let mine : raised_of state request.hart ≡ Some request = ap (raised_of state) ((now.sound h).own request raised) ∙ raised in
-    let free = free_of_order state request.hart request now.sound mine in
-    let hart = hart_of state request.hart in
-    placed_keeps (moves state.config (length state.harts) ordered now.some) state request place
-    (each_but (Within state.config (length state.harts) ordered) state request.hart (record (hart_of state request.hart) { raised = None })
-    (λ below.
-    ordered_bounded state.config hart.cache hart.raised (ordered request.hart) (ordered_of state request.hart) request mine
-    (order_own state request place free) (now.each request.hart below))
-    (λ g apart. rw (order_other state request place g apart) (now.each g))
-    (λ past below. past_end request.hart (length state.harts) past below))
-
-raised_each : (state : ModelState) (h : ℕ) (raised : Option Request) → Bounded state → raised_of state h ≡ raised →
-    Each (Within state.config (length state.harts) (ordered_of (order_raised state raised).state)) (order_raised state raised).state
-raised_each state h None now is = now.each
-raised_each state h (Some request) now is =
-    rw (placed_order state request (place_for state request)) (placed_each state h request (place_for state request) now is)
-
 -- a request is served
 claim_bounded : (config : Config) (others : Bool) (live : Option Section) (request : Request) (hart new : Hart) → hart.raised ≡ None →
     IsConfigured config hart.cache → HasPlace config hart.cache request → new.raised ≡ hart.raised →
@@ -280,78 +275,63 @@ bystander_bounded state request hart ordered now = record {
   for_ordered = λ other is. place_others state.config _ request.need hart.cache request.line other now.cache_is (now.for_ordered other is);
 }
 
-served_each : (state : ModelState) (h : ℕ) (request : Request) → Bounded state → ordered_of state h ≡ Some request →
-    Each (Within state.config (length state.harts) (request_of (removed state.order request.hart))) (served state request)
-unfolding served
-served_each state h request now is =
-    let mine : ordered_of state request.hart ≡ Some request = ap (ordered_of state) (hart_of_request_of state.order h request is) ∙ is in
+started_bounded : (state : ModelState) (by : ℕ) (start : Start) → Bounded state → StartsWhere state by start → (h : ℕ) →
+    Within state.config (length state.harts) (request_of (order_after state start)) h (started state by start h (hart_of state h))
+started_bounded state by Nothing now where_it h = now.each h
+started_bounded state by (Places request place) now may h =
+    let ordered = request_of (order_at state request place) in
+    let mine : raised_of state request.hart ≡ Some request = ap (raised_of state) ((now.sound by).own request may.raised) ∙ may.raised in
+    let free = free_of_order state request.hart request now.sound mine in
+    let hart = hart_of state request.hart in
+    by_hart (Within state.config (length state.harts) ordered h) h request.hart (record (hart_of state h) { raised = None }) (hart_of state h)
+    (λ own.
+    rw own (λ below.
+    ordered_bounded state.config hart.cache hart.raised (ordered request.hart) (ordered_of state request.hart) request mine
+    (order_own state request place free) (now.each request.hart below)))
+    (λ apart. rw (order_other state request place h apart) (now.each h))
+started_bounded state by (Serves request) now may h =
+    let mine : ordered_of state request.hart ≡ Some request = ap (ordered_of state) (hart_of_request_of state.order by request may.ordered) ∙ may.ordered in
     let hart = hart_of state request.hart in
     let ordered = request_of (removed state.order request.hart) in
-    let other : (g : ℕ) → g ≢ request.hart → ordered g ≡ ordered_of state g =
-    λ g apart. request_of_removed_other state.order request.hart g (λ same. apart (sym same)) in
-    served_keeps (Within state.config (length state.harts) ordered) state request
-    (λ below.
+    by_hart (Within state.config (length state.harts) ordered h) h request.hart (served_hart state request (hart_of state h))
+    (bystander state request (hart_of state h))
+    (λ own.
+    rw own (λ below.
     let bounded = now.each request.hart below in
     rw (request_of_removed_own state.order request.hart)
-    (claim_bounded state.config (others_have state request.hart request.line) hart.section request hart _ (bare (now.sound request.hart).one_request mine)
-    bounded.cache_is (bounded.for_ordered request mine) refl refl))
-    (λ g apart below. rw (other g apart) (bystander_bounded state request (hart_of state g) (ordered_of state g) (now.each g below)))
-    (λ g below. gone g (now.each g below) (cases_eq g request.hart))
+    (claim_bounded state.config (others_have state request.hart request.line) hart.section request hart _
+    (bare (now.sound request.hart).one_request mine) bounded.cache_is (bounded.for_ordered request mine) refl refl)))
+    (λ apart below.
+    rw (request_of_removed_other state.order request.hart h (λ same. apart (sym same)))
+    (bystander_bounded state request (hart_of state h) (ordered_of state h) (now.each h below)))
   where
     bare : (raised_of state request.hart ≡ None) ⊎ (ordered_of state request.hart ≡ None) → ordered_of state request.hart ≡ Some request →
         raised_of state request.hart ≡ None
     bare (inl none) mine = none
     bare (inr none) mine = some_none (sym mine ∙ none)
+started_bounded state by (Takes message others) now where_it h =
+    let kept = moves state.config (length state.harts) (ordered_of state) now.some in
+    by_hart (Within state.config (length state.harts) (ordered_of state) h) h by (having_taken message others (hart_of state h)) (hart_of state h)
+    (λ own. taken_keeps kept message others h (hart_of state h) (now.each h)) (λ other. now.each h)
 
-    gone : (g : ℕ) → IsBounded state.config (cache_of state g) (raised_of state g) (ordered_of state g) → (g ≡ request.hart) ⊎ (g ≡ request.hart → ⊥) →
-        IsBounded state.config (cache_of state g) (raised_of state g) (request_of (removed state.order request.hart) g)
-    gone g bounded (inl same) =
-        record {
-          cache_is = bounded.cache_is;
-          for_raised = bounded.for_raised;
-          for_ordered = λ asked found.
-              none_some (sym (request_of_removed_own state.order request.hart) ∙ ap (request_of (removed state.order request.hart)) (sym same) ∙ found);
-        }
-    gone g bounded (inr apart) = rw (request_of_removed_other state.order request.hart g (λ same. apart (sym same))) bounded
-
-served_order : (state : ModelState) (request : Request) → (served state request).order ≡ removed state.order request.hart
-unfolding served
-served_order state request = refl
-
-past_each : (state : ModelState) (h : ℕ) (request : Request) (obstacle : Obstacle) → Bounded state → ordered_of state h ≡ Some request →
-    Each (Within state.config (length state.harts) (ordered_of (serve_past state request obstacle).state)) (serve_past state request obstacle).state
-past_each state h request (Blocks why by) now is = now.each
-past_each state h request Free now is =
-    let after = served state request in
-    let head = head_of after request.line in
-    rw (faced_order after head)
-    (faced_if_keeps (moves state.config (length state.harts) (ordered_of after) now.some) after head
-    (rw (served_order state request) (served_each state h request now is)))
-
-taken_each : (state : ModelState) (h : ℕ) (found : Option Request) → Bounded state → ordered_of state h ≡ found →
-    Each (Within state.config (length state.harts) (ordered_of (serve_ordered state found).state)) (serve_ordered state found).state
-taken_each state h None now is = now.each
-taken_each state h (Some request) now is = past_each state h request (obstacle_to state request) now is
-
-deliver_each : (state : ModelState) (h : ℕ) → Bounded state →
-    Each (Within state.config (length state.harts) (ordered_of (deliver_turn state h).state)) (deliver_turn state h).state
-unfolding deliver_turn
-deliver_each state h now =
-    rw (mail_order state h (hart_of state h).mail)
-    (deliver_keeps (moves state.config (length state.harts) (ordered_of state) now.some) state h now.each)
-
-kind_each : (state : ModelState) (h : ℕ) (kind : Kind) → Bounded state →
-    Each (Within state.config (length state.harts) (ordered_of (kind_turn state h kind).state)) (kind_turn state h kind).state
-unfolding order_turn serve_turn
-kind_each state h kinds.Step now = let step = step_deed state h in let each = step_each state h now in rw step.turn_is (rw step.turn_is at each)
-kind_each state h kinds.Order now = raised_each state h (raised_of state h) now refl
-kind_each state h kinds.Serve now = taken_each state h (ordered_of state h) now refl
-kind_each state h kinds.Deliver now = deliver_each state h now
+bus_each : {state : ModelState} {by : ℕ} {turn : Turn} → IsBusEvent state by turn → Bounded state →
+    Each (Within state.config (length state.harts) (ordered_of turn.state)) turn.state
+bus_each {state} {by} {turn} done now h =
+    let ordered = request_of (order_after state done.start) in
+    let within : Within state.config (length state.harts) ordered h (hart_of turn.state h) =
+    moved (moves state.config (length state.harts) ordered now.some) state by done.start h (λ past below. past_end h (length state.harts) past below)
+    (λ below. started_bounded state by done.start now done.where_it h) (done.becomes h) in
+    rw done.order within
 
 next_each : (state : ModelState) (event : Event) → Bounded state →
     Each (Within state.config (length state.harts) (ordered_of (next state event).state)) (next state event).state
-unfolding next
-next_each state event now = kind_each state event.hart.number event.kind now
+next_each state event now =
+    by_event (λ turn. Each (Within state.config (length state.harts) (ordered_of turn.state)) turn.state) state event
+    (λ is.
+    let step = step_deed state event.hart.number in
+    let each = step_each state event.hart.number now in
+    rw step.turn_is (rw step.turn_is at each))
+    (λ turn done. bus_each done now)
 
 -- what holds after each event
 next_bounded : (state : ModelState) (event : Event) → Bounded state → Bounded (next state event).state
@@ -361,7 +341,8 @@ next_bounded state event now =
     record {
       some = rw config now.some;
       count = count ∙ now.count ∙ ap (λ c. c.harts) (sym config);
-      sound = next_sound state event now.sound;
+      sound = sound_in (next state event).state (next_settled state event (settled_by state now.sound now.rested));
+      rested = rested_in (next state event).state (next_settled state event (settled_by state now.sound now.rested));
       bare = next_keeps inside.kept state event now.bare;
       exists = rw count (order_keeps state event (below_kept (length state.harts)) now.sound now.exists);
       each = rw config (rw count (next_each state event now));
@@ -398,6 +379,7 @@ first_bounded program config same range =
       some = some;
       count = count ∙ same;
       sound = always_sound program config [];
+      rested = rested_in (begin program config) (always_settled program config []);
       bare = first_each inside.kept program config;
       exists = λ h request is. none_some is;
       each = λ h below.

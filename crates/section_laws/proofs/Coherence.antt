@@ -1,5 +1,7 @@
 -- in every state that can be reached the copies of a line may be together, and written lines are owned
-use Rattle.std.proofs.Common.{◌≡◌, ◌≢◌, ◌∙◌, ◌<◌, ◌+◌, ◌==◌, ℕ, zero, suc, Bool, true, false, ◌&&◌, ◌||◌, not, List, [], ◌∷◌, length, Option, None, Some, is_some, refl, ap, sym, subst, inl, inr, ◌⊎◌, arith, if◌then◌else◌}
+use Rattle.std.proofs.Common.{◌≡◌, ◌≢◌, ◌∙◌, ◌<◌, ◌≤◌, ◌+◌, ◌==◌, ℕ, zero, suc, Bool, true, false, ◌&&◌, ◌||◌, not}
+use Rattle.std.proofs.Common.{List, [], ◌∷◌, length, Option, None, Some, is_some, refl, ap, sym, subst, inl, inr, ◌⊎◌}
+use Rattle.std.proofs.Common.{arith, if◌then◌else◌}
 use Rattle.std.specs.List.{list_any}
 use Rattle.std.specs.Prelude.{nat_lt}
 use Rattle.std.proofs.lemmas.Bool.{cases_eq, ltb-true, ltb-false}
@@ -12,32 +14,34 @@ use Rattle.cache_sets.proofs.CacheLemmas.{way_of-touched}
 use Rattle.cache_sets.proofs.WellFormedLemmas.{set_of-empty_cache}
 use Rattle.el_base.specs.declared.config.Config.{Config}
 use Rattle.el_base.specs.declared.events.Event.{Event}
-use Rattle.el_base.specs.declared.events.Kind.{Kind}
-use Rattle.el_base.specs.declared.events.Kind.TheVariants as kinds
 use Rattle.el_base.specs.declared.outcomes.Need.{Need}
 use Rattle.el_base.specs.declared.outcomes.Need.TheVariants.{Read, Write}
 use Rattle.elf_image.specs.Program.{Program}
-use Rattle.el_model.specs.Deed.{Begins, Buffers, Commits, Deed, DoesWhere, IsCoverable, IsPermitted, Misses, Rests, RollsBack, Runs, Waits, hart_after, is_refused, permits}
-use Rattle.el_model.specs.Deliver.{deliver_turn}
+use Rattle.el_model.specs.BusEvent.{Becomes, IsBusEvent, Nothing, Places, Serves, Start, StartsWhere, Takes}
+use Rattle.el_model.specs.BusEvent.{having_taken, started}
+use Rattle.el_model.specs.Deed.{Arms, Begins, Buffers, Commits, Continues, Deed, DoesWhere, Elides, IsCoverable, IsPermitted, LetsGo, Misses, Rests, RollsBack, Runs, Waits, hart_after, is_refused, permits}
 use Rattle.el_model.specs.InSection.{covered}
-use Rattle.el_model.specs.Next.{after, kind_turn, next, step_turn}
-use Rattle.el_model.specs.Face.{faced_if}
-use Rattle.el_model.specs.Order.{order_raised, order_turn, place_for}
+use Rattle.el_model.specs.Next.{after, next, step_turn}
 use Rattle.el_model.specs.Plain.{after_access, after_candidate, after_touch, candidate_of}
-use Rattle.el_model.specs.Serve.{Blocks, Free, Obstacle, bystander, obstacle_to, others_cache, others_have, own_copy, serve_ordered, serve_past, serve_turn, served, served_hart, serving, with_claim}
-use Rattle.el_model.specs.State.{Hart, ModelState, Section, begin, cache_of, count_up, hart_of, head_of, new_hart, ordered_of, raised_of, section_of}
+use Rattle.el_model.specs.Serve.{bystander, others_cache, others_have, own_copy, served, served_hart, serving}
+use Rattle.el_model.specs.Serve.{with_claim}
+use Rattle.el_model.specs.State.{Hart, ModelState, Section, Turn, begin, cache_of, count_up, hart_of, new_hart}
+use Rattle.el_model.specs.State.{section_of}
 use Rattle.el_model.specs.Upcoming.{Swap, Touch}
 use Rattle.el_model.proofs.AllHarts.{all_first}
+use Rattle.el_model.proofs.BusEvents.{by_event}
 use Rattle.el_model.proofs.FromStart.{kept_after}
-use Rattle.el_model.proofs.Harts.{hart_of-each_hart, hart_of-each_hart_past}
+use Rattle.el_model.proofs.Harts.{hart_of-each_hart, hart_of-each_hart_past, hart_of-past}
+use Rattle.el_model.proofs.Tests.{by_hart}
 use Rattle.moesi.specs.Letters.{may_of, may_write}
 use Rattle.moesi.specs.declared.letter.Letter.TheVariants.{M}
 use Rattle.section_laws.specs.Laws.{CopiesAreCoherent, WrittenLinesAreElsewhereInNoCache, WrittenLinesMayBeWritten}
 use Rattle.section_laws.specs.Coherence.{AreCoherent, AreOwned, IsOwned, MayBeTogether}
-use Rattle.section_laws.proofs.EachHart.{Each, each_with}
+use Rattle.el_model.proofs.EachHart.{Each}
+use Rattle.section_laws.proofs.ArmedBits as bits
 use Rattle.section_laws.proofs.EachKept as kept
 use Rattle.section_laws.proofs.FreeLines.{NotWritten, free_line}
-use Rattle.section_laws.proofs.Moves.{Moves, deliver_keeps, faced_if_keeps, placed_keeps, step_keeps}
+use Rattle.section_laws.proofs.Moves.{Moves, moved, step_keeps, taken_keeps}
 use Rattle.section_laws.proofs.Numbered.{Once, first_once, next_once}
 use Rattle.section_laws.proofs.OnlyInside as inside
 use Rattle.section_laws.proofs.Serving.{IsModified, own_owned, own_together, steady_others, steady_own, steady_owned, together_none, write_copy}
@@ -57,6 +61,7 @@ steady_moves old = record {
   preceded = λ h hart upstream now. now;
   saw = λ h hart seen later now. now;
   lost = λ h hart now line. way_twice _ (way_of hart.cache line) _ (now line) (steady_cleared hart.cache line);
+  freed = λ h pc hart now line. way_twice _ (way_of hart.cache line) _ (now line) (steady_cleared hart.cache line);
   gave_up = λ h hart now. now;
   tried = λ h hart more now. now;
 }
@@ -64,6 +69,7 @@ steady_moves old = record {
 pub record Holds (state : ModelState) : Type 0 where
   pub once : Once state
   pub inside : Each (λ h hart. inside.Holds hart) state
+  pub alone : Each (λ h hart. bits.Holds hart) state
   pub together : AreCoherent state
   pub owned : (h : ℕ) → AreOwned (cache_of state h)
 
@@ -99,7 +105,7 @@ touch_steady : (state : ModelState) (h : ℕ) (touch : Option Touch) → IsPermi
 touch_steady state h None permitted = same_cache (cache_of state h)
 touch_steady state h (Some touch) permitted = access_steady (cache_of state h) touch.line touch.need permitted
 
-candidate_cache : (pc : ℕ) (had_watch : Bool) (candidate : Option Swap) (hart : Hart) →
+candidate_cache : (pc : Option ℕ) (had_watch : Bool) (candidate : Option Swap) (hart : Hart) →
     (after_candidate pc had_watch candidate hart).cache ≡ hart.cache
 candidate_cache pc had_watch None hart = refl
 candidate_cache pc had_watch (Some swap) hart = refl
@@ -141,25 +147,15 @@ deed_steady state h (Begins swap) does owned = marked_steady (cache_of state h) 
 deed_steady state h (Buffers section touch) does owned = buffered_steady state h section touch does.coverable
 deed_steady state h (Commits section) does owned = steady_committed (cache_of state h) owned
 deed_steady state h (RollsBack section cause) does owned = steady_cleared (cache_of state h)
+deed_steady state h (Arms word) does owned = marked_steady (cache_of state h) _ Read (λ write. absurd (cc))
+deed_steady state h (Elides armed swap) does owned = marked_steady (cache_of state h) _ Read (λ write. absurd (cc))
+deed_steady state h (Continues armed) does owned = same_cache (cache_of state h)
+deed_steady state h (LetsGo armed) does owned = steady_cleared (cache_of state h)
 
 step_stands : (state : ModelState) (h : ℕ) → Stands state → Stands (step_turn state h).state
 step_stands state h now =
     steady_stands state (step_turn state h).state now
     (step_keeps (SteadySince state) state h (λ deed does. deed_steady state h deed does (now.owned h)) (λ k. same_cache (cache_of state k)))
-
--- a request is placed
-placed_stands : (state : ModelState) (raised : Option Request) → Stands state → Stands (order_raised state raised).state
-placed_stands state None now = now
-placed_stands state (Some request) now =
-    steady_stands state (order_raised state (Some request)).state now
-    (placed_keeps (steady_moves state) state request (place_for state request)
-    (each_with (SteadySince state) state request.hart (record (hart_of state request.hart) { raised = None })
-    (same_cache (cache_of state request.hart)) (λ k. same_cache (cache_of state k))))
-
-deliver_stands : (state : ModelState) (h : ℕ) → Stands state → Stands (deliver_turn state h).state
-deliver_stands state h now =
-    steady_stands state (deliver_turn state h).state now
-    (deliver_keeps (steady_moves state) state h (λ k. same_cache (cache_of state k)))
 
 -- a request is served
 claim_steady : (live : Bool) (request : Request) (hart : Hart) → (request.need ≡ Write → IsModified (way_of hart.cache request.line)) →
@@ -348,38 +344,71 @@ served_stands state request free now = record {
   owned = λ g. one_owned state request g _ free now (whose state request g);
 }
 
-past_stands : (state : ModelState) (request : Request) (obstacle : Obstacle) → (obstacle ≡ Free → IsFree state request) → Stands state →
-    Stands (serve_past state request obstacle).state
-past_stands state request (Blocks why by) free now = now
-past_stands state request Free free now =
-    let after = served state request in
-    steady_stands after (faced_if after (head_of after request.line)) (served_stands state request (free refl) now)
-    (faced_if_keeps (steady_moves after) after (head_of after request.line) (λ k. same_cache (cache_of after k)))
+-- a start changes no cache but that of the hart that is served, and those of the others then
+since_served : (state : ModelState) (request : Request) (h : ℕ) → h < length state.harts →
+    IsSteady (cache_of (served state request) h) (serving state request h (hart_of state h)).cache
+unfolding served
+since_served state request h below =
+    subst (λ hart. IsSteady hart.cache (serving state request h (hart_of state h)).cache) (sym (hart_of-each_hart state (serving state request) h below))
+    (same_cache (serving state request h (hart_of state h)).cache)
 
-ordered_stands : (state : ModelState) (h : ℕ) (ordered : Option Request) → ordered_of state h ≡ ordered → Holds state → Stands state →
-    Stands (serve_ordered state ordered).state
-ordered_stands state h None is holds now = now
-ordered_stands state h (Some request) is holds now =
-    past_stands state request (obstacle_to state request)
-    (λ free. record { free = λ g apart read. free_line state h g request holds.once.once holds.inside is free apart read }) now
+since_absent : (state : ModelState) (request : Request) (h : ℕ) → length state.harts ≤ h →
+    IsSteady (cache_of (served state request) h) (cache_of state h)
+unfolding served
+since_absent state request h past =
+    subst (λ hart. IsSteady hart.cache (cache_of state h)) (sym (hart_of-each_hart_past state (serving state request) h past))
+    (subst (λ hart. IsSteady [] hart.cache) (sym (hart_of-past state h past)) (same_cache []))
 
-kind_stands : (state : ModelState) (h : ℕ) (kind : Kind) → Holds state → Stands state → Stands (kind_turn state h kind).state
-unfolding order_turn serve_turn
-kind_stands state h kinds.Step holds now = step_stands state h now
-kind_stands state h kinds.Order holds now = placed_stands state (raised_of state h) now
-kind_stands state h kinds.Serve holds now = ordered_stands state h (ordered_of state h) refl holds now
-kind_stands state h kinds.Deliver holds now = deliver_stands state h now
+bus_stands : {state : ModelState} {by : ℕ} {turn : Turn} → IsBusEvent state by turn → Holds state → Stands state →
+    Stands turn.state
+bus_stands {state} {by} {turn} done holds now = by_start done.start done.where_it done.becomes
+  where
+    since : (start : Start) → ((h : ℕ) → SteadySince state h (started state by start h (hart_of state h))) →
+        ((h : ℕ) → Becomes state by start h (done.lost h) (hart_of turn.state h)) → Stands turn.state
+    since start begun becomes =
+        steady_stands state turn.state now
+        (λ h. moved (steady_moves state) state by start h (λ past. same_cache (cache_of state h)) (λ below. begun h) (becomes h))
+
+    by_start : (start : Start) → StartsWhere state by start →
+        ((h : ℕ) → Becomes state by start h (done.lost h) (hart_of turn.state h)) →
+        Stands turn.state
+    by_start Nothing where_it becomes = since Nothing (λ h. same_cache (cache_of state h)) becomes
+    by_start (Places request place) where_it becomes =
+        since (Places request place)
+        (λ h.
+        by_hart (SteadySince state h) h request.hart (record (hart_of state h) { raised = None }) (hart_of state h)
+        (λ own. same_cache (cache_of state h)) (λ other. same_cache (cache_of state h)))
+        becomes
+    by_start (Serves request) may becomes =
+        steady_stands (served state request) turn.state
+        (served_stands state request
+        (record {
+          free = λ g apart read.
+              free_line state by g request holds.once.once holds.inside (λ k armed found. ((holds.alone k).1 armed found).no_other) may.ordered
+              may.free apart read;
+        })
+        now)
+        (λ h.
+        moved (steady_moves (served state request)) state by (Serves request) h (since_absent state request h) (since_served state request h) (becomes h))
+    by_start (Takes message others) where_it becomes =
+        since (Takes message others)
+        (λ h.
+        by_hart (SteadySince state h) h by (having_taken message others (hart_of state h)) (hart_of state h)
+        (λ own. taken_keeps (steady_moves state) message others h (hart_of state h) (same_cache (cache_of state h)))
+        (λ other. same_cache (cache_of state h)))
+        becomes
 
 next_stands : (state : ModelState) (event : Event) → Holds state → Stands state → Stands (next state event).state
-unfolding next
-next_stands state event holds now = kind_stands state event.hart.number event.kind holds now
+next_stands state event holds now =
+    by_event (λ turn. Stands turn.state) state event (λ step. step_stands state event.hart.number now) (λ turn done. bus_stands done holds now)
 
-next_holds : (state : ModelState) (event : Event) → Holds state → Holds (next state event).state
+pub next_holds : (state : ModelState) (event : Event) → Holds state → Holds (next state event).state
 next_holds state event holds =
     let stands = next_stands state event holds (record { together = holds.together; owned = holds.owned }) in
     record {
       once = next_once state event holds.once;
       inside = kept.next_keeps inside.kept state event holds.inside;
+      alone = kept.next_keeps bits.kept state event holds.alone;
       together = stands.together;
       owned = stands.owned;
     }
@@ -396,10 +425,11 @@ unfolding begin
 first_empty program config h =
     all_first IsEmpty program.harts (new_hart config.sets) (new_hart 0) (new_is_empty config.sets) (new_is_empty 0) h
 
-first_holds : (program : Program) (config : Config) → Holds (begin program config)
+pub first_holds : (program : Program) (config : Config) → Holds (begin program config)
 first_holds program config = record {
   once = first_once program config;
   inside = kept.first_each inside.kept program config;
+  alone = kept.first_each bits.kept program config;
   together = λ g h apart line. rw ((first_empty program config g).none line) tt;
   owned = λ h line. rw ((first_empty program config h).none line) tt;
 }

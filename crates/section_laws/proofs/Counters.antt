@@ -6,13 +6,13 @@ use Rattle.std.proofs.Math.Nat.{min-le_right}
 use Rattle.bus_order.specs.Order.{Request}
 use Rattle.el_base.specs.declared.outcomes.Cause.{Cause}
 use Rattle.el_base.specs.declared.outcomes.Cause.TheVariants.{Room, Lines, Long, Call, Mixed}
-use Rattle.el_model.specs.Deed.{Begins, Buffers, Commits, Deed, Misses, Rests, RollsBack, Runs, Waits, hart_after}
-use Rattle.el_model.specs.Plain.{after_candidate, candidate_of, seen_by, watched}
+use Rattle.el_model.specs.Deed.{Arms, Begins, Buffers, Commits, Continues, Deed, Elides, LetsGo, Misses, Rests, RollsBack, Runs, Waits, hart_after}
+use Rattle.el_model.specs.Plain.{after_candidate, candidate_of, seen_by, watched, watching_from}
 use Rattle.el_model.specs.RollBack.{blamed}
 use Rattle.el_model.specs.Serve.{with_claim}
 use Rattle.el_model.specs.State.{Hart, ModelState, hart_of}
 use Rattle.el_model.specs.Upcoming.{Swap}
-use Rattle.pair_table.specs.Predictor.{Predictor, Watch, confidence_of, counted, counter_number, counting, judged, saw_with, settled, verdict_on, watching}
+use Rattle.pair_table.specs.Predictor.{Predictor, Watch, confidence_of, counted, counter_number, counting, judged, saw_with, settled, verdict_on}
 use Rattle.pair_table.specs.declared.seen.Seen.{Seen}
 use Rattle.pair_table.specs.declared.verdict.Verdict.{Verdict}
 use Rattle.pair_table.specs.declared.verdict.Verdict.TheVariants.{Up, Down}
@@ -72,15 +72,20 @@ claim_holds : (live : Bool) (request : Request) (hart : Hart) → Holds hart →
 claim_holds true request hart now = now
 claim_holds false request hart now = now
 
-watching_small : (predictor : Predictor) (had_watch : Bool) (pc word old : ℕ) → AreCounters predictor.counters →
-    AreCounters (if had_watch then predictor else watching predictor pc word old).counters
-watching_small predictor true pc word old now = now
-watching_small predictor false pc word old now = now
+from_small : (predictor : Predictor) (pc : Option ℕ) (swap : Swap) → AreCounters predictor.counters →
+    AreCounters (watching_from predictor pc swap).counters
+from_small predictor None swap now = now
+from_small predictor (Some pc) swap now = now
 
-candidate_holds : (pc : ℕ) (had_watch : Bool) (candidate : Option Swap) (hart : Hart) → Holds hart →
+watching_small : (predictor : Predictor) (had_watch : Bool) (pc : Option ℕ) (swap : Swap) → AreCounters predictor.counters →
+    AreCounters (if had_watch then predictor else watching_from predictor pc swap).counters
+watching_small predictor true pc swap now = now
+watching_small predictor false pc swap now = from_small predictor pc swap now
+
+candidate_holds : (pc : Option ℕ) (had_watch : Bool) (candidate : Option Swap) (hart : Hart) → Holds hart →
     Holds (after_candidate pc had_watch candidate hart)
 candidate_holds pc had_watch None hart now = now
-candidate_holds pc had_watch (Some swap) hart now = watching_small hart.predictor had_watch pc swap.word swap.old now
+candidate_holds pc had_watch (Some swap) hart now = watching_small hart.predictor had_watch pc swap now
 
 deed_holds : (state : ModelState) (h : ℕ) (deed : Deed) (hart : Hart) → Holds hart → Holds (hart_after state h deed hart)
 deed_holds state h Rests hart now = now
@@ -92,6 +97,10 @@ deed_holds state h (Begins swap) hart now = now
 deed_holds state h (Buffers section touch) hart now = now
 deed_holds state h (Commits section) hart now = settled_small hart.predictor _ Up now
 deed_holds state h (RollsBack section cause) hart now = blamed_small cause _ hart.predictor now
+deed_holds state h (Arms word) hart now = now
+deed_holds state h (Elides armed swap) hart now = now
+deed_holds state h (Continues armed) hart now = now
+deed_holds state h (LetsGo armed) hart now = now
 
 new_small : (count n : ℕ) → slice_index (replicate count 2) n ≤ 3
 new_small zero n = omega arith
@@ -107,6 +116,7 @@ kept = record {
       preceded = λ h hart upstream now. now;
       saw = λ h hart seen later now. now;
       lost = λ h hart now. now;
+      freed = λ h pc hart now. now;
       gave_up = λ h hart now. now;
       tried = λ h hart more now. now;
     };

@@ -1,20 +1,22 @@
 -- what each change of a hart keeps, every event keeps, and so it holds of every state that can be reached
-use Rattle.std.proofs.Common.{◌≢◌, ℕ, List, Option, None, Some, refl}
+use Rattle.std.proofs.Common.{◌≢◌, ℕ, List, Option, None}
 use Rattle.bus_order.specs.Order.{Request}
 use Rattle.el_base.specs.declared.config.Config.{Config}
 use Rattle.el_base.specs.declared.events.Event.{Event}
 use Rattle.el_base.specs.declared.events.Kind.{Kind}
 use Rattle.el_base.specs.declared.events.Kind.TheVariants as kinds
 use Rattle.elf_image.specs.Program.{Program}
+use Rattle.el_model.specs.BusEvent.{Becomes, IsBusEvent, Nothing, Places, Serves, Start, Takes, having_taken, started}
 use Rattle.el_model.specs.Deed.{Deed, DoesWhere, hart_after}
 use Rattle.el_model.specs.Next.{after, kind_turn, next}
-use Rattle.el_model.specs.Order.{order_raised, order_turn, place_for}
-use Rattle.el_model.specs.Serve.{Blocks, Free, Obstacle, bystander, obstacle_to, serve_ordered, serve_past, serve_turn, served, served_hart}
-use Rattle.el_model.specs.State.{Hart, ModelState, begin, hart_of, head_of, new_hart, ordered_of, raised_of}
+use Rattle.el_model.specs.Serve.{bystander, served_hart}
+use Rattle.el_model.specs.State.{Hart, ModelState, Turn, begin, hart_of, new_hart}
 use Rattle.el_model.proofs.AllHarts.{all_first}
+use Rattle.el_model.proofs.BusEvents.{bus_event, by_event}
+use Rattle.el_model.proofs.EachHart.{Each}
 use Rattle.el_model.proofs.FromStart.{kept_after}
-use Rattle.section_laws.proofs.EachHart.{Each, each_with}
-use Rattle.section_laws.proofs.Moves.{Moves, deliver_keeps, faced_if_keeps, placed_keeps, served_keeps, step_keeps}
+use Rattle.el_model.proofs.Tests.{by_hart}
+use Rattle.section_laws.proofs.Moves.{Moves, moved, step_keeps, taken_keeps}
 
 -- what is said of each hart is kept by the events of the bus
 pub record BusKept (P : ℕ → Hart → Type 0) : Type 0 where
@@ -24,31 +26,36 @@ pub record BusKept (P : ℕ → Hart → Type 0) : Type 0 where
   pub bystander : (h : ℕ) (state : ModelState) (request : Request) (hart : Hart) → P h hart → P h (bystander state request hart)
 
 module _ {P : ℕ → Hart → Type 0} (kept : BusKept P) where
-  raised_keeps : (state : ModelState) (raised : Option Request) → Each P state → Each P (order_raised state raised).state
-  raised_keeps state None each = each
-  raised_keeps state (Some request) each =
-      placed_keeps kept.moves state request (place_for state request)
-      (each_with P state request.hart (record (hart_of state request.hart) { raised = None })
-      (kept.unraised request.hart (hart_of state request.hart) (each request.hart)) each)
+  started_keeps : (state : ModelState) (by : ℕ) (start : Start) (h : ℕ) (hart : Hart) → P h hart →
+      P h (started state by start h hart)
+  started_keeps state by Nothing h hart now = now
+  started_keeps state by (Places request place) h hart now =
+      by_hart (P h) h request.hart (record hart { raised = None }) hart (λ own. kept.unraised h hart now) (λ other. now)
+  started_keeps state by (Serves request) h hart now =
+      by_hart (P h) h request.hart (served_hart state request hart) (bystander state request hart) (λ own. kept.served h state request hart now)
+      (λ other. kept.bystander h state request hart now)
+  started_keeps state by (Takes message others) h hart now =
+      by_hart (P h) h by (having_taken message others hart) hart (λ own. taken_keeps kept.moves message others h hart now) (λ other. now)
 
-  past_keeps : (state : ModelState) (request : Request) (obstacle : Obstacle) → Each P state →
-      Each P (serve_past state request obstacle).state
-  past_keeps state request (Blocks why by) each = each
-  past_keeps state request Free each =
-      faced_if_keeps kept.moves (served state request) (head_of (served state request) request.line)
-      (served_keeps P state request (kept.served request.hart state request (hart_of state request.hart) (each request.hart))
-      (λ h other. kept.bystander h state request (hart_of state h) (each h)) each)
+  pub becomes_keeps : (state : ModelState) (by : ℕ) (start : Start) (h : ℕ) {lost : Option ℕ} {hart : Hart} →
+      P h (hart_of state h) →
+      Becomes state by start h lost hart → P h hart
+  becomes_keeps state by start h now becomes =
+      moved kept.moves state by start h (λ past. now) (λ below. started_keeps state by start h (hart_of state h) now) becomes
 
-  ordered_keeps : (state : ModelState) (request : Option Request) → Each P state → Each P (serve_ordered state request).state
-  ordered_keeps state None each = each
-  ordered_keeps state (Some request) each = past_keeps state request (obstacle_to state request) each
+  pub turn_keeps : {state : ModelState} {by : ℕ} {turn : Turn} → IsBusEvent state by turn → Each P state →
+      Each P turn.state
+  turn_keeps {state} {by} done each h = becomes_keeps state by done.start h (each h) (done.becomes h)
+
+  -- so does every event where its hart's deeds do
+  pub event_keeps : (state : ModelState) (event : Event) →
+      ((deed : Deed) → DoesWhere state event.hart.number deed →
+      P event.hart.number (hart_after state event.hart.number deed (hart_of state event.hart.number))) → Each P state → Each P (next state event).state
+  event_keeps state event deeds each =
+      by_event (λ turn. Each P turn.state) state event (λ step. step_keeps P state event.hart.number deeds each) (λ turn done. turn_keeps done each)
 
   pub bus_keeps : (state : ModelState) (h : ℕ) (kind : Kind) → kind ≢ kinds.Step → Each P state → Each P (kind_turn state h kind).state
-  unfolding order_turn serve_turn
-  bus_keeps state h kinds.Step bus each = absurd (bus refl)
-  bus_keeps state h kinds.Order bus each = raised_keeps state (raised_of state h) each
-  bus_keeps state h kinds.Serve bus each = ordered_keeps state (ordered_of state h) each
-  bus_keeps state h kinds.Deliver bus each = deliver_keeps kept.moves state h each
+  bus_keeps state h kind bus each = turn_keeps (bus_event state h kind bus) each
 
 -- and by a hart's own deeds, and holds of a hart before its first event
 pub record EachKept (P : Hart → Type 0) : Type 0 where
@@ -58,18 +65,10 @@ pub record EachKept (P : Hart → Type 0) : Type 0 where
   pub new : (sets : ℕ) → P (new_hart sets)
 
 module _ {P : Hart → Type 0} (kept : EachKept P) where
-  kind_keeps : (state : ModelState) (h : ℕ) (kind : Kind) → Each (λ h hart. P hart) state →
-      Each (λ h hart. P hart) (kind_turn state h kind).state
-  kind_keeps state h kinds.Step each =
-      step_keeps (λ h hart. P hart) state h (λ deed does. kept.deed state h deed does (each h)) each
-  kind_keeps state h kinds.Order each = bus_keeps kept.bus state h kinds.Order (λ same. absurd (cc)) each
-  kind_keeps state h kinds.Serve each = bus_keeps kept.bus state h kinds.Serve (λ same. absurd (cc)) each
-  kind_keeps state h kinds.Deliver each = bus_keeps kept.bus state h kinds.Deliver (λ same. absurd (cc)) each
-
   pub next_keeps : (state : ModelState) (event : Event) → Each (λ h hart. P hart) state →
       Each (λ h hart. P hart) (next state event).state
-  unfolding next
-  next_keeps state event each = kind_keeps state event.hart.number event.kind each
+  next_keeps state event each =
+      event_keeps kept.bus state event (λ deed does. kept.deed state event.hart.number deed does (each event.hart.number)) each
 
   pub first_each : (program : Program) (config : Config) → Each (λ h hart. P hart) (begin program config)
   unfolding begin

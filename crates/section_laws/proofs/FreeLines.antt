@@ -12,9 +12,9 @@ use Rattle.el_base.specs.declared.outcomes.Need.TheVariants.{Read, Write}
 use Rattle.el_base.specs.declared.outcomes.Why.{Why}
 use Rattle.el_model.specs.Conflicts.{conflicts_with, first_such, meets_bit, retainer_of, retains}
 use Rattle.el_model.specs.Serve.{Free, Obstacle, blocks_if, obstacle_to, other_head}
-use Rattle.el_model.specs.State.{Hart, ModelState, Section, cache_of, count_up, hart_of, head_of, ordered_of, section_of}
+use Rattle.el_model.specs.State.{Armed, Hart, ModelState, Section, armed_of, cache_of, count_up, hart_of, head_of, ordered_of, section_of}
 use Rattle.el_model.proofs.Tests.{by_test}
-use Rattle.section_laws.specs.EachHart.{HasBitsOnlyInside}
+use Rattle.section_laws.specs.EachHart.{HasBitsOnlyInside, HasNoOtherBit}
 use Rattle.section_laws.proofs.SectionSteps.{live_exists}
 
 abbrev pub NotWritten : Option Way → Type 0
@@ -128,12 +128,20 @@ unmet state h g request section once is free apart live =
     (ap is_some live)
 
 pub free_line : (state : ModelState) (h g : ℕ) (request : Request) → IsOneEach state.order →
-    ((k : ℕ) → HasBitsOnlyInside (section_of state k) (cache_of state k)) → ordered_of state h ≡ Some request →
-    obstacle_to state request ≡ Free → g ≢ request.hart → request.need ≡ Read → NotWritten (way_of (cache_of state g) request.line)
-free_line state h g request once outside is free apart read = by_section (section_of state g) refl
+    ((k : ℕ) → HasBitsOnlyInside (section_of state k) (armed_of state k) (cache_of state k)) →
+    ((k : ℕ) (armed : Armed) → armed_of state k ≡ Some armed → HasNoOtherBit armed.word (cache_of state k)) →
+    ordered_of state h ≡ Some request → obstacle_to state request ≡ Free → g ≢ request.hart → request.need ≡ Read →
+    NotWritten (way_of (cache_of state g) request.line)
+free_line state h g request once outside reads is free apart read = by_section (section_of state g) refl
   where
+    by_armed : (armed : Option Armed) → armed_of state g ≡ armed → section_of state g ≡ None →
+        NotWritten (way_of (cache_of state g) request.line)
+    by_armed None unarmed none = unmarked_way (cache_of state g) request.line (outside g none unarmed)
+    by_armed (Some armed) armed_is none =
+        unwritten_way (way_of (cache_of state g) request.line) ((reads g armed armed_is).unwritten request.line)
+
     by_section : (section : Option Section) → section_of state g ≡ section → NotWritten (way_of (cache_of state g) request.line)
-    by_section None none = unmarked_way (cache_of state g) request.line (outside g none)
+    by_section None none = by_armed (armed_of state g) refl none
     by_section (Some section) live =
         let bit = unmet state h g request section once is free apart live in
         unwritten_way (way_of (cache_of state g) request.line) (sym (ap (meets_bit (hart_of state g) request.line) read) ∙ bit)

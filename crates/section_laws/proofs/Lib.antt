@@ -1,4 +1,3 @@
-pub mod EachHart
 pub mod Moves
 pub mod EachKept
 pub mod Statuses
@@ -6,14 +5,18 @@ pub mod Waiting
 pub mod Numbered
 pub mod OrderedHarts
 pub mod SectionSteps
-pub mod UnnamedLosers
 pub mod Lengths
 pub mod Accounts
 pub mod Steady
+pub mod Bits
+pub mod Fewer
 pub mod FreeLines
 pub mod Serving
 pub mod OnlyInside
+pub mod ArmedBits
 pub mod Coherence
+pub mod LetGone
+pub mod ArmedCounts
 pub mod TriesLeft
 pub mod Counters
 pub mod OnceEach

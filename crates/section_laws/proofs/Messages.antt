@@ -1,45 +1,37 @@
 -- every event keeps it that messages and sets name other harts of the machine, each once
-use Rattle.std.proofs.Common.{◌≡◌, ◌≢◌, ◌∙◌, ℕ, suc, ◌+◌, ◌<◌, ◌≤◌, ◌==◌, ◌&&◌, not, Bool, true, false, List, [], ◌∷◌, Option, None, Some, is_some, length}
-use Rattle.std.proofs.Common.{map, filter, refl, ap, sym, subst, arith, if◌then◌else◌}
-use Rattle.std.specs.Prelude.{nat_lt}
-use Rattle.std.proofs.lemmas.Bool.{ltb-true, ltb-false}
-use Rattle.std.proofs.Math.ListN.{length-set}
+use Rattle.std.proofs.Common.{◌≡◌, ◌≢◌, ◌∙◌, ℕ, ◌+◌, ◌==◌, Bool, true, false, List, [], ◌∷◌, Option, None, Some}
+use Rattle.std.proofs.Common.{is_some, length}
+use Rattle.std.proofs.Common.{refl, ap, sym, subst, arith, if◌then◌else◌}
 use Rattle.std.proofs.lemmas.List.{length-replicate}
-use Rattle.bus_order.specs.Order.{Request, request_of, tail_of}
-use Rattle.bus_order.proofs.LookUps.{number_of_test, own_test}
+use Rattle.bus_order.specs.Order.{Request, request_of}
 use Rattle.bus_order.proofs.Queues.{request_of_first_of, request_of_tail_of}
-use Rattle.defer_list.specs.HartSet.{has, included}
 use Rattle.el_base.specs.declared.config.Config.{Config}
 use Rattle.el_base.specs.declared.config.Mode.{Mode}
 use Rattle.el_base.specs.declared.config.Mode.TheVariants.{Plain, Sle, Tlr}
 use Rattle.el_base.specs.declared.events.Event.{Event}
-use Rattle.el_base.specs.declared.events.Kind.{Kind}
-use Rattle.el_base.specs.declared.events.Kind.TheVariants as kinds
 use Rattle.elf_image.specs.Program.{Program}
-use Rattle.el_model.specs.Conflicts.{conflicts}
-use Rattle.el_model.specs.Deed.{Begins, Buffers, Commits, Deed, Misses, Rests, RollsBack, Runs, Waits, hart_after}
-use Rattle.el_model.specs.Deliver.{after_probe, deliver_next, deliver_turn, delivered, forwarded, forwards_on, loses_to_origin, taken, told_of, told_on}
-use Rattle.el_model.specs.Face.{Fate, LosesTo, Stays, Unmet, after_fate, deferring, faced, faced_hart, faced_if, fate_at, fate_of, markers_for, stays}
-use Rattle.el_model.specs.Face.{winning_stamp}
-use Rattle.el_model.specs.Next.{after, kind_turn, next}
-use Rattle.el_model.specs.Order.{Alone, Behind, InFront, Place, before_face, marked_by, marked_from, marking, order_raised, order_turn, place_for, placed}
-use Rattle.el_model.specs.Order.{placed_in_front, placed_last, unraised}
+use Rattle.el_model.specs.BusEvent.{Becomes, IsAbsent, IsAnswered, IsBehind, IsDeferred, IsForwarded, IsLetGo, IsPassed}
+use Rattle.el_model.specs.BusEvent.{IsPosted, IsSent, IsToldOn, LosesIt}
+use Rattle.el_model.specs.BusEvent.{Nothing, Places, Sees, Serves, Start, Starts, StartsWhere, Takes, having_taken}
+use Rattle.el_model.specs.BusEvent.{started}
+use Rattle.el_model.specs.Deed.{Arms, Begins, Buffers, Commits, Continues, Deed, Elides, LetsGo, Misses, Rests, RollsBack, Runs, Waits, hart_after}
+use Rattle.el_model.specs.Next.{after, next}
 use Rattle.el_model.specs.Plain.{after_candidate, candidate_of}
 use Rattle.el_model.specs.RollBack.{beaten, most_tries, out_of_section}
-use Rattle.el_model.specs.Serve.{Blocks, Free, Obstacle, obstacle_to, serve_ordered, serve_past, serve_turn, served, with_claim}
-use Rattle.el_model.specs.State.{Hart, ModelState, begin, count_up, hart_of, head_of, new_hart, ordered_of, ordered_on, post_all, raised_of, with_hart}
+use Rattle.el_model.specs.Serve.{bystander, served_hart, with_claim}
+use Rattle.el_model.specs.State.{Hart, ModelState, begin, hart_of, new_hart, ordered_of, raised_of}
 use Rattle.el_model.specs.Upcoming.{Swap}
 use Rattle.el_model.proofs.AllHarts.{all_first}
+use Rattle.el_model.proofs.BusEvents.{by_event, with_mail}
+use Rattle.el_model.proofs.EachHart.{Each}
 use Rattle.el_model.proofs.FromStart.{kept_after}
-use Rattle.el_model.proofs.Harts.{hart_of-past}
-use Rattle.el_model.proofs.Keeps.{keeps_marking, keeps_served}
-use Rattle.el_model.proofs.Tests.{by_test}
-use Rattle.mail.specs.Mailbox.{Marker, Message, Probe, posted}
+use Rattle.el_model.proofs.Tests.{by_hart}
+use Rattle.mail.specs.Mailbox.{Marker, Message, Probe}
 use Rattle.section_laws.specs.Messages.{IsMailbox, IsOther, IsSetOfOthers, MessagesAreFewerThanHarts, MessagesNameOthersOnce, NamesOthersOnce, named}
-use Rattle.section_laws.proofs.Boxes.{NameOthers, fewer_others, mailbox_of_served, mailbox_posted, mailbox_taken, mailbox_without_probe, no_mail}
+use Rattle.section_laws.proofs.Boxes.{fewer_others, mailbox_of_served, mailbox_posted, mailbox_taken}
+use Rattle.section_laws.proofs.Boxes.{mailbox_without_probe, no_mail}
 use Rattle.section_laws.proofs.Boxes.{no_others, oldest_other, origins_are_others, others_excluded, others_included, senders_are_others}
-use Rattle.section_laws.proofs.EachHart.{Each, each_after, each_with}
-use Rattle.section_laws.proofs.Moves.{served_keeps, step_keeps}
+use Rattle.section_laws.proofs.Moves.{step_keeps}
 use Rattle.section_laws.proofs.Numbered.{Once, first_once, next_count, next_once, order_keeps, raised_exists}
 use Rattle.section_laws.proofs.OrderedHarts.{AreBelow, below_kept}
 use Rattle.section_laws.proofs.Waiting.{free_of_order}
@@ -48,32 +40,11 @@ use Rattle.stamp.specs.Stamps.{Stamp}
 abbrev Holds : ℕ → ℕ → Hart → Type 0
 Holds count h hart = NamesOthersOnce count h hart.mail hart.told hart.upstream
 
--- a hart that is posted messages
+-- a hart that is posted a message
 mail_holds : (count h : ℕ) (hart : Hart) (mail : List Message) → IsMailbox count h mail → Holds count h hart → Holds count h (record hart { mail = mail })
 mail_holds count h hart mail is now = record { mail_is = is; told_is = now.told_is; upstream_is = now.upstream_is }
 
-post_holds : (count h : ℕ) (hart : Hart) (messages : List Message) → NameOthers count h messages → Holds count h hart →
-    Holds count h (post_all hart messages)
-post_holds count h hart [] others now = now
-post_holds count h hart (message ∷ messages) (first, others) now =
-    post_holds count h (record hart { mail = posted hart.mail message }) messages others
-    (mail_holds count h hart (posted hart.mail message) (mailbox_posted count h hart.mail message first now.mail_is) now)
-
--- messages that name harts of which a test holds, by one of the two kinds
-listed : (count from g : ℕ) (F : ℕ → Message) (test : ℕ → Bool) (harts : List Hart) → ((k : ℕ) → named (F k) ≡ k) → from + length harts ≤ count →
-    ((k : ℕ) → test k ≡ true → k ≢ g) → NameOthers count g (map F (filter test (count_up from harts)))
-listed count from g F test [] names within apart = tt
-listed count from g F test (hart ∷ harts) names within apart =
-    by (test from) refl (listed count (suc from) g F test harts names (omega (arith, within)) apart)
-  where
-    by : (there : Bool) → test from ≡ there → NameOthers count g (map F (filter test (count_up (suc from) harts))) →
-        NameOthers count g (map F (if there then from ∷ filter test (count_up (suc from) harts) else filter test (count_up (suc from) harts)))
-    by true is rest =
-        let other : IsOther count g from = record { exists = omega (arith, within); apart = apart from is } in
-        (subst (IsOther count g) (sym (names from)) other, rest)
-    by false is rest = rest
-
--- a head is faced
+-- a section that is lost
 try_holds : (count h : ℕ) (hart : Hart) (last : Bool) → Holds count h hart →
     Holds count h (if last then record hart { tries = 0; fallback = true } else record hart { tries = hart.tries + 1 })
 try_holds count h hart true now = now
@@ -83,68 +54,6 @@ beaten_holds : (count : ℕ) (mode : Mode) (winner : Option Stamp) (h : ℕ) (ha
 beaten_holds count Tlr winner h hart now = now
 beaten_holds count Sle winner h hart now = try_holds count h (out_of_section hart) (hart.tries + 1 == most_tries) now
 beaten_holds count Plain winner h hart now = try_holds count h (out_of_section hart) (hart.tries + 1 == most_tries) now
-
-deferring_holds : (count : ℕ) (mode : Mode) (stamp : Option Stamp) (h : ℕ) (hart : Hart) → Holds count h hart → Holds count h (deferring mode stamp hart)
-deferring_holds count Tlr stamp h hart now = now
-deferring_holds count Sle stamp h hart now = now
-deferring_holds count Plain stamp h hart now = now
-
-fate_holds : (count : ℕ) (state : ModelState) (head : Request) (fate : Fate) (h : ℕ) (hart : Hart) → Holds count h hart →
-    Holds count h (after_fate state head fate hart)
-fate_holds count state head Unmet h hart now = now
-fate_holds count state head Stays h hart now = deferring_holds count state.config.mode head.stamp h hart now
-fate_holds count state head (LosesTo winner) h hart now = beaten_holds count state.config.mode (winning_stamp state head.line winner) h hart now
-
--- a hart whose section stays is not the head's
-stays_apart : (state : ModelState) (head : Request) (k : ℕ) → is_some (stays (fate_at state head k)) ≡ true → k ≢ head.hart
-stays_apart state head k is same = by (conflicts head k (hart_of state k)) refl _ is
-  where
-    own : (a b c : Bool) → (not a && b && c) ≡ true → a ≡ true → ⊥
-    own true b c is test = absurd (cc)
-    own false b c is test = absurd (cc)
-
-    itself : (head.hart == k) ≡ true
-    itself = ap (λ n. head.hart == n) same ∙ own_test head.hart
-
-    by : (met : Bool) → conflicts head k (hart_of state k) ≡ met → (fate : Fate) → is_some (stays (if met then fate else Unmet)) ≡ true → ⊥
-    by true met fate stay = own (head.hart == k) _ _ met itself
-    by false met fate stay = absurd (cc)
-
-markers_others : (mode : Mode) (state : ModelState) (head : Request) → NameOthers (length state.harts) head.hart (markers_for mode state head)
-markers_others Tlr state head =
-    listed (length state.harts) 0 head.hart Marker (λ h. is_some (stays (fate_at state head h))) state.harts (λ k. refl) (omega arith)
-    (λ k is. stays_apart state head k is)
-markers_others Sle state head = tt
-markers_others Plain state head = tt
-
-faced_holds : (count : ℕ) (state : ModelState) (head : Request) → length state.harts ≡ count → Each (Holds count) state →
-    Each (Holds count) (faced state head)
-unfolding faced
-faced_holds count state head same each =
-    each_after (Holds count) state (faced_hart state head)
-    (λ h now.
-    by_test (Holds count h) (h == head.hart) (post_all (hart_of state h) (markers_for state.config.mode state head))
-    (after_fate state head (fate_of state head h (hart_of state h)) (hart_of state h))
-    (λ own.
-    let others = subst (λ n. NameOthers n head.hart (markers_for state.config.mode state head)) same (markers_others state.config.mode state head) in
-    post_holds count h (hart_of state h) (markers_for state.config.mode state head)
-    (subst (λ n. NameOthers count n (markers_for state.config.mode state head)) (sym (number_of_test h head.hart own)) others) now)
-    (λ other. fate_holds count state head (fate_of state head h (hart_of state h)) h (hart_of state h) now))
-    each
-
-faced_if_holds : (count : ℕ) (state : ModelState) (head : Option Request) → length state.harts ≡ count → Each (Holds count) state →
-    Each (Holds count) (faced_if state head)
-faced_if_holds count state None same each = each
-faced_if_holds count state (Some head) same each = faced_holds count state head same each
-
--- a request is ordered: the former head of its line, or the last one before it, is another hart's
-marked_holds : (count : ℕ) (mode : Mode) (state : ModelState) (sender h : ℕ) → IsOther count h sender → Each (Holds count) state →
-    Each (Holds count) (marked_from mode state sender h)
-marked_holds count Tlr state sender h other each =
-    each_with (Holds count) state h (record (hart_of state h) { mail = posted (hart_of state h).mail (Marker sender) })
-    (mail_holds count h (hart_of state h) _ (mailbox_posted count h (hart_of state h).mail (Marker sender) other (each h).mail_is) (each h)) each
-marked_holds count Sle state sender h other each = each
-marked_holds count Plain state sender h other each = each
 
 -- what holds of every state that can be reached
 record Mailed (count : ℕ) (state : ModelState) : Type 0 where
@@ -161,196 +70,115 @@ apart_from : (order : List Request) (h : ℕ) (request : Request) → request_of
     request.hart ≢ h
 apart_from order h request is free same = some_none (sym is ∙ ap (request_of order) same ∙ free)
 
-unraised_holds : (count : ℕ) (state : ModelState) (h : ℕ) → Each (Holds count) state → Each (Holds count) (unraised state h)
-unraised_holds count state h each = each_with (Holds count) state h (record (hart_of state h) { raised = None }) (each h) each
+not_ordered : (count : ℕ) (state : ModelState) (by : ℕ) (request : Request) → Mailed count state →
+    raised_of state by ≡ Some request →
+    ordered_of state request.hart ≡ None
+not_ordered count state by request now raised =
+    free_of_order state request.hart request now.once.sound (ap (raised_of state) ((now.once.sound by).own request raised) ∙ raised)
 
-module _ (count : ℕ) (state : ModelState) (request : Request) (now : Mailed count state) (exists : request.hart < length state.harts)
-    (free : ordered_of state request.hart ≡ None) where
-  before_in_front : (former : Option Request) → head_of state request.line ≡ former →
-      Each (Holds count) (marking (placed_in_front state request) request.hart former)
-  before_in_front None is = unraised_holds count state request.hart now.each
-  before_in_front (Some former) is =
-      let many = now.many in
-      let there = request_of_first_of state.order request.line former now.once.once is in
-      marked_holds count state.config.mode (placed_in_front state request) request.hart former.hart
-      (record {
-        exists = omega (arith, many, exists);
-        apart = λ same. apart_from state.order request.hart former there free (sym same);
-      })
-      (unraised_holds count state request.hart now.each)
+taken_other : (count : ℕ) (state : ModelState) (by : ℕ) (message : Message) (others : List Message) →
+    Mailed count state →
+    (hart_of state by).mail ≡ message ∷ others → IsOther count by (named message)
+taken_other count state by message others now is = oldest_other count by message others (subst (IsMailbox count by) is (now.each by).mail_is)
 
-  before_last : (last : Option Request) → tail_of state.order request.line ≡ last →
-      Each (Holds count) (marked_by (placed_last state request) last request.hart)
-  before_last None is = unraised_holds count state request.hart now.each
-  before_last (Some last) is =
-      let there = request_of_tail_of state.order request.line last now.once.once is in
-      marked_holds count state.config.mode (placed_last state request) last.hart request.hart
-      (record { exists = now.below last.hart last there; apart = apart_from state.order request.hart last there free })
-      (unraised_holds count state request.hart now.each)
-
-  place_holds : (place : Place) → Each (Holds count) (placed state request place)
-  unfolding placed
-  place_holds InFront =
-      faced_holds count (before_face state request InFront) request
-      ((keeps_marking (placed_in_front state request) request.hart (head_of state request.line)).count ∙ many_unraised)
-      (before_in_front (head_of state request.line) refl)
-    where
-      many_unraised : length (placed_in_front state request).harts ≡ count
-      many_unraised = length-set state.harts request.hart (record (hart_of state request.hart) { raised = None }) ∙ now.many
-  place_holds Behind = before_last (tail_of state.order request.line) refl
-  place_holds Alone =
-      faced_holds count (placed_last state request) request
-      (length-set state.harts request.hart (record (hart_of state request.hart) { raised = None }) ∙ now.many)
-      (unraised_holds count state request.hart now.each)
-
-raised_holds : (count : ℕ) (state : ModelState) (h : ℕ) (raised : Option Request) → raised_of state h ≡ raised → Mailed count state →
-    Each (Holds count) (order_raised state raised).state
-raised_holds count state h None is now = now.each
-raised_holds count state h (Some request) is now =
-    let mine : raised_of state request.hart ≡ Some request = ap (raised_of state) ((now.once.sound h).own request is) ∙ is in
-    place_holds count state request now (raised_exists state h request now.once.sound is)
-    (free_of_order state request.hart request now.once.sound mine) (place_for state request)
+-- who sends a message is another hart than the one to which it is posted, and so is an origin: the former head of a line, or the last
+-- one before a request that is ordered, has a request in order already
+posted_other : (count : ℕ) (state : ModelState) (by : ℕ) {start : Start} {h : ℕ} {message : Message} →
+    Mailed count state →
+    StartsWhere state by start → IsPosted state by start h message → IsOther count h (named message)
+posted_other count state by now may (IsBehind request last mode is) =
+    let there = request_of_tail_of state.order request.line last now.once.once is in
+    record {
+      exists = now.below last.hart last there;
+      apart = apart_from state.order request.hart last there (not_ordered count state by request now may.raised);
+    }
+posted_other count state by now may (IsPassed request former mode is) =
+    let many = now.many in
+    let there = request_of_first_of state.order request.line former now.once.once is in
+    let exists = raised_exists state by request now.once.sound may.raised in
+    record {
+      exists = omega (arith, many, exists);
+      apart = λ same. apart_from state.order request.hart former there (not_ordered count state by request now may.raised) (sym same);
+    }
+posted_other count state by now where_it (IsDeferred start head h defers below) =
+    let many = now.many in record { exists = omega (arith, many, below); apart = defers.apart }
+posted_other count state by now mail (IsAnswered sender others) =
+    let many = now.many in
+    let exists = with_mail state by (Marker sender) others mail in
+    let other = taken_other count state by (Marker sender) others now mail in
+    record { exists = omega (arith, many, exists); apart = λ same. other.apart (sym same) }
+posted_other count state by now mail (IsToldOn sender others origin tells) =
+    let many = now.many in let below = tells.exists in record { exists = omega (arith, many, below); apart = tells.apart }
+posted_other count state by now mail (IsForwarded origin others h forwards) =
+    record { exists = (taken_other count state by (Probe origin) others now mail).exists; apart = λ same. forwards.apart (sym same) }
 
 -- a request is served
 claim_holds : (count h : ℕ) (live : Bool) (request : Request) (hart : Hart) → Holds count h hart → Holds count h (with_claim live request hart)
 claim_holds count h true request hart now = now
 claim_holds count h false request hart now = now
 
-served_holds : (count : ℕ) (state : ModelState) (request : Request) → Each (Holds count) state → Each (Holds count) (served state request)
-served_holds count state request each =
-    served_keeps (Holds count) state request
-    (claim_holds count request.hart (is_some (hart_of state request.hart).section) request _
+served_holds : (count : ℕ) (state : ModelState) (request : Request) (h : ℕ) (hart : Hart) → Holds count h hart →
+    Holds count h (served_hart state request hart)
+served_holds count state request h hart now =
+    claim_holds count h (is_some hart.section) request _
     (record {
-      mail_is = mailbox_of_served count request.hart (hart_of state request.hart).mail request.hart (each request.hart).mail_is;
-      told_is = others_excluded count request.hart (hart_of state request.hart).told request.hart (each request.hart).told_is;
-      upstream_is = no_others count request.hart;
-    }))
-    (λ h other. record {
+      mail_is = mailbox_of_served count h hart.mail request.hart now.mail_is;
+      told_is = others_excluded count h hart.told request.hart now.told_is;
+      upstream_is = no_others count h;
+    })
+
+-- a message is taken
+taken_holds : (count : ℕ) (h : ℕ) (message : Message) (others : List Message) (hart : Hart) →
+    hart.mail ≡ message ∷ others → Holds count h hart →
+    Holds count h (having_taken message others hart)
+taken_holds count h (Marker sender) others hart is now =
+    let box = subst (IsMailbox count h) is now.mail_is in
+    record {
+      mail_is = mailbox_taken count h (Marker sender) others box;
+      told_is = now.told_is;
+      upstream_is = others_included count h hart.upstream sender (oldest_other count h (Marker sender) others box) now.upstream_is;
+    }
+taken_holds count h (Probe origin) others hart is now =
+    let box = subst (IsMailbox count h) is now.mail_is in
+    record {
+      mail_is = mailbox_taken count h (Probe origin) others box;
+      told_is = others_included count h hart.told origin (oldest_other count h (Probe origin) others box) now.told_is;
+      upstream_is = now.upstream_is;
+    }
+
+started_holds : (count : ℕ) (state : ModelState) (by : ℕ) (start : Start) (h : ℕ) → StartsWhere state by start →
+    Each (Holds count) state →
+    Holds count h (started state by start h (hart_of state h))
+started_holds count state by Nothing h where_it each = each h
+started_holds count state by (Places request place) h where_it each =
+    by_hart (Holds count h) h request.hart (record (hart_of state h) { raised = None }) (hart_of state h) (λ own. each h) (λ other. each h)
+started_holds count state by (Serves request) h where_it each =
+    by_hart (Holds count h) h request.hart (served_hart state request (hart_of state h)) (bystander state request (hart_of state h))
+    (λ own. served_holds count state request h (hart_of state h) (each h))
+    (λ other. record {
       mail_is = mailbox_without_probe count h (hart_of state h).mail request.hart (each h).mail_is;
       told_is = others_excluded count h (hart_of state h).told request.hart (each h).told_is;
       upstream_is = (each h).upstream_is;
     })
-    each
+started_holds count state by (Takes message others) h is each =
+    by_hart (Holds count h) h by (having_taken message others (hart_of state h)) (hart_of state h)
+    (λ own. taken_holds count h message others (hart_of state h) (ap (λ k. (hart_of state k).mail) own ∙ is) (each h)) (λ other. each h)
 
-past_holds : (count : ℕ) (state : ModelState) (request : Request) (obstacle : Obstacle) → Mailed count state →
-    Each (Holds count) (serve_past state request obstacle).state
-past_holds count state request (Blocks why by) now = now.each
-past_holds count state request Free now =
-    let after = served state request in
-    faced_if_holds count after (head_of after request.line) ((keeps_served state request).count ∙ now.many) (served_holds count state request now.each)
-
-ordered_holds : (count : ℕ) (state : ModelState) (request : Option Request) → Mailed count state → Each (Holds count) (serve_ordered state request).state
-ordered_holds count state None now = now.each
-ordered_holds count state (Some request) now = past_holds count state request (obstacle_to state request) now
-
--- a message is delivered: a marker
-told_others : (count : ℕ) (state : ModelState) (h but : ℕ) (own : Option Request) → length state.harts ≡ count →
-    NameOthers count but (map Probe (told_on state h but own))
-told_others count state h but None same = tt
-told_others count state h but (Some own) same =
-    listed count 0 but Probe _ state.harts (λ k. refl) (omega (arith, same)) (λ k is equal. not_itself k is equal)
-  where
-    first : (a b c : Bool) → (not a && b && c) ≡ true → a ≡ true → ⊥
-    first true b c is test = absurd (cc)
-    first false b c is test = absurd (cc)
-
-    not_itself : (k : ℕ) → (not (k == but) && has (hart_of state h).told k && is_some (ordered_on state k own.line)) ≡ true → k ≡ but → ⊥
-    not_itself k is equal = first (k == but) _ _ is (ap (λ n. n == but) equal ∙ own_test but)
-
-marker_holds : (count : ℕ) (state : ModelState) (h sender : ℕ) → length state.harts ≡ count → h < count → IsOther count h sender →
-    Each (Holds count) state → Each (Holds count) (delivered state h (Marker sender))
-unfolding delivered
-marker_holds count state h sender same exists other each =
-    let hart = record (hart_of state h) { upstream = included (hart_of state h).upstream sender } in
-    let preceded = with_hart state h hart in
-    let before =
-    each_with (Holds count) state h hart
-    (record {
-      mail_is = (each h).mail_is;
-      told_is = (each h).told_is;
-      upstream_is = others_included count h (hart_of state h).upstream sender other (each h).upstream_is;
-    })
-    each in
-    let messages = Probe h ∷ map Probe (told_on state h sender (ordered_of state h)) in
-    each_with (Holds count) preceded sender (post_all (hart_of preceded sender) messages)
-    (post_holds count sender (hart_of preceded sender) messages
-    (record { exists = exists; apart = λ equal. other.apart (sym equal) }, told_others count state h sender (ordered_of state h) same)
-    (before sender))
-    before
-
--- a probe
-told_holds : (count : ℕ) (state : ModelState) (h origin : ℕ) (request : Option Request) → IsOther count h origin → Each (Holds count) state →
-    Holds count h (told_of state h origin request)
-told_holds count state h origin request other each =
-    let hart = record (hart_of state h) { told = included (hart_of state h).told origin } in
-    let now : Holds count h hart =
-    record {
-      mail_is = (each h).mail_is;
-      told_is = others_included count h (hart_of state h).told origin other (each h).told_is;
-      upstream_is = (each h).upstream_is;
-    } in
-    by_test (Holds count h) (loses_to_origin state h request) (beaten state.config.mode _ hart) hart
-    (λ loses. beaten_holds count state.config.mode _ h hart now) (λ stays. now)
-
-forwarded_apart : (state : ModelState) (h origin : ℕ) (request : Option Request) (g : ℕ) → forwards_on state h origin request g ≡ true → origin ≢ g
-forwarded_apart state h origin None g is = absurd (cc)
-forwarded_apart state h origin (Some request) g is = λ same. first (g == origin) _ _ is (ap (λ n. g == n) same ∙ own_test g)
-  where
-    first : (a b c : Bool) → (not a && b && c) ≡ true → a ≡ true → ⊥
-    first true b c is test = absurd (cc)
-    first false b c is test = absurd (cc)
-
-probe_holds : (count : ℕ) (state : ModelState) (h origin : ℕ) → IsOther count h origin → Each (Holds count) state →
-    Each (Holds count) (delivered state h (Probe origin))
-unfolding delivered
-probe_holds count state h origin other each =
-    let request = ordered_of state origin in
-    let told = with_hart state h (told_of state h origin request) in
-    by_test (Each (Holds count)) (has (hart_of state h).told origin) state (after_probe state h origin request)
-    (λ known. each)
-    (λ new.
-    each_after (Holds count) told (forwarded state h origin request)
-    (λ g now.
-    by_test (Holds count g) (forwards_on state h origin request g)
-    (record (hart_of told g) { mail = posted (hart_of told g).mail (Probe origin) }) (hart_of told g)
-    (λ sent.
-    mail_holds count g (hart_of told g) _
-    (mailbox_posted count g (hart_of told g).mail (Probe origin)
-    (record { exists = other.exists; apart = forwarded_apart state h origin request g sent }) now.mail_is)
-    now)
-    (λ kept. now))
-    (each_with (Holds count) state h (told_of state h origin request) (told_holds count state h origin request other each) each))
-
-message_holds : (count : ℕ) (state : ModelState) (h : ℕ) (message : Message) → length state.harts ≡ count → h < count → IsOther count h (named message) →
-    Each (Holds count) state → Each (Holds count) (delivered state h message)
-message_holds count state h (Marker sender) same exists other each = marker_holds count state h sender same exists other each
-message_holds count state h (Probe origin) same exists other each = probe_holds count state h origin other each
-
-taken_holds : (count : ℕ) (state : ModelState) (h : ℕ) (message : Message) (others : List Message) → (hart_of state h).mail ≡ message ∷ others →
-    Each (Holds count) state → Each (Holds count) (taken state h others)
-taken_holds count state h message others is each =
-    each_with (Holds count) state h (record (hart_of state h) { mail = others })
-    (mail_holds count h (hart_of state h) others (mailbox_taken count h message others (subst (IsMailbox count h) is (each h).mail_is)) (each h)) each
-
--- a hart with a message is one of the machine's
-with_mail : (state : ModelState) (h : ℕ) (message : Message) (others : List Message) → (hart_of state h).mail ≡ message ∷ others → (below : Bool) →
-    nat_lt h (length state.harts) ≡ below → h < length state.harts
-with_mail state h message others is true below = ltb-true h (length state.harts) below
-with_mail state h message others is false below =
-    let none = sym is ∙ ap (λ hart. hart.mail) (hart_of-past state h (ltb-false h (length state.harts) below)) in absurd (cc)
-
-mail_each : (count : ℕ) (state : ModelState) (h : ℕ) (mail : List Message) → (hart_of state h).mail ≡ mail → Mailed count state →
-    Each (Holds count) (deliver_next state h mail).state
-mail_each count state h [] is now = now.each
-mail_each count state h (message ∷ others) is now =
-    let many = now.many in
-    let exists = with_mail state h message others is (nat_lt h (length state.harts)) refl in
-    message_holds count (taken state h others) h message
-    (length-set state.harts h (record (hart_of state h) { mail = others }) ∙ many) (omega (arith, many, exists))
-    (oldest_other count h message others (subst (IsMailbox count h) is (now.each h).mail_is)) (taken_holds count state h message others is now.each)
+becomes_holds : (count : ℕ) (state : ModelState) (by : ℕ) (start : Start) (h : ℕ) {lost : Option ℕ} {hart : Hart} →
+    Mailed count state →
+    StartsWhere state by start → Becomes state by start h lost hart → Holds count h hart
+becomes_holds count state by start h now where_it (IsAbsent past) = now.each h
+becomes_holds count state by start h now where_it (Starts below) = started_holds count state by start h where_it now.each
+becomes_holds count state by start h now where_it (IsSent message lost hart sent before) =
+    let held = becomes_holds count state by start h now where_it before in
+    mail_holds count h hart _ (mailbox_posted count h hart.mail message (posted_other count state by now where_it sent) held.mail_is) held
+becomes_holds count state by start h now where_it (IsLetGo head hart frees before) = becomes_holds count state by start h now where_it before
+becomes_holds count state by start h now where_it (Sees head lost hart defers before) = becomes_holds count state by start h now where_it before
+becomes_holds count state by start h now where_it (LosesIt winner stamp hart loses before) =
+    beaten_holds count state.config.mode stamp h hart (becomes_holds count state by start h now where_it before)
 
 -- a step
-candidate_holds : (count h pc : ℕ) (had_watch : Bool) (candidate : Option Swap) (hart : Hart) → Holds count h hart →
+candidate_holds : (count h : ℕ) (pc : Option ℕ) (had_watch : Bool) (candidate : Option Swap) (hart : Hart) → Holds count h hart →
     Holds count h (after_candidate pc had_watch candidate hart)
 candidate_holds count h pc had_watch None hart now = now
 candidate_holds count h pc had_watch (Some swap) hart now = now
@@ -364,19 +192,18 @@ deed_holds count state h (Begins swap) hart now = now
 deed_holds count state h (Buffers section touch) hart now = now
 deed_holds count state h (Commits section) hart now = now
 deed_holds count state h (RollsBack section cause) hart now = now
+deed_holds count state h (Arms word) hart now = now
+deed_holds count state h (Elides armed swap) hart now = now
+deed_holds count state h (Continues armed) hart now = now
+deed_holds count state h (LetsGo armed) hart now = now
 
 -- each event
-kind_holds : (count : ℕ) (state : ModelState) (h : ℕ) (kind : Kind) → Mailed count state → Each (Holds count) (kind_turn state h kind).state
-unfolding order_turn serve_turn deliver_turn
-kind_holds count state h kinds.Step now =
-    step_keeps (Holds count) state h (λ deed does. deed_holds count state h deed (hart_of state h) (now.each h)) now.each
-kind_holds count state h kinds.Order now = raised_holds count state h (raised_of state h) refl now
-kind_holds count state h kinds.Serve now = ordered_holds count state (ordered_of state h) now
-kind_holds count state h kinds.Deliver now = mail_each count state h (hart_of state h).mail refl now
-
 next_holds : (count : ℕ) (state : ModelState) (event : Event) → Mailed count state → Each (Holds count) (next state event).state
-unfolding next
-next_holds count state event now = kind_holds count state event.hart.number event.kind now
+next_holds count state event now =
+    let by = event.hart.number in
+    by_event (λ turn. Each (Holds count) turn.state) state event
+    (λ step. step_keeps (Holds count) state by (λ deed does. deed_holds count state by deed (hart_of state by) (now.each by)) now.each)
+    (λ turn done h. becomes_holds count state by done.start h now done.where_it (done.becomes h))
 
 next_mailed : (count : ℕ) (state : ModelState) (event : Event) → Mailed count state → Mailed count (next state event).state
 next_mailed count state event now =

@@ -1,5 +1,5 @@
 -- no hart has two requests in order, and each request is of a hart that a machine may have
-use Rattle.std.proofs.Common.{◌≡◌, ◌∙◌, ◌<◌, ◌≤◌, ◌==◌, ℕ, Bool, true, false, List, [], ◌∷◌, Option, None, Some, length, refl, ap, sym, arith}
+use Rattle.std.proofs.Common.{◌≡◌, ◌∙◌, ◌<◌, ◌≤◌, ◌==◌, ℕ, Bool, true, false, List, [], ◌∷◌, None, Some, length, refl, ap, sym, arith}
 use Rattle.std.specs.Prelude.{nat_lt}
 use Rattle.std.proofs.lemmas.Bool.{ltb-true, ltb-false}
 use Rattle.std.proofs.lemmas.Bool.Decides.{nat_tests}
@@ -11,33 +11,26 @@ use Rattle.el_base.specs.Config.{IsInRange}
 use Rattle.el_base.specs.declared.config.Config.{Config}
 use Rattle.el_base.proofs.Ranges.{ranges}
 use Rattle.el_base.specs.declared.events.Event.{Event}
-use Rattle.el_base.specs.declared.events.Kind.{Kind}
-use Rattle.el_base.specs.declared.events.Kind.TheVariants as kinds
 use Rattle.elf_image.specs.Program.{Program}
+use Rattle.el_model.specs.BusEvent.{Nothing, Places, Serves, Start, StartsWhere, Takes, order_after, order_at}
 use Rattle.el_model.specs.Losses.{AreNumbered, HartsAreNumbered}
-use Rattle.el_model.specs.Next.{after, kind_turn, next}
-use Rattle.el_model.specs.Order.{Alone, Behind, InFront, Place, order_raised, order_turn, place_for}
-use Rattle.el_model.specs.Serve.{Blocks, Free, Obstacle, obstacle_to, serve_ordered, serve_past, serve_turn, served}
-use Rattle.el_model.specs.Deliver.{deliver_turn}
-use Rattle.el_model.specs.State.{ModelState, begin, hart_of, head_of, new_hart, ordered_of, raised_of}
+use Rattle.el_model.specs.Next.{after, next}
+use Rattle.el_model.specs.Order.{Alone, Behind, InFront, Place}
+use Rattle.el_model.specs.State.{ModelState, begin, new_hart, raised_of}
+use Rattle.el_model.proofs.BusEvents.{by_event}
 use Rattle.el_model.proofs.Deeds.{step_deed}
 use Rattle.el_model.proofs.FromStart.{kept_after}
 use Rattle.el_model.proofs.Harts.{hart_of-past}
 use Rattle.el_model.proofs.Tests.{by_test}
-use Rattle.el_model.proofs.Turns.{deliver_calm, order_calm, serve_calm}
 use Rattle.section_laws.specs.Laws.{EachHartWaitsForOne, OneOrderedRequestEach, RequestsAreNumbered}
-use Rattle.section_laws.proofs.Waiting.{Sound, always_sound, faced_order, free_of_order, mail_order, next_sound, order_at, placed_order}
+use Rattle.section_laws.proofs.Waiting.{Rested, Sound, always_settled, always_sound, free_of_order, next_settled, rested_in, settled_by}
+use Rattle.section_laws.proofs.Waiting.{sound_in}
 
 -- no event changes how many harts there are
-kind_count : (state : ModelState) (h : ℕ) (kind : Kind) → length (kind_turn state h kind).state.harts ≡ length state.harts
-kind_count state h kinds.Step = let step = step_deed state h in rw step.turn_is (length-set state.harts h _)
-kind_count state h kinds.Order = (order_calm state h).keeps.count
-kind_count state h kinds.Serve = (serve_calm state h).keeps.count
-kind_count state h kinds.Deliver = (deliver_calm state h).keeps.count
-
 pub next_count : (state : ModelState) (event : Event) → length (next state event).state.harts ≡ length state.harts
-unfolding next
-next_count state event = kind_count state event.hart.number event.kind
+next_count state event =
+    by_event (λ turn. length turn.state.harts ≡ length state.harts) state event
+    (λ is. let step = step_deed state event.hart.number in rw step.turn_is (length-set state.harts event.hart.number _)) (λ turn done. done.count)
 
 -- what is kept of the order: by a request of a hart that has none, and as one is served
 pub record KeptInOrder (P : List Request → Type 0) (count : ℕ) : Type 0 where
@@ -69,44 +62,26 @@ module _ {P : List Request → Type 0} where
   place_keeps state request Behind kept exists free now = kept.placed_last state.order request exists free now
   place_keeps state request Alone kept exists free now = kept.placed_last state.order request exists free now
 
-  raised_keeps : (state : ModelState) (h : ℕ) (raised : Option Request) → KeptInOrder P (length state.harts) → Sound state →
-      raised_of state h ≡ raised → P state.order → P (order_raised state raised).state.order
-  raised_keeps state h None kept sound is now = now
-  raised_keeps state h (Some request) kept sound is now =
-      let place = place_for state request in
-      let mine : raised_of state request.hart ≡ Some request = ap (raised_of state) ((sound h).own request is) ∙ is in
-      rw (placed_order state request place)
-      (place_keeps state request place kept (raised_exists state h request sound is) (free_of_order state request.hart request sound mine) now)
-
-  past_keeps : (state : ModelState) (request : Request) (obstacle : Obstacle) → KeptInOrder P (length state.harts) → P state.order →
-      P (serve_past state request obstacle).state.order
-  unfolding served
-  past_keeps state request (Blocks why by) kept now = now
-  past_keeps state request Free kept now =
-      let after = served state request in
-      rw (faced_order after (head_of after request.line)) (kept.taken_out state.order request.hart now)
-
-  ordered_keeps : (state : ModelState) (found : Option Request) → KeptInOrder P (length state.harts) → P state.order →
-      P (serve_ordered state found).state.order
-  ordered_keeps state None kept now = now
-  ordered_keeps state (Some request) kept now = past_keeps state request (obstacle_to state request) kept now
-
-  kind_keeps : (state : ModelState) (h : ℕ) (kind : Kind) → KeptInOrder P (length state.harts) → Sound state → P state.order →
-      P (kind_turn state h kind).state.order
-  unfolding order_turn serve_turn deliver_turn
-  kind_keeps state h kinds.Step kept sound now = let step = step_deed state h in rw step.turn_is now
-  kind_keeps state h kinds.Order kept sound now = raised_keeps state h (raised_of state h) kept sound refl now
-  kind_keeps state h kinds.Serve kept sound now = ordered_keeps state (ordered_of state h) kept now
-  kind_keeps state h kinds.Deliver kept sound now = rw (mail_order state h (hart_of state h).mail) now
+  start_keeps : (state : ModelState) (by : ℕ) (start : Start) → KeptInOrder P (length state.harts) → Sound state →
+      StartsWhere state by start →
+      P state.order → P (order_after state start)
+  start_keeps state by Nothing kept sound where_it now = now
+  start_keeps state by (Places request place) kept sound may now =
+      let mine : raised_of state request.hart ≡ Some request = ap (raised_of state) ((sound by).own request may.raised) ∙ may.raised in
+      place_keeps state request place kept (raised_exists state by request sound may.raised) (free_of_order state request.hart request sound mine) now
+  start_keeps state by (Serves request) kept sound may now = kept.taken_out state.order request.hart now
+  start_keeps state by (Takes message others) kept sound where_it now = now
 
   pub order_keeps : (state : ModelState) (event : Event) → KeptInOrder P (length state.harts) → Sound state → P state.order →
       P (next state event).state.order
-  unfolding next
-  order_keeps state event kept sound now = kind_keeps state event.hart.number event.kind kept sound now
+  order_keeps state event kept sound now =
+      by_event (λ turn. P turn.state.order) state event (λ is. let step = step_deed state event.hart.number in rw step.turn_is now)
+      (λ turn done. rw done.order (start_keeps state event.hart.number done.start kept sound done.where_it now))
 
 -- no hart has two
 pub record Once (state : ModelState) : Type 0 where
   pub sound : Sound state
+  pub rested : Rested state
   pub once : IsOneEach state.order
 
 kept_once : (count : ℕ) → KeptInOrder IsOneEach count
@@ -118,13 +93,18 @@ kept_once count = record {
 
 pub next_once : (state : ModelState) (event : Event) → Once state → Once (next state event).state
 next_once state event now = record {
-  sound = next_sound state event now.sound;
+  sound = sound_in (next state event).state (next_settled state event (settled_by state now.sound now.rested));
+  rested = rested_in (next state event).state (next_settled state event (settled_by state now.sound now.rested));
   once = order_keeps state event (kept_once (length state.harts)) now.sound now.once;
 }
 
 pub first_once : (program : Program) (config : Config) → Once (begin program config)
 unfolding begin
-first_once program config = record { sound = always_sound program config []; once = one_each_none }
+first_once program config = record {
+  sound = always_sound program config [];
+  rested = rested_in (begin program config) (always_settled program config []);
+  once = one_each_none;
+}
 
 pub one_ordered_request_each : OneOrderedRequestEach
 one_ordered_request_each program config events =
@@ -159,12 +139,14 @@ kept_numbered count few = record {
 
 pub record Numbered (state : ModelState) : Type 0 where
   pub sound : Sound state
+  pub rested : Rested state
   pub few : length state.harts ≤ 8
   pub numbered : AreNumbered state.order
 
 pub next_numbered : (state : ModelState) (event : Event) → Numbered state → Numbered (next state event).state
 next_numbered state event now = record {
-  sound = next_sound state event now.sound;
+  sound = sound_in (next state event).state (next_settled state event (settled_by state now.sound now.rested));
+  rested = rested_in (next state event).state (next_settled state event (settled_by state now.sound now.rested));
   few = rw (next_count state event) now.few;
   numbered = order_keeps state event (kept_numbered (length state.harts) now.few) now.sound now.numbered;
 }
@@ -176,6 +158,7 @@ pub first_numbered : (program : Program) (config : Config) → program.harts ≡
 unfolding begin
 first_numbered program config same range = record {
   sound = always_sound program config [];
+  rested = rested_in (begin program config) (always_settled program config []);
   few = rw (length-replicate program.harts (new_hart config.sets)) (rw same (harts_in_range config range));
   numbered = tt;
 }

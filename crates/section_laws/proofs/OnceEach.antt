@@ -9,7 +9,7 @@ use Rattle.cache_sets.proofs.CacheLemmas.{line-with_bit}
 use Rattle.bus_order.proofs.LookUps.{number_of_test}
 use Rattle.el_base.specs.declared.outcomes.Need.{Need}
 use Rattle.el_base.specs.declared.outcomes.Need.TheVariants.{Read, Write}
-use Rattle.el_model.specs.Deed.{Begins, Buffers, Commits, Deed, Misses, Rests, RollsBack, Runs, Waits, hart_after}
+use Rattle.el_model.specs.Deed.{Arms, Begins, Buffers, Commits, Continues, Deed, Elides, LetsGo, Misses, Rests, RollsBack, Runs, Waits, hart_after}
 use Rattle.el_model.specs.InSection.{covered, is_covered}
 use Rattle.el_model.specs.Plain.{after_access, after_candidate, after_touch, candidate_of}
 use Rattle.el_model.specs.Serve.{others_cache, own_copy, with_claim}
@@ -183,7 +183,7 @@ covered_once cache (Some touch) once =
     (by_test AreOnce (is_covered cache touch.line touch.need) cache (marked cache touch.line touch.need) (λ has. once)
     (λ new. once_marked cache touch.line touch.need once))
 
-candidate_holds : (pc : ℕ) (had_watch : Bool) (candidate : Option Swap) (hart : Hart) → Holds hart →
+candidate_holds : (pc : Option ℕ) (had_watch : Bool) (candidate : Option Swap) (hart : Hart) → Holds hart →
     Holds (after_candidate pc had_watch candidate hart)
 candidate_holds pc had_watch None hart now = now
 candidate_holds pc had_watch (Some swap) hart now = now
@@ -197,6 +197,10 @@ deed_holds state h (Begins swap) hart now = once_touched _ _ (once_marked hart.c
 deed_holds state h (Buffers section touch) hart now = covered_once hart.cache touch now
 deed_holds state h (Commits section) hart now = once_each committed_way (λ way. refl) hart.cache now
 deed_holds state h (RollsBack section cause) hart now = once_each without_bits (λ way. refl) hart.cache now
+deed_holds state h (Arms word) hart now = once_touched _ _ (once_marked hart.cache _ Read now)
+deed_holds state h (Elides armed swap) hart now = once_touched _ _ (once_marked hart.cache _ Read now)
+deed_holds state h (Continues armed) hart now = now
+deed_holds state h (LetsGo armed) hart now = once_each without_bits (λ way. refl) hart.cache now
 
 kept : EachKept Holds
 kept = record {
@@ -207,6 +211,7 @@ kept = record {
       preceded = λ h hart upstream now. now;
       saw = λ h hart seen later now. now;
       lost = λ h hart now. once_each without_bits (λ way. refl) hart.cache now;
+      freed = λ h pc hart now. once_each without_bits (λ way. refl) hart.cache now;
       gave_up = λ h hart now. now;
       tried = λ h hart more now. now;
     };

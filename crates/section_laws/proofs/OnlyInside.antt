@@ -1,4 +1,4 @@
--- only live sections have bits
+-- only live and armed sections have bits
 use Rattle.std.proofs.Common.{◌≡◌, ℕ, Bool, true, false, List, [], ◌∷◌, Option, None, Some, is_some, map, refl, sym, ◌∙◌}
 use Rattle.std.specs.List.{list_any}
 use Rattle.bus_order.specs.Order.{Request}
@@ -7,7 +7,7 @@ use Rattle.cache_sets.specs.Residency.{Way, is_marked}
 use Rattle.cache_sets.proofs.Unmarked.{unmarked-cleared, unmarked-empty, unmarked-filled_with, unmarked-lettered, unmarked-touched, unmarked-without_line}
 use Rattle.el_base.specs.declared.outcomes.Need.{Need}
 use Rattle.el_base.specs.declared.outcomes.Need.TheVariants.{Read, Write}
-use Rattle.el_model.specs.Deed.{Begins, Buffers, Commits, Deed, Misses, Rests, RollsBack, Runs, Waits, hart_after}
+use Rattle.el_model.specs.Deed.{Arms, Begins, Buffers, Commits, Continues, Deed, Elides, LetsGo, Misses, Rests, RollsBack, Runs, Waits, hart_after}
 use Rattle.el_model.specs.Plain.{after_access, after_candidate, after_touch, candidate_of}
 use Rattle.el_model.specs.Serve.{given_up, others_cache, own_copy, with_claim}
 use Rattle.el_model.specs.State.{Hart, ModelState, Section, hart_of}
@@ -18,7 +18,7 @@ use Rattle.section_laws.specs.Laws.{OnlyLiveSectionsHaveBits}
 use Rattle.section_laws.proofs.EachKept.{EachKept, always_each}
 
 abbrev pub Holds : Hart → Type 0
-Holds hart = HasBitsOnlyInside hart.section hart.cache
+Holds hart = HasBitsOnlyInside hart.section hart.armed hart.cache
 
 some_live : {A X : Type 0} {x : A} → Some x ≡ None → X
 some_live wrong = absurd (cc)
@@ -49,9 +49,9 @@ others_unmarked true Read cache line bare = bare
 others_unmarked false Read cache line bare = given_unmarked Read cache line bare
 
 claim_holds : (live : Option Section) (request : Request) (hart : Hart) → hart.section ≡ live →
-    (live ≡ None → has_marks hart.cache ≡ false) → Holds (with_claim (is_some live) request hart)
-claim_holds None request hart is bare none = bare refl
-claim_holds (Some section) request hart is bare none = some_live (sym is ∙ none)
+    (live ≡ None → hart.armed ≡ None → has_marks hart.cache ≡ false) → Holds (with_claim (is_some live) request hart)
+claim_holds None request hart is bare none unarmed = bare refl unarmed
+claim_holds (Some section) request hart is bare none unarmed = some_live (sym is ∙ none)
 
 -- a deed
 access_unmarked : (cache : List (List Way)) (line : ℕ) (need : Need) → has_marks cache ≡ false →
@@ -63,7 +63,7 @@ touch_unmarked : (cache : List (List Way)) (touch : Option Touch) → has_marks 
 touch_unmarked cache None bare = bare
 touch_unmarked cache (Some touch) bare = access_unmarked cache touch.line touch.need bare
 
-candidate_holds : (pc : ℕ) (had_watch : Bool) (candidate : Option Swap) (hart : Hart) → Holds hart →
+candidate_holds : (pc : Option ℕ) (had_watch : Bool) (candidate : Option Swap) (hart : Hart) → Holds hart →
     Holds (after_candidate pc had_watch candidate hart)
 candidate_holds pc had_watch None hart now = now
 candidate_holds pc had_watch (Some swap) hart now = now
@@ -73,11 +73,15 @@ deed_holds state h Rests hart now = now
 deed_holds state h Waits hart now = now
 deed_holds state h (Misses line need) hart now = now
 deed_holds state h (Runs touch) hart now =
-    candidate_holds _ _ (candidate_of state h) _ (λ none. touch_unmarked hart.cache touch (now none))
-deed_holds state h (Begins swap) hart now = λ none. some_live none
-deed_holds state h (Buffers section touch) hart now = λ none. some_live none
-deed_holds state h (Commits section) hart now = λ none. unmarked-committed hart.cache
-deed_holds state h (RollsBack section cause) hart now = λ none. unmarked-cleared hart.cache
+    candidate_holds _ _ (candidate_of state h) _ (λ none unarmed. touch_unmarked hart.cache touch (now none unarmed))
+deed_holds state h (Begins swap) hart now = λ none unarmed. some_live none
+deed_holds state h (Buffers section touch) hart now = λ none unarmed. some_live none
+deed_holds state h (Commits section) hart now = λ none unarmed. unmarked-committed hart.cache
+deed_holds state h (RollsBack section cause) hart now = λ none unarmed. unmarked-cleared hart.cache
+deed_holds state h (Arms word) hart now = λ none unarmed. some_live unarmed
+deed_holds state h (Elides armed swap) hart now = λ none unarmed. some_live none
+deed_holds state h (Continues armed) hart now = λ none unarmed. some_live unarmed
+deed_holds state h (LetsGo armed) hart now = λ none unarmed. unmarked-cleared hart.cache
 
 pub kept : EachKept Holds
 kept = record {
@@ -87,18 +91,20 @@ kept = record {
       told = λ h hart told now. now;
       preceded = λ h hart upstream now. now;
       saw = λ h hart seen later now. now;
-      lost = λ h hart now none. unmarked-cleared hart.cache;
+      lost = λ h hart now none unarmed. unmarked-cleared hart.cache;
+      freed = λ h pc hart now none unarmed. unmarked-cleared hart.cache;
       gave_up = λ h hart now. now;
       tried = λ h hart more now. now;
     };
     unraised = λ h hart now. now;
     served = λ h state request hart now.
         claim_holds hart.section request _ refl
-        (λ none. unmarked-touched _ request.line (own_unmarked state.config.ways _ request.need hart.cache request.line (now none)));
-    bystander = λ h state request hart now none. others_unmarked _ request.need hart.cache request.line (now none);
+        (λ none unarmed.
+        unmarked-touched _ request.line (own_unmarked state.config.ways _ request.need hart.cache request.line (now none unarmed)));
+    bystander = λ h state request hart now none unarmed. others_unmarked _ request.need hart.cache request.line (now none unarmed);
   };
   deed = λ state h deed does now. deed_holds state h deed (hart_of state h) now;
-  new = λ sets none. unmarked-empty sets;
+  new = λ sets none unarmed. unmarked-empty sets;
 }
 
 pub only_live_sections_have_bits : OnlyLiveSectionsHaveBits

@@ -2,7 +2,7 @@
 use Rattle.std.proofs.Common.{◌≡◌, ◌<◌, ◌+◌, ◌==◌, ℕ, Bool, true, false, Option, None, Some, is_some, arith}
 use Rattle.std.proofs.lemmas.Bool.Decides.{nat_tests}
 use Rattle.bus_order.specs.Order.{Request}
-use Rattle.el_model.specs.Deed.{Begins, Buffers, Commits, Deed, Misses, Rests, RollsBack, Runs, Waits, hart_after}
+use Rattle.el_model.specs.Deed.{Arms, Begins, Buffers, Commits, Continues, Deed, Elides, LetsGo, Misses, Rests, RollsBack, Runs, Waits, hart_after}
 use Rattle.el_model.specs.Plain.{after_candidate, candidate_of}
 use Rattle.el_model.specs.RollBack.{most_tries}
 use Rattle.el_model.specs.Serve.{with_claim}
@@ -25,7 +25,7 @@ claim_holds : (live : Bool) (request : Request) (hart : Hart) → Holds hart →
 claim_holds true request hart now = now
 claim_holds false request hart now = now
 
-candidate_holds : (pc : ℕ) (had_watch : Bool) (candidate : Option Swap) (hart : Hart) → Holds hart →
+candidate_holds : (pc : Option ℕ) (had_watch : Bool) (candidate : Option Swap) (hart : Hart) → Holds hart →
     Holds (after_candidate pc had_watch candidate hart)
 candidate_holds pc had_watch None hart now = now
 candidate_holds pc had_watch (Some swap) hart now = now
@@ -39,6 +39,10 @@ deed_holds state h (Begins swap) hart now = now
 deed_holds state h (Buffers section touch) hart now = now
 deed_holds state h (Commits section) hart now = none_tried
 deed_holds state h (RollsBack section cause) hart now = none_tried
+deed_holds state h (Arms word) hart now = now
+deed_holds state h (Elides armed swap) hart now = now
+deed_holds state h (Continues armed) hart now = now
+deed_holds state h (LetsGo armed) hart now = now
 
 kept : EachKept Holds
 kept = record {
@@ -49,6 +53,7 @@ kept = record {
       preceded = λ h hart upstream now. now;
       saw = λ h hart seen later now. now;
       lost = λ h hart now. now;
+      freed = λ h pc hart now. now;
       gave_up = λ h hart now. none_tried;
       tried = λ h hart more now. one_more hart.tries more now;
     };

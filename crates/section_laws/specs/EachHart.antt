@@ -1,13 +1,32 @@
 -- what holds of each hart by itself, whatever the events
-use Rattle.std.specs.Prelude.{ℕ, ◌≡◌, ◌≤◌, ◌<◌, false, List, None, Option, length, slice_index}
-use Rattle.cache_sets.specs.Cache.{has_marks}
+use Rattle.std.specs.Prelude.{ℕ, ◌≡◌, ◌≢◌, ◌≤◌, ◌<◌, true, false, List, None, Option, length, slice_index}
+use Rattle.cache_sets.specs.Cache.{has_marks, read_bit, write_bit}
 use Rattle.cache_sets.specs.Residency.{Way}
+use Rattle.el_base.specs.Line.{line_number}
+use Rattle.el_model.specs.Armed.{most_armed}
 use Rattle.el_model.specs.RollBack.{most_tries}
-use Rattle.el_model.specs.State.{Section}
+use Rattle.el_model.specs.State.{Armed, Section}
 
--- without a section no line has an access bit; a bit stands on the way of a line, so it is always on a line that is resident
-abbrev pub HasBitsOnlyInside : Option Section → List (List Way) → Type 0
-HasBitsOnlyInside section cache = section ≡ None → has_marks cache ≡ false
+-- without a live or armed section no line has an access bit; a bit stands on the way of a line, so it is always on a line that is
+-- resident
+abbrev pub HasBitsOnlyInside : Option Section → Option Armed → List (List Way) → Type 0
+HasBitsOnlyInside section armed cache = section ≡ None → armed ≡ None → has_marks cache ≡ false
+
+-- no line is written and none is read but the one of a word
+pub record HasNoOtherBit (word : ℕ) (cache : List (List Way)) : Type 0 where
+  pub unwritten : (line : ℕ) → write_bit cache line ≡ false
+  pub alone : (line : ℕ) → line ≢ line_number word → read_bit cache line ≡ false
+
+-- and that one is, and so is resident
+pub record HasOneReadBit (word : ℕ) (cache : List (List Way)) : Type 0 where
+  pub read : read_bit cache (line_number word) ≡ true
+  pub no_other : HasNoOtherBit word cache
+
+-- an armed section has an instruction, its LR, at most 15, and fewer than a section may have
+pub record IsShortArmed (long : ℕ) (armed : Armed) : Type 0 where
+  pub some : 1 ≤ armed.count
+  pub few : armed.count ≤ most_armed
+  pub within : armed.count < long
 
 -- the count of sections lost in a row is below the most that may be; lock removal does not count them
 abbrev pub HasTriesLeft : ℕ → Type 0

@@ -29,3 +29,9 @@ pub record WaitsForOne (h : ℕ) (status : HartStatus) (ordered : Option Request
   pub only_holds : (held ≡ None) ⊎ OnlyHolds ordered section raised
   -- a hart that has stopped has nothing of all that
   pub stopped : status ≢ Running → HasNothing ordered section raised held
+
+-- a hart that runs, and waits for nothing and has no live section
+pub record RunsWithNothing (status : HartStatus) (ordered : Option Request) (section : Option Section) (raised : Option Request)
+    (held : Option ℕ) : Type 0 where
+  pub running : status ≡ Running
+  pub nothing : HasNothing ordered section raised held

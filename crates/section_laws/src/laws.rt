@@ -5,12 +5,17 @@ ghost use Rattle.section_laws.specs.Bounds.{
   WrittenLinesAreFew,
 };
 ghost use Rattle.section_laws.specs.Laws.{
+  ArmedHartsWaitForNothing,
+  ArmedSectionsAreShort,
+  ArmedSectionsHaveOneReadBit,
   CopiesAreCoherent,
   CountersStayInRange,
   EachHartWaitsForOne,
+  NoHartIsLiveAndArmed,
   NoSetHasALineTwice,
   OneOrderedRequestEach,
   OnlyLiveSectionsHaveBits,
+  OrderedWritesMeetNoArmedHart,
   RequestsAreNumbered,
   TriesStayBelowFour,
   WrittenLinesAreElsewhereInNoCache,
@@ -24,10 +29,41 @@ ghost use Rattle.section_laws.specs.Sections.{
   SerialOrderIsNoLonger,
 };
 
-/// In every state that can be reached, a hart without a live section has no access bit.
+/// In every state that can be reached, a hart without a live or armed section has no access bit.
 #[tactic(auto, using(crate::proofs::OnlyInside::only_live_sections_have_bits))]
 pub fn only_live_sections_have_bits()
     ensures { OnlyLiveSectionsHaveBits }
+{}
+
+/// In every state that can be reached, an armed section has one access bit alone: the read bit of the line of the
+/// word that its LR reserved, which is resident.
+pub fn armed_sections_have_one_read_bit()
+    ensures { ArmedSectionsHaveOneReadBit }
+{}
+
+/// Where the configuration is in range, in every state that can be reached an armed section has from 1 to 15
+/// instructions, its LR included, and fewer than a section may have.
+pub fn armed_sections_are_short()
+    ensures { ArmedSectionsAreShort }
+{}
+
+/// In every state that can be reached, an armed hart runs, and has no request, no hold and no live section.
+pub fn armed_harts_wait_for_nothing()
+    ensures { ArmedHartsWaitForNothing }
+{}
+
+/// In every state that can be reached, no hart has a live section and an armed one.
+#[tactic(auto, using(crate::proofs::LetGone::no_hart_is_live_and_armed))]
+pub fn no_hart_is_live_and_armed()
+    ensures { NoHartIsLiveAndArmed }
+{}
+
+/// In every state that can be reached, where the first request of a line is to write, no armed hart but the
+/// request's own has a bit on that line: all that had one were let go as the request became the first. So a write
+/// that is served takes no armed hart's line away.
+#[tactic(auto, using(crate::proofs::LetGone::ordered_writes_meet_no_armed_hart))]
+pub fn ordered_writes_meet_no_armed_hart()
+    ensures { OrderedWritesMeetNoArmedHart }
 {}
 
 /// In every state that can be reached, each hart's count of sections lost in a row is below four. Lock removal does

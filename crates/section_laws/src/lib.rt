@@ -12,11 +12,13 @@
 mod laws;
 
 pub use laws::{
+    armed_harts_wait_for_nothing, armed_sections_are_short, armed_sections_have_one_read_bit,
     begun_sections_are_accounted_for, caches_are_shaped, copies_are_coherent,
     counters_stay_in_range, each_hart_waits_for_one, messages_are_fewer_than_harts,
-    messages_name_others_once, no_set_has_a_line_twice, none_begins_after_rollback,
-    one_ordered_request_each, only_live_sections_have_bits, requests_are_numbered,
-    section_steps_are_of_five_kinds, serial_order_is_no_longer, tries_stay_below_four,
-    waiting_lines_have_room, waiting_writes_are_spared, written_lines_are_elsewhere_in_no_cache,
-    written_lines_are_few, written_lines_may_be_written,
+    messages_name_others_once, no_hart_is_live_and_armed, no_set_has_a_line_twice,
+    none_begins_after_rollback, one_ordered_request_each, only_live_sections_have_bits,
+    ordered_writes_meet_no_armed_hart, requests_are_numbered, section_steps_are_of_five_kinds,
+    serial_order_is_no_longer, tries_stay_below_four, waiting_lines_have_room,
+    waiting_writes_are_spared, written_lines_are_elsewhere_in_no_cache, written_lines_are_few,
+    written_lines_may_be_written,
 };

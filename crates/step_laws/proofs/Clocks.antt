@@ -1,37 +1,35 @@
 -- no clock is greater than the number of the events: an attempt that closes makes one by one greater than two that were there, and
 -- every other change takes one that was there
 use Rattle.std.proofs.Common.{◌≡◌, ◌+◌, ◌≤◌, ◌==◌, ℕ, Bool, true, false, List, [], ◌∷◌, Option, None, Some, is_some, length}
-use Rattle.std.proofs.Common.{map, arith, if◌then◌else◌}
-use Rattle.bus_order.specs.Order.{Request, appended, first_of, in_front_of, removed, request_of, tail_of}
-use Rattle.defer_list.specs.HartSet.{has, included}
+use Rattle.std.proofs.Common.{ap, arith, subst, sym, ◌∙◌, if◌then◌else◌}
+use Rattle.bus_order.specs.Order.{Request, appended, first_of, in_front_of, removed, request_of}
 use Rattle.el_base.specs.declared.config.Config.{Config}
 use Rattle.el_base.specs.declared.config.Mode.{Mode}
 use Rattle.el_base.specs.declared.config.Mode.TheVariants.{Plain, Sle, Tlr}
 use Rattle.el_base.specs.declared.events.Event.{Event}
-use Rattle.el_base.specs.declared.events.Kind.{Kind}
-use Rattle.el_base.specs.declared.events.Kind.TheVariants as kinds
 use Rattle.elf_image.specs.Program.{Program}
 use Rattle.el_model.specs.Attempts.{closed_clock, opened, see}
+use Rattle.el_model.specs.BusEvent.{AtFace, AtProbe, Becomes, IsAbsent, IsBusEvent, IsLetGo, IsSent, LosesIt, LosesWhere}
+use Rattle.el_model.specs.BusEvent.{Nothing, Places, Sees, Serves}
+use Rattle.el_model.specs.BusEvent.{Start, Starts, StartsWhere, Takes, as_faced, faced_head, having_taken, order_after}
+use Rattle.el_model.specs.BusEvent.{order_at, started}
 use Rattle.el_model.specs.Conflicts.{stamp_in}
-use Rattle.el_model.specs.Deed.{Begins, Buffers, Commits, Deed, Misses, Rests, RollsBack, Runs, Waits, hart_after}
-use Rattle.el_model.specs.Deliver.{after_probe, deliver_next, deliver_turn, delivered, forwarded, forwards_on}
-use Rattle.el_model.specs.Deliver.{loses_to_origin, taken, told_of, told_on}
-use Rattle.el_model.specs.Face.{Fate, LosesTo, Stays, Unmet, after_fate, deferring, faced, faced_hart, faced_if, fate_of}
-use Rattle.el_model.specs.Face.{markers_for, winning_stamp}
-use Rattle.el_model.specs.Next.{kind_turn, next, state_after, step_turn}
-use Rattle.el_model.specs.Order.{Alone, Behind, InFront, Place, before_face, marked_by, marked_from, marking, order_raised}
-use Rattle.el_model.specs.Order.{order_turn, place_for, placed, placed_in_front, placed_last}
+use Rattle.el_model.specs.Deed.{Arms, Begins, Buffers, Commits, Continues, Deed, Elides, LetsGo, Misses, Rests, RollsBack, Runs, Waits, hart_after}
+use Rattle.el_model.specs.Face.{winning_stamp}
+use Rattle.el_model.specs.Next.{next, state_after, step_turn}
+use Rattle.el_model.specs.Order.{Alone, Behind, InFront, Place}
 use Rattle.el_model.specs.Plain.{after_candidate, candidate_of}
 use Rattle.el_model.specs.RollBack.{beaten, most_tries, out_of_section}
-use Rattle.el_model.specs.Serve.{Blocks, Free, Obstacle, bystander, obstacle_to, serve_ordered, serve_past, serve_turn}
-use Rattle.el_model.specs.Serve.{served, served_hart, serving, with_claim}
-use Rattle.el_model.specs.State.{Hart, ModelState, begin, for_line, hart_of, head_of, new_hart, ordered_of, ordered_on}
-use Rattle.el_model.specs.State.{post_all, raised_of, with_hart}
+use Rattle.el_model.specs.Serve.{bystander, served_hart, with_claim}
+use Rattle.el_model.specs.State.{Hart, ModelState, Turn, begin, for_line, hart_of, new_hart, ordered_of, ordered_on}
 use Rattle.el_model.specs.Upcoming.{Swap}
-use Rattle.el_model.proofs.AllHarts.{all_each, all_first, all_with}
+use Rattle.el_model.proofs.AllHarts.{all_first}
+use Rattle.el_model.proofs.BusEvents.{by_event}
 use Rattle.el_model.proofs.Deeds.{step_deed}
-use Rattle.el_model.proofs.Tests.{by_test}
-use Rattle.mail.specs.Mailbox.{Marker, Message, Probe, posted}
+use Rattle.el_model.proofs.EachHart.{each_with}
+use Rattle.el_model.proofs.Orders.{order_as_faced, served_order}
+use Rattle.el_model.proofs.Tests.{by_hart, by_test}
+use Rattle.mail.specs.Mailbox.{Marker, Message, Probe}
 use Rattle.stamp.specs.Stamps.{Stamp}
 use Rattle.step_laws.specs.Clocks.{AreClocksUpTo, AreRequestsUpTo, ClocksAreFew, IsHartUpTo, IsRequestUpTo, IsStampUpTo}
 
@@ -113,11 +111,7 @@ module _ (most : ℕ) where
   winning_up_to state line winner now =
       stamp_up_to (ordered_on state winner line) (for_line_up_to line (ordered_of state winner) (request_up_to state.order winner now))
 
-  -- a hart is posted messages, sees a stamp, or loses its section
-  posted_up_to : (hart : Hart) (messages : List Message) → IsHartUpTo most hart → IsHartUpTo most (post_all hart messages)
-  posted_up_to hart [] now = now
-  posted_up_to hart (message ∷ messages) now = posted_up_to (record hart { mail = posted hart.mail message }) messages now
-
+  -- a hart sees a stamp, or loses its section
   saw_up_to : (stamp : Option Stamp) (hart : Hart) → IsStampUpTo most stamp → IsHartUpTo most hart → IsHartUpTo most (see stamp hart)
   saw_up_to None hart small now = now
   saw_up_to (Some stamp) hart small now =
@@ -135,167 +129,88 @@ module _ (most : ℕ) where
   beaten_up_to Sle winner hart small now = try_up_to (out_of_section hart) now
   beaten_up_to Plain winner hart small now = try_up_to (out_of_section hart) now
 
-  deferring_up_to : (mode : Mode) (stamp : Option Stamp) (hart : Hart) → IsStampUpTo most stamp → IsHartUpTo most hart →
-      IsHartUpTo most (deferring mode stamp hart)
-  deferring_up_to Tlr stamp hart small now = saw_up_to stamp hart small now
-  deferring_up_to Sle stamp hart small now = now
-  deferring_up_to Plain stamp hart small now = now
+  -- the order after the start of an event, the head that is faced then, and the stamp by which a section is lost
+  start_up_to : (state : ModelState) (by : ℕ) (start : Start) → StartsWhere state by start → AreClocksUpTo most state →
+      AreRequestsUpTo most (order_after state start)
+  start_up_to state by Nothing where_it now = now.ordered
+  start_up_to state by (Places request place) may now = by_place place
+    where
+      small : IsRequestUpTo most (Some request)
+      small = subst (IsRequestUpTo most) may.raised (now.harts by).of_raised
 
-  -- a head is faced
-  fate_up_to : (state : ModelState) (head : Request) (fate : Fate) (hart : Hart) → AreRequestsUpTo most state.order →
-      IsStampUpTo most head.stamp → IsHartUpTo most hart → IsHartUpTo most (after_fate state head fate hart)
-  fate_up_to state head Unmet hart order small now = now
-  fate_up_to state head Stays hart order small now = deferring_up_to state.config.mode head.stamp hart small now
-  fate_up_to state head (LosesTo winner) hart order small now =
-      beaten_up_to state.config.mode (winning_stamp state head.line winner) hart (winning_up_to state head.line winner order) now
+      by_place : (place : Place) → AreRequestsUpTo most (order_at state request place)
+      by_place InFront = in_front_up_to state.order request small now.ordered
+      by_place Behind = appended_up_to state.order request small now.ordered
+      by_place Alone = appended_up_to state.order request small now.ordered
+  start_up_to state by (Serves request) may now = removed_up_to state.order request.hart now.ordered
+  start_up_to state by (Takes message others) where_it now = now.ordered
 
-  faced_up_to : (state : ModelState) (head : Request) → IsStampUpTo most head.stamp → AreClocksUpTo most state →
-      AreClocksUpTo most (faced state head)
-  unfolding faced
-  faced_up_to state head small now = record {
-    harts =
-        all_each (IsHartUpTo most) state (faced_hart state head) (none_up_to most 0)
-        (λ h hart up_to.
-        by_test (IsHartUpTo most) (h == head.hart) (post_all hart (markers_for state.config.mode state head))
-        (after_fate state head (fate_of state head h hart) hart)
-        (λ own. posted_up_to hart (markers_for state.config.mode state head) up_to)
-        (λ other. fate_up_to state head (fate_of state head h hart) hart now.ordered small up_to))
-        now.harts;
-    ordered = now.ordered;
-  }
+  faced_up_to : (state : ModelState) (by : ℕ) (start : Start) (head : Request) → StartsWhere state by start →
+      faced_head state start ≡ Some head →
+      AreClocksUpTo most state → IsStampUpTo most head.stamp
+  faced_up_to state by Nothing head where_it is now = absurd (cc)
+  faced_up_to state by (Places request InFront) head may is now =
+      subst (IsRequestUpTo most) (may.raised ∙ is) (now.harts by).of_raised
+  faced_up_to state by (Places request Behind) head may is now = absurd (cc)
+  faced_up_to state by (Places request Alone) head may is now =
+      subst (IsRequestUpTo most) (may.raised ∙ is) (now.harts by).of_raised
+  faced_up_to state by (Serves request) head may is now =
+      subst (IsRequestUpTo most) (sym (ap (λ order. first_of order request.line) (served_order state request)) ∙ is)
+      (head_up_to (removed state.order request.hart) request.line (removed_up_to state.order request.hart now.ordered))
+  faced_up_to state by (Takes message others) head where_it is now = absurd (cc)
 
-  faced_if_up_to : (state : ModelState) (head : Option Request) → IsRequestUpTo most head → AreClocksUpTo most state →
-      AreClocksUpTo most (faced_if state head)
-  faced_if_up_to state None small now = now
-  faced_if_up_to state (Some head) small now = faced_up_to state head small now
+  lost_up_to : (state : ModelState) (by : ℕ) {start : Start} {h winner : ℕ} {stamp : Option Stamp} →
+      StartsWhere state by start →
+      LosesWhere state by start h winner stamp → AreClocksUpTo most state → IsStampUpTo most stamp
+  lost_up_to state by where_it (AtFace start head h winner is apart fate) now =
+      winning_up_to (as_faced state by start head) head.line winner
+      (subst (AreRequestsUpTo most) (sym (order_as_faced state by start head)) (start_up_to state by start where_it now))
+  lost_up_to state by where_it (AtProbe origin others request is loses) now =
+      subst (IsRequestUpTo most) is (request_up_to state.order origin now.ordered)
 
-  -- a request is placed
-  with_hart_up_to : (state : ModelState) (h : ℕ) (hart : Hart) → IsHartUpTo most hart → AreClocksUpTo most state →
-      AreClocksUpTo most (with_hart state h hart)
-  with_hart_up_to state h hart new now = record { harts = all_with (IsHartUpTo most) state h hart new now.harts; ordered = now.ordered }
-
-  marked_up_to : (mode : Mode) (state : ModelState) (sender h : ℕ) → AreClocksUpTo most state →
-      AreClocksUpTo most (marked_from mode state sender h)
-  marked_up_to Tlr state sender h now = with_hart_up_to state h _ (now.harts h) now
-  marked_up_to Sle state sender h now = now
-  marked_up_to Plain state sender h now = now
-
-  marked_by_up_to : (state : ModelState) (last : Option Request) (h : ℕ) → AreClocksUpTo most state →
-      AreClocksUpTo most (marked_by state last h)
-  marked_by_up_to state None h now = now
-  marked_by_up_to state (Some last) h now = marked_up_to state.config.mode state last.hart h now
-
-  marking_up_to : (state : ModelState) (h : ℕ) (former : Option Request) → AreClocksUpTo most state →
-      AreClocksUpTo most (marking state h former)
-  marking_up_to state h None now = now
-  marking_up_to state h (Some former) now = marked_up_to state.config.mode state h former.hart now
-
-  unraised_up_to : (state : ModelState) (h : ℕ) → AreClocksUpTo most state →
-      AreClocksUpTo most (with_hart state h (record (hart_of state h) { raised = None }))
-  unraised_up_to state h now =
-      let hart = now.harts h in
-      with_hart_up_to state h _
-      (record { of_clock = hart.of_clock; of_seen = hart.of_seen; of_attempt = hart.of_attempt; of_raised = tt }) now
-
-  last_up_to : (state : ModelState) (request : Request) → IsStampUpTo most request.stamp → AreClocksUpTo most state →
-      AreClocksUpTo most (placed_last state request)
-  last_up_to state request small now = record {
-    harts = (unraised_up_to state request.hart now).harts;
-    ordered = appended_up_to state.order request small now.ordered;
-  }
-
-  first_up_to : (state : ModelState) (request : Request) → IsStampUpTo most request.stamp → AreClocksUpTo most state →
-      AreClocksUpTo most (placed_in_front state request)
-  first_up_to state request small now = record {
-    harts = (unraised_up_to state request.hart now).harts;
-    ordered = in_front_up_to state.order request small now.ordered;
-  }
-
-  placed_up_to : (state : ModelState) (request : Request) (place : Place) → IsStampUpTo most request.stamp → AreClocksUpTo most state →
-      AreClocksUpTo most (placed state request place)
-  unfolding placed
-  placed_up_to state request InFront small now =
-      faced_up_to (before_face state request InFront) request small
-      (marking_up_to (placed_in_front state request) request.hart (head_of state request.line) (first_up_to state request small now))
-  placed_up_to state request Behind small now =
-      marked_by_up_to (placed_last state request) (tail_of state.order request.line) request.hart (last_up_to state request small now)
-  placed_up_to state request Alone small now = faced_up_to (placed_last state request) request small (last_up_to state request small now)
-
-  raised_up_to : (state : ModelState) (raised : Option Request) → IsRequestUpTo most raised → AreClocksUpTo most state →
-      AreClocksUpTo most (order_raised state raised).state
-  raised_up_to state None small now = now
-  raised_up_to state (Some request) small now = placed_up_to state request (place_for state request) small now
-
-  -- a request is served
+  -- what becomes of each hart
   claim_up_to : (live : Bool) (request : Request) (hart : Hart) → IsHartUpTo most hart → IsHartUpTo most (with_claim live request hart)
   claim_up_to true request hart now = now
   claim_up_to false request hart now = now
 
-  served_up_to : (state : ModelState) (request : Request) → AreClocksUpTo most state → AreClocksUpTo most (served state request)
-  unfolding served
-  served_up_to state request now = record {
-    harts =
-        all_each (IsHartUpTo most) state (serving state request) (none_up_to most 0)
-        (λ h hart up_to.
-        by_test (IsHartUpTo most) (h == request.hart) (served_hart state request hart) (bystander state request hart)
-        (λ own. claim_up_to (is_some hart.section) request _ up_to) (λ other. up_to))
-        now.harts;
-    ordered = removed_up_to state.order request.hart now.ordered;
+  taken_up_to : (message : Message) (others : List Message) (hart : Hart) → IsHartUpTo most hart →
+      IsHartUpTo most (having_taken message others hart)
+  taken_up_to (Marker sender) others hart now = now
+  taken_up_to (Probe origin) others hart now = now
+
+  started_up_to : (state : ModelState) (by : ℕ) (start : Start) (h : ℕ) (hart : Hart) → IsHartUpTo most hart →
+      IsHartUpTo most (started state by start h hart)
+  started_up_to state by Nothing h hart now = now
+  started_up_to state by (Places request place) h hart now =
+      by_hart (IsHartUpTo most) h request.hart (record hart { raised = None }) hart
+      (λ own. record { of_clock = now.of_clock; of_seen = now.of_seen; of_attempt = now.of_attempt; of_raised = tt }) (λ other. now)
+  started_up_to state by (Serves request) h hart now =
+      by_hart (IsHartUpTo most) h request.hart (served_hart state request hart) (bystander state request hart)
+      (λ own. claim_up_to (is_some hart.section) request _ now) (λ other. now)
+  started_up_to state by (Takes message others) h hart now =
+      by_hart (IsHartUpTo most) h by (having_taken message others hart) hart (λ own. taken_up_to message others hart now) (λ other. now)
+
+  becomes_up_to : (state : ModelState) (by : ℕ) (start : Start) (h : ℕ) {lost : Option ℕ} {hart : Hart} →
+      StartsWhere state by start →
+      AreClocksUpTo most state → Becomes state by start h lost hart → IsHartUpTo most hart
+  becomes_up_to state by start h where_it now (IsAbsent past) = now.harts h
+  becomes_up_to state by start h where_it now (Starts below) = started_up_to state by start h (hart_of state h) (now.harts h)
+  becomes_up_to state by start h where_it now (IsSent message lost hart sent before) = becomes_up_to state by start h where_it now before
+  becomes_up_to state by start h where_it now (IsLetGo head hart frees before) = becomes_up_to state by start h where_it now before
+  becomes_up_to state by start h where_it now (Sees head lost hart defers before) =
+      saw_up_to head.stamp hart (faced_up_to state by start head where_it defers.head_is now) (becomes_up_to state by start h where_it now before)
+  becomes_up_to state by start h where_it now (LosesIt winner stamp hart loses before) =
+      beaten_up_to state.config.mode stamp hart (lost_up_to state by where_it loses now) (becomes_up_to state by start h where_it now before)
+
+  bus_up_to : {state : ModelState} {by : ℕ} {turn : Turn} → IsBusEvent state by turn → AreClocksUpTo most state →
+      AreClocksUpTo most turn.state
+  bus_up_to {state} {by} done now = record {
+    harts = λ h. becomes_up_to state by done.start h done.where_it now (done.becomes h);
+    ordered = subst (AreRequestsUpTo most) (sym done.order) (start_up_to state by done.start done.where_it now);
   }
 
-  past_up_to : (state : ModelState) (request : Request) (obstacle : Obstacle) → AreClocksUpTo most state →
-      AreClocksUpTo most (serve_past state request obstacle).state
-  past_up_to state request (Blocks why by) now = now
-  past_up_to state request Free now =
-      let left = served_up_to state request now in
-      faced_if_up_to (served state request) (head_of (served state request) request.line)
-      (head_up_to (served state request).order request.line left.ordered) left
-
-  ordered_up_to : (state : ModelState) (ordered : Option Request) → AreClocksUpTo most state →
-      AreClocksUpTo most (serve_ordered state ordered).state
-  ordered_up_to state None now = now
-  ordered_up_to state (Some request) now = past_up_to state request (obstacle_to state request) now
-
-  -- a message is taken
-  told_up_to : (state : ModelState) (h origin : ℕ) (request : Option Request) → IsRequestUpTo most request → AreClocksUpTo most state →
-      IsHartUpTo most (told_of state h origin request)
-  told_up_to state h origin request small now =
-      let told = record (hart_of state h) { told = included (hart_of state h).told origin } in
-      by_test (IsHartUpTo most) (loses_to_origin state h request) (beaten state.config.mode (stamp_in request) told) told
-      (λ loses. beaten_up_to state.config.mode (stamp_in request) told (stamp_up_to request small) (now.harts h)) (λ stays. now.harts h)
-
-  probe_up_to : (state : ModelState) (h origin : ℕ) (request : Option Request) → IsRequestUpTo most request → AreClocksUpTo most state →
-      AreClocksUpTo most (after_probe state h origin request)
-  probe_up_to state h origin request small now =
-      let told = with_hart_up_to state h (told_of state h origin request) (told_up_to state h origin request small now) now in
-      record {
-        harts =
-            all_each (IsHartUpTo most) (with_hart state h (told_of state h origin request)) (forwarded state h origin request) (none_up_to most 0)
-            (λ g hart up_to.
-            by_test (IsHartUpTo most) (forwards_on state h origin request g) _ hart (λ sent. up_to) (λ kept. up_to))
-            told.harts;
-        ordered = now.ordered;
-      }
-
-  message_up_to : (state : ModelState) (h : ℕ) (message : Message) → AreClocksUpTo most state → AreClocksUpTo most (delivered state h message)
-  unfolding delivered
-  message_up_to state h (Marker sender) now =
-      let told = record (hart_of state h) { upstream = included (hart_of state h).upstream sender } in
-      let mid = with_hart state h told in
-      let messages = Probe h ∷ map Probe (told_on state h sender (ordered_of state h)) in
-      let before = with_hart_up_to state h told (now.harts h) now in
-      with_hart_up_to mid sender (post_all (hart_of mid sender) messages) (posted_up_to (hart_of mid sender) messages (before.harts sender)) before
-  message_up_to state h (Probe origin) now =
-      by_test (AreClocksUpTo most) (has (hart_of state h).told origin) state (after_probe state h origin (ordered_of state origin))
-      (λ known. now) (λ new. probe_up_to state h origin (ordered_of state origin) (request_up_to state.order origin now.ordered) now)
-
-  mail_up_to : (state : ModelState) (h : ℕ) (mail : List Message) → AreClocksUpTo most state → AreClocksUpTo most (deliver_next state h mail).state
-  mail_up_to state h [] now = now
-  mail_up_to state h (message ∷ others) now =
-      message_up_to (taken state h others) h message (with_hart_up_to state h _ (now.harts h) now)
-
 -- a step: as an attempt closes, its hart's clock grows to one more than a clock that was there
-candidate_up_to : (most pc : ℕ) (had_watch : Bool) (candidate : Option Swap) (hart : Hart) → IsHartUpTo most hart →
+candidate_up_to : (most : ℕ) (pc : Option ℕ) (had_watch : Bool) (candidate : Option Swap) (hart : Hart) → IsHartUpTo most hart →
     IsHartUpTo most (after_candidate pc had_watch candidate hart)
 candidate_up_to most pc had_watch None hart now = now
 candidate_up_to most pc had_watch (Some swap) hart now = now
@@ -337,6 +252,17 @@ deed_up_to most state h (Commits section) hart now =
 deed_up_to most state h (RollsBack section cause) hart now =
     let more = one_more most hart now in
     record { of_clock = closed_up_to most hart hart.attempt now; of_seen = more.of_seen; of_attempt = tt; of_raised = more.of_raised }
+deed_up_to most state h (Arms word) hart now = one_more most hart now
+deed_up_to most state h (Elides armed swap) hart now =
+    let more = one_more most hart now in
+    record {
+      of_clock = more.of_clock;
+      of_seen = more.of_seen;
+      of_attempt = opened_up_to (most + 1) state.config.mode h hart.clock hart.attempt more.of_clock more.of_attempt;
+      of_raised = more.of_raised;
+    }
+deed_up_to most state h (Continues armed) hart now = one_more most hart now
+deed_up_to most state h (LetsGo armed) hart now = one_more most hart now
 
 step_up_to : (most : ℕ) (state : ModelState) (h : ℕ) → AreClocksUpTo most state → AreClocksUpTo (most + 1) (step_turn state h).state
 step_up_to most state h now =
@@ -345,25 +271,15 @@ step_up_to most state h now =
     rw step.turn_is
     (record {
       harts =
-          all_with (IsHartUpTo (most + 1)) state h (hart_after state h step.deed (hart_of state h))
+          each_with (λ g hart. IsHartUpTo (most + 1) hart) state h (hart_after state h step.deed (hart_of state h))
           (deed_up_to most state h step.deed (hart_of state h) (now.harts h)) more.harts;
       ordered = more.ordered;
     })
 
-kind_up_to : (most : ℕ) (state : ModelState) (h : ℕ) (kind : Kind) → AreClocksUpTo most state →
-    AreClocksUpTo (most + 1) (kind_turn state h kind).state
-unfolding order_turn serve_turn deliver_turn
-kind_up_to most state h kinds.Step now = step_up_to most state h now
-kind_up_to most state h kinds.Order now =
-    clocks_more most (most + 1) (omega arith) _ (raised_up_to most state (raised_of state h) (now.harts h).of_raised now)
-kind_up_to most state h kinds.Serve now =
-    clocks_more most (most + 1) (omega arith) _ (ordered_up_to most state (ordered_of state h) now)
-kind_up_to most state h kinds.Deliver now =
-    clocks_more most (most + 1) (omega arith) _ (mail_up_to most state h (hart_of state h).mail now)
-
 next_up_to : (most : ℕ) (state : ModelState) (event : Event) → AreClocksUpTo most state → AreClocksUpTo (most + 1) (next state event).state
-unfolding next
-next_up_to most state event now = kind_up_to most state event.hart.number event.kind now
+next_up_to most state event now =
+    by_event (λ turn. AreClocksUpTo (most + 1) turn.state) state event (λ step. step_up_to most state event.hart.number now)
+    (λ turn done. clocks_more most (most + 1) (omega arith) turn.state (bus_up_to most done now))
 
 events_up_to : (most more : ℕ) (state : ModelState) (events : List Event) → more ≡ most + length events → AreClocksUpTo most state →
     AreClocksUpTo more (state_after state events)

@@ -1,5 +1,5 @@
 -- what an event leaves as it was
-use Rattle.std.proofs.Common.{◌≡◌, ◌≢◌, ◌∙◌, ℕ, Bool, true, false, is_some, refl}
+use Rattle.std.proofs.Common.{◌≡◌, ◌∙◌, ℕ, Bool, true, false, is_some, refl, ap, sym}
 use Rattle.std.proofs.Math.ListN.{length-set}
 use Rattle.bus_order.specs.Order.{Request}
 use Rattle.el_base.specs.declared.events.Kind.{Kind}
@@ -8,11 +8,11 @@ use Rattle.el_model.specs.Deed.{hart_after}
 use Rattle.el_model.specs.Next.{kind_turn, next}
 use Rattle.el_model.specs.Serve.{with_claim}
 use Rattle.el_model.specs.State.{Hart, ModelState, hart_of}
+use Rattle.el_model.proofs.BusEvents.{bus_events_are_told_once}
 use Rattle.el_model.proofs.Deeds.{step_deed}
 use Rattle.el_model.proofs.Harts.{hart_of-with_hart_other}
-use Rattle.el_model.proofs.Keeps.{Keeps}
-use Rattle.el_model.proofs.Turns.{deliver_calm, order_calm, serve_calm}
-use Rattle.section_laws.proofs.EachKept.{BusKept, bus_keeps}
+use Rattle.rv_flat.specs.Run.{run}
+use Rattle.section_laws.proofs.EachKept.{BusKept, turn_keeps}
 use Rattle.step_laws.specs.Frames.{BusEventsKeep, LeavesOthers, StepsKeepOthers}
 
 -- a hart has the predictor that it had
@@ -31,6 +31,7 @@ same_predictor old = record {
     preceded = λ h hart upstream now. now;
     saw = λ h hart seen later now. now;
     lost = λ h hart now. now;
+    freed = λ h pc hart now. now;
     gave_up = λ h hart now. now;
     tried = λ h hart more now. now;
   };
@@ -39,21 +40,14 @@ same_predictor old = record {
   bystander = λ h state request hart now. now;
 }
 
-kind_keeps : (state : ModelState) (h : ℕ) (kind : Kind) → kind ≢ kinds.Step → Keeps state (kind_turn state h kind).state
-kind_keeps state h kinds.Step bus = absurd (bus refl)
-kind_keeps state h kinds.Order bus = (order_calm state h).keeps
-kind_keeps state h kinds.Serve bus = (serve_calm state h).keeps
-kind_keeps state h kinds.Deliver bus = (deliver_calm state h).keeps
-
 pub bus_events_keep : BusEventsKeep
-unfolding next
 bus_events_keep state event bus =
-    let keeps = kind_keeps state event.hart.number event.kind bus in
+    let done = bus_events_are_told_once state event bus in
     record {
-      committed = keeps.committed;
-      predictors = bus_keeps (same_predictor state) state event.hart.number event.kind bus (λ g. refl);
-      config = keeps.config;
-      count = keeps.count;
+      committed = done.committed ∙ sym (ap (run state.committed) (done.effect event.hart.number));
+      predictors = turn_keeps (same_predictor state) done (λ g. refl);
+      config = done.config;
+      count = done.count;
     }
 
 kind_others : (state : ModelState) (h : ℕ) (kind : Kind) → kind ≡ kinds.Step → LeavesOthers state (kind_turn state h kind).state h

@@ -4,3 +4,4 @@ pub mod Frames
 pub mod Losing
 pub mod Survivors
 pub mod OwnSteps
+pub mod LettingGo

@@ -1,32 +1,29 @@
 -- only live sections are lost, and a section ends by its own hart's commit or rollback or by a loss
-use Rattle.std.proofs.Common.{◌≡◌, ◌≢◌, ◌∙◌, ◌<◌, ◌+◌, ◌==◌, ℕ, true, false, Option, None, Some, is_some, refl}
+use Rattle.std.proofs.Common.{◌≡◌, ◌≢◌, ◌∙◌, ◌<◌, ℕ, true, false, Option, None, Some, is_some, refl}
 use Rattle.std.proofs.Common.{ap, sym, subst, inl, inr, ◌⊎◌}
 use Rattle.el_base.proofs.MadeLosers.{winner_below}
 use Rattle.el_base.specs.declared.events.Event.{Event}
-use Rattle.el_base.specs.declared.events.Kind.{Kind}
 use Rattle.el_base.specs.declared.events.Kind.TheVariants as kinds
 use Rattle.el_base.specs.declared.outcomes.Outcome.{Outcome}
 use Rattle.el_base.specs.declared.outcomes.Outcome.TheVariants as outcomes
-use Rattle.el_base.specs.declared.config.Mode.{Mode}
-use Rattle.el_base.specs.declared.config.Mode.TheVariants.{Plain, Sle, Tlr}
-use Rattle.el_model.specs.Deed.{Begins, Buffers, Commits, Deed, Misses, Rests, RollsBack, Runs, Waits, hart_after, outcome_of}
+use Rattle.el_model.specs.BusEvent.{IsBusEvent}
+use Rattle.el_model.specs.Deed.{Arms, Begins, Buffers, Commits, Continues, Deed, Elides, LetsGo, Misses, Rests, RollsBack, Runs, Waits, hart_after, outcome_of}
 use Rattle.el_base.specs.Winners.{winner_over}
-use Rattle.el_model.specs.Losses.{HartsAreNumbered, Standing, lost_in, restored, standing_of}
-use Rattle.el_model.specs.Next.{after, kind_turn, next}
+use Rattle.el_model.specs.Losses.{HartsAreNumbered, restored, standing_of}
+use Rattle.el_model.specs.Next.{after, kind_turn, next, step_turn}
 use Rattle.el_model.specs.Plain.{candidate_of}
-use Rattle.el_model.specs.RollBack.{most_tries}
-use Rattle.el_model.specs.State.{Hart, ModelState, Section, hart_of, is_live, section_of}
+use Rattle.el_model.specs.State.{Hart, ModelState, Section, Turn, hart_of, is_live, section_of}
+use Rattle.el_model.proofs.BusEvents.{bus_events_are_told_once, by_event}
 use Rattle.el_model.proofs.Deeds.{step_deed}
-use Rattle.el_model.proofs.Restoring.{losers_restored}
-use Rattle.el_model.proofs.Tests.{by_test}
+use Rattle.el_model.proofs.Losing.{lost_section}
+use Rattle.el_model.proofs.Restoring.{bus_restores, losers_restored, unnamed_outside}
 use Rattle.removal_laws.proofs.Attempts.{candidate_keeps}
 use Rattle.removal_laws.proofs.Facing.{live_below}
 use Rattle.run_laws.proofs.Tests.{not_both}
 use Rattle.section_laws.specs.Sections.{is_committed, is_rolled_back}
-use Rattle.section_laws.proofs.EachHart.{each_with}
+use Rattle.el_model.proofs.EachHart.{each_with}
 use Rattle.section_laws.proofs.Numbered.{requests_are_numbered}
 use Rattle.section_laws.proofs.SectionSteps.{live_exists}
-use Rattle.section_laws.proofs.UnnamedLosers.{unnamed_outside}
 use Rattle.step_laws.specs.Losing.{EndsItself, IsBeaten, LosesItsSection, OnlyLiveSectionsLose, WhatEndsASection}
 
 none_some : {A X : Type 0} {x : A} → None ≡ Some x → X
@@ -58,28 +55,17 @@ deed_unnamed (Begins swap) g = refl
 deed_unnamed (Buffers section touch) g = refl
 deed_unnamed (Commits section) g = refl
 deed_unnamed (RollsBack section cause) g = refl
-
-names_on_bus : (state : ModelState) (h : ℕ) (kind : Kind) (g winner : ℕ) → winner_over (kind_turn state h kind).outcome g ≡ Some winner →
-    kind ≢ kinds.Step
-names_on_bus state h kinds.Step g winner names same =
-    let step = step_deed state h in
-    none_some (sym (ap (λ turn. winner_over turn.outcome g) step.turn_is ∙ deed_unnamed step.deed g) ∙ names)
-names_on_bus state h kinds.Order g winner names same = absurd (cc)
-names_on_bus state h kinds.Serve g winner names same = absurd (cc)
-names_on_bus state h kinds.Deliver g winner names same = absurd (cc)
+deed_unnamed (Arms word) g = refl
+deed_unnamed (Elides armed swap) g = refl
+deed_unnamed (Continues armed) g = refl
+deed_unnamed (LetsGo armed) g = refl
 
 -- a loss ends the section
-lost_section : (mode : Mode) (old : Standing) → (lost_in mode old).section ≡ None
-lost_section Tlr old = refl
-lost_section Sle old = by_test {A = Standing} (λ standing. standing.section ≡ None) (old.tries + 1 == most_tries) _ _ (λ last. refl) (λ more. refl)
-lost_section Plain old = by_test {A = Standing} (λ standing. standing.section ≡ None) (old.tries + 1 == most_tries) _ _ (λ last. refl) (λ more. refl)
-
 lost_by : (state : ModelState) (event : Event) (g winner : ℕ) → HartsAreNumbered state →
     winner_over (next state event).outcome g ≡ Some winner → event.kind ≢ kinds.Step → (section : Option Section) →
     section_of state g ≡ section → LosesItsSection state event g winner
-unfolding next
 lost_by state event g winner numbered names bus None none =
-    none_some (sym (unnamed_outside state event.hart.number event.kind g bus none) ∙ names)
+    none_some (sym (unnamed_outside (bus_events_are_told_once state event bus) g none) ∙ names)
 lost_by state event g winner numbered names bus (Some section) live = record {
   section = section;
   live = live;
@@ -91,10 +77,14 @@ lost_by state event g winner numbered names bus (Some section) live = record {
   exists = winner_small (next state event).outcome g winner names;
 }
 
+-- the event is of the bus
 event_on_bus : (state : ModelState) (event : Event) (g winner : ℕ) → winner_over (next state event).outcome g ≡ Some winner →
     event.kind ≢ kinds.Step
 unfolding next
-event_on_bus state event g winner names = names_on_bus state event.hart.number event.kind g winner names
+event_on_bus state event g winner names is =
+    let step = step_deed state event.hart.number in
+    let kind = ap (λ kind. winner_over (kind_turn state event.hart.number kind).outcome g) is in
+    none_some (sym (kind ∙ ap (λ turn. winner_over turn.outcome g) step.turn_is ∙ deed_unnamed step.deed g) ∙ names)
 
 pub only_live_sections_lose : OnlyLiveSectionsLose
 only_live_sections_lose program config events event g winner same range names =
@@ -119,9 +109,13 @@ deed_ends state h (Begins swap) live ended = not_both refl ended
 deed_ends state h (Buffers section touch) live ended = not_both refl ended
 deed_ends state h (Commits section) live ended = (refl, inl refl)
 deed_ends state h (RollsBack section cause) live ended = (refl, inr refl)
+deed_ends state h (Arms word) live ended = not_both live ended
+deed_ends state h (Elides armed swap) live ended = not_both refl ended
+deed_ends state h (Continues armed) live ended = not_both live ended
+deed_ends state h (LetsGo armed) live ended = not_both live ended
 
-step_ends : (state : ModelState) (h g : ℕ) → is_live state g ≡ true → is_live (kind_turn state h kinds.Step).state g ≡ false →
-    (h ≡ g) × HowItEnds (kind_turn state h kinds.Step).outcome
+step_ends : (state : ModelState) (h g : ℕ) → is_live state g ≡ true → is_live (step_turn state h).state g ≡ false →
+    (h ≡ g) × HowItEnds (step_turn state h).outcome
 step_ends state h g =
     let step = step_deed state h in
     rw step.turn_is
@@ -129,29 +123,32 @@ step_ends state h g =
     (λ k live ended. not_both live ended) g)
 
 -- where an event of the bus ends it, a winner is named
-bus_ends : (state : ModelState) (event : Event) (h : ℕ) → HartsAreNumbered state → event.kind ≢ kinds.Step → is_live state h ≡ true →
-    is_live (next state event).state h ≡ false → (winner : Option ℕ) → winner_over (next state event).outcome h ≡ winner →
-    IsBeaten state event h
-bus_ends state event h numbered bus live ended None none =
-    not_both
-    (ap (λ standing. is_some standing.section) (losers_restored state event h numbered bus (live_below state h live))
-    ∙ ap (λ w. is_some (restored state.config.mode w (standing_of (hart_of state h))).section) none ∙ live) ended
-bus_ends state event h numbered bus live ended (Some winner) names = record { winner = winner; names = names }
-
-kind_ends : (state : ModelState) (event : Event) (h : ℕ) (kind : Kind) → event.kind ≡ kind → HartsAreNumbered state →
-    is_live state h ≡ true → is_live (next state event).state h ≡ false → EndsItself state event h ⊎ IsBeaten state event h
-unfolding next
-kind_ends state event h kinds.Step is numbered live ended =
-    let own = subst (λ k. is_live (kind_turn state event.hart.number k).state h ≡ false →
-    (event.hart.number ≡ h) × HowItEnds (kind_turn state event.hart.number k).outcome) (sym is) (step_ends state event.hart.number h live) ended in
-    inl (record { own = own.0; step = is; how = own.1 })
-kind_ends state event h kinds.Order is numbered live ended =
-    inr (bus_ends state event h numbered (λ step. absurd (cc)) live ended _ refl)
-kind_ends state event h kinds.Serve is numbered live ended =
-    inr (bus_ends state event h numbered (λ step. absurd (cc)) live ended _ refl)
-kind_ends state event h kinds.Deliver is numbered live ended =
-    inr (bus_ends state event h numbered (λ step. absurd (cc)) live ended _ refl)
+bus_ends : {state : ModelState} {by : ℕ} {turn : Turn} → IsBusEvent state by turn → (h : ℕ) → HartsAreNumbered state →
+    is_live state h ≡ true →
+    is_live turn.state h ≡ false → is_some (winner_over turn.outcome h) ≡ true
+bus_ends {state} {by} {turn} done h numbered live ended = by_winner (winner_over turn.outcome h) refl
+  where
+    by_winner : (winner : Option ℕ) → winner_over turn.outcome h ≡ winner → is_some winner ≡ true
+    by_winner (Some winner) names = refl
+    by_winner None none =
+        not_both
+        (ap (λ standing. is_some standing.section) (bus_restores done h numbered (live_below state h live))
+        ∙ ap (λ w. is_some (restored state.config.mode w (standing_of (hart_of state h))).section) none ∙ live) ended
 
 pub what_ends_a_section : WhatEndsASection
-what_ends_a_section program config events event h same range live ended =
-    kind_ends (after program config events) event h event.kind refl (requests_are_numbered program config events same range) live ended
+what_ends_a_section program config events event h same range live =
+    let state = after program config events in
+    let numbered = requests_are_numbered program config events same range in
+    by_event (λ turn. turn.outcome ≡ (next state event).outcome → is_live turn.state h ≡ false → EndsItself state event h ⊎ IsBeaten state event h)
+    state event
+    (λ step outcome ended.
+    let own = step_ends state event.hart.number h live ended in
+    inl (record { own = own.0; step = step; how = subst HowItEnds outcome own.1 }))
+    (λ turn done outcome ended. inr (beaten (winner_over turn.outcome h) (ap (λ o. winner_over o h) (sym outcome)) (bus_ends done h numbered live ended)))
+    refl
+  where
+    beaten : (winner : Option ℕ) → winner_over (next (after program config events) event).outcome h ≡ winner →
+        is_some winner ≡ true →
+        IsBeaten (after program config events) event h
+    beaten None none some = absurd (cc)
+    beaten (Some winner) names some = record { winner = winner; names = names }

@@ -2,14 +2,15 @@
 use Rattle.std.proofs.Common.{◌≡◌, ◌∙◌, ◌<◌, ℕ, List, length, refl, ap, sym, subst, inl, inr, ◌⊎◌, arith}
 use Rattle.el_base.specs.declared.config.Config.{Config}
 use Rattle.el_base.specs.declared.events.Event.{Event}
-use Rattle.el_base.specs.declared.events.Kind.{Kind}
 use Rattle.el_base.specs.declared.events.Kind.TheVariants as kinds
 use Rattle.el_base.specs.declared.outcomes.Need.{Need}
 use Rattle.elf_image.specs.Program.{Program}
-use Rattle.el_model.specs.Deed.{Begins, Buffers, Commits, Deed, DoesWhere, Misses, MissesInside, MissesOutside, Rests}
+use Rattle.el_model.specs.BusEvent.{IsOfBus}
+use Rattle.el_model.specs.Deed.{Arms, Begins, Buffers, Commits, Continues, Deed, DoesWhere, Elides, LetsGo, Misses, MissesInside, MissesOutside, Rests}
 use Rattle.el_model.specs.Deed.{RollsBack, Runs, Waits, done, hart_after, outcome_of}
-use Rattle.el_model.specs.Next.{after, kind_turn, next}
+use Rattle.el_model.specs.Next.{after, next}
 use Rattle.el_model.specs.State.{ModelState, begin, hart_of}
+use Rattle.el_model.proofs.BusEvents.{by_event}
 use Rattle.el_model.proofs.FromStart.{kept_after, steps_are_deeds}
 use Rattle.el_model.proofs.Harts.{hart_of-with_hart_same, with_hart_kept}
 use Rattle.rv_alu.specs.declared.view.HartStatus.TheVariants.{Running}
@@ -17,7 +18,6 @@ use Rattle.rv_flat.proofs.RunsAfter.{runs-exists}
 use Rattle.rv_flat.specs.FlatState.{status_of}
 use Rattle.rv_flat.specs.Run.{alone}
 use Rattle.section_laws.proofs.Lengths.{AsMany, first_as_many, next_as_many}
-use Rattle.section_laws.proofs.SectionSteps.{IsOfBus, of_bus}
 use Rattle.section_laws.proofs.Waiting.{is_rolled}
 use Rattle.step_laws.specs.OwnSteps.{Does, OwnCommits, OwnDeeds, OwnOutcomes, OwnRollbacks, TellsOf}
 
@@ -45,6 +45,10 @@ deed_stands state h (Commits section) many does =
     hart_of-with_hart_same state h _ (exists state h many does.goes_on.is_short.inside.running)
 deed_stands state h (RollsBack section cause) many does =
     hart_of-with_hart_same state h _ (exists state h many (is_rolled state h section cause does).running)
+deed_stands state h (Arms word) many does = hart_of-with_hart_same state h _ (exists state h many does.outside.running)
+deed_stands state h (Elides armed swap) many does = hart_of-with_hart_same state h _ (exists state h many does.is_armed.running)
+deed_stands state h (Continues armed) many does = hart_of-with_hart_same state h _ (exists state h many does.is_armed.running)
+deed_stands state h (LetsGo armed) many does = hart_of-with_hart_same state h _ (exists state h many does.is_armed.running)
 
 does_deed : (state : ModelState) (event : Event) → event.kind ≡ kinds.Step → AsMany state → (deed : Deed) × Does state event deed
 does_deed state event is many =
@@ -69,10 +73,14 @@ tells_of state event Rests does = does
 tells_of state event Waits does = does
 tells_of state event (Misses line need) does = (line, refl, does)
 tells_of state event (Runs touch) does = (touch, does)
-tells_of state event (Begins swap) does = (swap, does)
-tells_of state event (Buffers section touch) does = (section, touch, does)
+tells_of state event (Begins swap) does = inl (swap, does)
+tells_of state event (Buffers section touch) does = inl (section, touch, does)
 tells_of state event (Commits section) does = (section, refl, does)
 tells_of state event (RollsBack section cause) does = (section, does)
+tells_of state event (Arms word) does = (word, does)
+tells_of state event (Elides armed swap) does = inr (armed, swap, does)
+tells_of state event (Continues armed) does = inr (armed, does)
+tells_of state event (LetsGo armed) does = (armed, refl, does)
 
 pub own_outcomes : OwnOutcomes
 own_outcomes program config events event is =
@@ -81,15 +89,9 @@ own_outcomes program config events event is =
     subst (TellsOf state event) (sym does.outcome) (tells_of state event deed does)
 
 -- an outcome that is none of the bus comes of a step
-step_by : (state : ModelState) (h : ℕ) (kind : Kind) → (IsOfBus (kind_turn state h kind).outcome → ⊥) → kind ≡ kinds.Step
-step_by state h kinds.Step other = refl
-step_by state h kinds.Order other = absurd (other (of_bus state h kinds.Order (λ same. absurd (cc))))
-step_by state h kinds.Serve other = absurd (other (of_bus state h kinds.Serve (λ same. absurd (cc))))
-step_by state h kinds.Deliver other = absurd (other (of_bus state h kinds.Deliver (λ same. absurd (cc))))
-
 is_step : (state : ModelState) (event : Event) → (IsOfBus (next state event).outcome → ⊥) → event.kind ≡ kinds.Step
-unfolding next
-is_step state event other = step_by state event.hart.number event.kind other
+is_step state event =
+    by_event (λ turn. (IsOfBus turn.outcome → ⊥) → event.kind ≡ kinds.Step) state event (λ step other. step) (λ turn done other. absurd (other done.of_bus))
 
 -- a commit, and a rollback
 pub own_commits : OwnCommits

@@ -1,33 +1,33 @@
 -- watches and sections stay short
-use Rattle.std.proofs.Common.{◌≡◌, ◌∙◌, ◌+◌, ◌≤◌, ◌==◌, ◌||◌, ℕ, Bool, true, false, List, Option, None, Some, is_some, refl}
+use Rattle.std.proofs.Common.{◌≡◌, ◌∙◌, ◌+◌, ◌≤◌, ◌==◌, ◌||◌, ℕ, suc, Bool, true, false, List, Option, None, Some, is_some, refl}
 use Rattle.std.proofs.Common.{ap, sym, subst, arith, if◌then◌else◌}
 use Rattle.std.proofs.lemmas.Bool.Decides.{nat_tests}
 use Rattle.bus_order.specs.Order.{Request}
 use Rattle.el_base.specs.Config.{IsInRange}
 use Rattle.el_base.specs.declared.config.Config.{Config}
 use Rattle.el_base.specs.declared.events.Event.{Event}
-use Rattle.el_base.specs.declared.events.Kind.{Kind}
-use Rattle.el_base.specs.declared.events.Kind.TheVariants as kinds
 use Rattle.el_base.specs.declared.outcomes.Cause.{Cause}
 use Rattle.el_base.specs.declared.outcomes.Cause.TheVariants.{Room, Lines, Long, Call, Mixed}
 use Rattle.el_base.proofs.Ranges.{ranges}
 use Rattle.elf_image.specs.Program.{Program}
-use Rattle.el_model.specs.Deed.{Begins, Buffers, Commits, Deed, DoesWhere, Misses, Rests, RollsBack, Runs, Waits, hart_after}
-use Rattle.el_model.specs.Next.{after, kind_turn, next}
-use Rattle.el_model.specs.Plain.{after_candidate, candidate_of, seen_by, watched}
+use Rattle.el_model.specs.Deed.{Arms, Begins, Buffers, Commits, Continues, Deed, DoesWhere, Elides, LetsGo, Misses, Rests, RollsBack, Runs, Waits, hart_after}
+use Rattle.el_model.specs.Next.{after, next}
+use Rattle.el_model.specs.Plain.{after_candidate, armed_count, candidate_of, seen_by, watched, watching_from}
 use Rattle.el_model.specs.RollBack.{blamed}
 use Rattle.el_model.specs.Serve.{with_claim}
-use Rattle.el_model.specs.State.{Hart, ModelState, Section, begin, hart_of, new_hart}
+use Rattle.el_model.specs.State.{Armed, Hart, ModelState, Section, armed_of, begin, hart_of, new_hart}
 use Rattle.el_model.specs.Upcoming.{Swap}
 use Rattle.el_model.proofs.AllHarts.{all_first}
-use Rattle.el_model.proofs.FromStart.{kept_after, next_config}
-use Rattle.pair_table.specs.Predictor.{Predictor, Watch, counting, judged, saw_with, verdict_on, watching}
+use Rattle.el_model.proofs.FromStart.{next_config}
+use Rattle.pair_table.specs.Predictor.{Predictor, Watch, counting, judged, saw_with, verdict_on}
 use Rattle.pair_table.specs.declared.seen.Seen.{Seen}
 use Rattle.pair_table.specs.declared.verdict.Verdict.{Verdict}
 use Rattle.pair_table.specs.declared.verdict.Verdict.TheVariants.{Up, Down}
-use Rattle.section_laws.proofs.EachHart.{Each}
-use Rattle.section_laws.proofs.EachKept.{BusKept, bus_keeps}
-use Rattle.section_laws.proofs.Moves.{step_keeps}
+use Rattle.el_model.proofs.EachHart.{Each}
+use Rattle.run_laws.proofs.Reached.{kept_along}
+use Rattle.section_laws.specs.EachHart.{IsShortArmed}
+use Rattle.section_laws.proofs.ArmedCounts.{armed_sections_are_short}
+use Rattle.section_laws.proofs.EachKept.{BusKept, event_keeps}
 use Rattle.step_laws.specs.Counts.{IsSectionShort, IsWatchShort, SectionsAreShort, WatchesAreShort}
 
 -- of a watch and a section that may be there
@@ -58,6 +58,7 @@ bus_kept long = record {
     preceded = λ h hart upstream now. now;
     saw = λ h hart seen later now. now;
     lost = λ h hart now. record { of_section = tt; of_watch = now.of_watch };
+    freed = λ h pc hart now. now;
     gave_up = λ h hart now. now;
     tried = λ h hart more now. now;
   };
@@ -103,17 +104,18 @@ watched_short state h predictor (Some watch) now =
 abbrev HasTwo : ℕ → Type 0
 HasTwo long = 2 ≤ long
 
-watching_short : (long : ℕ) (predictor : Predictor) (had_watch : Bool) (pc word old : ℕ) → HasTwo long → WatchShort long predictor.watch →
-    WatchShort long (if had_watch then predictor else watching predictor pc word old).watch
-watching_short long predictor true pc word old two now = now
-watching_short long predictor false pc word old two now = record { some = omega arith; fewer = omega (arith, two) }
+watching_short : (long : ℕ) (predictor : Predictor) (had_watch : Bool) (pc : Option ℕ) (swap : Swap) → HasTwo long →
+    WatchShort long predictor.watch → WatchShort long (if had_watch then predictor else watching_from predictor pc swap).watch
+watching_short long predictor true pc swap two now = now
+watching_short long predictor false None swap two now = now
+watching_short long predictor false (Some pc) swap two now = record { some = omega arith; fewer = omega (arith, two) }
 
-candidate_holds : (long h pc : ℕ) (had_watch : Bool) (candidate : Option Swap) (hart : Hart) → HasTwo long → Holds long h hart →
+candidate_holds : (long h : ℕ) (pc : Option ℕ) (had_watch : Bool) (candidate : Option Swap) (hart : Hart) → HasTwo long → Holds long h hart →
     Holds long h (after_candidate pc had_watch candidate hart)
 candidate_holds long h pc had_watch None hart two now = now
 candidate_holds long h pc had_watch (Some swap) hart two now = record {
   of_section = now.of_section;
-  of_watch = watching_short long hart.predictor had_watch pc swap.word swap.old two now.of_watch;
+  of_watch = watching_short long hart.predictor had_watch pc swap two now.of_watch;
 }
 
 blamed_short : (long : ℕ) (cause : Cause) (pc : ℕ) (predictor : Predictor) → WatchShort long predictor.watch →
@@ -134,17 +136,28 @@ live_short : (long : ℕ) (found : Option Section) (section : Section) → found
 live_short long None section is now = absurd (cc)
 live_short long (Some found) section is now = let e : found ≡ section = cc in subst (IsSectionShort long) e now
 
+-- a section that begins at the SC of an armed one is as long as that and one more
+abbrev ArmedShort : ℕ → ModelState → Type 0
+ArmedShort long state = (h : ℕ) (armed : Armed) → armed_of state h ≡ Some armed → IsShortArmed long armed
+
+most_begun : (long : ℕ) (found : Option Armed) → HasTwo long → ((armed : Armed) → found ≡ Some armed → IsShortArmed long armed) →
+    suc (armed_count found) ≤ long
+most_begun long None two short = omega (arith, two)
+most_begun long (Some armed) two short = let within = (short armed refl).within in omega (arith, within)
+
 deed_holds : (state : ModelState) (h : ℕ) (deed : Deed) → DoesWhere state h deed → HasTwo state.config.long →
-    Holds state.config.long h (hart_of state h) → Holds state.config.long h (hart_after state h deed (hart_of state h))
-deed_holds state h Rests does two now = now
-deed_holds state h Waits does two now = now
-deed_holds state h (Misses line need) does two now = now
-deed_holds state h (Runs touch) does two now =
+    ArmedShort state.config.long state → Holds state.config.long h (hart_of state h) → Holds state.config.long h (hart_after state h deed (hart_of state h))
+deed_holds state h Rests does two armed_short now = now
+deed_holds state h Waits does two armed_short now = now
+deed_holds state h (Misses line need) does two armed_short now = now
+deed_holds state h (Runs touch) does two armed_short now =
     let predictor = (hart_of state h).predictor in
     candidate_holds state.config.long h _ _ (candidate_of state h) _ two
     (record { of_section = now.of_section; of_watch = watched_short state h predictor predictor.watch now.of_watch })
-deed_holds state h (Begins swap) does two now = record { of_section = record { some = omega arith; no_more = omega (arith, two) }; of_watch = tt }
-deed_holds state h (Buffers section touch) does two now =
+deed_holds state h (Begins swap) does two armed_short now =
+    let most = most_begun state.config.long (armed_of state h) two (armed_short h) in
+    record { of_section = record { some = omega arith; no_more = omega (arith, most) }; of_watch = tt }
+deed_holds state h (Buffers section touch) does two armed_short now =
     let is_short = does.goes.goes_on.is_short in
     record {
       of_section =
@@ -152,37 +165,37 @@ deed_holds state h (Buffers section touch) does two now =
           (live_short state.config.long (hart_of state h).section section is_short.inside.live now.of_section);
       of_watch = now.of_watch;
     }
-deed_holds state h (Commits section) does two now = record { of_section = tt; of_watch = now.of_watch }
-deed_holds state h (RollsBack section cause) does two now =
+deed_holds state h (Commits section) does two armed_short now = record { of_section = tt; of_watch = now.of_watch }
+deed_holds state h (RollsBack section cause) does two armed_short now =
     record { of_section = tt; of_watch = blamed_short state.config.long cause _ (hart_of state h).predictor now.of_watch }
+deed_holds state h (Arms word) does two armed_short now = now
+deed_holds state h (Elides armed swap) does two armed_short now =
+    let most = most_begun state.config.long (armed_of state h) two (armed_short h) in
+    record { of_section = record { some = omega arith; no_more = omega (arith, most) }; of_watch = tt }
+deed_holds state h (Continues armed) does two armed_short now = now
+deed_holds state h (LetsGo armed) does two armed_short now = now
 
-kind_holds : (state : ModelState) (h : ℕ) (kind : Kind) → HasTwo state.config.long → Each (Holds state.config.long) state →
-    Each (Holds state.config.long) (kind_turn state h kind).state
-kind_holds state h kinds.Step two now =
-    step_keeps (Holds state.config.long) state h (λ deed does. deed_holds state h deed does two (now h)) now
-kind_holds state h kinds.Order two now = bus_keeps (bus_kept state.config.long) state h kinds.Order (λ same. absurd (cc)) now
-kind_holds state h kinds.Serve two now = bus_keeps (bus_kept state.config.long) state h kinds.Serve (λ same. absurd (cc)) now
-kind_holds state h kinds.Deliver two now = bus_keeps (bus_kept state.config.long) state h kinds.Deliver (λ same. absurd (cc)) now
-
-next_holds : (state : ModelState) (event : Event) → HasTwo state.config.long → Each (Holds state.config.long) state →
+next_holds : (state : ModelState) (event : Event) → HasTwo state.config.long → ArmedShort state.config.long state → Each (Holds state.config.long) state →
     Each (Holds state.config.long) (next state event).state
-unfolding next
-next_holds state event two now = kind_holds state event.hart.number event.kind two now
+next_holds state event two armed_short now =
+    event_keeps (bus_kept state.config.long) state event
+    (λ deed does. deed_holds state event.hart.number deed does two armed_short (now event.hart.number)) now
 
 -- with a configuration in range
 record Short (config : Config) (state : ModelState) : Type 0 where
   config_is : state.config ≡ config
   each : Each (Holds config.long) state
 
-next_short : (config : Config) → HasTwo config.long → (state : ModelState) (event : Event) → Short config state →
+next_short : (config : Config) → HasTwo config.long → (state : ModelState) (event : Event) → ArmedShort config.long state → Short config state →
     Short config (next state event).state
-next_short config two state event now =
+next_short config two state event armed_short now =
     let is = ap (λ config. config.long) now.config_is in
     record {
       config_is = next_config state event ∙ now.config_is;
       each =
           subst (λ long. Each (Holds long) (next state event).state) is
-          (next_holds state event (subst HasTwo (sym is) two) (subst (λ long. Each (Holds long) state) (sym is) now.each));
+          (next_holds state event (subst HasTwo (sym is) two) (subst (λ long. ArmedShort long state) (sym is) armed_short)
+          (subst (λ long. Each (Holds long) state) (sym is) now.each));
     }
 
 first_short : (program : Program) (config : Config) → Short config (begin program config)
@@ -200,7 +213,11 @@ long_in_range config range = let long = (ranges config range).long in grind (ari
 
 always_short : (program : Program) (config : Config) (events : List Event) → IsInRange config → Short config (after program config events)
 always_short program config events range =
-    kept_after (Short config) (next_short config (long_in_range config range)) (begin program config) events (first_short program config)
+    kept_along (Short config) program config
+    (λ done event now.
+    next_short config (long_in_range config range) (after program config done) event
+    (λ h armed is. armed_sections_are_short program config done range h armed is) now)
+    (first_short program config) events
 
 watch_short : (long : ℕ) (found : Option Watch) (watch : Watch) → found ≡ Some watch → WatchShort long found → IsWatchShort long watch
 watch_short long None watch is now = absurd (cc)

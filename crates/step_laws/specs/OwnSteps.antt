@@ -1,5 +1,5 @@
 -- a step as its own hart comes out of it
-use Rattle.std.specs.Prelude.{ℕ, ◌≡◌, ◌+◌, List, Option, None, Some}
+use Rattle.std.specs.Prelude.{ℕ, ◌≡◌, ◌+◌, ◌⊎◌, List, Option, None, Some}
 use Rattle.cache_sets.specs.Cache as caches
 use Rattle.el_base.specs.LineAddr.{line_addr}
 use Rattle.el_base.specs.declared.config.Config.{Config}
@@ -7,14 +7,16 @@ use Rattle.el_base.specs.declared.events.Event.{Event}
 use Rattle.el_base.specs.declared.events.Kind.TheVariants as kinds
 use Rattle.el_base.specs.declared.outcomes.Cause.{Cause}
 use Rattle.el_base.specs.declared.outcomes.Outcome.{Outcome}
+use Rattle.el_base.specs.declared.outcomes.Outcome.TheVariants as outcomes
 use Rattle.el_base.specs.declared.outcomes.Outcome.TheVariants.{Idle, Stalled, Missed, Ran, Began, Buffered, Committed, RolledBack}
 use Rattle.elf_image.specs.Program.{Program}
-use Rattle.el_model.specs.Deed.{Begins, Buffers, Commits, Deed, DoesWhere, MayCommit, Misses, MustRollBack, Rests, RollsBack, Runs, Waits}
+use Rattle.el_model.specs.Deed.{Arms, Begins, Buffers, Commits, Continues, Deed, DoesWhere, Elides, LetsGo, MayCommit, Misses, MustRollBack, Rests}
+use Rattle.el_model.specs.Deed.{RollsBack, Runs, Waits}
 use Rattle.el_model.specs.Deed.{committed_after, hart_after, outcome_of}
 use Rattle.el_model.specs.InSection.{committed_hart}
 use Rattle.el_model.specs.Next.{after, next}
 use Rattle.el_model.specs.RollBack.{rolled_back}
-use Rattle.el_model.specs.State.{ModelState, Section, cache_of, hart_of, section_of}
+use Rattle.el_model.specs.State.{Armed, ModelState, Section, cache_of, hart_of, section_of}
 use Rattle.el_model.specs.Upcoming.{Swap, Touch}
 use Rattle.rv_flat.specs.FlatState.{view_of}
 use Rattle.rv_flat.specs.Run.{alone}
@@ -38,10 +40,15 @@ TellsOf state event Idle = Does state event Rests
 TellsOf state event Stalled = Does state event Waits
 TellsOf state event (Missed line need) = (number : ℕ) × (line ≡ line_addr number) × Does state event (Misses number need)
 TellsOf state event Ran = (touch : Option Touch) × Does state event (Runs touch)
-TellsOf state event Began = (swap : Swap) × Does state event (Begins swap)
-TellsOf state event Buffered = (section : Section) × (touch : Option Touch) × Does state event (Buffers section touch)
+TellsOf state event Began =
+    ((swap : Swap) × Does state event (Begins swap)) ⊎ ((armed : Armed) × (swap : Swap) × Does state event (Elides armed swap))
+TellsOf state event Buffered =
+    ((section : Section) × (touch : Option Touch) × Does state event (Buffers section touch))
+    ⊎ ((armed : Armed) × Does state event (Continues armed))
 TellsOf state event (Committed count) = (section : Section) × (count ≡ section.count + 1) × Does state event (Commits section)
 TellsOf state event (RolledBack cause) = (section : Section) × Does state event (RollsBack section cause)
+TellsOf state event outcomes.Armed = (word : ℕ) × Does state event (Arms word)
+TellsOf state event (outcomes.LetGo count) = (armed : Armed) × (count ≡ armed.count) × Does state event (LetsGo armed)
 TellsOf state event _ = ⊥
 
 -- in every state that can be reached, the outcome of a step tells which deed its hart did

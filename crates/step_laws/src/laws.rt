@@ -1,6 +1,7 @@
 ghost use Rattle.step_laws.specs.Clocks.{ClocksAreFew};
 ghost use Rattle.step_laws.specs.Counts.{SectionsAreShort, WatchesAreShort};
 ghost use Rattle.step_laws.specs.Frames.{BusEventsKeep, StepsKeepOthers};
+ghost use Rattle.step_laws.specs.LettingGo.{BusEventsLetHartsGo};
 ghost use Rattle.step_laws.specs.Losing.{OnlyLiveSectionsLose, WhatEndsASection};
 ghost use Rattle.step_laws.specs.OwnSteps.{OwnCommits, OwnDeeds, OwnOutcomes, OwnRollbacks};
 ghost use Rattle.step_laws.specs.Survivors.{SurvivorsKeepBits, SurvivorsKeepWhatTheyShow};
@@ -35,11 +36,20 @@ pub fn only_live_sections_lose()
     ensures { OnlyLiveSectionsLose }
 {}
 
-/// An event that is no step leaves what is committed as it was, each hart's predictor, the configuration, and how
-/// many harts there are. This is said of any state.
+/// An event that is no step commits the instructions of the harts that it lets go and nothing else, and leaves each
+/// hart's predictor, the configuration, and how many harts there are. This is said of any state.
 #[tactic(auto, using(crate::proofs::Frames::bus_events_keep))]
 pub fn bus_events_keep()
     ensures { BusEventsKeep }
+{}
+
+/// From a program whose memory is bytes, with as many harts as its configuration has, where that is in range, an event
+/// that is no step lets go the harts that its outcome tells. Of those the armed section is over, the view is the one
+/// that its private run has come to, and the pc of its LR is kept. Memory, code and output stay, and so do each other
+/// hart's view with its reservation, its armed section and the pc of its last LR.
+#[tactic(auto, using(crate::proofs::LettingGo::bus_events_let_harts_go))]
+pub fn bus_events_let_harts_go()
+    ensures { BusEventsLetHartsGo }
 {}
 
 /// A step leaves each other hart as it was, the order of requests, the configuration, and how many harts there are.

@@ -1,6 +1,5 @@
 use Rattle.run_laws.proofs.LoadedBytes as loaded_bytes
 use Rattle.run_laws.proofs.laws.loaded_programs_are_bytes.Goals as goal
 
--- src/laws.rt:64:1
 pub returns : goal.returns
 returns c = loaded_bytes.loaded_programs_are_bytes

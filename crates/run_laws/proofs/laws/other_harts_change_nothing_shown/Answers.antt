@@ -1,6 +1,5 @@
 use Rattle.run_laws.proofs.OtherHarts as other_harts
 use Rattle.run_laws.proofs.laws.other_harts_change_nothing_shown.Goals as goal
 
--- src/laws.rt:44:1
 pub returns : goal.returns
 returns c = other_harts.other_harts_change_nothing_shown

@@ -1,6 +1,5 @@
 use Rattle.run_laws.proofs.Releasing as releasing
 use Rattle.run_laws.proofs.laws.releases_commit.Goals as goal
 
--- src/laws.rt:58:1
 pub returns : goal.returns
 returns c = releasing.releases_commit

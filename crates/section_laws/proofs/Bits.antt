@@ -3,9 +3,9 @@ use Rattle.std.proofs.Common.{◌≡◌, ◌≢◌, ◌∙◌, ◌≤◌, ◌==�
 use Rattle.std.proofs.lemmas.Bool.{cases_eq}
 use Rattle.bus_order.specs.Order.{Request}
 use Rattle.bus_order.proofs.LookUps.{other_test, own_test}
-use Rattle.cache_sets.specs.Cache.{bit_in, filled_with, has_bit, is_resident, letter_of, lettered, marked, touched, way_of, without_line}
-use Rattle.cache_sets.specs.Residency.{Way, with_bit, with_letter}
-use Rattle.cache_sets.proofs.CacheLemmas.{way_of-filled_with_same, way_of-lettered_other, way_of-lettered_same, way_of-marked_other, way_of-marked_same, way_of-touched, way_of-without_line_other, way_of-without_line_same}
+use Rattle.cache_sets.specs.Cache.{bit_in, cleared, filled_with, has_bit, is_resident, letter_of, lettered, marked, touched, way_of, without_line}
+use Rattle.cache_sets.specs.Residency.{Way, with_bit, with_letter, without_bits}
+use Rattle.cache_sets.proofs.CacheLemmas.{way_of-cleared, way_of-filled_with_same, way_of-lettered_other, way_of-lettered_same, way_of-marked_other, way_of-marked_same, way_of-touched, way_of-without_line_other, way_of-without_line_same}
 use Rattle.el_base.specs.declared.outcomes.Need.{Need}
 use Rattle.el_base.specs.declared.outcomes.Need.TheVariants.{Read, Write}
 use Rattle.el_model.specs.Conflicts.{conflicts, meets_bit}
@@ -44,6 +44,10 @@ clash without with_it = never (sym without ∙ with_it)
   where
     never : {X : Type 0} → false ≡ true → X
     never is = absurd (cc)
+
+pub unless : (b : Bool) → (b ≡ true → ⊥) → b ≡ false
+unless true never = absurd (never refl)
+unless false never = refl
 
 pub no_less : (n : ℕ) → n ≤ n
 no_less n = omega arith
@@ -114,6 +118,13 @@ no_more_lettered cache line l letter = at (cases_eq l line)
     at : (l ≡ line) ⊎ (l ≡ line → ⊥) → NoBitMore cache (lettered cache line letter) l
     at (inl same) = rw same (rw (way_of-lettered_same cache line letter) (lettered_bits letter (way_of cache line)))
     at (inr other) = no_more_equal (way_of cache l) _ (way_of-lettered_other cache line l letter other)
+
+no_more_bare : (way : Option Way) → NoMore way (option_map without_bits way)
+no_more_bare None = no_more_none None
+no_more_bare (Some way) = record { read = λ is. absurd (cc); write = λ is. absurd (cc) }
+
+pub no_more_cleared : (cache : List (List Way)) (l : ℕ) → NoBitMore cache (cleared cache) l
+no_more_cleared cache l = rw (way_of-cleared cache l) (no_more_bare (way_of cache l))
 
 no_more_without : (cache : List (List Way)) (line l : ℕ) → NoBitMore cache (without_line cache line) l
 no_more_without cache line l = at (cases_eq l line)

@@ -1,32 +1,35 @@
 -- without stamps a request that is faced as the head of its line meets no section after it: each that met it has lost
 use Rattle.std.proofs.Common.{◌≡◌, ◌≢◌, ◌∙◌, ℕ, ◌+◌, Bool, true, false, ◌&&◌, ◌==◌, not}
-use Rattle.std.proofs.Common.{Option, None, Some, is_some, length, refl, ap, sym, inl, inr, ◌⊎◌, if◌then◌else◌}
+use Rattle.std.proofs.Common.{Option, None, Some, is_some, length, refl, ap, sym, subst, inl, inr, ◌⊎◌, if◌then◌else◌}
 use Rattle.std.specs.Option.{option_or}
 use Rattle.std.specs.Prelude.{nat_lt}
 use Rattle.std.proofs.lemmas.Bool.{ltb-true, ltb-false}
-use Rattle.bus_order.specs.Order.{IsOneEach, Request, first_of, removed}
+use Rattle.bus_order.specs.Order.{IsOneEach, Request, first_of}
 use Rattle.bus_order.proofs.LookUps.{first_of_appended_other, first_of_appended_own, first_of_in_front_of_other}
 use Rattle.bus_order.proofs.LookUps.{first_of_in_front_of_own, number_of_test, own_test}
 use Rattle.bus_order.proofs.Queues.{first_of_removed_other, hart_of_request_of, line_of_first_of}
 use Rattle.std.proofs.lemmas.Bool.{cases_eq}
 use Rattle.el_base.specs.declared.config.Mode.{Mode}
 use Rattle.el_base.specs.declared.config.Mode.TheVariants.{Plain, Sle, Tlr}
+use Rattle.el_model.specs.BusEvent.{IsBusEvent, Nothing, Places, Serves, Start, StartsWhere, Takes, as_faced}
+use Rattle.el_model.specs.BusEvent.{faced_head, having_taken, order_after}
+use Rattle.el_model.specs.BusEvent.{order_at, started}
 use Rattle.el_model.specs.Conflicts.{conflicts, conflicts_with, meets_bit, retains, wins_over}
-use Rattle.el_model.specs.Face.{LosesTo, Unmet, after_fate, deferring_fate, faced, faced_hart, faced_if, fate_of, markers_for, winning_stamp}
-use Rattle.el_model.specs.Order.{Alone, Behind, InFront, Place, before_face, order_raised, place_for, placed, placed_in_front, placed_last}
+use Rattle.el_model.specs.Face.{LosesTo, Unmet, after_fate, deferring_fate, faced, faced_hart, fate_of, markers_for}
+use Rattle.el_model.specs.Face.{winning_stamp}
+use Rattle.el_model.specs.Order.{Alone, Behind, InFront, Place, place_for}
 use Rattle.el_model.specs.Quiet.{has_stamps}
 use Rattle.el_model.specs.RollBack.{beaten, most_tries, out_of_section}
-use Rattle.el_model.specs.Serve.{Blocks, Free, Obstacle, obstacle_to, serve_ordered, serve_past, served}
-use Rattle.el_model.specs.State.{Hart, ModelState, hart_of, head_of, new_hart, ordered_of, post_all}
+use Rattle.el_model.specs.Serve.{bystander, served_hart}
+use Rattle.el_model.specs.State.{Hart, ModelState, Turn, hart_of, head_of, new_hart, ordered_of, post_all}
+use Rattle.el_model.proofs.BusEvents.{frame_as_faced}
 use Rattle.el_model.proofs.Harts.{hart_of-each_hart, hart_of-each_hart_past}
-use Rattle.el_model.proofs.Keeps.{keeps_marking, keeps_served}
-use Rattle.el_model.proofs.Tests.{by_test}
-use Rattle.progress_laws.proofs.Fewer.{bystander_fewer, fewer_moves, fewer_unmet, served_fewer}
-use Rattle.removal_laws.proofs.Bits.{Fewer, fewer_same}
+use Rattle.el_model.proofs.Orders.{served_order}
+use Rattle.el_model.proofs.Tests.{by_hart, by_test}
+use Rattle.section_laws.proofs.Fewer.{bystander_fewer, fewer_moves, fewer_unmet, served_fewer}
+use Rattle.section_laws.proofs.Bits.{Fewer, fewer_same}
 use Rattle.policy.specs.Winners.{wins_of}
-use Rattle.section_laws.proofs.EachHart.{each_with}
-use Rattle.section_laws.proofs.Moves.{faced_if_keeps, placed_keeps, served_keeps}
-use Rattle.section_laws.proofs.Waiting.{faced_order, order_at, placed_order}
+use Rattle.section_laws.proofs.Moves.{moved, taken_keeps}
 use Rattle.stamp.specs.Stamps.{Stamp}
 use Rattle.progress_laws.proofs.Cases.{false_true}
 
@@ -98,23 +101,15 @@ faced_unmet state head h stampless = faced_unmet_by state head h stampless (nat_
 abbrev pub NoneRetains : ModelState → Type 0
 NoneRetains state = (h line : ℕ) → retains state h line ≡ false
 
--- a request is placed
+-- a head that stays meets no more sections where each has no bit more
 own_line : (state : ModelState) (line : ℕ) (r : Request) → head_of state line ≡ Some r → r.line ≡ line
 own_line state line r is = line_of_first_of state.order line r is
 
--- the same heads, and fewer sections with bits
 same_head : (state new : ModelState) (h line : ℕ) → Fewer line (hart_of state h) (hart_of new h) →
     head_of new line ≡ head_of state line → retains state h line ≡ false → retains new h line ≡ false
 same_head state new h line fewer same unmet =
     ap (λ head. conflicts_with head h (hart_of new h)) same
     ∙ fewer_unmet (head_of state line) h line (hart_of state h) (hart_of new h) (own_line state line) fewer unmet
-
-placed_fewer : (state : ModelState) (request : Request) (place : Place) (line h : ℕ) →
-    Fewer line (hart_of state h) (hart_of (placed state request place) h)
-placed_fewer state request place line =
-    placed_keeps (fewer_moves line (hart_of state)) state request place
-    (each_with (λ h hart. Fewer line (hart_of state h) hart) state request.hart (record (hart_of state request.hart) { raised = None })
-    (fewer_same line (hart_of state request.hart) _ refl refl) (λ h. fewer_same line (hart_of state h) (hart_of state h) refl refl))
 
 -- a place is right for a request
 abbrev Fits : ModelState → Request → Place → Type 0
@@ -143,110 +138,87 @@ first_stays : {A : Type 0} (one other : Option A) → is_some one ≡ true → o
 first_stays None other some = false_true some
 first_stays (Some x) other some = refl
 
--- the request is the head from now on
-front_unmet : (state : ModelState) (request : Request) (h : ℕ) → has_stamps state.config.mode ≡ false →
-    conflicts request h (hart_of (placed state request InFront) h) ≡ false
-unfolding placed
-front_unmet state request h stampless =
-    faced_unmet (before_face state request InFront) request h
-    (ap (λ config. has_stamps config.mode) (keeps_marking (placed_in_front state request) request.hart (head_of state request.line)).config
-    ∙ stampless)
+-- after a start a line has its head as before, and each section no bit more there, or the head that is faced
+record HeadStays (state : ModelState) (by : ℕ) (start : Start) (line : ℕ) : Type 0 where
+  same : first_of (order_after state start) line ≡ head_of state line
+  fewer : (h : ℕ) → Fewer line (hart_of state h) (started state by start h (hart_of state h))
 
-alone_unmet : (state : ModelState) (request : Request) (h : ℕ) → has_stamps state.config.mode ≡ false →
-    conflicts request h (hart_of (placed state request Alone) h) ≡ false
-unfolding placed
-alone_unmet state request h stampless = faced_unmet (placed_last state request) request h stampless
+abbrev HeadAfter : ModelState → ℕ → Start → ℕ → Type 0
+HeadAfter state by start line = HeadStays state by start line ⊎ (first_of (order_after state start) line ≡ faced_head state start)
 
-own_placed : (state : ModelState) (request : Request) (place : Place) (h : ℕ) → has_stamps state.config.mode ≡ false → Fits state request place →
-    retains state h request.line ≡ false → retains (placed state request place) h request.line ≡ false
-own_placed state request Behind h stampless fit unmet =
-    same_head state (placed state request Behind) h request.line (placed_fewer state request Behind request.line h)
-    (ap (λ order. first_of order request.line) (placed_order state request Behind)
-    ∙ first_of_appended_own state.order request
-    ∙ first_stays (head_of state request.line) (Some request) fit)
-    unmet
-own_placed state request InFront h stampless fit unmet =
-    ap (λ head. conflicts_with head h (hart_of (placed state request InFront) h))
-    (ap (λ order. first_of order request.line) (placed_order state request InFront) ∙ first_of_in_front_of_own state.order request)
-    ∙ front_unmet state request h stampless
-own_placed state request Alone h stampless fit unmet =
-    ap (λ head. conflicts_with head h (hart_of (placed state request Alone) h))
-    (ap (λ order. first_of order request.line) (placed_order state request Alone)
-    ∙ first_of_appended_own state.order request
-    ∙ ap (λ head. option_or head (Some request)) fit)
-    ∙ alone_unmet state request h stampless
+as_before : (state : ModelState) (line h : ℕ) → Fewer line (hart_of state h) (hart_of state h)
+as_before state line h = fewer_same line (hart_of state h) (hart_of state h) refl refl
 
-pub placed_unretained : (state : ModelState) (request : Request) → has_stamps state.config.mode ≡ false → NoneRetains state →
-    NoneRetains (placed state request (place_for state request))
-placed_unretained state request stampless none h line = by (cases_eq line request.line)
+placed_fewer : (state : ModelState) (by : ℕ) (request : Request) (place : Place) (line h : ℕ) →
+    Fewer line (hart_of state h) (started state by (Places request place) h (hart_of state h))
+placed_fewer state by request place line h =
+    by_hart (Fewer line (hart_of state h)) h request.hart (record (hart_of state h) { raised = None }) (hart_of state h)
+    (λ own. fewer_same line (hart_of state h) _ refl refl) (λ other. as_before state line h)
+
+-- of its own line a request is the head that is faced, unless it is behind others
+own_head : (state : ModelState) (by : ℕ) (request : Request) (place : Place) → Fits state request place →
+    HeadAfter state by (Places request place) request.line
+own_head state by request InFront fit = inr (first_of_in_front_of_own state.order request)
+own_head state by request Behind fit =
+    inl (record {
+      same = first_of_appended_own state.order request ∙ first_stays (head_of state request.line) (Some request) fit;
+      fewer = placed_fewer state by request Behind request.line;
+    })
+own_head state by request Alone fit = inr (first_of_appended_own state.order request ∙ ap (λ head. option_or head (Some request)) fit)
+
+head_after : (state : ModelState) (by : ℕ) (start : Start) → StartsWhere state by start → IsOneEach state.order →
+    (line : ℕ) →
+    HeadAfter state by start line
+head_after state by Nothing where_it once line = inl (record { same = refl; fewer = as_before state line })
+head_after state by (Places request place) may once line = by_line (cases_eq line request.line)
   where
-    new : ModelState
-    new = placed state request (place_for state request)
-
-    by : (line ≡ request.line) ⊎ (line ≡ request.line → ⊥) → retains new h line ≡ false
-    by (inl same) =
-        ap (retains new h) same
-        ∙ own_placed state request (place_for state request) h stampless (fits state request) (none h request.line)
-    by (inr other) =
-        same_head state new h line (placed_fewer state request (place_for state request) line h)
-        (ap (λ order. first_of order line) (placed_order state request (place_for state request))
-        ∙ other_heads state request (place_for state request) line other)
-        (none h line)
-
-pub raised_unretained : (state : ModelState) (raised : Option Request) → has_stamps state.config.mode ≡ false → NoneRetains state →
-    NoneRetains (order_raised state raised).state
-raised_unretained state None stampless none = none
-raised_unretained state (Some request) stampless none = placed_unretained state request stampless none
-
--- a request is served
-served_order : (state : ModelState) (request : Request) → (served state request).order ≡ removed state.order request.hart
-unfolding served
-served_order state request = refl
-
-next_unmet : (state : ModelState) (head : Option Request) (h line : ℕ) → has_stamps state.config.mode ≡ false →
-    head_of state line ≡ head → conflicts_with head h (hart_of (faced_if state head) h) ≡ false
-next_unmet state None h line stampless is = refl
-next_unmet state (Some head) h line stampless is = faced_unmet state head h stampless
-
-past_unretained : (state : ModelState) (h : ℕ) (request : Request) (obstacle : Obstacle) → has_stamps state.config.mode ≡ false →
-    IsOneEach state.order → ordered_of state h ≡ Some request → NoneRetains state → NoneRetains (serve_past state request obstacle).state
-past_unretained state h request (Blocks why by) stampless once is none g line = none g line
-past_unretained state h request Free stampless once is none g line = by (cases_eq line request.line)
+    by_line : (line ≡ request.line) ⊎ (line ≡ request.line → ⊥) → HeadAfter state by (Places request place) line
+    by_line (inl same) = rw same (own_head state by request place (subst (Fits state request) (sym may.place_is) (fits state request)))
+    by_line (inr other) = inl (record { same = other_heads state request place line other; fewer = placed_fewer state by request place line })
+head_after state by (Serves request) may once line = by_line (cases_eq line request.line)
   where
-    after : ModelState
-    after = served state request
-
-    new : ModelState
-    new = faced_if after (head_of after request.line)
-
-    new_order : new.order ≡ after.order
-    new_order = faced_order after (head_of after request.line)
-
     mine : ordered_of state request.hart ≡ Some request
-    mine = ap (ordered_of state) (hart_of_request_of state.order h request is) ∙ is
+    mine = ap (ordered_of state) (hart_of_request_of state.order by request may.ordered) ∙ may.ordered
 
-    fewer : line ≢ request.line → (g : ℕ) → Fewer line (hart_of state g) (hart_of new g)
-    fewer other =
-        faced_if_keeps (fewer_moves line (hart_of state)) after (head_of after request.line)
-        (served_keeps (λ g hart. Fewer line (hart_of state g) hart) state request
-        (served_fewer state request (hart_of state request.hart) line other)
-        (λ g apart. bystander_fewer state request (hart_of state g) line)
-        (λ g. fewer_same line (hart_of state g) (hart_of state g) refl refl))
+    by_line : (line ≡ request.line) ⊎ (line ≡ request.line → ⊥) → HeadAfter state by (Serves request) line
+    by_line (inl same) = inr (rw same (sym (ap (λ order. first_of order request.line) (served_order state request))))
+    by_line (inr other) =
+        inl (record {
+          same = first_of_removed_other state.order request.hart line request once mine (λ same. other (sym same));
+          fewer = λ h.
+              by_hart (Fewer line (hart_of state h)) h request.hart (served_hart state request (hart_of state h))
+              (bystander state request (hart_of state h)) (λ own. served_fewer state request (hart_of state h) line other)
+              (λ apart. bystander_fewer state request (hart_of state h) line);
+        })
+head_after state by (Takes message others) where_it once line =
+    inl (record {
+      same = refl;
+      fewer = λ h.
+          by_hart (Fewer line (hart_of state h)) h by (having_taken message others (hart_of state h)) (hart_of state h)
+          (λ own. taken_keeps (fewer_moves line (hart_of state)) message others h (hart_of state h) (as_before state line h))
+          (λ other. as_before state line h);
+    })
 
-    by : (line ≡ request.line) ⊎ (line ≡ request.line → ⊥) → retains new g line ≡ false
-    by (inl same) =
-        ap (retains new g) same
-        ∙ ap (λ order. conflicts_with (first_of order request.line) g (hart_of new g)) new_order
-        ∙ next_unmet after (head_of after request.line) g request.line
-        (ap (λ config. has_stamps config.mode) (keeps_served state request).config ∙ stampless) refl
-    by (inr other) =
-        same_head state new g line (fewer other g)
-        (ap (λ order. first_of order line) (new_order ∙ served_order state request)
-        ∙ first_of_removed_other state.order request.hart line request once mine (λ same. other (sym same)))
-        (none g line)
+pub bus_unretained : {state : ModelState} {by : ℕ} {turn : Turn} → IsBusEvent state by turn →
+    has_stamps state.config.mode ≡ false →
+    IsOneEach state.order → NoneRetains state → NoneRetains turn.state
+bus_unretained {state} {by} {turn} done stampless once none h line = by_head (head_after state by done.start done.where_it once line)
+  where
+    new_head : head_of turn.state line ≡ first_of (order_after state done.start) line
+    new_head = ap (λ order. first_of order line) done.order
 
-pub ordered_unretained : (state : ModelState) (h : ℕ) (ordered : Option Request) → ordered_of state h ≡ ordered →
-    has_stamps state.config.mode ≡ false → IsOneEach state.order → NoneRetains state → NoneRetains (serve_ordered state ordered).state
-ordered_unretained state h None is stampless once none = none
-ordered_unretained state h (Some request) is stampless once none =
-    past_unretained state h request (obstacle_to state request) stampless once is none
+    met : (found : Option Request) → faced_head state done.start ≡ found →
+        conflicts_with found h (hart_of turn.state h) ≡ false
+    met None is = refl
+    met (Some head) is =
+        ap (λ new. conflicts head h (hart_of new h)) (done.faces head is)
+        ∙ faced_unmet (as_faced state by done.start head) head h
+        (ap (λ config. has_stamps config.mode) (frame_as_faced state by done.start head).config ∙ stampless)
+
+    by_head : HeadAfter state by done.start line → retains turn.state h line ≡ false
+    by_head (inl stays) =
+        same_head state turn.state h line
+        (moved (fewer_moves line (hart_of state)) state by done.start h (λ past. as_before state line h) (λ below. stays.fewer h) (done.becomes h))
+        (new_head ∙ stays.same) (none h line)
+    by_head (inr faced) =
+        ap (λ head. conflicts_with head h (hart_of turn.state h)) (new_head ∙ faced) ∙ met (faced_head state done.start) refl

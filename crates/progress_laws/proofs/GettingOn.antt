@@ -13,7 +13,7 @@ use Rattle.el_base.specs.declared.events.Kind.TheVariants.{Step, Order, Serve, D
 use Rattle.el_base.specs.declared.outcomes.Why.TheVariants.{Behind, Retained, Locked}
 use Rattle.elf_image.specs.Program.{Program}
 use Rattle.el_model.specs.Conflicts.{first_such, holder_of, retainer_of, retains}
-use Rattle.el_model.specs.Deed.{Begins, Buffers, Commits, Deed, DoesWhere, Misses, Rests, RollsBack, Runs, Waits, outcome_of}
+use Rattle.el_model.specs.Deed.{Arms, Begins, Buffers, Commits, Continues, Deed, DoesWhere, Elides, LetsGo, Misses, Rests, RollsBack, Runs, Waits, outcome_of}
 use Rattle.el_model.specs.Deliver.{deliver_next, deliver_turn}
 use Rattle.el_model.specs.Next.{after, kind_turn}
 use Rattle.el_model.specs.Order.{order_raised, order_turn}
@@ -33,7 +33,7 @@ use Rattle.section_laws.proofs.Lengths.{AsMany, first_as_many, next_as_many}
 use Rattle.section_laws.proofs.Numbered.{one_ordered_request_each}
 use Rattle.section_laws.proofs.Waiting.{Sound, always_sound}
 use Rattle.progress_laws.proofs.Cases.{some_none, true_false}
-use Rattle.removal_laws.proofs.Bits.{second_of_both}
+use Rattle.section_laws.proofs.Bits.{second_of_both}
 
 -- an event of one of the machine's harts is progress
 pub record GetsOn (state : ModelState) : Type 0 where
@@ -98,7 +98,7 @@ live_runs state h sound live =
     running_or (status_of state.committed h)
     (λ ended. true_false (sym live ∙ ap is_some ((sound h).stopped ended).no_section))
 
-held_runs : (state : ModelState) (h line : ℕ) → Sound state → (hart_of state h).held ≡ Some line → status_of state.committed h ≡ Running
+pub held_runs : (state : ModelState) (h line : ℕ) → Sound state → (hart_of state h).held ≡ Some line → status_of state.committed h ≡ Running
 held_runs state h line sound is =
     running_or (status_of state.committed h) (λ ended. some_none (sym is ∙ ((sound h).stopped ended).not_held))
 
@@ -113,6 +113,10 @@ deed_gets_on state h (Begins swap) does running free = refl
 deed_gets_on state h (Buffers section touch) does running free = refl
 deed_gets_on state h (Commits section) does running free = refl
 deed_gets_on state h (RollsBack section cause) does running free = refl
+deed_gets_on state h (Arms word) does running free = refl
+deed_gets_on state h (Elides armed swap) does running free = refl
+deed_gets_on state h (Continues armed) does running free = refl
+deed_gets_on state h (LetsGo armed) does running free = refl
 
 pub free_gets_on : (state : ModelState) (h : ℕ) → AsMany state → status_of state.committed h ≡ Running → has_request state h ≡ false →
     GetsOn state
@@ -165,7 +169,7 @@ held_line : (held : Option ℕ) (line : ℕ) → is_held held line ≡ true → 
 held_line None line is = absurd (cc)
 held_line (Some l) line is = (l, refl)
 
-holds_only : (state : ModelState) (h line : ℕ) → Sound state → (hart_of state h).held ≡ Some line → has_request state h ≡ false
+pub holds_only : (state : ModelState) (h line : ℕ) → Sound state → (hart_of state h).held ≡ Some line → has_request state h ≡ false
 holds_only state h line sound is = only (sound h).only_holds
   where
     only : ((hart_of state h).held ≡ None) ⊎ OnlyHolds (ordered_of state h) (hart_of state h).section (raised_of state h) → has_request state h ≡ false

@@ -1,12 +1,12 @@
 pub mod Cases
 pub mod Ready
 pub mod GettingOn
-pub mod Fewer
 pub mod Faced
 pub mod NewBits
 pub mod Over
 pub mod AllWait
 pub mod WithoutStamps
 pub mod LeastStamp
+pub mod LineOfLeast
 pub mod LockRemoval
 pub mod EveryMode

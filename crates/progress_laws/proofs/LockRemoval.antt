@@ -15,7 +15,7 @@ use Rattle.progress_laws.proofs.Over.{not_stuck, over_stopped}
 use Rattle.progress_laws.specs.Ready.{ready_event}
 use Rattle.removal_laws.specs.Facts.{Everywhere, Facts, IsWaiting}
 use Rattle.removal_laws.specs.Laws.{IsDelivered, WaitsWithLeast, attempt_of}
-use Rattle.removal_laws.proofs.Bits.{meets}
+use Rattle.section_laws.proofs.Bits.{meets}
 use Rattle.removal_laws.proofs.Climbing.{not_retained}
 use Rattle.rv_alu.specs.declared.view.HartStatus.TheVariants.{Running}
 use Rattle.rv_flat.specs.FlatState.{status_of}

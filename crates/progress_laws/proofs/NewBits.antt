@@ -11,8 +11,8 @@ use Rattle.cache_sets.proofs.MarkLemmas.{no_marks}
 use Rattle.el_base.specs.Line.{line_number}
 use Rattle.el_base.specs.declared.outcomes.Need.{Need}
 use Rattle.el_base.specs.declared.outcomes.Need.TheVariants.{Read, Write}
-use Rattle.el_model.specs.Conflicts.{conflicts, conflicts_with, is_asked, is_wanted, is_write, meets_bit, writes}
-use Rattle.el_model.specs.Deed.{Begins, Buffers, Commits, Deed, DoesWhere, IsCoverable, MayBegin}
+use Rattle.el_model.specs.Conflicts.{conflicts, conflicts_with, is_asked, is_wanted, is_wanted_to_write, is_write, meets_bit, writes}
+use Rattle.el_model.specs.Deed.{Arms, Begins, Buffers, Commits, Continues, Deed, DoesWhere, Elides, IsCoverable, LetsGo}
 use Rattle.el_model.specs.Deed.{MayBuffer, Misses, Rests, RollsBack, Runs, Waits, hart_after, permits}
 use Rattle.el_model.specs.InSection.{buffered_hart, is_covered}
 use Rattle.el_model.specs.Next.{step_turn}
@@ -21,11 +21,13 @@ use Rattle.el_model.specs.State.{Hart, ModelState, Section, cache_of, hart_of, h
 use Rattle.el_model.specs.Upcoming.{Swap, Touch}
 use Rattle.el_model.proofs.Deeds.{step_deed}
 use Rattle.progress_laws.proofs.Faced.{NoneRetains, dead_unmet}
-use Rattle.progress_laws.proofs.Fewer.{fewer_unmet}
-use Rattle.removal_laws.proofs.Bits.{Fewer, NoMore, fewer_same, no_more_marked, no_more_same, no_more_touched, no_more_twice}
-use Rattle.section_laws.specs.EachHart.{HasBitsOnlyInside}
+use Rattle.section_laws.proofs.Fewer.{fewer_unmet}
+use Rattle.section_laws.proofs.Bits.{Fewer, NoMore, fewer_same, no_more_marked, no_more_same, no_more_touched}
+use Rattle.section_laws.proofs.Bits.{no_more_twice}
+use Rattle.section_laws.specs.EachHart.{HasNoOtherBit}
+use Rattle.section_laws.proofs.ArmedBits as bits
 use Rattle.section_laws.proofs.FreeLines.{first_not, not_met, second_not}
-use Rattle.section_laws.proofs.EachHart.{each_but}
+use Rattle.el_model.proofs.EachHart.{Each, each_but}
 use Rattle.progress_laws.proofs.Cases.{false_true, true_false}
 
 -- what nobody else asks of a line, its head does not ask
@@ -107,10 +109,12 @@ out_unmet state h hart dead line = by (head_of state line)
     by None = refl
     by (Some head) = dead_unmet head h hart dead
 
--- a section begins: its hart had no bit
-bare_bit : (cache : List (List Way)) (line : ℕ) (need : Need) → has_marks cache ≡ false → bit_in need (way_of cache line) ≡ false
-bare_bit cache line Read bare = first_not _ _ (no_marks cache line bare)
-bare_bit cache line Write bare = second_not (bit_in Read (way_of cache line)) _ (no_marks cache line bare)
+-- a section begins: its hart had no bit, or the read bit of the word's line alone
+bare_bits : (cache : List (List Way)) (word : ℕ) → has_marks cache ≡ false → HasNoOtherBit word cache
+bare_bits cache word bare = record {
+  unwritten = λ line. second_not (bit_in Read (way_of cache line)) _ (no_marks cache line bare);
+  alone = λ line other. first_not _ _ (no_marks cache line bare);
+}
 
 bare_unmet : (head : Request) (h : ℕ) (new : Hart) → bit_in Read (way_of new.cache head.line) ≡ false →
     bit_in Write (way_of new.cache head.line) ≡ false → conflicts head h new ≡ false
@@ -137,18 +141,15 @@ touched_unwritten cache line =
     ap (bit_in Write) (way_of-touched (marked cache line Read) line line ∙ way_of-marked_same cache line Read)
     ∙ write_of_read (way_of cache line)
 
-begins_unmet : (state : ModelState) (h : ℕ) (swap : Swap) → MayBegin state h swap → HasBitsOnlyInside (section_of state h) (cache_of state h) →
-    Unmet state h (began_hart state.config.mode h swap (hart_of state h))
-begins_unmet state h swap may outside =
-    marked_unmet state h word Read (began_hart state.config.mode h swap (hart_of state h)) may.unwanted
-    (λ head first other reads is. touched_unwritten (cache_of state h) word ∙ bare_bit (cache_of state h) word Write bare)
+begins_unmet : (state : ModelState) (h : ℕ) (swap : Swap) → is_wanted_to_write state h (line_number swap.word) ≡ false →
+    HasNoOtherBit swap.word (cache_of state h) → Unmet state h (began_hart state.config.mode h swap (hart_of state h))
+begins_unmet state h swap unwanted reads =
+    marked_unmet state h word Read (began_hart state.config.mode h swap (hart_of state h)) unwanted
+    (λ head first other reads_it is. touched_unwritten (cache_of state h) word ∙ reads.unwritten word)
     (λ l other. elsewhere l other (head_of state l) refl)
   where
     word : ℕ
     word = line_number swap.word
-
-    bare : has_marks (cache_of state h) ≡ false
-    bare = outside may.outside.no_section
 
     elsewhere : (l : ℕ) → l ≢ word → (head : Option Request) → head_of state l ≡ head →
         conflicts_with head h (began_hart state.config.mode h swap (hart_of state h)) ≡ false
@@ -157,8 +158,8 @@ begins_unmet state h swap may outside =
         let own : head.line ≡ l = line_of_first_of state.order l head first in
         let apart : head.line ≢ word = λ same. other (sym own ∙ same) in
         bare_unmet head h (began_hart state.config.mode h swap (hart_of state h))
-        (touched_other (cache_of state h) word head.line Read Read apart ∙ bare_bit (cache_of state h) head.line Read bare)
-        (touched_other (cache_of state h) word head.line Read Write apart ∙ bare_bit (cache_of state h) head.line Write bare)
+        (touched_other (cache_of state h) word head.line Read Read apart ∙ reads.alone head.line apart)
+        (touched_other (cache_of state h) word head.line Read Write apart ∙ reads.unwritten head.line)
 
 -- an instruction of a section runs
 own_line : (state : ModelState) (line : ℕ) (r : Request) → head_of state line ≡ Some r → r.line ≡ line
@@ -241,12 +242,12 @@ buffers_unmet state h section None may unmet line =
 buffers_unmet state h section (Some touch) may unmet line = touch_unmet state h section touch may unmet line
 
 -- a deed
-candidate_section : (pc : ℕ) (had_watch : Bool) (candidate : Option Swap) (hart : Hart) →
+candidate_section : (pc : Option ℕ) (had_watch : Bool) (candidate : Option Swap) (hart : Hart) →
     (after_candidate pc had_watch candidate hart).section ≡ hart.section
 candidate_section pc had_watch None hart = refl
 candidate_section pc had_watch (Some swap) hart = refl
 
-deed_unmet : (state : ModelState) (h : ℕ) (deed : Deed) → DoesWhere state h deed → HasBitsOnlyInside (section_of state h) (cache_of state h) →
+deed_unmet : (state : ModelState) (h : ℕ) (deed : Deed) → DoesWhere state h deed → bits.Holds (hart_of state h) →
     Unmet state h (hart_of state h) → Unmet state h (hart_after state h deed (hart_of state h))
 deed_unmet state h Rests does outside unmet l = unmet l
 deed_unmet state h Waits does outside unmet l = unmet l
@@ -255,13 +256,25 @@ deed_unmet state h (Misses line need) does outside unmet l =
 deed_unmet state h (Runs touch) runs outside unmet l =
     out_unmet state h (hart_after state h (Runs touch) (hart_of state h))
     (candidate_section _ _ (candidate_of state h) _ ∙ runs.outside.no_section) l
-deed_unmet state h (Begins swap) begins outside unmet l = begins_unmet state h swap begins outside l
+deed_unmet state h (Begins swap) begins outside unmet l =
+    begins_unmet state h swap begins.unwanted
+    (bare_bits (cache_of state h) swap.word (outside.0 begins.outside.no_section begins.outside.unarmed)) l
+deed_unmet state h (Arms word) arms outside unmet l =
+    out_unmet state h (hart_after state h (Arms word) (hart_of state h)) arms.outside.no_section l
+deed_unmet state h (Elides armed swap) elides outside unmet l =
+    let it = bits.completing state h armed swap elides.completing in
+    begins_unmet state h swap (ap (λ word. is_wanted_to_write state h (line_number word)) it.same ∙ it.unwanted)
+    (subst (λ word. HasNoOtherBit word (cache_of state h)) (sym it.same) (outside.1 armed elides.is_armed.armed_is).no_other) l
+deed_unmet state h (Continues armed) continues outside unmet l =
+    out_unmet state h (hart_after state h (Continues armed) (hart_of state h)) continues.is_armed.no_section l
+deed_unmet state h (LetsGo armed) lets_go outside unmet l =
+    out_unmet state h (hart_after state h (LetsGo armed) (hart_of state h)) lets_go.is_armed.no_section l
 deed_unmet state h (Buffers section touch) buffers outside unmet l = buffers_unmet state h section touch buffers unmet l
 deed_unmet state h (Commits section) does outside unmet l = out_unmet state h (hart_after state h (Commits section) (hart_of state h)) refl l
 deed_unmet state h (RollsBack section cause) does outside unmet l =
     out_unmet state h (hart_after state h (RollsBack section cause) (hart_of state h)) refl l
 
-pub step_unretained : (state : ModelState) (h : ℕ) → ((g : ℕ) → HasBitsOnlyInside (section_of state g) (cache_of state g)) → NoneRetains state →
+pub step_unretained : (state : ModelState) (h : ℕ) → Each (λ g hart. bits.Holds hart) state → NoneRetains state →
     NoneRetains (step_turn state h).state
 step_unretained state h outside none =
     let step = step_deed state h in

@@ -17,7 +17,7 @@ use Rattle.rv_alu.specs.declared.view.HartView.{HartView}
 use Rattle.rv_flat.specs.FlatState.{no_hart, status_of}
 use Rattle.section_laws.proofs.Waiting.{Sound}
 use Rattle.progress_laws.proofs.Cases.{true_false}
-use Rattle.removal_laws.proofs.Bits.{first_of_both, second_of_both}
+use Rattle.section_laws.proofs.Bits.{first_of_both, second_of_both}
 
 -- where all have stopped, no hart runs
 stopped_not_running : (status : HartStatus) → has_stopped status ≡ true → status ≢ Running

@@ -2,19 +2,15 @@
 use Rattle.std.proofs.Common.{◌≡◌, ◌∙◌, ◌↔◌, ℕ, ◌≤◌, false, true, List, [], None, length, refl, ap, inl, inr, ◌⊎◌}
 use Rattle.el_base.specs.declared.config.Config.{Config}
 use Rattle.el_base.specs.declared.events.Event.{Event}
-use Rattle.el_base.specs.declared.events.Kind.{Kind}
-use Rattle.el_base.specs.declared.events.Kind.TheVariants as kinds
 use Rattle.elf_image.specs.Program.{Program}
-use Rattle.el_model.specs.Deliver.{deliver_turn}
-use Rattle.el_model.specs.Next.{after, is_over, kind_turn, next}
-use Rattle.el_model.specs.Order.{order_turn}
+use Rattle.el_model.specs.Next.{after, is_over, next}
 use Rattle.el_model.specs.Quiet.{IsSilent, has_stamps}
-use Rattle.el_model.specs.Serve.{serve_turn}
-use Rattle.el_model.specs.State.{ModelState, begin, ordered_of, raised_of}
+use Rattle.el_model.specs.State.{ModelState, begin}
 use Rattle.el_model.proofs.AllHarts.{All}
+use Rattle.el_model.proofs.BusEvents.{by_event}
 use Rattle.el_model.proofs.FromStart.{kept_after, next_config, stampless_silent}
 use Rattle.el_model.proofs.Silent.{next_silent}
-use Rattle.progress_laws.proofs.Faced.{NoneRetains, ordered_unretained, raised_unretained}
+use Rattle.progress_laws.proofs.Faced.{NoneRetains, bus_unretained}
 use Rattle.progress_laws.proofs.AllWait.{OnlyWaits, gets_on_or_waits}
 use Rattle.progress_laws.proofs.GettingOn.{GetsOn, Orderly, always_orderly, line_gets_on}
 use Rattle.progress_laws.proofs.NewBits.{step_unretained}
@@ -23,37 +19,30 @@ use Rattle.progress_laws.specs.Laws.{NoSectionRetainsWithoutStamps}
 use Rattle.progress_laws.specs.Ready.{ready_event}
 use Rattle.rv_alu.specs.declared.view.HartStatus.TheVariants.{Running}
 use Rattle.rv_flat.specs.FlatState.{status_of}
-use Rattle.section_laws.proofs.EachHart.{Each}
+use Rattle.el_model.proofs.EachHart.{Each}
+use Rattle.section_laws.proofs.ArmedBits as bits
 use Rattle.section_laws.proofs.EachKept.{first_each, next_keeps}
 use Rattle.section_laws.proofs.Numbered.{Once, first_once, next_once}
-use Rattle.section_laws.proofs.OnlyInside as only_inside
-use Rattle.section_laws.proofs.OnlyInside.{Holds}
 
 -- what holds in these modes
 record Stampless (state : ModelState) : Type 0 where
   mode : has_stamps state.config.mode ≡ false
   silent : All IsSilent state
   once : Once state
-  outside : Each (λ h hart. Holds hart) state
+  outside : Each (λ h hart. bits.Holds hart) state
   unretained : NoneRetains state
 
-kind_unretained : (state : ModelState) (h : ℕ) (kind : Kind) → Stampless state → NoneRetains (kind_turn state h kind).state
-unfolding order_turn serve_turn deliver_turn
-kind_unretained state h kinds.Step now = step_unretained state h now.outside now.unretained
-kind_unretained state h kinds.Order now = raised_unretained state (raised_of state h) now.mode now.unretained
-kind_unretained state h kinds.Serve now = ordered_unretained state h (ordered_of state h) refl now.mode now.once.once now.unretained
-kind_unretained state h kinds.Deliver now = rw (now.silent h).mail now.unretained
-
 next_unretained : (state : ModelState) (event : Event) → Stampless state → NoneRetains (next state event).state
-unfolding next
-next_unretained state event now = kind_unretained state event.hart.number event.kind now
+next_unretained state event now =
+    by_event (λ turn. NoneRetains turn.state) state event (λ step. step_unretained state event.hart.number now.outside now.unretained)
+    (λ turn done. bus_unretained done now.mode now.once.once now.unretained)
 
 next_stampless : (state : ModelState) (event : Event) → Stampless state → Stampless (next state event).state
 next_stampless state event now = record {
   mode = ap (λ config. has_stamps config.mode) (next_config state event) ∙ now.mode;
   silent = next_silent state event now.mode now.silent;
   once = next_once state event now.once;
-  outside = next_keeps only_inside.kept state event now.outside;
+  outside = next_keeps bits.kept state event now.outside;
   unretained = next_unretained state event now;
 }
 
@@ -73,7 +62,7 @@ always_stampless program config events mode =
       mode = begin_mode program config mode;
       silent = stampless_silent program config [] mode;
       once = first_once program config;
-      outside = first_each only_inside.kept program config;
+      outside = first_each bits.kept program config;
       unretained = first_unretained program config;
     })
 

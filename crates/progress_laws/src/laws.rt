@@ -4,6 +4,7 @@ ghost use Rattle.progress_laws.specs.Laws.{
   NoneIsReadyWhereNoneGetsOn,
   ReadyEventGetsOn,
 };
+ghost use Rattle.progress_laws.specs.LeastStamp.{LineOfLeastStampMovesOn};
 
 /// The ready event of a state is progress.
 #[tactic(auto, using(crate::proofs::Ready::ready_event_gets_on))]
@@ -26,4 +27,15 @@ pub fn no_section_retains_without_stamps()
 /// that can be reached there is a ready event exactly where a hart runs.
 pub fn no_state_is_stuck()
     ensures { NoStateIsStuck }
+{}
+
+/// In lock removal, in every state that can be reached: where the hart of the least open stamp has an ordered request for
+/// a line, and no mailbox has a message about that line, no live section retains the line. A serve of the hart of the
+/// line's first request is `Served`, or `Blocked` as `Locked` by a hart that holds the line until its next step, and that
+/// step is progress.
+///
+/// The first request may be another hart's: each that is served leaves the line to the one behind it. The idea is that of
+/// R. Rajwar and J. R. Goodman, 'Transactional Lock-Free Execution of Lock-Based Programs', ASPLOS 2002.
+pub fn line_of_least_stamp_moves_on()
+    ensures { LineOfLeastStampMovesOn }
 {}

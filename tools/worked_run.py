@@ -29,7 +29,7 @@ use Rattle.el_base.specs.declared.outcomes.Outcome.{Outcome}
 use Rattle.el_base.specs.declared.outcomes.Outcome.TheVariants.{Idle, Stalled, Missed, Ran, Began, Buffered, Committed, RolledBack, Blocked, Delivered, Armed, LetGo}
 use Rattle.el_base.specs.declared.outcomes.Why.TheVariants.{Behind, Retained, Locked}
 use Rattle.computed_runs.proofs.Computing.{computing}
-use Rattle.computed_runs.proofs.Given.{Ending, ending_of, event, first_state, lost, ordered_with, patched, request, section, served_with, stamp, watch, way}
+use Rattle.computed_runs.proofs.Given.{Ending, armed, ending_of, event, first_state, lost, ordered_with, patched, request, section, served_with, stamp, watch, way}
 use Rattle.el_model.specs.Next.{outcomes_from, state_after}
 use Rattle.el_model.specs.State.{Hart, ModelState}
 use Rattle.mail.specs.Mailbox.{Marker, Probe}
@@ -105,6 +105,10 @@ def section(value):
     return f"(section {value['count']} {value['word']} {value['old']} {value['new']})"
 
 
+def armed(value):
+    return f"(armed {value['count']} {value['word']})"
+
+
 def watch(value):
     return f"(watch {value['pc']} {value['word']} {value['old']} {value['count']})"
 
@@ -120,6 +124,8 @@ def counters(values):
 def hart(value):
     return f"""record {{
       section = {option(value['section'], section)};
+      armed = {option(value.get('armed'), armed)};
+      last_lr = {option(value.get('last_lr'), str)};
       cache = {items('(' + items(map(way, ways)) + ')' for ways in value['cache'])};
       raised = {option(value['raised'], request)};
       held = {option(value['held'], str)};

@@ -16,7 +16,7 @@ use Rattle.el_base.specs.declared.losers.Losers.{Losers}
 use Rattle.el_base.specs.declared.outcomes.Need.{Need}
 use Rattle.el_base.specs.declared.outcomes.Outcome.{Outcome}
 use Rattle.el_base.specs.declared.outcomes.Outcome.TheVariants.{Ordered, Served}
-use Rattle.el_model.specs.State.{Hart, ModelState, Section, new_hart}
+use Rattle.el_model.specs.State.{Armed, Hart, ModelState, Section, new_hart}
 use Rattle.moesi.specs.declared.letter.Letter.{Letter}
 use Rattle.pair_table.specs.Predictor.{Watch}
 use Rattle.rv_alu.specs.declared.view.HartStatus.TheVariants.{Running}
@@ -38,6 +38,9 @@ way line letter read write = record { line = line; letter = letter; read = read;
 
 abbrev pub section : ℕ → ℕ → ℕ → ℕ → Section
 section count word old new = record { count = count; word = word; old = old; new = new }
+
+abbrev pub armed : ℕ → ℕ → Armed
+armed count word = record { count = count; word = word }
 
 abbrev pub watch : ℕ → ℕ → ℕ → ℕ → Watch
 watch pc word old count = record { pc = pc; word = word; old = old; count = count }

@@ -3,4 +3,5 @@ pub mod AfterRollbacks
 pub mod AtTheChain
 pub mod AttemptsAtTheChain
 pub mod LaterAttempts
+pub mod LeastStamp
 pub mod Worked

@@ -10,6 +10,11 @@ pub mod ShortestLimit
 pub mod CallInside
 pub mod BufferedStore
 pub mod LostReservation
+pub mod ElidedPair
+pub mod LetGoByAWrite
+pub mod ArmedAtTheShortest
+pub mod MostArmed
+pub mod AnotherWord
 pub mod ChainOfTwo
 pub mod ChainOfTwoElision
 pub mod FourLosses

@@ -1,2 +1,3 @@
--- a worked section with what code keeps of it
+-- worked sections with what code keeps of them
 pub mod Worked
+pub mod Arming

@@ -15,7 +15,7 @@ use Rattle.el_model.specs.Next.{next, state_after}
 use Rattle.el_model.specs.State.{ModelState, hart_of, is_live}
 use Rattle.mail.specs.Mailbox.{Marker, Probe, has_message}
 use Rattle.removal_laws.specs.Laws.{IsDelivered, LosesToEarlier, WaitsWithLeast, attempt_of}
-use Rattle.removal_laws.proofs.Bits.{some_none}
+use Rattle.section_laws.proofs.Bits.{some_none}
 use Rattle.stamp.specs.Stamps.{Stamp, is_before, less_of}
 
 -- all three have ordered their requests, and no message is delivered yet

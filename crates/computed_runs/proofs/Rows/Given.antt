@@ -37,6 +37,10 @@ load_reserved rd at = atomic 2 rd 0 at
 abbrev pub store_conditional : ℕ → ℕ → ℕ → ℕ
 store_conditional rd source at = atomic 3 rd source at
 
+-- a branch that is taken where two registers differ, over one instruction
+abbrev pub skip_unless_same : ℕ → ℕ → ℕ
+skip_unless_same left right = 5219 + 32768 * left + 1048576 * right
+
 abbrev pub system_call : ℕ
 system_call = 115
 

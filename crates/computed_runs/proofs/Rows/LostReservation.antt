@@ -1,5 +1,5 @@
--- A section that commits takes the reservation of another hart on the line of its lock, though it leaves the lock's word as
--- it was: the store conditional of that hart fails, and its register is 1.
+-- A hart is armed at its load reserved and let go at the load behind it. A section that commits takes its reservation on the
+-- line of the section's lock, though it leaves the lock's word as it was: the store conditional fails, and its register is 1.
 use Rattle.std.specs.Prelude.{slice_index_or}
 use Rattle.std.proofs.Common.{◌≡◌, List, [], ◌∷◌, refl}
 use Rattle.el_base.specs.LineAddr.{line_addr}
@@ -8,10 +8,10 @@ use Rattle.el_base.specs.declared.events.Event.{Event}
 use Rattle.el_base.specs.declared.events.Kind.TheVariants.{Step, Order, Serve}
 use Rattle.el_base.specs.declared.outcomes.Need.TheVariants.{Read}
 use Rattle.el_base.specs.declared.outcomes.Outcome.{Outcome}
-use Rattle.el_base.specs.declared.outcomes.Outcome.TheVariants.{Missed, Ran, Began, Committed}
+use Rattle.el_base.specs.declared.outcomes.Outcome.TheVariants.{Missed, Ran, Began, Committed, Armed, LetGo}
 use Rattle.computed_runs.proofs.Computing.{computing}
 use Rattle.computed_runs.proofs.Given.{event, ordered_with, served_with}
-use Rattle.computed_runs.proofs.Rows.Given.{load_reserved, machine_of, settings, store_conditional, store_word, swap, usual}
+use Rattle.computed_runs.proofs.Rows.Given.{load_reserved, load_word, machine_of, settings, store_conditional, store_word, swap, usual}
 use Rattle.el_model.specs.Next.{outcomes_from, state_after}
 use Rattle.el_model.specs.State.{ModelState}
 use Rattle.rv_flat.specs.FlatState.{view_of}
@@ -19,18 +19,18 @@ use Rattle.rv_flat.specs.FlatState.{view_of}
 abbrev tlr : ModelState
 tlr =
     machine_of (settings 2 Tlr 16 4 16 2000) 64 (
-    record { words = load_reserved 7 10 ∷ store_conditional 8 5 10 ∷ []; registers = usual } ∷
+    record { words = load_reserved 7 10 ∷ load_word 9 10 ∷ store_conditional 8 5 10 ∷ []; registers = usual } ∷
     record { words = swap 7 5 10 ∷ store_word 0 10 ∷ []; registers = usual } ∷ [])
 
 abbrev tlr_events : List Event
 tlr_events =
-    event Step 0 ∷ event Order 0 ∷ event Serve 0 ∷ event Step 0 ∷ event Step 1 ∷ event Order 1 ∷ event Serve 1 ∷
-    event Step 1 ∷ event Step 1 ∷ event Step 0 ∷ []
+    event Step 0 ∷ event Order 0 ∷ event Serve 0 ∷ event Step 0 ∷ event Step 0 ∷ event Step 0 ∷ event Step 1 ∷
+    event Order 1 ∷ event Serve 1 ∷ event Step 1 ∷ event Step 1 ∷ event Step 0 ∷ []
 
 abbrev tlr_expected : List Outcome
 tlr_expected =
-    Missed (line_addr 1024) Read ∷ ordered_with [] [] ∷ served_with [] [] ∷ Ran ∷ Missed (line_addr 1024) Read ∷
-    ordered_with [] [] ∷ served_with [] [] ∷ Began ∷ Committed 2 ∷ Ran ∷ []
+    Missed (line_addr 1024) Read ∷ ordered_with [] [] ∷ served_with [] [] ∷ Armed ∷ LetGo 1 ∷ Ran ∷
+    Missed (line_addr 1024) Read ∷ ordered_with [] [] ∷ served_with [] [] ∷ Began ∷ Committed 2 ∷ Ran ∷ []
 
 tlr_outcomes : outcomes_from tlr tlr_events ≡ tlr_expected
 unfolding computing
@@ -43,18 +43,18 @@ tlr_failed = refl
 abbrev sle : ModelState
 sle =
     machine_of (settings 2 Sle 16 4 16 2000) 64 (
-    record { words = load_reserved 7 10 ∷ store_conditional 8 5 10 ∷ []; registers = usual } ∷
+    record { words = load_reserved 7 10 ∷ load_word 9 10 ∷ store_conditional 8 5 10 ∷ []; registers = usual } ∷
     record { words = swap 7 5 10 ∷ store_word 0 10 ∷ []; registers = usual } ∷ [])
 
 abbrev sle_events : List Event
 sle_events =
-    event Step 0 ∷ event Order 0 ∷ event Serve 0 ∷ event Step 0 ∷ event Step 1 ∷ event Order 1 ∷ event Serve 1 ∷
-    event Step 1 ∷ event Step 1 ∷ event Step 0 ∷ []
+    event Step 0 ∷ event Order 0 ∷ event Serve 0 ∷ event Step 0 ∷ event Step 0 ∷ event Step 0 ∷ event Step 1 ∷
+    event Order 1 ∷ event Serve 1 ∷ event Step 1 ∷ event Step 1 ∷ event Step 0 ∷ []
 
 abbrev sle_expected : List Outcome
 sle_expected =
-    Missed (line_addr 1024) Read ∷ ordered_with [] [] ∷ served_with [] [] ∷ Ran ∷ Missed (line_addr 1024) Read ∷
-    ordered_with [] [] ∷ served_with [] [] ∷ Began ∷ Committed 2 ∷ Ran ∷ []
+    Missed (line_addr 1024) Read ∷ ordered_with [] [] ∷ served_with [] [] ∷ Armed ∷ LetGo 1 ∷ Ran ∷
+    Missed (line_addr 1024) Read ∷ ordered_with [] [] ∷ served_with [] [] ∷ Began ∷ Committed 2 ∷ Ran ∷ []
 
 sle_outcomes : outcomes_from sle sle_events ≡ sle_expected
 unfolding computing

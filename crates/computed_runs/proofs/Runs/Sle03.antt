@@ -1,21 +1,22 @@
 -- 4 harts in lock elision, 170 random events: a rollback by Long, a section lost as a request takes its place, a serve blocked as Locked
-use Rattle.std.proofs.Common.{◌≡◌, ℕ, false, List, [], ◌∷◌, Some, None, replicate, refl}
+use Rattle.std.proofs.Common.{◌≡◌, ℕ, true, false, List, [], ◌∷◌, Some, None, replicate, refl}
 use Rattle.el_base.specs.HartId.{hart_id}
 use Rattle.el_base.specs.LineAddr.{line_addr}
 use Rattle.el_base.specs.declared.config.Config.{Config}
-use Rattle.el_base.specs.declared.config.Mode.TheVariants.{Sle}
+use Rattle.el_base.specs.declared.config.Mode.TheVariants.{Plain, Sle, Tlr}
 use Rattle.el_base.specs.declared.events.Event.{Event}
 use Rattle.el_base.specs.declared.events.Kind.TheVariants.{Step, Order, Serve, Deliver}
-use Rattle.el_base.specs.declared.outcomes.Cause.TheVariants.{Long}
+use Rattle.el_base.specs.declared.outcomes.Cause.TheVariants.{Room, Lines, Long, Call, Mixed}
 use Rattle.el_base.specs.declared.outcomes.Need.TheVariants.{Read, Write}
 use Rattle.el_base.specs.declared.outcomes.Outcome.{Outcome}
-use Rattle.el_base.specs.declared.outcomes.Outcome.TheVariants.{Idle, Stalled, Missed, Ran, Began, Buffered, RolledBack, Blocked}
-use Rattle.el_base.specs.declared.outcomes.Why.TheVariants.{Locked}
+use Rattle.el_base.specs.declared.outcomes.Outcome.TheVariants.{Idle, Stalled, Missed, Ran, Began, Buffered, Committed, RolledBack, Blocked, Delivered, Armed, LetGo}
+use Rattle.el_base.specs.declared.outcomes.Why.TheVariants.{Behind, Retained, Locked}
 use Rattle.computed_runs.proofs.Computing.{computing}
-use Rattle.computed_runs.proofs.Given.{Ending, ending_of, event, first_state, ordered_with, patched, request, served_with, way}
+use Rattle.computed_runs.proofs.Given.{Ending, armed, ending_of, event, first_state, lost, ordered_with, patched, request, section, served_with, stamp, watch, way}
 use Rattle.el_model.specs.Next.{outcomes_from, state_after}
-use Rattle.el_model.specs.State.{ModelState}
-use Rattle.moesi.specs.declared.letter.Letter.TheVariants.{M, O, S}
+use Rattle.el_model.specs.State.{Hart, ModelState}
+use Rattle.mail.specs.Mailbox.{Marker, Probe}
+use Rattle.moesi.specs.declared.letter.Letter.TheVariants.{M, O, E, S}
 
 abbrev config : Config
 config = record {
@@ -67,24 +68,25 @@ events =
 abbrev expected : List Outcome
 expected =
     Idle ∷ Ran ∷ Ran ∷ Idle ∷ Ran ∷ Ran ∷ Ran ∷ Ran ∷ Idle ∷ Idle ∷ Ran ∷ Idle ∷ Ran ∷ Ran ∷ Ran ∷ Idle ∷ Ran ∷ Idle ∷
-    Idle ∷ Ran ∷ Ran ∷ Idle ∷ Missed (line_addr 1024) Read ∷ Idle ∷ Ran ∷ Idle ∷ ordered_with [] [] ∷ Idle ∷ served_with [] [] ∷
-    Idle ∷ Began ∷ Idle ∷ Idle ∷ Idle ∷ Idle ∷ Ran ∷ Ran ∷ Ran ∷ Missed (line_addr 1024) Read ∷
+    Idle ∷ Ran ∷ Ran ∷ Idle ∷ Missed (line_addr 1024) Read ∷ Idle ∷ Ran ∷ Idle ∷ ordered_with [] [] ∷ Idle ∷
+    served_with [] [] ∷ Idle ∷ Began ∷ Idle ∷ Idle ∷ Idle ∷ Idle ∷ Ran ∷ Ran ∷ Ran ∷ Missed (line_addr 1024) Read ∷
     Missed (line_addr 1025) Read ∷ Idle ∷ ordered_with [] [] ∷ Buffered ∷ Idle ∷ Idle ∷ Missed (line_addr 1025) Read ∷
-    ordered_with [] [] ∷ served_with [] [] ∷ Idle ∷ Missed (line_addr 1024) Read ∷ Idle ∷ served_with [] [] ∷ Idle ∷ Began ∷ Ran ∷
-    Ran ∷ ordered_with [] [] ∷ Idle ∷ Idle ∷ Ran ∷ Idle ∷ ordered_with [] [] ∷ Idle ∷ Buffered ∷ Ran ∷ Idle ∷ served_with [] [] ∷
-    Idle ∷ served_with [] [] ∷ Idle ∷ Missed (line_addr 1025) Write ∷ Began ∷ Idle ∷ Buffered ∷
-    Missed (line_addr 1025) Read ∷ Idle ∷ ordered_with [] [] ∷ Idle ∷ served_with [] [] ∷ Idle ∷ Idle ∷ Stalled ∷
-    RolledBack Long ∷ Buffered ∷ Idle ∷ Missed (line_addr 1025) Read ∷ Stalled ∷ Idle ∷ Missed (line_addr 1024) Write ∷
-    Idle ∷ ordered_with [] [] ∷ served_with [] [] ∷ Buffered ∷ ordered_with ((2, 1) ∷ (3, 1) ∷ []) [] ∷ Idle ∷ served_with [] [] ∷
-    Missed (line_addr 1024) Read ∷ Idle ∷ Stalled ∷ Idle ∷ Missed (line_addr 1024) Read ∷ Idle ∷ ordered_with [] [] ∷
-    ordered_with [] [] ∷ Ran ∷ Idle ∷ Idle ∷ Ran ∷ served_with [] [] ∷ Ran ∷ Ran ∷ Ran ∷ ordered_with [] [] ∷
-    Missed (line_addr 1025) Read ∷ Idle ∷ Idle ∷ Ran ∷ Idle ∷ Idle ∷ Ran ∷ Stalled ∷ Idle ∷ served_with [] [] ∷
-    Blocked Locked (hart_id 3) ∷ Idle ∷ Missed (line_addr 1024) Write ∷ Ran ∷ Ran ∷ ordered_with [] [] ∷ served_with [] [] ∷
-    Stalled ∷ Missed (line_addr 1024) Write ∷ served_with [] [] ∷ ordered_with [] [] ∷ ordered_with [] [] ∷ Ran ∷ Idle ∷ Ran ∷ Idle ∷
-    Blocked Locked (hart_id 3) ∷ Ran ∷ Blocked Locked (hart_id 3) ∷ Ran ∷ Idle ∷ served_with [] [] ∷ Ran ∷ Idle ∷
-    served_with [] [] ∷ Missed (line_addr 1025) Write ∷ Ran ∷ Idle ∷ Idle ∷ Idle ∷ Stalled ∷ Ran ∷ Idle ∷ Idle ∷ Ran ∷
-    Idle ∷ Missed (line_addr 1025) Read ∷ Idle ∷ ordered_with [] [] ∷ Stalled ∷ Missed (line_addr 1025) Read ∷ Stalled ∷
-    served_with [] [] ∷ ordered_with [] [] ∷ Ran ∷ Ran ∷ Idle ∷ []
+    ordered_with [] [] ∷ served_with [] [] ∷ Idle ∷ Missed (line_addr 1024) Read ∷ Idle ∷ served_with [] [] ∷ Idle ∷
+    Began ∷ Ran ∷ Ran ∷ ordered_with [] [] ∷ Idle ∷ Idle ∷ Ran ∷ Idle ∷ ordered_with [] [] ∷ Idle ∷ Buffered ∷ Ran ∷
+    Idle ∷ served_with [] [] ∷ Idle ∷ served_with [] [] ∷ Idle ∷ Missed (line_addr 1025) Write ∷ Began ∷ Idle ∷
+    Buffered ∷ Missed (line_addr 1025) Read ∷ Idle ∷ ordered_with [] [] ∷ Idle ∷ served_with [] [] ∷ Idle ∷ Idle ∷
+    Stalled ∷ RolledBack Long ∷ Buffered ∷ Idle ∷ Missed (line_addr 1025) Read ∷ Stalled ∷ Idle ∷
+    Missed (line_addr 1024) Write ∷ Idle ∷ ordered_with [] [] ∷ served_with [] [] ∷ Buffered ∷
+    ordered_with ((2, 1) ∷ (3, 1) ∷ []) [] ∷ Idle ∷ served_with [] [] ∷ Missed (line_addr 1024) Read ∷ Idle ∷ Stalled ∷
+    Idle ∷ Missed (line_addr 1024) Read ∷ Idle ∷ ordered_with [] [] ∷ ordered_with [] [] ∷ Ran ∷ Idle ∷ Idle ∷ Ran ∷
+    served_with [] [] ∷ Ran ∷ Ran ∷ Ran ∷ ordered_with [] [] ∷ Missed (line_addr 1025) Read ∷ Idle ∷ Idle ∷ Ran ∷
+    Idle ∷ Idle ∷ Ran ∷ Stalled ∷ Idle ∷ served_with [] [] ∷ Blocked Locked (hart_id 3) ∷ Idle ∷
+    Missed (line_addr 1024) Write ∷ Ran ∷ Ran ∷ ordered_with [] [] ∷ served_with [] [] ∷ Stalled ∷
+    Missed (line_addr 1024) Write ∷ served_with [] [] ∷ ordered_with [] [] ∷ ordered_with [] [] ∷ Ran ∷ Idle ∷ Ran ∷
+    Idle ∷ Blocked Locked (hart_id 3) ∷ Ran ∷ Blocked Locked (hart_id 3) ∷ Ran ∷ Idle ∷ served_with [] [] ∷ Ran ∷
+    Idle ∷ served_with [] [] ∷ Missed (line_addr 1025) Write ∷ Ran ∷ Idle ∷ Idle ∷ Idle ∷ Stalled ∷ Ran ∷ Idle ∷ Idle ∷
+    Ran ∷ Idle ∷ Missed (line_addr 1025) Read ∷ Idle ∷ ordered_with [] [] ∷ Stalled ∷ Missed (line_addr 1025) Read ∷
+    Stalled ∷ served_with [] [] ∷ ordered_with [] [] ∷ Ran ∷ Ran ∷ Idle ∷ []
 
 outcomes : outcomes_from first events ≡ expected
 unfolding computing
@@ -95,6 +97,8 @@ last = record {
   harts =
       record {
         section = None;
+        armed = None;
+        last_lr = None;
         cache = (way 1025 O false false ∷ []) ∷ [];
         raised = (Some (request 0 1025 Write None));
         held = None;
@@ -109,6 +113,8 @@ last = record {
         predictor = record { counters = (patched (replicate 64 2) ([])); watch = None };
       } ∷ record {
         section = None;
+        armed = None;
+        last_lr = None;
         cache = (way 1025 S false false ∷ []) ∷ [];
         raised = None;
         held = None;
@@ -123,6 +129,8 @@ last = record {
         predictor = record { counters = (patched (replicate 64 2) ((4, 0) ∷ [])); watch = None };
       } ∷ record {
         section = None;
+        armed = None;
+        last_lr = None;
         cache = (way 1025 S false false ∷ way 1024 M false false ∷ []) ∷ [];
         raised = None;
         held = (Some 1025);
@@ -137,6 +145,8 @@ last = record {
         predictor = record { counters = (patched (replicate 64 2) ([])); watch = None };
       } ∷ record {
         section = None;
+        armed = None;
+        last_lr = None;
         cache = ([]) ∷ [];
         raised = None;
         held = None;

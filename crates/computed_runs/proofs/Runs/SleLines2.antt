@@ -3,19 +3,20 @@ use Rattle.std.proofs.Common.{◌≡◌, ℕ, true, false, List, [], ◌∷◌, 
 use Rattle.el_base.specs.HartId.{hart_id}
 use Rattle.el_base.specs.LineAddr.{line_addr}
 use Rattle.el_base.specs.declared.config.Config.{Config}
-use Rattle.el_base.specs.declared.config.Mode.TheVariants.{Sle}
+use Rattle.el_base.specs.declared.config.Mode.TheVariants.{Plain, Sle, Tlr}
 use Rattle.el_base.specs.declared.events.Event.{Event}
 use Rattle.el_base.specs.declared.events.Kind.TheVariants.{Step, Order, Serve, Deliver}
-use Rattle.el_base.specs.declared.outcomes.Cause.TheVariants.{Lines, Mixed}
+use Rattle.el_base.specs.declared.outcomes.Cause.TheVariants.{Room, Lines, Long, Call, Mixed}
 use Rattle.el_base.specs.declared.outcomes.Need.TheVariants.{Read, Write}
 use Rattle.el_base.specs.declared.outcomes.Outcome.{Outcome}
-use Rattle.el_base.specs.declared.outcomes.Outcome.TheVariants.{Idle, Stalled, Missed, Ran, Began, Buffered, Committed, RolledBack, Blocked}
-use Rattle.el_base.specs.declared.outcomes.Why.TheVariants.{Behind, Locked}
+use Rattle.el_base.specs.declared.outcomes.Outcome.TheVariants.{Idle, Stalled, Missed, Ran, Began, Buffered, Committed, RolledBack, Blocked, Delivered, Armed, LetGo}
+use Rattle.el_base.specs.declared.outcomes.Why.TheVariants.{Behind, Retained, Locked}
 use Rattle.computed_runs.proofs.Computing.{computing}
-use Rattle.computed_runs.proofs.Given.{Ending, ending_of, event, first_state, ordered_with, patched, request, section, served_with, watch, way}
+use Rattle.computed_runs.proofs.Given.{Ending, armed, ending_of, event, first_state, lost, ordered_with, patched, request, section, served_with, stamp, watch, way}
 use Rattle.el_model.specs.Next.{outcomes_from, state_after}
-use Rattle.el_model.specs.State.{ModelState}
-use Rattle.moesi.specs.declared.letter.Letter.TheVariants.{M, O, S}
+use Rattle.el_model.specs.State.{Hart, ModelState}
+use Rattle.mail.specs.Mailbox.{Marker, Probe}
+use Rattle.moesi.specs.declared.letter.Letter.TheVariants.{M, O, E, S}
 
 abbrev config : Config
 config = record {
@@ -100,55 +101,59 @@ events =
 abbrev expected : List Outcome
 expected =
     Ran ∷ Idle ∷ Ran ∷ Idle ∷ Idle ∷ Ran ∷ Ran ∷ Ran ∷ Ran ∷ Ran ∷ Idle ∷ Idle ∷ Ran ∷ Ran ∷ Ran ∷ Idle ∷ Ran ∷ Idle ∷
-    Missed (line_addr 1024) Read ∷ ordered_with [] [] ∷ Idle ∷ Idle ∷ Ran ∷ Missed (line_addr 1024) Read ∷ Idle ∷ Idle ∷
-    Idle ∷ Idle ∷ Idle ∷ Idle ∷ served_with [] [] ∷ Ran ∷ Ran ∷ Ran ∷ Began ∷ Idle ∷ Missed (line_addr 1025) Read ∷
-    Missed (line_addr 1025) Read ∷ ordered_with [] [] ∷ ordered_with [] [] ∷ Ran ∷ Missed (line_addr 1024) Read ∷ served_with [] [] ∷
-    Idle ∷ Began ∷ ordered_with [] [] ∷ Stalled ∷ Idle ∷ Idle ∷ Missed (line_addr 1025) Read ∷ Blocked Behind (hart_id 3) ∷
-    Idle ∷ Stalled ∷ ordered_with [] [] ∷ served_with [] [] ∷ Idle ∷ Idle ∷ Idle ∷ Idle ∷ Stalled ∷ served_with [] [] ∷ Idle ∷ Idle ∷
-    Idle ∷ Began ∷ Stalled ∷ Missed (line_addr 1025) Read ∷ served_with [] [] ∷ Stalled ∷ Buffered ∷ Idle ∷ Stalled ∷
+    Missed (line_addr 1024) Read ∷ ordered_with [] [] ∷ Idle ∷ Idle ∷ Ran ∷ Missed (line_addr 1024) Read ∷ Idle ∷
+    Idle ∷ Idle ∷ Idle ∷ Idle ∷ Idle ∷ served_with [] [] ∷ Ran ∷ Ran ∷ Ran ∷ Began ∷ Idle ∷
+    Missed (line_addr 1025) Read ∷ Missed (line_addr 1025) Read ∷ ordered_with [] [] ∷ ordered_with [] [] ∷ Ran ∷
+    Missed (line_addr 1024) Read ∷ served_with [] [] ∷ Idle ∷ Began ∷ ordered_with [] [] ∷ Stalled ∷ Idle ∷ Idle ∷
+    Missed (line_addr 1025) Read ∷ Blocked Behind (hart_id 3) ∷ Idle ∷ Stalled ∷ ordered_with [] [] ∷
+    served_with [] [] ∷ Idle ∷ Idle ∷ Idle ∷ Idle ∷ Stalled ∷ served_with [] [] ∷ Idle ∷ Idle ∷ Idle ∷ Began ∷
+    Stalled ∷ Missed (line_addr 1025) Read ∷ served_with [] [] ∷ Stalled ∷ Buffered ∷ Idle ∷ Stalled ∷
     ordered_with [] [] ∷ Blocked Locked (hart_id 0) ∷ Ran ∷ Idle ∷ ordered_with [] [] ∷ Missed (line_addr 1024) Write ∷
-    served_with [] [] ∷ served_with [] [] ∷ Idle ∷ Idle ∷ Committed 3 ∷ Idle ∷ Idle ∷ Ran ∷ Buffered ∷ Idle ∷ Ran ∷ Began ∷
-    Committed 3 ∷ Missed (line_addr 1028) Write ∷ Idle ∷ Idle ∷ ordered_with ((2, 0) ∷ []) [] ∷
+    served_with [] [] ∷ served_with [] [] ∷ Idle ∷ Idle ∷ Committed 3 ∷ Idle ∷ Idle ∷ Ran ∷ Buffered ∷ Idle ∷ Ran ∷
+    Began ∷ Committed 3 ∷ Missed (line_addr 1028) Write ∷ Idle ∷ Idle ∷ ordered_with ((2, 0) ∷ []) [] ∷
     Missed (line_addr 1024) Read ∷ ordered_with [] [] ∷ Idle ∷ Idle ∷ Idle ∷ Idle ∷ served_with [] [] ∷ Buffered ∷
-    ordered_with [] [] ∷ Idle ∷ served_with [] [] ∷ Idle ∷ Idle ∷ Blocked Locked (hart_id 0) ∷ Idle ∷ RolledBack Lines ∷ Idle ∷
-    Missed (line_addr 1025) Write ∷ ordered_with [] [] ∷ Idle ∷ Idle ∷ Ran ∷ Idle ∷ Ran ∷ Idle ∷ Ran ∷
-    Missed (line_addr 1025) Read ∷ Stalled ∷ Ran ∷ served_with [] [] ∷ Idle ∷ Idle ∷ Idle ∷ Idle ∷ Idle ∷ Began ∷ Idle ∷
-    served_with [] [] ∷ Missed (line_addr 1025) Read ∷ Idle ∷ Ran ∷ Idle ∷ Idle ∷ Idle ∷ Ran ∷
+    ordered_with [] [] ∷ Idle ∷ served_with [] [] ∷ Idle ∷ Idle ∷ Blocked Locked (hart_id 0) ∷ Idle ∷
+    RolledBack Lines ∷ Idle ∷ Missed (line_addr 1025) Write ∷ ordered_with [] [] ∷ Idle ∷ Idle ∷ Ran ∷ Idle ∷ Ran ∷
+    Idle ∷ Ran ∷ Missed (line_addr 1025) Read ∷ Stalled ∷ Ran ∷ served_with [] [] ∷ Idle ∷ Idle ∷ Idle ∷ Idle ∷ Idle ∷
+    Began ∷ Idle ∷ served_with [] [] ∷ Missed (line_addr 1025) Read ∷ Idle ∷ Ran ∷ Idle ∷ Idle ∷ Idle ∷ Ran ∷
     Missed (line_addr 1027) Write ∷ ordered_with [] [] ∷ Idle ∷ Ran ∷ Missed (line_addr 1025) Read ∷ Stalled ∷
-    ordered_with [] [] ∷ Stalled ∷ Blocked Behind (hart_id 2) ∷ ordered_with [] [] ∷ Idle ∷ served_with [] [] ∷ served_with [] [] ∷ Idle ∷
-    Idle ∷ served_with [] [] ∷ Idle ∷ Idle ∷ Stalled ∷ Missed (line_addr 1025) Write ∷ Ran ∷ Stalled ∷ ordered_with [] [] ∷
-    Idle ∷ Stalled ∷ Missed (line_addr 1025) Write ∷ served_with [] [] ∷ ordered_with ((2, 3) ∷ []) [] ∷ ordered_with [] [] ∷
-    Blocked Locked (hart_id 0) ∷ Blocked Behind (hart_id 3) ∷ Blocked Behind (hart_id 3) ∷ Idle ∷
-    Blocked Locked (hart_id 0) ∷ Blocked Locked (hart_id 0) ∷ Blocked Behind (hart_id 3) ∷ Blocked Behind (hart_id 3) ∷
-    Idle ∷ Missed (line_addr 1025) Write ∷ Began ∷ Blocked Behind (hart_id 3) ∷ Idle ∷ served_with [] [] ∷ Stalled ∷ Idle ∷
-    Blocked Locked (hart_id 3) ∷ Stalled ∷ Missed (line_addr 1025) Read ∷ Blocked Locked (hart_id 3) ∷
-    Blocked Locked (hart_id 3) ∷ Idle ∷ Ran ∷ served_with [] [] ∷ Idle ∷ Began ∷ ordered_with [] [] ∷
-    Missed (line_addr 1028) Write ∷ ordered_with [] [] ∷ Idle ∷ ordered_with [] [] ∷ Blocked Behind (hart_id 2) ∷ served_with [] [] ∷
-    Idle ∷ served_with ((1, 0) ∷ (2, 0) ∷ []) [] ∷ Idle ∷ Idle ∷ Began ∷ Missed (line_addr 1025) Read ∷ served_with [] [] ∷
+    ordered_with [] [] ∷ Stalled ∷ Blocked Behind (hart_id 2) ∷ ordered_with [] [] ∷ Idle ∷ served_with [] [] ∷
+    served_with [] [] ∷ Idle ∷ Idle ∷ served_with [] [] ∷ Idle ∷ Idle ∷ Stalled ∷ Missed (line_addr 1025) Write ∷ Ran ∷
+    Stalled ∷ ordered_with [] [] ∷ Idle ∷ Stalled ∷ Missed (line_addr 1025) Write ∷ served_with [] [] ∷
+    ordered_with ((2, 3) ∷ []) [] ∷ ordered_with [] [] ∷ Blocked Locked (hart_id 0) ∷ Blocked Behind (hart_id 3) ∷
+    Blocked Behind (hart_id 3) ∷ Idle ∷ Blocked Locked (hart_id 0) ∷ Blocked Locked (hart_id 0) ∷
+    Blocked Behind (hart_id 3) ∷ Blocked Behind (hart_id 3) ∷ Idle ∷ Missed (line_addr 1025) Write ∷ Began ∷
+    Blocked Behind (hart_id 3) ∷ Idle ∷ served_with [] [] ∷ Stalled ∷ Idle ∷ Blocked Locked (hart_id 3) ∷ Stalled ∷
+    Missed (line_addr 1025) Read ∷ Blocked Locked (hart_id 3) ∷ Blocked Locked (hart_id 3) ∷ Idle ∷ Ran ∷
+    served_with [] [] ∷ Idle ∷ Began ∷ ordered_with [] [] ∷ Missed (line_addr 1028) Write ∷ ordered_with [] [] ∷ Idle ∷
+    ordered_with [] [] ∷ Blocked Behind (hart_id 2) ∷ served_with [] [] ∷ Idle ∷
+    served_with ((1, 0) ∷ (2, 0) ∷ []) [] ∷ Idle ∷ Idle ∷ Began ∷ Missed (line_addr 1025) Read ∷ served_with [] [] ∷
     Missed (line_addr 1025) Read ∷ Missed (line_addr 1024) Read ∷ Idle ∷ ordered_with [] [] ∷ Idle ∷
-    Blocked Locked (hart_id 0) ∷ Stalled ∷ Blocked Locked (hart_id 0) ∷ ordered_with [] [] ∷ Idle ∷ Idle ∷ served_with [] [] ∷
-    Idle ∷ Idle ∷ ordered_with [] [] ∷ Idle ∷ Idle ∷ Blocked Locked (hart_id 0) ∷ Blocked Behind (hart_id 1) ∷ Began ∷
-    Idle ∷ Idle ∷ Blocked Behind (hart_id 1) ∷ Stalled ∷ served_with [] [] ∷ Began ∷ served_with [] [] ∷ Idle ∷ Idle ∷ Idle ∷
-    Began ∷ Missed (line_addr 1028) Write ∷ Idle ∷ ordered_with [] [] ∷ Missed (line_addr 1026) Write ∷ Idle ∷
-    served_with [] [] ∷ Idle ∷ ordered_with [] [] ∷ Buffered ∷ Buffered ∷ Idle ∷ Idle ∷ Idle ∷ Idle ∷
-    Missed (line_addr 1028) Write ∷ Idle ∷ Committed 3 ∷ Idle ∷ Idle ∷ Ran ∷ Idle ∷ RolledBack Lines ∷ Idle ∷ Ran ∷
-    Missed (line_addr 1028) Write ∷ Stalled ∷ Idle ∷ served_with [] [] ∷ ordered_with [] [] ∷ Stalled ∷
-    Missed (line_addr 1025) Write ∷ Idle ∷ Buffered ∷ Idle ∷ ordered_with [] [] ∷ RolledBack Mixed ∷
-    ordered_with ((1, 0) ∷ []) [] ∷ served_with [] [] ∷ Idle ∷ Blocked Behind (hart_id 1) ∷ Missed (line_addr 1024) Write ∷
-    Idle ∷ ordered_with [] [] ∷ Blocked Behind (hart_id 1) ∷ Idle ∷ served_with [] [] ∷ Idle ∷ Idle ∷ Idle ∷ served_with [] [] ∷ Ran ∷
-    Missed (line_addr 1025) Read ∷ Stalled ∷ served_with [] [] ∷ Idle ∷ Idle ∷ Missed (line_addr 1028) Write ∷ Idle ∷ Idle ∷
-    ordered_with [] [] ∷ Idle ∷ Ran ∷ Idle ∷ served_with [] [] ∷ Ran ∷ Missed (line_addr 1027) Write ∷ ordered_with [] [] ∷
-    ordered_with [] [] ∷ Idle ∷ Ran ∷ served_with [] [] ∷ Ran ∷ Idle ∷ Idle ∷ Idle ∷ Ran ∷ served_with [] [] ∷ Ran ∷ Idle ∷ Ran ∷
-    Missed (line_addr 1027) Write ∷ Missed (line_addr 1025) Write ∷ Idle ∷ ordered_with [] [] ∷ served_with [] [] ∷ Idle ∷ Idle ∷
-    Idle ∷ ordered_with [] [] ∷ Missed (line_addr 1025) Write ∷ Idle ∷ Idle ∷ ordered_with [] [] ∷ Ran ∷ Idle ∷ Ran ∷
-    Missed (line_addr 1028) Write ∷ Stalled ∷ Idle ∷ Idle ∷ Idle ∷ ordered_with [] [] ∷ Stalled ∷ served_with [] [] ∷ Idle ∷
-    served_with [] [] ∷ Idle ∷ Idle ∷ Idle ∷ Idle ∷ served_with [] [] ∷ Ran ∷ Ran ∷ Idle ∷ Ran ∷ Idle ∷ Idle ∷ Idle ∷ Ran ∷
-    Missed (line_addr 1025) Write ∷ Idle ∷ Idle ∷ Idle ∷ Missed (line_addr 1027) Write ∷ Missed (line_addr 1024) Read ∷
-    Idle ∷ Idle ∷ Idle ∷ ordered_with [] [] ∷ Stalled ∷ Stalled ∷ Ran ∷ served_with [] [] ∷ ordered_with [] [] ∷ Idle ∷ Idle ∷ Idle ∷
+    Blocked Locked (hart_id 0) ∷ Stalled ∷ Blocked Locked (hart_id 0) ∷ ordered_with [] [] ∷ Idle ∷ Idle ∷
+    served_with [] [] ∷ Idle ∷ Idle ∷ ordered_with [] [] ∷ Idle ∷ Idle ∷ Blocked Locked (hart_id 0) ∷
+    Blocked Behind (hart_id 1) ∷ Began ∷ Idle ∷ Idle ∷ Blocked Behind (hart_id 1) ∷ Stalled ∷ served_with [] [] ∷
+    Began ∷ served_with [] [] ∷ Idle ∷ Idle ∷ Idle ∷ Began ∷ Missed (line_addr 1028) Write ∷ Idle ∷
+    ordered_with [] [] ∷ Missed (line_addr 1026) Write ∷ Idle ∷ served_with [] [] ∷ Idle ∷ ordered_with [] [] ∷
+    Buffered ∷ Buffered ∷ Idle ∷ Idle ∷ Idle ∷ Idle ∷ Missed (line_addr 1028) Write ∷ Idle ∷ Committed 3 ∷ Idle ∷
+    Idle ∷ Ran ∷ Idle ∷ RolledBack Lines ∷ Idle ∷ Ran ∷ Missed (line_addr 1028) Write ∷ Stalled ∷ Idle ∷
+    served_with [] [] ∷ ordered_with [] [] ∷ Stalled ∷ Missed (line_addr 1025) Write ∷ Idle ∷ Buffered ∷ Idle ∷
+    ordered_with [] [] ∷ RolledBack Mixed ∷ ordered_with ((1, 0) ∷ []) [] ∷ served_with [] [] ∷ Idle ∷
+    Blocked Behind (hart_id 1) ∷ Missed (line_addr 1024) Write ∷ Idle ∷ ordered_with [] [] ∷
+    Blocked Behind (hart_id 1) ∷ Idle ∷ served_with [] [] ∷ Idle ∷ Idle ∷ Idle ∷ served_with [] [] ∷ Ran ∷
+    Missed (line_addr 1025) Read ∷ Stalled ∷ served_with [] [] ∷ Idle ∷ Idle ∷ Missed (line_addr 1028) Write ∷ Idle ∷
+    Idle ∷ ordered_with [] [] ∷ Idle ∷ Ran ∷ Idle ∷ served_with [] [] ∷ Ran ∷ Missed (line_addr 1027) Write ∷
+    ordered_with [] [] ∷ ordered_with [] [] ∷ Idle ∷ Ran ∷ served_with [] [] ∷ Ran ∷ Idle ∷ Idle ∷ Idle ∷ Ran ∷
+    served_with [] [] ∷ Ran ∷ Idle ∷ Ran ∷ Missed (line_addr 1027) Write ∷ Missed (line_addr 1025) Write ∷ Idle ∷
+    ordered_with [] [] ∷ served_with [] [] ∷ Idle ∷ Idle ∷ Idle ∷ ordered_with [] [] ∷ Missed (line_addr 1025) Write ∷
+    Idle ∷ Idle ∷ ordered_with [] [] ∷ Ran ∷ Idle ∷ Ran ∷ Missed (line_addr 1028) Write ∷ Stalled ∷ Idle ∷ Idle ∷
+    Idle ∷ ordered_with [] [] ∷ Stalled ∷ served_with [] [] ∷ Idle ∷ served_with [] [] ∷ Idle ∷ Idle ∷ Idle ∷ Idle ∷
+    served_with [] [] ∷ Ran ∷ Ran ∷ Idle ∷ Ran ∷ Idle ∷ Idle ∷ Idle ∷ Ran ∷ Missed (line_addr 1025) Write ∷ Idle ∷
+    Idle ∷ Idle ∷ Missed (line_addr 1027) Write ∷ Missed (line_addr 1024) Read ∷ Idle ∷ Idle ∷ Idle ∷
+    ordered_with [] [] ∷ Stalled ∷ Stalled ∷ Ran ∷ served_with [] [] ∷ ordered_with [] [] ∷ Idle ∷ Idle ∷ Idle ∷
     Began ∷ Idle ∷ Ran ∷ ordered_with [] [] ∷ Stalled ∷ Idle ∷ Missed (line_addr 1025) Write ∷ Idle ∷
     Missed (line_addr 1025) Read ∷ Idle ∷ ordered_with [] [] ∷ Blocked Behind (hart_id 0) ∷ ordered_with [] [] ∷ Idle ∷
-    Blocked Behind (hart_id 0) ∷ Stalled ∷ Blocked Behind (hart_id 0) ∷ served_with [] [] ∷ Idle ∷ Stalled ∷ Began ∷ Idle ∷
-    Blocked Behind (hart_id 0) ∷ []
+    Blocked Behind (hart_id 0) ∷ Stalled ∷ Blocked Behind (hart_id 0) ∷ served_with [] [] ∷ Idle ∷ Stalled ∷ Began ∷
+    Idle ∷ Blocked Behind (hart_id 0) ∷ []
 
 outcomes : outcomes_from first events ≡ expected
 unfolding computing
@@ -159,6 +164,8 @@ last = record {
   harts =
       record {
         section = None;
+        armed = None;
+        last_lr = None;
         cache = ([]) ∷ [];
         raised = None;
         held = None;
@@ -173,6 +180,8 @@ last = record {
         predictor = record { counters = (patched (replicate 64 2) ([])); watch = (Some (watch 131108 65600 0 3)) };
       } ∷ record {
         section = None;
+        armed = None;
+        last_lr = None;
         cache = (way 1027 M false false ∷ way 1028 M false false ∷ []) ∷ [];
         raised = None;
         held = None;
@@ -187,6 +196,8 @@ last = record {
         predictor = record { counters = (patched (replicate 64 2) ((4, 3) ∷ [])); watch = None };
       } ∷ record {
         section = (Some (section 1 65536 0 1));
+        armed = None;
+        last_lr = None;
         cache = (way 1024 S true false ∷ way 1025 M false false ∷ []) ∷ [];
         raised = None;
         held = None;
@@ -201,6 +212,8 @@ last = record {
         predictor = record { counters = (patched (replicate 64 2) ((4, 3) ∷ [])); watch = None };
       } ∷ record {
         section = (Some (section 1 65536 0 1));
+        armed = None;
+        last_lr = None;
         cache = (way 1024 O true false ∷ way 1026 M false false ∷ []) ∷ [];
         raised = None;
         held = None;

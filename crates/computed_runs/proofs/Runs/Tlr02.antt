@@ -3,20 +3,20 @@ use Rattle.std.proofs.Common.{◌≡◌, ℕ, true, false, List, [], ◌∷◌, 
 use Rattle.el_base.specs.HartId.{hart_id}
 use Rattle.el_base.specs.LineAddr.{line_addr}
 use Rattle.el_base.specs.declared.config.Config.{Config}
-use Rattle.el_base.specs.declared.config.Mode.TheVariants.{Tlr}
+use Rattle.el_base.specs.declared.config.Mode.TheVariants.{Plain, Sle, Tlr}
 use Rattle.el_base.specs.declared.events.Event.{Event}
 use Rattle.el_base.specs.declared.events.Kind.TheVariants.{Step, Order, Serve, Deliver}
-use Rattle.el_base.specs.declared.outcomes.Cause.TheVariants.{Room}
+use Rattle.el_base.specs.declared.outcomes.Cause.TheVariants.{Room, Lines, Long, Call, Mixed}
 use Rattle.el_base.specs.declared.outcomes.Need.TheVariants.{Read, Write}
 use Rattle.el_base.specs.declared.outcomes.Outcome.{Outcome}
-use Rattle.el_base.specs.declared.outcomes.Outcome.TheVariants.{Idle, Stalled, Missed, Ran, Began, Buffered, RolledBack, Blocked, Delivered}
+use Rattle.el_base.specs.declared.outcomes.Outcome.TheVariants.{Idle, Stalled, Missed, Ran, Began, Buffered, Committed, RolledBack, Blocked, Delivered, Armed, LetGo}
 use Rattle.el_base.specs.declared.outcomes.Why.TheVariants.{Behind, Retained, Locked}
 use Rattle.computed_runs.proofs.Computing.{computing}
-use Rattle.computed_runs.proofs.Given.{Ending, ending_of, event, first_state, lost, ordered_with, patched, request, section, served_with, stamp, way}
+use Rattle.computed_runs.proofs.Given.{Ending, armed, ending_of, event, first_state, lost, ordered_with, patched, request, section, served_with, stamp, watch, way}
 use Rattle.el_model.specs.Next.{outcomes_from, state_after}
-use Rattle.el_model.specs.State.{ModelState}
-use Rattle.mail.specs.Mailbox.{Marker}
-use Rattle.moesi.specs.declared.letter.Letter.TheVariants.{M, S}
+use Rattle.el_model.specs.State.{Hart, ModelState}
+use Rattle.mail.specs.Mailbox.{Marker, Probe}
+use Rattle.moesi.specs.declared.letter.Letter.TheVariants.{M, O, E, S}
 
 abbrev config : Config
 config = record {
@@ -71,21 +71,21 @@ expected =
     Blocked Behind (hart_id 3) ∷ Delivered (lost []) ∷ served_with [] [] ∷ Delivered (lost []) ∷ Delivered (lost []) ∷
     Delivered (lost []) ∷ Blocked Locked (hart_id 3) ∷ Blocked Behind (hart_id 1) ∷ Began ∷ Stalled ∷ Stalled ∷
     Blocked Behind (hart_id 1) ∷ Missed (line_addr 1024) Write ∷ Idle ∷ ordered_with [] [] ∷ Delivered (lost []) ∷
-    Blocked Behind (hart_id 1) ∷ Stalled ∷ served_with [] [] ∷ Delivered (lost []) ∷ Idle ∷ Idle ∷ served_with [] [] ∷ Idle ∷
-    Idle ∷ Blocked Locked (hart_id 1) ∷ Idle ∷ Delivered (lost []) ∷ Delivered (lost []) ∷ Began ∷ Stalled ∷
+    Blocked Behind (hart_id 1) ∷ Stalled ∷ served_with [] [] ∷ Delivered (lost []) ∷ Idle ∷ Idle ∷ served_with [] [] ∷
+    Idle ∷ Idle ∷ Blocked Locked (hart_id 1) ∷ Idle ∷ Delivered (lost []) ∷ Delivered (lost []) ∷ Began ∷ Stalled ∷
     Missed (line_addr 1024) Write ∷ served_with [] [] ∷ Buffered ∷ ordered_with ((3, 1) ∷ []) [] ∷ Began ∷
-    Missed (line_addr 1024) Write ∷ Idle ∷ ordered_with [] [] ∷ served_with [] [] ∷ Stalled ∷ Began ∷ Delivered (lost []) ∷
-    Missed (line_addr 1024) Write ∷ Delivered (lost []) ∷ Began ∷ Idle ∷ ordered_with [] [] ∷ Delivered (lost []) ∷
-    Delivered (lost []) ∷ Blocked Behind (hart_id 1) ∷ Idle ∷ Blocked Behind (hart_id 1) ∷
+    Missed (line_addr 1024) Write ∷ Idle ∷ ordered_with [] [] ∷ served_with [] [] ∷ Stalled ∷ Began ∷
+    Delivered (lost []) ∷ Missed (line_addr 1024) Write ∷ Delivered (lost []) ∷ Began ∷ Idle ∷ ordered_with [] [] ∷
+    Delivered (lost []) ∷ Delivered (lost []) ∷ Blocked Behind (hart_id 1) ∷ Idle ∷ Blocked Behind (hart_id 1) ∷
     Blocked Behind (hart_id 1) ∷ served_with [] [] ∷ Missed (line_addr 1024) Write ∷ Buffered ∷ RolledBack Room ∷
     Delivered (lost []) ∷ Idle ∷ ordered_with [] [] ∷ Delivered (lost []) ∷ Delivered (lost []) ∷ Stalled ∷
-    served_with ((2, 0) ∷ []) [] ∷ Idle ∷ served_with [] [] ∷ Delivered (lost []) ∷ Buffered ∷ Began ∷ Idle ∷ RolledBack Room ∷
-    Idle ∷ Idle ∷ Idle ∷ Missed (line_addr 1024) Write ∷ Missed (line_addr 1025) Write ∷ Delivered (lost []) ∷
-    Delivered (lost []) ∷ Missed (line_addr 1025) Write ∷ Stalled ∷ Stalled ∷ Idle ∷ Idle ∷ Idle ∷ Stalled ∷ Idle ∷
-    Idle ∷ served_with [] [] ∷ ordered_with [] [] ∷ Blocked Retained (hart_id 2) ∷ Idle ∷ Blocked Retained (hart_id 2) ∷
-    ordered_with ((3, 2) ∷ []) [] ∷ Idle ∷ Blocked Retained (hart_id 2) ∷ Blocked Retained (hart_id 2) ∷
-    Missed (line_addr 1025) Read ∷ Stalled ∷ Blocked Retained (hart_id 2) ∷ Blocked Retained (hart_id 2) ∷
-    ordered_with [] [] ∷ Idle ∷ []
+    served_with ((2, 0) ∷ []) [] ∷ Idle ∷ served_with [] [] ∷ Delivered (lost []) ∷ Buffered ∷ Began ∷ Idle ∷
+    RolledBack Room ∷ Idle ∷ Idle ∷ Idle ∷ Missed (line_addr 1024) Write ∷ Missed (line_addr 1025) Write ∷
+    Delivered (lost []) ∷ Delivered (lost []) ∷ Missed (line_addr 1025) Write ∷ Stalled ∷ Stalled ∷ Idle ∷ Idle ∷
+    Idle ∷ Stalled ∷ Idle ∷ Idle ∷ served_with [] [] ∷ ordered_with [] [] ∷ Blocked Retained (hart_id 2) ∷ Idle ∷
+    Blocked Retained (hart_id 2) ∷ ordered_with ((3, 2) ∷ []) [] ∷ Idle ∷ Blocked Retained (hart_id 2) ∷
+    Blocked Retained (hart_id 2) ∷ Missed (line_addr 1025) Read ∷ Stalled ∷ Blocked Retained (hart_id 2) ∷
+    Blocked Retained (hart_id 2) ∷ ordered_with [] [] ∷ Idle ∷ []
 
 outcomes : outcomes_from first events ≡ expected
 unfolding computing
@@ -96,6 +96,8 @@ last = record {
   harts =
       record {
         section = None;
+        armed = None;
+        last_lr = None;
         cache = (way 1025 S false false ∷ []) ∷ [];
         raised = None;
         held = None;
@@ -110,6 +112,8 @@ last = record {
         predictor = record { counters = (patched (replicate 64 2) ([])); watch = None };
       } ∷ record {
         section = None;
+        armed = None;
+        last_lr = None;
         cache = (way 1025 S false false ∷ []) ∷ [];
         raised = None;
         held = None;
@@ -124,6 +128,8 @@ last = record {
         predictor = record { counters = (patched (replicate 64 2) ([])); watch = None };
       } ∷ record {
         section = (Some (section 1 65600 0 1));
+        armed = None;
+        last_lr = None;
         cache = (way 1025 S true false ∷ []) ∷ [];
         raised = None;
         held = None;
@@ -138,6 +144,8 @@ last = record {
         predictor = record { counters = (patched (replicate 64 2) ([])); watch = None };
       } ∷ record {
         section = None;
+        armed = None;
+        last_lr = None;
         cache = (way 1024 M false false ∷ way 1025 S false false ∷ []) ∷ [];
         raised = (Some (request 3 1025 Read (Some (stamp 0 3))));
         held = None;

@@ -1,21 +1,22 @@
 -- 3 harts in lock removal, 440 random events: a rollback by Call, a serve blocked as Behind, a serve blocked as Locked, a serve blocked as Retained, commits, messages
-use Rattle.std.proofs.Common.{◌≡◌, ℕ, true, false, List, [], ◌∷◌, None, replicate, refl}
+use Rattle.std.proofs.Common.{◌≡◌, ℕ, true, false, List, [], ◌∷◌, Some, None, replicate, refl}
 use Rattle.el_base.specs.HartId.{hart_id}
 use Rattle.el_base.specs.LineAddr.{line_addr}
 use Rattle.el_base.specs.declared.config.Config.{Config}
-use Rattle.el_base.specs.declared.config.Mode.TheVariants.{Tlr}
+use Rattle.el_base.specs.declared.config.Mode.TheVariants.{Plain, Sle, Tlr}
 use Rattle.el_base.specs.declared.events.Event.{Event}
 use Rattle.el_base.specs.declared.events.Kind.TheVariants.{Step, Order, Serve, Deliver}
-use Rattle.el_base.specs.declared.outcomes.Cause.TheVariants.{Call}
+use Rattle.el_base.specs.declared.outcomes.Cause.TheVariants.{Room, Lines, Long, Call, Mixed}
 use Rattle.el_base.specs.declared.outcomes.Need.TheVariants.{Read, Write}
 use Rattle.el_base.specs.declared.outcomes.Outcome.{Outcome}
-use Rattle.el_base.specs.declared.outcomes.Outcome.TheVariants.{Idle, Stalled, Missed, Ran, Began, Buffered, Committed, RolledBack, Blocked, Delivered}
+use Rattle.el_base.specs.declared.outcomes.Outcome.TheVariants.{Idle, Stalled, Missed, Ran, Began, Buffered, Committed, RolledBack, Blocked, Delivered, Armed, LetGo}
 use Rattle.el_base.specs.declared.outcomes.Why.TheVariants.{Behind, Retained, Locked}
 use Rattle.computed_runs.proofs.Computing.{computing}
-use Rattle.computed_runs.proofs.Given.{Ending, ending_of, event, first_state, lost, ordered_with, patched, served_with, way}
+use Rattle.computed_runs.proofs.Given.{Ending, armed, ending_of, event, first_state, lost, ordered_with, patched, request, section, served_with, stamp, watch, way}
 use Rattle.el_model.specs.Next.{outcomes_from, state_after}
-use Rattle.el_model.specs.State.{ModelState}
-use Rattle.moesi.specs.declared.letter.Letter.TheVariants.{M, S}
+use Rattle.el_model.specs.State.{Hart, ModelState}
+use Rattle.mail.specs.Mailbox.{Marker, Probe}
+use Rattle.moesi.specs.declared.letter.Letter.TheVariants.{M, O, E, S}
 
 abbrev config : Config
 config = record {
@@ -106,24 +107,25 @@ events =
 abbrev expected : List Outcome
 expected =
     Ran ∷ Ran ∷ Idle ∷ Ran ∷ Ran ∷ Idle ∷ Ran ∷ Idle ∷ Ran ∷ Ran ∷ Idle ∷ Ran ∷ Ran ∷ Ran ∷
-    Missed (line_addr 1026) Read ∷ Ran ∷ Ran ∷ Missed (line_addr 1024) Read ∷ ordered_with [] [] ∷ ordered_with [] [] ∷ Idle ∷
-    served_with [] [] ∷ Began ∷ Idle ∷ Missed (line_addr 1026) Read ∷ Idle ∷ Missed (line_addr 1024) Read ∷ Stalled ∷ Idle ∷
-    ordered_with [] [] ∷ ordered_with [] [] ∷ Idle ∷ Idle ∷ Delivered (lost []) ∷ Delivered (lost []) ∷ Stalled ∷
-    served_with [] [] ∷ Stalled ∷ Idle ∷ Idle ∷ Idle ∷ served_with [] [] ∷ Idle ∷ Idle ∷ Stalled ∷ Began ∷ Ran ∷
-    Missed (line_addr 1024) Write ∷ Idle ∷ Idle ∷ ordered_with [] [] ∷ Idle ∷ served_with [] [] ∷ Delivered (lost []) ∷
-    Missed (line_addr 1026) Read ∷ Delivered (lost []) ∷ Delivered (lost []) ∷ Idle ∷ Delivered (lost []) ∷
-    Blocked Retained (hart_id 0) ∷ Buffered ∷ Idle ∷ ordered_with [] [] ∷ served_with [] [] ∷ Buffered ∷ Idle ∷
-    Blocked Retained (hart_id 0) ∷ Idle ∷ Committed 3 ∷ Idle ∷ Missed (line_addr 1024) Read ∷ Committed 3 ∷
-    ordered_with [] [] ∷ Blocked Behind (hart_id 1) ∷ Blocked Behind (hart_id 1) ∷ Missed (line_addr 1024) Read ∷
-    Blocked Behind (hart_id 1) ∷ Idle ∷ ordered_with [] [] ∷ Delivered (lost []) ∷ Idle ∷ Delivered (lost []) ∷ Idle ∷
-    Delivered (lost []) ∷ Blocked Behind (hart_id 1) ∷ Blocked Behind (hart_id 1) ∷ Delivered (lost []) ∷
-    served_with [] [] ∷ Stalled ∷ Delivered (lost []) ∷ Idle ∷ Idle ∷ Ran ∷ Idle ∷ Idle ∷ Idle ∷ Idle ∷
-    Delivered (lost []) ∷ Idle ∷ Idle ∷ Stalled ∷ Idle ∷ served_with [] [] ∷ Blocked Locked (hart_id 2) ∷ Idle ∷ Idle ∷
-    Idle ∷ Idle ∷ Idle ∷ Began ∷ RolledBack Call ∷ Began ∷ served_with [] [] ∷ RolledBack Call ∷
-    Missed (line_addr 1024) Write ∷ Missed (line_addr 1024) Write ∷ Idle ∷ Idle ∷ Began ∷ ordered_with [] [] ∷
-    RolledBack Call ∷ ordered_with [] [] ∷ Delivered (lost []) ∷ Delivered (lost []) ∷ Missed (line_addr 1024) Write ∷
-    ordered_with [] [] ∷ served_with [] [] ∷ Blocked Locked (hart_id 1) ∷ Delivered (lost []) ∷ Idle ∷ Delivered (lost []) ∷
-    Ran ∷ served_with [] [] ∷ Delivered (lost []) ∷ Idle ∷ Blocked Locked (hart_id 2) ∷ Blocked Locked (hart_id 2) ∷ Ran ∷
+    Missed (line_addr 1026) Read ∷ Ran ∷ Ran ∷ Missed (line_addr 1024) Read ∷ ordered_with [] [] ∷ ordered_with [] [] ∷
+    Idle ∷ served_with [] [] ∷ Began ∷ Idle ∷ Missed (line_addr 1026) Read ∷ Idle ∷ Missed (line_addr 1024) Read ∷
+    Stalled ∷ Idle ∷ ordered_with [] [] ∷ ordered_with [] [] ∷ Idle ∷ Idle ∷ Delivered (lost []) ∷
+    Delivered (lost []) ∷ Stalled ∷ served_with [] [] ∷ Stalled ∷ Idle ∷ Idle ∷ Idle ∷ served_with [] [] ∷ Idle ∷
+    Idle ∷ Stalled ∷ Began ∷ Ran ∷ Missed (line_addr 1024) Write ∷ Idle ∷ Idle ∷ ordered_with [] [] ∷ Idle ∷
+    served_with [] [] ∷ Delivered (lost []) ∷ Missed (line_addr 1026) Read ∷ Delivered (lost []) ∷
+    Delivered (lost []) ∷ Idle ∷ Delivered (lost []) ∷ Blocked Retained (hart_id 0) ∷ Buffered ∷ Idle ∷
+    ordered_with [] [] ∷ served_with [] [] ∷ Buffered ∷ Idle ∷ Blocked Retained (hart_id 0) ∷ Idle ∷ Committed 3 ∷
+    Idle ∷ Missed (line_addr 1024) Read ∷ Committed 3 ∷ ordered_with [] [] ∷ Blocked Behind (hart_id 1) ∷
+    Blocked Behind (hart_id 1) ∷ Missed (line_addr 1024) Read ∷ Blocked Behind (hart_id 1) ∷ Idle ∷
+    ordered_with [] [] ∷ Delivered (lost []) ∷ Idle ∷ Delivered (lost []) ∷ Idle ∷ Delivered (lost []) ∷
+    Blocked Behind (hart_id 1) ∷ Blocked Behind (hart_id 1) ∷ Delivered (lost []) ∷ served_with [] [] ∷ Stalled ∷
+    Delivered (lost []) ∷ Idle ∷ Idle ∷ Ran ∷ Idle ∷ Idle ∷ Idle ∷ Idle ∷ Delivered (lost []) ∷ Idle ∷ Idle ∷ Stalled ∷
+    Idle ∷ served_with [] [] ∷ Blocked Locked (hart_id 2) ∷ Idle ∷ Idle ∷ Idle ∷ Idle ∷ Idle ∷ Began ∷
+    RolledBack Call ∷ Began ∷ served_with [] [] ∷ RolledBack Call ∷ Missed (line_addr 1024) Write ∷
+    Missed (line_addr 1024) Write ∷ Idle ∷ Idle ∷ Began ∷ ordered_with [] [] ∷ RolledBack Call ∷ ordered_with [] [] ∷
+    Delivered (lost []) ∷ Delivered (lost []) ∷ Missed (line_addr 1024) Write ∷ ordered_with [] [] ∷
+    served_with [] [] ∷ Blocked Locked (hart_id 1) ∷ Delivered (lost []) ∷ Idle ∷ Delivered (lost []) ∷ Ran ∷
+    served_with [] [] ∷ Delivered (lost []) ∷ Idle ∷ Blocked Locked (hart_id 2) ∷ Blocked Locked (hart_id 2) ∷ Ran ∷
     Idle ∷ Idle ∷ Idle ∷ Ran ∷ served_with [] [] ∷ Ran ∷ Idle ∷ Idle ∷ Idle ∷ Ran ∷ Idle ∷ Idle ∷ Idle ∷ Idle ∷ Idle ∷
     Idle ∷ Idle ∷ Ran ∷ Idle ∷ Idle ∷ Idle ∷ Idle ∷ Idle ∷ Idle ∷ Idle ∷ Idle ∷ Idle ∷ Idle ∷ Idle ∷ Idle ∷ Idle ∷
     Idle ∷ Idle ∷ Idle ∷ Idle ∷ Idle ∷ Idle ∷ Idle ∷ Idle ∷ Idle ∷ Idle ∷ Idle ∷ Idle ∷ Idle ∷ Idle ∷ Idle ∷ Idle ∷
@@ -153,6 +155,8 @@ last = record {
   harts =
       record {
         section = None;
+        armed = None;
+        last_lr = None;
         cache = (way 1024 M false false ∷ way 1026 S false false ∷ []) ∷ ([]) ∷ [];
         raised = None;
         held = None;
@@ -167,6 +171,8 @@ last = record {
         predictor = record { counters = (patched (replicate 64 2) ((4, 3) ∷ (7, 1) ∷ [])); watch = None };
       } ∷ record {
         section = None;
+        armed = None;
+        last_lr = None;
         cache = (way 1026 S false false ∷ []) ∷ ([]) ∷ [];
         raised = None;
         held = None;
@@ -181,6 +187,8 @@ last = record {
         predictor = record { counters = (patched (replicate 64 2) ((7, 0) ∷ [])); watch = None };
       } ∷ record {
         section = None;
+        armed = None;
+        last_lr = None;
         cache = (way 1026 S false false ∷ []) ∷ ([]) ∷ [];
         raised = None;
         held = None;

@@ -3,19 +3,20 @@ use Rattle.std.proofs.Common.{◌≡◌, ℕ, true, false, List, [], ◌∷◌, 
 use Rattle.el_base.specs.HartId.{hart_id}
 use Rattle.el_base.specs.LineAddr.{line_addr}
 use Rattle.el_base.specs.declared.config.Config.{Config}
-use Rattle.el_base.specs.declared.config.Mode.TheVariants.{Tlr}
+use Rattle.el_base.specs.declared.config.Mode.TheVariants.{Plain, Sle, Tlr}
 use Rattle.el_base.specs.declared.events.Event.{Event}
 use Rattle.el_base.specs.declared.events.Kind.TheVariants.{Step, Order, Serve, Deliver}
-use Rattle.el_base.specs.declared.outcomes.Cause.TheVariants.{Lines, Mixed}
+use Rattle.el_base.specs.declared.outcomes.Cause.TheVariants.{Room, Lines, Long, Call, Mixed}
 use Rattle.el_base.specs.declared.outcomes.Need.TheVariants.{Read, Write}
 use Rattle.el_base.specs.declared.outcomes.Outcome.{Outcome}
-use Rattle.el_base.specs.declared.outcomes.Outcome.TheVariants.{Idle, Stalled, Missed, Ran, Began, Buffered, Committed, RolledBack, Blocked, Delivered}
+use Rattle.el_base.specs.declared.outcomes.Outcome.TheVariants.{Idle, Stalled, Missed, Ran, Began, Buffered, Committed, RolledBack, Blocked, Delivered, Armed, LetGo}
 use Rattle.el_base.specs.declared.outcomes.Why.TheVariants.{Behind, Retained, Locked}
 use Rattle.computed_runs.proofs.Computing.{computing}
-use Rattle.computed_runs.proofs.Given.{Ending, ending_of, event, first_state, lost, ordered_with, patched, request, served_with, watch, way}
+use Rattle.computed_runs.proofs.Given.{Ending, armed, ending_of, event, first_state, lost, ordered_with, patched, request, section, served_with, stamp, watch, way}
 use Rattle.el_model.specs.Next.{outcomes_from, state_after}
-use Rattle.el_model.specs.State.{ModelState}
-use Rattle.moesi.specs.declared.letter.Letter.TheVariants.{M}
+use Rattle.el_model.specs.State.{Hart, ModelState}
+use Rattle.mail.specs.Mailbox.{Marker, Probe}
+use Rattle.moesi.specs.declared.letter.Letter.TheVariants.{M, O, E, S}
 
 abbrev config : Config
 config = record {
@@ -101,62 +102,66 @@ events =
 abbrev expected : List Outcome
 expected =
     Ran ∷ Idle ∷ Ran ∷ Idle ∷ Idle ∷ Ran ∷ Ran ∷ Ran ∷ Ran ∷ Ran ∷ Idle ∷ Idle ∷ Ran ∷ Ran ∷ Ran ∷ Idle ∷ Ran ∷ Idle ∷
-    Missed (line_addr 1024) Read ∷ ordered_with [] [] ∷ Idle ∷ Idle ∷ Ran ∷ Missed (line_addr 1024) Read ∷ Idle ∷ Idle ∷
-    Idle ∷ Idle ∷ Idle ∷ Idle ∷ served_with [] [] ∷ Ran ∷ Ran ∷ Ran ∷ Began ∷ Idle ∷ Missed (line_addr 1025) Read ∷
-    Missed (line_addr 1025) Read ∷ ordered_with [] [] ∷ ordered_with [] [] ∷ Ran ∷ Missed (line_addr 1024) Read ∷ served_with [] [] ∷
-    Idle ∷ Began ∷ ordered_with [] [] ∷ Stalled ∷ Idle ∷ Idle ∷ Missed (line_addr 1025) Read ∷ Blocked Behind (hart_id 3) ∷
-    Idle ∷ Stalled ∷ ordered_with [] [] ∷ served_with [] [] ∷ Idle ∷ Idle ∷ Idle ∷ Idle ∷ Stalled ∷ served_with [] [] ∷
-    Delivered (lost []) ∷ Delivered (lost []) ∷ Idle ∷ ordered_with [] [] ∷ Blocked Behind (hart_id 0) ∷ Idle ∷ Idle ∷
-    Idle ∷ Idle ∷ Buffered ∷ Blocked Behind (hart_id 0) ∷ Idle ∷ Idle ∷ Idle ∷ Idle ∷ Idle ∷ Idle ∷ Committed 3 ∷
-    served_with [] [] ∷ Blocked Locked (hart_id 0) ∷ Delivered (lost []) ∷ Idle ∷ Ran ∷ Delivered (lost []) ∷ Idle ∷
-    Idle ∷ Idle ∷ Idle ∷ Ran ∷ Ran ∷ Missed (line_addr 1024) Write ∷ Began ∷ Stalled ∷ Idle ∷ served_with [] [] ∷
+    Missed (line_addr 1024) Read ∷ ordered_with [] [] ∷ Idle ∷ Idle ∷ Ran ∷ Missed (line_addr 1024) Read ∷ Idle ∷
+    Idle ∷ Idle ∷ Idle ∷ Idle ∷ Idle ∷ served_with [] [] ∷ Ran ∷ Ran ∷ Ran ∷ Began ∷ Idle ∷
+    Missed (line_addr 1025) Read ∷ Missed (line_addr 1025) Read ∷ ordered_with [] [] ∷ ordered_with [] [] ∷ Ran ∷
+    Missed (line_addr 1024) Read ∷ served_with [] [] ∷ Idle ∷ Began ∷ ordered_with [] [] ∷ Stalled ∷ Idle ∷ Idle ∷
+    Missed (line_addr 1025) Read ∷ Blocked Behind (hart_id 3) ∷ Idle ∷ Stalled ∷ ordered_with [] [] ∷
+    served_with [] [] ∷ Idle ∷ Idle ∷ Idle ∷ Idle ∷ Stalled ∷ served_with [] [] ∷ Delivered (lost []) ∷
+    Delivered (lost []) ∷ Idle ∷ ordered_with [] [] ∷ Blocked Behind (hart_id 0) ∷ Idle ∷ Idle ∷ Idle ∷ Idle ∷
+    Buffered ∷ Blocked Behind (hart_id 0) ∷ Idle ∷ Idle ∷ Idle ∷ Idle ∷ Idle ∷ Idle ∷ Committed 3 ∷ served_with [] [] ∷
+    Blocked Locked (hart_id 0) ∷ Delivered (lost []) ∷ Idle ∷ Ran ∷ Delivered (lost []) ∷ Idle ∷ Idle ∷ Idle ∷ Idle ∷
+    Ran ∷ Ran ∷ Missed (line_addr 1024) Write ∷ Began ∷ Stalled ∷ Idle ∷ served_with [] [] ∷
     Missed (line_addr 1028) Write ∷ ordered_with [] [] ∷ Idle ∷ Began ∷ Buffered ∷ Committed 3 ∷ served_with [] [] ∷
-    Missed (line_addr 1025) Read ∷ ordered_with [] [] ∷ Idle ∷ Ran ∷ ordered_with [] [] ∷ Blocked Retained (hart_id 2) ∷ Ran ∷
-    Began ∷ served_with [] [] ∷ Buffered ∷ Delivered (lost []) ∷ Buffered ∷ Committed 3 ∷ Idle ∷ Idle ∷ served_with [] [] ∷
-    Ran ∷ Missed (line_addr 1028) Write ∷ Idle ∷ ordered_with ((3, 1) ∷ []) [] ∷ Idle ∷ Idle ∷ Stalled ∷ Stalled ∷ Began ∷
-    Ran ∷ Ran ∷ served_with [] [] ∷ Buffered ∷ Missed (line_addr 1028) Write ∷ Idle ∷ Idle ∷ Idle ∷ Ran ∷ RolledBack Lines ∷
-    Missed (line_addr 1028) Write ∷ Idle ∷ Idle ∷ Missed (line_addr 1025) Write ∷ ordered_with [] [] ∷ Idle ∷ served_with [] [] ∷
-    Idle ∷ Buffered ∷ ordered_with [] [] ∷ Idle ∷ Ran ∷ RolledBack Lines ∷ Began ∷ Idle ∷ Idle ∷ ordered_with [] [] ∷
-    Delivered (lost []) ∷ Idle ∷ Missed (line_addr 1025) Write ∷ served_with [] [] ∷ ordered_with [] [] ∷ Ran ∷ Idle ∷ Idle ∷
-    Blocked Behind (hart_id 1) ∷ Blocked Retained (hart_id 0) ∷ Idle ∷ Delivered (lost []) ∷ Delivered (lost []) ∷
-    Missed (line_addr 1027) Write ∷ Blocked Retained (hart_id 0) ∷ Delivered (lost []) ∷ Delivered (lost []) ∷
-    Blocked Behind (hart_id 1) ∷ Idle ∷ Missed (line_addr 1028) Write ∷ ordered_with [] [] ∷ Idle ∷
-    Blocked Behind (hart_id 1) ∷ Stalled ∷ Blocked Retained (hart_id 0) ∷ ordered_with [] [] ∷ served_with [] [] ∷
-    Delivered (lost []) ∷ Idle ∷ served_with [] [] ∷ Idle ∷ Ran ∷ Buffered ∷ Idle ∷ Idle ∷ Blocked Behind (hart_id 1) ∷
-    RolledBack Lines ∷ Blocked Behind (hart_id 1) ∷ served_with [] [] ∷ Missed (line_addr 1025) Write ∷
-    Blocked Locked (hart_id 1) ∷ Idle ∷ Missed (line_addr 1025) Write ∷ Idle ∷ Blocked Locked (hart_id 1) ∷
-    ordered_with [] [] ∷ Blocked Locked (hart_id 1) ∷ Ran ∷ Delivered (lost []) ∷ ordered_with [] [] ∷
-    Blocked Behind (hart_id 3) ∷ Idle ∷ Blocked Behind (hart_id 3) ∷ Idle ∷ Delivered (lost []) ∷ served_with [] [] ∷
-    Blocked Locked (hart_id 3) ∷ Delivered (lost []) ∷ Blocked Behind (hart_id 0) ∷ Missed (line_addr 1028) Write ∷
-    Ran ∷ ordered_with [] [] ∷ Idle ∷ Stalled ∷ served_with [] [] ∷ Delivered (lost []) ∷ served_with [] [] ∷ Idle ∷ Ran ∷ Idle ∷
-    Ran ∷ Idle ∷ Delivered (lost []) ∷ Missed (line_addr 1028) Write ∷ ordered_with [] [] ∷ Idle ∷ served_with [] [] ∷ Idle ∷
-    Idle ∷ Idle ∷ Missed (line_addr 1027) Write ∷ ordered_with [] [] ∷ Idle ∷ Idle ∷ served_with [] [] ∷ Stalled ∷ served_with [] [] ∷
-    Ran ∷ Idle ∷ Missed (line_addr 1025) Write ∷ Idle ∷ Missed (line_addr 1028) Write ∷ ordered_with [] [] ∷ ordered_with [] [] ∷
-    Ran ∷ Blocked Locked (hart_id 2) ∷ served_with [] [] ∷ Idle ∷ Ran ∷ Stalled ∷ Idle ∷ Missed (line_addr 1027) Write ∷
-    Blocked Locked (hart_id 2) ∷ ordered_with [] [] ∷ Idle ∷ Idle ∷ Idle ∷ Blocked Locked (hart_id 2) ∷
-    Blocked Locked (hart_id 2) ∷ Stalled ∷ Ran ∷ Idle ∷ Stalled ∷ Missed (line_addr 1027) Write ∷
-    Missed (line_addr 1024) Read ∷ ordered_with [] [] ∷ ordered_with [] [] ∷ served_with [] [] ∷ Idle ∷ Stalled ∷ Began ∷ Stalled ∷
-    Idle ∷ Idle ∷ Blocked Behind (hart_id 3) ∷ served_with [] [] ∷ Missed (line_addr 1026) Write ∷ ordered_with [] [] ∷
-    served_with [] [] ∷ Ran ∷ Idle ∷ Idle ∷ served_with [] [] ∷ served_with [] [] ∷ Idle ∷ Buffered ∷ Missed (line_addr 1025) Write ∷
-    Ran ∷ ordered_with [] [] ∷ Idle ∷ Blocked Locked (hart_id 1) ∷ Idle ∷ Ran ∷ Idle ∷ Missed (line_addr 1024) Read ∷
-    served_with [] [] ∷ Missed (line_addr 1025) Write ∷ Idle ∷ RolledBack Mixed ∷ Idle ∷ ordered_with [] [] ∷ Idle ∷ Ran ∷ Idle ∷
-    Blocked Locked (hart_id 3) ∷ Ran ∷ Ran ∷ Idle ∷ served_with [] [] ∷ ordered_with [] [] ∷ Ran ∷ served_with [] [] ∷
-    Missed (line_addr 1024) Write ∷ Idle ∷ Idle ∷ Idle ∷ Idle ∷ Idle ∷ Missed (line_addr 1024) Write ∷ Idle ∷
-    Missed (line_addr 1024) Write ∷ ordered_with [] [] ∷ ordered_with [] [] ∷ ordered_with [] [] ∷ Blocked Behind (hart_id 2) ∷
-    served_with [] [] ∷ Delivered (lost []) ∷ Missed (line_addr 1024) Write ∷ Delivered (lost []) ∷ Idle ∷
-    Blocked Behind (hart_id 1) ∷ Delivered (lost []) ∷ ordered_with [] [] ∷ Blocked Behind (hart_id 1) ∷ Idle ∷ Ran ∷
-    served_with [] [] ∷ Blocked Locked (hart_id 1) ∷ Blocked Locked (hart_id 1) ∷ Blocked Behind (hart_id 3) ∷
-    Blocked Behind (hart_id 3) ∷ Stalled ∷ Blocked Locked (hart_id 1) ∷ Missed (line_addr 1024) Read ∷
-    Missed (line_addr 1024) Read ∷ Delivered (lost []) ∷ Idle ∷ Idle ∷ ordered_with [] [] ∷ Stalled ∷
-    Blocked Behind (hart_id 3) ∷ ordered_with [] [] ∷ Delivered (lost []) ∷ Blocked Behind (hart_id 3) ∷
-    Delivered (lost []) ∷ Blocked Behind (hart_id 3) ∷ Delivered (lost []) ∷ Blocked Behind (hart_id 3) ∷ Idle ∷
-    Blocked Behind (hart_id 3) ∷ Delivered (lost []) ∷ Blocked Behind (hart_id 3) ∷ Stalled ∷ Delivered (lost []) ∷
-    Stalled ∷ Idle ∷ Idle ∷ Idle ∷ Stalled ∷ served_with [] [] ∷ Idle ∷ Blocked Behind (hart_id 0) ∷
-    Blocked Locked (hart_id 3) ∷ Blocked Behind (hart_id 0) ∷ Idle ∷ Blocked Behind (hart_id 0) ∷
-    Delivered (lost []) ∷ Blocked Behind (hart_id 0) ∷ Blocked Behind (hart_id 0) ∷ Blocked Locked (hart_id 3) ∷
-    Stalled ∷ Stalled ∷ Delivered (lost []) ∷ Blocked Behind (hart_id 0) ∷ Idle ∷ Delivered (lost []) ∷ Stalled ∷
-    Ran ∷ Delivered (lost []) ∷ Idle ∷ Missed (line_addr 1026) Write ∷ Idle ∷ Delivered (lost []) ∷
-    Blocked Behind (hart_id 0) ∷ Blocked Behind (hart_id 0) ∷ []
+    Missed (line_addr 1025) Read ∷ ordered_with [] [] ∷ Idle ∷ Ran ∷ ordered_with [] [] ∷
+    Blocked Retained (hart_id 2) ∷ Ran ∷ Began ∷ served_with [] [] ∷ Buffered ∷ Delivered (lost []) ∷ Buffered ∷
+    Committed 3 ∷ Idle ∷ Idle ∷ served_with [] [] ∷ Ran ∷ Missed (line_addr 1028) Write ∷ Idle ∷
+    ordered_with ((3, 1) ∷ []) [] ∷ Idle ∷ Idle ∷ Stalled ∷ Stalled ∷ Began ∷ Ran ∷ Ran ∷ served_with [] [] ∷
+    Buffered ∷ Missed (line_addr 1028) Write ∷ Idle ∷ Idle ∷ Idle ∷ Ran ∷ RolledBack Lines ∷
+    Missed (line_addr 1028) Write ∷ Idle ∷ Idle ∷ Missed (line_addr 1025) Write ∷ ordered_with [] [] ∷ Idle ∷
+    served_with [] [] ∷ Idle ∷ Buffered ∷ ordered_with [] [] ∷ Idle ∷ Ran ∷ RolledBack Lines ∷ Began ∷ Idle ∷ Idle ∷
+    ordered_with [] [] ∷ Delivered (lost []) ∷ Idle ∷ Missed (line_addr 1025) Write ∷ served_with [] [] ∷
+    ordered_with [] [] ∷ Ran ∷ Idle ∷ Idle ∷ Blocked Behind (hart_id 1) ∷ Blocked Retained (hart_id 0) ∷ Idle ∷
+    Delivered (lost []) ∷ Delivered (lost []) ∷ Missed (line_addr 1027) Write ∷ Blocked Retained (hart_id 0) ∷
+    Delivered (lost []) ∷ Delivered (lost []) ∷ Blocked Behind (hart_id 1) ∷ Idle ∷ Missed (line_addr 1028) Write ∷
+    ordered_with [] [] ∷ Idle ∷ Blocked Behind (hart_id 1) ∷ Stalled ∷ Blocked Retained (hart_id 0) ∷
+    ordered_with [] [] ∷ served_with [] [] ∷ Delivered (lost []) ∷ Idle ∷ served_with [] [] ∷ Idle ∷ Ran ∷ Buffered ∷
+    Idle ∷ Idle ∷ Blocked Behind (hart_id 1) ∷ RolledBack Lines ∷ Blocked Behind (hart_id 1) ∷ served_with [] [] ∷
+    Missed (line_addr 1025) Write ∷ Blocked Locked (hart_id 1) ∷ Idle ∷ Missed (line_addr 1025) Write ∷ Idle ∷
+    Blocked Locked (hart_id 1) ∷ ordered_with [] [] ∷ Blocked Locked (hart_id 1) ∷ Ran ∷ Delivered (lost []) ∷
+    ordered_with [] [] ∷ Blocked Behind (hart_id 3) ∷ Idle ∷ Blocked Behind (hart_id 3) ∷ Idle ∷ Delivered (lost []) ∷
+    served_with [] [] ∷ Blocked Locked (hart_id 3) ∷ Delivered (lost []) ∷ Blocked Behind (hart_id 0) ∷
+    Missed (line_addr 1028) Write ∷ Ran ∷ ordered_with [] [] ∷ Idle ∷ Stalled ∷ served_with [] [] ∷
+    Delivered (lost []) ∷ served_with [] [] ∷ Idle ∷ Ran ∷ Idle ∷ Ran ∷ Idle ∷ Delivered (lost []) ∷
+    Missed (line_addr 1028) Write ∷ ordered_with [] [] ∷ Idle ∷ served_with [] [] ∷ Idle ∷ Idle ∷ Idle ∷
+    Missed (line_addr 1027) Write ∷ ordered_with [] [] ∷ Idle ∷ Idle ∷ served_with [] [] ∷ Stalled ∷
+    served_with [] [] ∷ Ran ∷ Idle ∷ Missed (line_addr 1025) Write ∷ Idle ∷ Missed (line_addr 1028) Write ∷
+    ordered_with [] [] ∷ ordered_with [] [] ∷ Ran ∷ Blocked Locked (hart_id 2) ∷ served_with [] [] ∷ Idle ∷ Ran ∷
+    Stalled ∷ Idle ∷ Missed (line_addr 1027) Write ∷ Blocked Locked (hart_id 2) ∷ ordered_with [] [] ∷ Idle ∷ Idle ∷
+    Idle ∷ Blocked Locked (hart_id 2) ∷ Blocked Locked (hart_id 2) ∷ Stalled ∷ Ran ∷ Idle ∷ Stalled ∷
+    Missed (line_addr 1027) Write ∷ Missed (line_addr 1024) Read ∷ ordered_with [] [] ∷ ordered_with [] [] ∷
+    served_with [] [] ∷ Idle ∷ Stalled ∷ Began ∷ Stalled ∷ Idle ∷ Idle ∷ Blocked Behind (hart_id 3) ∷
+    served_with [] [] ∷ Missed (line_addr 1026) Write ∷ ordered_with [] [] ∷ served_with [] [] ∷ Ran ∷ Idle ∷ Idle ∷
+    served_with [] [] ∷ served_with [] [] ∷ Idle ∷ Buffered ∷ Missed (line_addr 1025) Write ∷ Ran ∷
+    ordered_with [] [] ∷ Idle ∷ Blocked Locked (hart_id 1) ∷ Idle ∷ Ran ∷ Idle ∷ Missed (line_addr 1024) Read ∷
+    served_with [] [] ∷ Missed (line_addr 1025) Write ∷ Idle ∷ RolledBack Mixed ∷ Idle ∷ ordered_with [] [] ∷ Idle ∷
+    Ran ∷ Idle ∷ Blocked Locked (hart_id 3) ∷ Ran ∷ Ran ∷ Idle ∷ served_with [] [] ∷ ordered_with [] [] ∷ Ran ∷
+    served_with [] [] ∷ Missed (line_addr 1024) Write ∷ Idle ∷ Idle ∷ Idle ∷ Idle ∷ Idle ∷
+    Missed (line_addr 1024) Write ∷ Idle ∷ Missed (line_addr 1024) Write ∷ ordered_with [] [] ∷ ordered_with [] [] ∷
+    ordered_with [] [] ∷ Blocked Behind (hart_id 2) ∷ served_with [] [] ∷ Delivered (lost []) ∷
+    Missed (line_addr 1024) Write ∷ Delivered (lost []) ∷ Idle ∷ Blocked Behind (hart_id 1) ∷ Delivered (lost []) ∷
+    ordered_with [] [] ∷ Blocked Behind (hart_id 1) ∷ Idle ∷ Ran ∷ served_with [] [] ∷ Blocked Locked (hart_id 1) ∷
+    Blocked Locked (hart_id 1) ∷ Blocked Behind (hart_id 3) ∷ Blocked Behind (hart_id 3) ∷ Stalled ∷
+    Blocked Locked (hart_id 1) ∷ Missed (line_addr 1024) Read ∷ Missed (line_addr 1024) Read ∷ Delivered (lost []) ∷
+    Idle ∷ Idle ∷ ordered_with [] [] ∷ Stalled ∷ Blocked Behind (hart_id 3) ∷ ordered_with [] [] ∷
+    Delivered (lost []) ∷ Blocked Behind (hart_id 3) ∷ Delivered (lost []) ∷ Blocked Behind (hart_id 3) ∷
+    Delivered (lost []) ∷ Blocked Behind (hart_id 3) ∷ Idle ∷ Blocked Behind (hart_id 3) ∷ Delivered (lost []) ∷
+    Blocked Behind (hart_id 3) ∷ Stalled ∷ Delivered (lost []) ∷ Stalled ∷ Idle ∷ Idle ∷ Idle ∷ Stalled ∷
+    served_with [] [] ∷ Idle ∷ Blocked Behind (hart_id 0) ∷ Blocked Locked (hart_id 3) ∷ Blocked Behind (hart_id 0) ∷
+    Idle ∷ Blocked Behind (hart_id 0) ∷ Delivered (lost []) ∷ Blocked Behind (hart_id 0) ∷ Blocked Behind (hart_id 0) ∷
+    Blocked Locked (hart_id 3) ∷ Stalled ∷ Stalled ∷ Delivered (lost []) ∷ Blocked Behind (hart_id 0) ∷ Idle ∷
+    Delivered (lost []) ∷ Stalled ∷ Ran ∷ Delivered (lost []) ∷ Idle ∷ Missed (line_addr 1026) Write ∷ Idle ∷
+    Delivered (lost []) ∷ Blocked Behind (hart_id 0) ∷ Blocked Behind (hart_id 0) ∷ []
 
 outcomes : outcomes_from first events ≡ expected
 unfolding computing
@@ -167,6 +172,8 @@ last = record {
   harts =
       record {
         section = None;
+        armed = None;
+        last_lr = None;
         cache = (way 1025 M false false ∷ way 1027 M false false ∷ []) ∷ [];
         raised = None;
         held = None;
@@ -181,6 +188,8 @@ last = record {
         predictor = record { counters = (patched (replicate 64 2) ([])); watch = None };
       } ∷ record {
         section = None;
+        armed = None;
+        last_lr = None;
         cache = ([]) ∷ [];
         raised = None;
         held = None;
@@ -195,6 +204,8 @@ last = record {
         predictor = record { counters = (patched (replicate 64 2) ((4, 3) ∷ (9, 3) ∷ [])); watch = None };
       } ∷ record {
         section = None;
+        armed = None;
+        last_lr = None;
         cache = (way 1026 M false false ∷ []) ∷ [];
         raised = None;
         held = None;
@@ -209,6 +220,8 @@ last = record {
         predictor = record { counters = (patched (replicate 64 2) ((4, 3) ∷ (13, 0) ∷ [])); watch = None };
       } ∷ record {
         section = None;
+        armed = None;
+        last_lr = None;
         cache = (way 1024 M false false ∷ []) ∷ [];
         raised = (Some (request 3 1026 Write None));
         held = None;

@@ -3,20 +3,20 @@ use Rattle.std.proofs.Common.{◌≡◌, ℕ, true, false, List, [], ◌∷◌, 
 use Rattle.el_base.specs.HartId.{hart_id}
 use Rattle.el_base.specs.LineAddr.{line_addr}
 use Rattle.el_base.specs.declared.config.Config.{Config}
-use Rattle.el_base.specs.declared.config.Mode.TheVariants.{Tlr}
+use Rattle.el_base.specs.declared.config.Mode.TheVariants.{Plain, Sle, Tlr}
 use Rattle.el_base.specs.declared.events.Event.{Event}
 use Rattle.el_base.specs.declared.events.Kind.TheVariants.{Step, Order, Serve, Deliver}
-use Rattle.el_base.specs.declared.outcomes.Cause.TheVariants.{Long}
+use Rattle.el_base.specs.declared.outcomes.Cause.TheVariants.{Room, Lines, Long, Call, Mixed}
 use Rattle.el_base.specs.declared.outcomes.Need.TheVariants.{Read, Write}
 use Rattle.el_base.specs.declared.outcomes.Outcome.{Outcome}
-use Rattle.el_base.specs.declared.outcomes.Outcome.TheVariants.{Idle, Stalled, Missed, Ran, Began, Buffered, Committed, RolledBack, Blocked, Delivered}
+use Rattle.el_base.specs.declared.outcomes.Outcome.TheVariants.{Idle, Stalled, Missed, Ran, Began, Buffered, Committed, RolledBack, Blocked, Delivered, Armed, LetGo}
 use Rattle.el_base.specs.declared.outcomes.Why.TheVariants.{Behind, Retained, Locked}
 use Rattle.computed_runs.proofs.Computing.{computing}
-use Rattle.computed_runs.proofs.Given.{Ending, ending_of, event, first_state, lost, ordered_with, patched, request, section, served_with, stamp, way}
+use Rattle.computed_runs.proofs.Given.{Ending, armed, ending_of, event, first_state, lost, ordered_with, patched, request, section, served_with, stamp, watch, way}
 use Rattle.el_model.specs.Next.{outcomes_from, state_after}
-use Rattle.el_model.specs.State.{ModelState}
-use Rattle.mail.specs.Mailbox.{Marker}
-use Rattle.moesi.specs.declared.letter.Letter.TheVariants.{M, S}
+use Rattle.el_model.specs.State.{Hart, ModelState}
+use Rattle.mail.specs.Mailbox.{Marker, Probe}
+use Rattle.moesi.specs.declared.letter.Letter.TheVariants.{M, O, E, S}
 
 abbrev config : Config
 config = record {
@@ -105,48 +105,49 @@ expected =
     Missed (line_addr 1025) Read ∷ Idle ∷ Idle ∷ Idle ∷ Ran ∷ ordered_with [] [] ∷ Ran ∷ Ran ∷ Ran ∷ Idle ∷ Ran ∷
     served_with [] [] ∷ Ran ∷ Idle ∷ Ran ∷ Idle ∷ Idle ∷ Began ∷ Missed (line_addr 1025) Read ∷
     Missed (line_addr 1025) Read ∷ Missed (line_addr 1025) Read ∷ ordered_with [] [] ∷ ordered_with [] [] ∷
-    Blocked Behind (hart_id 1) ∷ Idle ∷ Stalled ∷ Idle ∷ ordered_with [] [] ∷ Blocked Behind (hart_id 1) ∷ served_with [] [] ∷
-    Blocked Behind (hart_id 0) ∷ Stalled ∷ Blocked Locked (hart_id 1) ∷ Idle ∷ Blocked Behind (hart_id 0) ∷ Began ∷
-    Missed (line_addr 1026) Write ∷ Stalled ∷ served_with [] [] ∷ Blocked Locked (hart_id 0) ∷ Idle ∷ ordered_with [] [] ∷ Idle ∷
-    Idle ∷ Delivered (lost []) ∷ Stalled ∷ Blocked Locked (hart_id 0) ∷ Delivered (lost []) ∷
-    Blocked Locked (hart_id 0) ∷ served_with [] [] ∷ Began ∷ Idle ∷ Missed (line_addr 1026) Write ∷ Idle ∷ Stalled ∷
-    served_with [] [] ∷ Idle ∷ Idle ∷ Idle ∷ ordered_with ((3, 0) ∷ []) [] ∷ Began ∷ served_with [] [] ∷
-    Missed (line_addr 1026) Write ∷ Idle ∷ Buffered ∷ Began ∷ Missed (line_addr 1026) Write ∷ ordered_with [] [] ∷
-    ordered_with [] [] ∷ Blocked Behind (hart_id 1) ∷ Delivered (lost []) ∷ Delivered (lost []) ∷
-    Blocked Retained (hart_id 0) ∷ Idle ∷ Delivered (lost []) ∷ Missed (line_addr 1026) Write ∷
-    Blocked Behind (hart_id 1) ∷ Delivered (lost []) ∷ Stalled ∷ Buffered ∷ Committed 4 ∷ served_with [] [] ∷
-    Blocked Retained (hart_id 1) ∷ Missed (line_addr 1024) Read ∷ Blocked Retained (hart_id 1) ∷ Idle ∷ ordered_with [] [] ∷
-    Stalled ∷ Idle ∷ Blocked Retained (hart_id 1) ∷ Blocked Behind (hart_id 3) ∷ Blocked Retained (hart_id 1) ∷
-    Stalled ∷ Stalled ∷ Buffered ∷ Delivered (lost []) ∷ Idle ∷ Idle ∷ Delivered (lost []) ∷
-    Delivered (lost []) ∷ Idle ∷ Delivered (lost []) ∷ Delivered (lost []) ∷ Blocked Behind (hart_id 3) ∷ Idle ∷
-    Blocked Behind (hart_id 3) ∷ Stalled ∷ Idle ∷ ordered_with [] [] ∷ Blocked Retained (hart_id 1) ∷ served_with [] [] ∷ Idle ∷
-    Blocked Retained (hart_id 1) ∷ Blocked Retained (hart_id 1) ∷ Blocked Retained (hart_id 1) ∷ Idle ∷ Began ∷
-    Buffered ∷ Missed (line_addr 1025) Write ∷ Delivered (lost []) ∷ Blocked Retained (hart_id 1) ∷ Idle ∷
-    ordered_with [] [] ∷ Buffered ∷ Blocked Retained (hart_id 1) ∷ Idle ∷ Blocked Retained (hart_id 1) ∷
-    Blocked Retained (hart_id 1) ∷ Blocked Behind (hart_id 3) ∷ Blocked Retained (hart_id 1) ∷ Idle ∷
-    Blocked Behind (hart_id 3) ∷ Blocked Behind (hart_id 3) ∷ Idle ∷ Committed 4 ∷ Stalled ∷ Stalled ∷
-    Missed (line_addr 1024) Read ∷ Delivered (lost []) ∷ Delivered (lost []) ∷ Delivered (lost []) ∷
-    served_with ((3, 2) ∷ []) [] ∷ Blocked Retained (hart_id 2) ∷ Idle ∷ Missed (line_addr 1025) Read ∷
-    Delivered (lost []) ∷ ordered_with [] [] ∷ Delivered (lost []) ∷ served_with [] [] ∷ Stalled ∷ Buffered ∷
-    Delivered (lost []) ∷ Stalled ∷ Delivered (lost []) ∷ Blocked Behind (hart_id 0) ∷
-    Blocked Retained (hart_id 2) ∷ Blocked Retained (hart_id 2) ∷ ordered_with [] [] ∷ Stalled ∷ served_with [] [] ∷
-    Blocked Retained (hart_id 2) ∷ Blocked Behind (hart_id 0) ∷ Blocked Behind (hart_id 0) ∷ Idle ∷
-    Delivered (lost []) ∷ Delivered (lost []) ∷ Blocked Behind (hart_id 0) ∷ Delivered (lost []) ∷ Idle ∷
-    Blocked Retained (hart_id 2) ∷ Blocked Retained (hart_id 2) ∷ Blocked Behind (hart_id 0) ∷ Stalled ∷ Idle ∷
-    Stalled ∷ Idle ∷ Blocked Retained (hart_id 2) ∷ Idle ∷ Buffered ∷ Began ∷ Idle ∷ Buffered ∷ Idle ∷ Committed 4 ∷
-    Idle ∷ Missed (line_addr 1024) Read ∷ Missed (line_addr 1025) Write ∷ ordered_with [] [] ∷ Idle ∷ Idle ∷ Idle ∷
-    Blocked Behind (hart_id 0) ∷ Idle ∷ ordered_with [] [] ∷ Blocked Behind (hart_id 0) ∷ served_with ((0, 3) ∷ []) [] ∷
-    served_with [] [] ∷ Began ∷ Blocked Locked (hart_id 3) ∷ Idle ∷ Buffered ∷ Delivered (lost []) ∷
-    Delivered (lost []) ∷ served_with [] [] ∷ Missed (line_addr 1025) Write ∷ Idle ∷ Blocked Locked (hart_id 3) ∷ Idle ∷
-    Missed (line_addr 1025) Read ∷ Idle ∷ ordered_with [] [] ∷ Delivered (lost []) ∷ ordered_with [] [] ∷
-    Blocked Behind (hart_id 1) ∷ served_with ((1, 0) ∷ []) [] ∷ Delivered (lost []) ∷ Delivered (lost []) ∷ Began ∷
-    served_with ((0, 3) ∷ []) [] ∷ Began ∷ Idle ∷ served_with [] [] ∷ Idle ∷ Idle ∷ Began ∷ Idle ∷ Buffered ∷ Began ∷ Idle ∷
-    Buffered ∷ Missed (line_addr 1025) Write ∷ ordered_with [] [] ∷ Missed (line_addr 1026) Write ∷ ordered_with [] [] ∷
-    Stalled ∷ Idle ∷ Buffered ∷ Missed (line_addr 1025) Write ∷ served_with [] [] ∷ Buffered ∷
-    Missed (line_addr 1025) Write ∷ Stalled ∷ ordered_with [] [] ∷ Delivered (lost []) ∷ Idle ∷ Buffered ∷ Idle ∷
-    Blocked Behind (hart_id 1) ∷ Idle ∷ Idle ∷ Idle ∷ Committed 4 ∷ Delivered (lost []) ∷ Idle ∷ Idle ∷ Stalled ∷
-    ordered_with [] [] ∷ Delivered (lost []) ∷ Blocked Behind (hart_id 1) ∷ Blocked Behind (hart_id 1) ∷ served_with [] [] ∷
-    Buffered ∷ Buffered ∷ Delivered (lost []) ∷ Blocked Behind (hart_id 2) ∷ Idle ∷ Idle ∷ Stalled ∷
+    Blocked Behind (hart_id 1) ∷ Idle ∷ Stalled ∷ Idle ∷ ordered_with [] [] ∷ Blocked Behind (hart_id 1) ∷
+    served_with [] [] ∷ Blocked Behind (hart_id 0) ∷ Stalled ∷ Blocked Locked (hart_id 1) ∷ Idle ∷
+    Blocked Behind (hart_id 0) ∷ Began ∷ Missed (line_addr 1026) Write ∷ Stalled ∷ served_with [] [] ∷
+    Blocked Locked (hart_id 0) ∷ Idle ∷ ordered_with [] [] ∷ Idle ∷ Idle ∷ Delivered (lost []) ∷ Stalled ∷
+    Blocked Locked (hart_id 0) ∷ Delivered (lost []) ∷ Blocked Locked (hart_id 0) ∷ served_with [] [] ∷ Began ∷ Idle ∷
+    Missed (line_addr 1026) Write ∷ Idle ∷ Stalled ∷ served_with [] [] ∷ Idle ∷ Idle ∷ Idle ∷
+    ordered_with ((3, 0) ∷ []) [] ∷ Began ∷ served_with [] [] ∷ Missed (line_addr 1026) Write ∷ Idle ∷ Buffered ∷
+    Began ∷ Missed (line_addr 1026) Write ∷ ordered_with [] [] ∷ ordered_with [] [] ∷ Blocked Behind (hart_id 1) ∷
+    Delivered (lost []) ∷ Delivered (lost []) ∷ Blocked Retained (hart_id 0) ∷ Idle ∷ Delivered (lost []) ∷
+    Missed (line_addr 1026) Write ∷ Blocked Behind (hart_id 1) ∷ Delivered (lost []) ∷ Stalled ∷ Buffered ∷
+    Committed 4 ∷ served_with [] [] ∷ Blocked Retained (hart_id 1) ∷ Missed (line_addr 1024) Read ∷
+    Blocked Retained (hart_id 1) ∷ Idle ∷ ordered_with [] [] ∷ Stalled ∷ Idle ∷ Blocked Retained (hart_id 1) ∷
+    Blocked Behind (hart_id 3) ∷ Blocked Retained (hart_id 1) ∷ Stalled ∷ Stalled ∷ Buffered ∷ Delivered (lost []) ∷
+    Idle ∷ Idle ∷ Delivered (lost []) ∷ Delivered (lost []) ∷ Idle ∷ Delivered (lost []) ∷ Delivered (lost []) ∷
+    Blocked Behind (hart_id 3) ∷ Idle ∷ Blocked Behind (hart_id 3) ∷ Stalled ∷ Idle ∷ ordered_with [] [] ∷
+    Blocked Retained (hart_id 1) ∷ served_with [] [] ∷ Idle ∷ Blocked Retained (hart_id 1) ∷
+    Blocked Retained (hart_id 1) ∷ Blocked Retained (hart_id 1) ∷ Idle ∷ Began ∷ Buffered ∷
+    Missed (line_addr 1025) Write ∷ Delivered (lost []) ∷ Blocked Retained (hart_id 1) ∷ Idle ∷ ordered_with [] [] ∷
+    Buffered ∷ Blocked Retained (hart_id 1) ∷ Idle ∷ Blocked Retained (hart_id 1) ∷ Blocked Retained (hart_id 1) ∷
+    Blocked Behind (hart_id 3) ∷ Blocked Retained (hart_id 1) ∷ Idle ∷ Blocked Behind (hart_id 3) ∷
+    Blocked Behind (hart_id 3) ∷ Idle ∷ Committed 4 ∷ Stalled ∷ Stalled ∷ Missed (line_addr 1024) Read ∷
+    Delivered (lost []) ∷ Delivered (lost []) ∷ Delivered (lost []) ∷ served_with ((3, 2) ∷ []) [] ∷
+    Blocked Retained (hart_id 2) ∷ Idle ∷ Missed (line_addr 1025) Read ∷ Delivered (lost []) ∷ ordered_with [] [] ∷
+    Delivered (lost []) ∷ served_with [] [] ∷ Stalled ∷ Buffered ∷ Delivered (lost []) ∷ Stalled ∷
+    Delivered (lost []) ∷ Blocked Behind (hart_id 0) ∷ Blocked Retained (hart_id 2) ∷ Blocked Retained (hart_id 2) ∷
+    ordered_with [] [] ∷ Stalled ∷ served_with [] [] ∷ Blocked Retained (hart_id 2) ∷ Blocked Behind (hart_id 0) ∷
+    Blocked Behind (hart_id 0) ∷ Idle ∷ Delivered (lost []) ∷ Delivered (lost []) ∷ Blocked Behind (hart_id 0) ∷
+    Delivered (lost []) ∷ Idle ∷ Blocked Retained (hart_id 2) ∷ Blocked Retained (hart_id 2) ∷
+    Blocked Behind (hart_id 0) ∷ Stalled ∷ Idle ∷ Stalled ∷ Idle ∷ Blocked Retained (hart_id 2) ∷ Idle ∷ Buffered ∷
+    Began ∷ Idle ∷ Buffered ∷ Idle ∷ Committed 4 ∷ Idle ∷ Missed (line_addr 1024) Read ∷
+    Missed (line_addr 1025) Write ∷ ordered_with [] [] ∷ Idle ∷ Idle ∷ Idle ∷ Blocked Behind (hart_id 0) ∷ Idle ∷
+    ordered_with [] [] ∷ Blocked Behind (hart_id 0) ∷ served_with ((0, 3) ∷ []) [] ∷ served_with [] [] ∷ Began ∷
+    Blocked Locked (hart_id 3) ∷ Idle ∷ Buffered ∷ Delivered (lost []) ∷ Delivered (lost []) ∷ served_with [] [] ∷
+    Missed (line_addr 1025) Write ∷ Idle ∷ Blocked Locked (hart_id 3) ∷ Idle ∷ Missed (line_addr 1025) Read ∷ Idle ∷
+    ordered_with [] [] ∷ Delivered (lost []) ∷ ordered_with [] [] ∷ Blocked Behind (hart_id 1) ∷
+    served_with ((1, 0) ∷ []) [] ∷ Delivered (lost []) ∷ Delivered (lost []) ∷ Began ∷ served_with ((0, 3) ∷ []) [] ∷
+    Began ∷ Idle ∷ served_with [] [] ∷ Idle ∷ Idle ∷ Began ∷ Idle ∷ Buffered ∷ Began ∷ Idle ∷ Buffered ∷
+    Missed (line_addr 1025) Write ∷ ordered_with [] [] ∷ Missed (line_addr 1026) Write ∷ ordered_with [] [] ∷ Stalled ∷
+    Idle ∷ Buffered ∷ Missed (line_addr 1025) Write ∷ served_with [] [] ∷ Buffered ∷ Missed (line_addr 1025) Write ∷
+    Stalled ∷ ordered_with [] [] ∷ Delivered (lost []) ∷ Idle ∷ Buffered ∷ Idle ∷ Blocked Behind (hart_id 1) ∷ Idle ∷
+    Idle ∷ Idle ∷ Committed 4 ∷ Delivered (lost []) ∷ Idle ∷ Idle ∷ Stalled ∷ ordered_with [] [] ∷
+    Delivered (lost []) ∷ Blocked Behind (hart_id 1) ∷ Blocked Behind (hart_id 1) ∷ served_with [] [] ∷ Buffered ∷
+    Buffered ∷ Delivered (lost []) ∷ Blocked Behind (hart_id 2) ∷ Idle ∷ Idle ∷ Stalled ∷
     Blocked Retained (hart_id 1) ∷ Delivered (lost []) ∷ Buffered ∷ Missed (line_addr 1024) Read ∷
     Blocked Behind (hart_id 2) ∷ Delivered (lost ((1, 0) ∷ [])) ∷ served_with ((2, 0) ∷ []) [] ∷ Began ∷ Buffered ∷
     ordered_with [] [] ∷ Began ∷ Idle ∷ Stalled ∷ Idle ∷ Missed (line_addr 1025) Write ∷ served_with [] [] ∷ Buffered ∷
@@ -154,19 +155,20 @@ expected =
     Blocked Retained (hart_id 0) ∷ Idle ∷ Stalled ∷ Idle ∷ Blocked Retained (hart_id 0) ∷ Delivered (lost []) ∷
     Buffered ∷ Blocked Retained (hart_id 0) ∷ Idle ∷ Idle ∷ ordered_with [] [] ∷ Idle ∷ Idle ∷ Buffered ∷ Stalled ∷
     Blocked Retained (hart_id 0) ∷ Delivered (lost []) ∷ Began ∷ Idle ∷ Blocked Retained (hart_id 0) ∷ Idle ∷
-    Delivered (lost []) ∷ Delivered (lost []) ∷ Buffered ∷ Missed (line_addr 1025) Write ∷
-    Blocked Behind (hart_id 1) ∷ Buffered ∷ Idle ∷ Idle ∷ ordered_with [] [] ∷ Stalled ∷ Stalled ∷ RolledBack Long ∷
-    Stalled ∷ Delivered (lost []) ∷ Blocked Behind (hart_id 1) ∷ Idle ∷ Idle ∷ Idle ∷ Blocked Behind (hart_id 1) ∷
-    Idle ∷ Idle ∷ Blocked Behind (hart_id 1) ∷ Blocked Behind (hart_id 1) ∷ served_with [] [] ∷ Blocked Behind (hart_id 2) ∷
+    Delivered (lost []) ∷ Delivered (lost []) ∷ Buffered ∷ Missed (line_addr 1025) Write ∷ Blocked Behind (hart_id 1) ∷
+    Buffered ∷ Idle ∷ Idle ∷ ordered_with [] [] ∷ Stalled ∷ Stalled ∷ RolledBack Long ∷ Stalled ∷ Delivered (lost []) ∷
+    Blocked Behind (hart_id 1) ∷ Idle ∷ Idle ∷ Idle ∷ Blocked Behind (hart_id 1) ∷ Idle ∷ Idle ∷
+    Blocked Behind (hart_id 1) ∷ Blocked Behind (hart_id 1) ∷ served_with [] [] ∷ Blocked Behind (hart_id 2) ∷
     Missed (line_addr 1024) Write ∷ Delivered (lost []) ∷ Delivered (lost []) ∷ Buffered ∷
     Blocked Retained (hart_id 1) ∷ Blocked Retained (hart_id 1) ∷ Stalled ∷ Delivered (lost []) ∷ Idle ∷
     Blocked Behind (hart_id 2) ∷ Blocked Retained (hart_id 1) ∷ Buffered ∷ Buffered ∷ Idle ∷ Idle ∷
     Delivered (lost []) ∷ Blocked Retained (hart_id 1) ∷ RolledBack Long ∷ Idle ∷ Missed (line_addr 1024) Write ∷
-    ordered_with [] [] ∷ Stalled ∷ Idle ∷ served_with [] [] ∷ ordered_with [] [] ∷ Idle ∷ Buffered ∷ Blocked Retained (hart_id 2) ∷
-    Blocked Retained (hart_id 2) ∷ Buffered ∷ Stalled ∷ Blocked Retained (hart_id 2) ∷ Blocked Behind (hart_id 0) ∷
-    Buffered ∷ Delivered (lost []) ∷ Blocked Retained (hart_id 2) ∷ RolledBack Long ∷ Delivered (lost []) ∷
-    Missed (line_addr 1024) Write ∷ Delivered (lost []) ∷ Delivered (lost []) ∷ served_with [] [] ∷
-    Blocked Retained (hart_id 3) ∷ Delivered (lost []) ∷ ordered_with [] [] ∷ Blocked Retained (hart_id 3) ∷ Idle ∷ []
+    ordered_with [] [] ∷ Stalled ∷ Idle ∷ served_with [] [] ∷ ordered_with [] [] ∷ Idle ∷ Buffered ∷
+    Blocked Retained (hart_id 2) ∷ Blocked Retained (hart_id 2) ∷ Buffered ∷ Stalled ∷ Blocked Retained (hart_id 2) ∷
+    Blocked Behind (hart_id 0) ∷ Buffered ∷ Delivered (lost []) ∷ Blocked Retained (hart_id 2) ∷ RolledBack Long ∷
+    Delivered (lost []) ∷ Missed (line_addr 1024) Write ∷ Delivered (lost []) ∷ Delivered (lost []) ∷
+    served_with [] [] ∷ Blocked Retained (hart_id 3) ∷ Delivered (lost []) ∷ ordered_with [] [] ∷
+    Blocked Retained (hart_id 3) ∷ Idle ∷ []
 
 outcomes : outcomes_from first events ≡ expected
 unfolding computing
@@ -177,6 +179,8 @@ last = record {
   harts =
       record {
         section = None;
+        armed = None;
+        last_lr = None;
         cache = (way 1024 S false false ∷ []) ∷ ([]) ∷ [];
         raised = None;
         held = None;
@@ -191,6 +195,8 @@ last = record {
         predictor = record { counters = (patched (replicate 64 2) ((4, 3) ∷ (8, 1) ∷ [])); watch = None };
       } ∷ record {
         section = None;
+        armed = None;
+        last_lr = None;
         cache = (way 1024 S false false ∷ []) ∷ ([]) ∷ [];
         raised = None;
         held = None;
@@ -205,6 +211,8 @@ last = record {
         predictor = record { counters = (patched (replicate 64 2) ((4, 3) ∷ (8, 1) ∷ [])); watch = None };
       } ∷ record {
         section = None;
+        armed = None;
+        last_lr = None;
         cache = (way 1024 S false false ∷ []) ∷ ([]) ∷ [];
         raised = None;
         held = None;
@@ -219,6 +227,8 @@ last = record {
         predictor = record { counters = (patched (replicate 64 2) ((4, 3) ∷ (8, 1) ∷ [])); watch = None };
       } ∷ record {
         section = (Some (section 2 65536 0 1));
+        armed = None;
+        last_lr = None;
         cache = (way 1024 S true false ∷ []) ∷ (way 1025 M false true ∷ []) ∷ [];
         raised = None;
         held = None;

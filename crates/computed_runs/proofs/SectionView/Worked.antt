@@ -76,6 +76,7 @@ begun = begins committed 0 lock amos.Swap (rd_of (swap 7 5 10)) 65536 1 (running
 
 covered_once : IsCoveredRun committed 0 cache (section 1 65536 0 1)
 covered_once = record {
+  before = 0;
   some = omega arith;
   acquire = acquire;
   read = refl;
@@ -164,6 +165,7 @@ kept =
 -- and at its release it takes effect, over any bytes
 covered_twice : IsCoveredRun committed 0 cache (section 2 65536 0 1)
 covered_twice = record {
+  before = 0;
   some = omega arith;
   acquire = acquire;
   read = refl;

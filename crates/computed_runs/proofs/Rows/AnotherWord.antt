@@ -1,0 +1,54 @@
+-- A store conditional to another word than the reserved one lets its hart go, and fails.
+use Rattle.std.proofs.Common.{◌≡◌, List, [], ◌∷◌, refl}
+use Rattle.std.specs.Prelude.{slice_index_or}
+use Rattle.el_base.specs.LineAddr.{line_addr}
+use Rattle.el_base.specs.declared.config.Mode.TheVariants.{Sle, Tlr}
+use Rattle.el_base.specs.declared.events.Event.{Event}
+use Rattle.el_base.specs.declared.events.Kind.TheVariants.{Step, Order, Serve}
+use Rattle.el_base.specs.declared.outcomes.Need.TheVariants.{Read}
+use Rattle.el_base.specs.declared.outcomes.Outcome.{Outcome}
+use Rattle.el_base.specs.declared.outcomes.Outcome.TheVariants.{Missed, Ran, Armed, LetGo}
+use Rattle.computed_runs.proofs.Computing.{computing}
+use Rattle.computed_runs.proofs.Given.{event, ordered_with, served_with}
+use Rattle.computed_runs.proofs.Rows.Given.{load_reserved, machine_of, settings, store_conditional, usual}
+use Rattle.el_model.specs.Next.{outcomes_from, state_after}
+use Rattle.el_model.specs.State.{ModelState}
+use Rattle.rv_flat.specs.FlatState.{view_of}
+
+abbrev tlr : ModelState
+tlr =
+    machine_of (settings 1 Tlr 16 4 16 2000) 128 (
+    record { words = load_reserved 7 10 ∷ store_conditional 8 5 11 ∷ []; registers = usual } ∷ [])
+
+abbrev tlr_events : List Event
+tlr_events = event Step 0 ∷ event Order 0 ∷ event Serve 0 ∷ event Step 0 ∷ event Step 0 ∷ event Step 0 ∷ []
+
+abbrev tlr_expected : List Outcome
+tlr_expected = Missed (line_addr 1024) Read ∷ ordered_with [] [] ∷ served_with [] [] ∷ Armed ∷ LetGo 1 ∷ Ran ∷ []
+
+tlr_outcomes : outcomes_from tlr tlr_events ≡ tlr_expected
+unfolding computing
+tlr_outcomes = refl
+
+tlr_failed : slice_index_or (view_of (state_after tlr tlr_events).committed 0).regs 8 0 ≡ 1
+unfolding computing
+tlr_failed = refl
+
+abbrev sle : ModelState
+sle =
+    machine_of (settings 1 Sle 16 4 16 2000) 128 (
+    record { words = load_reserved 7 10 ∷ store_conditional 8 5 11 ∷ []; registers = usual } ∷ [])
+
+abbrev sle_events : List Event
+sle_events = event Step 0 ∷ event Order 0 ∷ event Serve 0 ∷ event Step 0 ∷ event Step 0 ∷ event Step 0 ∷ []
+
+abbrev sle_expected : List Outcome
+sle_expected = Missed (line_addr 1024) Read ∷ ordered_with [] [] ∷ served_with [] [] ∷ Armed ∷ LetGo 1 ∷ Ran ∷ []
+
+sle_outcomes : outcomes_from sle sle_events ≡ sle_expected
+unfolding computing
+sle_outcomes = refl
+
+sle_failed : slice_index_or (view_of (state_after sle sle_events).committed 0).regs 8 0 ≡ 1
+unfolding computing
+sle_failed = refl

@@ -1,4 +1,4 @@
--- the view of a hart without a live section, lent for writing
+-- the view of a hart without a section, lent for writing
 use Rattle.std.specs.Borrow.{Lends, MutBor, Fml}
 use Rattle.hart_state.specs.Own.{Own}
 use Rattle.hart_state.specs.contracts.state.HartState.{the_row}

@@ -1,5 +1,5 @@
 -- what a hart keeps beside the bus
-use Rattle.std.specs.Prelude.{ℕ, ◌≡◌, Bool, false, []}
+use Rattle.std.specs.Prelude.{ℕ, ◌≡◌, Bool, false, [], Option, None, option_map}
 use Rattle.el_model.specs.State.{Hart}
 use Rattle.pair_table.specs.Predictor.{Predictor, unseen}
 use Rattle.reg_mark.specs.Marks.{committed_of}
@@ -9,7 +9,8 @@ use Rattle.section_ctl.specs.State.{SectionState}
 
 -- the part of a hart that no other hart ever asks for; each field but the first is the one of this name of the definition's hart
 pub record Own : Type 0 where
-  pub section : SectionState  -- its live section or none, with its views and its buffered stores
+  pub section : SectionState  -- its live or its armed section or neither, with its views and its buffered stores
+  pub last_lr : Option ℕ  -- the pc of the last LR that it ran outside of a section, or that was let go
   pub predictor : Predictor
   pub fallback : Bool
   pub tries : ℕ
@@ -17,6 +18,8 @@ pub record Own : Type 0 where
 -- it is that of the definition's hart
 pub record HasOwn (own : Own) (hart : Hart) : Type 0 where
   pub section : own.section.live ≡ hart.section
+  pub armed : option_map (λ reserved. reserved.armed) own.section.armed ≡ hart.armed
+  pub last_lr : own.last_lr ≡ hart.last_lr
   pub predictor : own.predictor ≡ hart.predictor
   pub fallback : own.fallback ≡ hart.fallback
   pub tries : own.tries ≡ hart.tries
@@ -25,11 +28,13 @@ pub record HasOwn (own : Own) (hart : Hart) : Type 0 where
 abbrev pub new_own : HartView → ℕ → Own
 new_own view lines = record {
   section = idle_state view (record { limit = lines; entries = [] });
+  last_lr = None;
   predictor = unseen;
   fallback = false;
   tries = 0;
 }
 
--- the pc of the committed view: outside of a section that of the next instruction, inside of one that of its acquire
+-- the pc of the committed view: outside of a section that of the next instruction, inside of one that of the swap or the LR that it
+-- begins with
 abbrev pub committed_pc : Own → ℕ
 committed_pc own = (committed_of own.section.marks).pc

@@ -1,4 +1,5 @@
-//! What a hart keeps beside the bus: its section, its predictor, its fallback flag and its count of tries.
+//! What a hart keeps beside the bus: its live or armed section, the place of its last LR, its predictor, its fallback
+//! flag and its count of tries.
 //!
 //! It stands on `section_ctl` and `pair_table`, on the actions and swaps of `step_rules`, and on the words of
 //! `el_model`. Contracts see a [`HartState`] as an `Own` (`specs/Own.antt`), and each call as one equation on it
@@ -10,8 +11,10 @@
 //! other source, its rule is this project's profile.
 #![tactic(auto)]
 
+mod reserves;
 mod state;
 
+pub use reserves::is_load_reserved;
 pub use state::HartState;
 
 #[cfg(test)]

@@ -1,17 +1,20 @@
-ghost use Rattle.std.specs.Prelude.{◌≡◌, ◌≤◌, ◌<◌, ◌+◌, ◌-◌, ◌^◌, ◌%◌, ℕ, false, IfOk, IfSome, IsSome, None};
+ghost use Rattle.std.specs.Prelude.{◌≡◌, ◌≤◌, ◌<◌, ◌+◌, ◌-◌, ◌^◌, ◌%◌, ◌||◌, ℕ, false, true, IfOk, IfSome, IsSome};
+ghost use Rattle.std.specs.Prelude.{None, Some, is_some};
 ghost use Rattle.std.specs.Option.{option_map};
 ghost use Rattle.std.specs.Borrow.{sem};
 ghost use Rattle.cache_sets.specs.Cache.{write_bits_of};
 ghost use Rattle.el_model.specs.Losses.{one_more_lost};
 ghost use Rattle.el_model.specs.Plain as plain;
 ghost use Rattle.el_model.specs.State.{Hart, ModelState};
-ghost use Rattle.el_model.specs.Upcoming.{touch_of};
+ghost use Rattle.el_model.specs.Upcoming.{Swap as Exchanged, next_exchange, touch_of};
 ghost use Rattle.reg_mark.specs.Marks.{committed_of};
 ghost use Rattle.rv_alu.specs.Footprint.{footprint};
 ghost use Rattle.rv_alu.specs.declared.view.HartStatus.TheVariants.{Running};
-ghost use Rattle.section_ctl.specs.Calls.{HasCommitted, HasReleased, HasRun, IsCoveredIn, MayBuffer};
-ghost use Rattle.section_ctl.specs.Calls.{has_written, run_of};
-ghost use Rattle.section_ctl.specs.PrivateRuns.{BeginsRun, CommitsRun, GoesOnRun};
+ghost use Rattle.rv_flat.specs.FlatState.{view_of};
+ghost use Rattle.section_ctl.specs.Calls.{HasCommitted, HasContinued, HasReleased, HasRun, IsCoveredIn, MayBuffer};
+ghost use Rattle.section_ctl.specs.Calls.{MayContinue, has_written, run_of};
+ghost use Rattle.section_ctl.specs.PrivateRuns.{ArmsRun, BeginsRun, CommitsRun, ContinuesRun, ElidesRun, GoesOnRun};
+ghost use Rattle.section_ctl.specs.PrivateRuns.{LetsGoRun};
 ghost use Rattle.section_view.specs.KeptRun.{HoldsMarked};
 ghost use Rattle.section_view.specs.Release.{IsReleaseAction};
 ghost use Rattle.step_rules.specs.Actions.{IsNext, numbered_swap};
@@ -24,7 +27,7 @@ use rv_word::Reg;
 use section_ctl::Section;
 use std::alloc::Global;
 use std::marker::Model;
-use step_rules::{Swap, seen_by};
+use step_rules::{Swap, is_conditional, seen_by};
 
 /// How many sections in a row may be lost without stamps before the lock is taken.
 const MOST_TRIES: u8 = 4;
@@ -32,11 +35,13 @@ const MOST_TRIES: u8 = 4;
 /// How far a place must be trusted for its swap to be elided.
 const LEAST_CONFIDENCE: u8 = 2;
 
-/// What a hart keeps beside the bus: its views with its live section, if it has one; its predictor; whether
-/// its next candidate acquire takes the lock; and how many sections in a row it has lost, at most 3.
+/// What a hart keeps beside the bus: its views with its live or armed section, if it has one; the pc of the last LR
+/// that it ran outside of a section, or that was let go; its predictor; whether its next candidate acquire takes the
+/// lock; and how many sections in a row it has lost, at most 3.
 #[derive(Drop)]
 pub struct HartState {
     section: Section,
+    last_lr: Option<u32>,
     predictor: PairTable,
     fallback: bool,
     tries: u8,
@@ -50,6 +55,7 @@ impl Model for HartState {
 
     ghost view = { λ s. record {
       section = s.section;
+      last_lr = s.last_lr;
       predictor = s.predictor;
       fallback = s.fallback;
       tries = s.tries;
@@ -63,11 +69,15 @@ impl HartState {
     ghost use Rattle.hart_state.specs.Deeds.{
       CountsOn,
       IsNextStep,
+      armed_own,
       began_own,
       buffered_own,
       candidate_own,
       committed_own,
+      elided_own,
+      let_go_own,
       lost_own,
+      own_acquire_pc,
       own_may_elide,
       ran_own,
       rolled_back_own,
@@ -83,6 +93,7 @@ impl HartState {
     {
         Ok(HartState {
             section: Section::make(alloc, config, view)?,
+            last_lr: None,
             predictor: PairTable::new(),
             fallback: false,
             tries: 0,
@@ -94,6 +105,13 @@ impl HartState {
         ensures { result.now ≡ self.now.section }
     {
         &self.section
+    }
+
+    /// The pc of the last LR that the hart ran outside of a section, or that was let go; `None` before the first.
+    pub fn last_lr(&self) -> Option<u32>
+        ensures { result ≡ self.now.last_lr }
+    {
+        self.last_lr
     }
 
     /// What the hart has learnt of acquires.
@@ -117,23 +135,25 @@ impl HartState {
         self.tries
     }
 
-    /// The committed view: with a live section, that of before its acquire.
+    /// The committed view: with a live section, that of before its acquire, or before its LR where an SC acquires; with
+    /// an armed one, that of before its LR.
     pub fn committed(&self) -> &HartView
         ensures { result.now ≡ committed_of self.now.section.marks }
     {
         self.section.committed()
     }
 
-    /// The live section's view, else the committed one.
+    /// The live or the armed section's view, else the committed one.
     pub fn shown(&self) -> &HartView
         ensures { result.now ≡ self.now.section.marks.present }
     {
         self.section.shown()
     }
 
-    /// The committed view, to be written. No section is live.
+    /// The committed view, to be written. There is no section, neither live nor armed.
     pub fn view_mut(&mut self) -> &mut HartView
-        requires { self.old.section.live ≡ None }
+        requires none { self.old.section.live ≡ None }
+        requires unarmed { self.old.section.armed ≡ None }
         ensures* lends { sem 𝓛 (LendsOwnView self.entry result) }
         ensures value { result.now ≡ self.old.section.marks.present }
     {
@@ -154,9 +174,9 @@ impl HartState {
         self.section.wrote(line)
     }
 
-    /// Whether a swap at the committed pc may be elided: the mode elides, the fallback flag is off, and the
-    /// place has a confidence of at least 2. (That a predictor chooses the acquires, and that after some losses
-    /// the lock is taken: 'Speculative Lock Elision'; the numbers are this project's profile.)
+    /// Whether a swap at the committed pc may be elided, and whether the hart may arm at an LR there: the mode elides,
+    /// the fallback flag is off, and the place has a confidence of at least 2. (That a predictor chooses the acquires, and
+    /// that after some losses the lock is taken: 'Speculative Lock Elision'; the numbers are this project's profile.)
     pub fn may_elide(&self, mode: Mode) -> bool
         ensures own { result ≡ own_may_elide mode self.now }
         ensures hart { (hart : Hart) → HasOwn self.now hart →
@@ -169,26 +189,41 @@ impl HartState {
 
     /// The next instruction, at `pc`, runs outside of a section; the view is written through `view_mut`,
     /// before or after. The watch, if one stands, sees it. A candidate ends the fallback, and is watched where
-    /// no watch stood before: a swap that changes its word, in a mode that elides. `swap` is the swap that the
-    /// action is, if it is one, with the word that it finds.
-    pub fn has_run(&mut self, config: &Config, pc: u32, action: &Action, swap: Option<Swap>)
-        ensures ran { (state : ModelState) (h : ℕ) → IsNextStep state h config.now pc action.now swap →
+    /// no watch stood before: an exchange that changes its word, in a mode that elides. A swap is watched from `pc`, and
+    /// a store conditional from the last LR, if there was one. `swap` is the exchange that the action is, if it is one,
+    /// with the word that it finds; `reserves` says whether the instruction is an LR ([`crate::is_load_reserved`]), whose
+    /// pc is kept.
+    pub fn has_run(
+        &mut self,
+        config: &Config,
+        pc: u32,
+        action: &Action,
+        swap: Option<Swap>,
+        reserves: bool,
+    )
+        ensures ran { (state : ModelState) (h : ℕ) → IsNextStep state h config.now pc action.now swap reserves →
             self.new ≡ ran_own state h self.old }
         ensures rest_stays { self.new ≡ record self.old {
+          last_lr = self.new.last_lr;
           predictor = self.new.predictor;
           fallback = self.new.fallback;
         } }
         ensures counts { CountsOn self.old.predictor.watch self.new.predictor.watch }
     {
         let watched = self.predictor.watched();
+        let acquire = self.acquire_pc(pc, action);
         self.see(action, config.long);
-        self.meet(pc, watched.is_some(), candidate(config.mode, swap));
+        self.meet(acquire, watched.is_some(), candidate(config.mode, swap));
+        if reserves {
+            self.last_lr = Some(pc);
+        }
     }
 
     /// A section begins at an acquire, which is elided: a swap that puts what it finds into `rd`. A watch is
     /// dropped without a verdict.
     pub fn begin(&mut self, swap: Swap, rd: Reg)
         requires none { self.old.section.live ≡ None }
+        requires unarmed { self.old.section.armed ≡ None }
         requires running { self.old.section.marks.present.status ≡ Running }
         requires aligned { swap.word % 4 ≡ 0 }
         ensures own { self.new ≡ began_own swap.word swap.old swap.new rd.number self.old }
@@ -199,21 +234,62 @@ impl HartState {
         self.predictor.unwatch();
     }
 
-    /// Runs an action in the live section, as `Section::spec_action` does.
+    /// A section arms at an LR of a word, which finds `old` there and puts it into `rd`.
+    pub fn arm(&mut self, word: u32, old: u32, rd: Reg)
+        requires none { self.old.section.live ≡ None }
+        requires unarmed { self.old.section.armed ≡ None }
+        requires running { self.old.section.marks.present.status ≡ Running }
+        requires aligned { word % 4 ≡ 0 }
+        ensures own { self.new ≡ armed_own word old rd.number self.old }
+        ensures shows { ArmsRun self.old.section self.new.section word old rd }
+    {
+        self.section.arm(word, old, rd);
+    }
+
+    /// The armed section's acquire is elided: an SC that would store `new` and puts 0 into `rd`. A watch is dropped
+    /// without a verdict.
+    pub fn begin_armed(&mut self, new: u32, rd: Reg)
+        requires { IsSome self.old.section.armed }
+        ensures own { IfSome self.old.section.armed (λ reserved.
+            self.new ≡ elided_own reserved new rd.number self.old) }
+        ensures shows { IfSome self.old.section.armed (λ reserved.
+            ElidesRun self.old.section self.new.section reserved new rd) }
+    {
+        self.section.begin_armed(new, rd);
+        self.predictor.unwatch();
+    }
+
+    /// Lets the armed section go. Its LR is the last one then.
+    pub fn let_go(&mut self)
+        requires { IsSome self.old.section.armed }
+        ensures own { self.new ≡ let_go_own self.old }
+        ensures shows { IfSome self.old.section.armed (λ reserved.
+            LetsGoRun self.old.section self.new.section reserved) }
+    {
+        self.last_lr = Some(self.committed().pc);
+        self.section.let_go();
+    }
+
+    /// Runs an action in the live or the armed section, as `Section::spec_action` does.
     pub fn buffer(&mut self, sets: &mut Sets, action: Action)
-        requires live { IsSome self.old.section.live }
+        requires either { (is_some self.old.section.live || is_some self.old.section.armed) ≡ true }
         requires buffered { IfSome self.old.section.live (λ section.
             MayBuffer self.old.section section sets.old action) }
         requires counted { IfSome self.old.section.live (λ section. section.count + 1 < 4294967296) }
+        requires quiet { IfSome self.old.section.armed (λ reserved. MayContinue reserved action) }
         requires marked { HoldsMarked sets.old.residency self.old.section.hold.entries }
         requires few { write_bits_of sets.old.residency ≤ self.old.section.hold.limit }
         ensures own { self.new ≡ buffered_own self.new.section self.old }
         ensures ran { IfSome self.old.section.live (λ section.
             HasRun self.old.section self.new.section section (run_of self.old.section section sets.old action)) }
+        ensures continued { IfSome self.old.section.armed (λ reserved.
+            HasContinued self.old.section self.new.section reserved action) }
         ensures cache { IsCoveredIn sets.old sets.new (touch_of (footprint action)) }
         ensures marked { HoldsMarked sets.new.residency self.new.section.hold.entries }
         ensures shows { IfSome self.old.section.live (λ section.
             GoesOnRun self.old.section self.new.section section sets.old action) }
+        ensures shows_armed { IfSome self.old.section.armed (λ reserved.
+            ContinuesRun self.old.section self.new.section reserved action) }
     {
         self.section.spec_action(sets, action);
     }
@@ -297,15 +373,41 @@ impl HartState {
         }
     }
 
-    /// A candidate ends the fallback, and is watched where no watch stood before.
-    fn meet(&mut self, pc: u32, had_watch: bool, candidate: Option<Swap>)
+    /// Where an exchange by an action at `pc` begins: a store conditional at the last LR, if there was one, and a swap at
+    /// its own pc.
+    fn acquire_pc(&self, pc: u32, action: &Action) -> Option<u32>
+        ensures { (state : ModelState) (h : ℕ) (swap : Exchanged) → IsNext action.now state.committed h →
+            (view_of state.committed h).pc ≡ pc → next_exchange state.committed h ≡ Some swap →
+            result ≡ own_acquire_pc state h self.now }
+    {
+        if is_conditional(action) {
+            self.last_lr
+        } else {
+            Some(pc)
+        }
+    }
+
+    /// An exchange is watched that begins at a pc, if one is known. No watch stands.
+    fn watch_from(&mut self, acquire: Option<u32>, swap: Swap)
+        requires { self.old.predictor.watch ≡ None }
+        ensures { self.new ≡ record self.old {
+          predictor = plain.watching_from self.old.predictor acquire (numbered_swap swap);
+        } }
+    {
+        if let Some(pc) = acquire {
+            self.predictor.watch(pc, swap.word, swap.old);
+        }
+    }
+
+    /// A candidate ends the fallback, and is watched from where it begins, where no watch stood before.
+    fn meet(&mut self, acquire: Option<u32>, had_watch: bool, candidate: Option<Swap>)
         requires { had_watch ≡ false → self.old.predictor.watch ≡ None }
-        ensures { self.new ≡ candidate_own pc had_watch (option_map numbered_swap candidate) self.old }
+        ensures { self.new ≡ candidate_own acquire had_watch (option_map numbered_swap candidate) self.old }
     {
         if let Some(swap) = candidate {
             self.fallback = false;
             if !had_watch {
-                self.predictor.watch(pc, swap.word, swap.old);
+                self.watch_from(acquire, swap);
             }
         }
     }

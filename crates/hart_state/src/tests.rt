@@ -46,6 +46,7 @@ fn view(pc: u32) -> HartView
 /// A hart before its first event, at a place in the program.
 fn hart_at(alloc: Global, pc: u32) -> Result<HartState, Fail>
     ensures idle { IfOk result (λ own. own.section.live ≡ None) }
+    ensures unarmed { IfOk result (λ own. own.section.armed ≡ None) }
     ensures running { IfOk result (λ own. own.section.marks.present.status ≡ Running) }
     ensures unwatched { IfOk result (λ own. own.predictor.watch ≡ None) }
 {
@@ -80,8 +81,10 @@ fn store(address: u32, value: u32) -> Action {
 /// A section begins at a word, and is lost.
 fn lose(hart: &mut HartState, mode: Mode) -> Result<(), Fail>
     requires idle { hart.old.section.live ≡ None }
+    requires unarmed { hart.old.section.armed ≡ None }
     requires running { hart.old.section.marks.present.status ≡ Running }
     ensures idle { hart.new.section.live ≡ None }
+    ensures unarmed { hart.new.section.armed ≡ None }
     ensures running { hart.new.section.marks.present.status ≡ Running }
 {
     hart.begin(ACQUIRE, found()?);
@@ -116,13 +119,14 @@ fn run_candidate(hart: &mut HartState, pc: u32, word: u32) -> Result<(), Fail>
     ensures { hart.new.section ≡ hart.old.section }
 {
     let (action, swap) = swap_of(word, 7, 8)?;
-    hart.has_run(&Config::usual(), pc, &action, Some(swap));
+    hart.has_run(&Config::usual(), pc, &action, Some(swap), false);
     Ok(())
 }
 
 /// A section begins at the hart's place, and is rolled back.
 fn roll_back(hart: &mut HartState, found: Reg, cause: Cause)
     requires idle { hart.old.section.live ≡ None }
+    requires unarmed { hart.old.section.armed ≡ None }
     requires running { hart.old.section.marks.present.status ≡ Running }
     ensures { hart.new.section.live ≡ None }
 {
@@ -170,7 +174,7 @@ fn a_watch_is_settled_by_what_comes_after_it(rt: HostRuntime) -> Result<(), Fail
         };
         let mut hart = hart_at(rt.alloc(), HERE)?;
         run_candidate(&mut hart, HERE, WORD)?;
-        hart.has_run(&config, THERE, &action, None);
+        hart.has_run(&config, THERE, &action, None, false);
         assert_eq!(rt; hart.may_elide(Mode::Tlr), trusted, "{action:?}");
         roll_back(&mut hart, found()?, Cause::Long);
         run_candidate(&mut hart, THERE, WORD)?;
@@ -187,8 +191,8 @@ fn a_candidate_is_watched_where_no_watch_stood(rt: HostRuntime) -> Result<(), Fa
             let mut hart = hart_at(rt.alloc(), pc)?;
             run_candidate(&mut hart, HERE, WORD)?;
             run_candidate(&mut hart, THERE, second)?;
-            hart.has_run(&Config::usual(), 0x10020, &store(OTHER, 9), None);
-            hart.has_run(&Config::usual(), 0x10024, &store(WORD, 9), None);
+            hart.has_run(&Config::usual(), 0x10020, &store(OTHER, 9), None, false);
+            hart.has_run(&Config::usual(), 0x10024, &store(WORD, 9), None, false);
             assert_eq!(rt; hart.may_elide(Mode::Sle), trusted, "{second:x} {pc:x}");
         }
     }
@@ -211,13 +215,85 @@ fn a_candidate_ends_the_fallback_where_locks_are_elided(rt: HostRuntime) -> Resu
         let mut hart = hart_at(rt.alloc(), HERE)?;
         roll_back(&mut hart, found()?, Cause::Room);
         match new {
-            None => hart.has_run(&config, THERE, &NOTHING, None),
+            None => hart.has_run(&config, THERE, &NOTHING, None, false),
             Some(new) => {
                 let (action, swap) = swap_of(WORD, 7, new)?;
-                hart.has_run(&config, THERE, &action, Some(swap));
+                hart.has_run(&config, THERE, &action, Some(swap), false);
             }
         }
         assert_eq!(rt; hart.may_elide(Mode::Sle), ends, "{mode:?} {new:?}");
     }
+    Ok(())
+}
+
+/// An LR of the lock word, and an SC of 8 to it, which finds 7 there.
+fn reserve() -> Result<Action, Fail> {
+    Ok(Action::LoadReserved {
+        rd: found()?,
+        address: WORD,
+    })
+}
+
+fn conditional() -> Result<Action, Fail> {
+    Ok(Action::StoreConditional {
+        rd: found()?,
+        address: WORD,
+        value: 8,
+    })
+}
+
+/// An SC runs at a place, and then a store of a value that the SC did not find.
+fn run_conditional(hart: &mut HartState, pc: u32) -> Result<(), Fail> {
+    let config = Config::usual();
+    hart.has_run(&config, pc, &conditional()?, Some(ACQUIRE), false);
+    hart.has_run(&config, 0x10020, &store(WORD, 9), None, false);
+    Ok(())
+}
+
+/// How far each of the two places is trusted.
+fn trust(hart: &HartState) -> (u8, u8) {
+    let predictor = hart.predictor();
+    (predictor.confidence(HERE), predictor.confidence(THERE))
+}
+
+#[test]
+fn an_acquire_by_an_sc_is_watched_from_the_last_lr(rt: HostRuntime) -> Result<(), Fail> {
+    for (reserved, trusted) in [(None, (2, 2)), (Some(HERE), (1, 2)), (Some(THERE), (2, 1))] {
+        let mut hart = hart_at(rt.alloc(), HERE)?;
+        if let Some(pc) = reserved {
+            hart.has_run(&Config::usual(), pc, &reserve()?, None, true);
+        }
+        assert_eq!(rt; hart.last_lr(), reserved);
+        run_conditional(&mut hart, THERE)?;
+        assert_eq!(rt; trust(&hart), trusted, "{reserved:?}");
+        assert_eq!(rt; hart.last_lr(), reserved);
+    }
+    Ok(())
+}
+
+#[test]
+fn an_lr_that_is_let_go_is_the_last_one(rt: HostRuntime) -> Result<(), Fail> {
+    let mut hart = hart_at(rt.alloc(), HERE)?;
+    hart.arm(WORD, 7, found()?);
+    assert_eq!(rt; hart.last_lr(), None);
+    hart.let_go();
+    assert_eq!(rt; hart.last_lr(), Some(HERE));
+    assert_eq!(rt; hart.committed().pc, 0x10004);
+    assert_eq!(rt; hart.shown().regs.get(found()?), 7);
+    run_conditional(&mut hart, THERE)?;
+    assert_eq!(rt; trust(&hart), (1, 2));
+    Ok(())
+}
+
+#[test]
+fn a_section_that_an_sc_begins_blames_its_lr(rt: HostRuntime) -> Result<(), Fail> {
+    let mut hart = hart_at(rt.alloc(), HERE)?;
+    hart.arm(WORD, 7, found()?);
+    hart.begin_armed(8, found()?);
+    assert_eq!(rt; hart.shown().regs.get(found()?), 0);
+    hart.roll_back(Cause::Long);
+    assert_eq!(rt; *hart.shown(), view(HERE));
+    assert_eq!(rt; hart.last_lr(), None);
+    assert_eq!(rt; trust(&hart), (1, 2));
     Ok(())
 }

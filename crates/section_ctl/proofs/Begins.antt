@@ -1,6 +1,6 @@
 -- a section begins, and stays live
 use Rattle.std.proofs.Common.{◌≡◌, ℕ, ◌+◌, ◌-◌, ◌*◌, ◌/◌, ◌%◌, ◌<◌, ◌≤◌, false, List, [], length, ◌⊎◌, inl, inr, Option, None, Some}
-use Rattle.std.proofs.Common.{ap, sym, ◌∙◌, arith}
+use Rattle.std.proofs.Common.{ap, sym, subst, ◌∙◌, arith}
 use Rattle.std.proofs.lemmas.Bool.{cases_lt}
 use Rattle.std.proofs.lemmas.Bool.Decides.{nat_tests}
 use Rattle.core_step.specs.Port.{byte_of, stored}
@@ -18,7 +18,9 @@ use Rattle.rv_alu.specs.declared.view.HartView.{HartView}
 use Rattle.rv_word.specs.declared.insn.AmoOp.TheVariants as amos
 use Rattle.rv_word.specs.declared.reg.Reg.{Reg}
 use Rattle.section_ctl.specs.Calls.{ends_section}
-use Rattle.section_ctl.specs.State.{IsLive, Stands}
+use Rattle.section_ctl.specs.State.{IsArmed, IsLive, Reserved, Stands, armed_in, live_in, reserved_of, section_of}
+use Rattle.section_ctl.specs.declared.private.Private.{Private}
+use Rattle.section_ctl.specs.declared.private.Private.TheVariants as privates
 use Rattle.section_view.proofs.Bytes.{stored_inside}
 use Rattle.section_view.specs.Laws.{HoldsAfter}
 use Rattle.write_hold.proofs.LookUps.{laid_above, laid_below}
@@ -57,9 +59,23 @@ begun_view rd word old new view after small told =
     told byte (ap Some (sym found)) ∙ ap (λ value. release_of (put_of view rd.number value)) found
 
 -- nothing is held where no section is live
-pub nothing_held : (marks : Marked) (hold : Held) (live : Option Section) → Stands marks hold live → live ≡ None → hold.entries ≡ []
-nothing_held marks hold None stands none = stands.empty
-nothing_held marks hold (Some section) stands none = absurd cc
+pub nothing_held : (marks : Marked) (hold : Held) (private : Private) → Stands marks hold private → live_in private ≡ None → hold.entries ≡ []
+nothing_held marks hold privates.Nothing stands none = stands.empty
+nothing_held marks hold (privates.Armed reserved) stands none = stands.empty
+nothing_held marks hold (privates.Live live) stands none = absurd cc
+
+-- a section that is shown is there
+pub is_live : (marks : Marked) (hold : Held) (private : Private) (section : Section) → Stands marks hold private →
+    live_in private ≡ Some section → IsLive marks hold section
+is_live marks hold privates.Nothing section stands is = absurd cc
+is_live marks hold (privates.Armed reserved) section stands is = absurd cc
+is_live marks hold (privates.Live live) section stands is = let same : section_of live ≡ section = cc in subst (IsLive marks hold) same stands
+
+pub is_armed : (marks : Marked) (hold : Held) (private : Private) (reserved : Reserved) → Stands marks hold private →
+    armed_in private ≡ Some reserved → IsArmed marks hold reserved
+is_armed marks hold privates.Nothing reserved stands is = absurd cc
+is_armed marks hold (privates.Armed there) reserved stands is = let same : reserved_of there ≡ reserved = cc in subst (IsArmed marks hold) same stands
+is_armed marks hold (privates.Live live) reserved stands is = absurd cc
 
 pub held_none : (entries : List Entry) → entries ≡ [] → (address : ℕ) → held entries address ≡ None
 held_none entries none address = ap (λ l. held l address) none

@@ -5,4 +5,5 @@ pub mod Begins
 mod Drained
 mod Released
 pub mod Shows
+pub mod Arming
 mod AnyRoom

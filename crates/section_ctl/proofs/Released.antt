@@ -30,6 +30,7 @@ released_by before after section insn is small released = record {
   marks = released.marks (λ at. 0) ∙ ap unmarked (by insn is);
   hold = released.hold;
   live = released.live;
+  armed = released.armed;
 }
   where
     byte : ℕ → ℕ

@@ -40,8 +40,7 @@ use Rattle.write_hold.proofs.LookUps.{held_no_line, holds_after_put_other}
 use Rattle.write_hold.specs.Held.{Entry, Held, held, holds}
 use Rattle.section_ctl.specs.Calls.{HasCommitted, HasReleased, HasReleasedBy, HasRun, IsCoveredIn, begun_state, committed_copy, run_of}
 use Rattle.section_ctl.specs.PrivateRuns.{BeginsRun, CommitsCode, CommitsRun, FollowsMemory, GoesOnRun, IsKept, TakesEffect}
-use Rattle.section_ctl.specs.State.{SectionState, section_of}
-use Rattle.section_ctl.specs.declared.live.Live.{Live}
+use Rattle.section_ctl.specs.State.{SectionState}
 
 -- the cache has the committed bytes wherever what comes next touches memory
 pub agrees : (committed : FlatState) (h : ℕ) (state : SectionState) (section : Section) (cache : Cached) → IsKept committed h state section cache →
@@ -197,15 +196,16 @@ pub if_some_map : {A : Type 0} (o : Option A) (P Q : A → Type 0) → ((x : A) 
 if_some_map None P Q map told = tt
 if_some_map (Some x) P Q map told = map x told
 
-pub on_live : {A : Type 0} (o : Option A) (P Q : A → Type 0) (R : Type 0) → IsSome o → IfSome o P → IfSome o Q → ((x : A) → P x → Q x → R) → R
-on_live None P Q R some p q told = absurd cc
-on_live (Some x) P Q R some p q told = told x p q
+-- what one of two that are there tells
+pub of_either : {A B : Type 0} (o : Option A) (other : Option B) (P : A → Type 0) (Q : B → Type 0) (R : Type 0) →
+    (is_some o || is_some other) ≡ true → IfSome o P → IfSome other Q → ((x : A) → P x → R) → ((x : B) → Q x → R) → R
+of_either (Some x) other P Q R there first second left right = left x first
+of_either None (Some x) P Q R there first second left right = right x second
+of_either None None P Q R there first second left right = absurd cc
 
--- what holds of the live section holds of the one in the fields, and the other way round
-pub of_live : (o : Option Section) (inside : Option Live) (live : Live) (P : Section → Type 0) → option_map section_of inside ≡ o → inside ≡ Some live →
-    IfSome o P → P (section_of live)
-of_live o inside live P shown is told = subst (λ l. IfSome (option_map section_of l) P) is (subst (λ s. IfSome s P) (sym shown) told)
+-- what holds of what is there, and the other way round
+pub of_some : {A : Type 0} (o : Option A) (x : A) (P : A → Type 0) → o ≡ Some x → IfSome o P → P x
+of_some o x P is told = subst (λ o. IfSome o P) is told
 
-pub at_live : (o : Option Section) (inside : Option Live) (live : Live) (P : Section → Type 0) → option_map section_of inside ≡ o → inside ≡ Some live →
-    P (section_of live) → IfSome o P
-at_live o inside live P shown is told = subst (λ s. IfSome s P) shown (subst (λ l. IfSome (option_map section_of l) P) (sym is) told)
+pub at_some : {A : Type 0} (o : Option A) (x : A) (P : A → Type 0) → o ≡ Some x → P x → IfSome o P
+at_some o x P is told = subst (λ o. IfSome o P) (sym is) told

@@ -8,7 +8,7 @@ use Rattle.el_model.specs.InSection.{covered}
 use Rattle.el_model.specs.State.{Section}
 use Rattle.el_model.specs.Upcoming.{Touch, overlaps, touch_of}
 use Rattle.moesi.specs.declared.letter.Letter.TheVariants.{M}
-use Rattle.reg_mark.specs.Marks.{back_of, unmarked}
+use Rattle.reg_mark.specs.Marks.{back_of, kept_of, unmarked}
 use Rattle.run_laws.specs.PrivateRun.{HasItsBit}
 use Rattle.rv_alu.specs.Execution.{Execution, perform, put_of, release_of, store_in, view_after}
 use Rattle.rv_alu.specs.Footprint.{footprint}
@@ -16,7 +16,8 @@ use Rattle.rv_alu.specs.declared.action.Action.{Action}
 use Rattle.rv_alu.specs.declared.action.Action.TheVariants as actions
 use Rattle.rv_alu.specs.declared.view.HartView.{HartView}
 use Rattle.rv_word.specs.declared.insn.Insn.{Insn}
-use Rattle.section_ctl.specs.State.{SectionState}
+use Rattle.section_ctl.specs.State.{Reserved, SectionState}
+use Rattle.section_view.specs.ArmedLaws.{elided, reserved_view}
 use Rattle.section_view.specs.KeptRun.{is_written, section_byte}
 use Rattle.section_view.specs.Release.{released_view}
 use Rattle.section_view.specs.Laws.{HoldsAfter, IsHeldStore}
@@ -26,9 +27,9 @@ use Rattle.write_hold.specs.Held.{Entry, Held, holds, seen_at}
 abbrev pub IsPutInto : Held → Held → ℕ → ℕ → ℕ → Type 0
 IsPutInto old new address len value = IsHeldStore (record { address = address; len = len; value = value }) old new
 
--- no section is live, and the hart has this view
+-- there is no section, and the hart has this view
 abbrev pub idle_state : HartView → Held → SectionState
-idle_state view hold = record { marks = unmarked view; hold = hold; live = None }
+idle_state view hold = record { marks = unmarked view; hold = hold; live = None; armed = None }
 
 -- a section has begun: its acquire has put the old value into a register, and is the first of its instructions
 abbrev pub begun_state : SectionState → ℕ → ℕ → ℕ → ℕ → SectionState
@@ -36,13 +37,37 @@ begun_state state word old new rd = record {
   marks = record { present = release_of (put_of state.marks.present rd old); mark = Some state.marks.present };
   hold = state.hold;
   live = Some (record { count = 1; word = word; old = old; new = new });
+  armed = None;
 }
+
+-- a section has armed: its LR has put the value that it found into a register, reserves its word, and is the first of its instructions
+abbrev pub armed_state : SectionState → ℕ → ℕ → ℕ → SectionState
+armed_state state word old rd = record {
+  marks = record { present = reserved_view state.marks.present rd word old; mark = Some state.marks.present };
+  hold = state.hold;
+  live = None;
+  armed = Some (record { armed = record { count = 1; word = word }; old = old });
+}
+
+-- an armed section has become a live one: its SC, which succeeds, is the last of its instructions, and the checkpoint is at the LR
+abbrev pub elided_state : SectionState → Reserved → ℕ → ℕ → SectionState
+elided_state state reserved new rd = record {
+  marks = record state.marks { present = release_of (put_of state.marks.present rd 0) };
+  hold = state.hold;
+  live = Some (elided reserved.armed reserved.old new);
+  armed = None;
+}
+
+-- an armed section was let go: its view is the committed one
+abbrev pub let_go_state : SectionState → SectionState
+let_go_state state = record { marks = kept_of state.marks; hold = state.hold; live = None; armed = None }
 
 -- a section is no more: its hart is back at the checkpoint, and nothing is held
 abbrev pub rolled_back_state : SectionState → SectionState
-rolled_back_state state = record { marks = back_of state.marks; hold = record state.hold { entries = [] }; live = None }
+rolled_back_state state =
+    record { marks = back_of state.marks; hold = record state.hold { entries = [] }; live = None; armed = None }
 
--- whether a live section has written a line: its lock word's, or one that is held
+-- whether a live section has written a line: its lock word's, or one that is held; an armed one has written none
 abbrev pub has_written : Option Section → List Entry → ℕ → Bool
 has_written None hold line = false
 has_written (Some section) hold line = is_written section.word hold line
@@ -74,6 +99,27 @@ pub record HasRun (old new : SectionState) (section : Section) (execution : Exec
   pub hold : HoldsAfter (store_in execution) old.hold new.hold
   pub limit : new.hold.limit ≡ old.hold.limit
   pub live : new.live ≡ Some (record section { count = section.count + 1 })
+  pub armed : new.armed ≡ None
+
+-- the actions that touch no memory, and are no SC and no call, and do not stop their hart
+abbrev pub is_quiet_action : Action → Bool
+is_quiet_action (actions.Put rd value) = true
+is_quiet_action (actions.JumpAndLink rd target) = true
+is_quiet_action (actions.Go target) = true
+is_quiet_action _ = false
+
+-- an armed section may run a quiet action, as long as its count has room for the SC behind it
+pub record MayContinue (reserved : Reserved) (action : Action) : Type 0 where
+  pub quiet : is_quiet_action action ≡ true
+  pub counted : reserved.armed.count + 2 < 4294967296
+
+-- it ran, over any bytes: the view is the one after it, and the checkpoint stays
+pub record HasContinued (old new : SectionState) (reserved : Reserved) (action : Action) : Type 0 where
+  pub marks : (under : ℕ → ℕ) →
+      new.marks ≡ record old.marks { present = view_after (perform action old.marks.present under) old.marks.present }
+  pub hold : new.hold ≡ old.hold
+  pub live : new.live ≡ None
+  pub armed : new.armed ≡ Some (record reserved { armed = record reserved.armed { count = reserved.armed.count + 1 } })
 
 -- the line that it touched is the most recent one of its set, and nothing else has changed in the cache
 pub record IsCoveredIn (old new : Cached) (touch : Option Touch) : Type 0 where
@@ -87,12 +133,14 @@ pub record HasReleased (old new : SectionState) (section : Section) (action : Ac
       unmarked (view_after (perform action old.marks.present (section_byte old.hold.entries section.word section.new under)) old.marks.present)
   pub hold : new.hold ≡ record old.hold { entries = [] }
   pub live : new.live ≡ None
+  pub armed : new.armed ≡ None
 
 -- the same, with the view that the instruction of the release tells
 pub record HasReleasedBy (old new : SectionState) (section : Section) (insn : Option Insn) : Type 0 where
   pub marks : new.marks ≡ unmarked (released_view insn old.marks.present section.new)
   pub hold : new.hold ≡ record old.hold { entries = [] }
   pub live : new.live ≡ None
+  pub armed : new.armed ≡ None
 
 -- a copy after its hart's section committed, where nothing of its line was held
 abbrev pub committed_copy : Bool → Copy → Copy

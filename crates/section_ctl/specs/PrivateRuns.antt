@@ -1,12 +1,16 @@
 -- what a section's calls make of its private run: the steps of its hart alone, from what is committed on
-use Rattle.std.specs.Prelude.{ℕ, ◌≡◌, ◌≤◌, ◌+◌, true, Some}
+use Rattle.std.specs.Prelude.{ℕ, ◌≡◌, ◌≤◌, ◌+◌, true, List, Some}
 use Rattle.cache_sets.specs.Cache.{has_bit, is_resident}
 use Rattle.cache_sets.specs.Cached.{Cached, cached_byte}
 use Rattle.el_base.specs.Line.{line_number}
 use Rattle.elf_image.specs.Program.{code_word}
+use Rattle.cache_sets.specs.Residency.{Way}
+use Rattle.el_model.specs.Armed.{is_quiet}
 use Rattle.el_model.specs.State.{Section}
-use Rattle.el_model.specs.Upcoming.{is_release, next_swap}
-use Rattle.run_laws.specs.PrivateRun.{IsCoveredRun, IsCoveredStep}
+use Rattle.el_model.specs.Upcoming.{is_release, next_conditional, next_swap}
+use Rattle.reg_mark.specs.Marks.{unmarked}
+use Rattle.run_laws.specs.PrivateRun.{IsArmedRun, IsCoveredRun, IsCoveredStep}
+use Rattle.rv_alu.specs.Loaded.{loaded}
 use Rattle.rv_alu.specs.declared.action.Action.{Action}
 use Rattle.rv_alu.specs.declared.action.Action.TheVariants as actions
 use Rattle.rv_flat.specs.FlatState.{FlatState, view_of}
@@ -15,8 +19,9 @@ use Rattle.rv_flat.specs.Run.{alone}
 use Rattle.rv_flat.specs.Step.{action_of}
 use Rattle.rv_word.specs.declared.insn.AmoOp.{AmoOp}
 use Rattle.rv_word.specs.declared.reg.Reg.{Reg}
-use Rattle.section_ctl.specs.State.{SectionState}
-use Rattle.section_view.specs.KeptRun.{KeepsRun}
+use Rattle.section_ctl.specs.State.{Reserved, SectionState}
+use Rattle.section_view.specs.ArmedLaws.{elided}
+use Rattle.section_view.specs.KeptRun.{KeepsArmed, KeepsRun}
 use Rattle.section_view.specs.Release.{HasEffect}
 
 -- each line of memory with a bit in a cache has the bytes of memory there
@@ -72,3 +77,41 @@ CommitsCode before after section old new code =
     (committed : FlatState) (h : ℕ) → AreBytes committed.bytes → IsKept committed h before section old →
     code_word committed.code before.marks.present.pc ≡ Some code →
     is_release (alone committed h section.count) h section.word section.old ≡ true → TakesEffect committed h before after section old new
+
+-- the code's view and value tell what the private run of an armed section has come to
+pub record IsKeptArmed (committed : FlatState) (h : ℕ) (state : SectionState) (reserved : Reserved) (cache : List (List Way)) : Type 0 where
+  pub run : IsArmedRun committed h cache reserved.armed
+  pub keeps : KeepsArmed committed h reserved.armed reserved.old state.marks.present
+
+-- where the hart's next instruction in what is committed is this LR, and finds this value, the run of the section that arms is kept
+abbrev pub ArmsRun : SectionState → SectionState → ℕ → ℕ → Reg → Type 0
+ArmsRun before after word old rd =
+    (committed : FlatState) (h : ℕ) → before.marks.present ≡ view_of committed h →
+    action_of committed (view_of committed h) ≡ actions.LoadReserved rd word → old ≡ loaded (byte_in committed.base committed.bytes) word 4 →
+    KeepsArmed committed h (record { count = 1; word = word }) old after.marks.present
+
+-- where this is the action of a quiet instruction that comes next, the run is kept with one instruction more
+abbrev pub ContinuesRun : SectionState → SectionState → Reserved → Action → Type 0
+ContinuesRun before after reserved action =
+    (committed : FlatState) (h : ℕ) (cache : List (List Way)) → IsKeptArmed committed h before reserved cache →
+    action ≡ action_of committed before.marks.present → is_quiet (alone committed h reserved.armed.count) h ≡ true →
+    KeepsArmed committed h (record reserved.armed { count = reserved.armed.count + 1 }) reserved.old after.marks.present
+
+-- an SC finds the value that is kept of its armed section, and the run of the live section is kept
+pub record IsElidedRun (committed : FlatState) (h : ℕ) (after : SectionState) (reserved : Reserved) (found new : ℕ) : Type 0 where
+  pub same : found ≡ reserved.old
+  pub keeps : KeepsRun committed h (elided reserved.armed reserved.old new) after.marks.present after.hold.entries
+
+-- so it is where the next instruction is an SC that succeeds on the armed section's word, with this value and into this register
+abbrev pub ElidesRun : SectionState → SectionState → Reserved → ℕ → Reg → Type 0
+ElidesRun before after reserved new rd =
+    (committed : FlatState) (h : ℕ) (cache : List (List Way)) (found address source : ℕ) → IsKeptArmed committed h before reserved cache →
+    next_conditional (alone committed h reserved.armed.count) h ≡ Some (record { word = reserved.armed.word; old = found; new = new }) →
+    action_of committed before.marks.present ≡ actions.StoreConditional rd address source →
+    IsElidedRun committed h after reserved found new
+
+-- after an armed section was let go, its hart has the view that the run has come to, and no checkpoint
+abbrev pub LetsGoRun : SectionState → SectionState → Reserved → Type 0
+LetsGoRun before after reserved =
+    (committed : FlatState) (h : ℕ) → KeepsArmed committed h reserved.armed reserved.old before.marks.present →
+    after.marks ≡ unmarked (view_of (alone committed h reserved.armed.count) h)

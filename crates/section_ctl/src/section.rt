@@ -1,5 +1,5 @@
 ghost use Rattle.std.specs.Prelude.{◌≡◌, ◌≤◌, ◌<◌, ◌+◌, ◌%◌, [], IfOk, IfSome, IsSome, ℕ};
-ghost use Rattle.std.specs.Prelude.{None, Some, is_some, option_map};
+ghost use Rattle.std.specs.Prelude.{◌||◌, None, Some, is_some, option_map, true};
 ghost use Rattle.std.specs.Borrow.{sem};
 ghost use Rattle.cache_sets.specs.Cache.{write_bits_of};
 ghost use Rattle.el_model.specs.Upcoming.{touch_of};
@@ -10,11 +10,14 @@ ghost use Rattle.rv_alu.specs.Footprint.{footprint};
 ghost use Rattle.rv_alu.specs.declared.view.HartStatus.TheVariants.{Running};
 ghost use Rattle.rv_word.specs.Decoding.{decoded};
 ghost use Rattle.section_ctl.specs.Releases.{IsReleaseInsn, release_of_insn};
+ghost use Rattle.section_ctl.specs.State.{reserved_of, section_of};
 ghost use Rattle.section_view.specs.KeptRun.{HoldsMarked};
 ghost use Rattle.section_view.specs.Release.{IsReleaseAction};
 
+use crate::armed::{Armed, Reserved};
 use crate::drain::commit_into;
 use crate::live::Live;
+use crate::private::Private;
 use crate::run::{run_over, touch};
 use cache_sets::Sets;
 use el_base::{Config, LineAddr, NoMemory, line_of};
@@ -25,34 +28,58 @@ use std::alloc::Global;
 use std::marker::Model;
 use write_hold::Hold;
 
-/// One hart's live section, or none. Contracts see it as `SectionState`: the hart's views, its buffered
-/// stores, and the live section as the machine's definition has it.
+/// One hart's live section, its armed one, or neither. Contracts see it as `SectionState`: the hart's views, its
+/// buffered stores, and the section as the machine's definition has it.
 #[derive(Drop)]
 pub struct Section {
     marks: Marked,
     hold: Hold,
-    live: Option<Live>,
+    private: Private,
 }
 
 impl Model for Section {
-    ghost use Rattle.section_ctl.specs.State.{SectionState, Stands, section_of, shown_state};
-    ghost use Rattle.std.specs.Prelude.{option_map};
+    ghost use Rattle.section_ctl.specs.State.{SectionState, Stands, shown_state};
 
     ghost Value = { SectionState };
 
-    ghost view = { λ s. shown_state s.marks s.hold s.live };
+    ghost view = { λ s. shown_state s.marks s.hold s.private };
 
-    ghost invariant = { λ s. Stands s.marks s.hold (option_map section_of s.live) };
+    ghost invariant = { λ s. Stands s.marks s.hold s.private };
 }
 
 impl Section {
-    ghost use Rattle.section_ctl.specs.Calls.{HasCommitted, HasReleased, HasReleasedBy, HasRun, IsCoveredIn, MayBuffer};
-    ghost use Rattle.section_ctl.specs.Calls.{begun_state, has_written, idle_state, rolled_back_state, run_of};
+    ghost use Rattle.section_ctl.specs.Calls.{
+      HasCommitted,
+      HasContinued,
+      HasReleased,
+      HasReleasedBy,
+      HasRun,
+      IsCoveredIn,
+      MayBuffer,
+      MayContinue,
+      armed_state,
+      begun_state,
+      elided_state,
+      has_written,
+      idle_state,
+      let_go_state,
+      rolled_back_state,
+      run_of,
+    };
     ghost use Rattle.section_ctl.specs.Lending.{LendsView};
-    ghost use Rattle.section_ctl.specs.PrivateRuns.{BeginsRun, CommitsCode, CommitsRun, GoesOnRun};
-    ghost use Rattle.section_ctl.specs.State.{section_of};
+    ghost use Rattle.section_ctl.specs.PrivateRuns.{
+      ArmsRun,
+      BeginsRun,
+      CommitsCode,
+      CommitsRun,
+      ContinuesRun,
+      ElidesRun,
+      GoesOnRun,
+      LetsGoRun,
+    };
+    ghost use Rattle.section_ctl.specs.State.{armed_of};
 
-    /// A hart's view without a live section, with room for the stores that a section of the
+    /// A hart's view without a section, with room for the stores that a section of the
     /// configuration may make.
     pub fn make(alloc: Global, config: &Config, view: HartView) -> Result<Section, NoMemory>
         ensures { IfOk result
@@ -61,46 +88,63 @@ impl Section {
         Ok(Section {
             marks: Marked::new(view),
             hold: Hold::make(alloc, config)?,
-            live: None,
+            private: Private::Nothing,
         })
     }
 
-    /// The live section's view, else the committed one.
+    /// The live or the armed section's view, else the committed one.
     pub fn shown(&self) -> &HartView
         ensures { result.now ≡ self.now.marks.present }
     {
         self.marks.present()
     }
 
-    /// The committed view: with a live section, that of before its acquire.
+    /// The committed view: with a live section, that of before its acquire, and with an armed one that of before
+    /// its LR.
     pub fn committed(&self) -> &HartView
         ensures { result.now ≡ committed_of self.now.marks }
     {
         self.marks.committed()
     }
 
-    /// The committed view, to be written. No section is live.
+    /// The committed view, to be written. There is no section, neither live nor armed.
     pub fn plain_mut(&mut self) -> &mut HartView
-        requires { self.old.live ≡ None }
+        requires none { self.old.live ≡ None }
+        requires unarmed { self.old.armed ≡ None }
         ensures* lends { sem 𝓛 (LendsView self.entry result) }
         ensures value { result.now ≡ self.old.marks.present }
     {
         &mut self.marks.present
     }
 
-    /// Ends the committed view's reservation where it is of a word on this line. A live section's view
-    /// keeps its own.
+    /// Ends the committed view's reservation where it is of a word on this line. The view of a live or an armed
+    /// section keeps its own.
     pub fn unreserve(&mut self, line: LineAddr)
         ensures { self.new ≡ record self.old { marks = marks_unreserved line.number self.old.marks } }
     {
         self.marks.unreserve(line);
     }
 
-    /// The live section; `None` exactly where none is live.
+    /// The live section; `None` exactly where none is live, as where one is armed.
     pub fn live(&self) -> Option<Live>
-        ensures { option_map section_of result ≡ self.now.live }
+        ensures exact { option_map section_of result ≡ self.now.live }
+        ensures alone { IsSome self.now.live → self.now.armed ≡ None }
     {
-        self.live
+        match self.private {
+            Private::Live(live) => Some(live),
+            Private::Armed(_) | Private::Nothing => None,
+        }
+    }
+
+    /// The armed section; `None` exactly where the hart is not armed.
+    pub fn armed(&self) -> Option<Armed>
+        ensures exact { option_map armed_of result ≡ option_map (λ reserved. reserved.armed) self.now.armed }
+        ensures alone { IsSome self.now.armed → self.now.live ≡ None }
+    {
+        match self.private {
+            Private::Armed(reserved) => Some(reserved.armed),
+            Private::Live(_) | Private::Nothing => None,
+        }
     }
 
     /// What the live section has stored; nothing where none is live.
@@ -117,9 +161,9 @@ impl Section {
     pub fn wrote(&self, line: LineAddr) -> bool
         ensures { result ≡ has_written self.now.live self.now.hold.entries line.number }
     {
-        match self.live {
-            None => false,
-            Some(live) => line.number == line_of(live.word).number || self.hold.has(line),
+        match self.private {
+            Private::Live(live) => line.number == line_of(live.word).number || self.hold.has(line),
+            Private::Armed(_) | Private::Nothing => false,
         }
     }
 
@@ -128,6 +172,7 @@ impl Section {
     /// instructions, and the view before it is the checkpoint.
     pub fn begin(&mut self, word: u32, old: u32, new: u32, rd: Reg)
         requires none { self.old.live ≡ None }
+        requires unarmed { self.old.armed ≡ None }
         requires running { self.old.marks.present.status ≡ Running }
         requires aligned { word % 4 ≡ 0 }
         ensures begun { self.new ≡ begun_state self.old word old new rd.number }
@@ -141,7 +186,7 @@ impl Section {
             source: new,
         };
         swap.perform(&mut self.marks.present, Some(old));
-        self.live = Some(Live {
+        self.private = Private::Live(Live {
             count: 1,
             word,
             old,
@@ -149,49 +194,143 @@ impl Section {
         });
     }
 
-    /// Runs an action in the live section, after it was decoded ([`Action::at`]). The action neither
-    /// calls nor stops its hart, stores to no byte of the lock word, and what it touches has its bit in
+    /// A section arms at an LR of `word`, which finds `old` there and puts it into `rd`. The LR is the first of the
+    /// section's instructions, and the view before it is the checkpoint.
+    pub fn arm(&mut self, word: u32, old: u32, rd: Reg)
+        requires none { self.old.live ≡ None }
+        requires unarmed { self.old.armed ≡ None }
+        requires running { self.old.marks.present.status ≡ Running }
+        requires aligned { word % 4 ≡ 0 }
+        ensures armed { self.new ≡ armed_state self.old word old rd.number }
+        ensures shows { ArmsRun self.old self.new word old rd }
+    {
+        self.marks.mark();
+        let reserve = Action::LoadReserved { rd, address: word };
+        reserve.perform(&mut self.marks.present, Some(old));
+        self.private = Private::Armed(Reserved {
+            armed: Armed { count: 1, word },
+            old,
+        });
+    }
+
+    /// The armed section's acquire is elided: an SC, which succeeds, puts 0 into `rd` and would store `new` in the
+    /// section's word. The armed section becomes a live one, of one instruction more, with the value that its LR
+    /// found as the old one. The checkpoint stays at the LR.
+    pub fn begin_armed(&mut self, new: u32, rd: Reg)
+        requires { IsSome self.old.armed }
+        ensures begun { IfSome self.old.armed (λ reserved.
+            self.new ≡ elided_state self.old reserved new rd.number) }
+        ensures shows { IfSome self.old.armed (λ reserved. ElidesRun self.old self.new reserved new rd) }
+    {
+        let Private::Armed(reserved) = self.private else {
+            unreachable!()
+        };
+        let Reserved { armed, old } = reserved;
+        let conditional = Action::StoreConditional {
+            rd,
+            address: armed.word,
+            value: new,
+        };
+        conditional.perform(&mut self.marks.present, None);
+        self.private = Private::Live(Live {
+            count: armed.count + 1,
+            word: armed.word,
+            old,
+            new,
+        });
+    }
+
+    /// Lets the armed section go: its view is the committed one, and there is no section.
+    pub fn let_go(&mut self)
+        requires { IsSome self.old.armed }
+        ensures exact { self.new ≡ let_go_state self.old }
+        ensures shows { IfSome self.old.armed (λ reserved. LetsGoRun self.old self.new reserved) }
+    {
+        self.marks.keep(); // the instructions since the LR take effect
+        self.private = Private::Nothing;
+    }
+
+    /// Runs an action in the live or the armed section, after it was decoded ([`Action::at`]). In a live one the action
+    /// neither calls nor stops its hart, stores to no byte of the lock word, and what it touches has its bit in
     /// the hart's cache; each held line has the write bit there, and no more lines have it than a section
-    /// may write.
+    /// may write. In an armed one the action is quiet: it touches no memory, is no SC, and neither calls nor stops its
+    /// hart.
     pub fn spec_action(&mut self, sets: &mut Sets, action: Action)
-        requires live { IsSome self.old.live }
+        requires either { (is_some self.old.live || is_some self.old.armed) ≡ true }
         requires buffered { IfSome self.old.live (λ section. MayBuffer self.old section sets.old action) }
         requires counted { IfSome self.old.live (λ section. section.count + 1 < 4294967296) }
+        requires quiet { IfSome self.old.armed (λ reserved. MayContinue reserved action) }
         requires marked { HoldsMarked sets.old.residency self.old.hold.entries }
         requires few { write_bits_of sets.old.residency ≤ self.old.hold.limit }
         ensures ran { IfSome self.old.live (λ section.
             HasRun self.old self.new section (run_of self.old section sets.old action)) }
+        ensures continued { IfSome self.old.armed (λ reserved. HasContinued self.old self.new reserved action) }
         ensures cache { IsCoveredIn sets.old sets.new (touch_of (footprint action)) }
         ensures marked { HoldsMarked sets.new.residency self.new.hold.entries }
         ensures shows { IfSome self.old.live (λ section. GoesOnRun self.old self.new section sets.old action) }
+        ensures shows_armed { IfSome self.old.armed (λ reserved. ContinuesRun self.old self.new reserved action) }
     {
-        let Some(live) = self.live else {
-            unreachable!()
-        };
+        match self.private {
+            Private::Live(live) => self.run_live(live, sets, action),
+            Private::Armed(reserved) => self.run_armed(reserved, action),
+            Private::Nothing => unreachable!(),
+        }
+    }
+
+    /// Runs an action in the live section.
+    fn run_live(&mut self, live: Live, sets: &mut Sets, action: Action)
+        requires is { self.old.live ≡ Some (section_of live) }
+        requires buffered { MayBuffer self.old (section_of live) sets.old action }
+        requires counted { live.count + 1 < 4294967296 }
+        requires marked { HoldsMarked sets.old.residency self.old.hold.entries }
+        requires few { write_bits_of sets.old.residency ≤ self.old.hold.limit }
+        ensures ran { HasRun self.old self.new (section_of live) (run_of self.old (section_of live) sets.old action) }
+        ensures cache { IsCoveredIn sets.old sets.new (touch_of (footprint action)) }
+    {
         run_over(&mut self.hold, &mut self.marks.present, sets, live, action);
         touch(sets, action);
-        self.live = Some(Live {
+        self.private = Private::Live(Live {
             count: live.count + 1,
             ..live
         });
     }
 
-    /// Runs the instruction of a word in the live section, whose action is as [`Section::spec_action`] asks.
-    /// Such an action does not depend on the room of the output.
+    /// Runs a quiet action in the armed section. What it leaves does not depend on memory.
+    fn run_armed(&mut self, reserved: Reserved, action: Action)
+        requires is { self.old.armed ≡ Some (reserved_of reserved) }
+        requires quiet { MayContinue (reserved_of reserved) action }
+        ensures { HasContinued self.old self.new (reserved_of reserved) action }
+    {
+        action.perform(&mut self.marks.present, None);
+        let armed = Armed {
+            count: reserved.armed.count + 1,
+            ..reserved.armed
+        };
+        self.private = Private::Armed(Reserved { armed, ..reserved });
+    }
+
+    /// Runs the instruction of a word in the live or the armed section, whose action is as [`Section::spec_action`]
+    /// asks. Such an action does not depend on the room of the output.
     pub fn spec_insn(&mut self, sets: &mut Sets, word: u32, span: Span)
-        requires live { IsSome self.old.live }
+        requires either { (is_some self.old.live || is_some self.old.armed) ≡ true }
         requires buffered { IfSome self.old.live (λ section.
             MayBuffer self.old section sets.old (action_at (Some word) self.old.marks.present span 0)) }
         requires counted { IfSome self.old.live (λ section. section.count + 1 < 4294967296) }
+        requires quiet { IfSome self.old.armed (λ reserved.
+            MayContinue reserved (action_at (Some word) self.old.marks.present span 0)) }
         requires marked { HoldsMarked sets.old.residency self.old.hold.entries }
         requires few { write_bits_of sets.old.residency ≤ self.old.hold.limit }
         ensures ran { (room : ℕ) → IfSome self.old.live (λ section. HasRun self.old self.new section
             (run_of self.old section sets.old (action_at (Some word) self.old.marks.present span room))) }
+        ensures continued { (room : ℕ) → IfSome self.old.armed (λ reserved.
+            HasContinued self.old self.new reserved (action_at (Some word) self.old.marks.present span room)) }
         ensures cache { IsCoveredIn sets.old sets.new
             (touch_of (footprint (action_at (Some word) self.old.marks.present span 0))) }
         ensures marked { HoldsMarked sets.new.residency self.new.hold.entries }
         ensures shows { (room : ℕ) → IfSome self.old.live (λ section.
             GoesOnRun self.old self.new section sets.old (action_at (Some word) self.old.marks.present span room)) }
+        ensures shows_armed { (room : ℕ) → IfSome self.old.armed (λ reserved.
+            ContinuesRun self.old self.new reserved (action_at (Some word) self.old.marks.present span room)) }
     {
         let action = Action::at(Some(word), &self.marks.present, span, 0);
         self.spec_action(sets, action);
@@ -209,14 +348,14 @@ impl Section {
         ensures shows { IfSome self.old.live (λ section.
             CommitsRun self.old self.new section sets.old sets.new action) }
     {
-        let Some(live) = self.live else {
+        let Private::Live(live) = self.private else {
             unreachable!()
         };
         let found = found_by(action, live.new);
         action.perform(&mut self.marks.present, found);
         self.marks.keep();
         commit_into(&mut self.hold, sets);
-        self.live = None;
+        self.private = Private::Nothing;
     }
 
     /// Runs the release, the instruction of a word that stores or swaps the old value into the lock word,
@@ -229,7 +368,7 @@ impl Section {
         ensures cache { HasCommitted sets.old sets.new self.old.hold.entries }
         ensures shows { IfSome self.old.live (λ section. CommitsCode self.old self.new section sets.old sets.new code) }
     {
-        let Some(live) = self.live else {
+        let Private::Live(live) = self.private else {
             unreachable!()
         };
         self.commit_action(sets, release_by(code, live));
@@ -242,7 +381,7 @@ impl Section {
     {
         self.marks.back();
         self.hold.forget();
-        self.live = None;
+        self.private = Private::Nothing;
     }
 }
 

@@ -209,6 +209,48 @@ fn cache(alloc: Global, lines: &[(u32, Need)]) -> Result<Sets, Fail> {
     Ok(sets)
 }
 
+/// A section that has armed at an LR of the lock word into a register, with the reservation of it.
+fn armed(alloc: Global, rd: Reg) -> Result<Section, Fail>
+    ensures limit { IfOk result (λ section. section.hold.limit ≡ 2) }
+    ensures marked { (cache : List (List Way)) → IfOk result (λ section. HoldsMarked cache section.hold.entries) }
+{
+    let config = Config {
+        lines: 2,
+        ..Config::usual()
+    };
+    let mut section = Section::make(alloc, &config, hart(None))?;
+    section.arm(LOCK, FREE, rd);
+    Ok(section)
+}
+
+/// Puts a value into a register, in an armed section.
+fn put(section: &mut Section, sets: &mut Sets, rd: Reg, value: u32) -> Result<(), Fail>
+    requires limit { section.old.hold.limit ≡ 2 }
+    requires marked { HoldsMarked sets.old.residency section.old.hold.entries }
+    ensures limit { section.new.hold.limit ≡ 2 }
+    ensures marked { HoldsMarked sets.new.residency section.new.hold.entries }
+{
+    let Some(armed) = section.armed() else {
+        return Err("no section is armed".into());
+    };
+    if armed.count > 1000 || sets.write_bits() > 2 {
+        return Err("no more room".into());
+    }
+    section.spec_action(sets, Action::Put { rd, value });
+    Ok(())
+}
+
+/// Elides the SC of an armed section, which would store TAKEN.
+fn elide(section: &mut Section, rd: Reg) -> Result<(), Fail>
+    ensures limit { section.new.hold ≡ section.old.hold }
+{
+    if section.armed().is_none() {
+        return Err("no section is armed".into());
+    }
+    section.begin_armed(TAKEN, rd);
+    Ok(())
+}
+
 /// The bytes of a line of a cache.
 fn bytes_at(sets: &Sets, address: u32) -> Option<[u8; 64]> {
     let line = line_of(address);
@@ -369,5 +411,87 @@ fn a_checkpoint_loses_its_reservation_and_the_live_view_keeps_its_own(
     section.unreserve(line_of(0x10080));
     assert_eq!(rt; section.committed().reserved, None);
     assert_eq!(rt; section.shown().reserved, Some(0x1008c));
+    Ok(())
+}
+
+#[test]
+fn an_armed_section_becomes_a_live_one_and_commits(rt: HostRuntime) -> Result<(), Fail> {
+    let (Some(found), Some(failed), Some(other)) = (Reg::new(5), Reg::new(6), Reg::new(8)) else {
+        return Err("no register".into());
+    };
+    let mut section = armed(rt.alloc(), found)?;
+    let mut sets = cache(rt.alloc(), &[(LOCK, Need::Read)])?;
+    let before = bytes_at(&sets, LOCK);
+    assert_eq!(rt; section.shown().reserved, Some(LOCK));
+    put(&mut section, &mut sets, other, 7)?;
+    put(&mut section, &mut sets, other, 9)?;
+    assert_eq!(rt;
+        section.armed(),
+        Some(Armed {
+            count: 3,
+            word: LOCK
+        })
+    );
+    assert_eq!(rt; section.live(), None);
+    assert!(rt; !section.wrote(line_of(LOCK)));
+    elide(&mut section, failed)?;
+    assert_eq!(rt; section.armed(), None);
+    assert_eq!(rt;
+        section.live(),
+        Some(Live {
+            count: 4,
+            word: LOCK,
+            old: FREE,
+            new: TAKEN
+        })
+    );
+    assert_eq!(rt; section.shown().reserved, None);
+    assert_eq!(rt; section.shown().regs.get(failed), 0);
+    assert_eq!(rt; section.shown().regs.get(other), 9);
+    assert_eq!(rt; section.committed().pc, 0x10000);
+    commit(&mut section, &mut sets, STORE_WORD)?;
+    assert_eq!(rt; section.committed().pc, 0x10014);
+    assert_eq!(rt; section.live(), None);
+    assert_eq!(rt; bytes_at(&sets, LOCK), before);
+    Ok(())
+}
+
+#[test]
+fn an_armed_section_that_is_let_go_keeps_its_view(rt: HostRuntime) -> Result<(), Fail> {
+    let (Some(found), Some(other)) = (Reg::new(5), Reg::new(8)) else {
+        return Err("no register".into());
+    };
+    let mut section = armed(rt.alloc(), found)?;
+    let mut sets = cache(rt.alloc(), &[(LOCK, Need::Read)])?;
+    put(&mut section, &mut sets, other, 7)?;
+    assert_eq!(rt; section.committed().pc, 0x10000);
+    if section.armed().is_some() {
+        section.let_go();
+    }
+    assert_eq!(rt; section.armed(), None);
+    assert_eq!(rt; section.committed().pc, 0x10008);
+    assert_eq!(rt; section.committed().reserved, Some(LOCK));
+    assert_eq!(rt; section.committed().regs.get(found), FREE);
+    assert_eq!(rt; section.committed().regs.get(other), 7);
+    Ok(())
+}
+
+#[test]
+fn a_register_that_is_written_over_after_its_lr_does_not_change_the_old_value(
+    rt: HostRuntime,
+) -> Result<(), Fail> {
+    let Some(found) = Reg::new(5) else {
+        return Err("no register".into());
+    };
+    for value in [0, TAKEN] {
+        let mut section = armed(rt.alloc(), found)?;
+        let mut sets = cache(rt.alloc(), &[(LOCK, Need::Read)])?;
+        put(&mut section, &mut sets, found, value)?;
+        elide(&mut section, found)?;
+        match section.live() {
+            Some(live) => assert_eq!(rt; live.old, FREE),
+            None => return Err("no section is live".into()),
+        }
+    }
     Ok(())
 }

@@ -21,9 +21,10 @@ use Rattle.rv_flat.specs.Run.{alone}
 use Rattle.rv_flat.specs.Step.{flat}
 use Rattle.run_laws.proofs.Restored.{put_back}
 use Rattle.run_laws.proofs.Shown.{keeps_outside, puts_word, shows_its_own, word_piece}
-use Rattle.run_laws.proofs.Survival.{alone_more}
+use Rattle.run_laws.proofs.Alike.{alone_more}
+use Rattle.run_laws.proofs.Reserving.{acquires_at}
 use Rattle.run_laws.proofs.Tests.{or_left}
-use Rattle.run_laws.proofs.WordStores.{StoresWord, acquires, releases}
+use Rattle.run_laws.proofs.WordStores.{StoresWord, releases}
 use Rattle.run_laws.specs.PrivateRun.{IsCoveredRun, IsOutsideWord}
 use Rattle.section_view.proofs.Beginning.{line_is, word_written}
 use Rattle.section_view.proofs.GoingOn.{written_before, written_since}
@@ -123,7 +124,8 @@ module _ (committed : FlatState) (h : ℕ) (cache : List (List Way)) (section : 
             let end : section.word + 4 ≤ shown.base + length shown.bytes = piece.before_end in
             ap (λ state. slice_index state.bytes place) last
             ∙ ap (λ bytes. slice_index bytes place) (puts_word shown h section.word section.old runs stores)
-            ∙ ap (λ value. slice_index (put_bytes shown.bytes (section.word - shown.base) 4 value) place) (acquires committed h _ run.acquire).old
+            ∙ ap (λ value. slice_index (put_bytes shown.bytes (section.word - shown.base) 4 value) place)
+            (acquires_at committed h cache run.before _ run.acquire).old
             ∙ put_back shown.bytes committed.bytes committed.base section.word (section.word - shown.base) 4 place (omega arith) are_bytes size
             (omega arith) (omega arith) (omega arith)
             ∙ ap (λ byte. unwrap_or byte (slice_index committed.bytes place)) (sym (keeps.free (committed.base + place) low high))

@@ -25,7 +25,7 @@ use Rattle.rv_flat.specs.Laws.{IsInOneLine, footprint_of, written_line}
 use Rattle.rv_flat.specs.Run.{alone}
 use Rattle.rv_flat.specs.Step.{flat, stored_by}
 use Rattle.run_laws.proofs.Shown.{running_footprint}
-use Rattle.run_laws.proofs.Survival.{alone_more}
+use Rattle.run_laws.proofs.Alike.{alone_more}
 use Rattle.run_laws.proofs.Tests.{or_left, or_right}
 use Rattle.run_laws.proofs.WordStores.{writes_store}
 use Rattle.run_laws.specs.PrivateRun.{HasItsBit, IsCoveredRun, IsCoveredStep, IsOutsideWord}
@@ -96,7 +96,7 @@ still_held store old new stored line is = by (cases_eq line (line_number store.a
     by (inr other) = holds_after_put_other old new (line_number store.address) (store.address % LINE_BYTES) stored.bytes stored.put line other ∙ is
 
 -- what an instruction writes is what it stores
-written_store : (access : Access) → IsNoWrite access → written_line access ≡ None
+pub written_store : (access : Access) → IsNoWrite access → written_line access ≡ None
 written_store (Write from len) none = absurd none
 written_store (Read from len) none = refl
 written_store Nothing none = refl
@@ -142,10 +142,19 @@ written_since committed h n line wrote = by (cases_eq wrote.step n)
         let earlier : wrote.step < n = omega arith in
         inr (record { step = wrote.step; before = earlier; writes = wrote.writes })
 
+-- the view after one step more
+pub view_after_step : (committed : FlatState) (h n : ℕ) (view : HartView) → view ≡ view_of (alone committed h n) h →
+    status_of (alone committed h n) h ≡ Running →
+    view_after (next_execution (alone committed h n) h) view ≡ view_of (alone committed h (n + 1)) h
+view_after_step committed h n view is runs =
+    let shown = alone committed h n in
+    ap (view_after (next_execution shown h)) is ∙ sym (own_view shown h (runs-exists shown h runs) runs)
+    ∙ sym (ap (λ state. view_of state h) (alone_more committed h n))
+
 some_is : {X : Type 0} (left right : X) → Some left ≡ Some right → left ≡ right
 some_is left right same = cc
 
-none_some : {X A : Type 0} {a : A} → None ≡ Some a → X
+pub none_some : {X A : Type 0} {a : A} → None ≡ Some a → X
 none_some wrong = absurd (cc)
 
 module _ (committed : FlatState) (h : ℕ) (cache now : List (List Way)) (section : Section) (view : HartView) (old new : Held)
@@ -163,10 +172,7 @@ module _ (committed : FlatState) (h : ℕ) (cache now : List (List Way)) (sectio
       ap (λ new. new.bytes) (alone_more committed h section.count) ∙ bytes_after (alone committed h section.count) h store runs is
 
   after_view : view_after (next_execution (alone committed h section.count) h) view ≡ view_of (alone committed h (section.count + 1)) h
-  after_view =
-      let shown = alone committed h section.count in
-      ap (view_after (next_execution shown h)) keeps.view ∙ sym (own_view shown h (runs-exists shown h runs) runs)
-      ∙ sym (ap (λ state. view_of state h) (alone_more committed h section.count))
+  after_view = view_after_step committed h section.count view keeps.view runs
 
   KeptWith : List Entry → Type 0
   KeptWith entries =

@@ -1,24 +1,29 @@
--- what steps keep of the state, and a covered run of the output
-use Rattle.std.proofs.Common.{◌≡◌, ◌≤◌, ◌<◌, ◌+◌, ◌-◌, ◌∙◌, ℕ, zero, suc, false, List, [], ◌∷◌, length, replicate, arith, refl, ap, sym, subst}
+-- what steps keep of the state, and an armed or a covered run of the output
+use Rattle.std.proofs.Common.{◌≡◌, ◌≤◌, ◌<◌, ◌+◌, ◌-◌, ◌∙◌, ◌⊎◌, ℕ, zero, suc, false, List, [], ◌∷◌, length, replicate, arith, refl, ap, sym, subst}
+use Rattle.std.proofs.Common.{inl, inr}
+use Rattle.std.proofs.lemmas.Bool.{cases_lt}
 use Rattle.cache_sets.specs.Residency.{Way}
 use Rattle.elf_image.specs.Program.{code_word}
 use Rattle.el_model.specs.State.{Section}
-use Rattle.el_model.specs.Upcoming.{calls, calls_or_stops, next_execution, stops}
+use Rattle.el_model.specs.Upcoming.{Swap, calls, calls_or_stops, next_execution, stops}
 use Rattle.rv_alu.proofs.Executions.{executed-append}
 use Rattle.rv_alu.specs.Action.{action_at}
 use Rattle.rv_alu.specs.Execution.{insn_at, touched}
 use Rattle.rv_alu.specs.declared.view.HartStatus.TheVariants.{Running}
+use Rattle.rv_alu.specs.declared.view.HartView.{HartView}
 use Rattle.rv_flat.proofs.StepLaws.{keeps_shape, running}
 use Rattle.rv_flat.specs.FlatState.{FlatState, output_limit, room_of, span_of, status_of, view_of}
 use Rattle.rv_flat.specs.Laws.{next_insn, touched_by}
 use Rattle.rv_flat.specs.Run.{alone, run}
 use Rattle.rv_flat.specs.Step.{appended_by, flat}
 use Rattle.run_laws.proofs.Alike.{no_call}
-use Rattle.run_laws.proofs.Survival.{alone_more}
+use Rattle.run_laws.proofs.Alike.{alone_more}
+use Rattle.run_laws.proofs.ButAView.{armed_runs_keep_all_but_a_view}
+use Rattle.run_laws.proofs.Reserving.{acquires_at, silent_at}
 use Rattle.run_laws.proofs.Tests.{first_not}
-use Rattle.run_laws.proofs.WordStores.{acquires}
-use Rattle.run_laws.specs.PrivateRun.{IsCoveredRun}
-use Rattle.section_view.specs.Laws.{SectionsComeTo}
+use Rattle.run_laws.specs.PrivateRun.{IsAcquire, IsCoveredRun}
+use Rattle.section_view.specs.ArmedLaws.{ArmedSectionsComeTo}
+use Rattle.section_view.specs.Laws.{ComesTo, SectionsComeTo}
 
 -- memory lies at the same place and has the same size, and the code and the number of harts are the same
 pub record SameShape (old new : FlatState) : Type 0 where
@@ -51,11 +56,29 @@ quiet_step state h runs goes_on =
     ap (λ new. new.output) (running state h runs)
     ∙ ap (λ append. appended_by append state.base state.bytes state.output) (executed-append word view (span_of state) (room_of state) _ none)
 
+-- each instruction before an acquire goes on
+before_goes_on : (committed : FlatState) (h : ℕ) (cache : List (List Way)) (before : ℕ) (swap : Swap) → IsAcquire committed h cache before swap →
+    (n : ℕ) → n < before → calls_or_stops (alone committed h n) h ≡ false
+before_goes_on committed h cache zero swap is n less = absurd (omega (arith, less))
+before_goes_on committed h cache (suc before) swap (run, is) n less =
+    (silent_at committed h cache (record { count = suc before; word = swap.word }) run n less).goes_on
+
 module _ (committed : FlatState) (h : ℕ) (cache : List (List Way)) (section : Section) (run : IsCoveredRun committed h cache section) where
-  -- each instruction of a covered run goes on
+  -- so does each of a covered run
   pub goes_on_at : (n : ℕ) → n < section.count → calls_or_stops (alone committed h n) h ≡ false
-  goes_on_at zero less = (acquires committed h _ run.acquire).stores.goes_on
-  goes_on_at (suc n) less = (run.inside (suc n) (omega arith) less).goes_on
+  goes_on_at n less = by (cases_lt n run.before)
+    where
+      later : (run.before < n) ⊎ (n ≤ run.before) → run.before ≤ n → calls_or_stops (alone committed h n) h ≡ false
+      later (inl past) from = (run.inside n past less).goes_on
+      later (inr within) from =
+          let same : run.before ≡ n = omega (arith, from, within) in
+          subst (λ n. calls_or_stops (alone committed h n) h ≡ false) same
+          (acquires_at committed h cache run.before (record { word = section.word; old = section.old; new = section.new }) run.acquire).stores.goes_on
+
+      by : (n < run.before) ⊎ (run.before ≤ n) → calls_or_stops (alone committed h n) h ≡ false
+      by (inl before) =
+          before_goes_on committed h cache run.before (record { word = section.word; old = section.old; new = section.new }) run.acquire n before
+      by (inr from) = later (cases_lt run.before n) from
 
   output_at : (n : ℕ) → n ≤ section.count → (alone committed h n).output ≡ committed.output
   output_at zero within = refl
@@ -76,29 +99,29 @@ span_shape old new same =
 pub room_shape : (old new : FlatState) → new.output ≡ old.output → room_of new ≡ room_of old
 room_shape old new same = ap (λ output. output_limit - length output) same
 
-pub comes_to : SectionsComeTo
-comes_to committed h cache section view hold run keeps = record {
+-- what comes next is what a view comes to in what is committed, where memory's shape and the output are as they were
+pub comes_alike : (committed shown : FlatState) (h : ℕ) (view : HartView) → view ≡ view_of shown h → SameShape committed shown →
+    shown.output ≡ committed.output → ComesTo committed shown h view
+comes_alike committed shown h view is same output = record {
   insn =
-      ap (λ view. insn_at (code_word shown.code view.pc)) (sym keeps.view) ∙ ap (λ code. insn_at (code_word code view.pc)) same.code;
+      ap (λ view. insn_at (code_word shown.code view.pc)) (sym is) ∙ ap (λ code. insn_at (code_word code view.pc)) same.code;
   action =
       ap (λ code. action_at (code_word code view.pc) view (span_of shown) (room_of shown)) same.code
-      ∙ ap (λ span. action_at (code_word committed.code view.pc) view span (room_of shown)) span
-      ∙ ap (action_at (code_word committed.code view.pc) view (span_of committed)) room;
+      ∙ ap (λ span. action_at (code_word committed.code view.pc) view span (room_of shown)) (span_shape committed shown same)
+      ∙ ap (action_at (code_word committed.code view.pc) view (span_of committed)) (room_shape committed shown output);
   access =
-      ap (touched_by shown) (sym keeps.view)
+      ap (touched_by shown) (sym is)
       ∙ ap (λ code. touched (code_word code view.pc) view (span_of shown) (room_of shown)) same.code
-      ∙ ap (λ span. touched (code_word committed.code view.pc) view span (room_of shown)) span
-      ∙ ap (touched (code_word committed.code view.pc) view (span_of committed)) room;
+      ∙ ap (λ span. touched (code_word committed.code view.pc) view span (room_of shown)) (span_shape committed shown same)
+      ∙ ap (touched (code_word committed.code view.pc) view (span_of committed)) (room_shape committed shown output);
 }
-  where
-    shown : FlatState
-    shown = alone committed h section.count
 
-    same : SameShape committed (alone committed h section.count)
-    same = alone_shape committed h section.count
+pub comes_to : SectionsComeTo
+comes_to committed h cache section view hold run keeps =
+    comes_alike committed (alone committed h section.count) h view keeps.view (alone_shape committed h section.count)
+    (output_shown committed h cache section run)
 
-    span : span_of (alone committed h section.count) ≡ span_of committed
-    span = span_shape committed (alone committed h section.count) (alone_shape committed h section.count)
-
-    room : room_of (alone committed h section.count) ≡ room_of committed
-    room = room_shape committed (alone committed h section.count) (output_shown committed h cache section run)
+pub armed_comes_to : ArmedSectionsComeTo
+armed_comes_to committed h cache armed old view run keeps =
+    comes_alike committed (alone committed h armed.count) h view keeps.view (alone_shape committed h armed.count)
+    (armed_runs_keep_all_but_a_view committed h cache armed run).rest.output

@@ -6,6 +6,7 @@ use Rattle.cache_sets.specs.Residency.{Way}
 use Rattle.core_step.specs.Port.{byte_of}
 use Rattle.elf_image.specs.Program.{code_word}
 use Rattle.el_model.specs.State.{Section}
+use Rattle.el_model.specs.Upcoming.{next_execution}
 use Rattle.rv_alu.proofs.Executions.{executed_agree}
 use Rattle.rv_alu.specs.Execution.{executed, perform}
 use Rattle.rv_alu.specs.Footprint.{AgreeOn, Touches}
@@ -14,7 +15,7 @@ use Rattle.rv_alu.specs.declared.footprint.Access.TheVariants.{Nothing, Read, Wr
 use Rattle.rv_alu.specs.declared.span.Span.{Span}
 use Rattle.rv_alu.specs.declared.view.HartView.{HartView}
 use Rattle.rv_flat.proofs.StepLaws.{one_line-touched}
-use Rattle.rv_flat.specs.FlatState.{FlatState, room_of, span_of}
+use Rattle.rv_flat.specs.FlatState.{FlatState, room_of, span_of, view_of}
 use Rattle.rv_flat.specs.Laws.{IsInOneLine, touched_by}
 use Rattle.rv_flat.specs.Memory.{byte_in}
 use Rattle.rv_flat.specs.Run.{alone}
@@ -24,7 +25,7 @@ use Rattle.run_laws.specs.PrivateRun.{IsCoveredRun, IsOutsideWord}
 use Rattle.section_view.proofs.Bytes.{put_bytes-here, stored_inside, stored_outside}
 use Rattle.section_view.proofs.Shapes.{alone_shape, comes_to}
 use Rattle.section_view.specs.KeptRun.{KeepsRun, held_over, section_byte}
-use Rattle.section_view.specs.Laws.{SectionsDoAsShown, SectionsShowTheirBytes}
+use Rattle.section_view.specs.Laws.{ComesTo, SectionsDoAsShown, SectionsShowTheirBytes}
 use Rattle.write_hold.specs.Held.{Entry, held}
 
 -- an address is of a word, or outside of it
@@ -63,14 +64,18 @@ module _ (committed : FlatState) (h : ℕ) (cache : List (List Way)) (section : 
       slice_index (alone committed h section.count).bytes place ≡ byte_of section.new (committed.base + place - section.word)
   new_value_at place low high =
       let some = run.some in
+      let there = alone committed h run.before in
+      let shape = alone_shape committed h run.before in
+      let base : there.base ≡ committed.base = shape.base in
       let stores = swap_stores committed h cache section run in
-      let piece = word_piece committed h section.word section.new stores in
-      let from : committed.base ≤ section.word = piece.from_base in
-      let end : section.word + 4 ≤ committed.base + length committed.bytes = piece.before_end in
-      lock_at committed h cache section run (section.count - 1) section.count (omega arith) (omega arith) place low high
-      ∙ ap (λ bytes. slice_index bytes place) (puts_word committed h section.word section.new (run.running 0 (omega arith)) stores)
-      ∙ put_bytes-here committed.bytes (section.word - committed.base) 4 section.new (committed.base + place - section.word) place (omega arith)
-      (omega arith) (omega arith)
+      let piece = word_piece there h section.word section.new stores in
+      let from : there.base ≤ section.word = piece.from_base in
+      let end : section.word + 4 ≤ there.base + length there.bytes = piece.before_end in
+      lock_at committed h cache section run (section.count - (run.before + 1)) section.count (omega (arith, some)) (omega arith) place low high
+      ∙ ap (λ bytes. slice_index bytes place)
+      (puts_word there h section.word section.new (run.running run.before (omega (arith, some))) stores)
+      ∙ put_bytes-here there.bytes (section.word - there.base) 4 section.new (committed.base + place - section.word) place
+      (omega (arith, base, from)) (omega arith) (omega (arith, from, end))
 
   -- outside of it
   pub held_or_committed : (place : ℕ) → IsOutsideWord section.word (committed.base + place) →
@@ -117,19 +122,23 @@ pub executed_is : (state : FlatState) (view : HartView) (byte : ℕ → ℕ) →
 unfolding executed
 executed_is state view byte = refl
 
+-- so what comes next does what its action does in what is committed, over bytes that agree where it touches memory
+pub does_alike : (committed shown : FlatState) (h : ℕ) (view : HartView) (byte : ℕ → ℕ) → view ≡ view_of shown h →
+    ComesTo committed shown h view → AgreeOn (touched_by committed view) byte (byte_in shown.base shown.bytes) →
+    perform (action_of committed view) view byte ≡ next_execution shown h
+does_alike committed shown h view byte is comes agree =
+    sym (executed_is committed view byte)
+    ∙ executed_agree (code_word committed.code view.pc) view (span_of committed) (room_of committed) byte (byte_in shown.base shown.bytes) agree
+    ∙ executed_is committed view (byte_in shown.base shown.bytes)
+    ∙ ap (λ action. perform action view (byte_in shown.base shown.bytes)) (sym comes.action)
+    ∙ sym (executed_is shown view (byte_in shown.base shown.bytes))
+    ∙ ap (execution_of shown) is
+
 pub do_as_shown : SectionsDoAsShown
 do_as_shown committed h cache section view hold under run keeps beside =
-    sym (executed_is committed view (section_byte hold section.word section.new under))
-    ∙ executed_agree (code_word committed.code view.pc) view (span_of committed) (room_of committed)
-    (section_byte hold section.word section.new under) (byte_in shown.base shown.bytes) agree
-    ∙ executed_is committed view (byte_in shown.base shown.bytes)
-    ∙ ap (λ action. perform action view (byte_in shown.base shown.bytes)) (sym (comes_to committed h cache section view hold run keeps).action)
-    ∙ sym (executed_is shown view (byte_in shown.base shown.bytes))
-    ∙ ap (execution_of shown) keeps.view
+    does_alike committed (alone committed h section.count) h view (section_byte hold section.word section.new under) keeps.view
+    (comes_to committed h cache section view hold run keeps) agree
   where
-    shown : FlatState
-    shown = alone committed h section.count
-
     agree : AgreeOn (touched_by committed view) (section_byte hold section.word section.new under)
         (byte_in (alone committed h section.count).base (alone committed h section.count).bytes)
     agree address there =

@@ -1,21 +1,28 @@
--- the same view and hold keep a section's run after a change beside its hart
-use Rattle.std.proofs.Common.{◌≡◌, ◌≤◌, ◌<◌, ◌+◌, ◌∙◌, ℕ, zero, suc, Bool, true, false, List, None, Some, arith, ap, sym, refl, subst}
+-- the same view and hold keep a section's run after a change beside its hart, and the same view and value an armed section's
+use Rattle.std.proofs.Common.{◌≡◌, ◌≤◌, ◌<◌, ◌+◌, ◌∙◌, ◌⊎◌, ℕ, zero, suc, Bool, true, false, List, None, Some, arith, ap, sym, refl, subst}
+use Rattle.std.proofs.Common.{inl, inr}
 use Rattle.std.specs.Prelude.{slice_index}
+use Rattle.std.proofs.lemmas.Bool.{cases_lt}
 use Rattle.cache_sets.specs.Cache.{has_bit, read_bit, write_bit}
 use Rattle.cache_sets.specs.Residency.{Way}
 use Rattle.el_base.specs.Line.{line_number}
-use Rattle.el_model.specs.State.{Section}
-use Rattle.el_model.specs.Upcoming.{calls, next_access, next_execution, stops}
+use Rattle.el_model.specs.State.{Armed, Section}
+use Rattle.el_model.specs.Upcoming.{Swap, calls, next_access, next_execution, next_touch, stops}
+use Rattle.rv_alu.proofs.Executions.{loaded-same}
+use Rattle.rv_alu.specs.Loaded.{loaded}
 use Rattle.rv_alu.specs.declared.view.HartView.{HartView}
-use Rattle.rv_flat.specs.FlatState.{FlatState}
+use Rattle.rv_flat.specs.FlatState.{FlatState, view_of}
 use Rattle.rv_flat.specs.Laws.{footprint_of, next_insn, written_line}
+use Rattle.rv_flat.specs.Memory.{byte_in}
 use Rattle.rv_flat.specs.Run.{alone}
 use Rattle.run_laws.proofs.Alike.{SamePlaces, same_access}
 use Rattle.run_laws.proofs.Shown.{running_footprint, unwritten_shown}
-use Rattle.run_laws.proofs.Survival.{survives}
-use Rattle.run_laws.proofs.Tests.{first_not, or_right, second_not}
-use Rattle.run_laws.proofs.WordStores.{acquires}
-use Rattle.run_laws.specs.PrivateRun.{IsChangeBeside, IsCoveredRun, IsOutsideWord, ShowsTheSame}
+use Rattle.run_laws.proofs.Reserving.{AcquiresAt, acquires_at, reserves}
+use Rattle.run_laws.proofs.Survival.{armed_runs_survive, survives}
+use Rattle.run_laws.proofs.Tests.{first_not, or_left, or_right, second_not}
+use Rattle.run_laws.proofs.Touches.{IsOnBit, agree_there}
+use Rattle.run_laws.specs.PrivateRun.{IsAcquire, IsArmedRun, IsChangeBeside, IsCoveredRun, IsOutsideWord, ShowsTheSame}
+use Rattle.section_view.specs.ArmedLaws.{KeptArmedRunsSurvive}
 use Rattle.section_view.proofs.Shapes.{alone_shape, goes_on_at}
 use Rattle.section_view.specs.KeptRun.{HoldsMarked, KeepsRun, WroteLine}
 use Rattle.section_view.specs.Laws.{KeptRunsSurvive, MarksStay}
@@ -25,16 +32,59 @@ use Rattle.write_hold.specs.Held.{Entry, held}
 pub marks_stay : MarksStay
 marks_stay old new hold keeps marked line there = keeps line (marked line there)
 
--- the first instructions of a covered run are one too
-shorter : (committed : FlatState) (h : ℕ) (cache : List (List Way)) (section : Section) (n : ℕ) → IsCoveredRun committed h cache section → 1 ≤ n →
-    n ≤ section.count → IsCoveredRun committed h cache (record section { count = n })
+-- the first instructions of an armed run are one too
+shorter_armed : (committed : FlatState) (h : ℕ) (cache : List (List Way)) (armed : Armed) (n : ℕ) → IsArmedRun committed h cache armed → 1 ≤ n →
+    n ≤ armed.count → IsArmedRun committed h cache (record armed { count = n })
+shorter_armed committed h cache armed n run some within = record {
+  some = some;
+  reserve = run.reserve;
+  read = run.read;
+  running = λ k less. run.running k (omega arith);
+  quiet = λ k from less. run.quiet k from (omega arith);
+}
+
+-- and those of a covered run, from its acquire on
+shorter : (committed : FlatState) (h : ℕ) (cache : List (List Way)) (section : Section) (n : ℕ) (run : IsCoveredRun committed h cache section) →
+    run.before < n → n ≤ section.count → IsCoveredRun committed h cache (record section { count = n })
 shorter committed h cache section n run some within = record {
+  before = run.before;
   some = some;
   acquire = run.acquire;
   read = run.read;
   running = λ k less. run.running k (omega arith);
   inside = λ k from less. run.inside k from (omega arith);
 }
+
+-- steps of a hart leave two states alike that lie alike
+places_at : (h : ℕ) (cache : List (List Way)) (old new : FlatState) → IsChangeBeside h cache old new → (n : ℕ) →
+    SamePlaces (alone old h n) (alone new h n)
+places_at h cache old new change n =
+    let left = alone_shape old h n in
+    let right = alone_shape new h n in
+    record {
+      base = right.base ∙ change.base ∙ sym left.base;
+      code = right.code ∙ change.code ∙ sym left.code;
+      size = right.size ∙ change.size ∙ sym left.size;
+    }
+
+-- before an acquire, and at it, the hart's view is the same, and its first instruction touches the same
+module _ (h : ℕ) (cache : List (List Way)) (old new : FlatState) (change : IsChangeBeside h cache old new) where
+  armed_view : (before : ℕ) (swap : Swap) → IsAcquire old h cache before swap → (n : ℕ) → 1 ≤ n → n ≤ before →
+      view_of (alone new h n) h ≡ view_of (alone old h n) h
+  armed_view zero swap is n some within = absurd (omega (arith, some, within))
+  armed_view (suc before) swap (run, is) n some within =
+      (armed_runs_survive h cache (record { count = n; word = swap.word }) old new
+      (shorter_armed old h cache (record { count = suc before; word = swap.word }) n run some within) change).1.view
+
+  first_touch : (before : ℕ) (swap : Swap) → IsAcquire old h cache before swap → (other : ℕ) → other ≤ before → IsAcquire new h cache other swap →
+      next_access new h ≡ next_access old h
+  first_touch zero swap is other within there =
+      let none : other ≡ 0 = omega (arith, within) in
+      let again = subst (λ n. AcquiresAt new h n swap) none (acquires_at new h cache other swap there) in
+      again.stores.writes ∙ sym (acquires_at old h cache zero swap is).stores.writes
+  first_touch (suc before) swap (run, is) other within there =
+      let again = (armed_runs_survive h cache (record { count = suc before; word = swap.word }) old new run change).0 in
+      (reserves new h swap.word again.reserve).reads ∙ sym (reserves old h swap.word run.reserve).reads
 
 module _ (h : ℕ) (cache : List (List Way)) (section : Section) (old new : FlatState) (view : HartView) (hold : List Entry)
     (run : IsCoveredRun old h cache section) (change : IsChangeBeside h cache old new) (marked : HoldsMarked cache hold)
@@ -46,22 +96,30 @@ module _ (h : ℕ) (cache : List (List Way)) (section : Section) (old new : Flat
   shows = (survives h cache section old new run change).1
 
   -- each instruction touches the same
-  places : (n : ℕ) → SamePlaces (alone old h n) (alone new h n)
-  places n =
-      let left = alone_shape old h n in
-      let right = alone_shape new h n in
-      record {
-        base = right.base ∙ change.base ∙ sym left.base;
-        code = right.code ∙ change.code ∙ sym left.code;
-        size = right.size ∙ change.size ∙ sym left.size;
-      }
+  same_view : (n : ℕ) → 1 ≤ n → n ≤ section.count → view_of (alone new h n) h ≡ view_of (alone old h n) h
+  same_view n some within = by (cases_lt run.before n)
+    where
+      by : (run.before < n) ⊎ (n ≤ run.before) → view_of (alone new h n) h ≡ view_of (alone old h n) h
+      by (inl past) =
+          (survives h cache (record section { count = n }) old new (shorter old h cache section n run past within) change).1.view
+      by (inr before) =
+          armed_view h cache old new change run.before (record { word = section.word; old = section.old; new = section.new }) run.acquire n some before
+
+  -- at the start
+  start_touch : next_access new h ≡ next_access old h
+  start_touch =
+      let some = run.some in
+      let first = (survives h cache (record section { count = run.before + 1 }) old new
+      (shorter old h cache section (run.before + 1) run (omega arith) (omega (arith, some))) change).0 in
+      let within = first.some in
+      first_touch h cache old new change run.before (record { word = section.word; old = section.old; new = section.new }) run.acquire first.before
+      (omega (arith, within)) first.acquire
 
   same_touch : (n : ℕ) → n < section.count → next_access (alone new h n) h ≡ next_access (alone old h n) h
-  same_touch zero less = (acquires new h _ new_run.acquire).stores.writes ∙ sym (acquires old h _ run.acquire).stores.writes
+  same_touch zero less = start_touch
   same_touch (suc n) less =
       let left = alone old h (suc n) in
-      let part = (survives h cache (record section { count = suc n }) old new (shorter old h cache section (suc n) run (omega arith) (omega arith)) change).1 in
-      same_access left (alone new h (suc n)) h (places (suc n)) part.view
+      same_access left (alone new h (suc n)) h (places_at h cache old new change (suc n)) (same_view (suc n) (omega arith) (omega arith))
       (first_not (calls (next_insn left h)) (stops (next_execution left h)) (goes_on_at old h cache section run (suc n) less))
 
   same_line : (n : ℕ) → n < section.count → written_line (footprint_of (alone new h n) h) ≡ written_line (footprint_of (alone old h n) h)
@@ -115,3 +173,19 @@ module _ (h : ℕ) (cache : List (List Way)) (section : Section) (old new : Flat
 
 pub kept_survive : KeptRunsSurvive
 kept_survive h cache section old new view hold run change marked keeps = kept_new h cache section old new view hold run change marked keeps
+
+-- the word of an armed section lies on a line with the read bit
+kept_value : (h : ℕ) (cache : List (List Way)) (armed : Armed) (old new : FlatState) → IsArmedRun old h cache armed → IsChangeBeside h cache old new →
+    loaded (byte_in new.base new.bytes) armed.word 4 ≡ loaded (byte_in old.base old.bytes) armed.word 4
+kept_value h cache armed old new run change =
+    let reads = (reserves old h armed.word run.reserve).reads in
+    let bit = or_left (read_bit cache (line_number armed.word)) (write_bit cache (line_number armed.word)) run.read in
+    let on : IsOnBit cache (next_touch old h) = rw reads bit in
+    let agree = agree_there old new h cache change.base change.bytes on in
+    loaded-same (byte_in new.base new.bytes) (byte_in old.base old.bytes) armed.word 4 (λ k low high. (rw reads at agree) k (low, high))
+
+pub kept_armed_survive : KeptArmedRunsSurvive
+kept_armed_survive h cache armed old new value view run change keeps = record {
+  view = keeps.view ∙ sym (armed_runs_survive h cache armed old new run change).1.view;
+  found = keeps.found ∙ sym (kept_value h cache armed old new run change);
+}

@@ -1,14 +1,17 @@
--- what the code keeps of a live section, its present view and its buffered stores, against the private run of the definition
+-- what the code keeps of a live section, its present view and its buffered stores, and of an armed one, its view and its word's value,
+-- against the private run of the definition
 use Rattle.std.specs.Prelude.{ℕ, ◌≡◌, ◌≤◌, ◌<◌, ◌+◌, ◌↔◌, Bool, true, ◌||◌, ◌==◌, List, None, Some, slice_index, unwrap_or}
 use Rattle.cache_sets.specs.Cache.{write_bit}
 use Rattle.cache_sets.specs.Residency.{Way}
 use Rattle.core_step.specs.Port.{stored}
 use Rattle.el_base.specs.Line.{line_number}
-use Rattle.el_model.specs.State.{Section}
+use Rattle.el_model.specs.State.{Armed, Section}
 use Rattle.rv_alu.specs.Execution.{Execution, perform}
+use Rattle.rv_alu.specs.Loaded.{loaded}
 use Rattle.rv_alu.specs.declared.view.HartView.{HartView}
 use Rattle.rv_flat.specs.FlatState.{FlatState, view_of}
 use Rattle.rv_flat.specs.Laws.{footprint_of, written_line}
+use Rattle.rv_flat.specs.Memory.{byte_in}
 use Rattle.rv_flat.specs.Run.{alone}
 use Rattle.rv_flat.specs.Step.{action_of}
 use Rattle.run_laws.specs.PrivateRun.{IsOutsideWord}
@@ -38,6 +41,11 @@ pub record KeepsRun (committed : FlatState) (h : ℕ) (section : Section) (now :
   pub free : (address : ℕ) → section.word ≤ address → address < section.word + 4 → held hold address ≡ None
   -- the lines that they have written are the lock word's and those that are held
   pub written : (line : ℕ) → WroteLine committed h section.count line ↔ (is_written section.word hold line ≡ true)
+
+-- the view that is kept of an armed section tells what its private run has come to, and a value is that of its word
+pub record KeepsArmed (committed : FlatState) (h : ℕ) (armed : Armed) (old : ℕ) (now : HartView) : Type 0 where
+  pub view : now ≡ view_of (alone committed h armed.count) h
+  pub found : old ≡ loaded (byte_in committed.base committed.bytes) armed.word 4
 
 -- each line that is held has the write bit
 abbrev pub HoldsMarked : List (List Way) → List Entry → Type 0

@@ -1,3 +1,4 @@
 pub mod KeptRun
 pub mod Release
 pub mod Laws
+pub mod ArmedLaws

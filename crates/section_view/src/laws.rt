@@ -1,3 +1,12 @@
+ghost use Rattle.section_view.specs.ArmedLaws.{
+  ArmedSectionsBegin,
+  ArmedSectionsComeTo,
+  ArmedSectionsElide,
+  ArmedSectionsGoOn,
+  ConditionalsAct,
+  KeptArmedRunsSurvive,
+  ReservesAct,
+};
 ghost use Rattle.section_view.specs.Laws.{
   CommittedIsOfItsProgram,
   KeptRunsSurvive,
@@ -83,4 +92,44 @@ pub fn released_views_are_told()
 /// line where the program does.
 pub fn committed_is_of_its_program()
     ensures { CommittedIsOfItsProgram }
+{}
+
+/// Where a running hart comes to an LR, the view after it, with the value of its word, keeps the run of the section that
+/// arms there, of one instruction.
+pub fn armed_sections_begin()
+    ensures { ArmedSectionsBegin }
+{}
+
+/// The action of an LR that comes next reserves its word, and has the register that its instruction names.
+pub fn reserves_act()
+    ensures { ReservesAct }
+{}
+
+/// The instruction that comes next in an armed section, its action and what it touches are those that the kept view comes
+/// to in what is committed.
+pub fn armed_sections_come_to()
+    ensures { ArmedSectionsComeTo }
+{}
+
+/// After a quiet instruction the view after its action keeps the run with one instruction more. The action may be carried
+/// out over any bytes, since it touches no memory.
+pub fn armed_sections_go_on()
+    ensures { ArmedSectionsGoOn }
+{}
+
+/// The action of an SC that comes next, and succeeds, has the register, the word and the value that its instruction names.
+pub fn conditionals_act()
+    ensures { ConditionalsAct }
+{}
+
+/// At an SC that succeeds on its word an armed section becomes a live one: the SC finds the value that is kept, and the
+/// view after it and a hold of nothing keep the run of the live section, of one instruction more.
+pub fn armed_sections_elide()
+    ensures { ArmedSectionsElide }
+{}
+
+/// The same view and value keep an armed section's run after a change beside its hart, as another hart's event makes one
+/// that does not let it go.
+pub fn kept_armed_runs_survive()
+    ensures { KeptArmedRunsSurvive }
 {}

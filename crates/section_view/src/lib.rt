@@ -1,5 +1,6 @@
-//! Laws of what the code keeps of a live section: its hart's present view and its buffered stores tell what the
-//! section's private run has come to.
+//! Laws of what the code keeps of a live or an armed section: its hart's present view and its buffered stores tell what
+//! the section's private run has come to. An armed section stores nothing; beside its view the value is kept that its LR
+//! found.
 //!
 //! In the definition a live section shows what the steps of its hart alone come to, from what is committed now. Code
 //! runs each of its instructions once, and keeps the view and the bytes that were stored. The relation between the two
@@ -14,7 +15,9 @@
 mod laws;
 
 pub use laws::{
-    committed_is_of_its_program, kept_runs_survive, marks_stay, released_views_are_told,
-    releases_store_their_word, sections_begin, sections_come_to, sections_commit,
-    sections_do_as_shown, sections_go_on, sections_show_their_bytes, swaps_act,
+    armed_sections_begin, armed_sections_come_to, armed_sections_elide, armed_sections_go_on,
+    committed_is_of_its_program, conditionals_act, kept_armed_runs_survive, kept_runs_survive,
+    marks_stay, released_views_are_told, releases_store_their_word, reserves_act, sections_begin,
+    sections_come_to, sections_commit, sections_do_as_shown, sections_go_on,
+    sections_show_their_bytes, swaps_act,
 };

@@ -1,11 +1,13 @@
 -- a store of a test, which lies beside the lock word and has its bit
+use Rattle.std.specs.Prelude.{option_map}
 use Rattle.std.proofs.Common.{◌≡◌, ◌≤◌, ◌+◌, ◌⊎◌, ◌∙◌, ◌&&◌, ℕ, false, nat_lt, ap, arith, inl, inr, refl, sym}
 use Rattle.std.proofs.lemmas.Bool.Decides.{nat_tests}
 use Rattle.cache_sets.specs.Cache.{write_bit}
 use Rattle.rv_alu.specs.Footprint.{IsSize}
 use Rattle.rv_alu.specs.declared.action.Action.TheVariants as actions
-use Rattle.section_ctl.proofs.Shows.{at_live}
+use Rattle.section_ctl.proofs.Shows.{at_some}
 use Rattle.section_ctl.specs.Calls.{MayBuffer}
+use Rattle.section_ctl.specs.State.{section_of}
 use Rattle.section_ctl.proofs.tests.store.Goals as goal
 
 few : (len : ℕ) → IsSize len → len ≤ 4
@@ -22,8 +24,8 @@ pub spec_action-requires-clause-buffered : goal.spec_action-requires-clause-buff
 spec_action-requires-clause-buffered c =
     let action = actions.Store c.args.address c.args.len c.args.value in
     let size = c.is_size.ensures c.if-not-is_size.false in
-    at_live c.args.section.now.live c.live.result c.in-Some.live (λ section. MayBuffer c.args.section.now section c.args.sets.now action)
-    c.live.ensures c.in-Some.is (record {
+    at_some c.args.section.now.live _ (λ section. MayBuffer c.args.section.now section c.args.sets.now action)
+    (sym c.live.ensures.exact ∙ ap (option_map section_of) c.in-Some.is) (record {
       goes_on = refl;
       aligned = (size, c.if-address-len-ne0.false);
       unmixed = apart c.in-Some.live.word c.args.address c.args.len c.if-live-ne-LOCK.false size

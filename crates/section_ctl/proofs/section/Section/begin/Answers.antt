@@ -1,6 +1,6 @@
 -- a section begins
 use Rattle.std.proofs.Common.{◌∙◌, ap, refl, sym, subst}
-use Rattle.std.specs.Prelude.{IsSome, Some}
+use Rattle.std.specs.Prelude.{IsSome, None, Some}
 use Rattle.rv_alu.specs.Execution.{put_of, release_of}
 use Rattle.section_ctl.proofs.Begins.{begun_view, held_none, nothing_held}
 use Rattle.section_ctl.proofs.Shows.{begins_run}
@@ -30,6 +30,7 @@ returns-clause-begun c =
       marks = record { present = present k; mark = mark k };
       hold = c.self.inside.hold;
       live = Some (record { count = 1; word = c.args.word; old = c.args.old; new = c.args.new });
+      armed = None;
     })
     ∙ ap (λ state. begun_state state c.args.word c.args.old c.args.new c.args.rd.number) c.self.view_is
 

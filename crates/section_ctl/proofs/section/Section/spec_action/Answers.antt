@@ -1,36 +1,33 @@
--- a section goes on
-use Rattle.std.proofs.Common.{rules, sym, subst}
-use Rattle.std.specs.Prelude.{IfSome, option_map}
-use Rattle.cache_sets.specs.Cached.{cached_byte}
-use Rattle.section_ctl.proofs.Begins.{stays_live}
-use Rattle.section_ctl.proofs.Shows.{goes_on_run, if_some_map, marked_after, on_live}
+-- a live section goes on, or an armed one
+use Rattle.std.proofs.Common.{◌≡◌, ◌∙◌, Some, ap, sym}
+use Rattle.section_ctl.proofs.Arming.{continues_run}
+use Rattle.section_ctl.proofs.Shows.{at_some, goes_on_run, marked_after, of_some}
 use Rattle.section_ctl.specs.Calls.{MayBuffer}
-use Rattle.section_ctl.specs.State.{Stands, section_of, shown_state}
-use Rattle.section_view.specs.KeptRun.{section_byte}
+use Rattle.section_ctl.specs.PrivateRuns.{ContinuesRun, GoesOnRun}
+use Rattle.section_ctl.specs.State.{armed_in, live_in, reserved_of, section_of}
 use Rattle.section_ctl.proofs.section.Section.spec_action.Goals as goal
 
-pub invariant_of-self : goal.invariant_of-self
-invariant_of-self c =
-    let inside = c.self.inside in
-    let live = c.in-Some.live in
-    let cache = c.args.sets.now in
-    let was_live = subst (λ l. Stands inside.marks inside.hold (option_map section_of l)) c.in-Some.is c.self.invariant in
-    let at_view = subst (λ s. IfSome s.live (λ section. MayBuffer s section cache c.args.action)) (sym c.self.view_is) c.requires.buffered in
-    let may = subst
-    (λ l. IfSome (option_map section_of l)
-    (λ section. MayBuffer (shown_state inside.marks inside.hold inside.live) section cache c.args.action)) c.in-Some.is at_view in
-    stays_live inside.marks inside.hold c.run_over.new.hold (section_of live) _ c.args.action
-    (section_byte inside.hold.entries live.word live.new (cached_byte cache)) c.run_over.new.view was_live may.goes_on may.unmixed
-    c.run_over.ensures.view c.run_over.ensures.hold
+live : (c : goal.After-run_live) → c.args.self.now.live ≡ Some (section_of c.in-Live.live)
+live c = ap (λ state. state.live) (sym c.self.view_is) ∙ ap live_in c.in-Live.is
 
-pub returns-clause-ran : goal.returns-clause-ran
-returns-clause-ran c = search rules
+armed : (c : goal.After-run_armed) → c.args.self.now.armed ≡ Some (reserved_of c.in-Armed.reserved)
+armed c = ap (λ state. state.armed) (sym c.self.view_is) ∙ ap armed_in c.in-Armed.is
 
-pub returns-clause-marked : goal.returns-clause-marked
-returns-clause-marked c =
-    on_live c.args.self.now.live _ _ _ c.requires.live c.requires.buffered (returns-clause-ran c)
-    (λ section may ran. marked_after c.args.self.now _ section c.args.sets.now c.touch.new.sets c.args.action may.bit c.requires.marked ran c.touch.ensures)
+pub returns-in-Live-clause-marked : goal.returns-in-Live-clause-marked
+returns-in-Live-clause-marked c =
+    let section = section_of c.in-Live.live in
+    let may = of_some c.args.self.now.live section (λ s. MayBuffer c.args.self.now s c.args.sets.now c.args.action) (live c) c.requires.buffered in
+    marked_after c.args.self.now _ section c.args.sets.now c.run_live.new.sets c.args.action may.bit c.requires.marked c.run_live.ensures.ran
+    c.run_live.ensures.cache
 
-pub returns-clause-shows : goal.returns-clause-shows
-returns-clause-shows c =
-    if_some_map c.args.self.now.live _ _ (λ section ran. goes_on_run c.args.self.now _ section c.args.sets.now c.args.action ran) (returns-clause-ran c)
+pub returns-in-Live-clause-shows : goal.returns-in-Live-clause-shows
+returns-in-Live-clause-shows c =
+    let section = section_of c.in-Live.live in
+    at_some c.args.self.now.live section (λ s. GoesOnRun c.args.self.now c.run_live.new.self s c.args.sets.now c.args.action) (live c)
+    (goes_on_run c.args.self.now c.run_live.new.self section c.args.sets.now c.args.action c.run_live.ensures.ran)
+
+pub returns-in-Armed-clause-shows_armed : goal.returns-in-Armed-clause-shows_armed
+returns-in-Armed-clause-shows_armed c =
+    let reserved = reserved_of c.in-Armed.reserved in
+    at_some c.args.self.now.armed reserved (λ r. ContinuesRun c.args.self.now c.run_armed.new.self r c.args.action) (armed c)
+    (continues_run c.args.self.now c.run_armed.new.self reserved c.args.action c.run_armed.ensures)

@@ -1,21 +1,23 @@
 -- what a fate leaves of a hart
-use Rattle.std.proofs.Common.{◌≡◌, ◌∙◌, ℕ, ◌+◌, ◌≤◌, Bool, true, false, not, ◌&&◌, ◌==◌, List, [], ◌∷◌, length, Option, is_some, refl, ap, sym, if◌then◌else◌}
+use Rattle.std.proofs.Common.{◌≡◌, ◌∙◌, ℕ, ◌+◌, ◌≤◌, Bool, true, false, not, ◌&&◌, ◌==◌, List, [], ◌∷◌, length, Option, None, is_some}
+use Rattle.std.proofs.Common.{refl, ap, sym, if◌then◌else◌}
 use Rattle.bus_order.specs.Order.{Request}
 use Rattle.bus_order.proofs.LookUps.{own_test}
-use Rattle.cache_sets.specs.Cache.{cleared, has_marks}
-use Rattle.cache_sets.specs.Residency.{Way}
-use Rattle.cache_sets.proofs.MarkLemmas.{has_marks-cleared}
+use Rattle.cache_sets.specs.Cache.{cleared}
 use Rattle.el_base.specs.declared.config.Mode.{Mode}
 use Rattle.el_base.specs.declared.config.Mode.TheVariants.{Plain, Sle, Tlr}
 use Rattle.el_model.specs.Conflicts.{meets_bit, wins_over}
 use Rattle.el_model.specs.Face.{Fate, LosesTo, Stays, Unmet, after_fate, deferring, deferring_fate, fate_at, fate_of, winning_stamp}
+use Rattle.el_model.specs.Plain.{armed_count}
 use Rattle.el_model.specs.RollBack.{beaten, most_tries, out_of_section}
 use Rattle.el_model.specs.State.{Hart, ModelState, new_hart, post_all}
 use Rattle.el_model.proofs.Harts.{hart_of-past}
 use Rattle.el_model.proofs.Losing.{no_section_meets}
 use Rattle.mail.specs.Mailbox.{Message, posted}
+use Rattle.snoop.proofs.Changes.{cleared_if}
+use Rattle.snoop.proofs.Living.{TellsSection, live_unarmed, tells_cleared, tells_yet}
 use Rattle.snoop.specs.Agent.{agent_of, agent_seeing}
-use Rattle.snoop.specs.Settled.{in_removal, stamp_seen}
+use Rattle.snoop.specs.Settled.{in_removal, loses, stamp_seen}
 use Rattle.stamp.specs.Stamps.{Stamp}
 
 -- a try more or less is no matter of the bus
@@ -24,12 +26,22 @@ try_kept : {A : Type 0} (f : Hart → A) (hart : Hart) → ((h : Hart) (tries : 
 try_kept f hart same true = same hart 0 true
 try_kept f hart same false = same hart (hart.tries + 1) hart.fallback
 
--- a loser, as the bus sees it
-pub beaten_agent : (mode : Mode) (stamp : Option Stamp) (hart : Hart) →
+-- a loser, as the bus sees it: it was not armed
+out_of_section_agent : (hart : Hart) → armed_count hart.armed ≡ 0 → agent_of (out_of_section hart) ≡ agent_of hart
+out_of_section_agent hart none = ap (λ n. record (agent_of hart) { armed = n }) (sym none)
+
+pub beaten_agent : (mode : Mode) (stamp : Option Stamp) (hart : Hart) → armed_count hart.armed ≡ 0 →
     agent_of (beaten mode stamp hart) ≡ agent_seeing (in_removal mode stamp) (agent_of hart)
-beaten_agent Tlr stamp hart = refl
-beaten_agent Sle stamp hart = try_kept agent_of (out_of_section hart) (λ h tries fallback. refl) (hart.tries + 1 == most_tries)
-beaten_agent Plain stamp hart = try_kept agent_of (out_of_section hart) (λ h tries fallback. refl) (hart.tries + 1 == most_tries)
+beaten_agent Tlr stamp hart none = ap (agent_seeing stamp) (out_of_section_agent hart none)
+beaten_agent Sle stamp hart none =
+    try_kept agent_of (out_of_section hart) (λ h tries fallback. refl) (hart.tries + 1 == most_tries) ∙ out_of_section_agent hart none
+beaten_agent Plain stamp hart none =
+    try_kept agent_of (out_of_section hart) (λ h tries fallback. refl) (hart.tries + 1 == most_tries) ∙ out_of_section_agent hart none
+
+pub beaten_upstream : (mode : Mode) (stamp : Option Stamp) (hart : Hart) → (beaten mode stamp hart).upstream ≡ hart.upstream
+beaten_upstream Tlr stamp hart = refl
+beaten_upstream Sle stamp hart = try_kept (λ h. h.upstream) (out_of_section hart) (λ h tries fallback. refl) (hart.tries + 1 == most_tries)
+beaten_upstream Plain stamp hart = try_kept (λ h. h.upstream) (out_of_section hart) (λ h tries fallback. refl) (hart.tries + 1 == most_tries)
 
 pub beaten_cache : (mode : Mode) (stamp : Option Stamp) (hart : Hart) → (beaten mode stamp hart).cache ≡ cleared hart.cache
 beaten_cache Tlr stamp hart = refl
@@ -40,6 +52,15 @@ pub beaten_live : (mode : Mode) (stamp : Option Stamp) (hart : Hart) → is_some
 beaten_live Tlr stamp hart = refl
 beaten_live Sle stamp hart = try_kept (λ h. is_some h.section) (out_of_section hart) (λ h tries fallback. refl) (hart.tries + 1 == most_tries)
 beaten_live Plain stamp hart = try_kept (λ h. is_some h.section) (out_of_section hart) (λ h tries fallback. refl) (hart.tries + 1 == most_tries)
+
+beaten_armed : (mode : Mode) (stamp : Option Stamp) (hart : Hart) → (beaten mode stamp hart).armed ≡ None
+beaten_armed Tlr stamp hart = refl
+beaten_armed Sle stamp hart = try_kept (λ h. h.armed) (out_of_section hart) (λ h tries fallback. refl) (hart.tries + 1 == most_tries)
+beaten_armed Plain stamp hart = try_kept (λ h. h.armed) (out_of_section hart) (λ h tries fallback. refl) (hart.tries + 1 == most_tries)
+
+pub beaten_tells : (mode : Mode) (stamp : Option Stamp) (hart : Hart) → TellsSection (beaten mode stamp hart)
+beaten_tells mode stamp hart =
+    tells_cleared (beaten mode stamp hart) hart.cache (beaten_live mode stamp hart) (beaten_armed mode stamp hart) (beaten_cache mode stamp hart)
 
 deferring_agent : (mode : Mode) (stamp : Option Stamp) (hart : Hart) →
     agent_of (deferring mode stamp hart) ≡ agent_seeing (in_removal mode stamp) (agent_of hart)
@@ -57,39 +78,53 @@ deferring_section Tlr stamp hart = refl
 deferring_section Sle stamp hart = refl
 deferring_section Plain stamp hart = refl
 
--- a hart after its fate, as the bus sees it: its agent, its cache, and whether it has a section
-pub fate_agent : (state : ModelState) (head : Request) (fate : Fate) (hart : Hart) →
-    agent_of (after_fate state head fate hart) ≡ agent_seeing (stamp_seen state.config.mode state.order head fate) (agent_of hart)
-fate_agent state head Unmet hart = refl
-fate_agent state head Stays hart = deferring_agent state.config.mode head.stamp hart
-fate_agent state head (LosesTo winner) hart = beaten_agent state.config.mode (winning_stamp state head.line winner) hart
+deferring_armed : (mode : Mode) (stamp : Option Stamp) (hart : Hart) → (deferring mode stamp hart).armed ≡ hart.armed
+deferring_armed Tlr stamp hart = refl
+deferring_armed Sle stamp hart = refl
+deferring_armed Plain stamp hart = refl
 
-abbrev pub cache_left : Fate → List (List Way) → List (List Way)
-cache_left Unmet cache = cache
-cache_left Stays cache = cache
-cache_left (LosesTo winner) cache = cleared cache
+-- a hart after its fate, as the bus sees it: its agent, its cache, and whether it has a section
+pub fate_agent : (state : ModelState) (head : Request) (fate : Fate) (hart : Hart) → (loses fate ≡ true → armed_count hart.armed ≡ 0) →
+    agent_of (after_fate state head fate hart) ≡ agent_seeing (stamp_seen state.config.mode state.order head fate) (agent_of hart)
+fate_agent state head Unmet hart unarmed = refl
+fate_agent state head Stays hart unarmed = deferring_agent state.config.mode head.stamp hart
+fate_agent state head (LosesTo winner) hart unarmed =
+    beaten_agent state.config.mode (winning_stamp state head.line winner) hart (unarmed refl)
 
 pub fate_cache : (state : ModelState) (head : Request) (fate : Fate) (hart : Hart) →
-    (after_fate state head fate hart).cache ≡ cache_left fate hart.cache
+    (after_fate state head fate hart).cache ≡ cleared_if (loses fate) hart.cache
 fate_cache state head Unmet hart = refl
 fate_cache state head Stays hart = deferring_cache state.config.mode head.stamp hart
 fate_cache state head (LosesTo winner) hart = beaten_cache state.config.mode (winning_stamp state head.line winner) hart
 
-pub fate_live : (state : ModelState) (head : Request) (fate : Fate) (hart : Hart) → is_some hart.section ≡ has_marks hart.cache →
-    is_some (after_fate state head fate hart).section ≡ has_marks (after_fate state head fate hart).cache
-fate_live state head Unmet hart live = live
-fate_live state head Stays hart live =
-    ap is_some (deferring_section state.config.mode head.stamp hart) ∙ live
-    ∙ ap has_marks (sym (deferring_cache state.config.mode head.stamp hart))
-fate_live state head (LosesTo winner) hart live =
-    let stamp = winning_stamp state head.line winner in
-    beaten_live state.config.mode stamp hart ∙ sym (has_marks-cleared hart.cache)
-    ∙ ap has_marks (sym (beaten_cache state.config.mode stamp hart))
+pub fate_tells : (state : ModelState) (head : Request) (fate : Fate) (hart : Hart) → TellsSection hart →
+    TellsSection (after_fate state head fate hart)
+fate_tells state head Unmet hart told = told
+fate_tells state head Stays hart told =
+    let mode = state.config.mode in
+    tells_yet hart (deferring mode head.stamp hart) (deferring_section mode head.stamp hart) (deferring_armed mode head.stamp hart)
+    (deferring_cache mode head.stamp hart) told
+fate_tells state head (LosesTo winner) hart told = beaten_tells state.config.mode (winning_stamp state head.line winner) hart
+
+-- a loser had a live section, and was not armed
+loser_lives : (apart live meets : Bool) (met : Fate) → loses (if (apart && live) && meets then met else Unmet) ≡ true → live ≡ true
+loser_lives true true meets met lost = refl
+loser_lives true false meets met lost = absurd (cc)
+loser_lives false live meets met lost = absurd (cc)
+
+pub loser_unarmed : (state : ModelState) (head : Request) (h : ℕ) (hart : Hart) → TellsSection hart → loses (fate_of state head h hart) ≡ true →
+    armed_count hart.armed ≡ 0
+loser_unarmed state head h hart told lost =
+    live_unarmed hart told (loser_lives (not (head.hart == h)) (is_some hart.section) (meets_bit hart head.line head.need) _ lost)
 
 -- messages are no matter of the cache and of the section
 pub post_all_cache : (hart : Hart) (messages : List Message) → (post_all hart messages).cache ≡ hart.cache
 post_all_cache hart [] = refl
 post_all_cache hart (message ∷ messages) = post_all_cache (record hart { mail = posted hart.mail message }) messages
+
+pub post_all_armed : (hart : Hart) (messages : List Message) → (post_all hart messages).armed ≡ hart.armed
+post_all_armed hart [] = refl
+post_all_armed hart (message ∷ messages) = post_all_armed (record hart { mail = posted hart.mail message }) messages
 
 pub post_all_section : (hart : Hart) (messages : List Message) → (post_all hart messages).section ≡ hart.section
 post_all_section hart [] = refl

@@ -1,5 +1,5 @@
 -- what the bus shows before the first event
-use Rattle.std.proofs.Common.{◌≡◌, ◌∙◌, ◌<◌, ◌≤◌, ℕ, zero, suc, ◌*◌, true, false, [], length, replicate, Option, None, Some, is_some, refl, ap, sym, arith}
+use Rattle.std.proofs.Common.{◌≡◌, ◌∙◌, ◌<◌, ◌≤◌, ℕ, zero, suc, ◌*◌, true, false, [], length, replicate, Option, None, Some, refl, ap, sym, subst, arith}
 use Rattle.std.specs.Prelude.{slice_index_or}
 use Rattle.std.proofs.lemmas.Bool.Decides.{nat_tests}
 use Rattle.std.proofs.lemmas.List.{length-replicate}
@@ -19,6 +19,7 @@ use Rattle.el_base.specs.declared.config.ConfigFault.TheVariants.{Harts, Sets}
 use Rattle.el_model.specs.State.{Hart, begin, new_hart}
 use Rattle.elf_image.specs.Program.{Program}
 use Rattle.rv_flat.specs.FlatState.{start}
+use Rattle.snoop.proofs.Living.{TellsSection}
 use Rattle.snoop.specs.Agent.{agent_at, agent_of, new_agent}
 use Rattle.snoop.specs.Shows.{IsReady, Kept, Shows}
 
@@ -47,9 +48,9 @@ no_marks : (sets : ℕ) → has_marks (empty_cache sets) ≡ false
 no_marks zero = refl
 no_marks (suc sets) = no_marks sets
 
-none_live : (harts sets h : ℕ) → (let hart = slice_index_or (replicate harts (new_hart sets)) h (new_hart 0) in is_some hart.section ≡ has_marks hart.cache)
-none_live zero sets h = refl
-none_live (suc harts) sets zero = sym (no_marks sets)
+none_live : (harts sets h : ℕ) → TellsSection (slice_index_or (replicate harts (new_hart sets)) h (new_hart 0))
+none_live zero sets h = record { live = refl; arms = refl }
+none_live (suc harts) sets zero = record { live = rw (no_marks sets) refl; arms = refl }
 none_live (suc harts) sets (suc h) = none_live harts sets h
 
 -- the parts of the bus before the first event
@@ -81,7 +82,8 @@ shows_first program config bus one_each new = record {
       ∙ ap (λ n. agent_of (hart_in n config.sets h)) (sym one_each);
   caches = λ h. ap (λ caches. (cache_at caches h).residency) new.caches ∙ caches_new config.harts config.ways config.sets h
       ∙ ap (λ n. (hart_in n config.sets h).cache) (sym one_each);
-  live = λ h. none_live program.harts config.sets h;
+  live = λ h. (none_live program.harts config.sets h).live;
+  arms = λ h. (none_live program.harts config.sets h).arms;
   order = new.order;
   memory = record { first = new.first; lines = new.lines };
   bytes = new.bytes;
@@ -110,6 +112,7 @@ ready_first program config bus in_range new = record {
   ordered = λ h request is. absurd (not_some _ request (none_ordered h) is);
   once = λ hart. rw new.order (omega arith);
   one_request = λ h request is. absurd (not_some _ request (none_raised h) is);
+  few_armed = λ h. subst (λ agents. (agent_at agents h).armed ≤ 15) (sym new.agents) (none_armed config.harts h);
 }
   where
     well_formed_new : (harts ways sets h : ℕ) → 0 < sets → h < harts →
@@ -122,6 +125,11 @@ ready_first program config bus in_range new = record {
     asked_nothing zero h = refl
     asked_nothing (suc harts) zero = refl
     asked_nothing (suc harts) (suc h) = asked_nothing harts h
+
+    none_armed : (harts h : ℕ) → (agent_at (replicate harts new_agent) h).armed ≤ 15
+    none_armed zero h = omega arith
+    none_armed (suc harts) zero = omega arith
+    none_armed (suc harts) (suc h) = none_armed harts h
 
     none_raised : (h : ℕ) → (agent_at bus.agents h).raised ≡ None
     none_raised h = ap (λ agents. (agent_at agents h).raised) new.agents ∙ asked_nothing config.harts h

@@ -1,16 +1,17 @@
 -- where a request meets a section, as the bus tells it
-use Rattle.std.proofs.Common.{◌≡◌, ◌∙◌, ℕ, ◌==◌, ◌&&◌, Bool, true, false, not, Option, Some, None, is_some, refl, ap, sym}
+use Rattle.std.proofs.Common.{◌≡◌, ◌∙◌, ℕ, ◌==◌, ◌&&◌, Bool, true, false, not, Option, Some, None, is_some, refl, ap}
 use Rattle.bus_order.specs.Order.{Request}
 use Rattle.cache_sets.specs.Bits.{bits_of, has_need}
-use Rattle.cache_sets.specs.Cache.{bit_in, has_marks}
+use Rattle.cache_sets.specs.Cache.{bit_in}
 use Rattle.cache_sets.specs.Residency.{Way}
 use Rattle.coherence.specs.Caches.{cache_at}
 use Rattle.el_base.specs.declared.outcomes.Need.{Need}
 use Rattle.el_base.specs.declared.outcomes.Need.TheVariants.{Read, Write}
 use Rattle.el_model.specs.Conflicts.{conflicts, meets_bit}
 use Rattle.el_model.specs.State.{Hart, ModelState, hart_of}
+use Rattle.snoop.proofs.Living.{lives_shown}
 use Rattle.snoop.specs.Meets.{meets_in}
-use Rattle.snoop.specs.Shows.{Kept, Shows}
+use Rattle.snoop.specs.Shows.{Kept, Shows, lives_at}
 
 read_by : (read write : Bool) (line : ℕ) (letter : _) →
     has_need Read (bits_of (Some (record { line = line; letter = letter; read = read; write = write }))) ≡ read
@@ -45,11 +46,10 @@ and_twice false b c = refl
 
 -- the test that the bus makes is the definition's
 pub conflicts_shown : (bus : Kept) (state : ModelState) (request : Request) (h : ℕ) → Shows bus state →
-    (not (request.hart == h)
-    && (has_marks (cache_at bus.copies.caches h).residency && meets_in (cache_at bus.copies.caches h).residency request.line request.need))
+    (not (request.hart == h) && (lives_at bus h && meets_in (cache_at bus.copies.caches h).residency request.line request.need))
     ≡ conflicts request h (hart_of state h)
 conflicts_shown bus state request h shows =
-    ap (λ cache. not (request.hart == h) && (has_marks cache && meets_in cache request.line request.need)) (shows.caches h)
-    ∙ ap (λ live. not (request.hart == h) && (live && meets_in (hart_of state h).cache request.line request.need)) (sym (shows.live h))
+    ap (λ cache. not (request.hart == h) && (lives_at bus h && meets_in cache request.line request.need)) (shows.caches h)
+    ∙ ap (λ live. not (request.hart == h) && (live && meets_in (hart_of state h).cache request.line request.need)) (lives_shown bus state h shows)
     ∙ ap (λ meets. not (request.hart == h) && (is_some (hart_of state h).section && meets)) (meets_same (hart_of state h) request.line request.need)
     ∙ and_twice (not (request.hart == h)) (is_some (hart_of state h).section) (meets_bit (hart_of state h) request.line request.need)

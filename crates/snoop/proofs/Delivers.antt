@@ -52,13 +52,13 @@ shows_posts (message ∷ messages) bus state to shows =
     (with_hart state to (record (hart_of state to) { mail = posted (hart_of state to).mail message })) to
     (shows_agent bus state to (agent_posted message (agent_at bus.agents to))
     (record (hart_of state to) { mail = posted (hart_of state to).mail message }) shows
-    (ap (agent_posted message) (shows.agents to)) refl refl))
+    (ap (agent_posted message) (shows.agents to)) refl refl refl))
 
 pub ready_posts : (messages : List Message) (bus : Kept) (to : ℕ) → IsReady bus → IsReady (record bus { agents = posts_sent messages to bus.agents })
 ready_posts [] bus to ready = ready
 ready_posts (message ∷ messages) bus to ready =
     ready_posts messages (record bus { agents = with_agent bus.agents to (agent_posted message (agent_at bus.agents to)) }) to
-    (ready_agent bus to (agent_posted message (agent_at bus.agents to)) ready (λ request is. is))
+    (ready_agent bus to (agent_posted message (agent_at bus.agents to)) ready (λ request is. is) (ready.few_armed to))
 
 -- probes of those that a test takes are such messages
 pub probes_posted : (test : ℕ → Bool) (numbers : List ℕ) (to : ℕ) (agents : List Agent) →
@@ -118,7 +118,7 @@ marker_shows bus state h sender shows =
     (shows_posts (Probe h ∷ passed_on bus h sender (request_of bus.order h))
     (record bus { agents = with_agent bus.agents h (agent_behind sender (agent_at bus.agents h)) })
     behind sender
-    (shows_agent bus state h (agent_behind sender (agent_at bus.agents h)) _ shows (ap (agent_behind sender) (shows.agents h)) refl refl))
+    (shows_agent bus state h (agent_behind sender (agent_at bus.agents h)) _ shows (ap (agent_behind sender) (shows.agents h)) refl refl refl))
   where
     behind : ModelState
     behind = with_hart state h (record (hart_of state h) { upstream = included (hart_of state h).upstream sender })
@@ -127,7 +127,7 @@ pub marker_ready : (bus : Kept) (h sender : ℕ) → IsReady bus → IsReady (re
 marker_ready bus h sender ready =
     ready_posts (Probe h ∷ passed_on bus h sender (request_of bus.order h))
     (record bus { agents = with_agent bus.agents h (agent_behind sender (agent_at bus.agents h)) }) sender
-    (ready_agent bus h (agent_behind sender (agent_at bus.agents h)) ready (λ request is. is))
+    (ready_agent bus h (agent_behind sender (agent_at bus.agents h)) ready (λ request is. is) (ready.few_armed h))
 
 -- what the bus keeps as some origins were looked at
 pub record PassesOn (old now : Kept) (h to line number : ℕ) : Type 0 where
@@ -199,10 +199,10 @@ pub taken_shows : (bus : Kept) (state : ModelState) (h : ℕ) → Shows bus stat
     Shows (record bus { agents = with_agent bus.agents h (agent_taken (agent_at bus.agents h)) }) (taken state h (without_oldest (hart_of state h).mail))
 taken_shows bus state h shows =
     shows_agent bus state h (agent_taken (agent_at bus.agents h)) (record (hart_of state h) { mail = without_oldest (hart_of state h).mail }) shows
-    (ap agent_taken (shows.agents h)) refl refl
+    (ap agent_taken (shows.agents h)) refl refl refl
 
 pub taken_ready : (bus : Kept) (h : ℕ) → IsReady bus → IsReady (record bus { agents = with_agent bus.agents h (agent_taken (agent_at bus.agents h)) })
-taken_ready bus h ready = ready_agent bus h (agent_taken (agent_at bus.agents h)) ready (λ request is. is)
+taken_ready bus h ready = ready_agent bus h (agent_taken (agent_at bus.agents h)) ready (λ request is. is) (ready.few_armed h)
 
 -- an event with a message, and one without
 pub delivers : (state : ModelState) (h : ℕ) (message : Message) → oldest (hart_of state h).mail ≡ Some message →

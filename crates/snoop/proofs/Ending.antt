@@ -31,6 +31,7 @@ ready_ended bus copies h ready inside ended = ready_after bus (record bus { copi
   once = ready.once;
   raised = λ g asked is. record { is = is; room = room g asked.line };
   ordered = λ g asked is. record { is = is; room = room g asked.line };
+  few_armed = ready.few_armed;
 })
   where
     room : (g line : ℕ) → has_room bus.copies g line ≡ true → has_room copies g line ≡ true

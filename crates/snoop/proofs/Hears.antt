@@ -1,13 +1,12 @@
 -- the bus shows what the definition makes of a probe
-use Rattle.std.proofs.Common.{◌≡◌, ◌≢◌, ◌∙◌, ℕ, ◌<◌, ◌==◌, ◌&&◌, not, Bool, true, false, List, length, Option, Some, None, is_some, refl}
+use Rattle.std.proofs.Common.{◌≡◌, ◌≢◌, ◌∙◌, ℕ, ◌<◌, ◌≤◌, ◌==◌, ◌&&◌, not, Bool, true, false, List, length, Option, Some, None, is_some, refl}
 use Rattle.std.proofs.Common.{ap, sym, subst, inl, inr, arith, if◌then◌else◌}
 use Rattle.std.proofs.lemmas.Bool.{cases_eq, cases_lt}
 use Rattle.std.proofs.lemmas.List.{length-set}
 use Rattle.std.specs.Prelude.{IfSome}
 use Rattle.bus_order.specs.Order.{IsOneEach, Request, request_of}
-use Rattle.cache_sets.specs.Cache.{cleared, has_marks, room_of}
+use Rattle.cache_sets.specs.Cache.{cleared, room_of}
 use Rattle.cache_sets.specs.WellFormed.{IsWellFormed}
-use Rattle.cache_sets.proofs.MarkLemmas.{has_marks-cleared}
 use Rattle.cache_sets.proofs.WellFormedLemmas.{well_formed-cleared}
 use Rattle.coherence.specs.Beginning.{line_of}
 use Rattle.coherence.specs.Caches.{cache_at}
@@ -18,10 +17,11 @@ use Rattle.el_base.specs.Losers.{beaten_by}
 use Rattle.el_base.specs.declared.losers.Losers.{Losers}
 use Rattle.el_base.proofs.MadeLosers.{beaten_by-beyond, beaten_by-losers_of}
 use Rattle.el_base.proofs.SameLosers.{same_losers}
-use Rattle.el_model.specs.Conflicts.{stamp_in}
+use Rattle.el_model.specs.Conflicts.{conflicts_with, meets_bit, retains, stamp_in}
 use Rattle.el_model.specs.Deliver.{after_probe, forwarded, forwards_on, loses_to_origin, one_lost, told_of}
+use Rattle.el_model.specs.Plain.{armed_count}
 use Rattle.el_model.specs.RollBack.{beaten}
-use Rattle.el_model.specs.State.{Hart, ModelState, cache_of, each_hart, hart_of, with_hart}
+use Rattle.el_model.specs.State.{Hart, ModelState, armed_of, cache_of, each_hart, hart_of, head_of, with_hart}
 use Rattle.el_model.proofs.Harts.{hart_of-with_hart_other, hart_of-with_hart_same, with_hart_kept}
 use Rattle.el_model.proofs.Tests.{by_test}
 use Rattle.mail.specs.Mailbox.{Probe, posted}
@@ -29,8 +29,9 @@ use Rattle.snoop.specs.Agent.{Agent, agent_at, agent_of, agent_posted, with_agen
 use Rattle.snoop.specs.Delivering.{Forwards, IsForwarded, IsLostTo, agent_heard, asks_on}
 use Rattle.snoop.specs.Settled.{in_removal}
 use Rattle.snoop.specs.Shows.{IsReady, Kept, LiesWhere, Shows}
-use Rattle.snoop.proofs.AfterFate.{beaten_agent, beaten_cache, beaten_live}
-use Rattle.snoop.proofs.Ready.{asks_agent, ready_after}
+use Rattle.snoop.proofs.AfterFate.{beaten_agent, beaten_cache, beaten_tells, beaten_upstream}
+use Rattle.snoop.proofs.Living.{TellsSection, live_unarmed, tells, tells_yet}
+use Rattle.snoop.proofs.Ready.{asks_agent, few_armed_yet, ready_after}
 use Rattle.snoop.proofs.Showing.{agent_other, agent_past, agent_same, count_with_agent, lies_yet, shows_agent, shows_each}
 
 -- a hart that does not lose
@@ -41,7 +42,7 @@ heard_shows bus state h origin request shows stays =
     let told = record (hart_of state h) { told = included (hart_of state h).told origin } in
     subst (λ hart. Shows (record bus { agents = with_agent bus.agents h (agent_heard origin None (agent_at bus.agents h)) }) (with_hart state h hart))
     (sym (ap (λ loses. if loses then beaten state.config.mode (stamp_in request) told else told) stays))
-    (shows_agent bus state h (agent_heard origin None (agent_at bus.agents h)) told shows (ap (agent_heard origin None) (shows.agents h)) refl refl)
+    (shows_agent bus state h (agent_heard origin None (agent_at bus.agents h)) told shows (ap (agent_heard origin None) (shows.agents h)) refl refl refl)
 
 -- a hart that loses
 abbrev lost_hart : ModelState → ℕ → ℕ → Option Request → Hart
@@ -59,25 +60,50 @@ lost_there : (state : ModelState) (h origin : ℕ) (request : Option Request) (g
 lost_there state h origin request g other = hart_of-with_hart_other state h g (lost_hart state h origin request) other
 
 lost_agent : (bus : Kept) (state : ModelState) (h origin : ℕ) (request : Option Request) → Shows bus state →
+    armed_count (armed_of state h) ≡ 0 →
     agent_heard origin (in_removal bus.mode (stamp_in request)) (agent_at bus.agents h) ≡ agent_of (lost_hart state h origin request)
-lost_agent bus state h origin request shows =
+lost_agent bus state h origin request shows unarmed =
     ap (λ mode. agent_heard origin (in_removal mode (stamp_in request)) (agent_at bus.agents h)) shows.mode
     ∙ ap (agent_heard origin (in_removal state.config.mode (stamp_in request))) (shows.agents h)
-    ∙ sym (beaten_agent state.config.mode (stamp_in request) (record (hart_of state h) { told = included (hart_of state h).told origin }))
+    ∙ sym (beaten_agent state.config.mode (stamp_in request) (record (hart_of state h) { told = included (hart_of state h).told origin }) unarmed)
 
 lost_cache : (state : ModelState) (h origin : ℕ) (request : Option Request) → (lost_hart state h origin request).cache ≡ cleared (cache_of state h)
 lost_cache state h origin request =
     beaten_cache state.config.mode (stamp_in request) (record (hart_of state h) { told = included (hart_of state h).told origin })
 
-lost_live : (state : ModelState) (h origin : ℕ) (request : Option Request) →
-    is_some (lost_hart state h origin request).section ≡ has_marks (lost_hart state h origin request).cache
-lost_live state h origin request =
-    beaten_live state.config.mode (stamp_in request) (record (hart_of state h) { told = included (hart_of state h).told origin })
-    ∙ sym (has_marks-cleared (cache_of state h)) ∙ ap has_marks (sym (lost_cache state h origin request))
+lost_tells : (bus : Kept) (state : ModelState) (h origin : ℕ) (request : Option Request) → Shows bus state → h < length bus.agents → (g : ℕ) →
+    TellsSection (hart_of (with_hart state h (lost_hart state h origin request)) g)
+lost_tells bus state h origin request shows inside g = elim (cases_eq g h) [
+  | inl same ↦
+      subst TellsSection (sym (lost_here bus state h origin request shows inside g same))
+      (beaten_tells state.config.mode (stamp_in request) (record (hart_of state h) { told = included (hart_of state h).told origin }))
+  | inr other ↦ subst TellsSection (sym (lost_there state h origin request g other)) (tells shows g)
+]
+
+-- a hart that loses to an origin had a live section, and was not armed
+loser_lives : (head : Option Request) (h : ℕ) (hart : Hart) → conflicts_with head h hart ≡ true → is_some hart.section ≡ true
+loser_lives None h hart is = absurd (cc)
+loser_lives (Some head) h hart is = by (not (head.hart == h)) (is_some hart.section) (meets_bit hart head.line head.need) is
+  where
+    by : (apart live meets : Bool) → ((apart && live) && meets) ≡ true → live ≡ true
+    by true true meets is = refl
+    by true false meets is = absurd (cc)
+    by false live meets is = absurd (cc)
+
+loser_unarmed : (bus : Kept) (state : ModelState) (h : ℕ) (request : Option Request) → Shows bus state → loses_to_origin state h request ≡ true →
+    armed_count (armed_of state h) ≡ 0
+loser_unarmed bus state h None shows loses = absurd (cc)
+loser_unarmed bus state h (Some request) shows loses =
+    live_unarmed (hart_of state h) (tells shows h)
+    (loser_lives (head_of state request.line) h (hart_of state h) (first (retains state h request.line) _ loses))
+  where
+    first : (a b : Bool) → (a && b) ≡ true → a ≡ true
+    first true b is = refl
+    first false b is = absurd (cc)
 
 lost_is_shown : (bus new : Kept) (state : ModelState) (h origin : ℕ) (request : Option Request) → Shows bus state → h < length bus.agents →
-    IsLostTo h origin request bus new → Shows new (with_hart state h (lost_hart state h origin request))
-lost_is_shown bus new state h origin request shows inside lost =
+    armed_count (armed_of state h) ≡ 0 → IsLostTo h origin request bus new → Shows new (with_hart state h (lost_hart state h origin request))
+lost_is_shown bus new state h origin request shows inside unarmed lost =
     let same_harts = length-set state.harts h (lost_hart state h origin request) in
     record {
       mode = lost.mode ∙ shows.mode;
@@ -92,7 +118,7 @@ lost_is_shown bus new state h origin request shows inside lost =
       agents = λ g. ap (λ agents. agent_at agents g) lost.agents ∙ elim (cases_eq g h) [
         | inl same ↦ ap (agent_at (with_agent bus.agents h (agent_heard origin (in_removal bus.mode (stamp_in request)) (agent_at bus.agents h)))) same
             ∙ agent_same bus.agents h (agent_heard origin (in_removal bus.mode (stamp_in request)) (agent_at bus.agents h)) inside
-            ∙ lost_agent bus state h origin request shows
+            ∙ lost_agent bus state h origin request shows unarmed
             ∙ ap agent_of (sym (lost_here bus state h origin request shows inside g same))
         | inr other ↦ agent_other bus.agents h g (agent_heard origin (in_removal bus.mode (stamp_in request)) (agent_at bus.agents h)) other ∙ shows.agents g
             ∙ ap agent_of (sym (lost_there state h origin request g other))
@@ -104,12 +130,8 @@ lost_is_shown bus new state h origin request shows inside lost =
         | inr other ↦ ap (λ cache. cache.residency) (lost.copies.others g other) ∙ shows.caches g
             ∙ ap (λ hart. hart.cache) (sym (lost_there state h origin request g other))
       ];
-      live = λ g. elim (cases_eq g h) [
-        | inl same ↦ let here = lost_here bus state h origin request shows inside g same in
-            ap (λ hart. is_some hart.section) here ∙ lost_live state h origin request ∙ ap (λ hart. has_marks hart.cache) (sym here)
-        | inr other ↦ let there = lost_there state h origin request g other in
-            ap (λ hart. is_some hart.section) there ∙ shows.live g ∙ ap (λ hart. has_marks hart.cache) (sym there)
-      ];
+      live = λ g. (lost_tells bus state h origin request shows inside g).live;
+      arms = λ g. (lost_tells bus state h origin request shows inside g).arms;
       order = lost.order ∙ shows.order;
       memory = lies_yet bus.copies new.copies state.committed lost.copies.stays.first lost.copies.stays.lines shows.memory;
       bytes = lost.copies.stays.coherent (line_of state.committed) shows.bytes;
@@ -120,7 +142,7 @@ pub lost_shows : (bus new : Kept) (state : ModelState) (h origin : ℕ) (request
 lost_shows bus new state h origin request shows inside loses lost =
     subst (λ hart. Shows new (with_hart state h hart))
     (sym (ap (λ test. if test then lost_hart state h origin request else record (hart_of state h) { told = included (hart_of state h).told origin }) loses))
-    (lost_is_shown bus new state h origin request shows inside lost)
+    (lost_is_shown bus new state h origin request shows inside (loser_unarmed bus state h request shows loses) lost)
 
 pub lost_ready : (bus new : Kept) (h origin : ℕ) (request : Option Request) → IsReady bus → h < length bus.agents →
     IsLostTo h origin request bus new → IsReady new
@@ -140,11 +162,16 @@ lost_ready bus new h origin request ready inside lost = ready_after bus new read
   };
   once = subst IsOneEach (sym lost.order) ready.once;
   raised = λ g asked is. record {
-    is = ((asks_agent bus h (agent_heard origin (in_removal bus.mode (stamp_in request)) (agent_at bus.agents h)) ready (λ r was. was)).raised g asked
+    is = ((asks_agent bus h (agent_heard origin (in_removal bus.mode (stamp_in request)) (agent_at bus.agents h)) ready (λ r was. was)
+        (ready.few_armed h)).raised g asked
         (ap (λ agents. (agent_at agents g).raised) (sym lost.agents) ∙ is)).is;
     room = room g asked.line;
   };
   ordered = λ g asked is. record { is = ap (λ order. request_of order g) (sym lost.order) ∙ is; room = room g asked.line };
+  few_armed = λ g.
+      subst (λ agents. (agent_at agents g).armed ≤ 15) (sym lost.agents)
+      (few_armed_yet bus.agents h (agent_heard origin (in_removal bus.mode (stamp_in request)) (agent_at bus.agents h)) ready.few_armed
+      (ready.few_armed h) g);
 })
   where
     room : (g line : ℕ) → has_room bus.copies g line ≡ true → has_room new.copies g line ≡ true
@@ -233,8 +260,12 @@ forward_shows bus new before told h origin request shows order upstream forward 
           ∙ chosen_agent (forwards_on before h origin request g) origin (hart_of told g);
       caches = λ g below. ap (λ copies. (cache_at copies.caches g).residency) forward.copies ∙ shows.caches g
           ∙ sym (chosen_kept (λ hart. hart.cache) (forwards_on before h origin request g) origin (hart_of told g) refl);
-      live = λ g below. chosen_kept (λ hart. is_some hart.section) (forwards_on before h origin request g) origin (hart_of told g) refl ∙ shows.live g
-          ∙ ap has_marks (sym (chosen_kept (λ hart. hart.cache) (forwards_on before h origin request g) origin (hart_of told g) refl));
+      told = λ g below.
+          let test = forwards_on before h origin request g in
+          let posts = chosen_kept (λ hart. hart.cache) test origin (hart_of told g) refl in
+          tells_yet (hart_of told g) (forwarded before h origin request g (hart_of told g))
+          (chosen_kept (λ hart. hart.section) test origin (hart_of told g) refl)
+          (chosen_kept (λ hart. hart.armed) test origin (hart_of told g) refl) posts (tells shows g);
       memory = subst (λ copies. LiesWhere copies told.committed) (sym forward.copies) shows.memory;
       bytes = subst (λ copies. TellsOf copies (line_of told.committed)) (sym forward.copies) shows.bytes;
     }))
@@ -260,6 +291,15 @@ forward_ready bus new h origin request ready forward = ready_after bus new ready
     is = ap (λ order. request_of order g) (sym forward.order) ∙ is;
     room = λ room. ap (λ copies. has_room copies g asked.line) forward.copies ∙ room;
   };
+  few_armed = λ g. elim (cases_lt g (length bus.agents)) [
+    | inl below ↦
+        subst (λ n. n ≤ 15)
+        (sym (ap (λ (a : Agent). a.armed) ((forwarded_agents _ _ origin bus.agents new.agents forward.agents).1 g below)
+        ∙ kept_armed _ (agent_at bus.agents g))) (ready.few_armed g)
+    | inr past ↦
+        subst (λ (a : Agent). a.armed ≤ 15)
+        (agent_past bus.agents g past ∙ sym (agent_past new.agents g (omega (arith, past, count)))) (ready.few_armed g)
+  ];
 })
   where
     count : length new.agents ≡ length bus.agents
@@ -268,6 +308,10 @@ forward_ready bus new h origin request ready forward = ready_after bus new ready
     kept_raised : (test : Bool) (agent : Agent) → (if test then agent_posted (Probe origin) agent else agent).raised ≡ agent.raised
     kept_raised true agent = refl
     kept_raised false agent = refl
+
+    kept_armed : (test : Bool) (agent : Agent) → (if test then agent_posted (Probe origin) agent else agent).armed ≡ agent.armed
+    kept_armed true agent = refl
+    kept_armed false agent = refl
 
     before : (g : ℕ) (asked : Request) → (agent_at new.agents g).raised ≡ Some asked → (agent_at bus.agents g).raised ≡ Some asked
     before g asked is = elim (cases_lt g (length bus.agents)) [
@@ -280,7 +324,8 @@ forward_ready bus new h origin request ready forward = ready_after bus new ready
 -- a hart that hears of an origin, and does not lose
 pub heard_ready : (bus : Kept) (h origin : ℕ) → IsReady bus →
     IsReady (record bus { agents = with_agent bus.agents h (agent_heard origin None (agent_at bus.agents h)) })
-heard_ready bus h origin ready = ready_after bus _ ready (asks_agent bus h (agent_heard origin None (agent_at bus.agents h)) ready (λ r was. was))
+heard_ready bus h origin ready =
+    ready_after bus _ ready (asks_agent bus h (agent_heard origin None (agent_at bus.agents h)) ready (λ r was. was) (ready.few_armed h))
 
 -- the hart has heard of the origin, and the probe was forwarded
 pub probe_shows : (mid new : Kept) (state : ModelState) (h origin : ℕ) (request : Option Request) →
@@ -294,6 +339,6 @@ probe_shows mid new state h origin request shows forward =
     told_upstream =
         by_test (λ hart. hart.upstream ≡ (hart_of state h).upstream) (loses_to_origin state h request) (lost_hart state h origin request)
         (record (hart_of state h) { told = included (hart_of state h).told origin })
-        (λ loses. ap (λ agent. agent.upstream)
-        (beaten_agent state.config.mode (stamp_in request) (record (hart_of state h) { told = included (hart_of state h).told origin })))
+        (λ loses. beaten_upstream state.config.mode (stamp_in request)
+        (record (hart_of state h) { told = included (hart_of state h).told origin }))
         (λ stays. refl)

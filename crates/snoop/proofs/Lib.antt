@@ -1,10 +1,15 @@
+pub mod Living
 mod Showing
 mod EachAgent
 mod Ready
 mod Facing
+mod Changes
 mod Settles
 mod LosersBelow
 mod AfterFate
+mod Noting
+mod Freeing
+mod LettingGo
 pub mod Conflicts
 mod Wanted
 mod Firsts

@@ -1,14 +1,16 @@
 -- a raised request takes its place in the order
-use Rattle.std.proofs.Common.{◌≡◌, ◌≢◌, ◌∙◌, ℕ, List, length, Option, Some, None, ap, sym, arith, inl, inr}
+use Rattle.std.proofs.Common.{◌≡◌, ◌≢◌, ◌∙◌, ℕ, List, length, Option, Some, None, refl, ap, sym, arith, inl, inr}
 use Rattle.std.proofs.lemmas.Bool.{cases_eq, cases_lt}
 use Rattle.bus_order.proofs.LookUps.{request_of_appended_other, request_of_appended_own, request_of_in_front_of_other, request_of_in_front_of_own}
 use Rattle.bus_order.proofs.Orders.{one_each_appended, one_each_in_front_of}
 use Rattle.bus_order.specs.Order.{IsOneEach, Request, appended, in_front_of, request_of}
+use Rattle.el_model.specs.Order.{unraised}
+use Rattle.el_model.specs.State.{ModelState, hart_of}
 use Rattle.mail.specs.Mailbox.{Marker}
-use Rattle.snoop.proofs.Ready.{ready_agent, served_yet}
-use Rattle.snoop.proofs.Showing.{agent_other, agent_past, agent_same, count_with_agent}
+use Rattle.snoop.proofs.Ready.{few_armed_yet, ready_agent, served_yet}
+use Rattle.snoop.proofs.Showing.{agent_other, agent_past, agent_same, count_with_agent, shows_agent}
 use Rattle.snoop.specs.Agent.{Agent, agent_at, agent_posted, with_agent}
-use Rattle.snoop.specs.Shows.{CanBeServed, IsReady, Kept}
+use Rattle.snoop.specs.Shows.{CanBeServed, IsReady, Kept, Shows}
 
 -- a request is no more a raised one, and this is the order
 abbrev pub ordered_as : Kept → Request → List Request → Kept
@@ -84,6 +86,8 @@ ready_ordered bus request order ready raised placed = record {
   one_request = λ h other is.
       let before = other_raised bus request h other is in
       placed.others h before.0 ∙ ready.one_request h other before.1;
+  few_armed = few_armed_yet bus.agents request.hart (record (agent_at bus.agents request.hart) { raised = None }) ready.few_armed
+      (ready.few_armed request.hart);
 }
   where
     count : length (with_agent bus.agents request.hart (record (agent_at bus.agents request.hart) { raised = None })) ≡ length bus.agents
@@ -92,9 +96,31 @@ ready_ordered bus request order ready raised placed = record {
     still : (h : ℕ) (other : Request) → CanBeServed bus h other → CanBeServed (ordered_as bus request order) h other
     still h other can = served_yet bus (ordered_as bus request order) h other count (λ inside. inside) (λ room. room) can
 
+-- it is shown so where the state's order is this one
+pub shows_ordered : (bus : Kept) (state : ModelState) (request : Request) (order told : List Request) → Shows bus state → order ≡ told →
+    Shows (ordered_as bus request order) (record (unraised state request.hart) { order = told })
+shows_ordered bus state request order told shows is =
+    let quiet : Agent → Agent = λ agent. record agent { raised = None } in
+    let shown =
+    shows_agent bus state request.hart (quiet (agent_at bus.agents request.hart)) (record (hart_of state request.hart) { raised = None }) shows
+    (ap quiet (shows.agents request.hart)) refl refl refl in
+    record {
+      mode = shown.mode;
+      ways = shown.ways;
+      agent_each = shown.agent_each;
+      cache_each = shown.cache_each;
+      agents = shown.agents;
+      caches = shown.caches;
+      live = shown.live;
+      arms = shown.arms;
+      order = is;
+      memory = shown.memory;
+      bytes = shown.bytes;
+    }
+
 -- a marker that is sent
 abbrev pub with_marker : Kept → ℕ → ℕ → Kept
 with_marker bus from to = record bus { agents = with_agent bus.agents to (agent_posted (Marker from) (agent_at bus.agents to)) }
 
 pub ready_marker : (bus : Kept) (from to : ℕ) → IsReady bus → IsReady (with_marker bus from to)
-ready_marker bus from to ready = ready_agent bus to (agent_posted (Marker from) (agent_at bus.agents to)) ready (λ request is. is)
+ready_marker bus from to ready = ready_agent bus to (agent_posted (Marker from) (agent_at bus.agents to)) ready (λ request is. is) (ready.few_armed to)

@@ -1,13 +1,16 @@
 -- a hart that has no request raises one
-use Rattle.std.proofs.Common.{◌≡◌, ◌≢◌, ◌∙◌, ℕ, ◌<◌, true, length, Some, refl, ap, sym, arith, inl, inr}
+use Rattle.std.proofs.Common.{◌≡◌, ◌≢◌, ◌∙◌, ℕ, ◌<◌, true, length, None, Some, refl, ap, sym, arith, inl, inr}
 use Rattle.std.proofs.lemmas.Bool.{cases_eq}
 use Rattle.bus_order.specs.Order.{Request, request_of}
 use Rattle.coherence.specs.Served.{HasLine, has_room}
-use Rattle.snoop.proofs.Ready.{served_yet}
-use Rattle.snoop.proofs.Showing.{agent_other, agent_same, count_with_agent}
-use Rattle.snoop.specs.Agent.{Agent, agent_at, with_agent}
+use Rattle.el_base.specs.declared.outcomes.Need.{Need}
+use Rattle.el_model.specs.Plain.{missed_hart}
+use Rattle.el_model.specs.State.{ModelState, hart_of, with_hart}
+use Rattle.snoop.proofs.Ready.{few_armed_yet, served_yet}
+use Rattle.snoop.proofs.Showing.{agent_other, agent_same, count_with_agent, shows_agent}
+use Rattle.snoop.specs.Agent.{Agent, agent_at, agent_of, with_agent}
 use Rattle.snoop.specs.Asking.{HasNoRequest}
-use Rattle.snoop.specs.Shows.{CanBeServed, IsReady, Kept}
+use Rattle.snoop.specs.Shows.{CanBeServed, IsReady, Kept, Shows}
 
 -- an agent that has raised a request
 abbrev pub raising : Kept → Request → Agent
@@ -33,6 +36,7 @@ ready_raised bus request ready inside none in_memory room = record {
     | inl own ↦ ap (request_of bus.order) own ∙ none.none_ordered
     | inr apart ↦ ready.one_request h other (before h other apart is)
   ];
+  few_armed = few_armed_yet bus.agents request.hart (raising bus request) ready.few_armed (ready.few_armed request.hart);
 }
   where
     count : length (with_agent bus.agents request.hart (raising bus request)) ≡ length bus.agents
@@ -57,3 +61,17 @@ ready_raised bus request ready inside none in_memory room = record {
         same request other
         (sym (ap (λ a. a.raised) (ap (agent_at (with_agent bus.agents request.hart (raising bus request))) own
         ∙ agent_same bus.agents request.hart (raising bus request) inside)) ∙ is)
+
+-- a hart that holds nothing has missed a line, with the stamp of its open attempt
+abbrev asking : ℕ → ℕ → Need → Agent → Agent
+asking h line need agent = record agent { raised = Some (record { hart = h; line = line; need = need; stamp = agent.attempt }) }
+
+pub shows_raised : (bus : Kept) (state : ModelState) (h line : ℕ) (need : Need) → Shows bus state → (agent_at bus.agents h).held ≡ None →
+    Shows (raised_in bus (record { hart = h; line = line; need = need; stamp = (agent_at bus.agents h).attempt }))
+    (with_hart state h (missed_hart h line need (hart_of state h)))
+shows_raised bus state h line need shows nothing =
+    shows_agent bus state h (asking h line need (agent_at bus.agents h)) (missed_hart h line need (hart_of state h)) shows
+    (ap (asking h line need) (shows.agents h)
+    ∙ ap (λ held. record (asking h line need (agent_of (hart_of state h))) { held = held })
+    (sym (ap (λ agent. agent.held) (shows.agents h)) ∙ nothing))
+    refl refl refl

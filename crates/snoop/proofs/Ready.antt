@@ -1,5 +1,5 @@
 -- what a call leaves is ready for the next one
-use Rattle.std.proofs.Common.{◌≡◌, ◌∙◌, ℕ, ◌<◌, true, length, Option, Some, None, refl, ap, sym, inl, inr, arith}
+use Rattle.std.proofs.Common.{◌≡◌, ◌∙◌, ℕ, ◌<◌, ◌≤◌, true, List, length, Option, Some, None, refl, ap, sym, subst, inl, inr, arith}
 use Rattle.std.proofs.lemmas.Bool.{cases_eq, cases_lt}
 use Rattle.bus_order.specs.Order.{IsOneEach, Request, request_of}
 use Rattle.cache_sets.specs.WellFormed.{IsWellFormed}
@@ -24,6 +24,7 @@ pub record AsksNoMore (bus new : Kept) : Type 0 where
   pub once : IsOneEach new.order
   pub raised : (h : ℕ) (request : Request) → (agent_at new.agents h).raised ≡ Some request → Stood bus new h (agent_at bus.agents h).raised request
   pub ordered : (h : ℕ) (request : Request) → request_of new.order h ≡ Some request → Stood bus new h (request_of bus.order h) request
+  pub few_armed : (h : ℕ) → (agent_at new.agents h).armed ≤ 15
 
 pub served_yet : (bus new : Kept) (h : ℕ) (request : Request) → length new.agents ≡ length bus.agents →
     (HasLine bus.copies request.line → HasLine new.copies request.line) →
@@ -47,6 +48,7 @@ ready_after bus new ready after = record {
       served_yet bus new h request after.agent_each (after.inside request.line) stood.room (ready.ordered h request stood.is);
   once = after.once;
   one_request = λ h request is. none h (request_of new.order h) refl (ready.one_request h request (after.raised h request is).is);
+  few_armed = after.few_armed;
 }
   where
     none : (h : ℕ) (found : Option Request) → request_of new.order h ≡ found → request_of bus.order h ≡ None → request_of new.order h ≡ None
@@ -57,11 +59,26 @@ ready_after bus new ready after = record {
         both None first second = absurd (cc)
         both (Some request) first second = absurd (cc)
 
+-- the counts that are noted, after one agent has changed
+pub few_armed_yet : (agents : List Agent) (h : ℕ) (agent : Agent) → ((g : ℕ) → (agent_at agents g).armed ≤ 15) → agent.armed ≤ 15 →
+    (g : ℕ) → (agent_at (with_agent agents h agent) g).armed ≤ 15
+few_armed_yet agents h agent few here g = elim (cases_eq g h) [
+  | inl own ↦ elim (cases_lt h (length agents)) [
+    | inl below ↦
+        subst (λ a. a.armed ≤ 15) (sym (ap (agent_at (with_agent agents h agent)) own ∙ agent_same agents h agent below)) here
+    | inr past ↦
+        subst (λ a. a.armed ≤ 15)
+        (agent_past agents g (omega (arith, past, own))
+        ∙ sym (agent_past (with_agent agents h agent) g (omega (arith, past, own, count_with_agent agents h agent)))) (few g)
+  ]
+  | inr other ↦ subst (λ a. a.armed ≤ 15) (sym (agent_other agents h g agent other)) (few g)
+]
+
 -- one agent has changed, and has raised no other request
 pub asks_agent : (bus : Kept) (h : ℕ) (agent : Agent) → IsReady bus →
-    ((request : Request) → agent.raised ≡ Some request → (agent_at bus.agents h).raised ≡ Some request) →
+    ((request : Request) → agent.raised ≡ Some request → (agent_at bus.agents h).raised ≡ Some request) → agent.armed ≤ 15 →
     AsksNoMore bus (record bus { agents = with_agent bus.agents h agent })
-asks_agent bus h agent ready raises = record {
+asks_agent bus h agent ready raises few = record {
   coherent = ready.coherent;
   agent_each = count_with_agent bus.agents h agent;
   cache_each = refl;
@@ -70,6 +87,7 @@ asks_agent bus h agent ready raises = record {
   once = ready.once;
   raised = λ g request is. record { is = before g request is; room = λ room. room };
   ordered = λ g request is. record { is = is; room = λ room. room };
+  few_armed = few_armed_yet bus.agents h agent ready.few_armed few;
 }
   where
     before : (g : ℕ) (request : Request) → (agent_at (with_agent bus.agents h agent) g).raised ≡ Some request → (agent_at bus.agents g).raised ≡ Some request
@@ -85,6 +103,6 @@ asks_agent bus h agent ready raises = record {
         ]
 
 pub ready_agent : (bus : Kept) (h : ℕ) (agent : Agent) → IsReady bus →
-    ((request : Request) → agent.raised ≡ Some request → (agent_at bus.agents h).raised ≡ Some request) →
+    ((request : Request) → agent.raised ≡ Some request → (agent_at bus.agents h).raised ≡ Some request) → agent.armed ≤ 15 →
     IsReady (record bus { agents = with_agent bus.agents h agent })
-ready_agent bus h agent ready raises = ready_after bus _ ready (asks_agent bus h agent ready raises)
+ready_agent bus h agent ready raises few = ready_after bus _ ready (asks_agent bus h agent ready raises few)

@@ -1,10 +1,10 @@
 -- a lent cache is given back: the bus is ready again, and shows what was done
-use Rattle.std.proofs.Common.{◌≡◌, ◌≢◌, ◌∙◌, ℕ, ◌<◌, List, true, length, is_some, ap, sym, subst, inl, inr, arith}
+use Rattle.std.proofs.Common.{◌≡◌, ◌≢◌, ◌∙◌, ℕ, ◌<◌, ◌==◌, List, true, not, length, ap, sym, subst, inl, inr, arith}
 use Rattle.std.specs.Prelude.{slice_set}
 use Rattle.std.proofs.lemmas.Bool.{cases_eq}
 use Rattle.std.proofs.lemmas.List.{get_or-set_other, get_or-set_same, length-set}
 use Rattle.bus_order.specs.Order.{Request, request_of}
-use Rattle.cache_sets.specs.Cache.{has_marks, room_of, touched}
+use Rattle.cache_sets.specs.Cache.{room_of, touched}
 use Rattle.cache_sets.specs.Cached.{Cached}
 use Rattle.cache_sets.specs.Calls.{IsLettered, IsTouched}
 use Rattle.cache_sets.specs.WellFormed.{IsWellFormed}
@@ -14,14 +14,16 @@ use Rattle.coherence.specs.GivenBack.{IsStoredIn, bytes_with}
 use Rattle.coherence.specs.Served.{has_room}
 use Rattle.coherence.proofs.GivenBackLaws.{tells_stored}
 use Rattle.coherence.proofs.LineLaws.{none_is}
-use Rattle.el_model.specs.State.{Hart, ModelState, hart_of}
+use Rattle.el_model.specs.Plain.{armed_count}
+use Rattle.el_model.specs.State.{Hart, ModelState, armed_of, hart_of}
 use Rattle.el_model.proofs.Harts.{hart_of-with_hart_other, hart_of-with_hart_same}
 use Rattle.moesi.specs.declared.letter.Letter.TheVariants.{M}
 use Rattle.rv_flat.specs.FlatState.{FlatState}
+use Rattle.snoop.proofs.Living.{TellsSection, tells}
 use Rattle.snoop.specs.Agent.{agent_at, agent_of}
 use Rattle.snoop.specs.Asking.{HasNoRequest}
 use Rattle.snoop.specs.Returned.{IsReturned, IsReturnedAs, returned, state_with}
-use Rattle.snoop.specs.Shows.{CanBeServed, IsReady, Kept, Shows}
+use Rattle.snoop.specs.Shows.{CanBeServed, IsReady, Kept, Shows, lives}
 
 -- the caches after one was given back
 returned_same : (bus : Kept) (h : ℕ) (cache : Cached) → h < length bus.copies.caches → cache_at (returned bus h cache).copies.caches h ≡ cache
@@ -62,6 +64,7 @@ ready_returned bus h cache inside ready back = record {
   ];
   once = ready.once;
   one_request = ready.one_request;
+  few_armed = ready.few_armed;
 }
   where
     still : (g : ℕ) (request : Request) → CanBeServed bus g request → has_room (returned bus h cache).copies g request.line ≡ true →
@@ -119,12 +122,8 @@ shows_returned bus state h cache hart committed inside shows back = record {
     | inr other ↦ ap (λ c. c.residency) (returned_other bus h g cache other) ∙ shows.caches g
         ∙ ap (λ k. k.cache) (sym (hart_of-with_hart_other state h g hart other))
   ];
-  live = λ g. elim (cases_eq g h) [
-    | inl own ↦ ap (λ k. is_some k.section) (own_hart g own) ∙ back.live ∙ ap has_marks (sym back.residency)
-        ∙ ap (λ k. has_marks k.cache) (sym (own_hart g own))
-    | inr other ↦ ap (λ k. is_some k.section) (hart_of-with_hart_other state h g hart other) ∙ shows.live g
-        ∙ ap (λ k. has_marks k.cache) (sym (hart_of-with_hart_other state h g hart other))
-  ];
+  live = λ g. (all_told g).live;
+  arms = λ g. (all_told g).arms;
   order = shows.order;
   memory = record { first = back.memory.first; lines = back.memory.lines };
   bytes = back.bytes;
@@ -140,3 +139,18 @@ shows_returned bus state h cache hart committed inside shows back = record {
     own_hart g own =
         ap (hart_of (state_with state h hart committed)) own
         ∙ hart_of-with_hart_same state h hart (omega (arith, inside, shows.cache_each))
+
+    same_count : armed_count hart.armed ≡ armed_count (armed_of state h)
+    same_count = ap (λ agent. agent.armed) back.agent
+
+    told : TellsSection hart
+    told = record {
+      live = back.live ∙ ap (λ cache. lives cache (armed_count hart.armed)) (sym back.residency);
+      arms = back.armed ∙ shows.arms h ∙ ap (λ n. not (n == 0)) (sym same_count);
+    }
+
+    all_told : (g : ℕ) → TellsSection (hart_of (state_with state h hart committed) g)
+    all_told g = elim (cases_eq g h) [
+      | inl own ↦ subst TellsSection (sym (own_hart g own)) told
+      | inr other ↦ subst TellsSection (sym (hart_of-with_hart_other state h g hart other)) (tells shows g)
+    ]

@@ -1,5 +1,5 @@
 -- the markers that are sent, as the agents have them and as the definition has them
-use Rattle.std.proofs.Common.{◌≡◌, ◌≢◌, ◌∙◌, ℕ, zero, suc, ◌+◌, ◌<◌, Bool, cond, List, [], ◌∷◌, length, map, is_some, refl, ap, sym, arith}
+use Rattle.std.proofs.Common.{◌≡◌, ◌≢◌, ◌∙◌, ℕ, zero, suc, ◌+◌, ◌<◌, ◌≤◌, Bool, cond, List, [], ◌∷◌, length, map, is_some, refl, ap, sym, subst, arith}
 use Rattle.std.specs.List.{filter}
 use Rattle.el_base.specs.declared.config.Mode.{Mode}
 use Rattle.el_base.specs.declared.config.Mode.TheVariants.{Plain, Sle, Tlr}
@@ -7,10 +7,12 @@ use Rattle.bus_order.specs.Order.{Request}
 use Rattle.el_model.specs.Face.{Fate, LosesTo, Stays, Unmet, fate_at, markers_for, stays}
 use Rattle.el_model.specs.State.{Hart, ModelState, count_up, post_all}
 use Rattle.mail.specs.Mailbox.{Marker, Message, posted}
+use Rattle.snoop.proofs.Ready.{ready_after}
 use Rattle.snoop.proofs.Showing.{agent_other, agent_same, count_with_agent}
 use Rattle.snoop.specs.Agent.{Agent, agent_at, agent_of, agent_posted, with_agent}
 use Rattle.snoop.specs.Fates.{fate_in, numbered_fate}
 use Rattle.snoop.specs.Settled.{marker_sent, markers_sent, sent_in}
+use Rattle.snoop.specs.Shows.{IsReady, Kept}
 use Rattle.snoop.specs.declared.fates.Fate as fates
 
 -- what a change of one agent keeps, every agent keeps
@@ -144,3 +146,21 @@ pub posted_count : (mode : Mode) (known : List fates.Fate) (to : ℕ) (agents : 
 posted_count Tlr known to agents = count_sent 0 known to agents
 posted_count Sle known to agents = refl
 posted_count Plain known to agents = refl
+
+-- messages ask nothing of the bus
+pub sent_ready : (bus : Kept) (known : List fates.Fate) (to : ℕ) → IsReady bus → IsReady (record bus { agents = sent_in bus.mode known to bus.agents })
+sent_ready bus known to ready = ready_after bus (record bus { agents = sent_in bus.mode known to bus.agents }) ready (record {
+  coherent = ready.coherent;
+  agent_each = posted_count bus.mode known to bus.agents;
+  cache_each = refl;
+  well_formed = ready.well_formed;
+  inside = λ line has. has;
+  once = ready.once;
+  raised = λ h request is. record {
+    is = sym (posted_kept (λ agent. agent.raised) bus.mode known to bus.agents h (λ message agent. refl)) ∙ is;
+    room = λ room. room;
+  };
+  ordered = λ h request is. record { is = is; room = λ room. room };
+  few_armed = λ h.
+      subst (λ n. n ≤ 15) (sym (posted_kept (λ agent. agent.armed) bus.mode known to bus.agents h (λ message agent. refl))) (ready.few_armed h);
+})

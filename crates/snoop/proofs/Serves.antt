@@ -1,5 +1,5 @@
 -- the bus shows what the definition makes of a served request, and is ready for what comes next
-use Rattle.std.proofs.Common.{◌≡◌, ◌≢◌, ◌∙◌, ℕ, suc, ◌+◌, ◌<◌, ◌==◌, ◌&&◌, ◌||◌, not, Bool, true, false, List, [], ◌∷◌, length}
+use Rattle.std.proofs.Common.{◌≡◌, ◌≢◌, ◌∙◌, ℕ, suc, ◌+◌, ◌<◌, ◌≤◌, ◌==◌, ◌&&◌, ◌||◌, not, Bool, true, false, List, [], ◌∷◌, length}
 use Rattle.std.proofs.Common.{Option, Some, None, is_some, refl, ap, sym, subst, inl, inr, arith, if◌then◌else◌}
 use Rattle.std.specs.List.{list_any}
 use Rattle.std.proofs.lemmas.Bool.{cases_eq, cases_lt}
@@ -22,12 +22,14 @@ use Rattle.el_base.specs.declared.outcomes.Need.TheVariants.{Write}
 use Rattle.el_model.specs.Conflicts.{meets_bit}
 use Rattle.el_model.specs.Serve.{Free, bystander, obstacle_to, others_cache, others_have, own_copy, served}
 use Rattle.el_model.specs.Serve.{served_hart, serving, with_claim}
-use Rattle.el_model.specs.State.{Hart, ModelState, Section, cache_of, count_up, each_hart, hart_of, is_live, section_of}
+use Rattle.el_model.specs.Plain.{armed_count}
+use Rattle.el_model.specs.State.{Armed, Hart, ModelState, Section, armed_of, cache_of, count_up, each_hart, hart_of, is_live, section_of}
 use Rattle.snoop.specs.Agent.{Agent, agent_at, agent_forgetting, agent_of, agent_served}
 use Rattle.snoop.specs.Serving.{CopiesClaim, CopiesServe, Serves, agent_after_serve, agent_claiming}
-use Rattle.snoop.specs.Shows.{CanBeServed, IsReady, Kept, Shows}
+use Rattle.snoop.specs.Shows.{CanBeServed, IsReady, Kept, Shows, lives, lives_at}
 use Rattle.section_laws.proofs.FreeLines.{unmet as section_unmet}
-use Rattle.snoop.proofs.Settles.{stays_twice}
+use Rattle.snoop.proofs.Changes.{stays_twice}
+use Rattle.snoop.proofs.Living.{TellsSection, lives_alike, lives_shown, lives_unarmed}
 use Rattle.snoop.proofs.Ready.{ready_after}
 use Rattle.section_laws.proofs.ServedCaches.{others_room, others_well_formed, own_after, own_after_well_formed}
 use Rattle.snoop.proofs.ServedMarks.{others_marks, own_after_marks}
@@ -131,17 +133,24 @@ claim_section : (live : Bool) (request : Request) (hart : Hart) → (with_claim 
 claim_section true request hart = refl
 claim_section false request hart = refl
 
+claim_armed : (live : Bool) (request : Request) (hart : Hart) → (with_claim live request hart).armed ≡ hart.armed
+claim_armed true request hart = refl
+claim_armed false request hart = refl
+
 claim_agent : (live : Bool) (request : Request) (hart : Hart) → agent_of (with_claim live request hart) ≡ agent_claiming live request.line (agent_of hart)
 claim_agent true request hart = refl
 claim_agent false request hart = refl
 
--- where it is to write, no other hart has a bit on its line
+-- where it is to write, no other hart that is not armed has a bit on its line
 unmet : (bus : Kept) (state : ModelState) (request : Request) (g : ℕ) → IsReady bus → Shows bus state → request_of bus.order request.hart ≡ Some request →
-    obstacle_to state request ≡ Free → g ≢ request.hart → request.need ≡ Write → has_bit (cache_of state g) request.line ≡ false
-unmet bus state request g ready shows ordered free apart write = by (section_of state g) refl
+    obstacle_to state request ≡ Free → armed_count (armed_of state g) ≡ 0 → g ≢ request.hart → request.need ≡ Write →
+    has_bit (cache_of state g) request.line ≡ false
+unmet bus state request g ready shows ordered free unarmed apart write = by (section_of state g) refl
   where
     by : (section : Option Section) → section_of state g ≡ section → has_bit (cache_of state g) request.line ≡ false
-    by None none = no_marks (cache_of state g) request.line (sym (shows.live g) ∙ ap is_some none)
+    by None none =
+        no_marks (cache_of state g) request.line
+        (sym (lives_unarmed (cache_of state g) _ unarmed) ∙ sym (shows.live g) ∙ ap is_some none)
     by (Some section) live =
         ap (meets_bit (hart_of state g) request.line) (sym write)
         ∙ section_unmet state request.hart g request section (subst IsOneEach shows.order ready.once)
@@ -169,8 +178,13 @@ serving_section state request g hart =
       | inr other ↦ ap (λ k. k.section) (at_other g request.hart (served_hart state request hart) (bystander state request hart) other)
     ]
 
-lives : (bus : Kept) (state : ModelState) (h : ℕ) → Shows bus state → has_marks (cache_at bus.copies.caches h).residency ≡ is_live state h
-lives bus state h shows = ap has_marks (shows.caches h) ∙ sym (shows.live h)
+serving_armed : (state : ModelState) (request : Request) (g : ℕ) (hart : Hart) → (serving state request g hart).armed ≡ hart.armed
+serving_armed state request g hart =
+    elim (cases_eq g request.hart) [
+      | inl same ↦ ap (λ k. k.armed) (at_own g request.hart (served_hart state request hart) (bystander state request hart) same)
+          ∙ claim_armed (is_some hart.section) request _
+      | inr other ↦ ap (λ k. k.armed) (at_other g request.hart (served_hart state request hart) (bystander state request hart) other)
+    ]
 
 -- the residency of each cache is the definition's
 served_cache : (bus new : Kept) (state : ModelState) (request : Request) → IsReady bus → Shows bus state → request.hart < length bus.agents →
@@ -180,7 +194,7 @@ served_cache bus new state request ready shows exists serves g below =
     elim (cases_eq g request.hart) [
       | inl same ↦ ap (λ k. (cache_at new.copies.caches k).residency) same
           ∙ serve_own _ request bus.copies new.copies serves.copies
-          ∙ ap (λ live. claimed_cache live request.line request.need (own_filled bus.copies request)) (lives bus state request.hart shows)
+          ∙ ap (λ live. claimed_cache live request.line request.need (own_filled bus.copies request)) (lives_shown bus state request.hart shows)
           ∙ ap (claimed_cache (is_live state request.hart) request.line request.need) filled
           ∙ sym (claim_cache (is_live state request.hart) request _)
           ∙ sym (ap (λ k. k.cache) (at_own request.hart request.hart
@@ -203,20 +217,21 @@ served_cache bus new state request ready shows exists serves g below =
         (others_same bus state request.hart request.line shows)
         ∙ ap (λ cache. own_after state.config.ways (others_have state request.hart request.line) request.need cache request.line) (shows.caches request.hart)
 
--- a cache of the state after has a bit where it had one
+-- a cache of a hart that is not armed has a bit where it had one
 served_marks : (bus new : Kept) (state : ModelState) (request : Request) → IsReady bus → Shows bus state → request_of bus.order request.hart ≡ Some request →
-    obstacle_to state request ≡ Free → Serves request bus new → (g : ℕ) → g < length bus.agents →
+    obstacle_to state request ≡ Free → Serves request bus new → (g : ℕ) → g < length bus.agents → armed_count (armed_of state g) ≡ 0 →
     has_marks (cache_at new.copies.caches g).residency ≡ has_marks (cache_at bus.copies.caches g).residency
-served_marks bus new state request ready shows ordered free serves g below =
+served_marks bus new state request ready shows ordered free serves g below unarmed =
     elim (cases_eq g request.hart) [
       | inl same ↦ ap (λ k. has_marks (cache_at new.copies.caches k).residency) same
           ∙ ap has_marks (serve_own _ request bus.copies new.copies serves.copies)
-          ∙ claimed (has_marks (cache_at bus.copies.caches request.hart).residency) refl
+          ∙ claimed (lives_at bus request.hart) (sym (lives_unarmed (cache_at bus.copies.caches request.hart).residency (agent_at bus.agents request.hart).armed
+          (noted request.hart ∙ ap (λ k. armed_count (armed_of state k)) (sym same) ∙ unarmed)))
           ∙ ap (λ k. has_marks (cache_at bus.copies.caches k).residency) (sym same)
       | inr other ↦ ap has_marks (serve_others _ request bus.copies new.copies serves.copies g other)
           ∙ others_marks (cache_at bus.copies.caches g).ways _ request.need (cache_at bus.copies.caches g).residency request.line
           (ready.well_formed g (omega (arith, below, ready.each)))
-          (λ write. ap (λ cache. has_bit cache request.line) (shows.caches g) ∙ unmet bus state request g ready shows ordered free other write)
+          (λ write. ap (λ cache. has_bit cache request.line) (shows.caches g) ∙ unmet bus state request g ready shows ordered free unarmed other write)
     ]
   where
     can : CanBeServed bus request.hart request
@@ -225,16 +240,38 @@ served_marks bus new state request ready shows ordered free serves g below =
     well : IsWellFormed (cache_at bus.copies.caches request.hart).ways (cache_at bus.copies.caches request.hart).residency
     well = ready.well_formed request.hart (omega (arith, can.hart_exists, ready.each))
 
+    noted : (h : ℕ) → (agent_at bus.agents h).armed ≡ armed_count (armed_of state h)
+    noted h = ap (λ agent. agent.armed) (shows.agents h)
+
     claimed : (live : Bool) → has_marks (cache_at bus.copies.caches request.hart).residency ≡ live →
-        has_marks (claimed_cache live request.line request.need (own_filled bus.copies request)) ≡ live
+        has_marks (claimed_cache live request.line request.need (own_filled bus.copies request))
+        ≡ has_marks (cache_at bus.copies.caches request.hart).residency
     claimed true is =
         has_marks-marked (cache_at bus.copies.caches request.hart).ways (own_filled bus.copies request) request.line request.need
         (own_after_well_formed (cache_at bus.copies.caches request.hart).ways _ request.need
         (cache_at bus.copies.caches request.hart).residency request.line well can.room)
-        (ap (λ cache. is_resident cache request.line) (sym serves.copies.served.own) ∙ serves.copies.served.here)
+        (ap (λ cache. is_resident cache request.line) (sym serves.copies.served.own) ∙ serves.copies.served.here) ∙ sym is
     claimed false is =
         own_after_marks (cache_at bus.copies.caches request.hart).ways _ request.need
-        (cache_at bus.copies.caches request.hart).residency request.line well can.room ∙ is
+        (cache_at bus.copies.caches request.hart).residency request.line well can.room
+
+-- it tells of each hart whether it has a live section
+served_tells : (bus new : Kept) (state : ModelState) (request : Request) → IsReady bus → Shows bus state → request_of bus.order request.hart ≡ Some request →
+    obstacle_to state request ≡ Free → Serves request bus new → (g : ℕ) → g < length bus.agents →
+    TellsSection (serving state request g (hart_of state g))
+served_tells bus new state request ready shows ordered free serves g below =
+    let can = ready.ordered request.hart request ordered in
+    let armed = serving_armed state request g (hart_of state g) in
+    record {
+      live =
+          ap is_some (serving_section state request g (hart_of state g)) ∙ shows.live g
+          ∙ lives_alike (cache_of state g) (serving state request g (hart_of state g)).cache (armed_count (armed_of state g))
+          (λ unarmed. ap has_marks (sym (shows.caches g))
+          ∙ sym (served_marks bus new state request ready shows ordered free serves g below unarmed)
+          ∙ ap has_marks (served_cache bus new state request ready shows can.hart_exists serves g below))
+          ∙ ap (λ (found : Option Armed). lives (serving state request g (hart_of state g)).cache (armed_count found)) (sym armed);
+      arms = rw armed (shows.arms g);
+    }
 
 -- the state that is shown
 pub serve_shows : (bus new : Kept) (state : ModelState) (request : Request) → IsReady bus → Shows bus state →
@@ -256,14 +293,11 @@ serve_shows bus new state request ready shows ordered free serves =
       ways = serve_ways _ request bus.copies new.copies serves.copies;
       agents = λ g below.
           serves.agents.each g below
-          ∙ ap (λ live. agent_after_serve live request g (agent_at bus.agents g)) (lives bus state request.hart shows)
+          ∙ ap (λ live. agent_after_serve live request g (agent_at bus.agents g)) (lives_shown bus state request.hart shows)
           ∙ ap (agent_after_serve (is_live state request.hart) request g) (shows.agents g)
           ∙ served_agent state request g (hart_of state g) (λ same. refl);
       caches = served_cache bus new state request ready shows can.hart_exists serves;
-      live = λ g below.
-          ap is_some (serving_section state request g (hart_of state g)) ∙ shows.live g ∙ ap has_marks (sym (shows.caches g))
-          ∙ sym (served_marks bus new state request ready shows ordered free serves g below)
-          ∙ ap has_marks (served_cache bus new state request ready shows can.hart_exists serves g below);
+      told = served_tells bus new state request ready shows ordered free serves;
       memory =
           let stays = serve_stays _ request bus.copies new.copies serves.copies in
           lies_yet bus.copies new.copies state.committed stays.first stays.lines shows.memory;
@@ -277,7 +311,7 @@ served_well_formed bus new request ready ordered serves g below =
     elim (cases_eq g request.hart) [
       | inl same ↦ subst (λ k. IsWellFormed (cache_at bus.copies.caches k).ways (cache_at new.copies.caches k).residency) (sym same)
           (subst (λ cache. IsWellFormed ways cache) (sym (serve_own _ request bus.copies new.copies serves.copies))
-          (claimed (has_marks (cache_at bus.copies.caches request.hart).residency)))
+          (claimed (lives_at bus request.hart)))
       | inr other ↦ subst (λ cache. IsWellFormed (cache_at bus.copies.caches g).ways cache)
           (sym (serve_others _ request bus.copies new.copies serves.copies g other))
           (others_well_formed (cache_at bus.copies.caches g).ways _ request.need (cache_at bus.copies.caches g).residency request.line
@@ -300,7 +334,19 @@ served_well_formed bus new request ready ordered serves g below =
     claimed true = well_formed-marked _ (own_filled bus.copies request) request.line request.need filled
     claimed false = filled
 
--- an agent has raised what it had raised
+-- an agent is noted as it was, and has raised what it had raised
+armed_claimed : (live : Bool) (line : ℕ) (agent : Agent) → (agent_claiming live line agent).armed ≡ agent.armed
+armed_claimed true line agent = refl
+armed_claimed false line agent = refl
+
+armed_after : (live : Bool) (request : Request) (g : ℕ) (agent : Agent) → (agent_after_serve live request g agent).armed ≡ agent.armed
+armed_after live request g agent =
+    elim (cases_eq g request.hart) [
+      | inl same ↦ ap (λ (a : Agent). a.armed) (at_own g request.hart _ _ same) ∙ armed_claimed live request.line
+          (agent_served (agent_forgetting request.hart agent))
+      | inr other ↦ ap (λ (a : Agent). a.armed) (at_other g request.hart _ _ other)
+    ]
+
 raised_claimed : (live : Bool) (line : ℕ) (agent : Agent) → (agent_claiming live line agent).raised ≡ agent.raised
 raised_claimed true line agent = refl
 raised_claimed false line agent = refl
@@ -347,6 +393,14 @@ serve_ready bus new request ready ordered serves = ready_after bus new ready (re
           room = room g other.line apart;
         }
       ];
+  few_armed = λ g. elim (cases_lt g (length bus.agents)) [
+    | inl below ↦
+        subst (λ n. n ≤ 15) (sym (ap (λ (a : Agent). a.armed) (serves.agents.each g below) ∙ armed_after _ request g (agent_at bus.agents g)))
+        (ready.few_armed g)
+    | inr past ↦
+        subst (λ (a : Agent). a.armed ≤ 15)
+        (agent_past bus.agents g past ∙ sym (agent_past new.agents g (omega (arith, past, serves.agents.count)))) (ready.few_armed g)
+  ];
 })
   where
     stays : StaysCoherent bus.copies new.copies

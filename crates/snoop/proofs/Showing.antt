@@ -1,19 +1,20 @@
 -- what the bus shows after one hart has changed, and after each has
-use Rattle.std.proofs.Common.{◌≡◌, ◌≢◌, ◌∙◌, ℕ, zero, suc, ◌*◌, ◌<◌, ◌≤◌, List, [], ◌∷◌, length, is_some, refl, ap, sym, inl, inr, arith}
+use Rattle.std.proofs.Common.{◌≡◌, ◌≢◌, ◌∙◌, ℕ, zero, suc, ◌*◌, ◌<◌, ◌≤◌, List, [], ◌∷◌, length, refl, ap, sym, subst, inl, inr, arith}
 use Rattle.std.specs.Prelude.{slice_set}
 use Rattle.std.proofs.lemmas.Bool.{cases_eq, cases_lt}
 use Rattle.std.proofs.lemmas.List.{get_or-set_same, get_or-set_other, length-set}
-use Rattle.cache_sets.specs.Cache.{has_marks}
 use Rattle.coherence.specs.Beginning.{line_of}
 use Rattle.coherence.specs.Caches.{cache_at}
 use Rattle.coherence.proofs.GivenUp.{beyond}
 use Rattle.coherence.specs.Served.{Copies, TellsOf}
 use Rattle.el_base.specs.declared.line.TheConstants.{LINE_BYTES}
-use Rattle.el_model.specs.State.{Hart, ModelState, cache_of, each_from, each_hart, hart_of, new_hart, section_of, with_hart}
+use Rattle.el_model.specs.State.{Hart, ModelState, armed_of, cache_of, each_from, each_hart, hart_of, new_hart, section_of, with_hart}
 use Rattle.el_model.proofs.Harts.{hart_of-each_hart, hart_of-each_hart_past, hart_of-past, hart_of-with_hart_same, hart_of-with_hart_other, with_hart_kept}
 use Rattle.el_model.proofs.Keeps.{length-each_from}
+use Rattle.snoop.proofs.Living.{TellsSection, tells, tells_nothing, tells_yet}
 use Rattle.snoop.specs.Agent.{Agent, agent_at, agent_of, new_agent, with_agent}
 use Rattle.rv_flat.specs.FlatState.{FlatState}
+use Rattle.snoop.specs.LettingGo.{KeepsBytes, with_committed}
 use Rattle.snoop.specs.Shows.{Kept, LiesWhere, Shows}
 
 -- main memory that has not moved lies where it did
@@ -40,11 +41,28 @@ agent_other agents h g agent differs = get_or-set_other agents h g agent new_age
 pub count_with_agent : (agents : List Agent) (h : ℕ) (agent : Agent) → length (with_agent agents h agent) ≡ length agents
 count_with_agent agents h agent = length-set agents h agent
 
--- one hart has changed at the bus alone
-pub shows_agent : (bus : Kept) (state : ModelState) (h : ℕ) (agent : Agent) (hart : Hart) → Shows bus state → agent ≡ agent_of hart →
-    hart.section ≡ section_of state h → hart.cache ≡ cache_of state h →
+-- the state has another committed part, which has the same memory
+pub shows_committed : (bus : Kept) (state : ModelState) (committed : FlatState) → KeepsBytes state.committed committed → Shows bus state →
+    Shows bus (with_committed committed state)
+shows_committed bus state committed keeps shows = record {
+  mode = shows.mode;
+  ways = shows.ways;
+  agent_each = shows.agent_each;
+  cache_each = shows.cache_each;
+  agents = shows.agents;
+  caches = shows.caches;
+  live = shows.live;
+  arms = shows.arms;
+  order = shows.order;
+  memory = record { first = shows.memory.first ∙ sym keeps.base; lines = shows.memory.lines ∙ ap length (sym keeps.bytes) };
+  bytes = rw (keeps.base, keeps.bytes) shows.bytes;
+}
+
+-- the agent of one hart has changed, and no cache
+pub shows_told : (bus : Kept) (state : ModelState) (h : ℕ) (agent : Agent) (hart : Hart) → Shows bus state → agent ≡ agent_of hart →
+    hart.cache ≡ cache_of state h → TellsSection hart →
     Shows (record bus { agents = with_agent bus.agents h agent }) (with_hart state h hart)
-shows_agent bus state h agent hart shows is section cache = record {
+shows_told bus state h agent hart shows is cache told = record {
   mode = shows.mode;
   ways = λ g below. shows.ways g (omega (arith, below, same_harts));
   agent_each = count_with_agent bus.agents h agent ∙ shows.agent_each ∙ sym same_harts;
@@ -60,7 +78,8 @@ shows_agent bus state h agent hart shows is section cache = record {
     | inr other ↦ agent_other bus.agents h g agent other ∙ shows.agents g ∙ ap agent_of (sym (hart_of-with_hart_other state h g hart other))
   ];
   caches = λ g. shows.caches g ∙ sym (kept_cache g);
-  live = λ g. ap is_some (with_hart_kept (λ k. k.section) state h hart section g) ∙ shows.live g ∙ ap has_marks (sym (kept_cache g));
+  live = λ g. (all_told g).live;
+  arms = λ g. (all_told g).arms;
   order = shows.order;
   memory = shows.memory;
   bytes = shows.bytes;
@@ -72,6 +91,22 @@ shows_agent bus state h agent hart shows is section cache = record {
     kept_cache : (g : ℕ) → cache_of (with_hart state h hart) g ≡ cache_of state g
     kept_cache g = with_hart_kept (λ k. k.cache) state h hart cache g
 
+    all_told : (g : ℕ) → TellsSection (hart_of (with_hart state h hart) g)
+    all_told g = elim (cases_eq g h) [
+      | inl own ↦ elim (cases_lt h (length state.harts)) [
+        | inl below ↦ rw own (subst TellsSection (sym (hart_of-with_hart_same state h hart below)) told)
+        | inr past ↦ subst TellsSection (sym (hart_of-past (with_hart state h hart) g (omega (arith, past, own, same_harts)))) tells_nothing
+      ]
+      | inr other ↦ subst TellsSection (sym (hart_of-with_hart_other state h g hart other)) (tells shows g)
+    ]
+
+-- one hart has changed at the bus alone
+pub shows_agent : (bus : Kept) (state : ModelState) (h : ℕ) (agent : Agent) (hart : Hart) → Shows bus state → agent ≡ agent_of hart →
+    hart.section ≡ section_of state h → hart.armed ≡ armed_of state h → hart.cache ≡ cache_of state h →
+    Shows (record bus { agents = with_agent bus.agents h agent }) (with_hart state h hart)
+shows_agent bus state h agent hart shows is section armed cache =
+    shows_told bus state h agent hart shows is cache (tells_yet (hart_of state h) hart section armed cache (tells shows h))
+
 -- what each hart has become, as the bus shows it
 pub record ShowsEach (bus new : Kept) (state : ModelState) (becomes : ℕ → Hart → Hart) : Type 0 where
   pub mode : new.mode ≡ bus.mode
@@ -80,7 +115,7 @@ pub record ShowsEach (bus new : Kept) (state : ModelState) (becomes : ℕ → Ha
   pub ways : (h : ℕ) → (cache_at new.copies.caches h).ways ≡ (cache_at bus.copies.caches h).ways
   pub agents : (h : ℕ) → h < length bus.agents → agent_at new.agents h ≡ agent_of (becomes h (hart_of state h))
   pub caches : (h : ℕ) → h < length bus.agents → (cache_at new.copies.caches h).residency ≡ (becomes h (hart_of state h)).cache
-  pub live : (h : ℕ) → h < length bus.agents → is_some (becomes h (hart_of state h)).section ≡ has_marks (becomes h (hart_of state h)).cache
+  pub told : (h : ℕ) → h < length bus.agents → TellsSection (becomes h (hart_of state h))
   pub memory : LiesWhere new.copies state.committed
   pub bytes : TellsOf new.copies (line_of state.committed)
 
@@ -100,10 +135,8 @@ shows_each bus new state becomes shows each = record {
     | inr past ↦ ap (λ cache. cache.residency) (beyond new.copies.caches h (omega (arith, past, each.cache_each, shows.agent_each, shows.cache_each)))
         ∙ ap (λ hart. hart.cache) (sym (gone h past))
   ];
-  live = λ h. elim (cases_lt h (length bus.agents)) [
-    | inl below ↦ ap (λ hart. is_some hart.section) (became h below) ∙ each.live h below ∙ ap (λ hart. has_marks hart.cache) (sym (became h below))
-    | inr past ↦ ap (λ hart. is_some hart.section) (gone h past) ∙ ap (λ hart. has_marks hart.cache) (sym (gone h past))
-  ];
+  live = λ h. (all_told h).live;
+  arms = λ h. (all_told h).arms;
   order = refl;
   memory = each.memory;
   bytes = each.bytes;
@@ -117,3 +150,9 @@ shows_each bus new state becomes shows each = record {
 
     gone : (h : ℕ) → length bus.agents ≤ h → hart_of (each_hart state becomes) h ≡ new_hart 0
     gone h past = hart_of-each_hart_past state becomes h (omega (arith, past, shows.agent_each))
+
+    all_told : (h : ℕ) → TellsSection (hart_of (each_hart state becomes) h)
+    all_told h = elim (cases_lt h (length bus.agents)) [
+      | inl below ↦ subst TellsSection (sym (became h below)) (each.told h below)
+      | inr past ↦ subst TellsSection (sym (gone h past)) tells_nothing
+    ]

@@ -11,7 +11,7 @@ use Rattle.cache_sets.specs.WellFormed.{IsWellFormed}
 use Rattle.coherence.specs.Caches.{cache_at}
 use Rattle.coherence.specs.Served.{Copies, IsCoherent}
 use Rattle.el_base.specs.declared.config.Mode.{Mode}
-use Rattle.snoop.proofs.Ready.{served_yet}
+use Rattle.snoop.proofs.Ready.{few_armed_yet, served_yet}
 use Rattle.snoop.proofs.Showing.{agent_other, agent_same, count_with_agent}
 use Rattle.snoop.specs.Agent.{Agent, agent_at, with_agent}
 use Rattle.snoop.specs.Shows.{CanBeServed, IsReady, Kept}
@@ -23,9 +23,9 @@ none_is (Some other) request first second = absurd (cc)
 pub ready_at_rest : (mode : Mode) (copies : Copies) (agents : List Agent) → IsCoherent copies → length agents ≤ 8 →
     length copies.caches ≡ length agents →
     ((h : ℕ) → h < length copies.caches → IsWellFormed (cache_at copies.caches h).ways (cache_at copies.caches h).residency) →
-    ((h : ℕ) → (agent_at agents h).raised ≡ None) →
+    ((h : ℕ) → (agent_at agents h).raised ≡ None) → ((h : ℕ) → (agent_at agents h).armed ≤ 15) →
     IsReady (record { mode = mode; copies = copies; agents = agents; order = [] })
-ready_at_rest mode copies agents coherent few each formed none = record {
+ready_at_rest mode copies agents coherent few each formed none few_armed = record {
   coherent = coherent;
   few = few;
   each = each;
@@ -34,6 +34,7 @@ ready_at_rest mode copies agents coherent few each formed none = record {
   ordered = λ h request is. absurd (cc);
   once = one_each_none;
   one_request = λ h request is. refl;
+  few_armed = few_armed;
 }
 
 -- one agent more that has raised no request
@@ -43,6 +44,14 @@ none_raised_more [] agent none here zero = here
 none_raised_more [] agent none here (suc h) = refl
 none_raised_more (first ∷ agents) agent none here zero = none 0
 none_raised_more (first ∷ agents) agent none here (suc h) = none_raised_more agents agent (λ k. none (suc k)) here h
+
+-- and one more that is noted as armed for few instructions
+pub few_armed_more : (agents : List Agent) (agent : Agent) → ((h : ℕ) → (agent_at agents h).armed ≤ 15) → agent.armed ≤ 15 →
+    (h : ℕ) → (agent_at (agents ++ agent ∷ []) h).armed ≤ 15
+few_armed_more [] agent few here zero = here
+few_armed_more [] agent few here (suc h) = omega arith
+few_armed_more (first ∷ agents) agent few here zero = few 0
+few_armed_more (first ∷ agents) agent few here (suc h) = few_armed_more agents agent (λ k. few (suc k)) here h
 
 -- a hart has raised a request
 abbrev pub with_raised : List Agent → Request → List Agent
@@ -68,6 +77,8 @@ ready_raised bus request ready none can = record {
     | inl own ↦ ap (request_of bus.order) own ∙ none
     | inr apart ↦ ready.one_request h other (other_request h other apart is)
   ];
+  few_armed = few_armed_yet bus.agents request.hart (record (agent_at bus.agents request.hart) { raised = Some request }) ready.few_armed
+      (ready.few_armed request.hart);
 }
   where
     count : length (with_raised bus.agents request) ≡ length bus.agents

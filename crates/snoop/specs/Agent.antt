@@ -4,11 +4,13 @@ use Rattle.bus_order.specs.Order.{Request}
 use Rattle.defer_list.specs.HartSet.{excluded, included}
 use Rattle.el_base.specs.declared.config.Mode.{Mode}
 use Rattle.el_model.specs.Attempts.{opened, seen_after}
+use Rattle.el_model.specs.Plain.{armed_count}
 use Rattle.el_model.specs.State.{Hart}
 use Rattle.mail.specs.Mailbox.{Message, posted, without_markers, without_oldest, without_probe}
 use Rattle.stamp.specs.Stamps.{Stamp, next_clock_of}
 
--- what a hart has at the bus beside its cache; each field is the one of this name of the definition's hart
+-- what a hart has at the bus beside its cache; each field is the one of this name of the definition's hart, but that of an armed section
+-- the count alone is noted, and 0 where there is none
 pub record Agent : Type 0 where
   pub raised : Option Request
   pub held : Option ℕ
@@ -18,6 +20,7 @@ pub record Agent : Type 0 where
   pub clock : ℕ
   pub seen : ℕ
   pub attempt : Option Stamp
+  pub armed : ℕ
 
 -- an agent of a hart that has asked for nothing yet
 abbrev pub new_agent : Agent
@@ -30,6 +33,7 @@ new_agent = record {
   clock = 0;
   seen = 0;
   attempt = None;
+  armed = 0;
 }
 
 -- that part of a hart
@@ -43,6 +47,7 @@ agent_of hart = record {
   clock = hart.clock;
   seen = hart.seen;
   attempt = hart.attempt;
+  armed = armed_count hart.armed;
 }
 
 -- the agent of a hart; past the last one, one that has asked for nothing
@@ -92,3 +97,7 @@ clock_after clock seen (Some stamp) = next_clock_of clock seen
 
 abbrev pub agent_closed : Agent → Agent
 agent_closed agent = record agent { attempt = None; clock = clock_after agent.clock agent.seen agent.attempt }
+
+-- an agent that is noted as armed, with a count; 0 stands for one that is not armed
+abbrev pub agent_noted : ℕ → Agent → Agent
+agent_noted count agent = record agent { armed = count }

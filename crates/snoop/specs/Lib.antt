@@ -2,6 +2,8 @@ pub mod Agent
 pub mod Fates
 pub mod Settled
 pub mod Shows
+pub mod Changing
+pub mod LettingGo
 pub mod Meets
 pub mod Obstacles
 pub mod Serving

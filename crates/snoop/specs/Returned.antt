@@ -1,17 +1,18 @@
 -- what a caller gives back of a cache that was lent to it, so that the bus is ready again, and what the bus shows then
 use Rattle.std.specs.Prelude.{ℕ, ◌≡◌, true, Some, is_some}
 use Rattle.bus_order.specs.Order.{Request, request_of}
-use Rattle.cache_sets.specs.Cache.{has_marks, room_of}
+use Rattle.cache_sets.specs.Cache.{room_of}
 use Rattle.cache_sets.specs.Cached.{Cached}
 use Rattle.cache_sets.specs.WellFormed.{IsWellFormed}
 use Rattle.coherence.specs.Beginning.{line_of}
 use Rattle.coherence.specs.Caches.{cache_at}
 use Rattle.coherence.specs.GivenBack.{copies_with}
 use Rattle.coherence.specs.Served.{IsCoherent, TellsOf}
-use Rattle.el_model.specs.State.{Hart, ModelState, hart_of, with_hart}
+use Rattle.el_model.specs.Plain.{armed_count}
+use Rattle.el_model.specs.State.{Hart, ModelState, armed_of, hart_of, with_hart}
 use Rattle.rv_flat.specs.FlatState.{FlatState}
 use Rattle.snoop.specs.Agent.{agent_at, agent_of}
-use Rattle.snoop.specs.Shows.{Kept, LiesWhere}
+use Rattle.snoop.specs.Shows.{Kept, LiesWhere, lives}
 
 -- another cache in the place of a hart's
 abbrev pub returned : Kept → ℕ → Cached → Kept
@@ -30,12 +31,14 @@ pub record IsReturned (bus : Kept) (h : ℕ) (cache : Cached) : Type 0 where
   pub ordered : (request : Request) → request_of bus.order h ≡ Some request → HasRoomFor cache request
 
 -- what is owed for it to show that the hart has become another, and that these are the committed bytes: the hart's part at the bus is as
--- it was, its cache is the one that was given back, it has a live section exactly where some line has a bit, and memory lies where it did
+-- it was, its cache is the one that was given back, it is armed exactly where it was, it has a live section exactly where some line has a
+-- bit and it is not armed, and memory lies where it did
 pub record IsReturnedAs (bus : Kept) (state : ModelState) (h : ℕ) (cache : Cached) (hart : Hart) (committed : FlatState) : Type 0 where
   pub agent : agent_of hart ≡ agent_of (hart_of state h)
   pub ways : cache.ways ≡ (cache_at bus.copies.caches h).ways
   pub residency : hart.cache ≡ cache.residency
-  pub live : is_some hart.section ≡ has_marks cache.residency
+  pub live : is_some hart.section ≡ lives cache.residency (armed_count hart.armed)
+  pub armed : is_some hart.armed ≡ is_some (armed_of state h)
   pub memory : LiesWhere bus.copies committed
   pub bytes : TellsOf (copies_with bus.copies h cache) (line_of committed)
 

@@ -1,19 +1,17 @@
 -- what the bus makes of its parts as a request is served
 use Rattle.std.specs.Prelude.{ℕ, ◌≡◌, ◌<◌, ◌==◌, Bool, true, false, List, length, Some, if◌then◌else◌}
 use Rattle.bus_order.specs.Order.{Request, removed}
-use Rattle.cache_sets.specs.Cache.{has_marks}
-use Rattle.coherence.specs.Caches.{cache_at}
 use Rattle.coherence.specs.Changed.{GetsBit, IsChangedAt}
 use Rattle.coherence.specs.Served.{Copies, IsServed}
 use Rattle.snoop.specs.Agent.{Agent, agent_at, agent_forgetting, agent_served}
-use Rattle.snoop.specs.Shows.{Kept}
+use Rattle.snoop.specs.Shows.{Kept, lives_at}
 
--- a hart without a section holds the line that it was served; one with a section has a bit instead
+-- a hart without a live section holds the line that it was served; one with a live section has a bit instead
 abbrev pub agent_claiming : Bool → ℕ → Agent → Agent
 agent_claiming true line agent = agent
 agent_claiming false line agent = record agent { held = Some line }
 
--- what an agent becomes, by whether the served hart has a section
+-- what an agent becomes, by whether the served hart has a live section
 abbrev pub agent_after_serve : Bool → Request → ℕ → Agent → Agent
 agent_after_serve live request g agent =
     if g == request.hart then agent_claiming live request.line (agent_served (agent_forgetting request.hart agent))
@@ -23,7 +21,7 @@ pub record AgentsServe (live : Bool) (request : Request) (old new : List Agent) 
   pub count : length new ≡ length old
   pub each : (g : ℕ) → g < length old → agent_at new g ≡ agent_after_serve live request g (agent_at old g)
 
--- a section claims its line by a bit
+-- a live section claims its line by a bit
 abbrev pub CopiesClaim : Bool → Request → Copies → Copies → Type 0
 CopiesClaim true request old new = IsChangedAt (GetsBit request.line request.need) request.hart old new
 CopiesClaim false request old new = new ≡ old
@@ -36,6 +34,6 @@ pub record CopiesServe (live : Bool) (request : Request) (old new : Copies) : Ty
 -- what serving a request makes of the bus, before the next head of its line is faced
 pub record Serves (request : Request) (old new : Kept) : Type 0 where
   pub mode : new.mode ≡ old.mode
-  pub agents : AgentsServe (has_marks (cache_at old.copies.caches request.hart).residency) request old.agents new.agents
-  pub copies : CopiesServe (has_marks (cache_at old.copies.caches request.hart).residency) request old.copies new.copies
+  pub agents : AgentsServe (lives_at old request.hart) request old.agents new.agents
+  pub copies : CopiesServe (lives_at old request.hart) request old.copies new.copies
   pub order : new.order ≡ removed old.order request.hart

@@ -1,16 +1,12 @@
 -- what becomes of agents and caches as each hart has its fate
-use Rattle.std.specs.Prelude.{ℕ, suc, ◌≡◌, ◌<◌, ◌≤◌, List, [], ◌∷◌, length, Option, None}
+use Rattle.std.specs.Prelude.{ℕ, suc, Bool, true, false, List, [], ◌∷◌, Option, None}
 use Rattle.bus_order.specs.Order.{Request}
-use Rattle.cache_sets.specs.Cached.{Cached}
-use Rattle.cache_sets.specs.Calls.{IsCleared}
-use Rattle.coherence.specs.Caches.{cache_at}
-use Rattle.coherence.specs.Changed.{IsChangedAt}
-use Rattle.coherence.specs.Served.{Copies, StaysCoherent}
 use Rattle.el_base.specs.declared.config.Mode.{Mode}
 use Rattle.el_base.specs.declared.config.Mode.TheVariants.{Plain, Sle, Tlr}
 use Rattle.el_model.specs.Face.{Fate, LosesTo, Stays, Unmet}
 use Rattle.mail.specs.Mailbox.{Marker}
 use Rattle.snoop.specs.Agent.{Agent, agent_at, agent_posted, agent_seeing, with_agent}
+use Rattle.snoop.specs.Changing.{AreHartsChanged, IsHartChanged}
 use Rattle.snoop.specs.Fates.{numbered_fate, stamp_on}
 use Rattle.snoop.specs.Shows.{Kept}
 use Rattle.snoop.specs.declared.fates.Fate as fates
@@ -32,35 +28,18 @@ stamp_seen mode order head (LosesTo winner) = in_removal mode (stamp_on order he
 abbrev pub settled_agent : Kept → Request → Fate → Agent → Agent
 settled_agent bus head fate agent = agent_seeing (stamp_seen bus.mode bus.order head fate) agent
 
--- a loser's cache has no bits any more
-abbrev pub SettledCache : Fate → Cached → Cached → Type 0
-SettledCache Unmet old new = new ≡ old
-SettledCache Stays old new = new ≡ old
-SettledCache (LosesTo winner) old new = IsCleared old new
+-- whether a fate is to lose
+abbrev pub loses : Fate → Bool
+loses Unmet = false
+loses Stays = false
+loses (LosesTo winner) = true
 
-abbrev pub Clears : Fate → ℕ → Copies → Copies → Type 0
-Clears Unmet h old new = new ≡ old
-Clears Stays h old new = new ≡ old
-Clears (LosesTo winner) h old new = IsChangedAt IsCleared h old new
+-- one hart has its fate, and the harts below a number have theirs: a loser's cache has no bits any more
+abbrev pub IsSettledAt : Request → Fate → ℕ → Kept → Kept → Type 0
+IsSettledAt head fate h old new = IsHartChanged (settled_agent old head fate) (loses fate) h old new
 
--- one hart has its fate
-pub record IsSettledAt (head : Request) (fate : Fate) (h : ℕ) (old new : Kept) : Type 0 where
-  pub mode : new.mode ≡ old.mode
-  pub order : new.order ≡ old.order
-  pub agents : new.agents ≡ with_agent old.agents h (settled_agent old head fate (agent_at old.agents h))
-  pub copies : Clears fate h old.copies new.copies
-
--- the harts below a number have their fates, and the others are as they were
-pub record AreSettledBelow (head : Request) (fate : ℕ → Fate) (number : ℕ) (old new : Kept) : Type 0 where
-  pub mode : new.mode ≡ old.mode
-  pub order : new.order ≡ old.order
-  pub count : length new.agents ≡ length old.agents
-  pub lines : new.copies.lines ≡ old.copies.lines
-  pub stays : StaysCoherent old.copies new.copies
-  pub agents : (h : ℕ) → h < number → agent_at new.agents h ≡ settled_agent old head (fate h) (agent_at old.agents h)
-  pub caches : (h : ℕ) → h < number → SettledCache (fate h) (cache_at old.copies.caches h) (cache_at new.copies.caches h)
-  pub other_agents : (h : ℕ) → number ≤ h → agent_at new.agents h ≡ agent_at old.agents h
-  pub other_caches : (h : ℕ) → number ≤ h → cache_at new.copies.caches h ≡ cache_at old.copies.caches h
+abbrev pub AreSettledBelow : Request → (ℕ → Fate) → ℕ → Kept → Kept → Type 0
+AreSettledBelow head fate number old new = AreHartsChanged (λ h. settled_agent old head (fate h)) (λ h. loses (fate h)) number old new
 
 -- the agents after a hart with this fate has sent a marker, where it stays
 abbrev pub marker_sent : Fate → ℕ → ℕ → List Agent → List Agent

@@ -1,14 +1,16 @@
 -- what the bus keeps, and the state of the machine's definition that it shows
-use Rattle.std.specs.Prelude.{ℕ, ◌≡◌, ◌<◌, ◌≤◌, ◌*◌, true, List, None, Some, length}
+use Rattle.std.specs.Prelude.{ℕ, ◌≡◌, ◌<◌, ◌≤◌, ◌*◌, ◌==◌, ◌&&◌, Bool, true, not, List, None, Some, is_some, length}
 use Rattle.bus_order.specs.Order.{IsOneEach, Request, request_of}
 use Rattle.cache_sets.specs.Cache.{has_marks}
+use Rattle.cache_sets.specs.Residency.{Way}
 use Rattle.cache_sets.specs.WellFormed.{IsWellFormed}
 use Rattle.coherence.specs.Beginning.{line_of}
 use Rattle.coherence.specs.Caches.{cache_at}
 use Rattle.coherence.specs.Served.{Copies, HasLine, IsCoherent, TellsOf, has_room, shown}
 use Rattle.el_base.specs.declared.config.Mode.{Mode}
 use Rattle.el_base.specs.declared.line.TheConstants.{LINE_BYTES}
-use Rattle.el_model.specs.State.{ModelState, cache_of, hart_of, is_live}
+use Rattle.el_model.specs.Plain.{armed_count}
+use Rattle.el_model.specs.State.{ModelState, armed_of, cache_of, hart_of, is_live}
 use Rattle.rv_flat.specs.FlatState.{FlatState}
 use Rattle.snoop.specs.Agent.{Agent, agent_at, agent_of}
 use Rattle.snoop.specs.declared.bus.Bus as buses
@@ -28,8 +30,15 @@ pub record LiesWhere (copies : Copies) (flat : FlatState) : Type 0 where
   pub first : copies.first * LINE_BYTES ≡ flat.base
   pub lines : length copies.lines * LINE_BYTES ≡ length flat.bytes
 
--- each part is the definition's, main memory lies in its place, and the copies and main memory tell the committed bytes; a hart has a live section exactly where
--- some line of its cache has a bit
+-- whether a hart with this cache and this noted count has a live section: some line has a bit, and that is no armed section's
+abbrev pub lives : List (List Way) → ℕ → Bool
+lives cache count = has_marks cache && (count == 0)
+
+abbrev pub lives_at : Kept → ℕ → Bool
+lives_at bus h = lives (cache_at bus.copies.caches h).residency (agent_at bus.agents h).armed
+
+-- each part is the definition's, main memory lies in its place, and the copies and main memory tell the committed bytes; a hart has a live
+-- section exactly where some line of its cache has a bit and it is not armed, and an armed one has run an instruction
 pub record Shows (bus : Kept) (state : ModelState) : Type 0 where
   pub mode : bus.mode ≡ state.config.mode
   pub ways : (h : ℕ) → h < length state.harts → (cache_at bus.copies.caches h).ways ≡ state.config.ways
@@ -37,7 +46,8 @@ pub record Shows (bus : Kept) (state : ModelState) : Type 0 where
   pub cache_each : length bus.copies.caches ≡ length state.harts
   pub agents : (h : ℕ) → agent_at bus.agents h ≡ agent_of (hart_of state h)
   pub caches : (h : ℕ) → (cache_at bus.copies.caches h).residency ≡ cache_of state h
-  pub live : (h : ℕ) → is_live state h ≡ has_marks (cache_of state h)
+  pub live : (h : ℕ) → is_live state h ≡ lives (cache_of state h) (armed_count (armed_of state h))
+  pub arms : (h : ℕ) → is_some (armed_of state h) ≡ not (armed_count (armed_of state h) == 0)
   pub order : bus.order ≡ state.order
   pub memory : LiesWhere bus.copies state.committed
   pub bytes : TellsOf bus.copies (line_of state.committed)
@@ -50,8 +60,8 @@ pub record CanBeServed (bus : Kept) (h : ℕ) (request : Request) : Type 0 where
   pub in_memory : HasLine bus.copies request.line
   pub room : has_room bus.copies h request.line ≡ true
 
--- what each call of the bus needs, and leaves: copies and main memory tell one thing, each request can be served, and a hart has at
--- most one
+-- what each call of the bus needs, and leaves: copies and main memory tell one thing, each request can be served, a hart has at most one,
+-- and an armed section has run 15 instructions at most
 pub record IsReady (bus : Kept) : Type 0 where
   pub coherent : IsCoherent bus.copies
   pub few : length bus.agents ≤ 8
@@ -61,3 +71,4 @@ pub record IsReady (bus : Kept) : Type 0 where
   pub ordered : (h : ℕ) (request : Request) → request_of bus.order h ≡ Some request → CanBeServed bus h request
   pub once : IsOneEach bus.order
   pub one_request : (h : ℕ) (request : Request) → (agent_at bus.agents h).raised ≡ Some request → request_of bus.order h ≡ None
+  pub few_armed : (h : ℕ) → (agent_at bus.agents h).armed ≤ 15

@@ -11,6 +11,7 @@ ghost use Rattle.snoop.specs.Agent.{
   agent_behind,
   agent_closed,
   agent_forgetting,
+  agent_noted,
   agent_opened,
   agent_posted,
   agent_seeing,
@@ -47,6 +48,8 @@ pub struct Agent {
     seen: u64,
     /// The stamp of its open attempt.
     attempt: Option<Stamp>,
+    /// How many instructions its armed section has run; 0 where it is not armed.
+    armed: u8,
 }
 
 impl Model for Agent {
@@ -66,6 +69,7 @@ impl Model for Agent {
       clock = agent.clock;
       seen = agent.seen;
       attempt = option_map numbered_stamp agent.attempt;
+      armed = agent.armed;
     } };
 }
 
@@ -84,6 +88,7 @@ impl Agent {
             clock: 0,
             seen: 0,
             attempt: None,
+            armed: 0,
         })
     }
 
@@ -137,6 +142,13 @@ impl Agent {
         ensures { option_map numbered_stamp result ≡ self.now.attempt }
     {
         self.attempt
+    }
+
+    /// How many instructions the hart's armed section is noted to have run; 0 where the hart is not armed.
+    pub fn armed(&self) -> u8
+        ensures { result ≡ self.now.armed }
+    {
+        self.armed
     }
 
     /// Whether the hart was told of an origin.
@@ -255,6 +267,13 @@ impl Agent {
                 hart,
             });
         }
+    }
+
+    /// The hart is noted as armed, with the number of instructions that its section has run; 0 where it is not.
+    pub fn note_armed(&mut self, count: u8)
+        ensures { self.new ≡ agent_noted count self.old }
+    {
+        self.armed = count;
     }
 
     /// The open attempt closes, if there is one, and the clock goes on.

@@ -10,6 +10,7 @@ ghost use Rattle.snoop.specs.Agent.{
   agent_behind,
   agent_closed,
   agent_forgetting,
+  agent_noted,
   agent_opened,
   agent_posted,
   agent_served,
@@ -79,6 +80,16 @@ pub fn close_attempt(agents: &mut Vec<Agent>, hart: HartId)
 {
     let agent = &mut agents[usize::from(hart.number)];
     agent.close_attempt();
+}
+
+/// A hart is noted as armed, with the number of instructions that its section has run; 0 where it is not.
+pub fn note_armed(agents: &mut Vec<Agent>, hart: HartId, count: u8)
+    requires { hart.number < length agents.old.items }
+    ensures { agents.new.items ≡
+        with_agent agents.old.items hart.number (agent_noted count (agent_at agents.old.items hart.number)) }
+{
+    let agent = &mut agents[usize::from(hart.number)];
+    agent.note_armed(count);
 }
 
 /// A message comes into the mailbox of a hart.

@@ -1,6 +1,6 @@
 //! The bus, and its calls that are no event of it.
 
-ghost use Rattle.std.specs.Prelude.{◌≡◌, ◌<◌, ◌%◌, ◌↔◌, IfOk, IfSome, IsNone, None, length, slice_index, true};
+ghost use Rattle.std.specs.Prelude.{◌≡◌, ◌<◌, ◌≤◌, ◌%◌, ◌↔◌, IfOk, IfSome, IsNone, None, length, slice_index, true};
 ghost use Rattle.std.specs.Borrow.{sem};
 ghost use Rattle.bus_order.specs.Order.{request_of};
 ghost use Rattle.coherence.specs.Beginning.{line_of, lines_at_first};
@@ -11,13 +11,14 @@ ghost use Rattle.el_base.specs.Line.{line_number};
 ghost use Rattle.el_base.specs.declared.line.TheConstants.{LINE_BYTES};
 ghost use Rattle.el_model.specs.Attempts as attempts;
 ghost use Rattle.el_model.specs.Plain.{missed_hart};
-ghost use Rattle.el_model.specs.State.{ModelState, begin, cache_of, hart_of, ordered_of, raised_of, with_hart};
+ghost use Rattle.el_model.specs.State.{Hart, ModelState, begin, cache_of, hart_of, ordered_of, raised_of, with_hart};
 ghost use Rattle.snoop.specs.Agent.{agent_at};
 ghost use Rattle.snoop.specs.Asking.{HasNoRequest, asking, numbered_asked};
+ghost use Rattle.snoop.specs.LettingGo.{IsNotedAs};
 ghost use Rattle.snoop.specs.Shows.{IsReady, Shows, kept};
 
 use crate::agent::Agent;
-use crate::agents::{close_attempt, give_up, new_agents, open_attempt, raise};
+use crate::agents::{close_attempt, give_up, new_agents, note_armed, open_attempt, raise};
 use crate::asked::Asked;
 use bus_order::{Order, Request};
 use cache_sets::Sets;
@@ -129,6 +130,22 @@ impl Bus {
         ensures memory_stays { (kept self.new).copies.lines ≡ (kept self.old).copies.lines }
     {
         give_up(&mut self.agents, hart);
+    }
+
+    /// A hart is noted as armed, with the number of instructions that its armed section has run, 15 at most; 0 is noted
+    /// of a hart that is not armed. Its cache stays as it is: a hart that arms is noted before its cache gets the
+    /// section's bit; where its live section begins, 0 is noted, and the bit is that section's from then on; and where
+    /// it is let go, its bit is cleared before 0 is noted.
+    pub fn note_armed(&mut self, hart: HartId, count: u8)
+        requires hart_exists { hart.number < length (kept self.old).agents }
+        requires ready { IsReady (kept self.old) }
+        requires few { count ≤ 15 }
+        ensures ready { IsReady (kept self.new) }
+        ensures shows { (state : ModelState) (now : Hart) → Shows (kept self.old) state →
+            IsNotedAs state hart.number count now → Shows (kept self.new) (with_hart state hart.number now) }
+        ensures memory_stays { (kept self.new).copies.lines ≡ (kept self.old).copies.lines }
+    {
+        note_armed(&mut self.agents, hart, count);
     }
 
     /// In lock removal an attempt of a hart opens, with the hart's clock as its stamp, where none is open; in

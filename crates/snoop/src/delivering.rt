@@ -243,7 +243,8 @@ impl Bus {
 
     /// Whether the hart's section conflicts with the head of a line.
     fn retains(&self, hart: HartId, line: LineAddr) -> bool
-        requires { hart.number < length (kept self.now).copies.caches }
+        requires hart_exists { hart.number < length (kept self.now).agents }
+        requires ready { IsReady (kept self.now) }
         ensures { (state : ModelState) → Shows (kept self.now) state →
             result ≡ retains state hart.number line.number }
     {

@@ -1,10 +1,14 @@
 //! The head of a line meets the sections of other harts.
 
-ghost use Rattle.std.specs.Prelude.{◌≡◌, ◌≤◌, Option, length};
+ghost use Rattle.std.specs.Prelude.{◌≡◌, ◌≤◌, Option, None, length};
 ghost use Rattle.bus_order.specs.Order.{numbered};
-ghost use Rattle.el_model.specs.Face.{face_losers, faced};
+ghost use Rattle.el_base.specs.Freed.{no_one_freed};
+ghost use Rattle.el_base.specs.Losers.{losers_of};
+ghost use Rattle.el_model.specs.Armed.{freed_by};
+ghost use Rattle.el_model.specs.Face.{face_losers, faced, met, met_losers};
 ghost use Rattle.el_model.specs.State.{ModelState};
 ghost use Rattle.policy.specs.Winners.{wins_of};
+ghost use Rattle.snoop.specs.LettingGo.{KeepsBytes};
 ghost use Rattle.snoop.specs.Settled.{sent_in};
 ghost use Rattle.snoop.specs.Shows.{IsReady, Shows, kept};
 ghost use Rattle.stamp.specs.Stamps as stamps;
@@ -13,10 +17,52 @@ use crate::bus::Bus;
 use crate::fates::Fate;
 use crate::settling::{losers_by, send_markers};
 use bus_order::Request;
-use el_base::{HartId, Losers, Mode};
+use el_base::{Freed, HartId, Losers, Mode};
 use policy::Policy;
 
+/// What came of a head that met the sections of other harts.
+pub(crate) struct Met {
+    /// The harts whose live sections were lost, each with its winner.
+    pub(crate) losers: Losers,
+    /// The harts whose armed sections were let go, each with the number of its instructions.
+    pub(crate) freed: Freed,
+}
+
+impl Met {
+    /// Nobody was met.
+    pub(crate) fn nobody() -> Met
+        ensures losers { result.losers ≡ losers_of (λ h. None) }
+        ensures freed { result.freed ≡ no_one_freed }
+    {
+        Met {
+            losers: Losers::none(),
+            freed: Freed::none(),
+        }
+    }
+}
+
 impl Bus {
+    /// The head of a line meets the sections of other harts: it lets the armed ones go that it is to let go, and faces
+    /// the live ones then.
+    pub(crate) fn meet<P: Policy>(&mut self, head: Request, policy: &P) -> Met
+        requires ready { IsReady (kept self.old) }
+        requires policy { (request holder : Option stamps.Stamp) →
+            P.beats policy.now request holder ≡ wins_of (kept self.old).mode request holder }
+        ensures ready { IsReady (kept self.new) }
+        ensures shows { (state : ModelState) → Shows (kept self.old) state →
+            KeepsBytes state.committed (met state (numbered head)).committed →
+            Shows (kept self.new) (met state (numbered head)) }
+        ensures losers { (state : ModelState) → Shows (kept self.old) state →
+            result.losers ≡ met_losers state (numbered head) }
+        ensures freed { (state : ModelState) → Shows (kept self.old) state →
+            result.freed ≡ freed_by state (numbered head) }
+        ensures memory_stays { (kept self.new).copies.lines ≡ (kept self.old).copies.lines }
+    {
+        let freed = self.let_go(head);
+        let losers = self.face(head, policy);
+        Met { losers, freed }
+    }
+
     /// In lock removal the harts that stay send a marker each to the head's.
     fn answer_head(&mut self, head: HartId, fates: &[Fate])
         requires { length fates.now ≤ 8 }
@@ -30,11 +76,11 @@ impl Bus {
         }
     }
 
-    /// The head of a line meets the sections that conflict with it: each loses to it where the head wins. Else in
+    /// The head of a line faces the sections that conflict with it: each loses to it where the head wins. Else in
     /// lock removal it loses to the earliest of the origins that its hart was told of, that are ordered on the line
     /// and that are before it; and where there is none such, it stays, and sends the head's hart a marker. Who wins
     /// is settled by what stands before any section is lost.
-    pub(crate) fn face<P: Policy>(&mut self, head: Request, policy: &P) -> Losers
+    fn face<P: Policy>(&mut self, head: Request, policy: &P) -> Losers
         requires ready { IsReady (kept self.old) }
         requires policy { (request holder : Option stamps.Stamp) →
             P.beats policy.now request holder ≡ wins_of (kept self.old).mode request holder }

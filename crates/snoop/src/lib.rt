@@ -6,6 +6,12 @@
 //! state it shows before (`Shows` in `specs/Shows.antt`), with the definition's outcome. It is built for all
 //! three modes at once. What a call needs of the bus and leaves is one word, `IsReady`. Only `make` takes memory.
 //!
+//! Of a hart's section the bus has the bits of its cache, and whether it is live or armed: an armed one is an acquire by
+//! `LR.W` and `SC.W` of which the `SC.W` has not come yet, and its instructions are counted ([`Bus::note_armed`]). A
+//! write request that becomes the first of its line lets go the armed sections that have read the line, before it
+//! faces the live ones. That such a section stores nothing is not the bus's to know: [`Bus::order`] and [`Bus::serve`]
+//! show the definition's state where its memory stays.
+//!
 //! The ideas are those of R. Rajwar and J. R. Goodman, 'Speculative Lock Elision', MICRO 2001, and
 //! 'Transactional Lock-Free Execution of Lock-Based Programs', ASPLOS 2002; where a doc comment names no
 //! other source, its rule is this project's profile.
@@ -18,6 +24,7 @@ mod bus;
 mod delivering;
 mod face;
 mod fates;
+mod letting_go;
 mod meeting;
 mod obstacle;
 mod ordering;

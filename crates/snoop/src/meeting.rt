@@ -3,12 +3,11 @@
 ghost use Rattle.std.specs.Prelude.{◌≡◌, ◌<◌, ◌==◌, ◌&&◌, not, length};
 ghost use Rattle.bus_order.specs.Order.{numbered};
 ghost use Rattle.cache_sets.specs.Bits.{has_need};
-ghost use Rattle.cache_sets.specs.Cache.{has_marks};
 ghost use Rattle.coherence.specs.Caches.{cache_at};
 ghost use Rattle.el_model.specs.Conflicts as model;
 ghost use Rattle.el_model.specs.State.{ModelState, hart_of};
 ghost use Rattle.snoop.specs.Meets.{meets_in};
-ghost use Rattle.snoop.specs.Shows.{Shows, kept};
+ghost use Rattle.snoop.specs.Shows.{IsReady, Shows, kept, lives_at};
 
 use crate::bus::Bus;
 use bitflags::Flags;
@@ -17,28 +16,40 @@ use cache_sets::{Bits, Sets};
 use el_base::{HartId, LineAddr, Need};
 
 impl Bus {
+    /// Whether a hart has a live section: some line of its cache has a bit, and it is not noted as armed.
+    pub(crate) fn is_live(&self, hart: HartId) -> bool
+        requires hart_exists { hart.number < length (kept self.now).agents }
+        requires ready { IsReady (kept self.now) }
+        ensures { result ≡ lives_at (kept self.now) hart.number }
+    {
+        self.hierarchy.cache(hart).marked() && self.agent(hart).armed() == 0
+    }
+
+    /// Whether a hart has a live section, and a line has a bit there that a request of this need conflicts with.
+    pub(crate) fn meets_section(&self, hart: HartId, line: LineAddr, need: Need) -> bool
+        requires hart_exists { hart.number < length (kept self.now).agents }
+        requires ready { IsReady (kept self.now) }
+        ensures { result ≡ (lives_at (kept self.now) hart.number
+            && meets_in (cache_at (kept self.now).copies.caches hart.number).residency line.number need) }
+    {
+        self.is_live(hart) && meets(self.hierarchy.cache(hart), line, need)
+    }
+
     /// Whether a request conflicts with the live section of a hart.
     #[tactic(auto, using(crate::proofs::Conflicts::conflicts_shown))]
     pub(crate) fn conflicts(&self, request: Request, hart: HartId) -> bool
-        requires { hart.number < length (kept self.now).copies.caches }
+        requires hart_exists { hart.number < length (kept self.now).agents }
+        requires ready { IsReady (kept self.now) }
         ensures { (state : ModelState) → Shows (kept self.now) state →
             result ≡ model.conflicts (numbered request) hart.number (hart_of state hart.number) }
     {
-        request.hart != hart
-            && meets_section(self.hierarchy.cache(hart), request.line, request.need)
+        request.hart != hart && self.meets_section(hart, request.line, request.need)
     }
-}
-
-/// Whether some line of a cache has a bit, and the line has one that a request of this need conflicts with.
-pub fn meets_section(cache: &Sets, line: LineAddr, need: Need) -> bool
-    ensures { result ≡ (has_marks cache.now.residency && meets_in cache.now.residency line.number need) }
-{
-    cache.marked() && meets(cache, line, need)
 }
 
 /// Whether a line has a bit that a request of this need conflicts with.
 #[tactic(auto, using(crate::proofs::Conflicts::read_need, crate::proofs::Conflicts::write_need))]
-fn meets(cache: &Sets, line: LineAddr, need: Need) -> bool
+pub fn meets(cache: &Sets, line: LineAddr, need: Need) -> bool
     ensures { result ≡ meets_in cache.now.residency line.number need }
 {
     let bits = cache.bits(line);

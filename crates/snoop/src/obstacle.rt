@@ -104,7 +104,8 @@ impl Bus {
         hart: HartId,
         other: Option<HartId>,
     ) -> Option<HartId>
-        requires { hart.number < length (kept self.now).copies.caches }
+        requires hart_exists { hart.number < length (kept self.now).agents }
+        requires ready { IsReady (kept self.now) }
         ensures { (state : ModelState) → Shows (kept self.now) state →
             option_map number_of result
             ≡ (if model.conflicts (numbered request) hart.number (hart_of state hart.number) then Some hart.number

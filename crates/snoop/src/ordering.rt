@@ -8,6 +8,7 @@ ghost use Rattle.el_model.specs.Order.{
   InFront,
   before_face,
   marked_from,
+  order_freed,
   order_losers,
   order_turn,
   place_for,
@@ -18,22 +19,23 @@ ghost use Rattle.el_model.specs.Order.{
 ghost use Rattle.el_model.specs.State.{ModelState};
 ghost use Rattle.policy.specs.Winners.{wins_of};
 ghost use Rattle.snoop.specs.Agent.{agent_at};
+ghost use Rattle.snoop.specs.LettingGo.{KeepsBytes};
 ghost use Rattle.snoop.specs.Places.{definition_place};
 ghost use Rattle.snoop.specs.Shows.{IsReady, Shows, kept};
 ghost use Rattle.stamp.specs.Stamps as stamps;
 
 use crate::agents::{post, unraise};
 use crate::bus::Bus;
-use crate::meeting::meets_section;
+use crate::face::Met;
 use bus_order::Request;
-use el_base::{Freed, HartId, Losers, Mode, Need, Outcome};
+use el_base::{HartId, Mode, Need, Outcome};
 use mail::Message;
 use policy::Policy;
 
 /// Where a request goes among the requests of its line.
 #[derive(Clone, Copy, Debug, PartialEq, Eq)]
 enum Place {
-    /// Before all of them: a section of its own hart has a bit there.
+    /// Before all of them: its own hart has a live section with a bit there.
     InFront,
     /// Behind all of them.
     Behind,
@@ -43,16 +45,14 @@ enum Place {
 
 impl Bus {
     /// Where a request goes.
+    #[tactic(auto, using(crate::proofs::Living::lives_shown))]
     fn place_for(&self, request: Request) -> Place
-        requires { request.hart.number < length (kept self.now).copies.caches }
+        requires hart_exists { request.hart.number < length (kept self.now).agents }
+        requires ready { IsReady (kept self.now) }
         ensures { (state : ModelState) → Shows (kept self.now) state →
             definition_place result ≡ place_for state (numbered request) }
     {
-        if meets_section(
-            self.hierarchy.cache(request.hart),
-            request.line,
-            Need::Write,
-        ) {
+        if self.meets_section(request.hart, request.line, Need::Write) {
             return Place::InFront;
         }
         match self.order.first_of(request.line) {
@@ -138,39 +138,44 @@ impl Bus {
         }
     }
 
-    /// The request takes its place, and is faced where it is the first of its line.
+    /// The request takes its place, and is met where it is the first of its line.
     #[tactic(auto, unfolding(el_model::specs::Order::placed))]
-    fn place<P: Policy>(&mut self, request: Request, policy: &P) -> Losers
+    fn place<P: Policy>(&mut self, request: Request, policy: &P) -> Met
         requires ready { IsReady (kept self.old) }
         requires raised { (agent_at (kept self.old).agents request.hart.number).raised ≡ Some (numbered request) }
         requires policy { (request holder : Option stamps.Stamp) →
             P.beats policy.now request holder ≡ wins_of (kept self.old).mode request holder }
         ensures ready { IsReady (kept self.new) }
         ensures shows { (state : ModelState) → Shows (kept self.old) state →
+            KeepsBytes state.committed (placed state (numbered request) (place_for state (numbered request))).committed →
             Shows (kept self.new) (placed state (numbered request) (place_for state (numbered request))) }
         ensures losers { (state : ModelState) → Shows (kept self.old) state →
-            result ≡ order_losers state (numbered request) }
+            result.losers ≡ order_losers state (numbered request) }
+        ensures freed { (state : ModelState) → Shows (kept self.old) state →
+            result.freed ≡ order_freed state (numbered request) }
         ensures memory_stays { (kept self.new).copies.lines ≡ (kept self.old).copies.lines }
     {
         match self.place_for(request) {
             Place::InFront => {
                 self.go_in_front(request);
-                self.face(request, policy)
+                self.meet(request, policy)
             }
             Place::Behind => {
                 self.go_behind(request);
-                Losers::none()
+                Met::nobody()
             }
             Place::Alone => {
                 self.put_last(request);
-                self.face(request, policy)
+                self.meet(request, policy)
             }
         }
     }
 
     /// The request that a hart has raised takes its place in the order: before all requests of its line where the
-    /// hart's own section has a bit there, else behind them. Where it is the first of its line then, it is faced,
-    /// and the outcome tells which sections lost. It is `Idle` exactly where the hart has raised no request.
+    /// hart's own live section has a bit there, else behind them. Where it is the first of its line then, it is met:
+    /// if it is to write, each armed section that has read the line is let go, and the live sections that conflict
+    /// with it lose or stay. The outcome tells which sections lost, and who was let go, with the number of
+    /// instructions. It is `Idle` exactly where the hart has raised no request.
     ///
     /// In lock removal a request that goes in front sends the hart of the former first one a marker, and the
     /// hart of the former last one sends one to the hart of a request that goes behind.
@@ -182,16 +187,17 @@ impl Bus {
             P.beats policy.now request holder ≡ wins_of (kept self.old).mode request holder }
         ensures ready { IsReady (kept self.new) }
         ensures state { (state : ModelState) → Shows (kept self.old) state →
+            KeepsBytes state.committed (order_turn state hart.number).state.committed →
             Shows (kept self.new) (order_turn state hart.number).state }
         ensures outcome { (state : ModelState) → Shows (kept self.old) state →
             result ≡ (order_turn state hart.number).outcome }
         ensures memory_stays { (kept self.new).copies.lines ≡ (kept self.old).copies.lines }
     {
         match self.agent(hart).raised() {
-            Some(request) => Outcome::Ordered {
-                losers: self.place(request, policy),
-                freed: Freed::none(),
-            },
+            Some(request) => {
+                let Met { losers, freed } = self.place(request, policy);
+                Outcome::Ordered { losers, freed }
+            }
             None => Outcome::Idle,
         }
     }

@@ -3,14 +3,13 @@
 ghost use Rattle.std.specs.Prelude.{◌≡◌, ◌<◌, Option, Some, length, true};
 ghost use Rattle.std.specs.Option.{option_map};
 ghost use Rattle.bus_order.specs.Order.{numbered, removed, request_of};
-ghost use Rattle.cache_sets.specs.Cache.{has_marks};
-ghost use Rattle.coherence.specs.Caches.{cache_at};
 ghost use Rattle.coherence.specs.Served.{HasLine, IsCoherent, IsServed, has_room, lines_after, shown};
 ghost use Rattle.el_model.specs.Serve as serving;
 ghost use Rattle.el_model.specs.Serve.{Free};
-ghost use Rattle.el_model.specs.Face.{face_losers_if, faced_if};
+ghost use Rattle.el_model.specs.Face.{freed_if, met_if, met_losers_if};
 ghost use Rattle.el_model.specs.State.{ModelState, head_of};
 ghost use Rattle.policy.specs.Winners.{wins_of};
+ghost use Rattle.snoop.specs.LettingGo.{KeepsBytes};
 ghost use Rattle.snoop.specs.MainMemory.{lines_served};
 ghost use Rattle.snoop.specs.Serving.{AgentsServe, CopiesClaim, CopiesServe, Serves};
 ghost use Rattle.snoop.specs.Shows.{IsReady, Shows, kept};
@@ -18,10 +17,11 @@ ghost use Rattle.stamp.specs.Stamps as stamps;
 
 use crate::agents::{claim, forget};
 use crate::bus::Bus;
+use crate::face::Met;
 use crate::obstacle::Obstacle;
 use bus_order::Request;
 use coherence::Hierarchy;
-use el_base::{Freed, HartId, LineAddr, Losers, Outcome};
+use el_base::{HartId, LineAddr, Outcome};
 use policy::Policy;
 
 impl Bus {
@@ -29,9 +29,9 @@ impl Bus {
     /// and no other hart holds it: the line comes into the hart's cache with the letter that its need gives, the
     /// other copies give it up, and a line that leaves for it is written back where main memory is behind. A live
     /// section gets its bit on the line, and a hart without one holds the line until its next step. The next request
-    /// of the line, if there is one, is faced, and the outcome tells which sections lost. `Blocked` tells the first
-    /// thing that is in the way, with its hart, and then nothing changes. It is `Idle` exactly where the hart has
-    /// nothing in the order.
+    /// of the line, if there is one, is met, as by `order`, and the outcome tells which sections lost, and who was let
+    /// go, with the number of instructions. `Blocked` tells the first thing that is in the way, with its hart, and then
+    /// nothing changes. It is `Idle` exactly where the hart has nothing in the order.
     #[tactic(auto, unfolding(el_model::specs::Serve::serve_turn))]
     pub fn serve<P: Policy>(&mut self, hart: HartId, policy: &P) -> Outcome
         requires hart_exists { hart.number < length (kept self.old).agents }
@@ -40,6 +40,7 @@ impl Bus {
             P.beats policy.now request holder ≡ wins_of (kept self.old).mode request holder }
         ensures ready { IsReady (kept self.new) }
         ensures state { (state : ModelState) → Shows (kept self.old) state →
+            KeepsBytes state.committed (serving.serve_turn state hart.number).state.committed →
             Shows (kept self.new) (serving.serve_turn state hart.number).state }
         ensures outcome { (state : ModelState) → Shows (kept self.old) state →
             result ≡ (serving.serve_turn state hart.number).outcome }
@@ -58,23 +59,26 @@ impl Bus {
         requires policy { (request holder : Option stamps.Stamp) →
             P.beats policy.now request holder ≡ wins_of (kept self.old).mode request holder }
         ensures ready { IsReady (kept self.new) }
-        ensures state { (state : ModelState) → Shows (kept self.old) state → Shows (kept self.new)
+        ensures state { (state : ModelState) → Shows (kept self.old) state → KeepsBytes state.committed
+            (serving.serve_past state (numbered request)
+            (serving.obstacle_to state (numbered request))).state.committed →
+            Shows (kept self.new)
             (serving.serve_past state (numbered request) (serving.obstacle_to state (numbered request))).state }
         ensures outcome { (state : ModelState) → Shows (kept self.old) state → result
             ≡ (serving.serve_past state (numbered request) (serving.obstacle_to state (numbered request))).outcome }
         ensures memory { (kept self.new).copies.lines ≡ lines_served (kept self.old) request.hart.number result }
     {
         match self.obstacle_to(request) {
-            Obstacle::Free => Outcome::Served {
-                losers: self.serve_free(request, policy),
-                freed: Freed::none(),
-            },
+            Obstacle::Free => {
+                let Met { losers, freed } = self.serve_free(request, policy);
+                Outcome::Served { losers, freed }
+            }
             Obstacle::Blocks { why, by } => Outcome::Blocked { why, by },
         }
     }
 
-    /// A request that nothing is in the way of is served, and the next one of its line is faced.
-    fn serve_free<P: Policy>(&mut self, request: Request, policy: &P) -> Losers
+    /// A request that nothing is in the way of is served, and the next one of its line is met.
+    fn serve_free<P: Policy>(&mut self, request: Request, policy: &P) -> Met
         requires ready { IsReady (kept self.old) }
         requires ordered { request_of (kept self.old).order request.hart.number ≡ Some (numbered request) }
         requires free { (state : ModelState) → Shows (kept self.old) state →
@@ -83,31 +87,37 @@ impl Bus {
             P.beats policy.now request holder ≡ wins_of (kept self.old).mode request holder }
         ensures ready { IsReady (kept self.new) }
         ensures state { (state : ModelState) → Shows (kept self.old) state →
+            KeepsBytes state.committed (serving.served_turn state (numbered request)).state.committed →
             Shows (kept self.new) (serving.served_turn state (numbered request)).state }
         ensures losers { (state : ModelState) → Shows (kept self.old) state →
-            result ≡ serving.serve_losers state (numbered request) }
+            result.losers ≡ serving.serve_losers state (numbered request) }
+        ensures freed { (state : ModelState) → Shows (kept self.old) state →
+            result.freed ≡ serving.serve_freed state (numbered request) }
         ensures memory { (kept self.new).copies.lines ≡
             lines_after request.hart.number request.line.number (kept self.old).copies }
     {
         self.give_line(request);
-        self.face_head(request.line, policy)
+        self.meet_head(request.line, policy)
     }
 
-    /// The head of a line is faced, if there is one.
-    fn face_head<P: Policy>(&mut self, line: LineAddr, policy: &P) -> Losers
+    /// The head of a line is met, if there is one.
+    fn meet_head<P: Policy>(&mut self, line: LineAddr, policy: &P) -> Met
         requires ready { IsReady (kept self.old) }
         requires policy { (request holder : Option stamps.Stamp) →
             P.beats policy.now request holder ≡ wins_of (kept self.old).mode request holder }
         ensures ready { IsReady (kept self.new) }
         ensures state { (state : ModelState) → Shows (kept self.old) state →
-            Shows (kept self.new) (faced_if state (head_of state line.number)) }
+            KeepsBytes state.committed (met_if state (head_of state line.number)).committed →
+            Shows (kept self.new) (met_if state (head_of state line.number)) }
         ensures losers { (state : ModelState) → Shows (kept self.old) state →
-            result ≡ face_losers_if state (head_of state line.number) }
+            result.losers ≡ met_losers_if state (head_of state line.number) }
+        ensures freed { (state : ModelState) → Shows (kept self.old) state →
+            result.freed ≡ freed_if state (head_of state line.number) }
         ensures memory_stays { (kept self.new).copies.lines ≡ (kept self.old).copies.lines }
     {
         match self.order.first_of(line) {
-            Some(head) => self.face(head, policy),
-            None => Losers::none(),
+            Some(head) => self.meet(head, policy),
+            None => Met::nobody(),
         }
     }
 
@@ -134,7 +144,7 @@ impl Bus {
         requires ordered { request_of (kept self.old).order request.hart.number ≡ Some (numbered request) }
         ensures { Serves (numbered request) (kept self.old) (kept self.new) }
     {
-        let live = self.hierarchy.cache(request.hart).marked();
+        let live = self.is_live(request.hart);
         fill(&mut self.hierarchy, request, live);
         forget(&mut self.agents, request.hart);
         claim(&mut self.agents, request, live);

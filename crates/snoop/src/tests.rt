@@ -12,6 +12,7 @@ ghost use Rattle.snoop.specs.Shows.{IsReady, kept};
 
 mod delivering;
 mod events;
+mod letting_go;
 mod making;
 mod ordering;
 mod readiness;
@@ -111,9 +112,10 @@ fn read_in_section(hierarchy: &mut Hierarchy, hart: HartId) -> bool
 }
 
 /// Four agents, of which that of hart 1 was told of hart 0 where this says so.
-#[tactic(auto, using(crate::proofs::Standing::none_raised_more))]
+#[tactic(auto, using(crate::proofs::Standing::none_raised_more, crate::proofs::Standing::few_armed_more))]
 fn agents(alloc: Global, mode: Mode, told: bool) -> Result<Vec<Agent>, Fail>
-    ensures { IfOk result (λ agents. (h : ℕ) → (agent_at agents.items h).raised ≡ None) }
+    ensures none_raised { IfOk result (λ agents. (h : ℕ) → (agent_at agents.items h).raised ≡ None) }
+    ensures few_armed { IfOk result (λ agents. (h : ℕ) → (agent_at agents.items h).armed ≤ 15) }
 {
     let mut agents = Vec::with_capacity(alloc, 4)?;
     for number in 0..4 {
@@ -124,7 +126,8 @@ fn agents(alloc: Global, mode: Mode, told: bool) -> Result<Vec<Agent>, Fail>
 
 /// A hart's agent, told of hart 0 where this says so.
 fn agent(alloc: Global, mode: Mode, hart: HartId, told: bool) -> Result<Agent, Fail>
-    ensures { IfOk result (λ agent. agent.raised ≡ None) }
+    ensures none_raised { IfOk result (λ agent. agent.raised ≡ None) }
+    ensures not_armed { IfOk result (λ agent. agent.armed ≡ 0) }
 {
     let mut agent = Agent::make(alloc)?;
     agent.open_attempt(mode, hart);

@@ -35,7 +35,7 @@ fn is_asked(requests: &[Request], hart: HartId, line: LineAddr, need: Need) -> b
 }
 
 /// Whether a need is to write.
-fn writes(need: Need) -> bool
+pub fn writes(need: Need) -> bool
     ensures { result ≡ model.writes need }
 {
     need == Need::Write

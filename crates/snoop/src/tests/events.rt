@@ -22,20 +22,48 @@ fn losers(pairs: &[(u8, u8)]) -> Result<Losers, Fail> {
     Ok(losers)
 }
 
-/// What Order says where each of these losers is beaten by its winner.
-pub(super) fn ordered(pairs: &[(u8, u8)]) -> Result<Option<Outcome>, Fail> {
+/// These freed harts, each with the number of its instructions.
+fn freed(counts: &[(u8, u8)]) -> Result<Freed, Fail> {
+    let mut freed = Freed::none();
+    for (number, count) in counts {
+        if *count < 1 || *count > 15 {
+            return Err("no such number of instructions".into());
+        }
+        freed = freed.with(hart(*number)?, *count);
+    }
+    Ok(freed)
+}
+
+/// What Order says where each of these losers is beaten by its winner, and these harts are let go.
+pub(super) fn ordered_and_freed(
+    pairs: &[(u8, u8)],
+    counts: &[(u8, u8)],
+) -> Result<Option<Outcome>, Fail> {
     Ok(Some(Outcome::Ordered {
         losers: losers(pairs)?,
-        freed: Freed::none(),
+        freed: freed(counts)?,
     }))
 }
 
-/// What Serve says where each of these losers is beaten by its winner.
-pub(super) fn served(pairs: &[(u8, u8)]) -> Result<Option<Outcome>, Fail> {
+/// The same where nobody is let go.
+pub(super) fn ordered(pairs: &[(u8, u8)]) -> Result<Option<Outcome>, Fail> {
+    ordered_and_freed(pairs, &[])
+}
+
+/// What Serve says where each of these losers is beaten by its winner, and these harts are let go.
+pub(super) fn served_and_freed(
+    pairs: &[(u8, u8)],
+    counts: &[(u8, u8)],
+) -> Result<Option<Outcome>, Fail> {
     Ok(Some(Outcome::Served {
         losers: losers(pairs)?,
-        freed: Freed::none(),
+        freed: freed(counts)?,
     }))
+}
+
+/// The same where nobody is let go.
+pub(super) fn served(pairs: &[(u8, u8)]) -> Result<Option<Outcome>, Fail> {
+    served_and_freed(pairs, &[])
 }
 
 /// What Deliver says where each of these losers is beaten by its winner.
@@ -108,11 +136,11 @@ pub(super) fn give_up(bus: &mut Bus, hart: HartId)
     requires { IsReady (kept bus.old) }
     ensures { IsReady (kept bus.new) }
 {
-    let_go(&mut bus.agents, hart);
+    hold_nothing(&mut bus.agents, hart);
 }
 
 /// The same, of its agent.
-fn let_go(agents: &mut Vec<Agent>, hart: HartId)
+fn hold_nothing(agents: &mut Vec<Agent>, hart: HartId)
     ensures { agents.new.items ≡ with_agent agents.old.items hart.number
         (record (agent_at agents.old.items hart.number) { held = None }) }
 {

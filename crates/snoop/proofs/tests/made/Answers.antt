@@ -11,4 +11,4 @@ returns c =
     let each : length c.in_ok-hierarchy.hierarchy.caches.items ≡ length agents.items = omega (arith, agents.ok.0) in
     rw c.new.ensures
     (ready_at_rest c.args.mode (shown c.in_ok-hierarchy.hierarchy) agents.items c.in_ok-hierarchy.ensures few each c.well_formed-2.ensures
-    c.in_ok-agents.ensures)
+    c.in_ok-agents.ensures.none_raised c.in_ok-agents.ensures.few_armed)

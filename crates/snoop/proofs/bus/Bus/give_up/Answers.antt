@@ -9,4 +9,6 @@ pub returns-clause-ready : goal.returns-clause-ready
 returns-clause-ready c =
     let bus = kept c.args.self.now in
     let agent = agent_at bus.agents c.args.hart.number in
-    rw c.give_up.ensures (ready_agent bus c.args.hart.number (record agent { held = None }) c.requires.ready (λ request is. is))
+    rw c.give_up.ensures
+    (ready_agent bus c.args.hart.number (record agent { held = None }) c.requires.ready (λ request is. is)
+    (c.requires.ready.few_armed c.args.hart.number))

@@ -1,9 +1,10 @@
 use Rattle.std.proofs.Common.{◌∙◌, ap, subst, sym, if◌then◌else◌}
 use Rattle.std.proofs.Common.{◌==◌, Some, option_map}
 use Rattle.bus_order.specs.Order.{numbered}
-use Rattle.el_model.specs.Deliver.{nobody, one_lost}
-use Rattle.snoop.specs.Shows.{IsReady, kept}
-use Rattle.snoop.proofs.Hears.{heard_ready, lost_ready, lost_shows, one_loser}
+use Rattle.el_model.specs.Deliver.{nobody, one_lost, told_of}
+use Rattle.el_model.specs.State.{with_hart}
+use Rattle.snoop.specs.Shows.{IsReady, Shows, kept}
+use Rattle.snoop.proofs.Hears.{heard_ready, heard_shows, lost_ready, lost_shows, one_loser}
 use Rattle.snoop.proofs.LosersBelow.{nobody_lost}
 use Rattle.snoop.proofs.bus.Bus.hear_of.Goals as goal
 
@@ -28,6 +29,13 @@ pub returns-else-loses_to_origin-clause-ready : goal.returns-else-loses_to_origi
 returns-else-loses_to_origin-clause-ready c =
     subst (λ agents. IsReady (record (kept c.args.self.now) { agents = agents })) (sym c.hear.ensures)
     (heard_ready (kept c.args.self.now) c.args.hart.number c.args.origin.number c.requires.ready)
+
+pub returns-else-loses_to_origin-clause-shows : goal.returns-else-loses_to_origin-clause-shows
+returns-else-loses_to_origin-clause-shows c = λ state shows.
+    let told = with_hart state c.args.hart.number (told_of state c.args.hart.number c.args.origin.number (option_map numbered c.args.request)) in
+    subst (λ agents. Shows (record (kept c.args.self.now) { agents = agents }) told) (sym c.hear.ensures)
+    (heard_shows (kept c.args.self.now) state c.args.hart.number c.args.origin.number (option_map numbered c.args.request) shows
+    (sym (c.loses_to_origin.ensures state shows) ∙ c.if-loses_to_origin.false))
 
 pub returns-else-loses_to_origin-clause-losers : goal.returns-else-loses_to_origin-clause-losers
 returns-else-loses_to_origin-clause-losers c = λ state shows.

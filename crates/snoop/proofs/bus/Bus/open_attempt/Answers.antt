@@ -6,4 +6,4 @@ use Rattle.snoop.specs.Shows.{kept}
 pub returns-clause-ready : goal.returns-clause-ready
 returns-clause-ready c =
     rw c.open_attempt.ensures
-    (ready_agent (kept c.args.self.now) c.args.hart.number _ c.requires.ready (λ request is. is))
+    (ready_agent (kept c.args.self.now) c.args.hart.number _ c.requires.ready (λ request is. is) (c.requires.ready.few_armed c.args.hart.number))

@@ -1,6 +1,6 @@
 -- a hart has raised a request
 use Rattle.bus_order.specs.Order.{Request}
-use Rattle.snoop.proofs.Raising.{ready_raised}
+use Rattle.snoop.proofs.Raising.{ready_raised, shows_raised}
 use Rattle.snoop.proofs.bus.Bus.raise.Goals as goal
 use Rattle.snoop.specs.Agent.{agent_at}
 use Rattle.snoop.specs.Shows.{kept}
@@ -13,3 +13,8 @@ returns-clause-ready c =
     record { hart = h; line = c.args.line.number; need = c.args.need; stamp = (agent_at bus.agents h).attempt } in
     rw (c.raise.ensures, c.attempt-stamp.ensures, c.agent.ensures)
     (ready_raised bus request c.requires.ready c.requires.hart_exists c.requires.no_request c.requires.in_memory c.requires.room)
+
+pub returns-clause-shows : goal.returns-clause-shows
+returns-clause-shows c = λ state shows.
+    rw (c.raise.ensures, c.attempt-stamp.ensures, c.agent.ensures)
+    (shows_raised (kept c.args.self.now) state c.args.hart.number c.args.line.number c.args.need shows c.requires.holds_nothing)

@@ -2,10 +2,9 @@ use Rattle.std.proofs.Common.{arith}
 use Rattle.bus_order.specs.Order.{numbered}
 use Rattle.snoop.proofs.bus.Bus.serve_parts.Goals as goal
 
-pub cache-requires : goal.cache-requires
-cache-requires c =
-    let can = c.requires.ready.ordered c.args.request.hart.number (numbered c.args.request) c.requires.ordered in
-    omega (arith, can.hart_exists, c.requires.ready.each)
+pub is_live-live-requires-clause-hart_exists : goal.is_live-live-requires-clause-hart_exists
+is_live-live-requires-clause-hart_exists c =
+    (c.requires.ready.ordered c.args.request.hart.number (numbered c.args.request) c.requires.ordered).hart_exists
 
 pub fill-requires-clause-hart_exists : goal.fill-requires-clause-hart_exists
 fill-requires-clause-hart_exists c =

@@ -1,0 +1,87 @@
+-- who has a live section: what the bus keeps of it tells what the definition says
+use Rattle.std.proofs.Common.{◌≡◌, ◌∙◌, ℕ, ◌≤◌, ◌==◌, ◌&&◌, not, Bool, true, false, List, None, is_some, refl, ap, sym, arith}
+use Rattle.std.proofs.lemmas.Bool.Decides.{nat_tests}
+use Rattle.bus_order.proofs.LookUps.{number_of_test}
+use Rattle.cache_sets.proofs.MarkLemmas.{has_marks-cleared}
+use Rattle.cache_sets.specs.Cache.{cleared, has_marks}
+use Rattle.cache_sets.specs.Residency.{Way}
+use Rattle.el_model.specs.Plain.{armed_count}
+use Rattle.el_model.specs.State.{Hart, ModelState, hart_of, is_live, new_hart}
+use Rattle.snoop.specs.Agent.{agent_at}
+use Rattle.snoop.specs.Shows.{Kept, Shows, lives, lives_at}
+
+and_true : (b : Bool) → (b && true) ≡ b
+and_true true = refl
+and_true false = refl
+
+and_false : (b : Bool) → (b && false) ≡ false
+and_false true = refl
+and_false false = refl
+
+-- where a hart is not armed, some line has a bit exactly where it has a live section
+pub lives_unarmed : (cache : List (List Way)) (count : ℕ) → count ≡ 0 → lives cache count ≡ has_marks cache
+lives_unarmed cache count none = ap (lives cache) none ∙ and_true (has_marks cache)
+
+-- an armed hart has no live section
+pub lives_armed : (cache : List (List Way)) (count : ℕ) → 1 ≤ count → lives cache count ≡ false
+lives_armed cache count some =
+    let armed : (count == 0) ≡ false = grind (arith, nat_tests) in
+    ap (λ none. has_marks cache && none) armed ∙ and_false (has_marks cache)
+
+-- for an armed hart the bits are no matter
+pub lives_alike : (one other : List (List Way)) (count : ℕ) → (count ≡ 0 → has_marks one ≡ has_marks other) → lives one count ≡ lives other count
+lives_alike one other count alike = by (count == 0) refl
+  where
+    by : (test : Bool) → (count == 0) ≡ test → (has_marks one && test) ≡ (has_marks other && test)
+    by true none = ap (λ marks. marks && true) (alike (number_of_test count 0 none))
+    by false some = and_false (has_marks one) ∙ sym (and_false (has_marks other))
+
+-- a hart of which the bus tells whether it has a live section: it has one exactly where some line of its cache has a bit and it is not
+-- armed, and an armed one has run an instruction
+pub record TellsSection (hart : Hart) : Type 0 where
+  pub live : is_some hart.section ≡ lives hart.cache (armed_count hart.armed)
+  pub arms : is_some hart.armed ≡ not (armed_count hart.armed == 0)
+
+pub tells : {bus : Kept} {state : ModelState} → Shows bus state → (h : ℕ) → TellsSection (hart_of state h)
+tells shows h = record { live = shows.live h; arms = shows.arms h }
+
+pub tells_yet : (old new : Hart) → new.section ≡ old.section → new.armed ≡ old.armed → new.cache ≡ old.cache → TellsSection old → TellsSection new
+tells_yet old new section armed cache was = record {
+  live = rw (section, armed, cache) was.live;
+  arms = rw armed was.arms;
+}
+
+-- a hart past the last one, one that is out of its section, and one that is not armed any more
+pub tells_nothing : TellsSection (new_hart 0)
+tells_nothing = record { live = refl; arms = refl }
+
+pub tells_cleared : (hart : Hart) (cache : List (List Way)) → is_some hart.section ≡ false → hart.armed ≡ None → hart.cache ≡ cleared cache →
+    TellsSection hart
+tells_cleared hart cache section armed is = record {
+  live = section ∙ rw (armed, is) (sym (lives_unarmed (cleared cache) 0 refl ∙ has_marks-cleared cache));
+  arms = rw armed refl;
+}
+
+-- a hart with a live section is not armed
+pub live_unarmed : (hart : Hart) → TellsSection hart → is_some hart.section ≡ true → armed_count hart.armed ≡ 0
+live_unarmed hart told live = number_of_test (armed_count hart.armed) 0 (second (has_marks hart.cache) _ (sym told.live ∙ live))
+  where
+    second : (a b : Bool) → (a && b) ≡ true → b ≡ true
+    second true b is = is
+    second false b is = absurd (cc)
+
+-- and an armed one has none
+pub armed_lifeless : (hart : Hart) → TellsSection hart → is_some hart.armed ≡ true → is_some hart.section ≡ false
+armed_lifeless hart told armed =
+    told.live ∙ ap (λ none. has_marks hart.cache && none) (not_true _ (sym told.arms ∙ armed)) ∙ and_false (has_marks hart.cache)
+  where
+    not_true : (b : Bool) → not b ≡ true → b ≡ false
+    not_true true is = absurd (cc)
+    not_true false is = refl
+
+-- the test that the bus makes
+pub lives_shown : (bus : Kept) (state : ModelState) (h : ℕ) → Shows bus state → lives_at bus h ≡ is_live state h
+lives_shown bus state h shows =
+    ap (λ cache. lives cache (agent_at bus.agents h).armed) (shows.caches h)
+    ∙ ap (λ agent. lives (hart_of state h).cache agent.armed) (shows.agents h)
+    ∙ sym (shows.live h)

@@ -14,7 +14,7 @@ use Rattle.core_step.specs.declared.ended.Ended.TheVariants.{Needs}
 use Rattle.el_base.specs.LineAddr.{line_addr}
 use Rattle.el_base.specs.declared.line.LineAddr.{LineAddr}
 use Rattle.el_base.specs.declared.outcomes.Need.{Need}
-use Rattle.el_model.specs.Plain.{Begins, Misses, PlainRule, Runs, touch_rule}
+use Rattle.el_model.specs.Plain.{Arms, Begins, Misses, PlainRule, Runs, touch_rule}
 use Rattle.el_model.specs.State.{ModelState, cache_of}
 use Rattle.el_model.specs.Upcoming.{Touch, next_touch, touch_of}
 use Rattle.rv_alu.specs.Execution.{Execution, Store, perform, store_in}
@@ -32,6 +32,7 @@ abbrev pub ShowsRule : Ended → PlainRule → Type 0
 ShowsRule ended (Runs touch) = (line : LineAddr) (need : Need) → ended ≢ Needs line need
 ShowsRule ended (Misses line need) = ended ≡ Needs (line_addr line) need
 ShowsRule ended (Begins swap) = ⊥
+ShowsRule ended (Arms word) = ⊥
 
 -- a hart's next instruction ends over its cache as the rule says for what it touches
 abbrev pub StepsShowTheirRule : Type 0

@@ -2,7 +2,7 @@
 use Rattle.std.proofs.Common.{◌≡◌, ℕ, ◌%◌, ◌-◌, Bool, true, false, List, Option, Some, refl}
 use Rattle.std.specs.Prelude.{◌==◌, ◌||◌, if◌then◌else◌, not}
 use Rattle.el_base.specs.declared.line.TheConstants.{LINE_BYTES}
-use Rattle.el_model.specs.Upcoming.{is_swap, is_swap_op, is_word_store}
+use Rattle.el_model.specs.Upcoming.{is_load_reserved, is_store_conditional, is_swap, is_swap_op, is_word_store}
 use Rattle.rv_alu.specs.Action.{action_of, checked_of, has_reserved_of, indirect_of, jump_of}
 use Rattle.rv_alu.specs.Cause.{instruction_address_misaligned}
 use Rattle.rv_alu.specs.Footprint.{is_call}
@@ -17,23 +17,42 @@ use Rattle.rv_word.specs.declared.insn.Insn.{Insn}
 use Rattle.rv_word.specs.declared.insn.Insn.TheVariants as insns
 use Rattle.rv_word.specs.declared.insn.StoreWidth.TheVariants as widths
 
--- an instruction is a store of a word or not, a swap or not, and no call
-pub record IsAccess (insn : Insn) (stores swaps : Bool) : Type 0 where
-  pub word_store : is_word_store (Some insn) ≡ stores
-  pub swap : is_swap (Some insn) ≡ swaps
-  pub call : is_call insn ≡ false
+-- what an instruction is: a store of a word, a swap, an LR, an SC, a call, or none of these
+pub record Facts : Type 0 where
+  pub word_store : Bool
+  pub swap : Bool
+  pub reserve : Bool
+  pub conditional : Bool
+  pub call : Bool
 
--- what is known of an instruction by its action: only SW stores all of a word and is no atomic operation, only a swap
--- exchanges one, and only a call exits, answers or appends
+abbrev pub facts_of : Insn → Facts
+facts_of insn = record {
+  word_store = is_word_store (Some insn);
+  swap = is_swap (Some insn);
+  reserve = is_load_reserved (Some insn);
+  conditional = is_store_conditional (Some insn);
+  call = is_call insn;
+}
+
+abbrev no_facts : Facts
+no_facts = record { word_store = false; swap = false; reserve = false; conditional = false; call = false }
+
+-- what an action that does not trap tells of its instruction: only SW stores all of a word and is no atomic operation, only a swap or an SC
+-- exchanges one, only an LR reserves one, only an SC fails, and only a call exits, answers or appends
+abbrev pub facts_by : Action → Facts
+facts_by (actions.Exit code) = record no_facts { call = true }
+facts_by (actions.Answer value) = record no_facts { call = true }
+facts_by (actions.Append address len) = record no_facts { call = true }
+facts_by (actions.LoadReserved rd address) = record no_facts { reserve = true }
+facts_by (actions.Store address len value) = record no_facts { word_store = len == 4 }
+facts_by (actions.StoreConditional rd address value) = record no_facts { conditional = true }
+facts_by (actions.Fail rd) = record no_facts { conditional = true }
+facts_by (actions.Amo op rd address source) = record no_facts { swap = is_swap_op op }
+facts_by _ = no_facts
+
 abbrev pub ComesOf : Insn → Action → Type 0
 ComesOf insn (actions.Trap cause) = Unit {0}
-ComesOf insn (actions.Exit code) = is_call insn ≡ true
-ComesOf insn (actions.Answer value) = is_call insn ≡ true
-ComesOf insn (actions.Append address len) = is_call insn ≡ true
-ComesOf insn (actions.Store address len value) = IsAccess insn (len == 4) false
-ComesOf insn (actions.StoreConditional rd address value) = IsAccess insn false false
-ComesOf insn (actions.Amo op rd address source) = IsAccess insn false (is_swap_op op)
-ComesOf insn _ = is_call insn ≡ false
+ComesOf insn action = facts_of insn ≡ facts_by action
 
 -- one of two actions
 comes-if : (insn : Insn) (b : Bool) (x y : Action) → ComesOf insn x → ComesOf insn y → ComesOf insn (if b then x else y)
@@ -78,11 +97,11 @@ comes (insns.Branch test rs1 rs2 offset) pc regs reserved span room =
     (comes-jump insn (moved_of pc offset) (actions.Go (moved_of pc offset)) refl) refl
 comes (insns.Load width rd rs1 offset) pc regs reserved span room = comes-checked (insns.Load width rd rs1 offset) span _ _ _ _ _ refl
 comes (insns.Store widths.Byte rs1 rs2 offset) pc regs reserved span room =
-    comes-checked (insns.Store widths.Byte rs1 rs2 offset) span _ _ _ _ _ (record { word_store = refl; swap = refl; call = refl })
+    comes-checked (insns.Store widths.Byte rs1 rs2 offset) span _ _ _ _ _ refl
 comes (insns.Store widths.Half rs1 rs2 offset) pc regs reserved span room =
-    comes-checked (insns.Store widths.Half rs1 rs2 offset) span _ _ _ _ _ (record { word_store = refl; swap = refl; call = refl })
+    comes-checked (insns.Store widths.Half rs1 rs2 offset) span _ _ _ _ _ refl
 comes (insns.Store widths.Word rs1 rs2 offset) pc regs reserved span room =
-    comes-checked (insns.Store widths.Word rs1 rs2 offset) span _ _ _ _ _ (record { word_store = refl; swap = refl; call = refl })
+    comes-checked (insns.Store widths.Word rs1 rs2 offset) span _ _ _ _ _ refl
 comes (insns.OpImm op rd rs1 imm) pc regs reserved span room = refl
 comes (insns.Op op rd rs1 rs2) pc regs reserved span room = refl
 comes insns.Fence pc regs reserved span room = refl
@@ -92,6 +111,6 @@ comes (insns.Lr rd rs1 aq rl) pc regs reserved span room = comes-checked (insns.
 comes (insns.Sc rd rs1 rs2 aq rl) pc regs reserved span room =
     let insn = insns.Sc rd rs1 rs2 aq rl in
     comes-checked insn span _ _ _ _ _
-    (comes-if insn (has_reserved_of reserved (get regs rs1.number)) _ _ (record { word_store = refl; swap = refl; call = refl }) refl)
+    (comes-if insn (has_reserved_of reserved (get regs rs1.number)) _ _ refl refl)
 comes (insns.Amo op rd rs1 rs2 aq rl) pc regs reserved span room =
-    comes-checked (insns.Amo op rd rs1 rs2 aq rl) span _ _ _ _ _ (record { word_store = refl; swap = refl; call = refl })
+    comes-checked (insns.Amo op rd rs1 rs2 aq rl) span _ _ _ _ _ refl

@@ -31,6 +31,29 @@ swap_by byte (actions.Amo op rd address source) =
     if is_swap_op op then Some (record { word = address; old = loaded byte address 4; new = source }) else None
 swap_by byte _ = None
 
+-- where it is a store conditional that succeeds
+abbrev pub conditional_by : (ℕ → ℕ) → Action → Option Swap
+conditional_by byte (actions.StoreConditional rd address value) = Some (record { word = address; old = loaded byte address 4; new = value })
+conditional_by byte _ = None
+
+-- and where it is either, and so exchanges a word
+abbrev pub exchange_by : (ℕ → ℕ) → Action → Option Swap
+exchange_by byte (actions.Amo op rd address source) = swap_by byte (actions.Amo op rd address source)
+exchange_by byte (actions.StoreConditional rd address value) = Some (record { word = address; old = loaded byte address 4; new = value })
+exchange_by byte _ = None
+
+-- the word that an action reserves
+abbrev pub reserved_by : Action → Option ℕ
+reserved_by (actions.LoadReserved rd address) = Some address
+reserved_by _ = None
+
+-- whether it touches no memory, is no store conditional and neither calls nor stops its hart
+abbrev pub quiet : Action → Bool
+quiet (actions.Put rd value) = true
+quiet (actions.JumpAndLink rd target) = true
+quiet (actions.Go target) = true
+quiet _ = false
+
 -- whether bytes from an address on are bytes of a word
 abbrev pub meets_word : ℕ → ℕ → ℕ → Bool
 meets_word word address len = nat_lt address (word + 4) && nat_lt word (address + len)

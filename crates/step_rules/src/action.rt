@@ -28,6 +28,53 @@ pub fn swaps(action: Action) -> Option<Exchange>
     }
 }
 
+/// The exchange that a store conditional is, if it is one that succeeds.
+pub fn conditionals(action: Action) -> Option<Exchange>
+    ensures exact { (byte : ℕ → ℕ) →
+        option_map (actions.swap_over byte) result ≡ actions.conditional_by byte action }
+    ensures aligned { IsAligned action → IfSome result (λ exchange. exchange.word % 4 ≡ 0) }
+{
+    match action {
+        Action::StoreConditional { address, value, .. } => Some(Exchange {
+            word: address,
+            new: value,
+        }),
+        _ => None,
+    }
+}
+
+/// The exchange that it is, if it is one of the two.
+pub fn exchanges(action: Action) -> Option<Exchange>
+    ensures exact { (byte : ℕ → ℕ) → option_map (actions.swap_over byte) result ≡ actions.exchange_by byte action }
+    ensures aligned { IsAligned action → IfSome result (λ exchange. exchange.word % 4 ≡ 0) }
+{
+    match action {
+        Action::StoreConditional { .. } => conditionals(action),
+        _ => swaps(action),
+    }
+}
+
+/// The word that it reserves, if it reserves one.
+pub fn reserves(action: Action) -> Option<u32>
+    ensures exact { result ≡ actions.reserved_by action }
+    ensures aligned { IsAligned action → IfSome result (λ word. word % 4 ≡ 0) }
+{
+    match action {
+        Action::LoadReserved { address, .. } => Some(address),
+        _ => None,
+    }
+}
+
+/// Whether it touches no memory, is no store conditional and neither calls nor stops its hart.
+pub fn quiet(action: Action) -> bool
+    ensures { result ≡ actions.quiet action }
+{
+    matches!(
+        action,
+        Action::Put { .. } | Action::JumpAndLink { .. } | Action::Go { .. }
+    )
+}
+
 /// Whether it stores `old` in all of the word at an address, and is no store conditional.
 pub fn releases(action: Action, word: u32, old: u32) -> bool
     ensures { result ≡ actions.releases word old action }

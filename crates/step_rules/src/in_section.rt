@@ -17,8 +17,8 @@ use moesi::may;
 use rv_alu::Action;
 use snoop::Bus;
 
-/// How far a live section has come: how many instructions it has run, its acquire included, and its lock word with
-/// the value that the acquire found there.
+/// How far a live or an armed section has come: how many instructions it has run, from its swap or LR on, and its word
+/// with the value that the swap or LR found there.
 #[derive(Clone, Copy, Debug, PartialEq, Eq)]
 pub struct Progress {
     pub count: u32,

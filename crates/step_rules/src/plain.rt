@@ -5,13 +5,24 @@ ghost use Rattle.std.specs.Option.{option_map};
 ghost use Rattle.core_step.specs.Run.{IsAligned};
 ghost use Rattle.el_model.specs.Plain as model;
 ghost use Rattle.el_model.specs.State.{ModelState};
-ghost use Rattle.el_model.specs.Upcoming.{next_touch};
+ghost use Rattle.el_model.specs.Upcoming.{next_swap, next_touch};
 ghost use Rattle.rv_flat.specs.Memory.{byte_in};
 ghost use Rattle.snoop.specs.Shows.{Shows, kept};
 ghost use Rattle.step_rules.specs.Actions.{IsNext, numbered_swap, numbered_touch, swap_over};
-ghost use Rattle.step_rules.specs.Rules.{IsOnLine, MayElide, beginning_rule, definition_plain, touching_rule};
+ghost use Rattle.step_rules.specs.Rules.{
+  FindsOld,
+  IsOnLine,
+  MayElide,
+  NeverArms,
+  TellsOld,
+  acquiring_rule,
+  arming_rule,
+  beginning_rule,
+  definition_plain,
+  touching_rule,
+};
 
-use crate::upcoming::{Exchange, Swap, Touch, exchange_of, touch_of};
+use crate::upcoming::{Exchange, Swap, Touch, reserve_of, swap_of, touch_of};
 use crate::words::word_in;
 use cache_sets::Sets;
 use el_base::{HartId, LineAddr, Need, line_of};
@@ -19,7 +30,7 @@ use moesi::may;
 use rv_alu::Action;
 use snoop::Bus;
 
-/// What a step of a hart without a live section comes to, which runs and waits for no request.
+/// What a step of a hart without a live or armed section comes to, which runs and waits for no request.
 #[derive(Clone, Copy, Debug, PartialEq, Eq)]
 pub enum PlainRule {
     /// One instruction runs, which touches a line or none.
@@ -28,22 +39,50 @@ pub enum PlainRule {
     Misses { line: LineAddr, need: Need },
     /// The acquire is elided, and a section begins.
     Begins { swap: Swap },
+    /// The LR of a word, which finds `old` there, and what comes behind it are kept private.
+    Arms { word: u32, old: u32 },
 }
 
 /// The rule of a hart outside of a section, whose next action this is; `may_elide` says whether a swap at its pc may
-/// be elided. (The elision of an acquire is the idea of 'Speculative Lock Elision', MICRO 2001.)
+/// be elided, and whether its hart may arm at an LR there. (The elision of an acquire is the idea of 'Speculative Lock
+/// Elision', MICRO 2001.)
+#[tactic(auto, using(crate::proofs::Arming::never_tells))]
 pub fn plain_rule(bus: &Bus, hart: HartId, action: &Action, may_elide: bool) -> PlainRule
     requires hart_exists { hart.number < length (kept bus.now).copies.caches }
     requires aligned { IsAligned action.now }
-    ensures { (state : ModelState) → Shows (kept bus.now) state → IsOnLine state.committed →
+    ensures rule { (state : ModelState) → Shows (kept bus.now) state → IsOnLine state.committed →
         IsNext action.now state.committed hart.number →
         MayElide state hart.number may_elide →
         definition_plain result ≡ model.plain_rule state hart.number }
+    ensures old { (state : ModelState) → Shows (kept bus.now) state → IsOnLine state.committed →
+        IsNext action.now state.committed hart.number → TellsOld result state.committed }
 {
     let touch = touch_of(action);
-    match exchange_of(action) {
-        Some(exchange) if may_elide => swap_rule(bus, hart, exchange, touch),
-        _ => touch_rule(bus.sets(hart), touch),
+    if may_elide {
+        acquire_rule(bus, hart, action, touch)
+    } else {
+        touch_rule(bus.sets(hart), touch)
+    }
+}
+
+/// The same where an acquire that comes next may be elided.
+#[tactic(auto, using(crate::proofs::Arming::never_tells))]
+fn acquire_rule(bus: &Bus, hart: HartId, action: &Action, touch: Option<Touch>) -> PlainRule
+    requires hart_exists { hart.number < length (kept bus.now).copies.caches }
+    requires aligned { IsAligned action.now }
+    ensures rule { (state : ModelState) → Shows (kept bus.now) state → IsOnLine state.committed →
+        IsNext action.now state.committed hart.number →
+        option_map numbered_touch touch ≡ next_touch state.committed hart.number →
+        definition_plain result ≡ acquiring_rule state hart.number (next_swap state.committed hart.number) }
+    ensures old { (state : ModelState) → Shows (kept bus.now) state → IsOnLine state.committed →
+        IsNext action.now state.committed hart.number → TellsOld result state.committed }
+{
+    if let Some(exchange) = swap_of(action) {
+        return swap_rule(bus, hart, exchange, touch);
+    }
+    match reserve_of(action) {
+        Some(word) => reserve_rule(bus, hart, word, touch),
+        None => touch_rule(bus.sets(hart), touch),
     }
 }
 
@@ -53,7 +92,8 @@ pub fn plain_rule(bus: &Bus, hart: HartId, action: &Action, may_elide: bool) -> 
 fn swap_rule(bus: &Bus, hart: HartId, exchange: Exchange, touch: Option<Touch>) -> PlainRule
     requires hart_exists { hart.number < length (kept bus.now).copies.caches }
     requires aligned { exchange.word % 4 ≡ 0 }
-    ensures { (state : ModelState) → Shows (kept bus.now) state → IsOnLine state.committed →
+    ensures never_arms { NeverArms result }
+    ensures rule { (state : ModelState) → Shows (kept bus.now) state → IsOnLine state.committed →
         state.committed.base ≤ exchange.word →
         option_map numbered_touch touch ≡ next_touch state.committed hart.number →
         definition_plain result ≡ model.swap_rule state hart.number
@@ -77,7 +117,8 @@ fn swap_rule(bus: &Bus, hart: HartId, exchange: Exchange, touch: Option<Touch>) 
 
 /// The same where the hart's cache has the line, by whether another hart waits to write there.
 pub(crate) fn begin_rule(sets: &Sets, wanted: bool, swap: Swap, touch: Option<Touch>) -> PlainRule
-    ensures { definition_plain result
+    ensures never_arms { NeverArms result }
+    ensures rule { definition_plain result
         ≡ beginning_rule sets.now.residency wanted (numbered_swap swap) (option_map numbered_touch touch) }
 {
     if !swap.changes_word() {
@@ -92,9 +133,43 @@ pub(crate) fn begin_rule(sets: &Sets, wanted: bool, swap: Swap, touch: Option<To
     }
 }
 
+/// The rule where the action is an LR at which its hart may arm.
+fn reserve_rule(bus: &Bus, hart: HartId, word: u32, touch: Option<Touch>) -> PlainRule
+    requires hart_exists { hart.number < length (kept bus.now).copies.caches }
+    requires aligned { word % 4 ≡ 0 }
+    ensures rule { (state : ModelState) → Shows (kept bus.now) state →
+        option_map numbered_touch touch ≡ next_touch state.committed hart.number →
+        definition_plain result ≡ model.reserve_rule state hart.number (Some word) }
+    ensures old { (state : ModelState) → Shows (kept bus.now) state → IsOnLine state.committed →
+        state.committed.base ≤ word → TellsOld result state.committed }
+{
+    let wanted = bus.is_wanted(hart, line_of(word), Need::Read);
+    arm_rule(bus.sets(hart), wanted, word, touch)
+}
+
+/// The same by whether another hart waits to write on the word's line: the hart arms where none does and it may read
+/// the line; else the LR runs as any instruction.
+#[tactic(auto, using(crate::proofs::Begins::readable_there, crate::proofs::Arming::never_finds))]
+pub(crate) fn arm_rule(sets: &Sets, wanted: bool, word: u32, touch: Option<Touch>) -> PlainRule
+    requires aligned { word % 4 ≡ 0 }
+    ensures rule { definition_plain result
+        ≡ arming_rule sets.now.residency wanted word (option_map numbered_touch touch) }
+    ensures old { FindsOld result sets.now }
+{
+    let line = line_of(word);
+    if wanted || !may(sets.letter(line), Need::Read) {
+        return touch_rule(sets, touch);
+    }
+    PlainRule::Arms {
+        word,
+        old: word_in(sets.bytes(line), word),
+    }
+}
+
 /// The rule of any other action: it runs where the letter of its line permits it.
 fn touch_rule(sets: &Sets, touch: Option<Touch>) -> PlainRule
-    ensures { definition_plain result ≡ touching_rule sets.now.residency (option_map numbered_touch touch) }
+    ensures never_arms { NeverArms result }
+    ensures rule { definition_plain result ≡ touching_rule sets.now.residency (option_map numbered_touch touch) }
 {
     match touch {
         Some(Touch { line, need }) if !may(sets.letter(line), need) => {

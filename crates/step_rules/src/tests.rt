@@ -1,4 +1,4 @@
-//! What each instruction is to the rules, and each row of the two tables of rules once. Expected values are those of
+//! What each instruction is to the rules, and each row of the three tables of rules once. Expected values are those of
 //! the tables, worked by hand. The harts' caches have one set of two ways.
 
 ghost use Rattle.std.specs.Prelude.{◌<◌, IfOk, length};
@@ -53,6 +53,20 @@ fn store(address: u32, value: u32) -> Action {
         len: 4,
         value,
     }
+}
+
+/// A store conditional that stores this at an address.
+fn store_conditional(address: u32, value: u32) -> Action {
+    Action::StoreConditional {
+        rd: X5,
+        address,
+        value,
+    }
+}
+
+/// An LR of the word at an address.
+fn load_reserved(address: u32) -> Action {
+    Action::LoadReserved { rd: X5, address }
 }
 
 /// A load of a word.

@@ -2,9 +2,12 @@ ghost use Rattle.std.specs.Prelude.{◌<◌, length};
 ghost use Rattle.snoop.specs.Shows.{kept};
 
 use super::*;
+use crate::armed::complete_rule;
 use crate::in_section::mark_rule;
-use crate::plain::begin_rule;
-use crate::{PlainRule, Progress, SectionRule, Swap, Touch, plain_rule, section_rule};
+use crate::plain::{arm_rule, begin_rule};
+use crate::{
+    ArmedRule, PlainRule, Progress, SectionRule, Swap, Touch, armed_rule, plain_rule, section_rule,
+};
 use el_base::Cause;
 
 /// What touches the line of an address.
@@ -98,6 +101,17 @@ fn load_rule(bus: &Bus, address: u32) -> Option<PlainRule>
     Some(plain_rule(bus, HART, &action, true))
 }
 
+/// The rule of an LR, likewise.
+fn reserve_rule(bus: &Bus, address: u32, may_elide: bool) -> Option<PlainRule>
+    requires { 0 < length (kept bus.now).copies.caches }
+{
+    if address % 4 != 0 {
+        return None;
+    }
+    let action = Action::LoadReserved { rd: X5, address };
+    Some(plain_rule(bus, HART, &action, may_elide))
+}
+
 #[test]
 fn a_swap_begins_a_section_where_it_changes_its_word(rt: HostRuntime) -> Result<(), Fail> {
     let began = Swap {
@@ -161,6 +175,100 @@ fn no_section_begins_where_another_hart_waits_to_write(rt: HostRuntime) -> Resul
         runs(WORD, Need::Write)
     );
     Ok(())
+}
+
+#[test]
+fn a_hart_arms_at_an_lr_whose_line_it_may_read(rt: HostRuntime) -> Result<(), Fail> {
+    let arms = PlainRule::Arms { word: WORD, old: 5 };
+    let bus = bus(rt.alloc(), &one(Letter::S, None))?;
+    for (address, may_elide, rule) in [
+        (WORD, true, arms),
+        (WORD, false, runs(WORD, Need::Read)),
+        (WORD + 64, true, misses(WORD + 64, Need::Read)),
+        (WORD + 64, false, misses(WORD + 64, Need::Read)),
+    ] {
+        assert_eq!(rt;
+            reserve_rule(&bus, address, may_elide),
+            Some(rule),
+            "LR of {address:x}"
+        );
+    }
+    Ok(())
+}
+
+#[test]
+fn no_hart_arms_where_another_hart_waits_to_write(rt: HostRuntime) -> Result<(), Fail> {
+    let cache = cache(rt.alloc(), &one(Letter::E, None))?;
+    let read = Some(touch(WORD, Need::Read));
+    assert_eq!(rt; arm_rule(&cache, true, WORD, read), runs(WORD, Need::Read));
+    assert_eq!(rt;
+        arm_rule(&cache, false, WORD, read),
+        PlainRule::Arms { word: WORD, old: 5 }
+    );
+    Ok(())
+}
+
+/// The rule of an action in an armed section that has run so many instructions, and whose word held 5.
+fn armed(bus: &Bus, action: Action, count: u32, long: u32) -> ArmedRule {
+    let progress = Progress {
+        count,
+        word: WORD,
+        old: 5,
+    };
+    armed_rule(bus, HART, &action, progress, long)
+}
+
+/// The SC of the lock word that stores this is elided.
+fn elides(new: u32) -> ArmedRule {
+    ArmedRule::Elides {
+        swap: Swap {
+            word: WORD,
+            old: 5,
+            new,
+        },
+    }
+}
+
+#[test]
+fn an_armed_section_ends_by_what_is_not_private(rt: HostRuntime) -> Result<(), Fail> {
+    let bus = bus(rt.alloc(), &one(Letter::E, Some(Need::Read)))?;
+    let branch = Action::Go { target: WORD };
+    for (number, (action, count, long, rule)) in [
+        (branch, 1, 100, ArmedRule::Continues),
+        (branch, 14, 100, ArmedRule::Continues),
+        (branch, 15, 100, ArmedRule::LetsGo),
+        (branch, 8, 10, ArmedRule::Continues),
+        (branch, 9, 10, ArmedRule::LetsGo),
+        (branch, 1, 2, ArmedRule::LetsGo),
+        (store_conditional(WORD, 6), 1, 2, elides(6)),
+        (store_conditional(WORD, 6), 15, 100, elides(6)),
+        (store_conditional(WORD, 5), 2, 100, ArmedRule::LetsGo),
+        (store_conditional(WORD + 4, 6), 2, 100, ArmedRule::LetsGo),
+        (Action::Fail { rd: X5 }, 2, 100, ArmedRule::LetsGo),
+        (load_word(WORD), 1, 100, ArmedRule::LetsGo),
+        (load_reserved(WORD), 1, 100, ArmedRule::LetsGo),
+        (store(WORD, 6), 1, 100, ArmedRule::LetsGo),
+        (swap(WORD, 6), 1, 100, ArmedRule::LetsGo),
+        (Action::Answer { value: 0 }, 1, 100, ArmedRule::LetsGo),
+        (Action::Trap { cause: 3 }, 1, 100, ArmedRule::LetsGo),
+    ]
+    .iter()
+    .enumerate()
+    {
+        assert_eq!(rt; armed(&bus, *action, *count, *long), *rule, "row {number}");
+    }
+    Ok(())
+}
+
+#[test]
+fn no_sc_is_elided_where_another_hart_waits_to_write(rt: HostRuntime) {
+    let swap = Swap {
+        word: WORD,
+        old: 5,
+        new: 6,
+    };
+    assert_eq!(rt; complete_rule(swap, WORD, false), elides(6));
+    assert_eq!(rt; complete_rule(swap, WORD, true), ArmedRule::LetsGo);
 }
 
 /// The rule of an action in a section that has run so many instructions, and whose lock word held 0.

@@ -16,8 +16,8 @@ use Rattle.step_rules.proofs.plain.swap_rule.Goals as goal
 use Rattle.step_rules.specs.Actions.{numbered_touch}
 use Rattle.step_rules.specs.Rules.{beginning_rule}
 
-pub returns : goal.returns
-returns c = λ state shows on_line from touches.
+pub returns-clause-rule : goal.returns-clause-rule
+returns-clause-rule c = λ state shows on_line from touches.
     let bus = kept c.args.bus.now in
     let cache = cache_at bus.copies.caches c.args.hart.number in
     let word = c.args.exchange.word in
@@ -32,7 +32,7 @@ returns c = λ state shows on_line from touches.
     ∙ ap (λ bytes. loaded (slice_index bytes) (word % LINE_BYTES) 4)
     (c.bytes.ensures ∙ ap (λ now. bytes_of now c.line_of-line.result.number) c.sets-sets.ensures.exact
     ∙ ap (λ line. bytes_of cache line) c.line_of-line.ensures) in
-    c.begin_rule.ensures
+    c.begin_rule.ensures.rule
     ∙ ap
     (λ now. beginning_rule now.residency c.is_wanted.result (told c.args.exchange c.word_in.result) (option_map numbered_touch c.args.touch))
     c.sets-sets.ensures.exact

@@ -17,11 +17,11 @@ use Rattle.engine.proofs.Misses.{freed_each}
 use Rattle.engine.proofs.Others.{IsSeenAs, others_stay, seen_same, seen_unreserved}
 use Rattle.engine.proofs.Outsiders.{step_is, step_of}
 use Rattle.engine.proofs.RanAction.{hart_ran, ran_kept, ran_shows, same_execution, section_none, state_ran, tells_piece}
-use Rattle.engine.proofs.StandsOutside.{has_own, idle, inside, is_own, no_live, runs_there, view_is}
+use Rattle.engine.proofs.StandsOutside.{has_own, idle, inside, is_own, no_armed, no_live, runs_there, view_is}
 use Rattle.engine.specs.Acting.{ActsOutside, cache_in, next_action}
 use Rattle.engine.specs.Effect.{piece_in, unreserved_on}
 use Rattle.engine.specs.Outside.{execution_in}
-use Rattle.engine.specs.Parts.{IsIn, IsOfHart, KeepsSectionOf, Parts, own_at, present_at, room_in}
+use Rattle.engine.specs.Parts.{IsIn, IsOfHart, KeepsReserved, KeepsSectionOf, Parts, StandsAs, own_at, present_at, room_in}
 use Rattle.hart_state.proofs.Harts.{ran_is, written_is}
 use Rattle.hart_state.specs.Deeds.{ran_own, unreserved_own}
 use Rattle.hart_state.specs.Lending.{with_view}
@@ -36,7 +36,6 @@ use Rattle.rv_flat.proofs.StepLaws.{keeps_shape, own_view, running}
 use Rattle.rv_flat.specs.FlatState.{FlatState, no_hart, span_of, view_of}
 use Rattle.rv_flat.specs.Laws.{KeepsShape, written_line}
 use Rattle.rv_flat.specs.Step.{appended_by, applied, execution_of, flat, unreserved_by}
-use Rattle.section_ctl.specs.State as sections
 use Rattle.snoop.specs.Returned.{returned}
 
 -- what the hart keeps then
@@ -109,12 +108,15 @@ module _ (parts : Parts) (hart : HartId) (state : ModelState) (action : Action) 
       let kept = ran_kept state hart.number own in
       let live : (own_ran parts hart.number state action).section.live ≡ None =
       ap (λ section. section.live) kept ∙ no_live parts hart.number state acts in
+      let armed : (own_ran parts hart.number state action).section.armed ≡ None =
+      ap (λ section. section.armed) kept ∙ no_armed parts hart.number state acts in
+      let ran = (own_ran parts hart.number state action).section in
       record {
         part =
             subst (HasOwn (own_ran parts hart.number state action)) (sym hart_there)
             (written_is (ran_own state hart.number own) (hart_ran state hart.number action) view
             (ran_is state hart.number (touch_of (footprint action)) own (hart_of state hart.number)
-            (has_own parts hart.number state acts)));
+            (has_own parts hart.number state acts) refl));
         view =
             ap (λ mark. checkpoint_or mark view) (no_checkpoint parts hart.number state action acts)
             ∙ ap (λ v. view_after (execution_in parts hart.number action) v) (view_is parts hart.number state acts)
@@ -124,13 +126,15 @@ module _ (parts : Parts) (hart : HartId) (state : ModelState) (action : Action) 
         section =
             subst (λ section. KeepsSectionOf (state_ran state hart.number action) hart.number section (own_ran parts hart.number state action).section)
             (sym (ap (λ k. k.section) hart_there ∙ section_none parts hart.number state action acts is place none cache run)) tt;
+        armed =
+            subst (λ reserved. KeepsReserved (state_ran state hart.number action).committed hart.number reserved ran.marks.present) (sym armed) tt;
         stands =
-            subst (sections.Stands (own_ran parts hart.number state action).section.marks (own_ran parts hart.number state action).section.hold)
-            (sym live)
+            subst (λ l. StandsAs ran.marks ran.hold l ran.armed) (sym live)
+            (subst (λ a. StandsAs ran.marks ran.hold None a) (sym armed)
             (record {
               unmarked = no_checkpoint parts hart.number state action acts;
               empty = ap (λ section. section.hold.entries) kept ∙ (idle parts hart.number state acts).empty;
-            });
+            }));
         limit = ap (λ section. section.hold.limit) kept ∙ (is_own parts hart.number state acts).limit;
       }
 

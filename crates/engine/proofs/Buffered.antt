@@ -9,19 +9,20 @@ use Rattle.cache_sets.specs.WellFormed.{IsWellFormed}
 use Rattle.el_base.specs.declared.hart_id.HartId.{HartId}
 use Rattle.el_model.proofs.Harts.{hart_of-with_hart_same}
 use Rattle.el_model.specs.InSection.{Buffers, buffered_hart, covered, section_turn}
+use Rattle.el_model.specs.Plain.{armed_count}
 use Rattle.el_model.specs.State.{ModelState, Section, cache_of, hart_of, with_hart}
 use Rattle.el_model.specs.Upcoming.{Touch, touch_of}
 use Rattle.engine.proofs.Buffers.{buffers_turn, can_buffer, does_as_shown, inside_caches, is_there, may_run}
 use Rattle.engine.proofs.Covering.{IsThere, covered_twice, formed_covered, marked_covered, marks_covered}
 use Rattle.engine.proofs.KeptLive.{kept_of, next_inside}
 use Rattle.engine.proofs.Misses as misses
-use Rattle.engine.proofs.Misses.{freed_here, freed_then}
+use Rattle.engine.proofs.Misses.{freed_here}
 use Rattle.engine.proofs.Others.{IsSeenAs, seen_same}
-use Rattle.engine.proofs.Stepped.{HasSameCopies, HasStepped, IsBetween, StaysInPlace, after_step, ready_between, shows_between, stays_in_place}
-use Rattle.engine.specs.Acting.{MayAct, cache_in, freed, next_action}
+use Rattle.engine.proofs.Stepped.{HasSameCopies, HasStepped, StaysInPlace, after_step, freed_between, ready_between, shows_between, stays_in_place}
+use Rattle.engine.specs.Acting.{cache_in, freed, next_action}
 use Rattle.engine.specs.Covered.{HasItsBitNow, IsTouchedThere}
 use Rattle.engine.specs.Inside.{FollowsRule}
-use Rattle.engine.specs.Parts.{IsIn, IsOfHart, KeepsSection, KeepsSectionOf, Parts, own_at}
+use Rattle.engine.specs.Parts.{IsIn, IsOfHart, KeepsReserved, KeepsSection, KeepsSectionOf, Parts, StandsAs, own_at}
 use Rattle.hart_state.proofs.Harts.{buffered_is}
 use Rattle.hart_state.specs.Deeds.{buffered_own}
 use Rattle.hart_state.specs.Own.{HasOwn, new_own}
@@ -33,13 +34,13 @@ use Rattle.rv_alu.specs.declared.view.HartView.{HartView}
 use Rattle.rv_flat.specs.FlatState.{no_hart, view_of}
 use Rattle.section_ctl.proofs.Begins.{stays_live}
 use Rattle.section_ctl.specs.Calls.{HasRun, IsCoveredIn, run_of}
-use Rattle.section_ctl.specs.State as sections
 use Rattle.section_ctl.specs.State.{IsLive, SectionState}
 use Rattle.section_view.proofs.GoingOn.{goes_on}
 use Rattle.section_view.specs.KeptRun.{HoldsMarked, section_byte}
 use Rattle.section_view.specs.Laws.{GoesOn, HoldsAfter}
+use Rattle.snoop.proofs.Living.{lives_unarmed}
 use Rattle.snoop.specs.Returned.{returned}
-use Rattle.snoop.specs.Shows.{IsReady}
+use Rattle.snoop.specs.Shows.{IsReady, lives}
 use Rattle.step_rules.proofs.NextAction as next
 
 -- a section with one instruction more
@@ -53,7 +54,7 @@ pub record RanPrivately (old : Parts) (h : ℕ) (section : Section) (touch : Opt
   pub ran : HasRun (kept_of old h) new section (run_of (kept_of old h) section mid action)
   pub covers : IsCoveredIn mid cache (touch_of (footprint action))
 
-committed_beside : (mark : Option HartView) (first second : HartView) → IsSome mark → checkpoint_or mark first ≡ checkpoint_or mark second
+pub committed_beside : (mark : Option HartView) (first second : HartView) → IsSome mark → checkpoint_or mark first ≡ checkpoint_or mark second
 committed_beside None first second some = absurd (cc)
 committed_beside (Some mark) first second some = refl
 
@@ -105,22 +106,15 @@ own_then old h from section touch mid cache action new follows is ran =
     } in
     record {
       part = subst (HasOwn (buffered_own new own)) (sym here)
-          (buffered_is section touch new own (record (hart_of from h) { held = None }) part ran.ran.live);
+          (buffered_is section touch new own (record (hart_of from h) { held = None }) part ran.ran.live ran.ran.armed can.kept.unarmed_there);
       view = ap committed_of ran.ran.marks ∙ committed_beside own.section.marks.mark _ _ can.kept.stands.mark ∙ was.view;
       section = subst (λ live. KeepsSectionOf state h live new) (sym (ap (λ hart. hart.section) here)) kept;
-      stands = subst (sections.Stands new.marks new.hold) (sym ran.ran.live)
-          (still_live old h from section touch mid cache action new follows is ran);
+      armed = subst (λ armed. KeepsReserved state.committed h armed new.marks.present) (sym ran.ran.armed) tt;
+      stands = subst (λ l. StandsAs new.marks new.hold l new.armed) (sym ran.ran.live)
+          (subst (StandsAs new.marks new.hold (Some (longer section))) (sym ran.ran.armed)
+          (still_live old h from section touch mid cache action new follows is ran));
       limit = ran.ran.limit ∙ was.limit;
     }
-
-between : (old : Parts) (h : ℕ) (from : ModelState) → MayAct old h from →
-    IsBetween old.bus from (freed from h) h (record (hart_of from h) { held = None })
-between old h from may = record {
-  shows = may.is_in.shows;
-  here = freed_here from h (misses.is_there old from h may);
-  becomes = freed_then from h;
-  same = refl;
-}
 
 residency_then : (old : Parts) (h : ℕ) (from : ModelState) (section : Section) (touch : Option Touch) (mid cache : Cached) (action : Action)
     (new : SectionState) →
@@ -143,7 +137,9 @@ same_copies old h from section touch mid cache action new follows is ran =
     record {
       ways = ran.covers.ways ∙ ran.bit.ways;
       residency = sym residency;
-      live = sym (ap has_marks residency ∙ marks_covered (cache_of from h) touch _ can.kept.run.read);
+      live =
+          sym (ap (λ armed. lives cache.residency (armed_count armed)) can.kept.unarmed_there ∙ lives_unarmed cache.residency 0 refl
+          ∙ ap has_marks residency ∙ marks_covered (cache_of from h) touch _ can.kept.run.read);
       copies = λ line. ran.covers.copies line ∙ ran.bit.copies line;
     }
 
@@ -157,7 +153,7 @@ buffered_ready old h from section touch mid cache action new follows is ran =
     let inside = inside_caches old h from may in
     let same = same_copies old h from section touch mid cache action new follows is ran in
     let formed = subst (IsWellFormed (cache_in old h).ways) can.kept.cache (may.ready.well_formed h inside) in
-    ready_between old.bus from (freed from h) h cache _ _ inside may.ready (between old h from may) refl refl may.free
+    ready_between old.bus from (freed from h) h cache _ _ inside may.ready (freed_between old h from may) refl refl may.free
     (subst (λ ways. IsWellFormed ways cache.residency) (sym same.ways)
     (subst (IsWellFormed (cache_in old h).ways) same.residency (formed_covered (cache_in old h).ways (cache_of from h) touch formed)))
     same
@@ -181,7 +177,7 @@ buffered_in old hart from section touch mid cache action new follows is ran =
     let now = buffered_hart section touch (hart_of from h) in
     let none = new_own no_hart 0 in
     let turn = buffers_turn from h section touch follows.rule_is in
-    let shown = shows_between old.bus from (freed from h) h cache _ now (inside_caches old h from may) (between old h from may) refl
+    let shown = shows_between old.bus from (freed from h) h cache _ now (inside_caches old h from may) (freed_between old h from may) refl refl
     (same_copies old h from section touch mid cache action new follows is ran) in
     let stepped : HasStepped old (parts_then old h cache new) h (with_hart from h now) = record {
       config = refl;

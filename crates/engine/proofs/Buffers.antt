@@ -11,10 +11,6 @@ use Rattle.core_step.proofs.Runs.{aligned_at}
 use Rattle.el_base.proofs.Ranges.{at_most, ranges}
 use Rattle.el_base.specs.Line.{line_number}
 use Rattle.el_model.specs.Deed.{MayBuffer}
-use Rattle.el_base.specs.declared.config.Config.{Config}
-use Rattle.el_base.specs.declared.events.Event.{Event}
-use Rattle.el_model.proofs.FromStart.{kept_after, next_config}
-use Rattle.elf_image.specs.Program.{Program}
 use Rattle.el_model.proofs.Harts.{hart_of-with_hart_same}
 use Rattle.el_model.specs.InSection.{Buffers, buffered_hart, by_section_rule, covered, section_rule, section_turn, shown_in}
 use Rattle.el_model.specs.Next as next_events
@@ -29,13 +25,13 @@ use Rattle.el_model.specs.Upcoming.{Touch, overlaps}
 use Rattle.engine.proofs.Covering.{IsThere, bits_with, covered_there, formed_with, has_its_bit, permitted_there}
 use Rattle.engine.proofs.InsideRules.{says}
 use Rattle.engine.proofs.Misses as misses
+use Rattle.engine.proofs.Reaching.{config_of}
 use Rattle.engine.proofs.Stepped.{step_of, turn_is}
 use Rattle.engine.proofs.KeptLive.{HasBytesOf, KeepsLive, keeps_live, kept_of, next_inside, same_action}
 use Rattle.engine.specs.Acting.{ActsInside, MayAct, cache_in, next_action}
 use Rattle.engine.specs.Covered.{HasItsBitNow, with_its_bit}
 use Rattle.engine.specs.Inside.{FollowsRule}
 use Rattle.engine.specs.Parts.{Parts}
-use Rattle.engine.specs.Reached.{IsReached}
 use Rattle.run_laws.proofs.Bits.{run_kept}
 use Rattle.run_laws.specs.PrivateRun.{HasItsBit, IsCoveredRun, IsCoveredStep}
 use Rattle.rv_alu.specs.Execution.{perform, store_in}
@@ -178,18 +174,6 @@ is_counted parts h from section inside =
 pub inside_caches : (parts : Parts) (h : ℕ) (from : ModelState) → MayAct parts h from → h < length parts.bus.copies.caches
 inside_caches parts h from may = omega (arith, may.exists, may.is_in.one_each, may.is_in.shows.cache_each)
 
-begun_config : (program : Program) (config : Config) → (begin program config).config ≡ config
-unfolding begin
-begun_config program config = refl
-
-config_after : (program : Program) (config : Config) (events : List Event) → (next_events.after program config events).config ≡ config
-config_after program config events =
-    kept_after (λ state. state.config ≡ config) (λ state event is. next_config state event ∙ is) (begin program config) events
-    (begun_config program config)
-
-pub config_is : (from : ModelState) (reached : IsReached from) → from.config ≡ reached.config
-config_is from reached = ap (λ s. s.config) reached.state_is ∙ config_after reached.program reached.config reached.events
-
 by_rule : (from : ModelState) (h : ℕ) (section : Section) (touch : Option Touch) → by_section_rule from h section (Buffers touch) ≡
     record { state = with_hart from h (buffered_hart section touch (hart_of from h)); outcome = Buffered }
 unfolding by_section_rule
@@ -223,7 +207,7 @@ are_few parts hart from section touch cache follows now =
     let there = cache_then parts hart from section touch follows in
     let same = few_touched (cache_in parts h).ways (cache_of from h) touch formed in
     let limit = (may.is_in.harts h may.exists).limit in
-    let config = ap (λ config. config.lines) (config_is from may.reached) in
+    let config = ap (λ config. config.lines) (config_of from may.reached) in
     omega (arith, ap write_bits_of residency, same, ap write_bits_of there, after, limit, config)
   where
     few_after : (parts : Parts) (hart : HartId) (from : ModelState) (section : Section) → (inside : ActsInside parts hart.number from section) →

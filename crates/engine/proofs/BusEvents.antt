@@ -1,31 +1,64 @@
 -- the parts after an event of the bus
-use Rattle.std.proofs.Common.{◌≡◌, ◌≢◌, ◌∙◌, ℕ, ◌≤◌, ◌<◌, Option, Some, None, is_some, length, refl, ap, sym, subst}
-use Rattle.std.specs.Prelude.{IsSome}
+use Rattle.std.proofs.Common.{◌≡◌, ◌≢◌, ◌∙◌, ℕ, zero, suc, ◌+◌, ◌≤◌, ◌<◌, false, List, Option, Some, None, is_some, length, refl, ap, sym, subst, arith}
+use Rattle.std.specs.Prelude.{◌==◌, IsSome, if◌then◌else◌, option_map, slice_index}
+use Rattle.std.proofs.lemmas.Bool.Decides.{nat_tests}
+use Rattle.cache_sets.specs.Residency.{Way}
+use Rattle.el_base.specs.Freed.{count_in}
 use Rattle.el_base.specs.declared.events.Event.{Event}
 use Rattle.el_base.specs.declared.events.Kind.TheVariants as kinds
+use Rattle.el_base.specs.declared.freed.Freed.{Freed}
 use Rattle.el_model.proofs.Restoring.{losers_restored}
 use Rattle.el_base.specs.Winners.{winner_over}
 use Rattle.el_model.specs.Losses.{restored, standing_of}
-use Rattle.el_model.specs.Next.{next}
-use Rattle.el_model.specs.State.{ModelState, Section, cache_of, hart_of, section_of}
-use Rattle.engine.proofs.Reaching.{loses, numbered, survives_event}
-use Rattle.engine.specs.Parts.{IsIn, IsOfHart, KeepsSection, KeepsSectionOf, Parts, own_at}
+use Rattle.el_model.specs.Next.{kind_turn, next}
+use Rattle.el_model.specs.Order.{order_turn}
+use Rattle.el_model.specs.Serve.{serve_turn}
+use Rattle.el_model.specs.State.{ModelState, Section, Turn, armed_of, cache_of, hart_of, section_of}
+use Rattle.engine.proofs.Reaching.{lets_go, loses, numbered, runs_armed, survives_event}
+use Rattle.engine.proofs.Reserved.{kept_as, unarmed, unlive}
+use Rattle.engine.specs.Parts.{IsIn, IsOfHart, KeepsReserved, KeepsSection, KeepsSectionOf, Parts, StandsAs, own_at}
 use Rattle.engine.specs.Reached.{IsReached, Stands}
-use Rattle.engine.specs.Restored.{AreRestored}
-use Rattle.hart_state.proofs.Harts.{restored_is}
-use Rattle.hart_state.specs.Deeds.{restored_own}
+use Rattle.engine.specs.Restored.{AreRestored, freed_own, own_after}
+use Rattle.hart_state.proofs.Harts.{lost_is}
+use Rattle.hart_state.specs.Deeds.{let_go_own, lost_own}
 use Rattle.hart_state.specs.Own.{Own}
-use Rattle.reg_mark.specs.Marks.{committed_of}
 use Rattle.policy.specs.Winners.{wins_of}
-use Rattle.rv_flat.specs.FlatState.{span_of, view_of}
-use Rattle.section_ctl.specs.State as sections
-use Rattle.section_ctl.specs.State.{SectionState}
-use Rattle.section_view.proofs.Surviving.{kept_survive, marks_stay}
-use Rattle.snoop.specs.Shows.{Shows}
+use Rattle.run_laws.specs.PrivateRun.{IsChangeBeside, KeepsAllButViews}
+use Rattle.rv_alu.specs.declared.view.HartView.{HartView}
+use Rattle.rv_flat.specs.FlatState.{FlatState, span_of, view_of}
+use Rattle.rv_flat.specs.Run.{alone}
+use Rattle.section_ctl.specs.State.{Reserved, SectionState}
+use Rattle.section_view.proofs.Surviving.{kept_armed_survive, kept_survive, marks_stay}
+use Rattle.section_view.specs.KeptRun.{KeepsArmed}
+use Rattle.snoop.specs.LettingGo.{KeepsBytes}
+use Rattle.snoop.specs.Shows.{Kept, Shows}
 use Rattle.stamp.specs.Stamps as stamps
 use Rattle.step_laws.proofs.Frames.{bus_events_keep}
-use Rattle.step_laws.specs.Frames.{LeavesCommitted}
+use Rattle.step_laws.specs.Frames.{LeavesPredictors}
+use Rattle.step_laws.specs.LettingGo.{LetsHartsGo, freed_of_outcome}
 use Rattle.step_laws.specs.Survivors.{Survives}
+
+-- an event that is no step leaves the bytes of memory
+pub bytes_kept : (state : ModelState) (event : Event) → IsReached state → event.kind ≢ kinds.Step →
+    KeepsBytes state.committed (next state event).state.committed
+bytes_kept state event reached bus =
+    let memory = (lets_go state event reached bus).memory in
+    record { base = memory.base; bytes = memory.bytes }
+
+-- so the bus, which owes that to its caller, shows the state after it
+pub shown_after : (bus : Kept) (state : ModelState) (event : Event) (turn : Turn) → next state event ≡ turn → IsReached state → event.kind ≢ kinds.Step →
+    (KeepsBytes state.committed turn.state.committed → Shows bus turn.state) → Shows bus (next state event).state
+shown_after bus state event turn is reached no_step shows =
+    subst (λ t. Shows bus t.state) (sym is)
+    (shows (subst (λ t. KeepsBytes state.committed t.state.committed) is (bytes_kept state event reached no_step)))
+
+pub order_is : (state : ModelState) (event : Event) → event.kind ≡ kinds.Order → next state event ≡ order_turn state event.hart.number
+unfolding next
+order_is state event is = ap (kind_turn state event.hart.number) is
+
+pub serve_is : (state : ModelState) (event : Event) → event.kind ≡ kinds.Serve → next state event ≡ serve_turn state event.hart.number
+unfolding next
+serve_is state event is = ap (kind_turn state event.hart.number) is
 
 -- a section that survives is still kept
 pub kept_survives : (state new : ModelState) (g : ℕ) (section : Section) (kept : SectionState) → Survives state new g section →
@@ -37,13 +70,40 @@ kept_survives state new g section kept survives keeps = record {
   marked = marks_stay (cache_of state g) (cache_of new g) kept.hold.entries survives.keeps.bits.written keeps.marked;
 }
 
+-- where memory and a hart's view stay, what is committed has changed beside the hart alone
+beside : (old new : FlatState) (g : ℕ) (cache : List (List Way)) → KeepsAllButViews old new → view_of new g ≡ view_of old g →
+    IsChangeBeside g cache old new
+beside old new g cache keeps view = record {
+  base = keeps.base;
+  code = keeps.code;
+  size = ap length keeps.bytes;
+  harts = keeps.harts;
+  view = view ∙ ap (λ reserved. record (view_of old g) { reserved = reserved }) (sym (ap (λ v. v.reserved) view));
+  bytes = λ place bit. ap (λ bytes. slice_index bytes place) keeps.bytes;
+}
+
+-- what is kept of an armed section that goes on
+armed_goes_on : (state new : ModelState) (g : ℕ) (kept : Option Reserved) (present : HartView) → IsReached state →
+    option_map (λ reserved. reserved.armed) kept ≡ armed_of state g → IsChangeBeside g (cache_of state g) state.committed new.committed →
+    KeepsReserved state.committed g kept present → KeepsReserved new.committed g kept present
+armed_goes_on state new g None present reached is change keeps = tt
+armed_goes_on state new g (Some reserved) present reached is change keeps =
+    kept_armed_survive g (cache_of state g) reserved.armed state.committed new.committed reserved.old present
+    (runs_armed state g reserved.armed reached (sym is)) change keeps
+
 module _ (state : ModelState) (event : Event) (g : ℕ) (own : Own) (reached : IsReached state) (bus : event.kind ≢ kinds.Step)
     (below : g < length state.harts) (is : IsOfHart state g own) where
   abbrev new : ModelState
   new = (next state event).state
 
-  keeps : LeavesCommitted state new
+  abbrev freed : Freed
+  freed = freed_of_outcome (next state event).outcome
+
+  keeps : LeavesPredictors state event.hart.number (next state event)
   keeps = bus_events_keep state event bus
+
+  goes : LetsHartsGo state new freed
+  goes = lets_go state event reached bus
 
   stands_as : (winner : Option ℕ) → winner_over (next state event).outcome g ≡ winner →
       standing_of (hart_of new g) ≡ restored state.config.mode winner (standing_of (hart_of state g))
@@ -51,7 +111,10 @@ module _ (state : ModelState) (event : Event) (g : ℕ) (own : Own) (reached : I
       losers_restored state event g (numbered state reached) bus below
       ∙ ap (λ w. restored state.config.mode w (standing_of (hart_of state g))) named
 
-  -- of a hart that has not lost the section goes on, if it has one
+  limit_is : own.section.hold.limit ≡ new.config.lines
+  limit_is = is.limit ∙ ap (λ config. config.lines) (sym keeps.config)
+
+  -- a section that the hart has not lost goes on, if it has one
   goes_on : (live : Option Section) → section_of state g ≡ live → section_of new g ≡ live → KeepsSectionOf state g live own.section →
       KeepsSectionOf new g live own.section
   goes_on None was now kept = tt
@@ -59,63 +122,139 @@ module _ (state : ModelState) (event : Event) (g : ℕ) (own : Own) (reached : I
       kept_survives state new g section own.section
       (survives_event state event g section reached (λ step. absurd (bus step)) was (ap is_some now)) kept
 
-  section_after : (winner : Option ℕ) → winner_over (next state event).outcome g ≡ winner →
-      KeepsSectionOf new g (section_of new g) (restored_own state.config.mode winner own).section
-  section_after None named =
-      let same = ap (λ standing. standing.section) (stands_as None named) in
-      subst (λ live. KeepsSectionOf new g live own.section) (sym same) (goes_on (section_of state g) refl same is.section)
-  section_after (Some winner) named =
-      subst (λ live. KeepsSectionOf new g live (restored_own state.config.mode (Some winner) own).section)
-      (sym (loses state event g winner reached named).over) tt
+  -- a hart that nothing ends for
+  stays : winner_over (next state event).outcome g ≡ None → count_in freed g ≡ 0 → IsOfHart new g own
+  stays named none =
+      let standing = stands_as None named in
+      let same = ap (λ s. s.section) standing in
+      record {
+        part = record {
+          section = is.part.section ∙ sym same;
+          armed = is.part.armed ∙ sym (goes.stays_armed g none);
+          last_lr = is.part.last_lr ∙ sym (goes.stays_last g none);
+          predictor = is.part.predictor ∙ sym (keeps.predictors g);
+          fallback = is.part.fallback ∙ sym (ap (λ s. s.fallback) standing);
+          tries = is.part.tries ∙ sym (ap (λ s. s.tries) standing);
+        };
+        view = is.view ∙ sym (goes.stays_view g none);
+        section = subst (λ live. KeepsSectionOf new g live own.section) (sym same) (goes_on (section_of state g) refl same is.section);
+        armed =
+            armed_goes_on state new g own.section.armed own.section.marks.present reached is.part.armed
+            (beside state.committed new.committed g (cache_of state g) goes.memory (goes.stays_view g none)) is.armed;
+        stands = is.stands;
+        limit = limit_is;
+      }
 
-  view_after : (winner : Option ℕ) → IsOfHart state g own →
-      sections.Stands (restored_own state.config.mode winner own).section.marks (restored_own state.config.mode winner own).section.hold
-      (restored_own state.config.mode winner own).section.live
-  view_after None was = was.stands
-  view_after (Some winner) was = record { unmarked = refl; empty = refl }
+  -- one that is let go
+  is_let_go : winner_over (next state event).outcome g ≡ None → 1 ≤ count_in freed g → IsOfHart new g (let_go_own own)
+  is_let_go named some =
+      let gone = goes.lets_go g some in
+      let standing = stands_as None named in
+      let kept = kept_as own.section.armed gone.armed (is.part.armed ∙ gone.was) in
+      let reserved : Reserved = record { armed = gone.armed; old = kept.old } in
+      let stood : StandsAs own.section.marks own.section.hold own.section.live (Some reserved) =
+      subst (λ armed. StandsAs own.section.marks own.section.hold own.section.live armed) kept.is is.stands in
+      let none = unlive own.section.live reserved own.section.marks own.section.hold stood in
+      let keeps_it : KeepsArmed state.committed g gone.armed kept.old own.section.marks.present =
+      subst (λ armed. KeepsReserved state.committed g armed own.section.marks.present) kept.is is.armed in
+      let same = ap (λ s. s.section) standing in
+      record {
+        part = record {
+          section = sym none ∙ is.part.section ∙ sym same;
+          armed = sym gone.over;
+          last_lr = ap (λ view. Some view.pc) is.view ∙ sym gone.last;
+          predictor = is.part.predictor ∙ sym (keeps.predictors g);
+          fallback = is.part.fallback ∙ sym (ap (λ s. s.fallback) standing);
+          tries = is.part.tries ∙ sym (ap (λ s. s.tries) standing);
+        };
+        view = keeps_it.view ∙ ap (λ n. view_of (alone state.committed g n) g) gone.count_is ∙ sym gone.view;
+        section =
+            subst (λ live. KeepsSectionOf new g live (let_go_own own).section) (sym (same ∙ sym is.part.section ∙ none)) tt;
+        armed = tt;
+        stands = record {
+          unmarked = refl;
+          empty = (subst (λ live. StandsAs own.section.marks own.section.hold live (Some reserved)) none stood).empty;
+        };
+        limit = limit_is;
+      }
 
-  same_view : (winner : Option ℕ) → committed_of (restored_own state.config.mode winner own).section.marks ≡ committed_of own.section.marks
-  same_view None = refl
-  same_view (Some winner) = refl
+  -- a loser had a live section, so it was not armed, and none of its instructions takes effect
+  not_armed : (section : Section) → section_of state g ≡ Some section → armed_of state g ≡ None
+  not_armed section live =
+      sym is.part.armed
+      ∙ ap (option_map (λ reserved. reserved.armed))
+      (unarmed section own.section.armed own.section.marks own.section.hold
+      (subst (λ l. StandsAs own.section.marks own.section.hold l own.section.armed) (is.part.section ∙ live) is.stands))
 
-  same_limit : (winner : Option ℕ) → (restored_own state.config.mode winner own).section.hold.limit ≡ own.section.hold.limit
-  same_limit None = refl
-  same_limit (Some winner) = refl
+  none_freed : (section : Section) → section_of state g ≡ Some section → count_in freed g ≡ 0
+  none_freed section live = by (count_in freed g) refl
+    where
+      by : (n : ℕ) → count_in freed g ≡ n → count_in freed g ≡ 0
+      by zero none = none
+      by (suc n) some =
+          let gone = goes.lets_go g (omega (arith, some)) in
+          let wrong = sym (not_armed section live) ∙ gone.was in
+          absurd (cc)
 
-  -- a hart that may have lost
-  pub hart_after : (winner : Option ℕ) → winner_over (next state event).outcome g ≡ winner → IsOfHart new g (restored_own state.config.mode winner own)
-  hart_after winner named = record {
-    part =
-        restored_is state.config.mode winner own (hart_of state g) (hart_of new g) is.part (stands_as winner named) (keeps.predictors g);
-    view = same_view winner ∙ is.view ∙ ap (λ flat. view_of flat g) (sym keeps.committed);
-    section = section_after winner named;
-    stands = view_after winner is;
-    limit = same_limit winner ∙ is.limit ∙ ap (λ config. config.lines) (sym keeps.config);
-  }
+  -- one that has lost
+  has_lost : (winner : ℕ) → winner_over (next state event).outcome g ≡ Some winner → IsOfHart new g (lost_own state.config.mode own)
+  has_lost winner named =
+      let lost = loses state event g winner reached named in
+      let none = none_freed lost.section lost.live in
+      record {
+        part =
+            lost_is state.config.mode own (hart_of state g) (hart_of new g) is.part (stands_as (Some winner) named) (keeps.predictors g)
+            (goes.stays_armed g none ∙ not_armed lost.section lost.live) (goes.stays_last g none);
+        view = is.view ∙ sym (goes.stays_view g none);
+        section = subst (λ live. KeepsSectionOf new g live (lost_own state.config.mode own).section) (sym lost.over) tt;
+        armed = tt;
+        stands = record { unmarked = refl; empty = refl };
+        limit = limit_is;
+      }
+
+  -- so is each hart what the event leaves to it
+  pub hart_after : (winner : Option ℕ) → winner_over (next state event).outcome g ≡ winner →
+      IsOfHart new g (own_after state.config.mode winner (count_in freed g) own)
+  hart_after (Some winner) named = has_lost winner named
+  hart_after None named = by (count_in freed g) refl
+    where
+      by : (n : ℕ) → count_in freed g ≡ n → IsOfHart new g (freed_own n own)
+      by zero none = stays named none
+      by (suc n) some =
+          let apart : (suc n == 0) ≡ false = grind (arith, nat_tests) in
+          subst (λ none. IsOfHart new g (if none then own else let_go_own own)) (sym apart) (is_let_go named (omega (arith, some)))
 
 -- all parts
-pub after_bus : (old mid new : Parts) (state : ModelState) (event : Event) (winner : ℕ → Option ℕ) → event.kind ≢ kinds.Step →
+pub after_bus : (old mid new : Parts) (state : ModelState) (event : Event) (winner : ℕ → Option ℕ) (freed : Freed) → event.kind ≢ kinds.Step →
     IsReached state → IsIn old state → mid ≡ record old { bus = mid.bus } → new ≡ record mid { harts = new.harts } →
     Shows mid.bus (next state event).state → ((g : ℕ) → winner_over (next state event).outcome g ≡ winner g) →
-    AreRestored mid.config.mode winner mid.harts new.harts → IsIn new (next state event).state
-after_bus old mid new state event winner bus reached is mid_is new_is shows named restored_mid =
-    let restored = subst (λ p. AreRestored p.config.mode winner p.harts new.harts) mid_is restored_mid in
+    freed ≡ freed_of_outcome (next state event).outcome →
+    AreRestored mid.config.mode winner (λ g. count_in freed g) mid.harts new.harts → IsIn new (next state event).state
+after_bus old mid new state event winner freed bus reached is mid_is new_is shows named freed_is restored_mid =
+    let restored = subst (λ p. AreRestored p.config.mode winner (λ g. count_in freed g) p.harts new.harts) mid_is restored_mid in
     let keeps = bus_events_keep state event bus in
+    let memory = (lets_go state event reached bus).memory in
     let config : new.config ≡ old.config = ap (λ p. p.config) new_is ∙ ap (λ p. p.config) mid_is in
     record {
       config = config ∙ is.config ∙ sym keeps.config;
-      span = ap (λ p. p.span) new_is ∙ ap (λ p. p.span) mid_is ∙ is.span ∙ ap span_of (sym keeps.committed);
+      span = ap (λ p. p.span) new_is ∙ ap (λ p. p.span) mid_is ∙ is.span ∙ same_span state.committed (next state event).state.committed memory;
       shows = subst (λ b. Shows b (next state event).state) (sym (ap (λ p. p.bus) new_is)) shows;
-      one_each = restored.count ∙ is.one_each ∙ sym keeps.count;
-      view_each = restored.count ∙ is.view_each ∙ ap (λ flat. length flat.harts) (sym keeps.committed);
+      one_each = restored.number ∙ is.one_each ∙ sym keeps.count;
+      view_each = restored.number ∙ is.view_each ∙ sym memory.harts;
       harts = λ g below.
-          let inside : g < length old.harts = subst (λ n. g < n) restored.count below in
+          let inside : g < length old.harts = subst (λ n. g < n) restored.number below in
           subst (IsOfHart (next state event).state g)
-          (sym (restored.each g inside ∙ ap (λ c. restored_own c.mode (winner g) (own_at old.harts g)) is.config))
+          (sym (restored.each g inside ∙ ap (λ c. own_after c.mode (winner g) (count_in freed g) (own_at old.harts g)) is.config
+          ∙ ap (λ f. own_after state.config.mode (winner g) (count_in f g) (own_at old.harts g)) freed_is))
           (hart_after state event g (own_at old.harts g) reached bus (subst (λ n. g < n) is.one_each inside) (is.harts g inside) (winner g) (named g));
-      code = ap (λ p. p.code) new_is ∙ ap (λ p. p.code) mid_is ∙ is.code ∙ ap (λ flat. flat.code) (sym keeps.committed);
-      output = ap (λ p. p.output) new_is ∙ ap (λ p. p.output) mid_is ∙ is.output ∙ ap (λ flat. flat.output) (sym keeps.committed);
+      code = ap (λ p. p.code) new_is ∙ ap (λ p. p.code) mid_is ∙ is.code ∙ sym memory.code;
+      output = ap (λ p. p.output) new_is ∙ ap (λ p. p.output) mid_is ∙ is.output ∙ sym memory.output;
     }
+  where
+    same_span : (old new : FlatState) → KeepsAllButViews old new → span_of old ≡ span_of new
+    same_span old new keeps =
+        ap (λ b. record { base = b; end = b + length old.bytes }) (sym keeps.base)
+        ∙ ap (λ n. record { base = new.base; end = new.base + n }) (sym (ap length keeps.bytes))
 
 -- a loser has a live section
 pub had_section : (old mid : Parts) (stands : Stands old) (event : Event) (g winner : ℕ) → mid ≡ record old { bus = mid.bus } →
@@ -126,6 +265,17 @@ had_section old mid stands event g winner mid_is inside named =
     ap (λ h. (own_at h g).section.live) harts
     ∙ (stands.is_in.harts g (subst (λ h. g < length h) harts inside)).part.section ∙ (loses stands.state event g winner stands.reached named).live in
     subst IsSome (sym live) refl
+
+-- and one that is let go an armed one
+pub was_armed : (old mid : Parts) (stands : Stands old) (event : Event) (g : ℕ) → event.kind ≢ kinds.Step → mid ≡ record old { bus = mid.bus } →
+    g < length mid.harts → 1 ≤ count_in (freed_of_outcome (next stands.state event).outcome) g → IsSome (own_at mid.harts g).section.armed
+was_armed old mid stands event g bus mid_is inside some =
+    let harts = ap (λ p. p.harts) mid_is in
+    let gone = (lets_go stands.state event stands.reached bus).lets_go g some in
+    let kept =
+    kept_as (own_at old.harts g).section.armed gone.armed
+    ((stands.is_in.harts g (subst (λ h. g < length h) harts inside)).part.armed ∙ gone.was) in
+    subst IsSome (sym (ap (λ h. (own_at h g).section.armed) harts ∙ kept.is)) refl
 
 -- each hart has its agent at the bus
 pub agent_each : (parts : Parts) → Stands parts → length parts.bus.agents ≡ length parts.harts

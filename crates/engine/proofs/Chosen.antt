@@ -7,15 +7,15 @@ use Rattle.core_step.specs.Run.{lacking}
 use Rattle.el_base.specs.Line.{line_number}
 use Rattle.el_base.specs.declared.outcomes.Need.{Need}
 use Rattle.el_model.specs.Conflicts.{is_wanted_to_write}
-use Rattle.el_model.specs.Plain.{Begins, Misses, Runs, elidable_swap, may_elide, plain_rule}
+use Rattle.el_model.specs.Plain.{Arms, Begins, Misses, Runs, elidable_reserve, elidable_swap, may_elide, plain_rule}
 use Rattle.el_model.specs.State.{ModelState, cache_of, hart_of}
-use Rattle.el_model.specs.Upcoming.{Swap, Touch, next_swap, next_touch, touch_of}
+use Rattle.el_model.specs.Upcoming.{Swap, Touch, next_reserved, next_swap, next_touch, touch_of}
 use Rattle.coherence.proofs.LineLaws.{none_is}
 use Rattle.engine.proofs.Misses.{freed_here}
-use Rattle.engine.proofs.PlainRules.{BeginsAt, TouchesLine, TouchesWord, begins_swap, lacks_none, misses_touch, runs_touch, same_touch}
+use Rattle.engine.proofs.PlainRules.{ArmsAt, BeginsAt, TouchesLine, TouchesWord, arms_word, begins_swap, lacks_none, misses_touch, runs_touch, same_touch}
 use Rattle.engine.proofs.PlainRules.{swapping_rule, swapping_same}
 use Rattle.engine.proofs.StandsOutside.{action_is, inside}
-use Rattle.engine.proofs.Swaps.{touches_word}
+use Rattle.engine.proofs.Swaps.{IsReserveOf, reserve_action, touches_word}
 use Rattle.engine.specs.Acting.{ActsOutside, cache_in, next_action}
 use Rattle.engine.specs.Parts.{Parts}
 use Rattle.rv_alu.specs.Footprint.{footprint}
@@ -23,11 +23,11 @@ use Rattle.rv_alu.specs.declared.action.Action.{Action}
 use Rattle.rv_flat.specs.FlatState.{view_of}
 use Rattle.rv_flat.specs.Memory.{byte_in}
 use Rattle.step_rules.proofs.Begins.{readable_there}
-use Rattle.step_rules.proofs.NextAction.{next_swap as swap_next, next_touch as touch_next}
+use Rattle.step_rules.proofs.NextAction.{next_reserved as reserve_next, next_swap as swap_next, next_touch as touch_next}
 use Rattle.step_rules.specs.Actions.{IsNext}
 use Rattle.step_rules.specs.Rules.{touching_rule}
 
-if_some : (b : Bool) (found : Option Swap) (swap : Swap) → (if b then found else None) ≡ Some swap → found ≡ Some swap
+if_some : {A : Type 0} (b : Bool) (found : Option A) (swap : A) → (if b then found else None) ≡ Some swap → found ≡ Some swap
 if_some true found swap is = is
 if_some false found swap is = none_is swap is
 
@@ -43,17 +43,20 @@ module _ (parts : Parts) (h : ℕ) (state : ModelState) (action : Action) (acts 
   own_cache = acts.may.is_in.shows.caches h ∙ ap (λ hart. hart.cache) (freed_here state h (inside parts h state acts))
 
   rule_is : plain_rule state h
-      ≡ swapping_rule (cache_in parts h).residency (λ line. is_wanted_to_write state h line) (touch_of (footprint action)) (elidable_swap state h)
+      ≡ swapping_rule (cache_in parts h).residency (λ line. is_wanted_to_write state h line) (touch_of (footprint action)) (elidable_reserve state h)
+      (elidable_swap state h)
   rule_is =
       swapping_same state h (elidable_swap state h)
-      ∙ ap (λ cache. swapping_rule cache (λ line. is_wanted_to_write state h line) (next_touch state.committed h) (elidable_swap state h)) (sym own_cache)
-      ∙ ap (λ touch. swapping_rule (cache_in parts h).residency (λ line. is_wanted_to_write state h line) touch (elidable_swap state h))
-      (sym (touch_next action state.committed h next))
+      ∙ ap (λ cache. swapping_rule cache (λ line. is_wanted_to_write state h line) (next_touch state.committed h) (elidable_reserve state h)
+      (elidable_swap state h)) (sym own_cache)
+      ∙ ap (λ touch. swapping_rule (cache_in parts h).residency (λ line. is_wanted_to_write state h line) touch (elidable_reserve state h)
+      (elidable_swap state h)) (sym (touch_next action state.committed h next))
 
   touching : (touch : Option Touch) → plain_rule state h ≡ Runs touch →
       touching_rule (cache_in parts h).residency (touch_of (footprint action)) ≡ Runs touch
   touching touch rule =
-      runs_touch (cache_in parts h).residency (λ line. is_wanted_to_write state h line) (touch_of (footprint action)) (elidable_swap state h) touch
+      runs_touch (cache_in parts h).residency (λ line. is_wanted_to_write state h line) (touch_of (footprint action)) (elidable_reserve state h)
+      (elidable_swap state h) touch
       (sym rule_is ∙ rule)
 
   -- an action that runs lacks nothing, and is what the rule says
@@ -67,7 +70,8 @@ module _ (parts : Parts) (h : ℕ) (state : ModelState) (action : Action) (acts 
   -- a missed line is one that it touches
   pub missed_line : (line : ℕ) (need : Need) → plain_rule state h ≡ Misses line need → TouchesLine (touch_of (footprint action)) line
   missed_line line need rule =
-      misses_touch (cache_in parts h).residency (λ l. is_wanted_to_write state h l) (touch_of (footprint action)) (elidable_swap state h) line need
+      misses_touch (cache_in parts h).residency (λ l. is_wanted_to_write state h l) (touch_of (footprint action)) (elidable_reserve state h)
+      (elidable_swap state h) line need
       (if_touches (may_elide state.config.mode (hart_of state h) (view_of state.committed h).pc) (next_swap state.committed h)
       (touch_of (footprint action))
       (touches_word (byte_in state.committed.base state.committed.bytes) action (next_swap state.committed h) (swap_next action state.committed h next)))
@@ -76,8 +80,8 @@ module _ (parts : Parts) (h : ℕ) (state : ModelState) (action : Action) (acts 
   -- a section begins at the swap that comes next, whose line is there
   begins_at : (swap : Swap) → plain_rule state h ≡ Begins swap → BeginsAt (cache_in parts h).residency (elidable_swap state h) swap
   begins_at swap rule =
-      begins_swap (cache_in parts h).residency (λ line. is_wanted_to_write state h line) (touch_of (footprint action)) (elidable_swap state h) swap
-      (sym rule_is ∙ rule)
+      begins_swap (cache_in parts h).residency (λ line. is_wanted_to_write state h line) (touch_of (footprint action)) (elidable_reserve state h)
+      (elidable_swap state h) swap (sym rule_is ∙ rule)
 
   pub swap_found : (swap : Swap) → plain_rule state h ≡ Begins swap → next_swap state.committed h ≡ Some swap
   swap_found swap rule =
@@ -86,3 +90,20 @@ module _ (parts : Parts) (h : ℕ) (state : ModelState) (action : Action) (acts 
 
   pub lock_there : (swap : Swap) → plain_rule state h ≡ Begins swap → is_resident (cache_in parts h).residency (line_number swap.word) ≡ true
   lock_there swap rule = readable_there (cache_in parts h).residency (line_number swap.word) (begins_at swap rule).may
+
+  -- a hart arms at the LR that comes next, whose line is there
+  arms_at : (word : ℕ) → plain_rule state h ≡ Arms word → ArmsAt (cache_in parts h).residency (elidable_reserve state h) word
+  arms_at word rule =
+      arms_word (cache_in parts h).residency (λ line. is_wanted_to_write state h line) (touch_of (footprint action)) (elidable_reserve state h)
+      (elidable_swap state h) word (sym rule_is ∙ rule)
+
+  pub reserve_found : (word : ℕ) → plain_rule state h ≡ Arms word → next_reserved state.committed h ≡ Some word
+  reserve_found word rule =
+      if_some (may_elide state.config.mode (hart_of state h) (view_of state.committed h).pc) (next_reserved state.committed h) word
+      (arms_at word rule).reserve_is
+
+  pub reserves_next : (word : ℕ) → plain_rule state h ≡ Arms word → IsReserveOf action word
+  reserves_next word rule = reserve_action action word (reserve_next action state.committed h next ∙ reserve_found word rule)
+
+  pub reserved_there : (word : ℕ) → plain_rule state h ≡ Arms word → is_resident (cache_in parts h).residency (line_number word) ≡ true
+  reserved_there word rule = readable_there (cache_in parts h).residency (line_number word) (arms_at word rule).may

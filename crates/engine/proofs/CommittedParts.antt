@@ -1,6 +1,6 @@
 -- the parts after a hart's section has committed
 use Rattle.std.proofs.Common.{◌≡◌, ◌≢◌, ◌∙◌, ℕ, ◌+◌, ◌-◌, ◌*◌, ◌/◌, ◌<◌, ◌≤◌, Bool, true}
-use Rattle.std.proofs.Common.{false, if◌then◌else◌, List, drop, length, Option, Some, None, refl, ap, sym, subst, arith}
+use Rattle.std.proofs.Common.{false, if◌then◌else◌, List, drop, length, Option, Some, None, is_some, refl, ap, sym, subst, arith}
 use Rattle.std.specs.Prelude.{IfSome, IsSome, option_map, slice_set}
 use Rattle.std.specs.Option.{option_map_or}
 use Rattle.std.proofs.lemmas.Bool.{eq-eqb}
@@ -29,7 +29,8 @@ use Rattle.el_model.proofs.Harts.{hart_of-with_hart_same}
 use Rattle.el_model.specs.Attempts.{close_attempt}
 use Rattle.el_model.specs.Deed.{MayCommit}
 use Rattle.el_model.specs.InSection.{Commits, by_section_rule, committed_hart, section_rule, section_turn, shown_in}
-use Rattle.el_model.specs.State.{Hart, ModelState, Section, cache_of, hart_of, section_of, with_hart}
+use Rattle.el_model.specs.Plain.{armed_count}
+use Rattle.el_model.specs.State.{Hart, ModelState, Section, armed_of, cache_of, hart_of, section_of, with_hart}
 use Rattle.el_base.proofs.Ranges.{at_most, ranges}
 use Rattle.step_laws.proofs.Short.{sections_are_short}
 use Rattle.engine.proofs.InsideRules.{says}
@@ -41,7 +42,7 @@ use Rattle.engine.proofs.Stepped.{HasStepped, IsBetween, StaysInPlace, after_ste
 use Rattle.engine.proofs.Steps.{asks_nothing}
 use Rattle.engine.specs.Acting.{MayAct, freed, next_action}
 use Rattle.engine.specs.Inside.{FollowsRule}
-use Rattle.engine.specs.Parts.{IsIn, IsOfHart, KeepsSectionOf, Parts, own_at}
+use Rattle.engine.specs.Parts.{IsIn, IsOfHart, KeepsReserved, KeepsSectionOf, Parts, StandsAs, own_at}
 use Rattle.engine.specs.Reached.{IsReached}
 use Rattle.engine.specs.Unreserved.{AreUnreserved, line_among, unreserved_beside, unreserved_line, written_by}
 use Rattle.hart_state.proofs.Harts.{committed_is}
@@ -58,7 +59,6 @@ use Rattle.rv_flat.specs.FlatState.{FlatState, no_hart, view_of}
 use Rattle.rv_flat.specs.Memory.{AreBytes}
 use Rattle.rv_flat.specs.Run.{alone}
 use Rattle.section_ctl.specs.Calls.{HasCommitted, HasReleased, committed_copy, has_written}
-use Rattle.section_ctl.specs.State as sections
 use Rattle.section_ctl.specs.State.{SectionState}
 use Rattle.section_laws.proofs.Coherence.{written_lines_may_be_written}
 use Rattle.section_laws.specs.Coherence.{IsOwned}
@@ -67,6 +67,7 @@ use Rattle.section_view.proofs.OfProgram.{committed_is as of_program}
 use Rattle.section_view.proofs.Releasing.{release_actions}
 use Rattle.section_view.specs.KeptRun.{HoldsMarked, is_written, section_byte, section_execution}
 use Rattle.section_view.specs.Release.{HasEffect, IsLineFrom, IsReleaseAction, reserved_beside, unreserved_on}
+use Rattle.snoop.proofs.Living.{lives_unarmed}
 use Rattle.snoop.proofs.Returning.{ready_returned, shows_returned}
 use Rattle.snoop.specs.Agent.{agent_of}
 use Rattle.snoop.specs.Asking.{HasNoRequest}
@@ -217,8 +218,10 @@ module _ (copies : Copies) (h : ℕ) (cache : Cached) (old done : FlatState) (wo
       (record { given_back = record { each = λ line. back line (holds hold line) refl }; exact = λ line there. exact line (holds hold line) there refl })
 
 -- the bus
-agent_then : (from : ModelState) (h : ℕ) → agent_of (hart_then from h) ≡ agent_of (close_attempt (record (hart_of from h) { held = None }))
-agent_then from h = refl
+agent_then : (from : ModelState) (h : ℕ) → armed_of from h ≡ None →
+    agent_of (hart_then from h) ≡ agent_of (close_attempt (record (hart_of from h) { held = None }))
+agent_then from h none =
+    ap (λ armed. record (agent_of (close_attempt (record (hart_of from h) { held = None }))) { armed = armed_count armed }) (sym none)
 
 -- a hart that loses its reservation where it is of a word on one of these lines
 seen_by : (lines : ℕ → Bool) (reserved : Option ℕ) (own : Own) → (committed_of own.section.marks).reserved ≡ reserved →
@@ -278,6 +281,9 @@ module _ (parts : Parts) (bus : Kept) (h : ℕ) (from : ModelState) (section : S
   residency : (cache_at bus.copies.caches h).residency ≡ cache_of from h
   residency = stands_between.shows.caches h ∙ ap (λ hart. hart.cache) stands_between.here
 
+  unarmed_there : armed_of from h ≡ None
+  unarmed_there = (keeps_live parts h from section at.follows.inside).unarmed_there
+
   tells_now : TellsOf (copies_with bus.copies h cache) (line_of (done_of from h section))
   tells_now =
       tells_then bus.copies h cache from.committed (done_of from h section) section.word after.marks.present (kept_of parts h).hold.entries
@@ -292,10 +298,13 @@ module _ (parts : Parts) (bus : Kept) (h : ℕ) (from : ModelState) (section : S
       subst (λ s. Shows (returned bus h cache) (record s { committed = done_of from h section })) (stands_between.becomes (hart_then from h))
       (shows_returned bus mid h cache (hart_then from h) (done_of from h section) inside stands_between.shows
       (record {
-        agent = agent_then from h ∙ ap agent_of (sym stands_between.here);
+        agent = agent_then from h unarmed_there ∙ ap agent_of (sym stands_between.here);
         ways = at.committed.ways;
         residency = ap (λ c. committed c) (sym residency) ∙ sym at.committed.residency;
-        live = sym (ap has_marks at.committed.residency ∙ has_marks-committed (cache_at bus.copies.caches h).residency);
+        live =
+            sym (lives_unarmed cache.residency 0 refl ∙ ap has_marks at.committed.residency
+            ∙ has_marks-committed (cache_at bus.copies.caches h).residency);
+        armed = sym (ap (λ hart. is_some hart.armed) stands_between.here ∙ ap is_some unarmed_there);
         memory = record {
           first = stands_between.shows.memory.first ∙ sym effects.base;
           lines = stands_between.shows.memory.lines ∙ sym effects.size;
@@ -344,6 +353,8 @@ module _ (parts : Parts) (bus : Kept) (h : ℕ) (from : ModelState) (section : S
       let freed_part : HasOwn own (record (hart_of from h) { held = None }) = subst (HasOwn own) (freed_here from h below) was.part in
       let part : HasOwn own (hart_of from h) = record {
         section = freed_part.section;
+        armed = freed_part.armed;
+        last_lr = freed_part.last_lr;
         predictor = freed_part.predictor;
         fallback = freed_part.fallback;
         tries = freed_part.tries;
@@ -352,11 +363,13 @@ module _ (parts : Parts) (bus : Kept) (h : ℕ) (from : ModelState) (section : S
       record {
         part = subst (HasOwn (committed_own after own)) (sym here)
             (subst (λ pc. HasOwn (committed_own after own) (committed_hart pc (hart_of from h))) (ap (λ view. view.pc) was.view)
-            (committed_is after own (hart_of from h) part at.released.live));
+            (committed_is after own (hart_of from h) part at.released.live at.released.armed));
         view = ap committed_of (at.released.marks under) ∙ sym (ap (λ marks. marks.present) (at.released.marks under)) ∙ sym effects.own;
         section = subst (λ live. KeepsSectionOf (state_then from h section) h live after) (sym (ap (λ hart. hart.section) here)) tt;
-        stands = subst (sections.Stands after.marks after.hold) (sym at.released.live)
-            (record { unmarked = ap (λ marks. marks.mark) (at.released.marks under); empty = ap (λ hold. hold.entries) at.released.hold });
+        armed = subst (λ armed. KeepsReserved (done_of from h section) h armed after.marks.present) (sym at.released.armed) tt;
+        stands = subst (λ l. StandsAs after.marks after.hold l after.armed) (sym at.released.live)
+            (subst (StandsAs after.marks after.hold None) (sym at.released.armed)
+            (record { unmarked = ap (λ marks. marks.mark) (at.released.marks under); empty = ap (λ hold. hold.entries) at.released.hold }));
         limit = ap (λ hold. hold.limit) at.released.hold ∙ was.limit;
       }
 

@@ -1,5 +1,6 @@
 -- what a hart keeps of its live section, and what comes next in it
-use Rattle.std.proofs.Common.{◌≡◌, ◌∙◌, ℕ, ◌-◌, ◌≤◌, length, Some, ap, sym, subst, true}
+use Rattle.std.proofs.Common.{◌≡◌, ◌∙◌, ℕ, ◌-◌, ◌≤◌, length, None, Some, ap, sym, subst, true}
+use Rattle.std.specs.Prelude.{option_map}
 use Rattle.cache_sets.specs.Cache.{is_resident}
 use Rattle.cache_sets.specs.Cached.{Cached, cached_byte}
 use Rattle.el_base.specs.Line.{line_number}
@@ -7,12 +8,13 @@ use Rattle.rv_flat.specs.Memory.{byte_in}
 use Rattle.cached_step.proofs.Told.{byte_told}
 use Rattle.cached_step.specs.Memory.{TellsMemory}
 use Rattle.el_model.specs.InSection.{shown_in}
-use Rattle.el_model.specs.State.{ModelState, Section, cache_of, section_of}
+use Rattle.el_model.specs.State.{ModelState, Section, armed_of, cache_of, section_of}
 use Rattle.elf_image.specs.Program.{code_word}
 use Rattle.engine.proofs.InsideRules.{freed_cache}
 use Rattle.engine.proofs.Misses.{freed_here, is_there}
+use Rattle.engine.proofs.Reserved.{unarmed}
 use Rattle.engine.specs.Acting.{ActsInside, MayAct, cache_in, freed, next_action}
-use Rattle.engine.specs.Parts.{KeepsSection, KeepsSectionOf, Parts, own_at, present_at, room_in}
+use Rattle.engine.specs.Parts.{KeepsSection, KeepsSectionOf, Parts, StandsAs, own_at, present_at, room_in}
 use Rattle.engine.specs.Reached.{IsReached}
 use Rattle.run_laws.proofs.Reachable.{live_sections_run_covered}
 use Rattle.run_laws.specs.PrivateRun.{IsCoveredRun}
@@ -20,7 +22,6 @@ use Rattle.rv_alu.specs.Action.{action_at}
 use Rattle.rv_alu.specs.declared.action.Action.{Action}
 use Rattle.rv_flat.specs.FlatState.{FlatState, output_limit, span_of}
 use Rattle.rv_flat.specs.Step.{action_of}
-use Rattle.section_ctl.specs.State as sections
 use Rattle.section_ctl.specs.State.{IsLive, SectionState}
 use Rattle.section_view.proofs.Shapes.{comes_to}
 use Rattle.section_view.specs.KeptRun.{HoldsMarked, KeepsRun}
@@ -42,6 +43,8 @@ pub record KeepsLive (parts : Parts) (h : ℕ) (from : ModelState) (section : Se
   pub keeps : KeepsRun from.committed h section (kept_of parts h).marks.present (kept_of parts h).hold.entries
   pub marked : HoldsMarked (cache_of from h) (kept_of parts h).hold.entries
   pub live : (kept_of parts h).live ≡ Some section
+  pub unarmed : (kept_of parts h).armed ≡ None
+  pub unarmed_there : armed_of from h ≡ None
   pub stands : IsLive (kept_of parts h).marks (kept_of parts h).hold section
   pub cache : (cache_in parts h).residency ≡ cache_of from h
   pub bytes : HasBytesOf from.committed (cache_in parts h)
@@ -69,12 +72,17 @@ keeps_live parts h from section inside =
     let own_live = was.part.section ∙ live in
     let told : KeepsSection (freed from h) h section kept = subst (λ l. KeepsSectionOf (freed from h) h l kept) live was.section in
     let run = covered from h section may.reached inside.live in
+    let stands = subst (λ l. StandsAs kept.marks kept.hold l kept.armed) own_live was.stands in
+    let none = unarmed section kept.armed kept.marks kept.hold stands in
     record {
       run = run;
       keeps = told.run;
       marked = subst (λ c. HoldsMarked c kept.hold.entries) (freed_cache from h h) told.marked;
       live = own_live;
-      stands = subst (sections.Stands kept.marks kept.hold) own_live was.stands;
+      unarmed = none;
+      unarmed_there =
+          sym (ap (λ hart. hart.armed) here) ∙ sym was.part.armed ∙ ap (option_map (λ reserved. reserved.armed)) none;
+      stands = subst (StandsAs kept.marks kept.hold (Some section)) none stands;
       cache = may.is_in.shows.caches h ∙ freed_cache from h h;
       bytes = λ address low resident. byte_told parts.bus.copies from.committed h address (tells parts h from may.is_in.shows) low resident;
       comes = comes_to from.committed h (cache_of from h) section kept.marks.present kept.hold.entries run told.run;

@@ -28,3 +28,10 @@ mod Covering
 mod Buffers
 mod Buffered
 mod InsideMisses
+mod Reserved
+mod KeptPrivate
+mod ArmedRules
+mod ArmedSteps
+mod AfterArmed
+mod Eliding
+mod PrivateCalls

@@ -16,8 +16,7 @@ use Rattle.el_base.specs.declared.events.Kind.TheVariants as kinds
 use Rattle.el_base.specs.declared.line.TheConstants.{LINE_BYTES}
 use Rattle.el_base.specs.declared.outcomes.Outcome.{Outcome}
 use Rattle.el_base.specs.declared.outcomes.Outcome.TheVariants as outcomes
-use Rattle.el_model.specs.Next.{kind_turn, next}
-use Rattle.el_model.specs.Serve.{serve_turn}
+use Rattle.el_model.specs.Next.{next}
 use Rattle.el_model.specs.State.{ModelState, cache_of}
 use Rattle.engine.specs.MainMemory.{back_as, back_by, back_for, if_dirty, leaving_line, line_written_back, lines_from, with_committed}
 use Rattle.moesi.specs.Letters.{is_dirty}
@@ -99,12 +98,6 @@ as_outcome bus state h shows below (outcomes.Blocked why by) = refl
 as_outcome bus state h shows below (outcomes.Delivered losers) = refl
 as_outcome bus state h shows below outcomes.Armed = refl
 as_outcome bus state h shows below (outcomes.LetGo count) = refl
-
--- the event is the service of the hart's request
-pub serve_is : (state : ModelState) (event : Event) → event.kind ≡ kinds.Serve →
-    (serve_turn state event.hart.number).outcome ≡ (next state event).outcome
-unfolding next
-serve_is state event serves = ap (λ kind. (kind_turn state event.hart.number kind).outcome) (sym serves)
 
 -- a request that is served
 pub served_lines : (bus : Kept) (state : ModelState) (event : Event) (outcome : Outcome) → Shows bus state →

@@ -33,6 +33,8 @@ pub same_each : (state : ModelState) (h : ℕ) (hart : Hart) → IsSameHart (har
     IsSameHart (hart_of state g) (hart_of (with_hart state h hart) g)
 same_each state h hart same g = record {
   section = with_hart_kept (λ k. k.section) state h hart same.section g;
+  armed = with_hart_kept (λ k. k.armed) state h hart same.armed g;
+  last_lr = with_hart_kept (λ k. k.last_lr) state h hart same.last_lr g;
   cache = with_hart_kept (λ k. k.cache) state h hart same.cache g;
   predictor = with_hart_kept (λ k. k.predictor) state h hart same.predictor g;
   fallback = with_hart_kept (λ k. k.fallback) state h hart same.fallback g;
@@ -63,5 +65,6 @@ after_missed old bus state h line need may shows =
     let hart = missed_hart h line need (hart_of from h) in
     subst (IsIn (record old { bus = bus })) (missed_is state h line need (is_there old state h may))
     (with_bus old bus from (with_hart from h hart) may.is_in (keeps_with_hart from h hart)
-    (same_each from h hart (record { section = refl; cache = refl; predictor = refl; fallback = refl; tries = refl }))
+    (same_each from h hart
+    (record { section = refl; armed = refl; last_lr = refl; cache = refl; predictor = refl; fallback = refl; tries = refl }))
     (shows from may.is_in.shows))

@@ -1,14 +1,14 @@
 -- a step of one hart, as the others come out of it
 use Rattle.std.proofs.Common.{◌≡◌, ◌≢◌, ◌∙◌, ℕ, ◌<◌, length, Option, Some, None, is_some, refl, ap, sym, subst}
-use Rattle.std.specs.Prelude.{IsSome}
+use Rattle.std.specs.Prelude.{IsSome, option_map}
 use Rattle.el_base.specs.declared.events.Event.{Event}
 use Rattle.el_base.specs.declared.events.Kind.TheVariants as kinds
 use Rattle.el_model.proofs.Harts.{hart_of-with_hart_other}
 use Rattle.el_model.specs.Next.{next}
-use Rattle.el_model.specs.State.{Hart, ModelState, Section, cache_of, hart_of, section_of}
-use Rattle.engine.proofs.Reaching.{survives_event}
+use Rattle.el_model.specs.State.{Hart, ModelState, Section, armed_of, cache_of, hart_of, section_of}
+use Rattle.engine.proofs.Reaching.{other_step_beside, runs_armed, survives_event}
 use Rattle.engine.specs.Acting.{freed}
-use Rattle.engine.specs.Parts.{IsIn, IsOfHart, KeepsSection, KeepsSectionOf, Parts, own_at}
+use Rattle.engine.specs.Parts.{IsIn, IsOfHart, KeepsReserved, KeepsSection, KeepsSectionOf, Parts, StandsAs, own_at}
 use Rattle.engine.specs.Reached.{IsReached}
 use Rattle.hart_state.specs.Deeds.{unreserved_own}
 use Rattle.hart_state.specs.Own.{HasOwn, Own}
@@ -17,11 +17,10 @@ use Rattle.reg_mark.specs.Marks.{committed_of, views_unreserved}
 use Rattle.reg_mark.specs.declared.marked.Marked.{Marked}
 use Rattle.rv_alu.specs.Reservations.{unreserved}
 use Rattle.rv_alu.specs.declared.view.HartView.{HartView}
-use Rattle.rv_flat.specs.FlatState.{view_of}
-use Rattle.section_ctl.specs.State as sections
-use Rattle.section_ctl.specs.State.{IsLive}
-use Rattle.section_view.proofs.Surviving.{kept_survive, marks_stay}
-use Rattle.section_view.specs.KeptRun.{HoldsMarked, KeepsRun}
+use Rattle.rv_flat.specs.FlatState.{FlatState, view_of}
+use Rattle.section_ctl.specs.State.{Reserved}
+use Rattle.section_view.proofs.Surviving.{kept_armed_survive, kept_survive, marks_stay}
+use Rattle.section_view.specs.KeptRun.{HoldsMarked, KeepsArmed, KeepsRun}
 use Rattle.step_laws.proofs.Frames.{steps_keep_others}
 use Rattle.step_laws.specs.Frames.{LeavesOthers}
 use Rattle.step_laws.specs.Survivors.{Survives}
@@ -56,29 +55,51 @@ keeps_section state new g section old own survives keeps marks hold marked =
     }
 
 -- what stood keeps standing
-stands_still : (live : Option Section) (hold : Held) (old new : Marked) → KeepsPresent old new → sections.Stands old hold live →
-    sections.Stands new hold live
-stands_still None hold old new marks stands = record { unmarked = marks.unmarked stands.unmarked; empty = stands.empty }
-stands_still (Some section) hold old new marks stands = record {
+stands_still : (live : Option Section) (reserved : Option Reserved) (hold : Held) (old new : Marked) → KeepsPresent old new →
+    StandsAs old hold live reserved → StandsAs new hold live reserved
+stands_still None None hold old new marks stands = record { unmarked = marks.unmarked stands.unmarked; empty = stands.empty }
+stands_still None (Some reserved) hold old new marks stands = record {
+  mark = marks.marked stands.mark;
+  running = ap (λ present. present.status) (marks.present stands.mark) ∙ stands.running;
+  aligned = stands.aligned;
+  empty = stands.empty;
+  counted = stands.counted;
+}
+stands_still (Some section) None hold old new marks stands = record {
   mark = marks.marked stands.mark;
   running = ap (λ present. present.status) (marks.present stands.mark) ∙ stands.running;
   aligned = stands.aligned;
   free = stands.free;
 }
+stands_still (Some section) (Some reserved) hold old new marks stands = absurd stands
 
 -- what a hart keeps is that of its part of the definition's hart, but that its committed view may have changed
 has_still : (old own : Own) (before after : Hart) (view : HartView) → after ≡ before → IsSeenAs old own view → HasOwn old before → HasOwn own after
 has_still old own before after view same seen has = subst (HasOwn own) (sym same) (subst (λ o. HasOwn o before) (sym seen.rest) (record {
   section = has.section;
+  armed = has.armed;
+  last_lr = has.last_lr;
   predictor = has.predictor;
   fallback = has.fallback;
   tries = has.tries;
 }))
 
+-- a checkpoint stands by a section, live or armed
+marked_live : (reserved : Option Reserved) (section : Section) (hold : Held) (marks : Marked) → StandsAs marks hold (Some section) reserved →
+    IsSome marks.mark
+marked_live None section hold marks stands = stands.mark
+marked_live (Some reserved) section hold marks stands = absurd stands
+
+marked_armed : (live : Option Section) (reserved : Reserved) (hold : Held) (marks : Marked) → StandsAs marks hold live (Some reserved) →
+    IsSome marks.mark
+marked_armed None reserved hold marks stands = stands.mark
+marked_armed (Some section) reserved hold marks stands = absurd stands
+
 -- by whether a section is live
 kept_by : (live : Option Section) (from before new : ModelState) (g : ℕ) (old own : Own) →
     ((section : Section) → live ≡ Some section → Survives from new g section) → KeepsSectionOf before g live old.section →
-    before.committed ≡ from.committed → cache_of before g ≡ cache_of from g → sections.Stands old.section.marks old.section.hold live →
+    before.committed ≡ from.committed → cache_of before g ≡ cache_of from g →
+    StandsAs old.section.marks old.section.hold live old.section.armed →
     IsSeenAs old own (view_of new.committed g) → KeepsSectionOf new g live own.section
 kept_by None from before new g old own survives keeps committed cache stands seen = tt
 kept_by (Some section) from before new g old own survives keeps committed cache stands seen =
@@ -87,7 +108,18 @@ kept_by (Some section) from before new g old own survives keeps committed cache 
       run = subst (λ memory. KeepsRun memory g section old.section.marks.present old.section.hold.entries) committed keeps.run;
       marked = subst (λ c. HoldsMarked c old.section.hold.entries) cache keeps.marked;
     })
-    seen.marks (ap (λ o. o.section.hold) seen.rest) stands.mark
+    seen.marks (ap (λ o. o.section.hold) seen.rest) (marked_live old.section.armed section old.section.hold old.section.marks stands)
+
+-- an armed section that stays armed is kept by the same present view
+reserved_by : (reserved : Option Reserved) (from : ModelState) (new : FlatState) (g : ℕ) (old own : Own) →
+    ((r : Reserved) → reserved ≡ Some r →
+    KeepsArmed from.committed g r.armed r.old old.section.marks.present → KeepsArmed new g r.armed r.old old.section.marks.present) →
+    KeepsReserved from.committed g reserved old.section.marks.present → StandsAs old.section.marks old.section.hold old.section.live reserved →
+    KeepsPresent old.section.marks own.section.marks → KeepsReserved new g reserved own.section.marks.present
+reserved_by None from new g old own survive keeps stands marks = tt
+reserved_by (Some reserved) from new g old own survive keeps stands marks =
+    subst (KeepsArmed new g reserved.armed reserved.old)
+    (sym (marks.present (marked_armed old.section.live reserved old.section.hold old.section.marks stands))) (survive reserved refl keeps)
 
 -- after a step of one hart, what another keeps is what it kept, but that its committed view is that of the state after it
 pub others_stay : (parts : Parts) (from : ModelState) (event : Event) (g : ℕ) (own : Own) → IsReached from →
@@ -98,8 +130,10 @@ others_stay parts from event g own reached is step other exists seen = record {
   view = seen.view;
   section = subst (λ live. KeepsSectionOf new g live own.section) (sym (ap (λ hart. hart.section) (same ∙ sym was_same)))
       (kept_by (section_of before g) from before new g old own survive was.section refl (ap (λ hart. hart.cache) was_same) live_stands seen);
-  stands = subst (λ o. sections.Stands own.section.marks o.section.hold o.section.live) (sym seen.rest)
-      (stands_still old.section.live old.section.hold old.section.marks own.section.marks seen.marks was.stands);
+  armed = subst (λ o. KeepsReserved new.committed g o.section.armed own.section.marks.present) (sym seen.rest)
+      (reserved_by old.section.armed from new.committed g old own armed_survive was.armed was.stands seen.marks);
+  stands = subst (λ o. StandsAs own.section.marks o.section.hold o.section.live o.section.armed) (sym seen.rest)
+      (stands_still old.section.live old.section.armed old.section.hold old.section.marks own.section.marks seen.marks was.stands);
   limit = ap (λ o. o.section.hold.limit) seen.rest ∙ was.limit ∙ ap (λ config. config.lines) (sym left.config);
 }
   where
@@ -124,8 +158,17 @@ others_stay parts from event g own reached is step other exists seen = record {
     same : hart_of new g ≡ hart_of from g
     same = left.others g other
 
-    live_stands : sections.Stands old.section.marks old.section.hold (section_of before g)
-    live_stands = subst (sections.Stands old.section.marks old.section.hold) was.part.section was.stands
+    live_stands : StandsAs old.section.marks old.section.hold (section_of before g) old.section.armed
+    live_stands = subst (λ live. StandsAs old.section.marks old.section.hold live old.section.armed) was.part.section was.stands
+
+    armed_survive : (r : Reserved) → old.section.armed ≡ Some r → KeepsArmed from.committed g r.armed r.old old.section.marks.present →
+        KeepsArmed new.committed g r.armed r.old old.section.marks.present
+    armed_survive r is_reserved keeps =
+        let here : armed_of from g ≡ Some r.armed =
+        sym (ap (λ hart. hart.armed) was_same) ∙ sym was.part.armed ∙ ap (option_map (λ reserved. reserved.armed)) is_reserved in
+        kept_armed_survive g (cache_of from g) r.armed from.committed new.committed r.old old.section.marks.present
+        (runs_armed from g r.armed reached here)
+        (other_step_beside from event g reached (λ own_step. other (sym own_step)) step) keeps
 
     survive : (section : Section) → section_of before g ≡ Some section → Survives from new g section
     survive section live =

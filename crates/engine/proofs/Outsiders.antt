@@ -8,8 +8,8 @@ use Rattle.el_base.proofs.Lines.{line_addr-of_line}
 use Rattle.el_base.specs.declared.line.LineAddr.{LineAddr}
 use Rattle.el_base.specs.declared.outcomes.Need.{Need}
 use Rattle.el_base.specs.declared.outcomes.Outcome.TheVariants as outcomes
-use Rattle.el_model.specs.Next.{going_turn, next, stalled, status_turn, step_turn}
-use Rattle.el_model.specs.Plain.{Begins, Misses, PlainRule, Runs, by_plain_rule, missed, plain_rule, plain_turn}
+use Rattle.el_model.specs.Next.{going_turn, next, outside_turn, stalled, status_turn, step_turn}
+use Rattle.el_model.specs.Plain.{Arms, Begins, Misses, PlainRule, Runs, by_plain_rule, missed, plain_rule, plain_turn}
 use Rattle.el_model.specs.State.{ModelState, section_of}
 use Rattle.el_model.specs.Upcoming.{Swap, Touch}
 use Rattle.engine.proofs.StandsOutside.{runs_there}
@@ -21,7 +21,7 @@ unfolding step_turn
 acting_turn parts h state acts =
     ap (status_turn state h) (runs_there parts h state acts)
     ∙ ap (λ waits. if waits then stalled state else going_turn state h (section_of state h)) acts.may.free
-    ∙ ap (going_turn state h) acts.no_section
+    ∙ ap (going_turn state h) acts.no_section ∙ ap (outside_turn state h) acts.no_armed
 
 -- what the rule says, the turn is
 pub turn_is : (state : ModelState) (h : ℕ) (rule : PlainRule) → plain_rule state h ≡ rule → plain_turn state h ≡ by_plain_rule state h rule
@@ -45,6 +45,10 @@ ran_outcome state h touch is = ap (λ turn. turn.outcome) (turn_is state h (Runs
 pub began_outcome : (state : ModelState) (h : ℕ) (swap : Swap) → plain_rule state h ≡ Begins swap → (plain_turn state h).outcome ≡ outcomes.Began
 unfolding by_plain_rule
 began_outcome state h swap is = ap (λ turn. turn.outcome) (turn_is state h (Begins swap) is)
+
+pub armed_outcome : (state : ModelState) (h word : ℕ) → plain_rule state h ≡ Arms word → (plain_turn state h).outcome ≡ outcomes.Armed
+unfolding by_plain_rule
+armed_outcome state h word is = ap (λ turn. turn.outcome) (turn_is state h (Arms word) is)
 
 pub missed_state : (state : ModelState) (h : ℕ) (line : LineAddr) (need : Need) → plain_rule state h ≡ Misses line.number need →
     (plain_turn state h).state ≡ (missed state h line.number need).state

@@ -1,5 +1,6 @@
 -- what an action leaves that ran in the cache of its hart, from a state in which the hart acts outside of a section
 use Rattle.std.proofs.Common.{◌≡◌, ◌∙◌, ℕ, Bool, true, Option, Some, None, is_some, refl, ap, sym, subst}
+use Rattle.std.specs.Prelude.{◌&&◌, ◌==◌}
 use Rattle.cache_sets.specs.Cache.{is_resident}
 use Rattle.cache_sets.specs.Cached.{Cached, cached_byte}
 use Rattle.cached_step.proofs.CachedBytes.{same_bytes}
@@ -17,17 +18,17 @@ use Rattle.core_step.proofs.Runs.{is_permitted}
 use Rattle.core_step.specs.Run.{lacking}
 use Rattle.el_base.specs.Line.{line_number}
 use Rattle.el_base.specs.declared.outcomes.Need.TheVariants.{Read}
-use Rattle.el_model.specs.Plain.{after_candidate, after_touch, candidate_of, ran_hart, watched}
+use Rattle.el_model.specs.Plain.{acquire_pc, after_candidate, after_touch, armed_count, candidate_of, last_reserve, ran_hart, watched}
 use Rattle.el_model.specs.State.{Hart, ModelState, hart_of}
 use Rattle.el_model.specs.Upcoming.{Swap, touch_of}
 use Rattle.engine.proofs.LeftBehind.{TellsPiece}
 use Rattle.engine.proofs.Misses.{freed_here, freed_then}
-use Rattle.engine.proofs.StandsOutside.{action_is, has_cache, in_memory, inside, none_marked, runs_there, tells_memory, view_is}
+use Rattle.engine.proofs.StandsOutside.{action_is, has_cache, in_memory, inside, none_armed, none_marked, runs_there, tells_memory, view_is}
 use Rattle.engine.specs.Acting.{ActsOutside, cache_in, freed, next_action}
 use Rattle.engine.specs.Effect.{CanAppend}
 use Rattle.engine.specs.Outside.{execution_in}
 use Rattle.engine.specs.Parts.{Parts, present_at, room_in}
-use Rattle.hart_state.specs.Deeds.{candidate_own, ran_own}
+use Rattle.hart_state.specs.Deeds.{candidate_own, own_acquire_pc, ran_own}
 use Rattle.hart_state.specs.Own.{Own}
 use Rattle.rv_alu.specs.Execution.{perform, store_in}
 use Rattle.rv_alu.specs.Footprint.{IsInPlace, footprint}
@@ -45,26 +46,30 @@ use Rattle.snoop.specs.Shows.{IsReady, Shows}
 use Rattle.coherence.proofs.LineLaws.{none_is}
 
 -- what a candidate leaves of a hart, and learning of what the hart keeps
-candidate_agent : (pc : ℕ) (had : Bool) (swap : Option Swap) (hart : Hart) → agent_of (after_candidate pc had swap hart) ≡ agent_of hart
+candidate_agent : (pc : Option ℕ) (had : Bool) (swap : Option Swap) (hart : Hart) → agent_of (after_candidate pc had swap hart) ≡ agent_of hart
 candidate_agent pc had None hart = refl
 candidate_agent pc had (Some swap) hart = refl
 
-candidate_cache : (pc : ℕ) (had : Bool) (swap : Option Swap) (hart : Hart) → (after_candidate pc had swap hart).cache ≡ hart.cache
+candidate_cache : (pc : Option ℕ) (had : Bool) (swap : Option Swap) (hart : Hart) → (after_candidate pc had swap hart).cache ≡ hart.cache
 candidate_cache pc had None hart = refl
 candidate_cache pc had (Some swap) hart = refl
 
-candidate_section : (pc : ℕ) (had : Bool) (swap : Option Swap) (hart : Hart) → (after_candidate pc had swap hart).section ≡ hart.section
+candidate_section : (pc : Option ℕ) (had : Bool) (swap : Option Swap) (hart : Hart) → (after_candidate pc had swap hart).section ≡ hart.section
 candidate_section pc had None hart = refl
 candidate_section pc had (Some swap) hart = refl
 
-candidate_kept : (pc : ℕ) (had : Bool) (swap : Option Swap) (own : Own) → (candidate_own pc had swap own).section ≡ own.section
+candidate_armed : (pc : Option ℕ) (had : Bool) (swap : Option Swap) (hart : Hart) → (after_candidate pc had swap hart).armed ≡ hart.armed
+candidate_armed pc had None hart = refl
+candidate_armed pc had (Some swap) hart = refl
+
+candidate_kept : (pc : Option ℕ) (had : Bool) (swap : Option Swap) (own : Own) → (candidate_own pc had swap own).section ≡ own.section
 candidate_kept pc had None own = refl
 candidate_kept pc had (Some swap) own = refl
 
 pub ran_kept : (state : ModelState) (h : ℕ) (own : Own) → (ran_own state h own).section ≡ own.section
 ran_kept state h own =
-    candidate_kept (view_of state.committed h).pc (is_some own.predictor.watch) (candidate_of state h)
-    (record own { predictor = watched state h own.predictor own.predictor.watch })
+    candidate_kept (own_acquire_pc state h own) (is_some own.predictor.watch) (candidate_of state h)
+    (record own { last_lr = last_reserve state h own.last_lr; predictor = watched state h own.predictor own.predictor.watch })
 
 -- the hart then
 abbrev pub hart_ran : ModelState → ℕ → Action → Hart
@@ -78,6 +83,7 @@ abbrev seen_hart : ModelState → ℕ → Action → Hart
 seen_hart state h action =
     let hart = hart_of state h in
     record hart {
+      last_lr = last_reserve state h hart.last_lr;
       held = None;
       cache = after_touch hart.cache (touch_of (footprint action));
       predictor = watched state h hart.predictor hart.predictor.watch;
@@ -114,13 +120,13 @@ module _ (parts : Parts) (h : ℕ) (state : ModelState) (action : Action) (acts 
 
   agent_stays : agent_of (hart_ran state h action) ≡ agent_of (hart_of (freed state h) h)
   agent_stays =
-      candidate_agent (view_of state.committed h).pc (is_some (hart_of state h).predictor.watch) (candidate_of state h)
+      candidate_agent (acquire_pc state h) (is_some (hart_of state h).predictor.watch) (candidate_of state h)
       (seen_hart state h action)
       ∙ ap agent_of (sym (freed_here state h (inside parts h state acts)))
 
   cache_is : (hart_ran state h action).cache ≡ cache.residency
   cache_is =
-      candidate_cache (view_of state.committed h).pc (is_some (hart_of state h).predictor.watch) (candidate_of state h)
+      candidate_cache (acquire_pc state h) (is_some (hart_of state h).predictor.watch) (candidate_of state h)
       (seen_hart state h action)
       ∙ ap (λ c. after_touch c (touch_of (footprint action)))
       (sym (acts.may.is_in.shows.caches h ∙ ap (λ hart. hart.cache) (freed_here state h (inside parts h state acts))))
@@ -128,9 +134,14 @@ module _ (parts : Parts) (h : ℕ) (state : ModelState) (action : Action) (acts 
 
   pub section_none : (hart_ran state h action).section ≡ None
   section_none =
-      candidate_section (view_of state.committed h).pc (is_some (hart_of state h).predictor.watch) (candidate_of state h)
+      candidate_section (acquire_pc state h) (is_some (hart_of state h).predictor.watch) (candidate_of state h)
       (seen_hart state h action)
       ∙ acts.no_section
+
+  pub armed_none : (hart_ran state h action).armed ≡ None
+  armed_none =
+      candidate_armed (acquire_pc state h) (is_some (hart_of state h).predictor.watch) (candidate_of state h) (seen_hart state h action)
+      ∙ acts.no_armed
 
   returns_as : IsReturnedAs parts.bus (freed state h) h cache (hart_ran state h action) (flat state.committed h)
   returns_as =
@@ -141,8 +152,10 @@ module _ (parts : Parts) (h : ℕ) (state : ModelState) (action : Action) (acts 
         residency = cache_is;
         live =
             ap is_some section_none
-            ∙ sym ((stays_in_form (cache_in parts h) cache action _ (acts.may.ready.well_formed h (has_cache parts h state acts)) run).marks
-            ∙ none_marked parts h state acts);
+            ∙ sym (ap (λ marks. marks && (armed_count (hart_ran state h action).armed == 0))
+            ((stays_in_form (cache_in parts h) cache action _ (acts.may.ready.well_formed h (has_cache parts h state acts)) run).marks
+            ∙ none_marked parts h state acts));
+        armed = ap is_some armed_none ∙ sym (ap is_some (none_armed parts h state acts));
         memory = record {
           first = acts.may.is_in.shows.memory.first ∙ sym keeps.base;
           lines = acts.may.is_in.shows.memory.lines ∙ sym keeps.length_of_bytes;

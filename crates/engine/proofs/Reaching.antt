@@ -1,18 +1,40 @@
 -- what holds of the states that programs reach, by the laws of the definition
-use Rattle.std.proofs.Common.{◌≡◌, ◌∙◌, ℕ, ◌<◌, [], ◌∷◌, ◌++◌, true, length, Some, ap, sym, subst, arith}
+use Rattle.std.proofs.Common.{◌≡◌, ◌≢◌, ◌∙◌, ℕ, ◌<◌, [], ◌∷◌, ◌++◌, true, length, Some, is_some, refl, ap, sym, subst, arith}
 use Rattle.std.proofs.lemmas.List.{length-append}
+use Rattle.el_base.specs.declared.config.Config.{Config}
 use Rattle.el_base.specs.declared.events.Event.{Event}
 use Rattle.el_model.proofs.Folds.{state_after-append}
+use Rattle.el_model.proofs.FromStart.{kept_after, next_config}
 use Rattle.el_base.specs.Winners.{winner_over}
 use Rattle.el_model.specs.Losses.{HartsAreNumbered}
-use Rattle.el_model.specs.Next.{next}
-use Rattle.el_model.specs.State.{ModelState, Section, begin, is_live, section_of}
+use Rattle.el_base.specs.declared.events.Kind.TheVariants as kinds
+use Rattle.el_model.specs.Next.{after, next}
+use Rattle.el_model.specs.State.{Armed, ModelState, Section, armed_of, begin, cache_of, is_live, section_of}
+use Rattle.elf_image.specs.Program.{Program}
 use Rattle.engine.specs.Reached.{IsReached}
+use Rattle.run_laws.proofs.Reachable.{armed_sections_run_covered, other_harts_change_nothing_covered}
+use Rattle.run_laws.specs.PrivateRun.{IsArmedRun, IsChangeBeside}
+use Rattle.section_laws.proofs.ArmedCounts.{armed_sections_are_short}
 use Rattle.section_laws.proofs.Numbered.{requests_are_numbered}
+use Rattle.section_laws.specs.EachHart.{IsShortArmed}
+use Rattle.step_laws.proofs.Frames.{steps_keep_others}
+use Rattle.step_laws.proofs.LettingGo.{bus_events_let_harts_go}
 use Rattle.step_laws.proofs.Losing.{only_live_sections_lose}
 use Rattle.step_laws.proofs.Survivors.{survivors_keep_what_they_show}
 use Rattle.step_laws.specs.Losing.{LosesItsSection}
+use Rattle.step_laws.specs.LettingGo.{LetsHartsGo, freed_of_outcome}
 use Rattle.step_laws.specs.Survivors.{IsNoStepOf, Survives}
+
+begin_config : (program : Program) (config : Config) → (begin program config).config ≡ config
+unfolding begin
+begin_config program config = refl
+
+-- no event changes the configuration
+pub config_of : (state : ModelState) (reached : IsReached state) → state.config ≡ reached.config
+config_of state reached =
+    ap (λ s. s.config) reached.state_is
+    ∙ kept_after (λ s. s.config ≡ reached.config) (λ s event is. next_config s event ∙ is) (begin reached.program reached.config) reached.events
+    (begin_config reached.program reached.config)
 
 -- where a step is left, one event more is reached
 pub next_reached : (state : ModelState) (event : Event) (reached : IsReached state) → length reached.events < reached.config.steps →
@@ -43,6 +65,37 @@ pub loses : (state : ModelState) (event : Event) (g winner : ℕ) → IsReached 
 loses state event g winner reached =
     subst (λ s. winner_over (next s event).outcome g ≡ Some winner → LosesItsSection s event g winner) (sym reached.state_is)
     (only_live_sections_lose reached.program reached.config reached.events event g winner reached.one_hart_each reached.in_range)
+
+-- the private run of an armed section
+pub runs_armed : (state : ModelState) (g : ℕ) (armed : Armed) → IsReached state → armed_of state g ≡ Some armed →
+    IsArmedRun state.committed g (cache_of state g) armed
+runs_armed state g armed reached is =
+    subst (λ s. armed_of s g ≡ Some armed → IsArmedRun s.committed g (cache_of s g) armed) (sym reached.state_is)
+    (armed_sections_run_covered reached.program reached.config reached.events g armed reached.bytes) is
+
+-- which has few instructions
+pub small_armed : (state : ModelState) (g : ℕ) (armed : Armed) → IsReached state → armed_of state g ≡ Some armed →
+    IsShortArmed state.config.long armed
+small_armed state g armed reached is =
+    subst (λ config. IsShortArmed config.long armed) (sym (config_of state reached))
+    (armed_sections_are_short reached.program reached.config reached.events reached.in_range g armed
+    (subst (λ s. armed_of s g ≡ Some armed) reached.state_is is))
+
+-- a step of another hart leaves each armed section, and changes what is committed beside its hart alone
+pub other_step_beside : (state : ModelState) (event : Event) (g : ℕ) → IsReached state → event.hart.number ≢ g → event.kind ≡ kinds.Step →
+    IsChangeBeside g (cache_of state g) state.committed (next state event).state.committed
+other_step_beside state event g reached other step =
+    subst (λ s. IsChangeBeside g (cache_of s g) s.committed (next s event).state.committed) (sym reached.state_is)
+    (other_harts_change_nothing_covered reached.program reached.config reached.events event g reached.bytes other
+    (λ armed. ap (λ hart. is_some hart.armed)
+    ((steps_keep_others (after reached.program reached.config reached.events) event step).others g (λ same. other (sym same))) ∙ armed))
+
+-- an event of the bus leaves armed harts, but those that it lets go
+pub lets_go : (state : ModelState) (event : Event) → IsReached state → event.kind ≢ kinds.Step →
+    LetsHartsGo state (next state event).state (freed_of_outcome (next state event).outcome)
+lets_go state event reached bus =
+    subst (λ s. LetsHartsGo s (next s event).state (freed_of_outcome (next s event).outcome)) (sym reached.state_is)
+    (bus_events_let_harts_go reached.program reached.config reached.events event reached.bytes reached.one_hart_each reached.in_range bus)
 
 -- a section that is live after an event that is no step of its hart survives it
 pub survives_event : (state : ModelState) (event : Event) (g : ℕ) (section : Section) → IsReached state → IsNoStepOf g event →

@@ -1,5 +1,5 @@
 -- the parts after a hart has rolled its section back
-use Rattle.std.proofs.Common.{◌≡◌, ◌∙◌, ℕ, ◌<◌, ◌≤◌, length, None, refl, ap, sym, subst, arith}
+use Rattle.std.proofs.Common.{◌≡◌, ◌∙◌, ℕ, ◌<◌, ◌≤◌, length, None, is_some, refl, ap, sym, subst, arith}
 use Rattle.std.specs.Prelude.{slice_set}
 use Rattle.std.below.core.specs.declared.int.u64.TheConstants.{MAX}
 use Rattle.std.proofs.lemmas.List.{get_or-set_other, get_or-set_same, length-set}
@@ -19,8 +19,10 @@ use Rattle.el_base.specs.declared.outcomes.Outcome.TheVariants.{RolledBack}
 use Rattle.el_model.proofs.Harts.{hart_of-with_hart_same}
 use Rattle.el_model.specs.Attempts.{close_attempt}
 use Rattle.el_model.specs.InSection.{RollsBack, by_section_rule, section_rule, section_turn}
+use Rattle.el_model.specs.Plain.{armed_count}
 use Rattle.el_model.specs.RollBack.{rolled_back}
-use Rattle.el_model.specs.State.{Hart, ModelState, Section, hart_of, with_hart}
+use Rattle.el_model.specs.State.{Hart, ModelState, Section, armed_of, hart_of, with_hart}
+use Rattle.engine.proofs.KeptLive.{keeps_live}
 use Rattle.engine.proofs.Misses.{freed_here, freed_then, is_there}
 use Rattle.engine.proofs.Others.{IsSeenAs, seen_same}
 use Rattle.engine.proofs.Stepped.{HasSameCopies, HasStepped, IsBetween, after_step, StaysInPlace, ready_between, set_twice}
@@ -33,7 +35,8 @@ use Rattle.hart_state.proofs.Harts.{rolled_back_is}
 use Rattle.hart_state.specs.Deeds.{rolled_back_own}
 use Rattle.hart_state.specs.Own.{HasOwn, committed_pc, new_own}
 use Rattle.rv_flat.specs.FlatState.{no_hart, view_of}
-use Rattle.snoop.specs.Agent.{agent_at}
+use Rattle.snoop.proofs.Living.{lives_unarmed}
+use Rattle.snoop.specs.Agent.{agent_at, agent_of}
 use Rattle.snoop.specs.Returned.{returned}
 use Rattle.snoop.specs.Shows.{IsReady, Kept, Shows}
 use Rattle.step_laws.proofs.Clocks.{clocks_are_few}
@@ -86,13 +89,20 @@ pub between : (parts : Parts) (bus : Kept) (h : ℕ) (from : ModelState) → May
     (close_attempt (record (hart_of from h) { held = None }))
 between parts bus h from may shows =
     let below = is_there parts from h may in
+    let there = subst (λ n. h < n) (sym (length-set from.harts h _)) below in
     record {
+      there = subst (λ n. h < n) (sym (length-set (freed from h).harts h _)) there;
       shows = shows;
-      here = hart_of-with_hart_same (freed from h) h _ (subst (λ n. h < n) (sym (length-set from.harts h _)) below)
-          ∙ ap close_attempt (freed_here from h below);
+      here = hart_of-with_hart_same (freed from h) h _ there ∙ ap close_attempt (freed_here from h below);
       becomes = λ now. set_twice (freed from h) h _ now ∙ freed_then from h now;
       same = refl;
     }
+
+-- the bus keeps the same of it, since it is not armed
+agent_then : (from : ModelState) (h : ℕ) (cause : Cause) → armed_of from h ≡ None →
+    agent_of (hart_then from h cause) ≡ agent_of (close_attempt (record (hart_of from h) { held = None }))
+agent_then from h cause none =
+    ap (λ armed. record (agent_of (close_attempt (record (hart_of from h) { held = None }))) { armed = armed_count armed }) (sym none)
 
 has_cleared : (bus : Kept) (h : ℕ) (from between : ModelState) (cause : Cause) (cache : Cached) →
     IsBetween bus from between h (close_attempt (record (hart_of from h) { held = None })) →
@@ -100,7 +110,8 @@ has_cleared : (bus : Kept) (h : ℕ) (from between : ModelState) (cause : Cause)
 has_cleared bus h from between cause cache is clears = record {
   ways = clears.ways;
   residency = ap (λ c. cleared c) (sym (is.shows.caches h ∙ ap (λ hart. hart.cache) is.here)) ∙ sym clears.residency;
-  live = sym (ap has_marks clears.residency ∙ has_marks-cleared (cache_at bus.copies.caches h).residency);
+  live =
+      sym (lives_unarmed cache.residency 0 refl ∙ ap has_marks clears.residency ∙ has_marks-cleared (cache_at bus.copies.caches h).residency);
   copies = clears.copies;
 }
 
@@ -127,6 +138,7 @@ own_then old from h cause may =
       view = was.view;
       section = subst (λ live. KeepsSectionOf (with_hart from h (hart_then from h cause)) h live (rolled_back_own cause own).section)
           (sym (ap (λ hart. hart.section) here)) tt;
+      armed = tt;
       stands = record { unmarked = refl; empty = refl };
       limit = was.limit;
     }
@@ -187,8 +199,9 @@ rolled_in old bus hart from section cache cause follows shows clears =
     let may = follows.inside.may in
     let is = between old bus h from may shows in
     let turn = rolls_turn from h section cause follows.rule_is in
-    let shown = shows_between bus from _ h cache _ (hart_then from h cause) (has_cache old bus h from may shows) is refl
-    (has_cleared bus h from _ cause cache is clears) in
+    let none = (keeps_live old h from section follows.inside).unarmed_there in
+    let shown = shows_between bus from _ h cache _ (hart_then from h cause) (has_cache old bus h from may shows) is
+    (agent_then from h cause none) (sym (ap is_some none)) (has_cleared bus h from _ cause cache is clears) in
     after_step old (parts_then old bus h cache cause) hart from section follows.inside
     (subst (λ t. StaysInPlace from.committed t.state.committed) (sym turn) (stays_in_place from.committed))
     (subst (λ t. HasStepped old (parts_then old bus h cache cause) h t.state) (sym turn) (rolls_stepped old bus from h cache cause may shown))

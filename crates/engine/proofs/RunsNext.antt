@@ -42,6 +42,13 @@ with_effect parts cache action = record parts {
   output = parts.output ++ piece_in cache action;
 }
 
+-- that is no part of its section
+pub learnt_section : (parts : Parts) (h : ℕ) (state : ModelState) → ActsOutside parts h state →
+    (own_at (learnt parts h state).harts h).section ≡ (own_at parts.harts h).section
+learnt_section parts h state acts =
+    ap (λ own. own.section) (get_or-set_same parts.harts h (ran_own state h (own_at parts.harts h)) (new_own no_hart 0) acts.may.exists)
+    ∙ ran_kept state h (own_at parts.harts h)
+
 module _ (old mid : Parts) (h : ℕ) (state : ModelState) (action : Action) (acts : ActsOutside old h state)
     (ran : RanIn (learnt old h state) mid h action) where
   learnt_own : own_at (learnt old h state).harts h ≡ ran_own state h (own_at old.harts h)

@@ -1,14 +1,15 @@
 -- what is seen of the parts is what the state shows, and the parts before the first event
 use Rattle.std.proofs.Common.{◌≡◌, ◌∙◌, ℕ, ◌+◌, ◌-◌, ◌<◌, List, [], length, map, Option, None, Some, refl, ap, sym, subst, zero-add}
 use Rattle.std.specs.List.{range_with_len}
+use Rattle.std.specs.Prelude.{option_map}
 use Rattle.std.proofs.lemmas.List.{ext_get_or, get_or-map, get_or-replicate, length-map, length-replicate}
 use Rattle.std.proofs.lemmas.List.FromFn.{get_or-map-range_with_len, length-map-range_with_len}
 use Rattle.el_base.specs.declared.config.Config.{Config}
-use Rattle.el_model.specs.Next.{all_stopped, is_over, shown_of, view_in}
-use Rattle.el_model.specs.State.{ModelState, Section, begin, hart_of, new_hart, section_of}
+use Rattle.el_model.specs.Next.{all_stopped, is_over, shown_of, view_in, view_outside}
+use Rattle.el_model.specs.State.{ModelState, Section, armed_of, begin, hart_of, new_hart, section_of}
 use Rattle.elf_image.specs.Program.{Program}
 use Rattle.engine.specs.Acting.{next_action}
-use Rattle.engine.specs.Parts.{IsIn, IsOfHart, KeepsSectionOf, Parts, own_at, room_in}
+use Rattle.engine.specs.Parts.{IsIn, IsOfHart, KeepsReserved, KeepsSectionOf, Parts, StandsAs, own_at, room_in}
 use Rattle.engine.specs.Views.{committed_views, first_own}
 use Rattle.hart_state.proofs.Harts.{new_is}
 use Rattle.hart_state.specs.Own.{HasOwn, Own, new_own}
@@ -19,8 +20,7 @@ use Rattle.rv_alu.specs.declared.span.Span.{Span}
 use Rattle.rv_alu.specs.declared.view.HartView.{HartView}
 use Rattle.rv_flat.specs.FlatState.{first_view, no_hart, output_limit, room_of, span_of, start, view_of}
 use Rattle.rv_flat.specs.Step.{action_of}
-use Rattle.section_ctl.specs.State as sections
-use Rattle.section_ctl.specs.State.{SectionState}
+use Rattle.section_ctl.specs.State.{Reserved, SectionState}
 use Rattle.snoop.specs.Shows.{Shows}
 
 -- the committed views are the state's
@@ -37,20 +37,29 @@ pub over_is : (parts : Parts) (state : ModelState) → IsIn parts state → all_
 unfolding is_over
 over_is parts state is = ap all_stopped (views_are parts state is)
 
--- a hart sees what its section shows, and else its committed view
-sees : (state : ModelState) (h : ℕ) (live : Option Section) (kept : SectionState) → kept.live ≡ live → KeepsSectionOf state h live kept →
-    sections.Stands kept.marks kept.hold live → committed_of kept.marks ≡ view_of state.committed h → kept.marks.present ≡ view_in state h live
-sees state h None kept is keeps stands view =
-    sym (ap (λ mark. checkpoint_or mark kept.marks.present) stands.unmarked) ∙ view
-sees state h (Some section) kept is keeps stands view = keeps.run.view
+-- a hart sees what its section shows, live or armed, and else its committed view
+sees_outside : (state : ModelState) (h : ℕ) (reserved : Option Reserved) (kept : SectionState) →
+    option_map (λ r. r.armed) reserved ≡ armed_of state h → KeepsReserved state.committed h reserved kept.marks.present →
+    StandsAs kept.marks kept.hold None reserved → committed_of kept.marks ≡ view_of state.committed h →
+    kept.marks.present ≡ view_outside state h (armed_of state h)
+sees_outside state h None kept is keeps stands view =
+    sym (ap (λ mark. checkpoint_or mark kept.marks.present) stands.unmarked) ∙ view ∙ ap (view_outside state h) is
+sees_outside state h (Some reserved) kept is keeps stands view = keeps.view ∙ ap (view_outside state h) is
+
+sees : (state : ModelState) (h : ℕ) (live : Option Section) (kept : SectionState) → option_map (λ r. r.armed) kept.armed ≡ armed_of state h →
+    KeepsSectionOf state h live kept → KeepsReserved state.committed h kept.armed kept.marks.present →
+    StandsAs kept.marks kept.hold live kept.armed → committed_of kept.marks ≡ view_of state.committed h →
+    kept.marks.present ≡ view_in state h live
+sees state h None kept is keeps armed stands view = sees_outside state h kept.armed kept is armed stands view
+sees state h (Some section) kept is keeps armed stands view = keeps.run.view
 
 pub sees_shown : (parts : Parts) (state : ModelState) (h : ℕ) → IsIn parts state → h < length parts.harts →
     (own_at parts.harts h).section.marks.present ≡ shown_of state h
 sees_shown parts state h is below =
     let hart = is.harts h below in
     let kept = (own_at parts.harts h).section in
-    sees state h (section_of state h) kept hart.part.section hart.section
-    (subst (sections.Stands kept.marks kept.hold) hart.part.section hart.stands) hart.view
+    sees state h (section_of state h) kept hart.part.armed hart.section hart.armed
+    (subst (λ live. StandsAs kept.marks kept.hold live kept.armed) hart.part.section hart.stands) hart.view
 
 -- what a hart comes to next is what the view that it sees comes to
 pub acts_as_shown : (parts : Parts) (state : ModelState) (h : ℕ) → IsIn parts state → h < length parts.harts →
@@ -67,14 +76,16 @@ acts_in_place parts state action is placed =
     subst InSpan is.span (subst InRoom room placed)
 
 -- nothing is held where no section is live
-nothing_held : (live : Option Section) (kept : SectionState) → sections.Stands kept.marks kept.hold live → live ≡ None → kept.hold.entries ≡ []
-nothing_held None kept stands none = stands.empty
-nothing_held (Some section) kept stands none = absurd cc
+nothing_held : (live : Option Section) (reserved : Option Reserved) (kept : SectionState) → StandsAs kept.marks kept.hold live reserved →
+    live ≡ None → kept.hold.entries ≡ []
+nothing_held None None kept stands none = stands.empty
+nothing_held None (Some reserved) kept stands none = stands.empty
+nothing_held (Some section) reserved kept stands none = absurd cc
 
 pub holds_nothing : (parts : Parts) (state : ModelState) (h : ℕ) → IsIn parts state → h < length parts.harts →
     (own_at parts.harts h).section.live ≡ None → (own_at parts.harts h).section.hold.entries ≡ []
 holds_nothing parts state h is below none =
-    let kept = (own_at parts.harts h).section in nothing_held kept.live kept (is.harts h below).stands none
+    let kept = (own_at parts.harts h).section in nothing_held kept.live kept.armed kept (is.harts h below).stands none
 
 -- a hart before its first event
 first_hart : (program : Program) (config : Config) (h : ℕ) → h < program.harts → IsOfHart (begin program config) h (first_own program config h)
@@ -90,6 +101,7 @@ first_hart program config h below =
       section =
           subst (λ live. KeepsSectionOf (begin program config) h live (first_own program config h).section)
           (sym (ap (λ k. k.section) hart)) tt;
+      armed = tt;
       stands = record { unmarked = refl; empty = refl };
       limit = refl;
     }

@@ -2,7 +2,7 @@
 use Rattle.std.proofs.Common.{◌≡◌, ◌∙◌, ℕ, Option, Some, None, length, ap, sym, subst}
 use Rattle.el_model.proofs.Keeps.{Keeps}
 use Rattle.el_model.specs.State.{Hart, ModelState, Section, cache_of, hart_of, section_of}
-use Rattle.engine.specs.Parts.{IsIn, IsOfHart, KeepsSection, KeepsSectionOf, Parts, own_at}
+use Rattle.engine.specs.Parts.{IsIn, IsOfHart, KeepsReserved, KeepsSection, KeepsSectionOf, Parts, own_at}
 use Rattle.hart_state.specs.Own.{Own}
 use Rattle.rv_flat.specs.FlatState.{span_of, view_of}
 use Rattle.section_ctl.specs.State.{SectionState}
@@ -12,6 +12,8 @@ use Rattle.snoop.specs.Shows.{Kept, Shows}
 -- a hart is as it was but for what the bus keeps of it
 pub record IsSameHart (old new : Hart) : Type 0 where
   pub section : new.section ≡ old.section
+  pub armed : new.armed ≡ old.armed
+  pub last_lr : new.last_lr ≡ old.last_lr
   pub cache : new.cache ≡ old.cache
   pub predictor : new.predictor ≡ old.predictor
   pub fallback : new.fallback ≡ old.fallback
@@ -35,6 +37,8 @@ pub same_own : (state new : ModelState) (h : ℕ) (own : Own) → Keeps state ne
 same_own state new h own keeps same is = record {
   part = record {
     section = is.part.section ∙ sym same.section;
+    armed = is.part.armed ∙ sym same.armed;
+    last_lr = is.part.last_lr ∙ sym same.last_lr;
     predictor = is.part.predictor ∙ sym same.predictor;
     fallback = is.part.fallback ∙ sym same.fallback;
     tries = is.part.tries ∙ sym same.tries;
@@ -43,6 +47,7 @@ same_own state new h own keeps same is = record {
   section =
       subst (λ live. KeepsSectionOf new h live own.section) (sym same.section)
       (keeps_section_of state new h (section_of state h) own.section keeps.committed same.cache is.section);
+  armed = subst (λ flat. KeepsReserved flat h own.section.armed own.section.marks.present) (sym keeps.committed) is.armed;
   stands = is.stands;
   limit = is.limit ∙ ap (λ config. config.lines) (sym keeps.config);
 }

@@ -1,23 +1,23 @@
 -- what holds where a hart acts outside of a section
-use Rattle.std.proofs.Common.{◌≡◌, ◌∙◌, ℕ, ◌-◌, ◌^◌, ◌<◌, ◌≤◌, true, false, length, Option, Some, None, is_some, refl, ap, sym, subst, arith}
-use Rattle.std.specs.Prelude.{IfSome}
+use Rattle.std.proofs.Common.{◌≡◌, ◌∙◌, ℕ, ◌-◌, ◌<◌, ◌≤◌, Bool, true, false, length, Option, Some, None, is_some, refl, ap, sym, subst, arith}
+use Rattle.std.specs.Prelude.{◌&&◌, ◌==◌}
 use Rattle.cache_sets.specs.Cache.{has_marks}
 use Rattle.coherence.specs.Served.{HasLine, has_room}
 use Rattle.cached_step.proofs.Rooms.{room_without_marks}
 use Rattle.cached_step.proofs.Told.{touched_there}
 use Rattle.cached_step.specs.Memory.{TellsMemory}
-use Rattle.el_base.proofs.Ranges.{at_least, at_most, ranges}
+use Rattle.el_base.proofs.Ranges.{at_least, ranges}
 use Rattle.el_base.specs.declared.config.Mode.{Mode}
-use Rattle.el_model.proofs.FromStart.{kept_after, next_config}
-use Rattle.el_model.specs.Plain.{may_elide}
-use Rattle.el_model.specs.State.{ModelState, begin, hart_of, section_of}
+use Rattle.el_model.specs.Plain.{armed_count, may_elide}
+use Rattle.el_model.specs.State.{Armed, ModelState, armed_of, cache_of, hart_of, section_of}
 use Rattle.el_model.specs.Upcoming.{Touch, touch_of}
 use Rattle.elf_image.specs.Program.{code_word}
 use Rattle.engine.proofs.Misses.{freed_here, is_there}
 use Rattle.engine.proofs.PlainRules.{TouchesLine}
+use Rattle.engine.proofs.Reaching.{config_of}
+use Rattle.engine.proofs.Reserved.{none_reserved}
 use Rattle.engine.specs.Acting.{ActsOutside, cache_in, freed, next_action}
-use Rattle.engine.specs.Parts.{IsOfHart, Parts, committed_at, own_at, present_at, room_in}
-use Rattle.engine.specs.Reached.{IsReached}
+use Rattle.engine.specs.Parts.{IsOfHart, Parts, StandsAs, committed_at, own_at, present_at, room_in}
 use Rattle.hart_state.specs.Own.{HasOwn, committed_pc}
 use Rattle.reg_mark.specs.Marks.{checkpoint_or}
 use Rattle.rv_alu.specs.Action.{action_at}
@@ -26,21 +26,17 @@ use Rattle.rv_alu.specs.declared.action.Action.{Action}
 use Rattle.rv_alu.specs.declared.view.HartStatus.TheVariants.{Running}
 use Rattle.rv_flat.specs.FlatState.{output_limit, room_of, span_of, status_of, view_of}
 use Rattle.rv_flat.specs.Step.{action_of}
-use Rattle.section_ctl.specs.State.{IsIdle, Stands}
+use Rattle.section_ctl.specs.State.{IsIdle}
 use Rattle.step_rules.specs.Rules.{IsOnLine}
-use Rattle.step_laws.proofs.Short.{watches_are_short}
-use Rattle.pair_table.specs.Predictor.{Watch}
 
-begin_config : (state : ModelState) (reached : IsReached state) → (begin reached.program reached.config).config ≡ reached.config
-unfolding begin
-begin_config state reached = refl
-
--- no event changes the configuration
-pub config_of : (state : ModelState) (reached : IsReached state) → state.config ≡ reached.config
-config_of state reached =
-    ap (λ s. s.config) reached.state_is
-    ∙ kept_after (λ s. s.config ≡ reached.config) (λ s event is. next_config s event ∙ is) (begin reached.program reached.config) reached.events
-    (begin_config state reached)
+-- a cache has no bits where its hart has neither section
+none_lives : (marks : Bool) (armed : Option Armed) → armed ≡ None → (marks && (armed_count armed == 0)) ≡ false → marks ≡ false
+none_lives marks None none is = by marks is
+  where
+    by : (marks : Bool) → (marks && true) ≡ false → marks ≡ false
+    by true is = absurd (cc)
+    by false is = refl
+none_lives marks (Some armed) none is = absurd (cc)
 
 -- what holds of the line of each touch holds of a touched line
 of_touch : (P : ℕ → Type 0) (touch : Option Touch) (line : ℕ) → ((t : Touch) → touch ≡ Some t → P t.line) → TouchesLine touch line → P line
@@ -58,17 +54,33 @@ module _ (parts : Parts) (h : ℕ) (state : ModelState) (acts : ActsOutside part
   pub has_own : HasOwn (own_at parts.harts h) (hart_of state h)
   has_own =
       let has = subst (HasOwn (own_at parts.harts h)) (freed_here state h inside) is_own.part in
-      record { section = has.section; predictor = has.predictor; fallback = has.fallback; tries = has.tries }
+      record {
+        section = has.section;
+        armed = has.armed;
+        last_lr = has.last_lr;
+        predictor = has.predictor;
+        fallback = has.fallback;
+        tries = has.tries;
+      }
 
-  -- no section is live there
+  -- it has neither section there
   pub none_live : section_of (freed state h) h ≡ None
   none_live = ap (λ hart. hart.section) (freed_here state h inside) ∙ acts.no_section
 
   pub no_live : (own_at parts.harts h).section.live ≡ None
   no_live = is_own.part.section ∙ none_live
 
+  pub none_armed : armed_of (freed state h) h ≡ None
+  none_armed = ap (λ hart. hart.armed) (freed_here state h inside) ∙ acts.no_armed
+
+  pub no_armed : (own_at parts.harts h).section.armed ≡ None
+  no_armed = none_reserved (own_at parts.harts h).section.armed (is_own.part.armed ∙ none_armed)
+
   pub idle : IsIdle (own_at parts.harts h).section.marks (own_at parts.harts h).section.hold
-  idle = subst (Stands (own_at parts.harts h).section.marks (own_at parts.harts h).section.hold) no_live is_own.stands
+  idle =
+      let kept = (own_at parts.harts h).section in
+      subst (λ armed. StandsAs kept.marks kept.hold None armed) no_armed
+      (subst (λ live. StandsAs kept.marks kept.hold live kept.armed) no_live is_own.stands)
 
   -- so it sees its committed view
   pub sees_committed : committed_at parts.harts h ≡ present_at parts.harts h
@@ -100,7 +112,10 @@ module _ (parts : Parts) (h : ℕ) (state : ModelState) (acts : ActsOutside part
 
   -- its cache has no bits, and so room for any line
   pub none_marked : has_marks (cache_in parts h).residency ≡ false
-  none_marked = ap has_marks (acts.may.is_in.shows.caches h) ∙ sym (acts.may.is_in.shows.live h) ∙ ap is_some none_live
+  none_marked =
+      ap has_marks (acts.may.is_in.shows.caches h)
+      ∙ none_lives (has_marks (cache_of (freed state h) h)) (armed_of (freed state h) h) none_armed
+      (sym (acts.may.is_in.shows.live h) ∙ ap is_some none_live)
 
   pub some_ways : 1 ≤ (cache_in parts h).ways
   some_ways =

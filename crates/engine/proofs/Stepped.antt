@@ -1,9 +1,11 @@
--- a step of a hart with a live section, and the parts after it
-use Rattle.std.proofs.Common.{◌≡◌, ◌≢◌, ◌∙◌, ℕ, ◌+◌, ◌<◌, ◌||◌, if◌then◌else◌, false, length, Option, Some, None, is_some, refl, ap, sym, subst, inl, inr}
+-- a step of a hart, and the parts after it
+use Rattle.std.proofs.Common.{◌≡◌, ◌≢◌, ◌∙◌, ℕ, ◌+◌, ◌≤◌, ◌<◌, ◌||◌, if◌then◌else◌, false, length, Option, Some, None, is_some, refl, ap, sym, subst, inl, inr}
+use Rattle.std.specs.Prelude.{◌==◌, not, slice_set}
 use Rattle.std.proofs.lemmas.Bool.{cases_eq}
-use Rattle.std.proofs.lemmas.List.{set-set}
+use Rattle.std.proofs.lemmas.List.{length-set, set-set}
 use Rattle.bus_order.specs.Order.{Request, request_of}
-use Rattle.cache_sets.specs.Cache.{has_marks}
+use Rattle.cache_sets.proofs.WellFormedLemmas.{well_formed-marked, well_formed-touched}
+use Rattle.cache_sets.specs.Cache.{marked, touched}
 use Rattle.cache_sets.specs.Cached.{Cached, copy_in}
 use Rattle.cache_sets.specs.WellFormed.{IsWellFormed}
 use Rattle.coherence.proofs.GivenBackLaws.{tells_same_copies}
@@ -11,19 +13,28 @@ use Rattle.coherence.specs.Caches.{cache_at}
 use Rattle.el_base.specs.declared.events.Event.{Event}
 use Rattle.el_base.specs.declared.events.Kind.TheVariants as kinds
 use Rattle.el_base.specs.declared.hart_id.HartId.{HartId}
+use Rattle.el_base.specs.declared.outcomes.Need.TheVariants.{Read}
+use Rattle.el_model.proofs.Harts.{hart_of-with_hart_same}
+use Rattle.el_model.specs.Armed.{armed_turn}
 use Rattle.el_model.specs.InSection.{section_turn}
-use Rattle.el_model.specs.Next.{going_turn, next, stalled, status_turn, step_turn}
-use Rattle.el_model.specs.State.{Hart, ModelState, Section, has_request, hart_of, ordered_of, raised_of, section_of, with_hart}
-use Rattle.engine.proofs.Misses.{freed_each}
+use Rattle.el_model.specs.Next.{going_turn, next, outside_turn, stalled, status_turn, step_turn}
+use Rattle.el_model.specs.Plain.{armed_count}
+use Rattle.el_model.specs.State.{Armed, Hart, ModelState, Section, Turn, armed_of, has_request, hart_of, ordered_of, raised_of, section_of, with_hart}
+use Rattle.engine.proofs.Misses.{freed_each, freed_here, freed_then, is_there}
 use Rattle.engine.proofs.Others.{IsSeenAs, others_stay}
-use Rattle.engine.specs.Acting.{ActsInside, MayAct}
+use Rattle.engine.specs.Acting.{ActsArmed, ActsInside, MayAct, freed}
+use Rattle.engine.specs.Beginning.{IsReadMarked}
 use Rattle.engine.specs.Parts.{IsIn, IsOfHart, Parts, own_at}
+use Rattle.hart_state.specs.Own.{Own}
 use Rattle.rv_alu.specs.declared.view.HartStatus.TheVariants.{Running}
 use Rattle.rv_flat.specs.FlatState.{FlatState, span_of, status_of, view_of}
+use Rattle.snoop.proofs.Living.{lives_armed}
 use Rattle.snoop.proofs.Returning.{ready_returned, shows_returned}
-use Rattle.snoop.specs.Agent.{agent_at, agent_of}
+use Rattle.snoop.specs.Agent.{agent_at, agent_noted, agent_of}
+use Rattle.snoop.specs.Asking.{HasNoRequest}
+use Rattle.snoop.specs.LettingGo.{IsNotedAs, KeepsBytes}
 use Rattle.snoop.specs.Returned.{returned}
-use Rattle.snoop.specs.Shows.{IsReady, Kept, Shows}
+use Rattle.snoop.specs.Shows.{IsReady, Kept, Shows, lives}
 use Rattle.step_laws.proofs.Frames.{steps_keep_others}
 use Rattle.step_laws.specs.Frames.{LeavesOthers}
 
@@ -45,6 +56,21 @@ goes_on state h section running free live =
 
 pub runs : (parts : Parts) (h : ℕ) (from : ModelState) → MayAct parts h from → status_of from.committed h ≡ Running
 runs parts h from may = ap (λ view. view.status) (sym (may.is_in.harts h may.exists).view) ∙ may.running
+
+armed_goes_on : (state : ModelState) (h : ℕ) (armed : Armed) → status_of state.committed h ≡ Running → has_request state h ≡ false →
+    section_of state h ≡ None → armed_of state h ≡ Some armed → step_turn state h ≡ armed_turn state h armed
+unfolding step_turn
+armed_goes_on state h armed running free none is =
+    ap (status_turn state h) running
+    ∙ ap (λ waits. if waits then stalled state else going_turn state h (section_of state h)) free
+    ∙ ap (going_turn state h) none ∙ ap (outside_turn state h) is
+
+-- the event of a hart that acts in an armed section is its turn
+pub armed_turn_is : (parts : Parts) (hart : HartId) (from : ModelState) (armed : Armed) → ActsArmed parts hart.number from armed →
+    next from (step_of hart) ≡ armed_turn from hart.number armed
+armed_turn_is parts hart from armed acts =
+    is_step from hart
+    ∙ armed_goes_on from hart.number armed (runs parts hart.number from acts.may) acts.may.free acts.no_section acts.armed_is
 
 -- the event of a hart that acts in a section is the turn of its section
 pub turn_is : (parts : Parts) (hart : HartId) (from : ModelState) (section : Section) → ActsInside parts hart.number from section →
@@ -104,38 +130,87 @@ stepped_in old new hart from may stays stepped =
       output = stepped.output ∙ may.is_in.output ∙ sym stays.output;
     }
 
+-- so they are in that after a turn that the event is
+pub after_turn : (old new : Parts) (hart : HartId) (from : ModelState) (turn : Turn) → MayAct old hart.number from →
+    next from (step_of hart) ≡ turn → StaysInPlace from.committed turn.state.committed → HasStepped old new hart.number turn.state →
+    IsIn new turn.state
+after_turn old new hart from turn may is stays stepped =
+    subst (λ t. IsIn new t.state) is
+    (stepped_in old new hart from may (subst (λ t. StaysInPlace from.committed t.state.committed) (sym is) stays)
+    (subst (λ t. HasStepped old new hart.number t.state) (sym is) stepped))
+
 pub after_step : (old new : Parts) (hart : HartId) (from : ModelState) (section : Section) → ActsInside old hart.number from section →
     StaysInPlace from.committed (section_turn from hart.number section).state.committed →
     HasStepped old new hart.number (section_turn from hart.number section).state → IsIn new (section_turn from hart.number section).state
 after_step old new hart from section inside stays stepped =
-    let turn = turn_is old hart from section inside in
-    subst (λ t. IsIn new t.state) turn
-    (stepped_in old new hart from inside.may (subst (λ t. StaysInPlace from.committed t.state.committed) (sym turn) stays)
-    (subst (λ t. HasStepped old new hart.number t.state) (sym turn) stepped))
+    after_turn old new hart from (section_turn from hart.number section) inside.may (turn_is old hart from section inside) stays stepped
 
 -- a hart that becomes another twice
 pub set_twice : (state : ModelState) (h : ℕ) (first second : Hart) →
     with_hart (with_hart state h first) h second ≡ with_hart state h second
 set_twice state h first second = ap (λ harts. record state { harts = harts }) (set-set state.harts h first second)
 
+-- what one hart keeps has changed, and then the bus has, in parts whose bus has
+pub put_in : (old mid : Parts) (between bus : Kept) (h i : ℕ) (own now : Own) → mid ≡ record old { bus = between } → i ≡ h → own ≡ now →
+    record mid { bus = bus; harts = slice_set mid.harts i own } ≡ record old { bus = bus; harts = slice_set old.harts h now }
+put_in old mid between bus h i own now same at is =
+    ap {A = Parts} (λ p. record p { bus = bus; harts = slice_set p.harts i own }) same
+    ∙ ap (λ n. record old { bus = bus; harts = slice_set old.harts n own }) at
+    ∙ ap (λ o. record old { bus = bus; harts = slice_set old.harts h o }) is
+
+pub set_in : (old mid : Parts) (bus : Kept) (h i : ℕ) (own now : Own) → mid ≡ record old { bus = bus } → i ≡ h → own ≡ now →
+    record mid { harts = slice_set mid.harts i own } ≡ record old { bus = bus; harts = slice_set old.harts h now }
+set_in old mid bus h i own now same at is =
+    ap {A = Kept} (λ b. record mid { bus = b; harts = slice_set mid.harts i own }) (ap (λ p. p.bus) same)
+    ∙ put_in old mid bus bus h i own now same at is
+
 -- the state between, in which the hart at the bus is already what it will be, and then another
 pub record IsBetween (bus : Kept) (from between : ModelState) (h : ℕ) (hart : Hart) : Type 0 where
+  pub there : h < length between.harts
   pub shows : Shows bus between
   pub here : hart_of between h ≡ hart
   pub becomes : (now : Hart) → with_hart between h now ≡ with_hart from h now
   pub same : between.committed ≡ from.committed
 
+-- the state in which the hart has given up what it held is one
+pub freed_between : (parts : Parts) (h : ℕ) (from : ModelState) → MayAct parts h from →
+    IsBetween parts.bus from (freed from h) h (record (hart_of from h) { held = None })
+freed_between parts h from may =
+    let below = is_there parts from h may in
+    record {
+      there = subst (λ n. h < n) (sym (length-set from.harts h (record (hart_of from h) { held = None }))) below;
+      shows = may.is_in.shows;
+      here = freed_here from h below;
+      becomes = freed_then from h;
+      same = refl;
+    }
+
+-- the hart has become another, and the bus shows it
+became : (old bus : Kept) (from between : ModelState) (h : ℕ) (hart now : Hart) → IsBetween old from between h hart →
+    Shows bus (with_hart from h now) → IsBetween bus from (with_hart from h now) h now
+became old bus from between h hart now is shows =
+    let count : length (with_hart from h now).harts ≡ length between.harts =
+    sym (ap (λ s. length s.harts) (is.becomes now)) ∙ length-set between.harts h now in
+    let there = subst (λ n. h < n) (sym count) is.there in
+    record {
+      there = there;
+      shows = shows;
+      here = hart_of-with_hart_same from h now (subst (λ n. h < n) (length-set from.harts h now) there);
+      becomes = λ later. set_twice from h now later;
+      same = refl;
+    }
+
 -- a cache of the same copies is given back
 pub record HasSameCopies (bus : Kept) (h : ℕ) (cache : Cached) (now : Hart) : Type 0 where
   pub ways : cache.ways ≡ (cache_at bus.copies.caches h).ways
   pub residency : now.cache ≡ cache.residency
-  pub live : is_some now.section ≡ has_marks cache.residency
+  pub live : is_some now.section ≡ lives cache.residency (armed_count now.armed)
   pub copies : (line : ℕ) → copy_in cache line ≡ copy_in (cache_at bus.copies.caches h) line
 
 pub shows_between : (bus : Kept) (from between : ModelState) (h : ℕ) (cache : Cached) (hart now : Hart) → h < length bus.copies.caches →
-    IsBetween bus from between h hart → agent_of now ≡ agent_of hart → HasSameCopies bus h cache now →
+    IsBetween bus from between h hart → agent_of now ≡ agent_of hart → is_some now.armed ≡ is_some hart.armed → HasSameCopies bus h cache now →
     Shows (returned bus h cache) (with_hart from h now)
-shows_between bus from between h cache hart now inside is agent same =
+shows_between bus from between h cache hart now inside is agent armed same =
     subst (Shows (returned bus h cache)) (is.becomes now)
     (shows_returned bus between h cache now between.committed inside is.shows
     (record {
@@ -143,9 +218,55 @@ shows_between bus from between h cache hart now inside is agent same =
       ways = same.ways;
       residency = same.residency;
       live = same.live;
+      armed = armed ∙ sym (ap (λ k. is_some k.armed) is.here);
       memory = is.shows.memory;
       bytes = tells_same_copies bus.copies h cache _ is.shows.bytes same.copies;
     }))
+
+-- what is committed has changed, and memory is as it was
+pub shows_committed : (bus : Kept) (state : ModelState) (committed : FlatState) → KeepsBytes state.committed committed → Shows bus state →
+    Shows bus (record state { committed = committed })
+shows_committed bus state committed keeps shows = record {
+  mode = shows.mode;
+  ways = shows.ways;
+  agent_each = shows.agent_each;
+  cache_each = shows.cache_each;
+  agents = shows.agents;
+  caches = shows.caches;
+  live = shows.live;
+  arms = shows.arms;
+  order = shows.order;
+  memory = record { first = shows.memory.first ∙ sym keeps.base; lines = shows.memory.lines ∙ ap length (sym keeps.bytes) };
+  bytes = rw (keeps.base, keeps.bytes) shows.bytes;
+}
+
+-- the same as a state between
+pub returned_between : (bus : Kept) (from between : ModelState) (h : ℕ) (cache : Cached) (hart now : Hart) → h < length bus.copies.caches →
+    IsBetween bus from between h hart → agent_of now ≡ agent_of hart → is_some now.armed ≡ is_some hart.armed → HasSameCopies bus h cache now →
+    IsBetween (returned bus h cache) from (with_hart from h now) h now
+returned_between bus from between h cache hart now inside is agent armed same =
+    became bus (returned bus h cache) from between h hart now is (shows_between bus from between h cache hart now inside is agent armed same)
+
+-- a hart's count was noted at the bus
+pub record IsNoted (old bus : Kept) (h count : ℕ) : Type 0 where
+  pub ready : IsReady bus
+  pub shows : (state : ModelState) (now : Hart) → Shows old state → IsNotedAs state h count now → Shows bus (with_hart state h now)
+
+-- as the hart has become another
+pub noted_between : (old bus : Kept) (from between : ModelState) (h count : ℕ) (hart now : Hart) → IsBetween old from between h hart →
+    IsNoted old bus h count →
+    agent_of now ≡ agent_noted count (agent_of hart) → now.cache ≡ hart.cache → is_some now.armed ≡ not (count == 0) →
+    is_some now.section ≡ lives now.cache count → IsBetween bus from (with_hart from h now) h now
+noted_between old bus from between h count hart now is noted agent cache armed live =
+    became old bus from between h hart now is
+    (subst (Shows bus) (is.becomes now)
+    (noted.shows between now is.shows
+    (record {
+      agent = agent ∙ ap (λ k. agent_noted count (agent_of k)) (sym is.here);
+      cache = cache ∙ ap (λ k. k.cache) (sym is.here);
+      armed = armed;
+      live = live;
+    })))
 
 -- a hart that acts waits for nothing, at the bus either
 none_of : (raised ordered : Option Request) → (is_some raised || is_some ordered) ≡ false → (raised ≡ None) × (ordered ≡ None)
@@ -157,20 +278,47 @@ none_is : {X : Type 0} (found : Option Request) (request : Request) → found �
 none_is None request first second = absurd (cc)
 none_is (Some other) request first second = absurd (cc)
 
+pub free_between : (bus : Kept) (from between : ModelState) (h : ℕ) (hart : Hart) → IsBetween bus from between h hart →
+    hart.raised ≡ raised_of from h → between.order ≡ from.order → has_request from h ≡ false → HasNoRequest bus h
+free_between bus from between h hart is raised order free =
+    let none = none_of (raised_of from h) (ordered_of from h) free in
+    record {
+      none_raised = ap (λ agent. agent.raised) (is.shows.agents h) ∙ ap (λ k. k.raised) is.here ∙ raised ∙ none.0;
+      none_ordered = ap (λ requests. request_of requests h) (is.shows.order ∙ order) ∙ none.1;
+    }
+
 -- so the bus is ready with any cache that tells the bytes
 pub ready_between : (bus : Kept) (from between : ModelState) (h : ℕ) (cache : Cached) (hart now : Hart) → h < length bus.copies.caches →
     IsReady bus → IsBetween bus from between h hart → hart.raised ≡ raised_of from h → between.order ≡ from.order → has_request from h ≡ false →
     IsWellFormed cache.ways cache.residency → HasSameCopies bus h cache now → IsReady (returned bus h cache)
 ready_between bus from between h cache hart now inside ready is raised order free formed same =
-    let none = none_of (raised_of from h) (ordered_of from h) free in
+    let none = free_between bus from between h hart is raised order free in
     ready_returned bus h cache inside ready
     (record {
       coherent = record { bytes = _; tells = tells_same_copies bus.copies h cache _ is.shows.bytes same.copies };
       well_formed = formed;
-      raised = λ request asks.
-          none_is (agent_at bus.agents h).raised request
-          (ap (λ agent. agent.raised) (is.shows.agents h) ∙ ap (λ k. k.raised) is.here ∙ raised ∙ none.0) asks;
-      ordered = λ request asks.
-          none_is (request_of bus.order h) request
-          (ap (λ requests. request_of requests h) (is.shows.order ∙ order) ∙ none.1) asks;
+      raised = λ request asks. none_is (agent_at bus.agents h).raised request none.none_raised asks;
+      ordered = λ request asks. none_is (request_of bus.order h) request none.none_ordered asks;
     })
+
+-- a line got the read bit in the cache of a hart, and became the most recent one, as the hart became another
+pub marked_copies : (bus : Kept) (h line : ℕ) (cache : Cached) (from between : ModelState) (hart now : Hart) → IsBetween bus from between h hart →
+    IsReadMarked (cache_at bus.copies.caches h) cache line → now.cache ≡ touched (marked hart.cache line Read) line →
+    is_some now.section ≡ false → 1 ≤ armed_count now.armed → HasSameCopies bus h cache now
+marked_copies bus h line cache from between hart now is marks same none some =
+    let residency = same ∙ ap (λ c. touched (marked c line Read) line) (sym (is.shows.caches h ∙ ap (λ k. k.cache) is.here)) ∙ sym marks.residency in
+    record {
+      ways = marks.ways;
+      residency = residency;
+      live = none ∙ sym (lives_armed cache.residency (armed_count now.armed) some);
+      copies = marks.copies;
+    }
+
+pub marked_formed : (bus : Kept) (h line : ℕ) (cache : Cached) → h < length bus.copies.caches → IsReady bus →
+    IsReadMarked (cache_at bus.copies.caches h) cache line → IsWellFormed cache.ways cache.residency
+marked_formed bus h line cache inside ready marks =
+    let was = cache_at bus.copies.caches h in
+    subst (λ ways. IsWellFormed ways cache.residency) (sym marks.ways)
+    (subst (IsWellFormed was.ways) (sym marks.residency)
+    (well_formed-touched was.ways (marked was.residency line Read) line
+    (well_formed-marked was.ways was.residency line Read (ready.well_formed h inside))))

@@ -1,17 +1,17 @@
 -- steps of harts, from the state that a program reaches
 use Rattle.std.proofs.Common.{◌≡◌, ◌≢◌, ◌∙◌, ℕ, ◌≤◌, ◌<◌, Bool, true, false, length, Option, Some, None, is_some, refl, ap, sym, subst}
-use Rattle.std.specs.Prelude.{◌||◌, if◌then◌else◌}
+use Rattle.std.specs.Prelude.{◌||◌, if◌then◌else◌, option_map}
 use Rattle.bus_order.specs.Order.{Request, request_of}
 use Rattle.el_base.specs.declared.outcomes.Outcome.TheVariants.{Idle, Stalled}
 use Rattle.el_model.proofs.Harts.{with_hart_kept}
 use Rattle.el_model.proofs.Keeps.{keeps_with_hart}
 use Rattle.el_model.specs.Next.{going_turn, stalled, status_turn, step_turn}
-use Rattle.el_model.specs.State.{ModelState, Section, has_request, hart_of, idle, ordered_of, raised_of, section_of}
+use Rattle.el_model.specs.State.{Armed, ModelState, Section, armed_of, has_request, hart_of, idle, ordered_of, raised_of, section_of}
 use Rattle.elf_image.specs.Limits.{end_limit}
 use Rattle.engine.proofs.Misses.{same_each}
 use Rattle.engine.proofs.Places.{span_small}
 use Rattle.engine.proofs.Standing.{with_bus}
-use Rattle.engine.specs.Acting.{ActsInside, ActsOutside, MayAct, MayActSomewhere, freed}
+use Rattle.engine.specs.Acting.{ActsArmed, ActsInside, ActsOutside, MayAct, MayActSomewhere, freed}
 use Rattle.engine.specs.Parts.{IsIn, Parts, committed_at, own_at}
 use Rattle.engine.specs.Reached.{IsReached, Stands}
 use Rattle.rv_alu.specs.declared.view.HartStatus.{HartStatus}
@@ -91,7 +91,7 @@ may_act parts bus state h reached is exists running free ready shows = record {
   is_in =
       with_bus parts bus state (freed state h) is (keeps_with_hart state h (record (hart_of state h) { held = None }))
       (same_each state h (record (hart_of state h) { held = None })
-      (record { section = refl; cache = refl; predictor = refl; fallback = refl; tries = refl })) shows;
+      (record { section = refl; armed = refl; last_lr = refl; cache = refl; predictor = refl; fallback = refl; tries = refl })) shows;
   ready = ready;
   exists = exists;
   low = subst (λ span. span.end ≤ end_limit) (sym is.span) (span_small state reached);
@@ -131,9 +131,22 @@ section_is parts state h may =
     (may.is_in.harts h may.exists).part.section
     ∙ with_hart_kept (λ hart. hart.section) state h (record (hart_of state h) { held = None }) refl h
 
+pub armed_is : (parts : Parts) (state : ModelState) (h : ℕ) → MayAct parts h state →
+    option_map (λ reserved. reserved.armed) (own_at parts.harts h).section.armed ≡ armed_of state h
+armed_is parts state h may =
+    (may.is_in.harts h may.exists).part.armed
+    ∙ with_hart_kept (λ hart. hart.armed) state h (record (hart_of state h) { held = None }) refl h
+
 pub acts_outside : (parts : Parts) (state : ModelState) (h : ℕ) → MayAct parts h state → (own_at parts.harts h).section.live ≡ None →
-    ActsOutside parts h state
-acts_outside parts state h may none = record { may = may; no_section = sym (section_is parts state h may) ∙ none }
+    option_map (λ reserved. reserved.armed) (own_at parts.harts h).section.armed ≡ None → ActsOutside parts h state
+acts_outside parts state h may none unarmed =
+    record { may = may; no_section = sym (section_is parts state h may) ∙ none; no_armed = sym (armed_is parts state h may) ∙ unarmed }
+
+pub acts_armed : (parts : Parts) (state : ModelState) (h : ℕ) (armed : Armed) → MayAct parts h state →
+    (own_at parts.harts h).section.live ≡ None →
+    option_map (λ reserved. reserved.armed) (own_at parts.harts h).section.armed ≡ Some armed → ActsArmed parts h state armed
+acts_armed parts state h armed may none armed_here =
+    record { may = may; no_section = sym (section_is parts state h may) ∙ none; armed_is = sym (armed_is parts state h may) ∙ armed_here }
 
 pub acts_inside : (parts : Parts) (state : ModelState) (h : ℕ) (section : Section) → MayAct parts h state →
     (own_at parts.harts h).section.live ≡ Some section → ActsInside parts h state section

@@ -2,7 +2,7 @@
 use Rattle.std.specs.Prelude.{ℕ, ◌≡◌, ◌<◌, ◌≤◌, false, None, Some, length}
 use Rattle.cache_sets.specs.Cached.{Cached}
 use Rattle.coherence.specs.Caches.{cache_at}
-use Rattle.el_model.specs.State.{ModelState, Section, has_request, hart_of, section_of, with_hart}
+use Rattle.el_model.specs.State.{Armed, ModelState, Section, armed_of, has_request, hart_of, section_of, with_hart}
 use Rattle.elf_image.specs.Limits.{end_limit}
 use Rattle.elf_image.specs.Program.{code_word}
 use Rattle.engine.specs.Parts.{IsIn, Parts, committed_at, present_at, room_in}
@@ -31,10 +31,16 @@ pub record MayActSomewhere (parts : Parts) (h : ℕ) : Type 0 where
   pub from : ModelState
   pub may : MayAct parts h from
 
--- it may act outside of a section, or in one
+-- it may act outside of a section, in an armed one, or in a live one
 pub record ActsOutside (parts : Parts) (h : ℕ) (state : ModelState) : Type 0 where
   pub may : MayAct parts h state
   pub no_section : section_of state h ≡ None
+  pub no_armed : armed_of state h ≡ None
+
+pub record ActsArmed (parts : Parts) (h : ℕ) (state : ModelState) (armed : Armed) : Type 0 where
+  pub may : MayAct parts h state
+  pub no_section : section_of state h ≡ None
+  pub armed_is : armed_of state h ≡ Some armed
 
 pub record ActsInside (parts : Parts) (h : ℕ) (state : ModelState) (section : Section) : Type 0 where
   pub may : MayAct parts h state

@@ -16,6 +16,12 @@ pub record IsReadMarked (old new : Cached) (line : ℕ) : Type 0 where
   pub residency : new.residency ≡ touched (marked old.residency line Read) line
   pub copies : (l : ℕ) → copy_in new l ≡ copy_in old l
 
+-- a line got the read bit in the cache of a hart, and nothing else has changed
+pub record HasMarked (old new : Parts) (h line : ℕ) : Type 0 where
+  pub cache : Cached
+  pub marked : IsReadMarked (cache_in old h) cache line
+  pub new_is : new ≡ record old { bus = returned old.bus h cache }
+
 -- a section began at a swap, before its attempt opened: the hart's cache has the read bit of the lock's line
 pub record BeganIn (old new : Parts) (h : ℕ) (swap : Swap) (rd : ℕ) : Type 0 where
   pub cache : Cached

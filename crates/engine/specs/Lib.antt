@@ -11,3 +11,5 @@ pub mod Beginning
 pub mod Unreserved
 pub mod Covered
 pub mod MainMemory
+pub mod Turns
+pub mod Armed

@@ -8,7 +8,9 @@ use Rattle.engine.specs.Acting.{ActsOutside, cache_in}
 use Rattle.engine.specs.Parts.{Parts, own_at, present_at}
 use Rattle.hart_state.specs.Lending.{with_view}
 use Rattle.rv_alu.specs.Execution.{Execution, perform, store_in, view_after}
+use Rattle.rv_alu.specs.Loaded.{loaded}
 use Rattle.rv_alu.specs.declared.action.Action.{Action}
+use Rattle.rv_flat.specs.Memory.{byte_in}
 use Rattle.snoop.specs.Returned.{returned}
 
 -- it acts so in some state
@@ -19,6 +21,11 @@ pub record OutsideSomewhere (parts : Parts) (h : ℕ) : Type 0 where
 -- this is its rule, whatever the state
 abbrev pub IsItsRule : Parts → ℕ → PlainRule → Type 0
 IsItsRule parts h rule = (from : ModelState) → ActsOutside parts h from → plain_rule from h ≡ rule
+
+-- a hart that arms at the LR of a word finds this value in it, whatever the state
+abbrev pub FindsWord : Parts → ℕ → ℕ → ℕ → Type 0
+FindsWord parts h word old =
+    (from : ModelState) → ActsOutside parts h from → old ≡ loaded (byte_in from.committed.base from.committed.bytes) word 4
 
 -- what an action does over the hart's cache
 abbrev pub execution_in : Parts → ℕ → Action → Execution

@@ -6,13 +6,14 @@ use Rattle.elf_image.specs.Program.{CodeSegment}
 use Rattle.engine.specs.declared.engine.Engine as engines
 use Rattle.hart_state.specs.Own.{HasOwn, Own, new_own}
 use Rattle.reg_mark.specs.Marks.{committed_of}
+use Rattle.reg_mark.specs.declared.marked.Marked.{Marked}
 use Rattle.rv_alu.specs.declared.span.Span.{Span}
 use Rattle.rv_alu.specs.declared.view.HartView.{HartView}
-use Rattle.rv_flat.specs.FlatState.{no_hart, output_limit, span_of, view_of}
-use Rattle.section_ctl.specs.State as sections
-use Rattle.section_ctl.specs.State.{SectionState}
-use Rattle.section_view.specs.KeptRun.{HoldsMarked, KeepsRun}
+use Rattle.rv_flat.specs.FlatState.{FlatState, no_hart, output_limit, span_of, view_of}
+use Rattle.section_ctl.specs.State.{IsArmed, IsIdle, IsLive, Reserved, SectionState}
+use Rattle.section_view.specs.KeptRun.{HoldsMarked, KeepsArmed, KeepsRun}
 use Rattle.snoop.specs.Shows.{Kept, Shows, kept}
+use Rattle.write_hold.specs.Held.{Held}
 
 -- what it keeps
 pub record Parts : Type 0 where
@@ -57,12 +58,25 @@ abbrev pub KeepsSectionOf : ModelState → ℕ → Option Section → SectionSta
 KeepsSectionOf state h None kept = Unit {0}
 KeepsSectionOf state h (Some section) kept = KeepsSection state h section kept
 
--- what a hart keeps is that of the definition's hart, with its committed view, and with its live section, if it has one
+-- the view that is kept of an armed section tells its private run, and the value that its LR found is that of its word
+abbrev pub KeepsReserved : FlatState → ℕ → Option Reserved → HartView → Type 0
+KeepsReserved committed h None present = Unit {0}
+KeepsReserved committed h (Some reserved) present = KeepsArmed committed h reserved.armed reserved.old present
+
+-- how the views and the hold stand by the section, if there is one: never is one live and one armed
+abbrev pub StandsAs : Marked → Held → Option Section → Option Reserved → Type 0
+StandsAs marks hold None None = IsIdle marks hold
+StandsAs marks hold None (Some reserved) = IsArmed marks hold reserved
+StandsAs marks hold (Some section) None = IsLive marks hold section
+StandsAs marks hold (Some section) (Some reserved) = ⊥
+
+-- what a hart keeps is that of the definition's hart, with its committed view, and with its live or armed section, if it has one
 pub record IsOfHart (state : ModelState) (h : ℕ) (own : Own) : Type 0 where
   pub part : HasOwn own (hart_of state h)
   pub view : committed_of own.section.marks ≡ view_of state.committed h
   pub section : KeepsSectionOf state h (section_of state h) own.section
-  pub stands : sections.Stands own.section.marks own.section.hold own.section.live
+  pub armed : KeepsReserved state.committed h own.section.armed own.section.marks.present
+  pub stands : StandsAs own.section.marks own.section.hold own.section.live own.section.armed
   pub limit : own.section.hold.limit ≡ state.config.lines
 
 -- the bus shows the state, each hart keeps what is its own, and each other part is the state's

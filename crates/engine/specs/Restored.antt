@@ -1,17 +1,26 @@
--- the harts after some have lost their sections
-use Rattle.std.specs.Prelude.{ℕ, ◌≡◌, ◌≤◌, ◌<◌, List, Option, length}
+-- the harts after an event of the bus: some have lost their sections, and some were let go
+use Rattle.std.specs.Prelude.{ℕ, ◌≡◌, ◌≤◌, ◌<◌, ◌==◌, List, Option, None, Some, length, if◌then◌else◌}
 use Rattle.el_base.specs.declared.config.Mode.{Mode}
 use Rattle.engine.specs.Parts.{own_at}
-use Rattle.hart_state.specs.Deeds.{restored_own}
+use Rattle.hart_state.specs.Deeds.{let_go_own, lost_own}
 use Rattle.hart_state.specs.Own.{Own}
 
--- each hart is what its winner, if it has one, leaves to it
-pub record AreRestored (mode : Mode) (winner : ℕ → Option ℕ) (old new : List Own) : Type 0 where
-  pub count : length new ≡ length old
-  pub each : (g : ℕ) → g < length old → own_at new g ≡ restored_own mode (winner g) (own_at old g)
+-- a hart of which so many instructions take effect: it is let go, where there are any
+abbrev pub freed_own : ℕ → Own → Own
+freed_own count own = if count == 0 then own else let_go_own own
+
+-- a hart that has lost its section to a winner, if there is one, or of which so many instructions take effect
+abbrev pub own_after : Mode → Option ℕ → ℕ → Own → Own
+own_after mode None count own = freed_own count own
+own_after mode (Some winner) count own = lost_own mode own
+
+-- each hart is what the event leaves to it
+pub record AreRestored (mode : Mode) (winner : ℕ → Option ℕ) (count : ℕ → ℕ) (old new : List Own) : Type 0 where
+  pub number : length new ≡ length old
+  pub each : (g : ℕ) → g < length old → own_at new g ≡ own_after mode (winner g) (count g) (own_at old g)
 
 -- so is each hart below a number, and the others are as they were
-pub record AreRestoredBelow (number : ℕ) (mode : Mode) (winner : ℕ → Option ℕ) (old new : List Own) : Type 0 where
-  pub count : length new ≡ length old
-  pub below : (g : ℕ) → g < number → own_at new g ≡ restored_own mode (winner g) (own_at old g)
-  pub above : (g : ℕ) → number ≤ g → own_at new g ≡ own_at old g
+pub record AreRestoredBelow (below : ℕ) (mode : Mode) (winner : ℕ → Option ℕ) (count : ℕ → ℕ) (old new : List Own) : Type 0 where
+  pub number : length new ≡ length old
+  pub done : (g : ℕ) → g < below → own_at new g ≡ own_after mode (winner g) (count g) (own_at old g)
+  pub above : (g : ℕ) → below ≤ g → own_at new g ≡ own_at old g

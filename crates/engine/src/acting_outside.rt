@@ -9,7 +9,7 @@ ghost use Rattle.engine.specs.Parts.{IsIn, parts, room_in};
 ghost use Rattle.rv_alu.specs.Footprint.{IsInPlace};
 ghost use Rattle.snoop.specs.Asking.{HasNoRequest};
 ghost use Rattle.snoop.specs.Shows.{IsReady};
-ghost use Rattle.step_rules.specs.Rules.{definition_plain};
+ghost use Rattle.step_rules.specs.Rules.{TellsOld, definition_plain};
 
 use crate::engine::Engine;
 use el_base::{HartId, Outcome};
@@ -17,7 +17,7 @@ use rv_alu::Action;
 use step_rules::{PlainRule, plain_rule};
 
 impl Engine {
-    /// A step of a hart without a live section, whose next action this is.
+    /// A step of a hart with neither a live nor an armed section, whose next action this is.
     pub(crate) fn act_outside(&mut self, hart: HartId, action: Action) -> Outcome
         requires some { OutsideSomewhere (parts self.old) hart.number }
         requires no_request { HasNoRequest (parts self.old).bus hart.number }
@@ -34,6 +34,7 @@ impl Engine {
             PlainRule::Runs { .. } => self.run_next(hart, action),
             PlainRule::Misses { line, need } => self.miss(hart, line, need),
             PlainRule::Begins { swap } => self.begin_section(hart, action, swap),
+            PlainRule::Arms { word, old } => self.arm(hart, action, word, old),
         }
     }
 
@@ -41,7 +42,9 @@ impl Engine {
     fn rule_outside(&self, hart: HartId, action: Action) -> PlainRule
         requires some { OutsideSomewhere (parts self.now) hart.number }
         requires action { action ≡ next_action (parts self.now) hart.number }
-        ensures { IsItsRule (parts self.now) hart.number (definition_plain result) }
+        ensures rule { IsItsRule (parts self.now) hart.number (definition_plain result) }
+        ensures old { (from : ModelState) → ActsOutside (parts self.now) hart.number from →
+            TellsOld result from.committed }
     {
         let may_elide = self.harts[usize::from(hart.number)].may_elide(self.config.mode);
         plain_rule(&self.bus, hart, &action, may_elide)

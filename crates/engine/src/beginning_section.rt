@@ -7,7 +7,7 @@ ghost use Rattle.el_base.specs.declared.outcomes.Outcome.TheVariants.{Began};
 ghost use Rattle.el_model.specs.Plain.{Begins, by_plain_rule};
 ghost use Rattle.el_model.specs.State.{ModelState};
 ghost use Rattle.engine.specs.Acting.{ActsOutside, cache_in, next_action};
-ghost use Rattle.engine.specs.Beginning.{BeganIn};
+ghost use Rattle.engine.specs.Beginning.{BeganIn, HasMarked};
 ghost use Rattle.engine.specs.Outside.{IsItsRule, OutsideSomewhere};
 ghost use Rattle.engine.specs.Parts.{IsIn, own_at, parts, present_at, room_in};
 ghost use Rattle.rv_alu.specs.Footprint.{IsInPlace};
@@ -18,7 +18,7 @@ ghost use Rattle.snoop.specs.Shows.{IsReady};
 ghost use Rattle.step_rules.specs.Actions.{numbered_swap};
 
 use crate::engine::Engine;
-use el_base::{HartId, Need, Outcome, line_of};
+use el_base::{HartId, LineAddr, Need, Outcome, line_of};
 use rv_alu::Action;
 use rv_word::Reg;
 use step_rules::Swap;
@@ -47,21 +47,30 @@ impl Engine {
         }
     }
 
-    /// The lock's line gets the read bit and becomes the most recent one, and the hart's section begins.
+    /// The lock's line gets the read bit, and the hart's section begins.
     fn enter(&mut self, hart: HartId, swap: Swap, rd: Reg)
         requires hart_exists { hart.number < length (parts self.old).harts }
         requires cache_exists { hart.number < length (parts self.old).bus.copies.caches }
         requires no_section { (own_at (parts self.old).harts hart.number).section.live ≡ None }
+        requires no_armed { (own_at (parts self.old).harts hart.number).section.armed ≡ None }
         requires running { (present_at (parts self.old).harts hart.number).status ≡ Running }
         requires aligned { swap.word % 4 ≡ 0 }
         requires resident { is_resident (cache_in (parts self.old) hart.number).residency (line_number swap.word)
             ≡ true }
         ensures { BeganIn (parts self.old) (parts self.new) hart.number (numbered_swap swap) rd.number }
     {
-        let line = line_of(swap.word);
+        self.mark_read(hart, line_of(swap.word));
+        self.harts[usize::from(hart.number)].begin(swap, rd);
+    }
+
+    /// A line gets the read bit in a hart's cache, and becomes the most recent one of its set.
+    pub(crate) fn mark_read(&mut self, hart: HartId, line: LineAddr)
+        requires cache_exists { hart.number < length (parts self.old).bus.copies.caches }
+        requires resident { is_resident (cache_in (parts self.old) hart.number).residency line.number ≡ true }
+        ensures { HasMarked (parts self.old) (parts self.new) hart.number line.number }
+    {
         let sets = self.bus.sets_mut(hart);
         sets.set_bit(line, Need::Read);
         sets.touch(line);
-        self.harts[usize::from(hart.number)].begin(swap, rd);
     }
 }

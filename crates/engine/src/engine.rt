@@ -1,11 +1,20 @@
 //! The parts, and what may be seen of them.
 
-ghost use Rattle.std.specs.Prelude.{◌≡◌, ◌<◌, ◌≤◌, ◌↔◌, [], IfOk, IfSome, IsNone, None, false, length};
+ghost use Rattle.std.specs.Prelude.{◌≡◌, ◌<◌, ◌≤◌, ◌↔◌, [], IfOk, IfSome, IsNone, None, false, length, option_map};
 ghost use Rattle.el_base.specs.Config.{IsInRange};
 ghost use Rattle.el_model.specs.Next.{all_stopped, is_over, shown_of};
-ghost use Rattle.el_model.specs.State.{ModelState, hart_of, ordered_of, raised_of, section_of};
+ghost use Rattle.el_model.specs.State.{ModelState, armed_of, hart_of, ordered_of, raised_of, section_of};
 ghost use Rattle.engine.specs.Acting.{next_action};
-ghost use Rattle.engine.specs.Parts.{IsIn, KeepsSectionOf, committed_at, own_at, parts, present_at, room_in};
+ghost use Rattle.engine.specs.Parts.{
+  IsIn,
+  KeepsReserved,
+  KeepsSectionOf,
+  committed_at,
+  own_at,
+  parts,
+  present_at,
+  room_in,
+};
 ghost use Rattle.engine.specs.Reached.{Begins, Stands};
 ghost use Rattle.engine.specs.Views.{committed_views};
 ghost use Rattle.hart_state.specs.Own.{HasOwn};
@@ -88,7 +97,7 @@ impl Engine {
         *self.harts[usize::from(hart.number)].committed()
     }
 
-    /// What a hart itself sees: in a section that of its private run, else its committed view.
+    /// What a hart itself sees: in a live or an armed section that of its private run, else its committed view.
     #[tactic(auto, using(crate::proofs::Seen::sees_shown))]
     pub fn shown(&self, hart: HartId) -> HartView
         requires { hart.number < length (parts self.now).harts }
@@ -98,15 +107,19 @@ impl Engine {
         *self.harts[usize::from(hart.number)].shown()
     }
 
-    /// A hart's section, with its views and its buffered stores.
+    /// A hart's live or armed section, with its views and its buffered stores.
     #[tactic(auto, using(crate::proofs::Seen::sees_shown, crate::proofs::Seen::holds_nothing))]
     pub fn section_state(&self, hart: HartId) -> &Section
         requires { hart.number < length (parts self.now).harts }
         ensures exact { result.now ≡ (own_at (parts self.now).harts hart.number).section }
         ensures live { (state : ModelState) → IsIn (parts self.now) state →
             result.now.live ≡ section_of state hart.number }
+        ensures armed { (state : ModelState) → IsIn (parts self.now) state →
+            option_map (λ reserved. reserved.armed) result.now.armed ≡ armed_of state hart.number }
         ensures keeps { (state : ModelState) → IsIn (parts self.now) state →
             KeepsSectionOf state hart.number (section_of state hart.number) result.now }
+        ensures keeps_armed { (state : ModelState) → IsIn (parts self.now) state →
+            KeepsReserved state.committed hart.number result.now.armed result.now.marks.present }
         ensures nothing { (state : ModelState) → IsIn (parts self.now) state →
             result.now.live ≡ None → result.now.hold.entries ≡ [] }
         ensures view { (state : ModelState) → IsIn (parts self.now) state →

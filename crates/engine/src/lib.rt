@@ -11,8 +11,10 @@
 //! Where a doc comment names no other source, its rule is this project's profile.
 #![tactic(auto)]
 
+mod acting_armed;
 mod acting_inside;
 mod acting_outside;
+mod arming;
 mod beginning;
 mod beginning_section;
 mod buffering;

@@ -7,7 +7,7 @@ ghost use Rattle.core_step.specs.Run.{IsAligned, lacking};
 ghost use Rattle.el_base.specs.declared.outcomes.Outcome.TheVariants.{Ran};
 ghost use Rattle.el_model.specs.Plain.{Runs, by_plain_rule};
 ghost use Rattle.el_model.specs.State.{ModelState};
-ghost use Rattle.el_model.specs.Upcoming.{next_swap, touch_of};
+ghost use Rattle.el_model.specs.Upcoming.{next_exchange, touch_of};
 ghost use Rattle.engine.specs.Acting.{ActsOutside, cache_in, next_action};
 ghost use Rattle.engine.specs.Outside.{IsItsRule, OutsideSomewhere, RanIn};
 ghost use Rattle.engine.specs.Parts.{IsIn, own_at, parts, present_at, room_in};
@@ -21,6 +21,7 @@ ghost use Rattle.step_rules.specs.Actions.{numbered_swap};
 use crate::engine::Engine;
 use cached_step::step_in_cache;
 use el_base::{HartId, Outcome, line_of};
+use hart_state::is_load_reserved;
 use rv_alu::Action;
 use step_rules::{Swap, exchange_of, word_in};
 
@@ -38,21 +39,22 @@ impl Engine {
         ensures outcome { result ≡ Ran }
         ensures memory_stays { (parts self.new).bus.copies.lines ≡ (parts self.old).bus.copies.lines }
     {
-        let swap = self.next_swap(hart, action);
-        self.learn(hart, action, swap);
+        let exchange = self.next_exchange(hart, action);
+        self.learn(hart, action, exchange);
         self.run_in_cache(hart, action);
         self.take_effect(hart, action);
         Outcome::Ran
     }
 
-    /// The swap that an action is, if it is one, with the word that it finds. Its line is there.
-    fn next_swap(&self, hart: HartId, action: Action) -> Option<Swap>
+    /// The swap that an action is, if it exchanges a word, with what it finds there: a swap, or a store conditional
+    /// that succeeds. Its line is there.
+    fn next_exchange(&self, hart: HartId, action: Action) -> Option<Swap>
         requires some { OutsideSomewhere (parts self.now) hart.number }
         requires action { action ≡ next_action (parts self.now) hart.number }
         requires in_place { IsInPlace (parts self.now).span (room_in (parts self.now)) action }
         requires permitted { lacking (permitted (cache_in (parts self.now) hart.number)) (footprint action) ≡ None }
         ensures { (from : ModelState) → ActsOutside (parts self.now) hart.number from →
-            option_map numbered_swap result ≡ next_swap from.committed hart.number }
+            option_map numbered_swap result ≡ next_exchange from.committed hart.number }
     {
         match exchange_of(&action) {
             None => None,
@@ -67,12 +69,12 @@ impl Engine {
         }
     }
 
-    /// The hart's predictor sees the instruction, and a candidate ends the fallback.
-    fn learn(&mut self, hart: HartId, action: Action, swap: Option<Swap>)
+    /// The hart's predictor sees the instruction, a candidate ends the fallback, and the place of a load reserved is kept.
+    fn learn(&mut self, hart: HartId, action: Action, exchange: Option<Swap>)
         requires some { OutsideSomewhere (parts self.old) hart.number }
         requires action { action ≡ next_action (parts self.old) hart.number }
-        requires swap { (from : ModelState) → ActsOutside (parts self.old) hart.number from →
-            option_map numbered_swap swap ≡ next_swap from.committed hart.number }
+        requires exchange { (from : ModelState) → ActsOutside (parts self.old) hart.number from →
+            option_map numbered_swap exchange ≡ next_exchange from.committed hart.number }
         ensures { (from : ModelState) → ActsOutside (parts self.old) hart.number from →
             parts self.new ≡ record (parts self.old) {
               harts = slice_set (parts self.old).harts hart.number
@@ -81,7 +83,8 @@ impl Engine {
     {
         let own = &mut self.harts[usize::from(hart.number)];
         let pc = own.committed().pc;
-        own.has_run(&self.config, pc, &action, swap);
+        let reserves = is_load_reserved(&self.code, pc, &action);
+        own.has_run(&self.config, pc, &action, exchange, reserves);
     }
 
     /// Runs an action in a hart's cache, which has what the action needs.
@@ -89,6 +92,7 @@ impl Engine {
         requires hart_exists { hart.number < length (parts self.old).harts }
         requires cache_exists { hart.number < length (parts self.old).bus.copies.caches }
         requires no_section { (own_at (parts self.old).harts hart.number).section.live ≡ None }
+        requires no_armed { (own_at (parts self.old).harts hart.number).section.armed ≡ None }
         requires running { (present_at (parts self.old).harts hart.number).status ≡ Running }
         requires aligned { IsAligned action }
         requires permitted { lacking (permitted (cache_in (parts self.old) hart.number)) (footprint action) ≡ None }

@@ -114,7 +114,8 @@ impl Engine {
         self.act(hart)
     }
 
-    /// What a hart does next that waits for nothing and holds nothing, outside of a section or in its live one.
+    /// What a hart does next that waits for nothing and holds nothing: outside of a section, in its armed one, or in its
+    /// live one.
     fn act(&mut self, hart: HartId) -> Outcome
         requires { MayActSomewhere (parts self.old) hart.number }
         ensures ready { IsReady (parts self.new).bus }
@@ -125,9 +126,11 @@ impl Engine {
         ensures memory_stays { (parts self.new).bus.copies.lines ≡ (parts self.old).bus.copies.lines }
     {
         let action = self.next_action(hart);
-        match self.harts[usize::from(hart.number)].section().live() {
-            None => self.act_outside(hart, action),
-            Some(_) => self.act_inside(hart, action),
+        let section = self.harts[usize::from(hart.number)].section();
+        match (section.live(), section.armed()) {
+            (Some(_), _) => self.act_inside(hart, action),
+            (None, Some(armed)) => self.act_armed(hart, action, armed),
+            (None, None) => self.act_outside(hart, action),
         }
     }
 }

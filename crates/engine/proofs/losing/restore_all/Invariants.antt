@@ -1,7 +1,9 @@
--- the harts so far are restored, and the others are as they were
+-- the harts so far are what the event leaves to them, and the others are as they were
+use Rattle.el_base.specs.Freed.{count_in}
 use Rattle.el_base.specs.Losers.{beaten_by}
 use Rattle.engine.specs.Restored.{AreRestoredBelow}
 use Rattle.engine.proofs.losing.restore_all.Given as goal
 
 abbrev pub invariant-loop-number : goal.invariant-loop-number
-invariant-loop-number l = AreRestoredBelow l.number l.mode (beaten_by l.losers) l.initial.harts.items l.harts.items
+invariant-loop-number l =
+    AreRestoredBelow l.number l.mode (beaten_by l.losers) (λ g. count_in l.freed g) l.initial.harts.items l.harts.items

@@ -37,7 +37,7 @@ open_attempt-requires-clause-ready c =
     let from = c.requires.some.from in
     let acts = c.requires.some.acts in
     ready_began (parts c.args.self.now) (parts c.enter.new.self) c.args.hart.number from c.args.action acts (numbered_swap c.args.swap)
-    c.in-Amo.rd.number c.requires.action (c.requires.begins from acts) c.enter.ensures c.requires.no_request
+    c.in-Amo.rd.number c.requires.action (c.requires.begins from acts) c.enter.ensures
 
 pub unreachable-requires : goal.unreachable-requires
 unreachable-requires c =
@@ -62,5 +62,5 @@ returns-clause-state c from acts =
     (swap_next c.args.action from.committed h (next now h from c.args.action acts c.requires.action)
     ∙ swap_found now h from c.args.action acts c.requires.action swap found))
     (subst IsAligned (sym c.requires.action) (aligned _ _ _ _)) in
-    after_began now (parts c.enter.new.self) (kept c.open_attempt.new.self) h from acts swap c.in-Amo.op c.in-Amo.rd c.in-Amo.address
+    after_began now (parts c.enter.new.self) (kept c.open_attempt.new.self) c.args.hart from acts swap c.in-Amo.op c.in-Amo.rd c.in-Amo.address
     c.in-Amo.source (sym c.in-Amo.is ∙ c.requires.action) found even c.enter.ensures c.open_attempt.ensures.shows

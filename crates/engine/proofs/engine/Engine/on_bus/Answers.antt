@@ -1,10 +1,12 @@
--- the losers had sections, and the parts are those after the event
-use Rattle.std.proofs.Common.{◌∙◌, ap, refl, sym}
+-- the losers had sections and the freed were armed, and the parts are those after the event
+use Rattle.std.proofs.Common.{◌∙◌, ◌≤◌, ap, refl, subst, sym}
+use Rattle.el_base.specs.Freed.{count_in}
 use Rattle.el_base.specs.Losers.{beaten_by}
 use Rattle.el_base.specs.Winners.{winner_over}
-use Rattle.engine.proofs.BusEvents.{after_bus, had_section}
+use Rattle.engine.proofs.BusEvents.{after_bus, had_section, was_armed}
 use Rattle.engine.proofs.engine.Engine.on_bus.Goals as goal
 use Rattle.engine.specs.Parts.{parts}
+use Rattle.step_laws.specs.LettingGo.{freed_of_outcome}
 
 pub restore_all-requires-clause-live : goal.restore_all-requires-clause-live
 restore_all-requires-clause-live c g winner inside named =
@@ -13,8 +15,17 @@ restore_all-requires-clause-live c g winner inside named =
     (ap (λ outcome. winner_over outcome g) (sym (c.pass_to_bus-outcome.ensures.outcome c.requires.stands.state c.requires.stands.is_in))
     ∙ sym (c.losers.ensures g) ∙ named)
 
+pub restore_all-requires-clause-armed : goal.restore_all-requires-clause-armed
+restore_all-requires-clause-armed c g inside some =
+    was_armed (parts c.args.self.now) (parts c.pass_to_bus-outcome.new.self) c.requires.stands c.args.event g c.requires.no_step
+    c.pass_to_bus-outcome.ensures.rest_stays inside
+    (subst (λ freed. 1 ≤ count_in freed g)
+    (c.freed_by.ensures
+    ∙ ap freed_of_outcome (c.pass_to_bus-outcome.ensures.outcome c.requires.stands.state c.requires.stands.is_in)) some)
+
 pub returns-clause-state : goal.returns-clause-state
 returns-clause-state c state reached is =
-    after_bus (parts c.args.self.now) (parts c.pass_to_bus-outcome.new.self) _ state c.args.event (beaten_by c.losers.result) c.requires.no_step reached is
-    c.pass_to_bus-outcome.ensures.rest_stays refl (c.pass_to_bus-outcome.ensures.shows state is)
-    (λ g. ap (λ outcome. winner_over outcome g) (sym (c.pass_to_bus-outcome.ensures.outcome state is)) ∙ sym (c.losers.ensures g)) c.restore_all.ensures
+    after_bus (parts c.args.self.now) (parts c.pass_to_bus-outcome.new.self) _ state c.args.event (beaten_by c.losers.result) c.freed_by.result
+    c.requires.no_step reached is c.pass_to_bus-outcome.ensures.rest_stays refl (c.pass_to_bus-outcome.ensures.shows state reached is)
+    (λ g. ap (λ outcome. winner_over outcome g) (sym (c.pass_to_bus-outcome.ensures.outcome state is)) ∙ sym (c.losers.ensures g))
+    (c.freed_by.ensures ∙ ap freed_of_outcome (c.pass_to_bus-outcome.ensures.outcome state is)) c.restore_all.ensures

@@ -1,10 +1,12 @@
 -- main memory after an event of the bus
-use Rattle.std.proofs.Common.{◌≡◌, ◌≢◌, ◌∙◌, ◌<◌, subst, sym}
+use Rattle.std.proofs.Common.{◌≡◌, ◌≢◌, ◌∙◌, ◌<◌, ap, subst, sym}
 use Rattle.el_base.specs.declared.events.Kind.{Kind}
 use Rattle.el_base.specs.declared.events.Kind.TheVariants.{Deliver, Order, Serve}
-use Rattle.engine.proofs.MainMemory.{kept_lines, serve_is, served_lines}
+use Rattle.engine.proofs.BusEvents.{order_is, serve_is, shown_after}
+use Rattle.engine.proofs.MainMemory.{kept_lines, served_lines}
 use Rattle.engine.proofs.engine.Engine.pass_to_bus.Goals as goal
 use Rattle.engine.specs.Parts.{parts}
+use Rattle.snoop.specs.Shows.{kept}
 
 orders : (kind : Kind) → kind ≡ Order → kind ≢ Serve
 orders kind is serves = by (sym is ∙ serves)
@@ -17,6 +19,16 @@ delivers kind is serves = by (sym is ∙ serves)
   where
     by : Deliver ≢ Serve
     by same = cc
+
+pub returns-in-Order-clause-shows : goal.returns-in-Order-clause-shows
+returns-in-Order-clause-shows c state reached is =
+    shown_after (kept c.order.new.self) state c.args.event _ (order_is state c.args.event c.in-Order.is) reached c.requires.no_step
+    (c.order.ensures.state state is.shows)
+
+pub returns-in-Serve-clause-shows : goal.returns-in-Serve-clause-shows
+returns-in-Serve-clause-shows c state reached is =
+    shown_after (kept c.serve.new.self) state c.args.event _ (serve_is state c.args.event c.in-Serve.is) reached c.requires.no_step
+    (c.serve.ensures.state state is.shows)
 
 pub returns-in-Order-clause-memory : goal.returns-in-Order-clause-memory
 returns-in-Order-clause-memory c state is =
@@ -31,4 +43,4 @@ returns-in-Serve-clause-memory c state is =
     let old = parts c.args.self.now in
     c.serve.ensures.memory
     ∙ served_lines old.bus state c.args.event c.serve.result is.shows (subst (λ n. c.args.event.hart.number < n) is.one_each c.requires.hart_exists)
-    c.in-Serve.is (c.serve.ensures.outcome state is.shows ∙ serve_is state c.args.event c.in-Serve.is)
+    c.in-Serve.is (c.serve.ensures.outcome state is.shows ∙ ap (λ turn. turn.outcome) (sym (serve_is state c.args.event c.in-Serve.is)))

@@ -16,8 +16,8 @@ use Rattle.rv_flat.specs.FlatState.{no_hart}
 pub plain_rule-requires-clause-aligned : goal.plain_rule-requires-clause-aligned
 plain_rule-requires-clause-aligned c = subst IsAligned (sym c.requires.action) (aligned _ _ _ _)
 
-pub returns : goal.returns
-returns c from acts =
+pub returns-clause-rule : goal.returns-clause-rule
+returns-clause-rule c from acts =
     let now = parts c.args.self.now in
     let h = c.args.hart.number in
     let hart = hart_of (freed from h) h in
@@ -26,7 +26,13 @@ returns c from acts =
     let same : c.index.result.now ≡ own_at now.harts h =
     get_or_read _ _ _ within c.index.ensures (new_own no_hart 0) ∙ ap (own_at now.harts) c.from.ensures in
     sym (freed_rule from h (inside now h from acts))
-    ∙ sym (c.plain_rule.ensures (freed from h) acts.may.is_in.shows (on_line now h from acts) (c.requires.action ∙ action_is now h from acts)
+    ∙ sym (c.plain_rule.ensures.rule (freed from h) acts.may.is_in.shows (on_line now h from acts) (c.requires.action ∙ action_is now h from acts)
     (elides_is now h from acts mode c.may_elide-may_elide.result (ap (λ config. config.mode) acts.may.is_in.config)
     (c.may_elide-may_elide.ensures.hart hart (subst (λ own. HasOwn own hart) (sym same) (is_own now h from acts).part)
     ∙ ap (λ own. may_elide mode hart (committed_pc own)) same)))
+
+pub returns-clause-old : goal.returns-clause-old
+returns-clause-old c from acts =
+    let now = parts c.args.self.now in
+    let h = c.args.hart.number in
+    c.plain_rule.ensures.old (freed from h) acts.may.is_in.shows (on_line now h from acts) (c.requires.action ∙ action_is now h from acts)

@@ -1,21 +1,36 @@
 -- what each call leaves, and the state after them
-use Rattle.std.proofs.Common.{◌≡◌, None, sym, subst}
+use Rattle.std.proofs.Common.{◌≡◌, ◌∙◌, None, ap, sym, subst}
 use Rattle.cached_step.specs.CacheRun.{permitted}
 use Rattle.core_step.proofs.Runs.{aligned}
 use Rattle.core_step.specs.Run.{IsAligned, lacking}
 use Rattle.engine.proofs.Chosen.{lacks_nothing}
-use Rattle.engine.proofs.RunsNext.{after_ran, may_append, ready_ran}
+use Rattle.engine.proofs.RunsNext.{after_ran, learnt_section, may_append, ready_ran}
+use Rattle.engine.proofs.StandsOutside.{no_armed, runs}
 use Rattle.engine.proofs.engine.Engine.run_next.Goals as goal
 use Rattle.engine.specs.Acting.{cache_in}
 use Rattle.engine.specs.Outside.{RanIn}
-use Rattle.engine.specs.Parts.{parts}
+use Rattle.engine.specs.Parts.{own_at, parts, present_at}
 use Rattle.rv_alu.specs.Footprint.{footprint}
 
-pub next_swap-swap-requires-clause-permitted : goal.next_swap-swap-requires-clause-permitted
-next_swap-swap-requires-clause-permitted c =
+pub next_exchange-exchange-requires-clause-permitted : goal.next_exchange-exchange-requires-clause-permitted
+next_exchange-exchange-requires-clause-permitted c =
     let acts = c.requires.some.acts in
     lacks_nothing (parts c.args.self.now) c.args.hart.number c.requires.some.from c.args.action acts c.requires.action _
     (c.requires.runs c.requires.some.from acts)
+
+pub run_in_cache-requires-clause-no_armed : goal.run_in_cache-requires-clause-no_armed
+run_in_cache-requires-clause-no_armed c =
+    let acts = c.requires.some.acts in
+    ap (λ p. (own_at p.harts c.args.hart.number).section.armed) (c.learn.ensures c.requires.some.from acts)
+    ∙ ap (λ section. section.armed) (learnt_section (parts c.args.self.now) c.args.hart.number c.requires.some.from acts)
+    ∙ no_armed (parts c.args.self.now) c.args.hart.number c.requires.some.from acts
+
+pub run_in_cache-requires-clause-running : goal.run_in_cache-requires-clause-running
+run_in_cache-requires-clause-running c =
+    let acts = c.requires.some.acts in
+    ap (λ p. (present_at p.harts c.args.hart.number).status) (c.learn.ensures c.requires.some.from acts)
+    ∙ ap (λ section. section.marks.present.status) (learnt_section (parts c.args.self.now) c.args.hart.number c.requires.some.from acts)
+    ∙ runs (parts c.args.self.now) c.args.hart.number c.requires.some.from acts
 
 pub run_in_cache-requires-clause-aligned : goal.run_in_cache-requires-clause-aligned
 run_in_cache-requires-clause-aligned c = subst IsAligned (sym c.requires.action) (aligned _ _ _ _)

@@ -1,0 +1,330 @@
+-- the parts after an armed section has gone on, and after it was let go
+use Rattle.std.proofs.Common.{◌≡◌, ◌≢◌, ◌∙◌, ℕ, suc, ◌+◌, ◌≤◌, ◌<◌, true, false, length, None, Some, is_some, refl, ap, sym, subst, arith}
+use Rattle.std.specs.Prelude.{◌==◌, IsSome, not, option_map, slice_set}
+use Rattle.std.proofs.lemmas.Bool.Decides.{nat_tests}
+use Rattle.std.proofs.lemmas.List.{get_or-set_other, get_or-set_same, length-set}
+use Rattle.cache_sets.proofs.MarkLemmas.{has_marks-cleared}
+use Rattle.cache_sets.proofs.WellFormedLemmas.{well_formed-cleared}
+use Rattle.cache_sets.specs.Cache.{cleared}
+use Rattle.cache_sets.specs.Cached.{Cached, copy_in}
+use Rattle.cache_sets.specs.Calls.{IsCleared}
+use Rattle.cache_sets.specs.WellFormed.{IsWellFormed}
+use Rattle.el_base.specs.declared.hart_id.HartId.{HartId}
+use Rattle.el_model.proofs.Harts.{hart_of-with_hart_same}
+use Rattle.el_model.specs.Armed.{ArmedRule, Continues, LetsGo, armed_turn, by_armed_rule, continued_hart, let_go_hart}
+use Rattle.el_model.specs.Plain.{armed_count}
+use Rattle.el_model.specs.State.{Armed, Hart, ModelState, hart_of, with_hart}
+use Rattle.engine.proofs.ArmedRules.{continues_at, turn_is}
+use Rattle.coherence.proofs.LineLaws.{some_is}
+use Rattle.engine.proofs.Buffered.{committed_beside}
+use Rattle.engine.proofs.Buffers.{inside_caches}
+use Rattle.engine.proofs.KeptPrivate.{keeps_private}
+use Rattle.engine.proofs.Others.{IsSeenAs, seen_same}
+use Rattle.engine.proofs.Stepped.{HasSameCopies, HasStepped, IsBetween, IsNoted, StaysInPlace, after_turn, armed_turn_is, freed_between, noted_between}
+use Rattle.engine.proofs.Stepped.{ready_between, returned_between, runs, shows_committed, stays_in_place}
+use Rattle.engine.specs.Acting.{MayAct, cache_in, next_action}
+use Rattle.engine.specs.Armed.{FollowsArmed}
+use Rattle.engine.specs.Parts.{IsIn, IsOfHart, KeepsReserved, KeepsSectionOf, Parts, StandsAs, own_at, present_at}
+use Rattle.engine.proofs.KeptLive.{same_action}
+use Rattle.hart_state.specs.Deeds.{buffered_own, let_go_own}
+use Rattle.hart_state.specs.Own.{HasOwn, Own, new_own}
+use Rattle.reg_mark.specs.Marks.{committed_of}
+use Rattle.run_laws.proofs.ButAView.{armed_runs_keep_all_but_a_view}
+use Rattle.run_laws.proofs.Growing.{continued_run}
+use Rattle.run_laws.specs.PrivateRun.{KeepsAllButAView}
+use Rattle.rv_alu.specs.Execution.{perform, view_after}
+use Rattle.rv_alu.specs.declared.action.Action.{Action}
+use Rattle.rv_flat.specs.FlatState.{FlatState, no_hart, view_of}
+use Rattle.rv_flat.specs.Run.{alone}
+use Rattle.rv_flat.specs.Step.{action_of}
+use Rattle.section_ctl.specs.Calls.{HasContinued}
+use Rattle.section_ctl.specs.State.{Reserved, SectionState}
+use Rattle.section_view.proofs.Arming.{armed_goes}
+use Rattle.section_view.specs.KeptRun.{KeepsArmed}
+use Rattle.snoop.proofs.Living.{lives_armed, lives_unarmed}
+use Rattle.snoop.specs.Agent.{agent_of}
+use Rattle.snoop.specs.Returned.{returned}
+use Rattle.snoop.specs.Shows.{IsReady, Kept, Shows}
+
+-- the parts are in the state after a hart with an armed section has stepped, where it is this one
+pub stepped_armed : (old new : Parts) (hart : HartId) (from : ModelState) (armed : Armed) (rule : ArmedRule) (state : ModelState) →
+    FollowsArmed old hart.number armed rule from → (by_armed_rule from hart.number armed rule).state ≡ state →
+    StaysInPlace from.committed state.committed → HasStepped old new hart.number state → IsIn new (armed_turn from hart.number armed).state
+stepped_armed old new hart from armed rule state follows is stays stepped =
+    let turn = ap (λ t. t.state) (turn_is from hart.number armed rule follows.rule_is) ∙ is in
+    after_turn old new hart from (armed_turn from hart.number armed) follows.acts.may (armed_turn_is old hart from armed follows.acts)
+    (subst (λ s. StaysInPlace from.committed s.committed) (sym turn) stays)
+    (subst (HasStepped old new hart.number) (sym turn) stepped)
+
+-- one hart keeps something new, and the others what they kept
+others_kept : (old : Parts) (h : ℕ) (from : ModelState) (own : Own) (committed : FlatState) → MayAct old h from →
+    ((g : ℕ) → g ≢ h → view_of committed g ≡ view_of from.committed g) → (g : ℕ) → g ≢ h → g < length old.harts →
+    IsSeenAs (own_at old.harts g) (own_at (slice_set old.harts h own) g) (view_of committed g)
+others_kept old h from own committed may same g other exists =
+    subst (λ o. IsSeenAs (own_at old.harts g) o (view_of committed g)) (sym (get_or-set_other old.harts h g own (new_own no_hart 0) other))
+    (seen_same (own_at old.harts g) (view_of committed g) ((may.is_in.harts g exists).view ∙ sym (same g other)))
+
+-- a cache that nothing has changed is given back
+pub record IsSameCache (old new : Cached) : Type 0 where
+  pub ways : new.ways ≡ old.ways
+  pub residency : new.residency ≡ old.residency
+  pub copies : (line : ℕ) → copy_in new line ≡ copy_in old line
+
+not_zero : (n : ℕ) → 1 ≤ n → true ≡ not (n == 0)
+not_zero n some =
+    let differs : (n == 0) ≡ false = grind (arith, nat_tests) in
+    sym (ap not differs)
+
+-- the hart whose armed section has gone on, before its new count is noted, and then
+abbrev pub held_nothing : ModelState → ℕ → Hart
+held_nothing from h = record (hart_of from h) { held = None }
+
+by_continues : (from : ModelState) (h : ℕ) (armed : Armed) →
+    (by_armed_rule from h armed Continues).state ≡ with_hart from h (continued_hart armed (hart_of from h))
+unfolding by_armed_rule
+by_continues from h armed = refl
+
+module _ (old : Parts) (hart : HartId) (armed : Armed) (from : ModelState) (follows : FollowsArmed old hart.number armed Continues from)
+    (cache : Cached) (same : IsSameCache (cache_in old hart.number) cache) where
+  abbrev h : ℕ
+  h = hart.number
+
+  some_count : 1 ≤ armed.count
+  some_count = (keeps_private old h from armed follows.acts).short.some
+
+  count_there : armed_count (hart_of from h).armed ≡ armed.count
+  count_there = ap armed_count follows.acts.armed_is
+
+  same_copies : HasSameCopies old.bus h cache (held_nothing from h)
+  same_copies = record {
+    ways = same.ways;
+    residency = sym (same.residency ∙ (keeps_private old h from armed follows.acts).cache);
+    live =
+        ap is_some follows.acts.no_section
+        ∙ sym (lives_armed cache.residency (armed_count (hart_of from h).armed) (omega (arith, some_count, count_there)));
+    copies = same.copies;
+  }
+
+  pub given_back : IsBetween (returned old.bus h cache) from (with_hart from h (held_nothing from h)) h (held_nothing from h)
+  given_back =
+      returned_between old.bus from _ h cache (held_nothing from h) (held_nothing from h) (inside_caches old h from follows.acts.may)
+      (freed_between old h from follows.acts.may) refl refl same_copies
+
+  pub continued_ready : IsReady (returned old.bus h cache)
+  continued_ready =
+      let may = follows.acts.may in
+      let formed = may.ready.well_formed h (inside_caches old h from may) in
+      ready_between old.bus from _ h cache (held_nothing from h) (held_nothing from h) (inside_caches old h from may) may.ready
+      (freed_between old h from may) refl refl may.free
+      (subst (λ ways. IsWellFormed ways cache.residency) (sym same.ways)
+      (subst (IsWellFormed (cache_in old h).ways) (sym same.residency) formed))
+      same_copies
+
+  abbrev now : Hart
+  now = continued_hart armed (hart_of from h)
+
+  abbrev state : ModelState
+  state = with_hart from h now
+
+  module _ (bus : Kept) (noted : IsNoted (returned old.bus h cache) bus h (armed.count + 1)) (section : SectionState) (action : Action)
+      (is : action ≡ next_action old h) (kept : Reserved) (kept_is : (own_at old.harts h).section.armed ≡ Some kept)
+      (ran : HasContinued (own_at old.harts h).section section kept action) where
+    abbrev own : Own
+    own = buffered_own section (own_at old.harts h)
+
+    noted_now : Shows bus state
+    noted_now =
+        (noted_between (returned old.bus h cache) bus from _ h (armed.count + 1) (held_nothing from h) now given_back noted
+        (ap (λ n. record (agent_of (held_nothing from h)) { armed = n }) one_more) refl (not_zero (armed.count + 1) (omega arith))
+        (ap is_some follows.acts.no_section ∙ sym (lives_armed (hart_of from h).cache (armed.count + 1) (omega arith)))).shows
+      where
+        one_more : suc armed.count ≡ armed.count + 1
+        one_more = omega arith
+
+    reserved_is : kept ≡ record { armed = armed; old = (keeps_private old h from armed follows.acts).old }
+    reserved_is = some_is kept _ (sym kept_is ∙ (keeps_private old h from armed follows.acts).is)
+
+    own_now : IsOfHart state h own
+    own_now =
+        let k = keeps_private old h from armed follows.acts in
+        let was = follows.acts.may.is_in.harts h follows.acts.may.exists in
+        let here = hart_of-with_hart_same from h now k.below in
+        let view = present_at old.harts h in
+        let more : Reserved = record { armed = record armed { count = armed.count + 1 }; old = k.old } in
+        let armed_then : section.armed ≡ Some more =
+        ran.armed ∙ ap {A = Reserved} (λ r. Some (record r { armed = record r.armed { count = r.armed.count + 1 } })) reserved_is in
+        let present : section.marks.present ≡ view_after (perform (action_of from.committed view) view (λ a. 0)) view =
+        ap (λ marks. marks.present) (ran.marks (λ a. 0))
+        ∙ ap (λ a. view_after (perform a view (λ b. 0)) view) (is ∙ same_action old h from follows.acts.may) in
+        let goes = armed_goes from.committed h _ armed k.old view (λ a. 0) k.run k.keeps (continues_at from h armed follows.rule_is).quiet in
+        let keeps : KeepsArmed from.committed h (record armed { count = armed.count + 1 }) k.old section.marks.present =
+        subst (KeepsArmed from.committed h (record armed { count = armed.count + 1 }) k.old) (sym present) goes in
+        let count : Some (record armed { count = armed.count + 1 }) ≡ now.armed = ap (λ n. Some (record armed { count = n })) (omega arith) in
+        let part : HasOwn own now = record {
+          section = ran.live ∙ sym follows.acts.no_section;
+          armed = ap (option_map (λ r. r.armed)) armed_then ∙ count;
+          last_lr = k.part.last_lr;
+          predictor = k.part.predictor;
+          fallback = k.part.fallback;
+          tries = k.part.tries;
+        } in
+        let few = k.short.few in
+        let at = continues_at from h armed follows.rule_is in
+        let runs_on =
+        (continued_run from h armed
+        (record {
+          is_armed = record {
+            running = runs old h from follows.acts.may;
+            free = follows.acts.may.free;
+            no_section = follows.acts.no_section;
+            armed_is = follows.acts.armed_is;
+          };
+          quiet = at.quiet;
+          grows = at.grows;
+        }) k.run).running (armed.count + 1) (omega arith) in
+        record {
+          part = subst (HasOwn own) (sym here) part;
+          view = ap committed_of (ran.marks (λ a. 0)) ∙ committed_beside _ _ _ k.stands.mark ∙ was.view;
+          section = subst (λ live. KeepsSectionOf state h live section) (sym (ap (λ hart. hart.section) here ∙ follows.acts.no_section)) tt;
+          armed = subst (λ r. KeepsReserved from.committed h r section.marks.present) (sym armed_then) keeps;
+          stands =
+              subst (λ live. StandsAs section.marks section.hold live section.armed) (sym ran.live)
+              (subst (StandsAs section.marks section.hold None) (sym armed_then)
+              (record {
+                mark = subst IsSome (sym (ap (λ marks. marks.mark) (ran.marks (λ a. 0)))) k.stands.mark;
+                running = ap (λ v. v.status) keeps.view ∙ runs_on;
+                aligned = k.stands.aligned;
+                empty = ap (λ hold. hold.entries) ran.hold ∙ k.stands.empty;
+                counted = omega (arith, few);
+              }));
+          limit = ap (λ hold. hold.limit) ran.hold ∙ was.limit;
+        }
+
+    pub continued_in :
+        IsIn (record old { bus = bus; harts = slice_set old.harts h own }) (armed_turn from h armed).state
+    continued_in =
+        let may = follows.acts.may in
+        stepped_armed old _ hart from armed Continues state follows (by_continues from h armed) (stays_in_place from.committed)
+        (record {
+          config = refl;
+          span = refl;
+          code = refl;
+          output = refl;
+          shows = noted_now;
+          each = length-set old.harts h own;
+          own = subst (IsOfHart state h) (sym (get_or-set_same old.harts h own (new_own no_hart 0) may.exists)) own_now;
+          others = others_kept old h from own from.committed may (λ g other. refl);
+        })
+
+-- the hart that is let go, with no bits, before that is noted, and then
+abbrev unmarked_of : ModelState → ℕ → Hart
+unmarked_of from h = record (hart_of from h) { held = None; cache = cleared (hart_of from h).cache }
+
+abbrev freed_of : ModelState → ℕ → Hart
+freed_of from h = let_go_hart (view_of from.committed h).pc (record (hart_of from h) { held = None })
+
+abbrev state_freed : ModelState → ℕ → Armed → ModelState
+state_freed from h armed = record (with_hart from h (freed_of from h)) { committed = alone from.committed h armed.count }
+
+by_lets_go : (from : ModelState) (h : ℕ) (armed : Armed) → (by_armed_rule from h armed LetsGo).state ≡ state_freed from h armed
+unfolding by_armed_rule
+by_lets_go from h armed = refl
+
+module _ (old : Parts) (hart : HartId) (armed : Armed) (from : ModelState) (follows : FollowsArmed old hart.number armed LetsGo from)
+    (cache : Cached) (clears : IsCleared (cache_in old hart.number) cache) where
+  abbrev g : ℕ
+  g = hart.number
+
+  armed_there : 1 ≤ armed_count (hart_of from g).armed
+  armed_there =
+      let some = (keeps_private old g from armed follows.acts).short.some in
+      let same : armed_count (hart_of from g).armed ≡ armed.count = ap armed_count follows.acts.armed_is in
+      omega (arith, some, same)
+
+  unmarked_copies : HasSameCopies old.bus g cache (unmarked_of from g)
+  unmarked_copies = record {
+    ways = clears.ways;
+    residency = ap (λ c. cleared c) (sym (keeps_private old g from armed follows.acts).cache) ∙ sym clears.residency;
+    live = ap is_some follows.acts.no_section ∙ sym (lives_armed cache.residency (armed_count (hart_of from g).armed) armed_there);
+    copies = clears.copies;
+  }
+
+  pub unmarked_back : IsBetween (returned old.bus g cache) from (with_hart from g (unmarked_of from g)) g (unmarked_of from g)
+  unmarked_back =
+      returned_between old.bus from _ g cache (held_nothing from g) (unmarked_of from g) (inside_caches old g from follows.acts.may)
+      (freed_between old g from follows.acts.may) refl refl unmarked_copies
+
+  pub unmarked_ready : IsReady (returned old.bus g cache)
+  unmarked_ready =
+      let may = follows.acts.may in
+      let inside = inside_caches old g from may in
+      let formed = well_formed-cleared (cache_in old g).ways (cache_in old g).residency (may.ready.well_formed g inside) in
+      ready_between old.bus from _ g cache (held_nothing from g) (unmarked_of from g) inside may.ready (freed_between old g from may) refl refl
+      may.free
+      (subst (λ ways. IsWellFormed ways cache.residency) (sym clears.ways)
+      (subst (IsWellFormed (cache_in old g).ways) (sym clears.residency) formed))
+      unmarked_copies
+
+  keeps_rest : KeepsAllButAView g from.committed (alone from.committed g armed.count)
+  keeps_rest = armed_runs_keep_all_but_a_view from.committed g _ armed (keeps_private old g from armed follows.acts).run
+
+  module _ (bus : Kept) (noted : IsNoted (returned old.bus g cache) bus g 0) where
+    abbrev freed_own_now : Own
+    freed_own_now = let_go_own (own_at old.harts g)
+
+    freed_shows : Shows bus (state_freed from g armed)
+    freed_shows =
+        shows_committed bus (with_hart from g (freed_of from g)) (alone from.committed g armed.count)
+        (record { base = keeps_rest.rest.base; bytes = keeps_rest.rest.bytes })
+        (noted_between (returned old.bus g cache) bus from _ g 0 (unmarked_of from g) (freed_of from g) unmarked_back noted refl refl refl
+        (ap is_some follows.acts.no_section
+        ∙ sym (lives_unarmed (cleared (hart_of from g).cache) 0 refl ∙ has_marks-cleared (hart_of from g).cache))).shows
+
+    freed_now : IsOfHart (state_freed from g armed) g freed_own_now
+    freed_now =
+        let k = keeps_private old g from armed follows.acts in
+        let own = own_at old.harts g in
+        let was = follows.acts.may.is_in.harts g follows.acts.may.exists in
+        let here = hart_of-with_hart_same from g (freed_of from g) k.below in
+        let part : HasOwn freed_own_now (freed_of from g) = record {
+          section = sym follows.acts.no_section;
+          armed = refl;
+          last_lr = ap (λ view. Some view.pc) was.view;
+          predictor = k.part.predictor;
+          fallback = k.part.fallback;
+          tries = k.part.tries;
+        } in
+        record {
+          part = subst (HasOwn freed_own_now) (sym here) part;
+          view = k.keeps.view;
+          section =
+              subst (λ live. KeepsSectionOf (state_freed from g armed) g live freed_own_now.section)
+              (sym (ap (λ hart. hart.section) here ∙ follows.acts.no_section)) tt;
+          armed = tt;
+          stands = record { unmarked = refl; empty = k.stands.empty };
+          limit = was.limit;
+        }
+
+    pub let_go_in :
+        IsIn (record old { bus = bus; harts = slice_set old.harts g freed_own_now }) (armed_turn from g armed).state
+    let_go_in =
+        let may = follows.acts.may in
+        stepped_armed old _ hart from armed LetsGo (state_freed from g armed) follows (by_lets_go from g armed)
+        (record {
+          base = keeps_rest.rest.base;
+          size = ap length keeps_rest.rest.bytes;
+          code = keeps_rest.rest.code;
+          harts = keeps_rest.rest.harts;
+          output = keeps_rest.rest.output;
+        })
+        (record {
+          config = refl;
+          span = refl;
+          code = refl;
+          output = refl;
+          shows = freed_shows;
+          each = length-set old.harts g freed_own_now;
+          own =
+              subst (IsOfHart (state_freed from g armed) g) (sym (get_or-set_same old.harts g freed_own_now (new_own no_hart 0) may.exists)) freed_now;
+          others = others_kept old g from freed_own_now (alone from.committed g armed.count) may keeps_rest.others;
+        })

@@ -1,0 +1,106 @@
+-- the action is a load reserved, whose line is there, and the parts are in the state after it
+use Rattle.std.proofs.Common.{◌≡◌, ◌∙◌, ◌<◌, length, ap, arith, subst, sym, true}
+use Rattle.std.proofs.lemmas.List.{get_or_read}
+use Rattle.cache_sets.specs.Cache.{is_resident}
+use Rattle.coherence.specs.Caches.{cache_at}
+use Rattle.core_step.proofs.Runs.{aligned}
+use Rattle.core_step.specs.Run.{IsAligned}
+use Rattle.el_model.specs.Plain.{Arms, by_plain_rule}
+use Rattle.engine.proofs.AfterArmed.{armed_in, armed_ready, arms_outcome, inside_bus, still_there}
+use Rattle.engine.proofs.Chosen.{reserved_there, reserves_next}
+use Rattle.engine.proofs.StandsOutside.{no_armed, no_live, runs}
+use Rattle.engine.proofs.Stepped.{IsNoted, set_in}
+use Rattle.engine.proofs.Swaps.{reserve_aligned, same_reserve}
+use Rattle.engine.proofs.engine.Engine.arm.Goals as goal
+use Rattle.engine.specs.Beginning.{IsReadMarked}
+use Rattle.engine.specs.Parts.{IsIn, own_at, parts}
+use Rattle.hart_state.specs.Deeds.{armed_own}
+use Rattle.hart_state.specs.Own.{Own, new_own}
+use Rattle.rv_flat.specs.FlatState.{no_hart}
+use Rattle.snoop.specs.Returned.{returned}
+use Rattle.snoop.specs.Shows.{IsReady, kept}
+
+pub mark_read-requires-clause-cache_exists : goal.mark_read-requires-clause-cache_exists
+mark_read-requires-clause-cache_exists c =
+    inside_bus (parts c.args.self.now) (kept c.note_armed.new.self) c.args.hart c.requires.some.from c.requires.some.acts c.args.word
+    (record { ready = c.note_armed.ensures.ready; shows = c.note_armed.ensures.shows })
+
+pub mark_read-requires-clause-resident : goal.mark_read-requires-clause-resident
+mark_read-requires-clause-resident c =
+    let old = parts c.args.self.now in
+    let from = c.requires.some.from in
+    let acts = c.requires.some.acts in
+    subst (λ line. is_resident (cache_at (kept c.note_armed.new.self).copies.caches c.args.hart.number).residency line ≡ true)
+    (sym c.line_of.ensures)
+    (still_there old (kept c.note_armed.new.self) c.args.hart from acts c.args.word
+    (record { ready = c.note_armed.ensures.ready; shows = c.note_armed.ensures.shows })
+    (reserved_there old c.args.hart.number from c.args.action acts c.requires.action c.args.word (c.requires.arms from acts)))
+
+-- what the hart keeps is as it was
+kept_own : (c : goal.After-index_mut) → c.index_mut.result.now ≡ own_at (parts c.args.self.now).harts c.args.hart.number
+kept_own c =
+    let mid = parts c.mark_read.new.self in
+    let same = ap (λ p. p.harts) c.mark_read.ensures.new_is in
+    let inside : c.from.result < length mid.harts = omega (arith, c.from.ensures, ap length same, c.requires.some.acts.may.exists) in
+    get_or_read _ _ _ inside c.index_mut.ensures.value (new_own no_hart 0) ∙ ap (own_at mid.harts) c.from.ensures
+    ∙ ap (λ harts. own_at harts c.args.hart.number) same
+
+pub arm-requires-clause-none : goal.arm-requires-clause-none
+arm-requires-clause-none c =
+    ap (λ own. own.section.live) (kept_own c) ∙ no_live (parts c.args.self.now) c.args.hart.number c.requires.some.from c.requires.some.acts
+
+pub arm-requires-clause-unarmed : goal.arm-requires-clause-unarmed
+arm-requires-clause-unarmed c =
+    ap (λ own. own.section.armed) (kept_own c) ∙ no_armed (parts c.args.self.now) c.args.hart.number c.requires.some.from c.requires.some.acts
+
+pub arm-requires-clause-running : goal.arm-requires-clause-running
+arm-requires-clause-running c =
+    ap (λ own. own.section.marks.present.status) (kept_own c)
+    ∙ runs (parts c.args.self.now) c.args.hart.number c.requires.some.from c.requires.some.acts
+
+pub arm-requires-clause-aligned : goal.arm-requires-clause-aligned
+arm-requires-clause-aligned c =
+    let acts = c.requires.some.acts in
+    reserve_aligned c.args.action c.args.word
+    (reserves_next (parts c.args.self.now) c.args.hart.number c.requires.some.from c.args.action acts c.requires.action c.args.word
+    (c.requires.arms c.requires.some.from acts))
+    (subst IsAligned (sym c.requires.action) (aligned _ _ _ _))
+
+pub unreachable-requires : goal.unreachable-requires
+unreachable-requires c =
+    let acts = c.requires.some.acts in
+    let of = reserves_next (parts c.args.self.now) c.args.hart.number c.requires.some.from c.args.action acts c.requires.action c.args.word
+    (c.requires.arms c.requires.some.from acts) in
+    c.in_default.not-LoadReserved _ _ of.is
+
+pub returns : goal.returns
+returns c =
+    let old = parts c.args.self.now in
+    let h = c.args.hart.number in
+    let bus = kept c.note_armed.new.self in
+    let cache = c.mark_read.ensures.cache in
+    let noted : IsNoted old.bus bus h 1 = record { ready = c.note_armed.ensures.ready; shows = c.note_armed.ensures.shows } in
+    let marks = subst (λ line. IsReadMarked (cache_at bus.copies.caches h) cache line) c.line_of.ensures c.mark_read.ensures.marked in
+    let same = ap (λ p. p.harts) c.mark_read.ensures.new_is in
+    let inside : c.from.result < length (parts c.mark_read.new.self).harts =
+    omega (arith, c.from.ensures, ap length same, c.requires.some.acts.may.exists) in
+    let kept_is = get_or_read _ _ _ inside c.index_mut.ensures.value (new_own no_hart 0)
+    ∙ ap (own_at (parts c.mark_read.new.self).harts) c.from.ensures ∙ ap (λ harts. own_at harts h) same in
+    let own : Own = armed_own c.args.word c.args.old c.in-LoadReserved.rd.number (own_at old.harts h) in
+    let new_is = set_in old (parts c.mark_read.new.self) (returned bus h cache) h c.from.result c.arm.new.self own c.mark_read.ensures.new_is
+    c.from.ensures (c.arm.ensures.own ∙ ap (armed_own c.args.word c.args.old c.in-LoadReserved.rd.number) kept_is) in
+    record {
+      ready =
+          subst IsReady (sym (ap (λ p. p.bus) c.mark_read.ensures.new_is))
+          (armed_ready old bus c.args.hart c.requires.some.from c.requires.some.acts c.args.word noted cache marks);
+      state = λ from acts.
+          let rule = c.requires.arms from acts in
+          let of = reserves_next old h from c.args.action acts c.requires.action c.args.word rule in
+          subst (λ p. IsIn p (by_plain_rule from h (Arms c.args.word)).state) (sym new_is)
+          (armed_in old bus c.args.hart from acts c.args.word noted cache marks c.args.old c.in-LoadReserved.rd
+          (same_reserve c.args.action c.args.word c.in-LoadReserved.rd c.in-LoadReserved.address of c.in-LoadReserved.is ∙ c.requires.action)
+          rule (c.requires.found from acts)
+          (reserve_aligned c.args.action c.args.word of (subst IsAligned (sym c.requires.action) (aligned _ _ _ _))));
+      outcome = λ from acts. arms_outcome from h c.args.word;
+      memory_stays = ap (λ p. p.bus.copies.lines) c.mark_read.ensures.new_is ∙ c.note_armed.ensures.memory_stays;
+    }

@@ -2,18 +2,21 @@
 use Rattle.std.proofs.Common.{◌≡◌, ◌∙◌, ◌⊎◌, ℕ, [], ◌∷◌, ap, inl, inr, refl, subst, sym}
 use Rattle.std.specs.Prelude.{IsSome}
 use Rattle.chronicle.specs.Chronicle.{events}
+use Rattle.el_base.specs.declared.config.Mode.TheVariants.{Tlr}
 use Rattle.el_base.specs.declared.events.Event.{Event}
 use Rattle.el_base.specs.declared.outcomes.Outcome.{Outcome}
 use Rattle.el_base.specs.Winners.{winner_over}
 use Rattle.el_model.specs.Next.{next}
 use Rattle.engine.specs.Parts.{Parts}
 use Rattle.machine.proofs.Continued.{state_of_continued}
-use Rattle.machine.specs.Promises.{Change, EndsAreNamed, EndsIt, KeepsPromises, OthersAreUntouched, ReleasesTakeEffect, change}
+use Rattle.machine.specs.Promises.{Change, EndsAreNamed, EndsIt, HeadOfLeastIsServed, KeepsPromises, OthersAreUntouched, ReleasesTakeEffect, change}
 use Rattle.machine.specs.Stands.{IsGiven, Stands}
 use Rattle.machine.specs.Story.{Story, continued, state_of}
+use Rattle.progress_laws.proofs.LineOfLeast.{line_of_least_stamp_moves_on}
 use Rattle.removal_laws.proofs.Beating.{losers_lose_to_earlier}
 use Rattle.removal_laws.proofs.Clocks.{stamps_are_kept}
 use Rattle.removal_laws.proofs.Promises.{least_stamp_never_loses}
+use Rattle.section_laws.proofs.Bits.{some_same}
 use Rattle.run_laws.proofs.Releasing.{releases_commit}
 use Rattle.step_laws.proofs.Losing.{what_ends_a_section}
 use Rattle.step_laws.proofs.Survivors.{survivors_keep_what_they_show}
@@ -36,6 +39,11 @@ ends story room event given h live over =
     by (inl itself) = inl (record { own = itself.own; step = itself.step; how = itself.how })
     by (inr beaten) = inr (subst IsSome (sym beaten.names) refl)
 
+head : (story : Story) (event : Event) → story.config.mode ≡ Tlr → HeadOfLeastIsServed (made story event)
+head story event removal h line first waits is_first kind own =
+    let on = line_of_least_stamp_moves_on story.program story.config (events story.entries) h line removal waits in
+    on.served event kind (own ∙ ap (λ request. request.hart) (some_same (sym is_first ∙ on.is_head)))
+
 release : (story : Story) (event : Event) → ReleasesTakeEffect story.config.long (made story event)
 release story event section step live free short comes =
     let done = releases_commit story.program story.config (events story.entries) event section step live free short comes in
@@ -53,6 +61,7 @@ keeps story room event given = record {
   ends = ends story room event given;
   losers = λ removal h winner. losers_lose_to_earlier story.program story.config (events story.entries) event h winner removal;
   least = λ removal h stamp. least_stamp_never_loses story.program story.config (events story.entries) event h stamp removal;
+  head = head story event;
   stamps = λ h stamp kept. stamps_are_kept (state_of story) h (event ∷ []) stamp (kept, tt);
   release = release story event;
   others = others story room event given;

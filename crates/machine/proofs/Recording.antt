@@ -1,7 +1,8 @@
 -- each outcome can be recorded: the harts that it names are the machine's, and a commit is as long as a section may be
 use Rattle.std.proofs.Common.{◌≡◌, ◌∙◌, ◌<◌, ◌≤◌, ◌+◌, ◌==◌, ◌&&◌, ℕ, suc, Bool, true, false, List, [], ◌∷◌, ◌++◌}
-use Rattle.std.proofs.Common.{Option, None, Some, length, refl, ap, sym, subst, arith, if◌then◌else◌}
+use Rattle.std.proofs.Common.{◌⊎◌, inl, inr, Option, None, Some, length, not, refl, ap, sym, subst, arith, if◌then◌else◌}
 use Rattle.std.specs.Prelude.{All, IfSome}
+use Rattle.std.proofs.lemmas.Bool.{cases_lt}
 use Rattle.std.proofs.lemmas.Bool.Decides.{nat_tests}
 use Rattle.std.proofs.lemmas.List.Elements.{All-cons, All-nil}
 use Rattle.bus_order.proofs.Orders.{one_each_removed}
@@ -9,8 +10,10 @@ use Rattle.bus_order.proofs.Queues.{request_of_first_of}
 use Rattle.bus_order.specs.Order.{IsOneEach, Request}
 use Rattle.defer_list.specs.HartSet.{has}
 use Rattle.el_base.proofs.HartIds.{hart_id-number}
-use Rattle.el_base.proofs.MadeLosers.{named_by_map}
+use Rattle.el_base.proofs.MadeLosers.{count_in-beyond, count_in-freed_of, named_by_map, none_in_no_one}
 use Rattle.el_base.specs.Config.{IsInRange}
+use Rattle.cache_sets.specs.Cache.{has_bit}
+use Rattle.el_base.specs.Freed.{count_in, no_one_freed}
 use Rattle.el_base.specs.Losers.{beaten_by, losers_of}
 use Rattle.el_base.specs.Winners.{winner_over}
 use Rattle.el_base.specs.declared.config.Config.{Config}
@@ -26,31 +29,37 @@ use Rattle.el_base.specs.declared.outcomes.Why.TheVariants.{Behind, Retained, Lo
 use Rattle.el_model.proofs.Deeds.{step_deed}
 use Rattle.el_model.proofs.Folds.{state_after-append}
 use Rattle.el_model.proofs.FromStart.{kept_after, next_config}
+use Rattle.el_model.proofs.Harts.{hart_of-past}
+use Rattle.el_model.proofs.Keeps.{keeps_before_face, keeps_served}
 use Rattle.el_model.proofs.Tests.{by_test}
-use Rattle.el_model.specs.Conflicts.{conflicts, first_such, holder_of, retainer_of, stamp_in, told_winner, wins_over}
-use Rattle.el_model.specs.Deed.{Begins, Buffers, Commits, Deed, DoesWhere, Misses, Rests, RollsBack, Runs, Waits}
+use Rattle.el_model.specs.Conflicts.{conflicts, first_such, holder_of, is_write, retainer_of, stamp_in, told_winner, wins_over}
+use Rattle.el_model.specs.Deed.{Arms, Begins, Buffers, Commits, Continues, Deed, DoesWhere, Elides, LetsGo, Misses, Rests, RollsBack, Runs, Waits}
 use Rattle.el_model.specs.Deed.{outcome_of}
 use Rattle.el_model.specs.Deliver.{deliver_next, deliver_turn, loses_to_origin, losers_by, message_losers, nobody}
 use Rattle.el_model.specs.Deliver.{one_lost, taken}
-use Rattle.el_model.specs.Face.{LosesTo, Unmet, deferring_fate, face_losers, face_losers_if, faced, fate_of}
+use Rattle.el_model.specs.Armed.{freed_by, freed_count, let_go}
+use Rattle.el_model.specs.Face.{LosesTo, Unmet, deferring_fate, face_losers, faced, fate_of, freed_if, met_losers, met_losers_if}
 use Rattle.el_model.specs.Face.{told_fate, winner_in}
 use Rattle.el_model.specs.Next.{after, kind_turn, next, outcomes_from}
-use Rattle.el_model.specs.Order.{Alone, Behind as BehindOthers, InFront, Place, before_face, losers_at, order_raised}
+use Rattle.el_model.specs.Order.{Alone, Behind as BehindOthers, InFront, Place, before_face, freed_at, losers_at, order_raised}
+use Rattle.el_model.specs.Plain.{armed_count}
 use Rattle.el_model.specs.Order.{order_turn, place_for, placed}
-use Rattle.el_model.specs.Serve.{Blocks, Free, Obstacle, blocks_if, obstacle_to, other_head, serve_losers}
+use Rattle.el_model.specs.Serve.{Blocks, Free, Obstacle, blocks_if, obstacle_to, other_head, serve_freed, serve_losers}
 use Rattle.el_model.specs.Serve.{serve_ordered, serve_past, serve_turn, served}
-use Rattle.el_model.specs.State.{Hart, ModelState, Section, begin, count_up, hart_of, head_of, numbers_of}
+use Rattle.el_model.specs.State.{Armed, Hart, ModelState, Section, armed_of, begin, count_up, hart_of, head_of, new_hart, numbers_of}
 use Rattle.el_model.specs.State.{ordered_of, ordered_on, raised_of, section_of}
 use Rattle.elf_image.specs.Program.{Program}
-use Rattle.machine.specs.Recording.{AreAmong, CanBeRecorded, OutcomesCanBeRecorded}
+use Rattle.machine.specs.Recording.{AreAmong, AreFreedAmong, CanBeRecorded, OutcomesCanBeRecorded}
 use Rattle.mail.specs.Mailbox.{Marker, Message, Probe}
-use Rattle.removal_laws.proofs.Bits.{second_of_both, some_same}
+use Rattle.section_laws.proofs.ArmedCounts.{armed_sections_are_short}
+use Rattle.section_laws.proofs.Bits.{second_of_both, some_same}
 use Rattle.removal_laws.proofs.Delivering.{own_line}
 use Rattle.removal_laws.proofs.Facing.{least_passes}
 use Rattle.section_laws.proofs.Bounds.{Bounded, always_bounded}
 use Rattle.section_laws.proofs.Numbered.{harts_in_range, next_count, one_ordered_request_each, raised_exists}
 use Rattle.section_laws.proofs.OrderedHarts.{AreBelow, below_kept}
 use Rattle.section_laws.proofs.SectionSteps.{live_exists}
+use Rattle.section_laws.specs.EachHart.{IsShortArmed}
 use Rattle.stamp.specs.Stamps.{Stamp, is_before}
 use Rattle.step_laws.proofs.Losing.{only_live_sections_lose}
 use Rattle.step_laws.proofs.Short.{sections_are_short}
@@ -109,20 +118,26 @@ face_winners state head limit exists below loser winner is =
     subst (IsBelow limit) (named_by_map (λ h. winner_in (fate_of state head h (hart_of state h))) loser winner is)
     (fate_below state head loser (hart_of state loser) limit exists below)
 
+-- nor does it change who asks that armed sections are let go before
+met_winners : (state : ModelState) (head : Request) (limit : ℕ) → head.hart < limit → AreBelow limit state.order →
+    WinnersBelow limit (met_losers state head)
+unfolding let_go
+met_winners state head limit exists below = face_winners (let_go state head) head limit exists below
+
 order_winners : (state : ModelState) (request : Request) (place : Place) (limit : ℕ) → request.hart < limit →
     AreBelow limit (placed state request place).order → WinnersBelow limit (losers_at state request place)
-unfolding placed faced
+unfolding placed faced let_go
 order_winners state request InFront limit exists below =
-    face_winners (before_face state request InFront) request limit exists below
+    met_winners (before_face state request InFront) request limit exists below
 order_winners state request BehindOthers limit exists below = nobody_wins limit
 order_winners state request Alone limit exists below =
-    face_winners (before_face state request Alone) request limit exists below
+    met_winners (before_face state request Alone) request limit exists below
 
 served_winners : (state : ModelState) (line limit : ℕ) (head : Option Request) → IsOneEach state.order →
-    AreBelow limit state.order → head_of state line ≡ head → WinnersBelow limit (face_losers_if state head)
+    AreBelow limit state.order → head_of state line ≡ head → WinnersBelow limit (met_losers_if state head)
 served_winners state line limit None once below is = nobody_wins limit
 served_winners state line limit (Some head) once below is =
-    face_winners state head limit (below head.hart head (request_of_first_of state.order line head once is)) below
+    met_winners state head limit (below head.hart head (request_of_first_of state.order line head once is)) below
 
 serve_winners : (state : ModelState) (request : Request) (limit : ℕ) → IsOneEach state.order →
     AreBelow limit state.order → WinnersBelow limit (serve_losers state request)
@@ -184,6 +199,51 @@ obstacle_below state request once below =
     (blocks_below limit Locked (holder_of state request.hart request.line) Free
     (first_below _ limit 0 state.harts (omega arith)) tt))
 
+-- who is let go is armed, and so a hart of the machine
+unarmed_not : (one other : Bool) → ((one && false) && other) ≡ false
+unarmed_not true other = refl
+unarmed_not false other = refl
+
+none_past : (state : ModelState) (head : Request) (h : ℕ) → length state.harts ≤ h → freed_count head h (hart_of state h) ≡ 0
+none_past state head h past =
+    let hart = new_hart 0 in
+    ap (λ k. freed_count head h k) (hart_of-past state h past)
+    ∙ ap (λ test. if test then armed_count hart.armed else 0)
+    (unarmed_not (is_write head && not (head.hart == h)) (has_bit hart.cache head.line))
+
+freed_among : (state : ModelState) (head : Request) → AreFreedAmong (length state.harts) (freed_by state head)
+freed_among state head h past = by (cases_lt h 8)
+  where
+    count : ℕ → ℕ
+    count g = freed_count head g (hart_of state g)
+
+    none : freed_count head h (hart_of state h) ≡ 0
+    none = none_past state head h past
+
+    by : (h < 8) ⊎ (8 ≤ h) → count_in (freed_by state head) h ≡ 0
+    by (inl few) = count_in-freed_of (λ g. freed_count head g (hart_of state g)) h few (omega (arith, none)) ∙ none
+    by (inr many) = count_in-beyond (freed_by state head) h many
+
+nobody_freed : (limit : ℕ) → AreFreedAmong limit no_one_freed
+nobody_freed limit h past = none_in_no_one h
+
+as_many_freed : (old new : ModelState) (head : Request) → length new.harts ≡ length old.harts → AreFreedAmong (length old.harts) (freed_by new head)
+as_many_freed old new head same = subst (λ n. AreFreedAmong n (freed_by new head)) same (freed_among new head)
+
+order_frees : (state : ModelState) (request : Request) (place : Place) → AreFreedAmong (length state.harts) (freed_at state request place)
+order_frees state request InFront =
+    as_many_freed state (before_face state request InFront) request (keeps_before_face state request InFront).count
+order_frees state request BehindOthers = nobody_freed (length state.harts)
+order_frees state request Alone =
+    as_many_freed state (before_face state request Alone) request (keeps_before_face state request Alone).count
+
+serve_frees : (state : ModelState) (request : Request) → AreFreedAmong (length state.harts) (serve_freed state request)
+serve_frees state request = by (head_of (served state request) request.line)
+  where
+    by : (head : Option Request) → AreFreedAmong (length state.harts) (freed_if (served state request) head)
+    by None = nobody_freed (length state.harts)
+    by (Some head) = as_many_freed state (served state request) head (keeps_served state request).count
+
 -- losers that exist, to winners that do
 among : (limit : ℕ) (losers : Losers) → ((loser winner : ℕ) → beaten_by losers loser ≡ Some winner → loser < limit) →
     WinnersBelow limit losers → AreAmong limit losers
@@ -194,6 +254,7 @@ among limit losers lost wins = λ loser winner named. (lost loser winner named, 
 module _ (state : ModelState) (few : length state.harts ≤ 8) (bounded : Bounded state) (once : IsOneEach state.order)
     (is_short : (h : ℕ) (section : Section) → section_of state h ≡ Some section →
     IsSectionShort state.config.long section)
+    (armed_short : (h : ℕ) (armed : Armed) → armed_of state h ≡ Some armed → IsShortArmed state.config.long armed)
   where
     abbrev Recorded : Outcome → Type 0
     Recorded outcome = CanBeRecorded (length state.harts) state.config.long outcome
@@ -213,6 +274,11 @@ module _ (state : ModelState) (few : length state.harts ≤ 8) (bounded : Bounde
         let counts = is_short h section shorter.inside.live in
         (omega arith, grind (arith, nat_tests, shorter.short, counts.no_more))
     deed_recorded h (RollsBack section cause) does = tt
+    deed_recorded h (Arms word) does = tt
+    deed_recorded h (Elides armed swap) does = tt
+    deed_recorded h (Continues armed) does = tt
+    deed_recorded h (LetsGo armed) does =
+        let counts = armed_short h armed does.is_armed.armed_is in (counts.some, counts.few)
 
     order_recorded : (h : ℕ) (raised : Option Request) → raised_of state h ≡ raised →
         AreBelow (length state.harts) (order_raised state raised).state.order →
@@ -221,12 +287,12 @@ module _ (state : ModelState) (few : length state.harts ≤ 8) (bounded : Bounde
     order_recorded h (Some request) is below lost =
         let exists = raised_exists state h request bounded.sound is in
         let place = place_for state request in
-        (among _ (losers_at state request place) lost (order_winners state request place _ exists below), refl)
+        (among _ (losers_at state request place) lost (order_winners state request place _ exists below), order_frees state request place)
 
     past_recorded : (request : Request) (obstacle : Obstacle) → BlocksBelow (length state.harts) obstacle →
         LosersExist (serve_past state request obstacle).outcome → Recorded (serve_past state request obstacle).outcome
     past_recorded request Free exists lost =
-        (among _ (serve_losers state request) lost (serve_winners state request _ once bounded.exists), refl)
+        (among _ (serve_losers state request) lost (serve_winners state request _ once bounded.exists), serve_frees state request)
     past_recorded request (Blocks why by) exists lost =
         rw (hart_id-number by (omega (arith, exists, few))) exists
 
@@ -292,6 +358,11 @@ module _ (program : Program) (config : Config) (same : program.harts ≡ config.
       let lost = only_live_sections_lose program config made event loser winner same range named in
       live_exists (after program config made) loser lost.section lost.live
 
+  armed_short : (made : List Event) (h : ℕ) (armed : Armed) → armed_of (after program config made) h ≡ Some armed →
+      IsShortArmed (after program config made).config.long armed
+  armed_short made h armed is =
+      subst (λ c. IsShortArmed c.long armed) (sym (config_stays made)) (armed_sections_are_short program config made range h armed is)
+
   sections_short : (made : List Event) (h : ℕ) (section : Section) →
       section_of (after program config made) h ≡ Some section →
       IsSectionShort (after program config made).config.long section
@@ -305,7 +376,7 @@ module _ (program : Program) (config : Config) (same : program.harts ≡ config.
       let few : length state.harts ≤ 8 = rw (as_configured made) (harts_in_range config range) in
       subst (λ c. CanBeRecorded c.harts c.long (next state event).outcome) (config_stays made)
       (subst (λ count. CanBeRecorded count state.config.long (next state event).outcome) (bounds made).count
-      (next_recorded state few (bounds made) (one_ordered_request_each program config made) (sections_short made) event
+      (next_recorded state few (bounds made) (one_ordered_request_each program config made) (sections_short made) (armed_short made) event
       (next_below made event) (loser_exists made event)))
 
   from_here : (made events : List Event) → All Recordable (outcomes_from (after program config made) events)

@@ -31,8 +31,8 @@ pub fn openings_tell_beginnings()
 {}
 
 /// From a program with as many harts as its configuration has, where that is in range, whatever the events: each outcome
-/// can be recorded in a trace. A commit has 1 to `long` instructions, each hart that lost, that won or that is in the
-/// way is one of the machine's, and nobody is let go.
+/// can be recorded in a trace. A commit has 1 to `long` instructions, a letting go 1 to 15, and each hart that lost, that
+/// won, that is in the way or that was let go is one of the machine's.
 #[tactic(auto, using(crate::proofs::Recording::outcomes_can_be_recorded))]
 pub fn outcomes_can_be_recorded()
     ensures { OutcomesCanBeRecorded }

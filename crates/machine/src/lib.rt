@@ -21,6 +21,7 @@ pub use laws::{
     stories_go_on_event_by_event,
 };
 pub use machine::Machine;
+pub use section_ctl::Armed;
 pub use snoop::Asked;
 
 #[cfg(test)]

@@ -17,6 +17,7 @@ ghost use Rattle.std.specs.Prelude.{
   Err,
   length,
   map,
+  IsSome,
   false,
   option_map,
 };
@@ -26,7 +27,7 @@ ghost use Rattle.el_base.specs.declared.config.ConfigFault.{ConfigFault};
 ghost use Rattle.el_base.specs.declared.config.Mode.TheVariants.{Tlr};
 ghost use Rattle.el_model.specs.Next.{is_over, next, shown_of};
 ghost use Rattle.el_model.specs.State as model;
-ghost use Rattle.el_model.specs.State.{cache_of, hart_of, ordered_of, raised_of, section_of};
+ghost use Rattle.el_model.specs.State.{armed_of, cache_of, hart_of, ordered_of, raised_of, section_of};
 ghost use Rattle.elf_image.specs.Program.{IsProgram};
 ghost use Rattle.engine.specs.Parts.{parts};
 ghost use Rattle.engine.specs.Reached.{Begins};
@@ -34,6 +35,7 @@ ghost use Rattle.hart_state.specs.Own.{HasOwn};
 ghost use Rattle.machine.specs.MainMemory.{main_lines};
 ghost use Rattle.machine.specs.Promises.{
   EndsAreNamed,
+  HeadOfLeastIsServed,
   LeastStays,
   LosesToLess,
   OthersAreUntouched,
@@ -50,9 +52,10 @@ ghost use Rattle.rv_alu.specs.Span.{holds};
 ghost use Rattle.rv_flat.specs.FlatState.{output_limit, room_of, view_of};
 ghost use Rattle.rv_flat.specs.Memory.{AreBytes, byte_in};
 ghost use Rattle.rv_flat.specs.Step.{action_of};
-ghost use Rattle.run_laws.specs.PrivateRun.{IsCoveredRun};
+ghost use Rattle.run_laws.specs.PrivateRun.{IsArmedRun, IsCoveredRun};
 ghost use Rattle.section_ctl.specs.State as sections;
-ghost use Rattle.section_view.specs.KeptRun.{HoldsMarked, KeepsRun};
+ghost use Rattle.section_laws.specs.EachHart.{IsShortArmed};
+ghost use Rattle.section_view.specs.KeptRun.{HoldsMarked, KeepsArmed, KeepsRun};
 ghost use Rattle.snoop.specs.Asking.{asking, numbered_asked};
 ghost use Rattle.snoop.specs.Shows.{IsReady, Shows, kept};
 ghost use Rattle.step_laws.specs.Counts.{IsSectionShort};
@@ -64,7 +67,7 @@ use elf_image::Image;
 use engine::Engine;
 use hart_state::HartState;
 use rv_alu::{Action, HartView};
-use section_ctl::{Live, Section};
+use section_ctl::{Armed, Live, Section};
 use snoop::{Asked, Bus};
 use std::alloc::Global;
 use std::marker::Model;
@@ -135,11 +138,12 @@ impl Machine {
     ///
     /// What it keeps of live sections: one ends by its own hart's commit or rollback, or the outcome names its hart
     /// among the losers; one whose hart did not step shows the same view, and the same of each byte whose committed value
-    /// stays; at its release a section takes effect
-    /// whole. A stamp stays until its attempt closes. In lock removal each loser lost to a hart that waits with a less
-    /// stamp, and the least stamp never loses. The last two are the idea of R. Rajwar and J. R. Goodman, 'Transactional
-    /// Lock-Free Execution of Lock-Based Programs', ASPLOS 2002, and the first three that of their 'Speculative Lock
-    /// Elision', MICRO 2001.
+    /// stays; at its release a section takes effect whole. A stamp stays until its attempt closes. In lock removal each
+    /// loser lost to a hart that waits with a less stamp, and the least stamp never loses; where its hart waits for a
+    /// line and the messages about that line are delivered, a serve of the line's first request is served, or blocked by
+    /// a hart that holds the line until its next step. The last three are the idea of R. Rajwar and J. R. Goodman,
+    /// 'Transactional Lock-Free Execution of Lock-Based Programs', ASPLOS 2002, and the first three that of their
+    /// 'Speculative Lock Elision', MICRO 2001.
     #[tactic(auto, using(crate::proofs::GoesOn::told_more))]
     pub fn step(&mut self, event: Event) -> Outcome
         requires hart_exists { event.hart.number < self.old.config.harts }
@@ -150,6 +154,8 @@ impl Machine {
         ensures ends_are_named { EndsAreNamed (change self.old event result self.new) }
         ensures losers_lost_to_less { self.old.config.mode ≡ Tlr → LosesToLess (change self.old event result self.new) }
         ensures least_never_loses { self.old.config.mode ≡ Tlr → LeastStays (change self.old event result self.new) }
+        ensures head_of_least_is_served { self.old.config.mode ≡ Tlr →
+            HeadOfLeastIsServed (change self.old event result self.new) }
         ensures stamps_stay { StampsStay (change self.old event result self.new) }
         ensures releases_commit { ReleasesTakeEffect self.old.config.long (change self.old event result self.new) }
         ensures others_are_untouched { OthersAreUntouched (change self.old event result self.new) }
@@ -210,7 +216,7 @@ impl Machine {
         self.engine.hart(hart)
     }
 
-    /// What a hart itself sees: in a section what the section shows, else its committed view.
+    /// What a hart itself sees: in a live or an armed section what the section shows, else its committed view.
     pub fn shown(&self, hart: HartId) -> HartView
         requires { hart.number < self.now.config.harts }
         ensures { result ≡ shown_of (state_of self.now) hart.number }
@@ -218,7 +224,7 @@ impl Machine {
         self.engine.shown(hart)
     }
 
-    /// A hart's live section, `None` exactly where it has none. Each instruction of a live section but the acquire had
+    /// A hart's live section, `None` exactly where it has none, as where it is armed. Each instruction of a live section but the acquire had
     /// the access bit of what it touched, and it has run from 1 to `long` instructions.
     pub fn section(&self, hart: HartId) -> Option<Live>
         requires { hart.number < self.now.config.harts }
@@ -231,12 +237,33 @@ impl Machine {
         self.engine.section_state(hart).live()
     }
 
+    /// A hart's armed section, `None` exactly where the hart is not armed. It began at an LR of its word, whose line has
+    /// the read bit; each instruction behind that touched no memory, was no SC and neither called nor stopped its hart;
+    /// and it has run from 1 to 15 instructions, fewer than a section may. No section of the hart is live.
+    pub fn armed(&self, hart: HartId) -> Option<Armed>
+        requires { hart.number < self.now.config.harts }
+        ensures exact { option_map sections.armed_of result ≡ armed_of (state_of self.now) hart.number }
+        ensures alone { IsSome result → section_of (state_of self.now) hart.number ≡ None }
+        ensures runs { (armed : model.Armed) → armed_of (state_of self.now) hart.number ≡ Some armed →
+            IsArmedRun (committed self.now) hart.number (cache_of (state_of self.now) hart.number) armed }
+        ensures short { (armed : model.Armed) → armed_of (state_of self.now) hart.number ≡ Some armed →
+            IsShortArmed self.now.config.long armed }
+    {
+        self.engine.section_state(hart).armed()
+    }
+
     /// A hart's section with its views and its buffered stores, which are none where no section is live. Where one is,
     /// its view is what its private run has come to, its buffered stores over committed memory, with the acquire's new
     /// value in the lock word, are what the section shows of memory, and each line that it stored to has the write bit.
+    /// Where the hart is armed, its view is what its private run has come to, and the value that is kept is that of its
+    /// word.
     pub fn section_state(&self, hart: HartId) -> &Section
         requires { hart.number < self.now.config.harts }
         ensures live { result.now.live ≡ section_of (state_of self.now) hart.number }
+        ensures armed { option_map (λ reserved. reserved.armed) result.now.armed
+            ≡ armed_of (state_of self.now) hart.number }
+        ensures keeps_armed { (reserved : sections.Reserved) → result.now.armed ≡ Some reserved →
+            KeepsArmed (committed self.now) hart.number reserved.armed reserved.old result.now.marks.present }
         ensures run { (section : model.Section) → result.now.live ≡ Some section →
             KeepsRun (committed self.now) hart.number section result.now.marks.present result.now.hold.entries }
         ensures shows { (section : model.Section) → result.now.live ≡ Some section →

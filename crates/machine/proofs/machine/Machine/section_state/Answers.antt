@@ -1,7 +1,7 @@
 -- the section that the parts keep
 use Rattle.std.proofs.Common.{◌∙◌, ap, sym}
 use Rattle.machine.proofs.GoesOn.{hart_there, now_in, reached_committed}
-use Rattle.machine.proofs.InSections.{keeps_run, kept_of, shows_stores}
+use Rattle.machine.proofs.InSections.{keeps_armed, keeps_run, kept_of, shows_stores}
 use Rattle.machine.proofs.machine.Machine.section_state.Goals as goal
 use Rattle.machine.specs.Story.{state_of}
 use Rattle.rv_flat.specs.FlatState.{view_of}
@@ -11,6 +11,14 @@ section_state-requires c = hart_there _ _ _ _ _ c.self.invariant c.self.view_is 
 
 pub returns-clause-live : goal.returns-clause-live
 returns-clause-live c = c.section_state.ensures.live (state_of c.args.self.now) (now_in _ _ _ _ c.self.invariant c.self.view_is)
+
+pub returns-clause-armed : goal.returns-clause-armed
+returns-clause-armed c = c.section_state.ensures.armed (state_of c.args.self.now) (now_in _ _ _ _ c.self.invariant c.self.view_is)
+
+pub returns-clause-keeps_armed : goal.returns-clause-keeps_armed
+returns-clause-keeps_armed c reserved is =
+    keeps_armed _ _ _ _ _ reserved c.section_state.result.now c.self.invariant c.self.view_is
+    (c.section_state.ensures.keeps_armed (state_of c.args.self.now) (now_in _ _ _ _ c.self.invariant c.self.view_is)) is
 
 pub returns-clause-run : goal.returns-clause-run
 returns-clause-run c section live =

@@ -1,6 +1,7 @@
 -- the harts that an event let go, one by one
-use Rattle.std.proofs.Common.{◌≡◌, ◌≤◌, ◌<◌, ℕ, ◌+◌, ◌-◌, List, [], ◌∷◌, ◌++◌, zero, suc, append-nil, append_assoc, arith, length, length-append, replicate, refl, ap, sym, ◌∙◌, subst}
+use Rattle.std.proofs.Common.{◌≡◌, ◌≤◌, ◌<◌, ◌⊎◌, inl, inr, ℕ, ◌+◌, ◌-◌, List, [], ◌∷◌, ◌++◌, zero, suc, append-nil, append_assoc, arith, length, length-append, replicate, refl, ap, sym, ◌∙◌, subst}
 use Rattle.std.specs.Prelude.{All}
+use Rattle.std.proofs.lemmas.Bool.{cases_lt}
 use Rattle.std.proofs.lemmas.List.{get_or-replicate, length-replicate}
 use Rattle.std.proofs.lemmas.List.Elements.{All-append, All-cons, All-get_or, All-nil, All-replicate}
 use Rattle.chronicle.specs.Serial.{serial, taking_effect}
@@ -54,22 +55,36 @@ lets_go freed hart bound within exist =
       );
     }
 
--- whoever was let go is one of the first eight
-small_below : (freed : Freed) (n bound : ℕ) → n ≤ bound → All (λ hart. hart < bound) (order_below n freed)
-small_below freed zero bound within = All-nil (λ hart. hart < bound)
-small_below freed (suc n) bound within =
-    let Small : ℕ → Type 0 = λ hart. hart < bound in
+-- whoever was let go is below a number, where none of the first harts past it was
+below_number : (freed : Freed) (n bound : ℕ) → ((h : ℕ) → h < n → bound ≤ h → count_in freed h ≡ 0) →
+    All (λ hart. hart < bound) (order_below n freed)
+below_number freed zero bound none = All-nil (λ hart. hart < bound)
+below_number freed (suc n) bound none =
+    let Below : ℕ → Type 0 = λ hart. hart < bound in
     let next : suc n ≡ n + 1 = omega arith in
     let more : order_below (suc n) freed ≡ order_below n freed ++ replicate (count_in freed n) n =
     ap (λ m. order_below m freed) next ∙ order_below-more n freed in
-    let AllSmall : List ℕ → Type 0 = All Small in
-    subst AllSmall (sym more)
-    (All-append Small (order_below n freed) (replicate (count_in freed n) n) (small_below freed n bound (omega arith))
-    (All-replicate Small (count_in freed n) n (omega arith)))
+    let AllBelow : List ℕ → Type 0 = All Below in
+    subst AllBelow (sym more)
+    (All-append Below (order_below n freed) (replicate (count_in freed n) n)
+    (below_number freed n bound (λ h low past. none h (omega (arith, low)) past)) (own (cases_lt n bound)))
+  where
+    own : (n < bound) ⊎ (bound ≤ n) → All (λ hart. hart < bound) (replicate (count_in freed n) n)
+    own (inl low) = All-replicate (λ hart. hart < bound) (count_in freed n) n low
+    own (inr past) =
+        subst (λ count. All (λ hart. hart < bound) (replicate count n)) (sym (none n (omega arith) past))
+        (All-nil (λ hart. hart < bound))
 
+-- it exists, where none past the harts that there are was let go
+pub order_exists : (freed : Freed) (bound : ℕ) → ((h : ℕ) → bound ≤ h → count_in freed h ≡ 0) →
+    All (λ hart. hart < bound) (order_of freed)
+unfolding order_of
+order_exists freed bound none = below_number freed 8 bound (λ h low past. none h past)
+
+-- and it is one of the first eight
 small_order : (freed : Freed) → All (λ hart. hart < 8) (order_of freed)
 unfolding order_of
-small_order freed = small_below freed 8 8 (omega arith)
+small_order freed = below_number freed 8 8 (λ h low past. absurd (omega (arith, low, past)))
 
 small_effect : (hart : HartId) (outcome : Outcome) → All (λ hart. hart < 8) (taking_effect hart.number outcome)
 small_effect hart Ran = All-cons (λ hart. hart < 8) hart.number [] hart.small (All-nil (λ hart. hart < 8))

@@ -18,8 +18,8 @@ use Rattle.run_check.proofs.ReachedStates.{reached_is_state}
 use Rattle.run_check.specs.Certified.{IsHistoryOf, IsStateOf}
 use Rattle.rv_flat.specs.FlatState.{span_of}
 use Rattle.section_laws.proofs.SerialLength.{serial_order_is_no_longer}
+use Rattle.step_back.proofs.Existing.{serial_exists}
 use Rattle.trace_file.specs.Spelling.{outcomes}
-use Rattle.tool.proofs.Recording.{serial_below}
 
 -- entries are told apart by their events and outcomes
 same_entries : (some others : List Entry) → map (λ entry. entry.event) some ≡ map (λ entry. entry.event) others →
@@ -55,7 +55,7 @@ history_fits story run within in_range same exist can =
     record {
       harts =
           subst (λ (harts : ℕ). All (λ hart. hart < harts) (serial story.entries)) (sym same)
-          (serial_below story.config.harts story.config.long story.entries exist can);
+          (serial_exists story.config.harts story.config.long story.entries exist can);
       few = omega (arith, serial_few, same_length, within, steps);
     }
 

@@ -18,21 +18,27 @@ fn a_run_writes_its_trace_and_its_replay_is_the_same(rt: HostRuntime) -> Result<
     Ok(())
 }
 
-// In both modes that have sections each hart begins some.
+// In both modes that have sections each hart begins some, at swaps by `counter` and behind an LR by `pairs`.
 #[test]
 fn a_replay_of_sections_says_what_the_run_said(rt: HostRuntime) -> Result<(), Fail> {
-    let image = answer(&rt, rt.alloc(), &["gen", "counter", "1", "t"], &[], &[])?.written;
-    for mode in ["sle", "tlr"] {
-        let words = ["run", "a", "--mode", mode, "--harts", "4", "--trace", "t"];
-        let ran = answer(&rt, rt.alloc(), &words, &image, &[])?;
-        let played = answer(&rt, rt.alloc(), &["replay", "a", "t"], &image, &ran.written)?;
-        let report = String::from_utf8_lossy(rt.alloc(), &ran.err)?;
-        assert!(rt; !report.contains("began 0 "), "{report}");
-        assert_eq!(rt; ran.status.number(), 0, "{mode}");
-        assert_eq!(rt; ran.out.as_slice(), b"00000190\n".as_slice(), "{mode}");
-        assert_eq!(rt; played.status, ran.status, "{mode}");
-        assert_eq!(rt; played.out.as_slice(), ran.out.as_slice(), "{mode}");
-        assert_eq!(rt; played.err.as_slice(), ran.err.as_slice(), "{mode}");
+    for kind in ["counter", "pairs"] {
+        let image = answer(&rt, rt.alloc(), &["gen", kind, "1", "t"], &[], &[])?.written;
+        for mode in ["sle", "tlr"] {
+            let words = ["run", "a", "--mode", mode, "--harts", "4", "--trace", "t"];
+            let ran = answer(&rt, rt.alloc(), &words, &image, &[])?;
+            let played = answer(&rt, rt.alloc(), &["replay", "a", "t"], &image, &ran.written)?;
+            let report = String::from_utf8_lossy(rt.alloc(), &ran.err)?;
+            assert!(rt; !report.contains("began 0 "), "{kind}: {report}");
+            assert_eq!(rt; ran.status.number(), 0, "{kind} {mode}");
+            assert_eq!(rt;
+                ran.out.as_slice(),
+                b"00000190\n".as_slice(),
+                "{kind} {mode}"
+            );
+            assert_eq!(rt; played.status, ran.status, "{kind} {mode}");
+            assert_eq!(rt; played.out.as_slice(), ran.out.as_slice(), "{kind} {mode}");
+            assert_eq!(rt; played.err.as_slice(), ran.err.as_slice(), "{kind} {mode}");
+        }
     }
     Ok(())
 }

@@ -8,8 +8,12 @@ use Rattle.el_base.specs.declared.hart_id.HartId.{HartId}
 use Rattle.el_base.specs.declared.outcomes.Outcome.{Outcome}
 use Rattle.el_base.specs.declared.outcomes.Outcome.TheVariants as outcomes
 use Rattle.el_model.proofs.Coming.{by_their_rules}
+use Rattle.el_model.specs.Armed.{Elides}
+use Rattle.el_model.specs.Causes.{GoesArmed, GoesOutside}
 use Rattle.el_model.specs.Next.{next}
-use Rattle.el_model.specs.State.{ModelState, Section, is_live, section_of}
+use Rattle.el_model.specs.Plain.{Begins}
+use Rattle.el_model.specs.State.{Armed, ModelState, Section, is_live, section_of}
+use Rattle.el_model.specs.Upcoming.{Swap}
 use Rattle.lab.specs.Tries.{AreLive, HasNone, Moment, begun_as, end_in, ended_by, first_end, lost_end, moment_of, noted, of_section, own_end, ran_in}
 use Rattle.lab.specs.declared.tries.Ended.{Ended}
 use Rattle.lab.specs.declared.tries.Ended.TheVariants.{Live, Committed, LostTo, RolledBack}
@@ -115,10 +119,17 @@ module _ (state : ModelState) (place : ℕ) (event : Event) where
   pub none_before : (tries : List Try) → (next state event).outcome ≡ outcomes.Began → AreLive state tries →
       HasNone event.hart.number tries
   none_before tries began live =
-      let outside = ((by_their_rules state event outcomes.Began).0 began).1.outside in
+      let begins = (by_their_rules state event outcomes.Began).0 began in
+      let outside = outside_of begins.0 begins.1.by_rule in
       let Lived : Try → Type 0 = λ try. try.ended ≡ Live → is_live state try.hart.number ≡ true in
       All-weaker Lived (λ try. try.hart.number ≡ event.hart.number → try.ended ≢ Live)
       (λ try was own ended. dead (was ended) (ap (is_live state) own ∙ ap is_some outside)) tries live
     where
+      outside_of : (swap : Swap) →
+          GoesOutside state event (Begins swap) ⊎ ((armed : Armed) × GoesArmed state event armed (Elides swap)) →
+          section_of state event.hart.number ≡ None
+      outside_of swap (inl goes) = goes.outside
+      outside_of swap (inr (armed, goes)) = goes.outside
+
       dead : {b : Bool} → b ≡ true → b ≡ false → ⊥
       dead alive over = cc

@@ -10,8 +10,8 @@ use Rattle.el_base.specs.declared.outcomes.Outcome.TheVariants as outcomes
 use Rattle.el_base.specs.declared.config.Config.{Config}
 use Rattle.el_model.proofs.Coming.{by_their_rules}
 use Rattle.el_model.proofs.FromStart.{kept_after, next_config}
-use Rattle.el_model.specs.Next.{next, shown_of, view_in}
-use Rattle.el_model.specs.State.{ModelState, begin, hart_of, section_of}
+use Rattle.el_model.specs.Next.{next, shown_of, view_in, view_outside}
+use Rattle.el_model.specs.State.{ModelState, armed_of, begin, hart_of, section_of}
 use Rattle.el_model.specs.Upcoming as model
 use Rattle.engine.proofs.Places.{keeps_place}
 use Rattle.engine.proofs.Swaps.{swap_action}
@@ -37,22 +37,27 @@ pub if_ran-same : (outcome : Outcome) (a b : Option PlainSwap) → (outcome ≡ 
 if_ran-same outcomes.Ran a b same = ap (if_ran outcomes.Ran) (same refl)
 if_ran-same _ a b same = refl
 
--- an instruction that ran outside is one of a step of a hart without a section
+-- an instruction that ran outside is one of a step of a hart with neither a live nor an armed section
 pub ran_outside : (state : ModelState) (event : Event) → (next state event).outcome ≡ outcomes.Ran →
-    (event.kind ≡ kinds.Step) × (section_of state event.hart.number ≡ None)
+    (event.kind ≡ kinds.Step) × (section_of state event.hart.number ≡ None) × (armed_of state event.hart.number ≡ None)
 ran_outside state event ran =
     let goes = ((by_their_rules state event outcomes.Ran).0 ran).1 in
-    (goes.goes.step, goes.outside)
+    (goes.goes.step, goes.outside, goes.unarmed)
+
+-- such a hart sees its committed view
+pub shown_is : (state : ModelState) (h : ℕ) → section_of state h ≡ None → armed_of state h ≡ None →
+    shown_of state h ≡ view_of state.committed h
+shown_is state h none unarmed = ap (view_in state h) none ∙ ap (view_outside state h) unarmed
 
 -- memory lies where the program's does
 pub base_is : (story : Story) → (state_of story).committed.base ≡ story.program.base
 unfolding start
 base_is story = (keeps_place story.program story.config (events story.entries)).base
 
--- a hart without a section comes next to what its committed view comes to
+-- and comes next to what that view comes to
 pub next_is : (state : ModelState) (h : ℕ) (action : Action) → action ≡ action_of state.committed (shown_of state h) →
-    section_of state h ≡ None → IsNext action state.committed h
-next_is state h action is none = is ∙ ap (λ section. action_of state.committed (view_in state h section)) none
+    section_of state h ≡ None → armed_of state h ≡ None → IsNext action state.committed h
+next_is state h action is none unarmed = is ∙ ap (action_of state.committed) (shown_is state h none unarmed)
 
 -- a swap's word is in memory
 pub place_is : (state : ModelState) (h : ℕ) (action : Action) (exchange : Exchange) (span : Span) (room : ℕ) → IsNext action state.committed h →
@@ -103,6 +108,7 @@ plain_is story place hart exchange old pc why one_run found read at not =
 pub swap_told : (before : Story) (event : Event) (outcome : Outcome) (swap : Option PlainSwap) (old later : List PlainSwap) →
     outcome ≡ (next (state_of before) event).outcome →
     (event.kind ≡ kinds.Step → section_of (state_of before) event.hart.number ≡ None →
+    armed_of (state_of before) event.hart.number ≡ None →
     swap ≡ next_plain (state_of before) (length before.entries) event.hart) →
     later ≡ old ++ if_ran outcome swap → later ≡ old ++ swaps_in (state_of before) (length before.entries) event
 swap_told before event outcome swap old later told was is =
@@ -110,7 +116,7 @@ swap_told before event outcome swap old later told was is =
     ∙ ap (λ o. old ++ if_ran o swap) told
     ∙ ap (λ l. old ++ l)
     (if_ran-same (next (state_of before) event).outcome swap (next_plain (state_of before) (length before.entries) event.hart)
-    (λ ran. let outside = ran_outside (state_of before) event ran in was outside.0 outside.1))
+    (λ ran. let outside = ran_outside (state_of before) event ran in was outside.0 outside.1 outside.2))
 
 -- the configuration stays
 pub config_is : (story : Story) → (state_of story).config ≡ story.config
@@ -129,7 +135,3 @@ why_told story h config own fallback confidence pc configured has falls trusted 
     ∙ ap (λ f. first_no (state_of story).config.mode f confidence) (falls ∙ has.fallback)
     ∙ ap (first_no (state_of story).config.mode hart.fallback)
     (trusted ∙ ap (λ p. confidence_of p pc) has.predictor ∙ ap (confidence_of hart.predictor) at)
-
--- where a hart has no section, it sees its committed view
-pub shown_is : (state : ModelState) (h : ℕ) → section_of state h ≡ None → shown_of state h ≡ view_of state.committed h
-shown_is state h none = ap (view_in state h) none

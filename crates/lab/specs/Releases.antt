@@ -1,4 +1,4 @@
--- sections whose swap gives a lock back in place of taking it
+-- sections whose acquire gives a lock back in place of taking it
 use Rattle.std.specs.Prelude.{ℕ, ◌≡◌, ◌≤◌, ◌==◌, ◌&&◌, Bool, false, not, nat_eq, nat_lt, List, take, take_while, filter, fold, Option, None, Some, if◌then◌else◌}
 use Rattle.std.specs.HashMap.{get}
 use Rattle.std.specs.List.{prefix_len}

@@ -9,7 +9,7 @@ use Rattle.cache_sets.specs.Cache.{letter_of}
 use Rattle.el_base.specs.declared.events.Kind.{Kind}
 use Rattle.el_base.specs.declared.events.Kind.TheVariants as kinds
 use Rattle.el_model.specs.Next.{shown_of}
-use Rattle.el_model.specs.State.{ModelState, cache_of, hart_of, ordered_of, raised_of, section_of}
+use Rattle.el_model.specs.State.{ModelState, armed_of, cache_of, hart_of, ordered_of, raised_of, section_of}
 use Rattle.lab.specs.declared.showing.Sight.{Sight}
 use Rattle.lab.specs.declared.showing.What.{What}
 use Rattle.lab.specs.declared.showing.What.TheVariants.{Step, Order, Serve, Deliver}
@@ -22,10 +22,11 @@ use Rattle.rv_alu.specs.declared.action.Action.{Action}
 use Rattle.rv_flat.specs.Step.{action_of}
 use Rattle.section_ctl.specs.State as sections
 
--- what a hart sees, and its live section
+-- what a hart sees, with its live or armed section
 pub record IsSightOf (state : ModelState) (h : ℕ) (sight : Sight) : Type 0 where
   pub view : sight.view ≡ shown_of state h
   pub section : option_map sections.section_of sight.section ≡ section_of state h
+  pub armed : option_map sections.armed_of sight.armed ≡ armed_of state h
 
 -- of the line of a request, what each cache knows of it
 abbrev pub AreLetters : ModelState → Option Request → List Letter → Type 0

@@ -1,4 +1,4 @@
-//! Sections whose swap gives a lock back.
+//! Sections whose acquire gives a lock back.
 
 ghost use Rattle.std.specs.Prelude.{◌≡◌, ◌≤◌, ◌+◌, ◌++◌, ◌∷◌, [], IfOk, List, OnOk, if◌then◌else◌, length, nat_eq};
 ghost use Rattle.std.specs.HashMap.{get};

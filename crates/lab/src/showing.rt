@@ -18,13 +18,15 @@ use machine::{Asked, Machine};
 use mail::Message;
 use moesi::Letter;
 use rv_alu::{Action, HartView};
-use section_ctl::Live;
+use section_ctl::{Armed, Live};
 
-/// What a hart sees itself: in a section what the section shows, else its committed view; and its live section.
+/// What a hart sees itself: in a live or an armed section what the section shows, else its committed view; and that
+/// section.
 #[derive(Clone, Copy, Debug, PartialEq, Eq)]
 pub struct Sight {
     pub view: HartView,
     pub section: Option<Live>,
+    pub armed: Option<Armed>,
 }
 
 /// What each hart's cache knows of a line, by the number of the hart; past the last hart, I.
@@ -149,6 +151,7 @@ fn seen_by(machine: &Machine, hart: HartId) -> Sight
     Sight {
         view: machine.shown(hart),
         section: machine.section(hart),
+        armed: machine.armed(hart),
     }
 }
 

@@ -1,8 +1,8 @@
-//! Swaps that ran outside of sections, and why they were not elided.
+//! Swaps that ran outside of sections, and why they were not elided. A pair of LR and SC is none.
 
 ghost use Rattle.std.specs.Prelude.{◌≡◌, ◌<◌, ◌≤◌, ◌+◌, ◌%◌, ◌++◌, None, OnOk, length};
 ghost use Rattle.el_base.specs.declared.events.Kind.TheVariants as kinds;
-ghost use Rattle.el_model.specs.State.{section_of};
+ghost use Rattle.el_model.specs.State.{armed_of, section_of};
 ghost use Rattle.lab.specs.Swaps.{first_no, if_ran, next_plain, why_not};
 ghost use Rattle.machine.specs.Story.{committed, state_of};
 ghost use Rattle.rv_alu.specs.Loaded.{loaded};
@@ -12,7 +12,7 @@ ghost use Rattle.rv_flat.specs.Memory.{byte_in};
 use crate::tries::Acquire;
 use el_base::{Chronicled, Event, HartId, Kind, Mode, NoMemory, Outcome};
 use machine::Machine;
-use step_rules::exchange_of;
+use step_rules::swap_of;
 
 /// How far a place must be trusted for its swap to be elided.
 const LEAST_CONFIDENCE: u8 = 2;
@@ -46,31 +46,46 @@ pub struct PlainSwap {
     pub why: NotElided,
 }
 
-/// The next instruction of an event's hart where it is a swap, and the event a step of a hart without a section.
+/// The next instruction of an event's hart where it is a swap, and the event a step of a hart with neither a live nor an
+/// armed section.
 pub(crate) fn swap_before(machine: &Machine, event: Event) -> Option<PlainSwap>
     requires hart_exists { event.hart.number < machine.now.config.harts }
     ensures { event.kind ≡ kinds.Step → section_of (state_of machine.now) event.hart.number ≡ None →
+        armed_of (state_of machine.now) event.hart.number ≡ None →
         result ≡ next_plain (state_of machine.now) (length machine.now.entries) event.hart }
 {
     match event.kind {
-        Kind::Step => match machine.section(event.hart) {
-            None => next_swap(machine, event.hart),
-            Some(_) => None,
-        },
+        Kind::Step => swap_outside(machine, event.hart),
         Kind::Order | Kind::Serve | Kind::Deliver => None,
     }
 }
 
-/// The next instruction of a hart without a section, where it is a swap.
+/// The next instruction of a hart where it is a swap, and the hart has neither a live nor an armed section.
+fn swap_outside(machine: &Machine, hart: HartId) -> Option<PlainSwap>
+    requires hart_exists { hart.number < machine.now.config.harts }
+    ensures { section_of (state_of machine.now) hart.number ≡ None → armed_of (state_of machine.now) hart.number ≡ None →
+        result ≡ next_plain (state_of machine.now) (length machine.now.entries) hart }
+{
+    match machine.section(hart) {
+        None => match machine.armed(hart) {
+            None => next_swap(machine, hart),
+            Some(_) => None,
+        },
+        Some(_) => None,
+    }
+}
+
+/// The next instruction of a hart with neither a live nor an armed section, where it is a swap.
 fn next_swap(machine: &Machine, hart: HartId) -> Option<PlainSwap>
     requires hart_exists { hart.number < machine.now.config.harts }
     requires outside { section_of (state_of machine.now) hart.number ≡ None }
+    requires unarmed { armed_of (state_of machine.now) hart.number ≡ None }
     ensures { result ≡ next_plain (state_of machine.now) (length machine.now.entries) hart }
 {
     let place = machine.history().length();
     let pc = machine.shown(hart).pc;
     let action = machine.next_action(hart);
-    match exchange_of(&action) {
+    match swap_of(&action) {
         Some(exchange) => Some(PlainSwap {
             place,
             hart,

@@ -1,5 +1,7 @@
 //! What comes of each event of a run is worked out by hand from the rules of steps and of the bus, and stands beside it.
 
+mod reserves;
+
 use super::LineFact::{Lost, Missed, Owner, Served, WroteBack};
 use super::*;
 use bus_order::Request;

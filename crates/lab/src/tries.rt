@@ -12,7 +12,8 @@ use machine::{Asked, Machine};
 use std::alloc::Global;
 use std::marker::Model;
 
-/// An acquire: the address of its instruction, and that of its lock word.
+/// An acquire: where it begins, which is the address of its swap, or of its LR where it is one by LR and SC; and the
+/// address of its lock word.
 #[derive(Clone, Copy, Debug, PartialEq, Eq)]
 pub struct Acquire {
     pub pc: u32,
@@ -24,7 +25,8 @@ pub struct Acquire {
 pub enum Ended {
     /// It has not: it is live.
     Live,
-    /// It took effect, with so many instructions, acquire and release among them.
+    /// It took effect, with so many instructions, acquire and release among them. An acquire by LR and SC is all that ran
+    /// from the LR to the SC.
     Committed {
         at: u32,
         count: u32,
@@ -54,7 +56,7 @@ pub struct Try {
     pub old: u32,
     /// What it would have stored there.
     pub new: u32,
-    /// The place in the history of the event that began it.
+    /// The place in the history of the event that began it: the step of its swap, or of its SC.
     pub first: u32,
     pub ended: Ended,
 }

@@ -12,7 +12,7 @@ use lab_tables::LockKind;
 pub enum Kind {
     /// A section that took effect.
     Committed,
-    /// A section whose swap gives a lock back, and that took effect.
+    /// A section whose acquire gives a lock back, and that took effect.
     Released,
     /// A section that was lost to another hart.
     Lost,
@@ -56,7 +56,7 @@ impl Kind {
         Kind::Moved,
     ];
 
-    /// What a section is drawn as, by what its swap does to the lock and how it ended.
+    /// What a section is drawn as, by what its acquire does to the lock and how it ended.
     pub fn of(what: LockKind, ended: Ended) -> Kind
         ensures { result ≡ kind_of what ended }
     {
@@ -107,7 +107,7 @@ impl Kind {
     pub(crate) fn words(self) -> &'static str {
         match self {
             Kind::Committed => "committed",
-            Kind::Released => "committed, its swap gives a lock back",
+            Kind::Released => "committed, its acquire gives a lock back",
             Kind::Lost => "lost to another hart",
             Kind::Room => "rolled back: no room in the cache",
             Kind::Lines => "rolled back: too many lines",

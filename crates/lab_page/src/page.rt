@@ -21,7 +21,7 @@ pub struct Run<'a> {
     pub config: Config,
     /// How many events were made.
     pub events: u32,
-    /// The sections whose swaps take a lock, and those whose swaps give one back.
+    /// The sections whose acquires take a lock, and those whose acquires give one back.
     pub takes: &'a [Try],
     pub releases: &'a [Try],
     /// The swaps that ran outside of sections.
@@ -78,7 +78,7 @@ fn put_summary(out: &mut String, run: &Run, plan: Plan) -> Result<(), NoMemory> 
     writeln!(out, "ways {}; events {events}.</p>", config.ways)?;
     write!(
         out,
-        "<p>Sections whose swap takes a lock: {takes}; gives one back: {releases}. "
+        "<p>Sections whose acquire takes a lock: {takes}; gives one back: {releases}. "
     )?;
     if plan.is_together {
         write!(

@@ -14,7 +14,7 @@ use lab::{
 };
 use std::alloc::Global;
 
-/// What the swaps of a row are.
+/// What the acquires of a row are.
 #[derive(Clone, Copy, Debug, PartialEq, Eq)]
 pub enum LockKind {
     /// They take a lock.
@@ -38,7 +38,7 @@ pub struct LockRow {
     pub plain: PlainRuns,
 }
 
-/// How often a swap ran outside of a section, by the reason.
+/// How often a swap ran outside of a section, by the reason. A pair of LR and SC is none.
 #[derive(Clone, Copy, Debug, PartialEq, Eq)]
 pub struct PlainRuns {
     /// The mode elides nothing.

@@ -10,7 +10,7 @@ use bus_order::Request;
 use el_base::{LineAddr, Outcome, line_of};
 use lab::{Shown, Sight, What};
 use rv_alu::{Access, Action};
-use section_ctl::Live;
+use section_ctl::{Armed, Live};
 
 /// Whether an event did something: it was not idle, and no step that only waits for a request to be served.
 pub fn did_something(shown: &Shown) -> bool
@@ -23,7 +23,8 @@ pub fn did_something(shown: &Shown) -> bool
 }
 
 /// Whether an event has to do with an address or its line: a step whose instruction stands at the address, or whose access
-/// or whose section, where it begins or ends, is on the line; and an order, a serve or a probe of a request for the line.
+/// or whose section, where it begins, ends or is let go, is on the line; and an order, a serve or a probe of a request for
+/// the line.
 #[tactic(auto, unfolding(crate::specs::About::is_about))]
 pub fn is_about(shown: &Shown, address: u32) -> bool
     ensures { result ≡ about.is_about shown.now address }
@@ -55,13 +56,14 @@ fn access_on(line: LineAddr, action: Action) -> bool
     }
 }
 
-/// Whether a section on a line begins or ends by a step of its own hart.
+/// Whether a section on a line begins, ends or is let go by a step of its own hart.
 fn bounds_section_on(line: LineAddr, outcome: Outcome, before: &Sight, after: &Sight) -> bool
-    ensures { result ≡ about.bounds_section_on line.number outcome before.now.section after.now.section }
+    ensures { result ≡ about.bounds_section_on line.number outcome before.now after.now }
 {
     match outcome {
         Outcome::Began => section_on(line, after.section),
         Outcome::Committed { .. } | Outcome::RolledBack { .. } => section_on(line, before.section),
+        Outcome::LetGo { .. } => armed_on(line, before.armed),
         _ => false,
     }
 }
@@ -71,6 +73,15 @@ fn section_on(line: LineAddr, section: Option<Live>) -> bool
 {
     match section {
         Some(live) => line_of(live.word).number == line.number,
+        None => false,
+    }
+}
+
+fn armed_on(line: LineAddr, armed: Option<Armed>) -> bool
+    ensures { result ≡ about.armed_on line.number armed }
+{
+    match armed {
+        Some(armed) => line_of(armed.word).number == line.number,
         None => false,
     }
 }

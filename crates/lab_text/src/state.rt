@@ -14,7 +14,7 @@ use hart_state::HartState;
 use lab_names::Named;
 use machine::Machine;
 use rv_alu::{HartStatus, HartView};
-use section_ctl::Live;
+use section_ctl::{Armed, Live};
 use snoop::Agent;
 
 /// Puts the state of a machine behind a text: of each hart where it stands, its section, what it has learnt and what it has
@@ -38,6 +38,7 @@ fn write_hart(
 {
     write_view(out, hart, &machine.shown(hart), symbols)?;
     write_section(out, machine.section(hart), symbols)?;
+    write_armed(out, machine.armed(hart), symbols)?;
     write_own(out, machine.own(hart))?;
     write_agent(out, machine.bus().agent(hart), symbols)
 }
@@ -84,6 +85,19 @@ fn write_section(
         };
         let instructions = instructions(count);
         write!(out, "  section on {lock}, {old} to {new}, {instructions}\n")?;
+    }
+    Ok(())
+}
+
+/// What an armed hart keeps private.
+fn write_armed(out: &mut String, armed: Option<Armed>, symbols: &Symbols) -> Result<(), NoMemory> {
+    if let Some(Armed { count, word }) = armed {
+        let lock = Named {
+            address: word,
+            symbols,
+        };
+        let instructions = instructions(count);
+        write!(out, "  armed on {lock}, {instructions}\n")?;
     }
     Ok(())
 }

@@ -2,7 +2,7 @@
 
 use crate::json::Member;
 use crate::phrases::Phrase;
-use crate::{Item, Names, write_event, write_event_json, write_state, write_wait};
+use crate::{Item, Names, is_about, write_event, write_event_json, write_state, write_wait};
 use bus_order::Request;
 use chronicle::History;
 use el_base::{
@@ -16,7 +16,7 @@ use mail::Message;
 use moesi::Letter;
 use rv_alu::{Action, HartStatus, HartView, Regs};
 use rv_word::{AmoOp, LoadWidth, Reg};
-use section_ctl::Live;
+use section_ctl::{Armed, Live};
 use std::alloc::Global;
 use std::process::Abort;
 use std::test::Fail;
@@ -280,10 +280,12 @@ fn began() -> Shown {
     let before = Sight {
         view: at(0x1_0054, 7),
         section: None,
+        armed: None,
     };
     let after = Sight {
         view: at(0x1_0058, 0),
         section: Some(LIVE),
+        armed: None,
     };
     let action = Action::Amo {
         op: AmoOp::Swap,
@@ -304,10 +306,12 @@ fn ran() -> Shown {
     let before = Sight {
         view: at(0x1_0058, 7),
         section: None,
+        armed: None,
     };
     let after = Sight {
         view: at(0x1_005c, 7),
         section: None,
+        armed: None,
     };
     let action = Action::Load {
         width: LoadWidth::Word,
@@ -320,6 +324,35 @@ fn ran() -> Shown {
         after,
     };
     step(7, Outcome::Ran, what)
+}
+
+/// An armed section on the lock's line is let go, since a load comes next.
+fn let_go() -> Shown {
+    let view = at(0x1_0058, 7);
+    let armed = Armed {
+        count: 1,
+        word: 0x1_0540,
+    };
+    let before = Sight {
+        view,
+        section: None,
+        armed: Some(armed),
+    };
+    let after = Sight {
+        armed: None,
+        ..before
+    };
+    let action = Action::Load {
+        width: LoadWidth::Word,
+        rd: Reg { number: 10 },
+        address: 0x1_0040,
+    };
+    let what = What::Step {
+        before,
+        action,
+        after,
+    };
+    step(8, Outcome::LetGo { count: 1 }, what)
 }
 
 /// A request for the lock's line is served, and hart 0 loses its section.
@@ -363,6 +396,7 @@ fn idle() -> Shown {
 const LINES: &str = "\
 413 hart 2 step 00010054 <_start+44> li a0,1: begun on 00010540 <lock>, 0 to 1; a0 = 0x0
 7 hart 2 step 00010058 <_start+48> auipc a1,0x0: read 4 bytes at 00010540 <lock> = 0x7
+8 hart 2 step 00010058 <_start+48> auipc a1,0x0: let go 1 instruction
 420 hart 1 serve write 00010540 <lock>, stamp 3: hart 0 M to I, hart 1 I to M; hart 0 lost to hart 1
 421 hart 0 deliver probe of hart 1 for write 00010540 <lock>, stamp 3: no loss
 422 hart 0 order: nothing to do
@@ -383,6 +417,7 @@ fn events_read_as_written(rt: HostRuntime) -> Result<(), Fail> {
     let mut lines = String::new(rt.alloc());
     write_event(&mut lines, &began(), &names)?;
     write_event(&mut lines, &ran(), &names)?;
+    write_event(&mut lines, &let_go(), &names)?;
     write_event(&mut lines, &served(), &names)?;
     write_event(&mut lines, &delivered(), &names)?;
     write_event(&mut lines, &idle(), &names)?;
@@ -393,6 +428,19 @@ fn events_read_as_written(rt: HostRuntime) -> Result<(), Fail> {
     write_event_json(&mut objects, &idle(), &names)?;
     assert_eq!(rt; objects.as_str(), OBJECTS);
     Ok(())
+}
+
+#[test]
+fn letting_go_is_about_the_line_of_its_word(rt: HostRuntime) {
+    for (address, about) in [
+        (0x1_0540, true),
+        (0x1_0578, true),
+        (0x1_0580, false),
+        (0x1_0040, true),
+        (0x1_0058, true),
+    ] {
+        assert_eq!(rt; is_about(&let_go(), address), about, "{address:x}");
+    }
 }
 
 #[test]

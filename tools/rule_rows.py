@@ -76,11 +76,12 @@ def step(hart, *outcome):
     return [["Step", hart, list(outcome)]]
 
 
-def fetch(hart, line, need):
-    """The hart misses a line, and gets it."""
+def fetch(hart, line, need, freed=None):
+    """The hart misses a line, and gets it; its request lets these harts go, each with so many instructions."""
+    lists = [[]] if freed is None else [[], freed]
     return [
         ["Step", hart, ["Missed", line, need]],
-        ["Order", hart, ["Ordered", []]],
+        ["Order", hart, ["Ordered"] + lists],
         ["Serve", hart, ["Served", []]],
     ]
 
@@ -108,11 +109,13 @@ def row(name, mode, harts, words, events, lines=16, sets=16, ways=4, long=2000, 
 
 
 def reservation_lost_to_an_elided_commit(mode):
+    """The load between the pair lets its hart go, so the reservation is a committed one, and another's commit ends it."""
     words = START + [
         addi(12, 5, 4),
         lw(7, 0, 5),
-        bne(10, 0, 12),
+        bne(10, 0, 16),
         lr(8, 12),
+        lw(7, 0, 12),
         sc(9, 6, 12),
         amoswap(8, 6, 5),
         sw(0, 0, 5),
@@ -120,7 +123,8 @@ def reservation_lost_to_an_elided_commit(mode):
     events = (
         ran(0, 3) + fetch(0, FIRST, "Read") + ran(0)
         + ran(1, 3) + fetch(1, FIRST, "Read") + ran(1)
-        + ran(1) + ran(0) + ran(0)  # both branch; hart 0 reserves its word
+        + ran(1) + ran(0)  # both branch
+        + step(0, "Armed") + step(0, "LetGo", 1) + ran(0)
         + step(1, "Began") + step(1, "Committed", 2)
         + ran(0)  # its store conditional fails
     )
@@ -244,6 +248,83 @@ def call_inside(mode):
     row(f"call-inside-{mode.lower()}", mode, 1, words, events, end=ending(10, 2**32 - 38))
 
 
+def elided_pair(mode):
+    """A lock by LR and SC, given back by a store: its line is never written."""
+    words = START + [lr(7, 5), bne(7, 0, 8), sc(8, 6, 5), bne(8, 0, 8), sw(0, 0, 5)]
+    events = (
+        ran(0, 2) + fetch(0, FIRST, "Read") + step(0, "Armed") + step(0, "Buffered") + step(0, "Began")
+        + step(0, "Buffered") + step(0, "Committed", 5)
+    )
+    row(f"elided-pair-{mode.lower()}", mode, 1, words, events, end=ending(8, 0))
+
+
+def let_go_by_a_write(mode):
+    """Another hart's store meets an armed hart, whose SC fails then."""
+    words = START + [bne(10, 0, 16), lr(7, 5), bne(7, 0, 8), sc(8, 6, 5), sw(6, 0, 5)]
+    events = (
+        ran(0, 3) + fetch(0, FIRST, "Read") + step(0, "Armed") + step(0, "Buffered")
+        + ran(1, 3) + fetch(1, FIRST, "Write", [[0, 2]]) + ran(1)
+        + ran(0)
+    )
+    row(f"let-go-by-a-write-{mode.lower()}", mode, 2, words, events, end=ending(8, 1))
+
+
+def two_let_go_at_one_order(mode):
+    """One request lets two harts go, each with its own count; a read of the line lets nobody go."""
+    words = START + [addi(9, 0, 2), bne(10, 9, 8), sw(6, 0, 5), lr(7, 5), addi(7, 7, 0), addi(7, 7, 0), sc(8, 6, 5)]
+    events = (
+        ran(0, 4) + fetch(0, FIRST, "Read") + step(0, "Armed")
+        + ran(1, 4) + fetch(1, FIRST, "Read", []) + step(1, "Armed") + step(1, "Buffered") + step(1, "Buffered")
+        + ran(2, 4) + fetch(2, FIRST, "Write", [[0, 1], [1, 3]]) + ran(2)
+        + ran(0, 3)
+    )
+    row(f"two-let-go-at-one-order-{mode.lower()}", mode, 3, words, events, end=ending(8, 1))
+
+
+def let_go_by_the_next_head(mode):
+    """A request behind another lets nobody go as it is ordered, but as the one before it is served."""
+    words = START + [addi(9, 0, 1), bne(10, 9, 12), lr(7, 5), sc(8, 6, 5), bne(10, 0, 8), lw(7, 0, 5), sw(6, 0, 5)]
+    events = (
+        ran(1, 4) + fetch(1, FIRST, "Read") + step(1, "Armed")
+        + ran(0, 5) + step(0, "Missed", FIRST, "Read") + [["Order", 0, ["Ordered", [], []]]]
+        + ran(2, 5) + step(2, "Missed", FIRST, "Write") + [["Order", 2, ["Ordered", [], []]]]
+        + [["Serve", 2, ["Blocked", "Behind", 0]], ["Serve", 0, ["Served", [], [[1, 1]]]]]
+        + [["Serve", 2, ["Blocked", "Locked", 0]]] + ran(0)
+        + [["Serve", 2, ["Served", [], []]]] + ran(2) + ran(1)
+    )
+    row(f"let-go-by-the-next-head-{mode.lower()}", mode, 3, words, events)
+
+
+def armed_at_the_shortest(mode):
+    words = START + [lr(7, 5), bne(7, 0, 8), sc(8, 6, 5), sw(0, 0, 5)]
+    events = (
+        ran(0, 2) + fetch(0, FIRST, "Read") + step(0, "Armed") + step(0, "LetGo", 1)
+        + ran(0, 3)
+    )
+    row(f"armed-at-the-shortest-{mode.lower()}", mode, 1, words, events, long=2, end=ending(8, 0))
+
+
+def armed_at_the_longest(mode):
+    """Fifteen instructions may be armed, the LR among them; then comes the SC, or the hart is let go."""
+    words = START + [lr(7, 5)] + [addi(9, 9, 1)] * 14 + [sc(8, 6, 5), sw(0, 0, 5), lr(7, 5)] + [addi(9, 9, 1)] * 15 + [sc(8, 6, 5)]
+    events = (
+        ran(0, 2) + fetch(0, FIRST, "Read") + step(0, "Armed") + step(0, "Buffered") * 14 + step(0, "Began")
+        + step(0, "Committed", 17)
+        + step(0, "Armed") + step(0, "Buffered") * 14 + step(0, "LetGo", 15) + ran(0, 2)
+    )
+    row(f"armed-at-the-longest-{mode.lower()}", mode, 1, words, events, end=ending(9, 29))
+
+
+def conditional_elsewhere(mode):
+    """An SC to another word fails and lets go; so does one that would leave the word as it is, which then stores."""
+    words = START + [addi(12, 5, 4), lr(7, 5), sc(8, 6, 12), lr(7, 5), sc(9, 0, 5)]
+    events = (
+        ran(0, 3) + fetch(0, FIRST, "Read") + step(0, "Armed") + step(0, "LetGo", 1) + ran(0)
+        + step(0, "Armed") + step(0, "LetGo", 1) + ran(0)
+    )
+    row(f"conditional-elsewhere-{mode.lower()}", mode, 1, words, events, end=ending(8, 1))
+
+
 def main():
     for mode in ("Sle", "Tlr"):
         low = mode.lower()
@@ -256,6 +337,13 @@ def main():
         chain_of_two(mode)
         shortest_limit(mode)
         call_inside(mode)
+        elided_pair(mode)
+        let_go_by_a_write(mode)
+        two_let_go_at_one_order(mode)
+        let_go_by_the_next_head(mode)
+        armed_at_the_shortest(mode)
+        armed_at_the_longest(mode)
+        conditional_elsewhere(mode)
     chain_of_four("chain-of-four", False)
     chain_of_four("chain-of-four-with-an-early-commit", True)
     four_losses()

@@ -8,7 +8,7 @@ use el_base::HartId;
 use machine::Machine;
 use rv_alu::HartView;
 use rv_word::Reg;
-use section_ctl::Live;
+use section_ctl::{Armed, Live};
 use serde_json::Value;
 
 /// The stack pointer: it tells where memory ends, which a loader puts elsewhere. No program of a run uses it.
@@ -48,6 +48,7 @@ fn hart_agrees(
             && registers_agree(&view, list(member(told, "registers")?)?)?
             && (is_null(cache) || cache_agrees(machine, hart, run, cache)?)
             && section_agrees(machine.section(hart), told)?
+            && armed_agrees(machine.armed(hart), told)?
             && request_agrees(machine.request(hart), hart, end, told)?,
     )
 }
@@ -69,6 +70,21 @@ fn section(told: &Value) -> Result<Live, Difference> {
         old: word(member(told, "old")?)?,
         new: word(member(told, "new")?)?,
     })
+}
+
+/// Whether an armed section is the one that is told of a hart, where that is told.
+fn armed_agrees(armed: Option<Armed>, told: &Value) -> Result<bool, Difference> {
+    match told.get("armed") {
+        Some(told) if is_null(told) => Ok(armed == None),
+        Some(told) => Ok(
+            armed
+                == Some(Armed {
+                    count: word(member(told, "count")?)?,
+                    word: word(member(told, "word")?)?,
+                }),
+        ),
+        None => Ok(true),
+    }
 }
 
 /// Whether the registers of a view, but for the stack pointer, are those of a list.

@@ -73,8 +73,10 @@ fn make(
     if event.hart.number >= machine.config().harts || machine.steps_left() == 0 {
         return Err(Difference::Form);
     }
-    let outcome = told(alloc, machine.step(event))?;
-    if outcome != element(told_event, 2)?.to_string(alloc)? {
+    let told_outcome = element(told_event, 2)?;
+    let tells_freed = element(told_outcome, 2).is_ok();
+    let outcome = told(alloc, machine.step(event), tells_freed)?;
+    if outcome != told_outcome.to_string(alloc)? {
         return Err(Difference::Event { place });
     }
     Ok(())

@@ -1,10 +1,11 @@
 //! What came of an event, in the words of a run's text.
 
-use el_base::{HartId, Losers, MAX_HARTS, Outcome};
+use el_base::{Freed, HartId, Losers, MAX_HARTS, Outcome};
 use std::alloc::{AllocError, Global};
 
-/// An outcome as a run's text has it: a list of its name and its numbers, without spaces.
-pub fn told(alloc: Global, outcome: Outcome) -> Result<String, AllocError> {
+/// An outcome as a run's text has it: a list of its name and its numbers, without spaces. A run that `tells_freed` has
+/// a list of the harts that were let go where it has losers, and an empty one where it does not.
+pub fn told(alloc: Global, outcome: Outcome, tells_freed: bool) -> Result<String, AllocError> {
     match outcome {
         Outcome::Missed { line, need } => {
             let number = line.number;
@@ -16,15 +17,56 @@ pub fn told(alloc: Global, outcome: Outcome) -> Result<String, AllocError> {
             let number = by.number;
             format!(in alloc; "[\"Blocked\",\"{why:?}\",{number}]")
         }
-        Outcome::Ordered { losers, .. } => with_losers(alloc, "Ordered", losers),
-        Outcome::Served { losers, .. } => with_losers(alloc, "Served", losers),
-        Outcome::Delivered { losers } => with_losers(alloc, "Delivered", losers),
+        Outcome::LetGo { count } => format!(in alloc; "[\"LetGo\",{count}]"),
+        Outcome::Ordered { losers, freed } => {
+            with_freed(alloc, "Ordered", losers, freed, tells_freed)
+        }
+        Outcome::Served { losers, freed } => with_freed(
+            alloc,
+            "Served",
+            losers,
+            freed,
+            tells_freed,
+        ),
+        Outcome::Delivered { losers } => {
+            let lost = lost(alloc, losers)?;
+            format!(in alloc; "[\"Delivered\",[{lost}]]")
+        }
         other => format!(in alloc; "[\"{other:?}\"]"),
     }
 }
 
-/// The same of an outcome with losers: each with its winner, in ascending order.
-fn with_losers(alloc: Global, name: &str, losers: Losers) -> Result<String, AllocError> {
+/// The same of an outcome with losers and harts that were let go. Where none were, a run may leave their list out.
+fn with_freed(
+    alloc: Global,
+    name: &str,
+    losers: Losers,
+    freed: Freed,
+    tells_freed: bool,
+) -> Result<String, AllocError> {
+    let lost = lost(alloc, losers)?;
+    if tells_freed || freed != Freed::none() {
+        let counts = let_go(alloc, freed)?;
+        return format!(in alloc; "[\"{name}\",[{lost}],[{counts}]]");
+    }
+    format!(in alloc; "[\"{name}\",[{lost}]]")
+}
+
+/// Each hart that was let go with how many instructions of it took effect, in ascending order.
+fn let_go(alloc: Global, freed: Freed) -> Result<String, AllocError> {
+    let mut pairs = String::new(alloc);
+    for number in 0..MAX_HARTS {
+        let count = freed.count_of(HartId::at(usize::from(number)));
+        if count > 0 {
+            let comma = if pairs.is_empty() { "" } else { "," };
+            write!(pairs, "{comma}[{number},{count}]")?;
+        }
+    }
+    Ok(pairs)
+}
+
+/// Each loser with its winner, in ascending order.
+fn lost(alloc: Global, losers: Losers) -> Result<String, AllocError> {
     let mut pairs = String::new(alloc);
     for number in 0..MAX_HARTS {
         if let Some(winner) = winner_over(losers, number) {
@@ -32,7 +74,7 @@ fn with_losers(alloc: Global, name: &str, losers: Losers) -> Result<String, Allo
             write!(pairs, "{comma}[{number},{winner}]")?;
         }
     }
-    format!(in alloc; "[\"{name}\",[{pairs}]]")
+    Ok(pairs)
 }
 
 /// The hart that a hart lost to.

@@ -52,6 +52,6 @@ lock() {
 for name in private lock_word overflow; do
     lock "$name" "$here/locks/$name.S" "$here/locks/finish.S"
 done
-for name in private_in_c accounts; do
+for name in private_in_c mutex_in_c compare_in_c accounts; do
     lock "$name" "$here/locks/$name.c" "${runtime[@]}"
 done

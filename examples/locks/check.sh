@@ -95,8 +95,10 @@ for harts in 1 2 8; do
     for mode in sle tlr; do
         facts private ok "began == 8 && committed == 8 && instr == 48 && conflict == 0 && $quiet &&
             (hart == 0 || ran == 59)" 1 --mode $mode --harts $harts
-        facts private_in_c $((8 * harts)) "began == 8 && committed == 8 && conflict == 0 && $quiet" 1 \
-            --mode $mode --harts $harts
+        for name in private_in_c mutex_in_c compare_in_c; do
+            facts $name $((8 * harts)) "began == 8 && committed == 8 && conflict == 0 && $quiet" 1 \
+                --mode $mode --harts $harts
+        done
         facts lock_word ok 'committed + instr + room + lines + call == 0' 'all_mixed >= 1' --mode $mode --harts $harts
     done
     facts overflow ok 'lines == 8 && began == 8 + conflict && committed + room + long + call + mixed == 0' 1 \
@@ -109,7 +111,9 @@ for harts in 1 2 8; do
     for name in private lock_word overflow; do
         facts $name ok "$none" 1 --mode plain --harts $harts
     done
-    facts private_in_c $((8 * harts)) "$none" 1 --mode plain --harts $harts
+    for name in private_in_c mutex_in_c compare_in_c; do
+        facts $name $((8 * harts)) "$none" 1 --mode plain --harts $harts
+    done
     facts accounts "$balances" "$none" 1 --mode plain --harts $harts
 done
 # With eight harts at two accounts, some sections lose four times in a row where nothing settles who goes first.

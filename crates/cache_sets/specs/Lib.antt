@@ -6,4 +6,4 @@ pub mod Calls
 pub mod Bits
 pub mod Keyed
 pub mod Kept
-pub mod Lending
+pub mod Slotted

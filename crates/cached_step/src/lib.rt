@@ -1,7 +1,7 @@
 //! One instruction of a hart over the lines of its own cache.
 //!
-//! It stands on `core_step`, which runs an instruction over any port, and on the caches of `cache_sets`: the
-//! port is a cache that was lent, and a letter permits what it may be read or written for. Where the
+//! It stands on `core_step`, which runs an instruction over any port, and on the caches of `cache_sets`, whose lines
+//! lie in a pool: the port is a cache that was lent, and a letter permits what it may be read or written for. Where the
 //! instruction ran, the line that it touched is the most recent one of its set, and a written one is modified.
 //! The laws tie this to plain shared memory: caches and main memory that tell one thing of each line
 //! (`coherence`) tell the bytes after the instruction, which is that of plain memory. They are contracts of

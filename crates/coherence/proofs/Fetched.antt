@@ -7,8 +7,10 @@ use Rattle.cache_sets.specs.Cache.{evicted_by, filled_with, is_resident, way_of}
 use Rattle.cache_sets.specs.Cached.{Cached, Copy, bytes_of, copy_in}
 use Rattle.cache_sets.specs.Calls.{IsFilledWith}
 use Rattle.cache_sets.specs.Residency.{Way}
+use Rattle.cache_sets.specs.Slotted.{IsLent, Slotted, lent}
 use Rattle.cache_sets.specs.declared.evicted.Evicted.{Evicted}
-use Rattle.coherence.specs.Caches.{AreCoherent, GivesUp, IsInMemory, OthersGiveUp, behind_of, cache_at, copies_of, no_cache, others_have}
+use Rattle.coherence.specs.Caches.{AreCoherent, GivesUp, IsInMemory, OthersGiveUp, behind_of, cache_at, copies_of, others_have}
+use Rattle.coherence.specs.Lent.{IsReplacedIn, no_slotted, slotted_at}
 use Rattle.coherence.specs.Line.{Coherent, IsFound}
 use Rattle.coherence.specs.Writing.{GoneIsInMemory}
 use Rattle.coherence.specs.Served.{IsFetched, lines_after, victim_of, with_copy_back, with_line_back, written_back}
@@ -18,6 +20,7 @@ use Rattle.coherence.proofs.Owners.{copy_is}
 use Rattle.el_base.specs.declared.outcomes.Need.{Need}
 use Rattle.el_base.specs.declared.outcomes.Need.TheVariants.{Read, Write}
 use Rattle.el_model.specs.Serve.{given_up}
+use Rattle.line_pool.specs.Pooled.{Pooled}
 use Rattle.moesi.specs.declared.letter.Letter.{Letter}
 use Rattle.moesi.specs.Letters.{filled_of, is_dirty}
 
@@ -252,11 +255,26 @@ fetched_by_parts need h line first lines after old mid new cache bytes evicted f
     })
 
 -- what a place of the list of caches gives
-pub indexed : (caches : List Cached) (place h : ℕ) (cache : Cached) → cache ≡ slice_index_or caches place cache → place ≡ h → h < length caches →
-    cache ≡ cache_at caches h
+pub indexed : (caches : List Slotted) (place h : ℕ) (cache : Slotted) → cache ≡ slice_index_or caches place cache → place ≡ h →
+    h < length caches → cache ≡ slotted_at caches h
 indexed caches place h cache is same inside =
-    get_or_read_under caches place (length caches) cache no_cache is (subst (λ n. n < length caches) (sym same) inside) refl
-    ∙ ap (cache_at caches) same
+    get_or_read_under caches place (length caches) cache no_slotted is (subst (λ n. n < length caches) (sym same) inside) refl
+    ∙ ap (slotted_at caches) same
+
+-- the cache that stands there was changed
+pub replaced_in : (Becomes : Cached → Cached → Type 0) (place h : ℕ) (caches : List Slotted) (before after : Slotted) →
+    before ≡ slice_index_or caches place before → place ≡ h → h < length caches →
+    ((pool : Pooled) → Becomes (lent pool before) (lent pool after)) → ((pool : Pooled) → IsLent pool before → IsLent pool after) →
+    after.owner ≡ before.owner → IsReplacedIn Becomes h caches (slice_set caches place after)
+replaced_in Becomes place h caches before after is same inside becomes kept owner =
+    let was = indexed caches place h before is same inside in
+    record {
+      cache = after;
+      becomes = λ pool. subst (λ cache. Becomes (lent pool cache) (lent pool after)) was (becomes pool);
+      kept = λ pool owed. kept pool (subst (IsLent pool) (sym was) owed);
+      owner = owner ∙ ap (λ (cache : Slotted). cache.owner) was;
+      new_is = ap (λ n. slice_set caches n after) same;
+    }
 
 -- a line that leaves for another is in memory
 pub gone_in_memory : (need : Need) (h line first count : ℕ) (old mid : List Cached) (before cache : Cached) (letter : Letter) (bytes : List ℕ)

@@ -1,6 +1,8 @@
+pub mod Offered
 pub mod LineLaws
 pub mod Stays
 pub mod GivenUp
+pub mod GivingUp
 pub mod Owners
 pub mod FetchLaws
 pub mod Fetched

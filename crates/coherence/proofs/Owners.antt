@@ -2,14 +2,18 @@
 use Rattle.std.proofs.Common.{◌≡◌, ◌∙◌, ◌<◌, ◌≤◌, arith, cond, inl, inr, ℕ, Bool, true, false, List, length, Option, None, Some, is_some, option_map, ap, refl, sym}
 use Rattle.std.specs.List.{position, position_or_len}
 use Rattle.std.proofs.lemmas.Bool.{cases_lt, ltb-false}
+use Rattle.std.proofs.lemmas.List.{get_or_past}
 use Rattle.std.proofs.lemmas.List.Sums.{fails_before_first}
 use Rattle.std.proofs.lemmas.List.Quantifiers.{position-Some}
 use Rattle.cache_sets.specs.Cache.{is_resident, letter_in, letter_of, way_of}
 use Rattle.cache_sets.specs.Cached.{Cached, Copy, bytes_of, copy_in}
 use Rattle.cache_sets.specs.Residency.{Way}
-use Rattle.coherence.specs.Caches.{cache_at, copies_of, no_cache}
-use Rattle.coherence.proofs.GivenUp.{beyond}
+use Rattle.cache_sets.specs.Slotted.{Slotted, lent}
+use Rattle.coherence.specs.Caches.{copies_of}
+use Rattle.coherence.specs.Lent.{lent_all, no_slotted, slotted_at}
 use Rattle.coherence.specs.Line.{InCopy, InMemory, IsClean, IsFound}
+use Rattle.coherence.proofs.Offered.{lent_at}
+use Rattle.line_pool.specs.Pooled.{Pooled}
 use Rattle.moesi.specs.Letters.{is_dirty}
 
 -- a copy is its letter and its bytes
@@ -37,15 +41,14 @@ letter_is cached line copy there = by (way_of cached.residency line) there
         some_is : {A : Type 0} {x y : A} → Some x ≡ Some y → x ≡ y
         some_is same = cc
 
-pub dirty_resident : (cached : Cached) (line : ℕ) → is_dirty (letter_of cached.residency line) ≡ true →
-    is_resident cached.residency line ≡ true
-dirty_resident cached line dirty = by (way_of cached.residency line) dirty
+pub dirty_resident : (cache : List (List Way)) (line : ℕ) → is_dirty (letter_of cache line) ≡ true → is_resident cache line ≡ true
+dirty_resident cache line dirty = by (way_of cache line) dirty
   where
     by : (way : Option Way) → is_dirty (letter_in way) ≡ true → is_some way ≡ true
     by None is = absurd (cc)
     by (Some way) is = refl
 
-abbrev owns : ℕ → Cached → Bool
+abbrev owns : ℕ → Slotted → Bool
 owns line cache = is_dirty (letter_of cache.residency line)
 
 -- where no cache is found, none has such a copy
@@ -53,29 +56,34 @@ at_end : {X : Type 0} (b : Bool) (x : X) → cond b (Some x) None ≡ None → b
 at_end true x e = absurd cc
 at_end false x e = refl
 
-none_owns : (caches : List Cached) (h line : ℕ) → position (owns line) caches ≡ None → owns line (cache_at caches h) ≡ false
+none_owns : (caches : List Slotted) (h line : ℕ) → position (owns line) caches ≡ None → owns line (slotted_at caches h) ≡ false
 none_owns caches h line none =
     let past : length caches ≤ position_or_len (owns line) caches = ltb-false _ _ (at_end _ _ none) in
     elim (cases_lt h (length caches)) [
-      | inl inside ↦ fails_before_first (owns line) caches h no_cache (omega arith)
-      | inr outside ↦ ap (owns line) (beyond caches h outside)
+      | inl inside ↦ fails_before_first (owns line) caches h no_slotted (omega arith)
+      | inr outside ↦ ap (owns line) (get_or_past caches h no_slotted outside)
     ]
 
-pub owner_at : (caches : List Cached) (line place : ℕ) → position (owns line) caches ≡ Some place →
-    (place < length caches) × (is_dirty (letter_of (cache_at caches place).residency line) ≡ true)
+pub owner_at : (caches : List Slotted) (line place : ℕ) → position (owns line) caches ≡ Some place →
+    (place < length caches) × (is_dirty (letter_of (slotted_at caches place).residency line) ≡ true)
 owner_at caches line place is =
-    let found = position-Some (owns line) caches place no_cache is in (found.0, found.1)
+    let found = position-Some (owns line) caches place no_slotted is in (found.0, found.1)
 
-pub no_owner : (caches : List Cached) (line : ℕ) → position (owns line) caches ≡ None → IsClean (copies_of caches line)
-no_owner caches line none h copy there =
-    sym (ap is_dirty (letter_is (cache_at caches h) line copy there)) ∙ none_owns caches h line none
+pub no_owner : (caches : List Slotted) (line : ℕ) → position (owns line) caches ≡ None → (pool : Pooled) →
+    IsClean (copies_of (lent_all pool caches) line)
+no_owner caches line none pool h copy there =
+    sym
+    (ap is_dirty
+    (letter_is (lent pool (slotted_at caches h)) line copy (ap (λ cached. copy_in cached line) (sym (lent_at pool caches h)) ∙ there)))
+    ∙ none_owns caches h line none
 
-pub found_in_copy : (caches : List Cached) (line place : ℕ) (behind bytes : List ℕ) →
-    is_dirty (letter_of (cache_at caches place).residency line) ≡ true → bytes ≡ bytes_of (cache_at caches place) line →
-    IsFound (copies_of caches line) behind bytes
-found_in_copy caches line place behind bytes dirty read =
-    InCopy place (record { letter = letter_of (cache_at caches place).residency line; bytes = bytes_of (cache_at caches place) line })
-    (copy_is (cache_at caches place) line (dirty_resident (cache_at caches place) line dirty)) (sym read)
+pub found_in_copy : (pool : Pooled) (caches : List Slotted) (line place : ℕ) (behind bytes : List ℕ) →
+    is_dirty (letter_of (slotted_at caches place).residency line) ≡ true → bytes ≡ bytes_of (lent pool (slotted_at caches place)) line →
+    IsFound (copies_of (lent_all pool caches) line) behind bytes
+found_in_copy pool caches line place behind bytes dirty read =
+    let cached = lent pool (slotted_at caches place) in
+    InCopy place (record { letter = letter_of cached.residency line; bytes = bytes_of cached line })
+    (ap (λ c. copy_in c line) (lent_at pool caches place) ∙ copy_is cached line (dirty_resident cached.residency line dirty)) (sym read)
 
 pub found_in_memory : (caches : List Cached) (line : ℕ) (behind bytes : List ℕ) → IsClean (copies_of caches line) → bytes ≡ behind →
     IsFound (copies_of caches line) behind bytes

@@ -4,3 +4,4 @@ mod Moves
 mod Places
 mod Steps
 pub mod Laws
+pub mod OtherLaws

@@ -1,6 +1,10 @@
+pub mod Finds
 pub mod Masks
 pub mod Stores
-pub mod Finds
 pub mod Steps
 pub mod Shown
+pub mod Slots
+pub mod Calls
+pub mod After
+pub mod Laws
 pub mod LookUps

@@ -11,7 +11,7 @@ use Rattle.bus_lock.specs.declared.view.View.{View}
 use Rattle.bus_lock.specs.Passes.{Account, AreThePlaces, below, times}
 use Rattle.bus_lock.specs.Rule.{Fits, Ticketed, apart, made}
 use Rattle.bus_lock.specs.Steps.{at_first, at_rest}
-use Rattle.bus_lock.proofs.Beginnings.{prefix_self}
+use Rattle.bus_lock.proofs.Laws.Beginnings.{prefix_self}
 use Rattle.bus_lock.proofs.Keeps.{true≢false}
 use Rattle.bus_lock.proofs.Parts.{seen_alone}
 use Rattle.bus_lock.proofs.Sums.{total_alone}

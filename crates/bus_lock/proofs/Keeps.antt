@@ -17,7 +17,7 @@ use Rattle.bus_lock.specs.declared.view.View.{View}
 use Rattle.bus_lock.specs.Passes.{below}
 use Rattle.bus_lock.specs.Rule.{Fits, IsHome, IsKnown, IsOut, Ticketed, apart, made, total}
 use Rattle.bus_lock.specs.Steps.{drawn, looked, noted, opened}
-use Rattle.bus_lock.proofs.Beginnings.{prefix_onward, prefix_self}
+use Rattle.bus_lock.proofs.Laws.Beginnings.{prefix_onward, prefix_self}
 use Rattle.bus_lock.proofs.Sums.{below_one_more, times_append, total_set}
 
 pub true≢false : true ≡ false → ⊥

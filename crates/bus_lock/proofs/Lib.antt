@@ -1,4 +1,4 @@
-pub mod Beginnings
+pub mod Laws
 mod Shares
 mod Sums
 mod Keeps

@@ -17,7 +17,7 @@ use Rattle.bus_lock.specs.declared.view.View.{View}
 use Rattle.bus_lock.specs.Passes.{below, longer}
 use Rattle.bus_lock.specs.Rule.{Fits, IsKnown, IsOut, Ticketed, apart, made, total}
 use Rattle.bus_lock.specs.Steps.{joined, learned, left_half, right_half, spent}
-use Rattle.bus_lock.proofs.Beginnings.{prefix_self, prefix_shorter, prefix_whole}
+use Rattle.bus_lock.proofs.Laws.Beginnings.{prefix_self, prefix_shorter, prefix_whole}
 use Rattle.bus_lock.proofs.Keeps.{inside, moved, true≢false, value_stays}
 use Rattle.bus_lock.proofs.Shares.{apart_halves, apart_more, apart_swap, apart_whole}
 use Rattle.bus_lock.proofs.Sums.{below_one, times_append, total_holds, total_last, total_set}

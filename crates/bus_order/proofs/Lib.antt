@@ -1,6 +1,4 @@
-pub mod LookUps
-pub mod OneEach
-pub mod Orders
-pub mod Places
-pub mod Queues
-pub mod Words
+pub mod Laws
+mod OneEach
+mod Places
+mod Words

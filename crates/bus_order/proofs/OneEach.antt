@@ -2,10 +2,10 @@
 use Rattle.std.proofs.Common.{◌≡◌, ◌≤◌, ◌<◌, ◌==◌, ◌+◌, ℕ, zero, suc, cond, List, [], ◌∷◌, ◌++◌, length, map, None, ap, arith}
 use Rattle.std.specs.List.{count_by, insert, remove}
 use Rattle.std.proofs.lemmas.List.Sums.{sum_by-cons, sum_by_push, sum_by-insert}
-use Rattle.el_base.proofs.ListLaws.{length_by_codes, count_of_map}
+use Rattle.el_base.proofs.Laws.ListLaws.{length_by_codes, count_of_map}
 use Rattle.bus_order.specs.declared.request.Request as requests
 use Rattle.bus_order.specs.Order.{numbered, request_of, IsOneEach}
-use Rattle.bus_order.proofs.Orders.{one_each_cons, count_of_cons}
+use Rattle.bus_order.proofs.Laws.Orders.{one_each_cons, count_of_cons}
 
 -- how many requests of a hart the list has
 abbrev count : List requests.Request → ℕ → ℕ

@@ -1,2 +1,2 @@
-pub mod Worked
-pub mod Tallies
+pub mod Laws
+mod Worked

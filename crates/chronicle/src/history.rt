@@ -67,7 +67,7 @@ impl History {
     }
 
     /// What the history says of a hart.
-    #[tactic(auto, using(crate::proofs::Tallies::tally_laws))]
+    #[tactic(auto, using(crate::proofs::Laws::Tallies::tally_laws))]
     pub fn tally(&self, hart: HartId) -> Tally
         ensures { result ≡ tally_of hart.number self.now.entries }
     {

@@ -3,7 +3,7 @@ use Rattle.std.proofs.Common.{ℕ, ◌+◌, ◌-◌, ◌*◌, ◌/◌, ◌%◌, 
 use Rattle.std.specs.Prelude.{slice_set}
 use Rattle.std.specs.List.{range_with_len}
 use Rattle.bus_order.specs.Order.{Request}
-use Rattle.cache_sets.specs.Residency.{Way}
+use Rattle.residency.specs.Residency.{Way}
 use Rattle.defer_list.specs.HartSet.{has}
 use Rattle.el_base.specs.Freed.{freed_of}
 use Rattle.el_base.specs.HartId.{hart_id}

@@ -1,10 +1,10 @@
-pub mod Computing
-pub mod Given
-pub mod Rows
-pub mod Runs
-pub mod Progress
-pub mod Removal
-pub mod SectionView
-pub mod Steps
-pub mod Sections
-pub mod PrivateRuns
+mod Computing
+mod Given
+mod Rows
+mod Runs
+mod Progress
+mod Removal
+mod SectionView
+mod Steps
+mod Sections
+mod PrivateRuns

@@ -15,7 +15,7 @@ use Rattle.rv_alu.specs.Footprint.{footprint}
 use Rattle.core_step.specs.Run.{ended_of, lacking}
 use Rattle.core_step.specs.Written.{appended_of, read_of}
 use Rattle.core_step.specs.declared.ended.Ended.TheVariants.{Ran}
-use Rattle.core_step.proofs.Runs.{performed}
+use Rattle.core_step.proofs.Laws.Runs.{performed}
 
 appended-append : (action : Action) (view : HartView) (byte : ℕ → ℕ) → appended_of action ≡ option_map read_of (append_in (perform action view byte))
 appended-append (actions.Append address len) view byte = refl

@@ -1,5 +1,3 @@
-pub mod Wants
-pub mod Cuts
-pub mod Runs
-pub mod Calls
-pub mod Lines
+pub mod Laws
+mod Wants
+mod Calls

@@ -4,7 +4,7 @@ use Rattle.el_base.specs.Line.{line_number}
 use Rattle.el_base.specs.LineAddr.{line_addr}
 use Rattle.el_base.specs.declared.line.LineAddr.{LineAddr}
 use Rattle.el_base.specs.declared.outcomes.Need.{Need}
-use Rattle.el_base.proofs.Lines.{line_addr-number, line_number-below, same_line}
+use Rattle.el_base.proofs.Laws.Lines.{line_addr-number, line_number-below, same_line}
 use Rattle.core_step.specs.Run.{refused}
 
 -- the line of an address is the one of its number

@@ -18,7 +18,7 @@ use rv_alu::{Action, HartView, Span};
 /// that need; `Stops` exactly where it is permitted and the instruction traps or exits. What a write call
 /// appends to the output is [`crate::written`]'s to tell. (RISC-V unprivileged manual, chapter 2 and 'A
 /// Standard Extension for Atomic Instructions'; what a trap and a call do is this project's profile.)
-#[tactic(auto, using(crate::proofs::Runs::aligned_at, crate::proofs::Runs::lacking_same, crate::proofs::Runs::performed))]
+#[tactic(auto, using(crate::proofs::Laws::Runs::aligned_at, crate::proofs::Laws::Runs::lacking_same, crate::proofs::Laws::Runs::performed))]
 pub fn run_insn<P: Port>(
     port: &mut P,
     view: &mut HartView,
@@ -66,7 +66,7 @@ pub fn run_action<P: Port>(port: &mut P, view: &mut HartView, action: Action) ->
 }
 
 /// Carries out an action that the port lets happen.
-#[tactic(auto, using(crate::proofs::Runs::load_ready, crate::proofs::Runs::ended_alike))]
+#[tactic(auto, using(crate::proofs::Laws::Runs::load_ready, crate::proofs::Laws::Runs::ended_alike))]
 fn carry_out<P: Port>(port: &mut P, view: &mut HartView, action: Action) -> Ended
     requires running { view.old.status ≡ Running }
     requires ready { IsReady (P.permits port.old) action }

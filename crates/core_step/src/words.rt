@@ -9,7 +9,7 @@ use crate::port::Port;
 use rv_alu::{Load, Store};
 
 /// `len` bytes of a word from its byte `place` on, as a little-endian number.
-#[tactic(auto, using(crate::proofs::Cuts::byte_shift))]
+#[tactic(auto, using(crate::proofs::Laws::Cuts::byte_shift))]
 fn cut(word: u32, place: u32, len: u32) -> u32
     requires size { IsSize len }
     requires inside { place + len ≤ 4 }
@@ -24,7 +24,7 @@ fn cut(word: u32, place: u32, len: u32) -> u32
 }
 
 /// The number in the bytes of a load, cut out of the aligned word that has them.
-#[tactic(auto, using(crate::proofs::Cuts::cut_loaded, crate::proofs::Cuts::in_word))]
+#[tactic(auto, using(crate::proofs::Laws::Cuts::cut_loaded, crate::proofs::Laws::Cuts::in_word))]
 fn number<P: Port>(port: &P, load: Load) -> u32
     requires { IsLoadable (P.permits port.now) load }
     ensures { result ≡ loaded (P.byte port.now) load.address load.len }

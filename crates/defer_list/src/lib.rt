@@ -3,7 +3,7 @@
 //! It stands on `el_base` and `arrayvec`, and no call of it takes memory. A set is seen as the list of
 //! its harts' numbers, each once, the last one that was added first, and each call as the definition's
 //! function on that list, in `specs/HartSet.antt`. What a look-up finds after each call stands as lemmas
-//! in `proofs/LookUps.antt`.
+//! in `proofs/Laws/LookUps.antt`.
 //!
 //! Where a doc comment names no other source, its rule is this project's profile.
 #![tactic(auto)]

@@ -54,7 +54,7 @@ impl Told {
     }
 
     /// Adds an origin, and answers whether it was not in the set before.
-    #[tactic(auto, using(crate::proofs::OnceEach::adding))]
+    #[tactic(auto, using(crate::proofs::Laws::OnceEach::adding))]
     pub fn add(&mut self, origin: HartId) -> bool
         ensures origins { self.new ≡ included self.old origin.number }
         ensures was_new { result ≡ not (has self.old origin.number) }
@@ -67,7 +67,7 @@ impl Told {
     }
 
     /// Whether an origin is in the set.
-    #[tactic(auto, using(crate::proofs::OnceEach::has_any))]
+    #[tactic(auto, using(crate::proofs::Laws::OnceEach::has_any))]
     pub fn told(&self, origin: HartId) -> bool
         ensures { result ≡ has self.now origin.number }
     {

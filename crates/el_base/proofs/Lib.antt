@@ -1,10 +1,3 @@
-pub mod Belows
-pub mod BitSets
-pub mod FreedOrder
-pub mod HartIds
-pub mod Lines
-pub mod MadeLosers
-pub mod ListLaws
-pub mod Ranges
-pub mod SameLosers
+pub mod Laws
+mod Belows
 mod Worked

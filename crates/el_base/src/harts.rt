@@ -28,7 +28,7 @@ impl Harts {
     }
 
     /// The set and this hart.
-    #[tactic(auto, using(crate::proofs::BitSets::set_bits))]
+    #[tactic(auto, using(crate::proofs::Laws::BitSets::set_bits))]
     pub fn with(self, hart: HartId) -> Harts
         ensures { (h : ℕ) → has_hart result h ≡ (has_hart self h || h == hart.number) }
     {
@@ -38,7 +38,7 @@ impl Harts {
     }
 
     /// The set without this hart.
-    #[tactic(auto, using(crate::proofs::BitSets::set_bits))]
+    #[tactic(auto, using(crate::proofs::Laws::BitSets::set_bits))]
     pub fn without(self, hart: HartId) -> Harts
         ensures { (h : ℕ) → has_hart result h ≡ (has_hart self h && not (h == hart.number)) }
     {

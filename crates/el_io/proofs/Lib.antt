@@ -1,6 +1,6 @@
-pub mod Reading
-pub mod Keeping
 pub mod Laws
-pub mod Storing
-pub mod Taking
+mod Reading
+mod Keeping
+mod Storing
+mod Taking
 mod Worked

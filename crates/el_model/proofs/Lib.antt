@@ -1,16 +1,3 @@
-pub mod Tests
-pub mod Keeps
-pub mod Turns
-pub mod Folds
-pub mod Coming
-pub mod Harts
-pub mod Losing
-pub mod Restoring
-pub mod AllHarts
-pub mod EachHart
-pub mod Orders
-pub mod BusEvents
-pub mod Deeds
-pub mod Silent
-pub mod PlainMode
-pub mod FromStart
+pub mod Laws
+mod Turns
+mod PlainMode

@@ -2,9 +2,9 @@
 use Rattle.std.proofs.Common.{◌≡◌, ◌∙◌, ℕ, Bool, true, false, List, Option, None, Some, is_some, refl, ap, sym}
 use Rattle.std.proofs.Common.{if◌then◌else◌, ◌==◌, ◌+◌}
 use Rattle.bus_order.specs.Order.{Request}
-use Rattle.cache_sets.specs.Cache.{has_marks, is_resident, touched}
-use Rattle.cache_sets.specs.Residency.{Way}
-use Rattle.cache_sets.proofs.Unmarked.{unmarked-cleared, unmarked-empty, unmarked-filled_with, unmarked-lettered, unmarked-touched, unmarked-without_line}
+use Rattle.residency.specs.Cache.{has_marks, is_resident, touched}
+use Rattle.residency.specs.Residency.{Way}
+use Rattle.residency.proofs.Laws.Unmarked.{unmarked-cleared, unmarked-empty, unmarked-filled_with, unmarked-lettered, unmarked-touched, unmarked-without_line}
 use Rattle.el_base.specs.declared.config.Mode.{Mode}
 use Rattle.el_base.specs.declared.config.Mode.TheVariants.{Plain, Sle, Tlr}
 use Rattle.el_base.specs.declared.events.Event.{Event}
@@ -21,11 +21,11 @@ use Rattle.el_model.specs.RollBack.{beaten, most_tries, out_of_section}
 use Rattle.el_model.specs.Serve.{bystander, given_up, others_cache, own_copy, served_hart, with_claim}
 use Rattle.el_model.specs.State.{Armed, Hart, ModelState, Section, hart_of, new_hart}
 use Rattle.el_model.specs.Upcoming.{Swap, Touch, next_exchange}
-use Rattle.el_model.proofs.AllHarts.{All}
-use Rattle.el_model.proofs.BusEvents.{by_event}
-use Rattle.el_model.proofs.Deeds.{step_deed}
-use Rattle.el_model.proofs.EachHart.{each_with}
-use Rattle.el_model.proofs.Tests.{by_test}
+use Rattle.el_model.proofs.Laws.AllHarts.{All}
+use Rattle.el_model.proofs.Laws.BusEvents.{by_event}
+use Rattle.el_model.proofs.Laws.Deeds.{step_deed}
+use Rattle.el_model.proofs.Laws.EachHart.{each_with}
+use Rattle.el_model.proofs.Laws.Tests.{by_test}
 use Rattle.mail.specs.Mailbox.{Marker, Message, Probe}
 use Rattle.pair_table.specs.Predictor.{Predictor, Watch}
 use Rattle.stamp.specs.Stamps.{Stamp}

@@ -9,8 +9,8 @@ use Rattle.el_model.specs.Next.{going_turn, outside_turn, stalled, status_turn, 
 use Rattle.el_model.specs.Plain as plain
 use Rattle.el_model.specs.Plain.{PlainRule, Begins, Runs, by_plain_rule, plain_rule, plain_turn}
 use Rattle.el_model.specs.State.{Armed, ModelState, Section, Turn, armed_of, has_request, section_of}
-use Rattle.el_model.proofs.BusEvents.{by_event}
-use Rattle.el_model.proofs.Tests.{by_test}
+use Rattle.el_model.proofs.Laws.BusEvents.{by_event}
+use Rattle.el_model.proofs.Laws.Tests.{by_test}
 use Rattle.rv_alu.specs.declared.view.HartStatus.{HartStatus}
 use Rattle.rv_alu.specs.declared.view.HartStatus.TheVariants.{Running, Exited, Trapped}
 use Rattle.rv_flat.specs.FlatState.{status_of}

@@ -1,7 +1,7 @@
 -- an armed section: a step of its hart, which waits for no request, and how it is let go
 use Rattle.std.specs.Prelude.{ℕ, suc, Bool, ◌&&◌, Option, None, Some, is_some, not, ◌==◌, nat_lt, if◌then◌else◌}
 use Rattle.bus_order.specs.Order.{Request}
-use Rattle.cache_sets.specs.Cache.{cleared, has_bit}
+use Rattle.residency.specs.Cache.{cleared, has_bit}
 use Rattle.el_base.specs.Freed.{freed_of, order_of}
 use Rattle.el_base.specs.Line.{line_number}
 use Rattle.el_base.specs.declared.freed.Freed.{Freed}

@@ -1,7 +1,7 @@
 -- where requests meet sections, and who wins
 use Rattle.std.specs.Prelude.{ℕ, Bool, true, false, ◌&&◌, ◌||◌, List, [], ◌∷◌, Option, None, Some, is_some, ◌==◌, not, if◌then◌else◌}
 use Rattle.bus_order.specs.Order.{Request}
-use Rattle.cache_sets.specs.Cache.{has_bit, write_bit}
+use Rattle.residency.specs.Cache.{has_bit, write_bit}
 use Rattle.defer_list.specs.HartSet.{has}
 use Rattle.el_base.specs.declared.config.Mode.{Mode}
 use Rattle.el_base.specs.declared.outcomes.Need.{Need}

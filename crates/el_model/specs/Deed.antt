@@ -1,6 +1,6 @@
 -- a step, told once: the frame that it keeps, and what its hart does
 use Rattle.std.specs.Prelude.{ℕ, ◌≡◌, ◌≢◌, ◌+◌, ◌⊎◌, ◌==◌, ◌&&◌, ◌||◌, Bool, true, false, not, Option, None, Some}
-use Rattle.cache_sets.specs.Cache.{letter_of, room_of}
+use Rattle.residency.specs.Cache.{letter_of, room_of}
 use Rattle.el_base.specs.Line.{line_number}
 use Rattle.el_base.specs.LineAddr.{line_addr}
 use Rattle.el_base.specs.declared.outcomes.Cause.{Cause}

@@ -1,7 +1,7 @@
 -- a step of a hart with a live section, which waits for no request
 use Rattle.std.specs.Prelude.{ℕ, ◌+◌, Bool, false, ◌||◌, List, Option, None, Some, not, ◌==◌, if◌then◌else◌}
-use Rattle.cache_sets.specs.Cache.{committed, letter_of, marked, read_bit, room_of, touched, write_bit, write_bits_of}
-use Rattle.cache_sets.specs.Residency.{Way}
+use Rattle.residency.specs.Cache.{committed, letter_of, marked, read_bit, room_of, touched, write_bit, write_bits_of}
+use Rattle.residency.specs.Residency.{Way}
 use Rattle.el_base.specs.declared.outcomes.Cause.{Cause}
 use Rattle.el_base.specs.declared.outcomes.Cause.TheVariants.{Room, Lines, Long, Call, Mixed}
 use Rattle.el_base.specs.declared.outcomes.Need.{Need}

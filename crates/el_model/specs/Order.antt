@@ -1,7 +1,7 @@
 -- a raised request takes its place in the order
 use Rattle.std.specs.Prelude.{ℕ, ◌&&◌, Option, None, Some, is_some, if◌then◌else◌}
 use Rattle.bus_order.specs.Order.{Request, appended, in_front_of, tail_of}
-use Rattle.cache_sets.specs.Cache.{has_bit}
+use Rattle.residency.specs.Cache.{has_bit}
 use Rattle.el_base.specs.declared.config.Mode.{Mode}
 use Rattle.el_base.specs.declared.config.Mode.TheVariants.{Plain, Sle, Tlr}
 use Rattle.el_base.specs.declared.outcomes.Outcome.TheVariants.{Ordered}

@@ -1,7 +1,7 @@
 -- a step of a hart without a live or armed section, which runs and waits for no request
 use Rattle.std.specs.Prelude.{ℕ, suc, Bool, true, false, ◌&&◌, List, Option, None, Some, is_some, not, nat_le, if◌then◌else◌}
-use Rattle.cache_sets.specs.Cache.{letter_of, lettered, marked, touched}
-use Rattle.cache_sets.specs.Residency.{Way}
+use Rattle.residency.specs.Cache.{letter_of, lettered, marked, touched}
+use Rattle.residency.specs.Residency.{Way}
 use Rattle.el_base.specs.Line.{line_number}
 use Rattle.el_base.specs.LineAddr.{line_addr}
 use Rattle.el_base.specs.declared.config.Mode.{Mode}

@@ -1,6 +1,6 @@
 -- how a section ends without a commit
 use Rattle.std.specs.Prelude.{ℕ, ◌+◌, true, Option, None, ◌==◌, if◌then◌else◌}
-use Rattle.cache_sets.specs.Cache.{cleared}
+use Rattle.residency.specs.Cache.{cleared}
 use Rattle.el_base.specs.declared.config.Mode.{Mode}
 use Rattle.el_base.specs.declared.config.Mode.TheVariants.{Plain, Sle, Tlr}
 use Rattle.el_base.specs.declared.outcomes.Cause.{Cause}

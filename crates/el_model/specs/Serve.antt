@@ -2,8 +2,8 @@
 use Rattle.std.specs.Prelude.{ℕ, Bool, true, false, ◌&&◌, List, [], Option, None, Some, is_some, not, ◌==◌, if◌then◌else◌}
 use Rattle.std.specs.List.{list_any}
 use Rattle.bus_order.specs.Order.{Request, removed}
-use Rattle.cache_sets.specs.Cache.{filled_with, is_resident, letter_of, lettered, marked, touched, without_line}
-use Rattle.cache_sets.specs.Residency.{Way}
+use Rattle.residency.specs.Cache.{filled_with, is_resident, letter_of, lettered, marked, touched, without_line}
+use Rattle.residency.specs.Residency.{Way}
 use Rattle.defer_list.specs.HartSet.{excluded}
 use Rattle.el_base.specs.HartId.{hart_id}
 use Rattle.el_base.specs.declared.freed.Freed.{Freed}

@@ -1,8 +1,8 @@
 -- the state of the machine: what its harts have committed, what each hart has beside it, and the order of requests
 use Rattle.std.specs.Prelude.{ℕ, suc, Bool, false, ◌||◌, List, [], ◌∷◌, replicate, Option, None, Some, is_some, ◌==◌, slice_index_or, slice_set, if◌then◌else◌}
 use Rattle.bus_order.specs.Order.{Request, first_of, request_of}
-use Rattle.cache_sets.specs.Cache.{empty_cache}
-use Rattle.cache_sets.specs.Residency.{Way}
+use Rattle.residency.specs.Cache.{empty_cache}
+use Rattle.residency.specs.Residency.{Way}
 use Rattle.el_base.specs.declared.config.Config.{Config}
 use Rattle.el_base.specs.declared.outcomes.Outcome.{Outcome}
 use Rattle.el_base.specs.declared.outcomes.Outcome.TheVariants.{Idle}

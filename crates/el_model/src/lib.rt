@@ -16,9 +16,9 @@
 //! 'Transactional Lock-Free Execution of Lock-Based Programs', ASPLOS 2002; the rules are this project's profile.
 #![tactic(auto)]
 
-mod laws;
+mod theorems;
 
-pub use laws::{
+pub use theorems::{
     bus_events_are_told_once, commits_in_serial_order, events_take_effect, idle_changes_nothing,
     losers_are_restored, outcomes_come_by_their_rules, plain_stays_plain, stampless_stays_silent,
     steps_are_deeds,

@@ -1,9 +1,9 @@
-pub mod Headers
-pub mod WrittenBytes
-pub mod WrittenFaults
-pub mod WrittenProgram
-pub mod Filling
-pub mod Accepted
-pub mod CodeLength
-pub mod Valid
+pub mod Laws
+mod Headers
+mod WrittenFaults
+mod WrittenProgram
+mod Filling
+mod Accepted
+mod CodeLength
+mod Valid
 mod Worked

@@ -11,7 +11,7 @@ use Rattle.elf_image.specs.Faults.{IsFaultless, fault, magic_fault, class_fault,
 use Rattle.elf_image.specs.Header.{file_header_bytes, program_header_bytes}
 use Rattle.elf_image.specs.Layout.{round_up, memory_base, memory_end, layout_of, size_of}
 use Rattle.elf_image.specs.Limits.{end_limit, line_size, memory_limit, stack_size}
-use Rattle.elf_image.proofs.WrittenBytes.{length-word_bytes, file_header_back, table_back, segments_back}
+use Rattle.elf_image.proofs.Laws.WrittenBytes.{length-word_bytes, file_header_back, table_back, segments_back}
 
 -- how many bytes the file has
 pub length-image_file : (built : Built) → length (image_file built) ≡ 116 + words_len built + length built.bytes.items

@@ -16,7 +16,7 @@ use Rattle.elf_image.specs.Loaded.{code_segment, file_byte, is_filled, loaded_by
 use Rattle.elf_image.specs.Numbers.{ReadBack, word_bytes}
 use Rattle.elf_image.specs.Program.{code_word}
 use Rattle.elf_image.proofs.Filling.{all_loaded}
-use Rattle.elf_image.proofs.WrittenBytes.{length-word_bytes, file_header_back, segments_back}
+use Rattle.elf_image.proofs.Laws.WrittenBytes.{length-word_bytes, file_header_back, segments_back}
 use Rattle.elf_image.proofs.WrittenFaults.{base_is, end_is}
 
 -- The bytes of memory

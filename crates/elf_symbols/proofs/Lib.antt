@@ -1,1 +1,1 @@
-pub mod Nearest
+mod Nearest

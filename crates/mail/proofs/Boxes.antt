@@ -5,13 +5,13 @@ use Rattle.std.specs.List.{list_any}
 use Rattle.std.specs.Option.{option_map}
 use Rattle.std.proofs.lemmas.List.{length-append}
 use Rattle.circular_buffer.specs.Buffer.{Buffer, buffer, keep_last}
-use Rattle.el_base.proofs.ListLaws.{append_of_map}
+use Rattle.el_base.proofs.Laws.ListLaws.{append_of_map}
 use Rattle.mail.specs.Mailbox.{Message, numbered, same_message, has_message, posted, oldest, without_oldest, IsOnceEach}
 use Rattle.mail.specs.Kept.{IsBox}
 use Rattle.mail.specs.Withdrawn.{withdraws, remaining}
 use Rattle.mail.specs.declared.mail.Withdrawn as withdrawals
 use Rattle.mail.specs.declared.message.Message as messages
-use Rattle.mail.proofs.OnceEach.{once_each_behind, once_each_filter, once_each_without_oldest, place_for_one}
+use Rattle.mail.proofs.Laws.OnceEach.{once_each_behind, once_each_filter, once_each_without_oldest, place_for_one}
 use Rattle.mail.proofs.Withdrawals.{remaining_numbered}
 
 pub has_any : (items : List messages.Message) (message : messages.Message)

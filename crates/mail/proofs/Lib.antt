@@ -1,4 +1,3 @@
-pub mod Boxes
-pub mod LookUps
-pub mod OnceEach
-pub mod Withdrawals
+pub mod Laws
+mod Boxes
+mod Withdrawals

@@ -4,7 +4,7 @@ use Rattle.std.proofs.Common.{List, [], ◌∷◌, ◌++◌, length, map, take, 
 use Rattle.std.specs.List.{filter}
 use Rattle.std.proofs.lemmas.List.{length-append}
 use Rattle.el_base.specs.declared.hart_id.HartId.{HartId}
-use Rattle.el_base.proofs.ListLaws.{filter_of_map}
+use Rattle.el_base.proofs.Laws.ListLaws.{filter_of_map}
 use Rattle.mail.specs.Mailbox.{Message, Marker, Probe, numbered, without_probe, without_markers}
 use Rattle.mail.specs.Withdrawn.{withdraws, remaining, turned}
 use Rattle.mail.specs.declared.mail.Withdrawn as withdrawals

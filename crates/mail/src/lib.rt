@@ -2,7 +2,7 @@
 //!
 //! It stands on `el_base` and `circular_buffer`. A mailbox is seen as the list of its messages, oldest
 //! first, and each call as the definition's function on that list, in `specs/Mailbox.antt`. What is in
-//! the box after each call stands as lemmas in `proofs/LookUps.antt`. Only [`Mail::make`] takes memory.
+//! the box after each call stands as lemmas in `proofs/Laws/LookUps.antt`. Only [`Mail::make`] takes memory.
 //!
 //! Where a doc comment names no other source, its rule is this project's profile.
 #![tactic(auto)]

@@ -5,10 +5,10 @@ use Rattle.std.specs.Prelude.{nat_lt}
 use Rattle.std.proofs.lemmas.Bool.{cases_eq, ltb-true, ltb-false}
 use Rattle.bus_order.specs.Order.{Request}
 use Rattle.el_model.specs.State.{ModelState, hart_of, ordered_of, raised_of}
-use Rattle.el_model.proofs.Harts.{hart_of-past}
+use Rattle.el_model.proofs.Laws.Harts.{hart_of-past}
 use Rattle.mail.specs.Mailbox.{Message}
-use Rattle.progress_laws.proofs.GettingOn.{GetsOn, Orderly}
-use Rattle.progress_laws.proofs.GettingOn.{free_gets_on, mail_gets_on, raised_gets_on, runs_exists}
+use Rattle.progress_laws.proofs.Laws.GettingOn.{GetsOn, Orderly}
+use Rattle.progress_laws.proofs.Laws.GettingOn.{free_gets_on, mail_gets_on, raised_gets_on, runs_exists}
 use Rattle.rv_alu.specs.declared.view.HartStatus.{HartStatus}
 use Rattle.rv_alu.specs.declared.view.HartStatus.TheVariants.{Exited, Running, Trapped}
 use Rattle.rv_flat.specs.FlatState.{status_of}

@@ -5,9 +5,9 @@ use Rattle.std.specs.Option.{option_or}
 use Rattle.std.specs.Prelude.{nat_lt}
 use Rattle.std.proofs.lemmas.Bool.{ltb-true, ltb-false}
 use Rattle.bus_order.specs.Order.{IsOneEach, Request, first_of}
-use Rattle.bus_order.proofs.LookUps.{first_of_appended_other, first_of_appended_own, first_of_in_front_of_other}
-use Rattle.bus_order.proofs.LookUps.{first_of_in_front_of_own, number_of_test, own_test}
-use Rattle.bus_order.proofs.Queues.{first_of_removed_other, hart_of_request_of, line_of_first_of}
+use Rattle.bus_order.proofs.Laws.LookUps.{first_of_appended_other, first_of_appended_own, first_of_in_front_of_other}
+use Rattle.bus_order.proofs.Laws.LookUps.{first_of_in_front_of_own, number_of_test, own_test}
+use Rattle.bus_order.proofs.Laws.Queues.{first_of_removed_other, hart_of_request_of, line_of_first_of}
 use Rattle.std.proofs.lemmas.Bool.{cases_eq}
 use Rattle.el_base.specs.declared.config.Mode.{Mode}
 use Rattle.el_base.specs.declared.config.Mode.TheVariants.{Plain, Sle, Tlr}
@@ -22,16 +22,16 @@ use Rattle.el_model.specs.Quiet.{has_stamps}
 use Rattle.el_model.specs.RollBack.{beaten, most_tries, out_of_section}
 use Rattle.el_model.specs.Serve.{bystander, served_hart}
 use Rattle.el_model.specs.State.{Hart, ModelState, Turn, hart_of, head_of, new_hart, ordered_of, post_all}
-use Rattle.el_model.proofs.BusEvents.{frame_as_faced}
-use Rattle.el_model.proofs.Harts.{hart_of-each_hart, hart_of-each_hart_past}
-use Rattle.el_model.proofs.Orders.{served_order}
-use Rattle.el_model.proofs.Tests.{by_hart, by_test}
-use Rattle.section_laws.proofs.Fewer.{bystander_fewer, fewer_moves, fewer_unmet, served_fewer}
-use Rattle.section_laws.proofs.Bits.{Fewer, fewer_same}
+use Rattle.el_model.proofs.Laws.BusEvents.{frame_as_faced}
+use Rattle.el_model.proofs.Laws.Harts.{hart_of-each_hart, hart_of-each_hart_past}
+use Rattle.el_model.proofs.Laws.Orders.{served_order}
+use Rattle.el_model.proofs.Laws.Tests.{by_hart, by_test}
+use Rattle.section_laws.proofs.Laws.Fewer.{bystander_fewer, fewer_moves, fewer_unmet, served_fewer}
+use Rattle.section_laws.proofs.Laws.Bits.{Fewer, fewer_same}
 use Rattle.policy.specs.Winners.{wins_of}
-use Rattle.section_laws.proofs.Moves.{moved, taken_keeps}
+use Rattle.section_laws.proofs.Laws.Moves.{moved, taken_keeps}
 use Rattle.stamp.specs.Stamps.{Stamp}
-use Rattle.progress_laws.proofs.Cases.{false_true}
+use Rattle.progress_laws.proofs.Laws.Cases.{false_true}
 
 -- without stamps each request wins
 each_wins : (mode : Mode) (request section : Option Stamp) → has_stamps mode ≡ false → wins_of mode request section ≡ true

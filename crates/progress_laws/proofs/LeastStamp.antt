@@ -2,8 +2,8 @@
 use Rattle.std.proofs.Common.{◌≡◌, ◌∙◌, ℕ, zero, suc, ◌<◌, Bool, true, false, Option, None, Some, refl, ap, sym, subst, inl, inr, ◌⊎◌, arith}
 use Rattle.std.proofs.lemmas.Bool.{cases_eq}
 use Rattle.stamp.specs.Stamps.{Stamp, is_before, less_of}
-use Rattle.stamp.proofs.StampOrder.{less_strict}
-use Rattle.progress_laws.proofs.Cases.{true_false}
+use Rattle.stamp.proofs.Laws.StampOrder.{less_strict}
+use Rattle.progress_laws.proofs.Laws.Cases.{true_false}
 
 -- the least stamp below a limit
 pub record Least (stamp : ℕ → Option Stamp) (n : ℕ) : Type 0 where

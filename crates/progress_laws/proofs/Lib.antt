@@ -1,12 +1,9 @@
-pub mod Cases
-pub mod Ready
-pub mod GettingOn
-pub mod Faced
-pub mod NewBits
-pub mod Over
-pub mod AllWait
-pub mod WithoutStamps
-pub mod LeastStamp
-pub mod LineOfLeast
-pub mod LockRemoval
-pub mod EveryMode
+pub mod Laws
+mod Ready
+mod Faced
+mod NewBits
+mod Over
+mod AllWait
+mod WithoutStamps
+mod LeastStamp
+mod LockRemoval

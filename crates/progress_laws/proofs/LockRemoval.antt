@@ -2,25 +2,25 @@
 use Rattle.std.proofs.Common.{◌≡◌, ◌≢◌, ◌∙◌, ◌≤◌, ◌↔◌, ℕ, Bool, true, false, List, [], ◌∷◌}
 use Rattle.std.proofs.Common.{Option, None, Some, is_some, length, refl, ap, sym, inl, inr, ◌⊎◌, if◌then◌else◌}
 use Rattle.bus_order.specs.Order.{Request}
-use Rattle.bus_order.proofs.LookUps.{own_test}
+use Rattle.bus_order.proofs.Laws.LookUps.{own_test}
 use Rattle.el_model.specs.Conflicts.{conflicts_with, retains, stamp_in}
 use Rattle.el_model.specs.Next.{is_over}
 use Rattle.el_model.specs.State.{ModelState, for_line, hart_of, head_of, is_live, ordered_of, ordered_on}
 use Rattle.mail.specs.Mailbox.{Marker, Message, Probe, has_message}
 use Rattle.progress_laws.proofs.AllWait.{OnlyWaits, gets_on_or_waits}
-use Rattle.progress_laws.proofs.Cases.{false_true, none_some, unless}
-use Rattle.progress_laws.proofs.GettingOn.{GetsOn, Orderly, line_gets_on, live_runs, ordered_runs}
+use Rattle.progress_laws.proofs.Laws.Cases.{false_true, none_some, unless}
+use Rattle.progress_laws.proofs.Laws.GettingOn.{GetsOn, Orderly, line_gets_on, live_runs, ordered_runs}
 use Rattle.progress_laws.proofs.LeastStamp.{Least, NoStamp, least_below}
 use Rattle.progress_laws.proofs.Over.{not_stuck, over_stopped}
 use Rattle.progress_laws.specs.Ready.{ready_event}
 use Rattle.removal_laws.specs.Facts.{Everywhere, Facts, IsWaiting}
 use Rattle.removal_laws.specs.Laws.{IsDelivered, WaitsWithLeast, attempt_of}
-use Rattle.section_laws.proofs.Bits.{meets}
-use Rattle.removal_laws.proofs.Climbing.{not_retained}
+use Rattle.section_laws.proofs.Laws.Bits.{meets}
+use Rattle.removal_laws.proofs.Laws.Climbing.{not_retained}
 use Rattle.rv_alu.specs.declared.view.HartStatus.TheVariants.{Running}
 use Rattle.rv_flat.specs.FlatState.{status_of}
 use Rattle.stamp.specs.Stamps.{Stamp, is_before, less_of}
-use Rattle.stamp.proofs.StampOrder.{less_strict}
+use Rattle.stamp.proofs.Laws.StampOrder.{less_strict}
 
 abbrev NoMail : ModelState → Type 0
 NoMail state = (h : ℕ) → (hart_of state h).mail ≡ []

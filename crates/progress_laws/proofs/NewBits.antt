@@ -3,11 +3,11 @@ use Rattle.std.proofs.Common.{◌≡◌, ◌≢◌, ◌∙◌, ℕ, ◌+◌, Boo
 use Rattle.std.proofs.Common.{◌∷◌, Option, None, Some, is_some, option_map, refl, ap, sym, subst, inl, inr, ◌⊎◌, if◌then◌else◌}
 use Rattle.std.proofs.lemmas.Bool.{cases_eq}
 use Rattle.bus_order.specs.Order.{Request, first_of}
-use Rattle.bus_order.proofs.Queues.{line_of_first_of}
-use Rattle.cache_sets.specs.Cache.{bit_in, has_marks, marked, touched, way_of, write_bit}
-use Rattle.cache_sets.specs.Residency.{Way, with_bit}
-use Rattle.cache_sets.proofs.CacheLemmas.{way_of-marked_other, way_of-marked_same, way_of-touched}
-use Rattle.cache_sets.proofs.MarkLemmas.{no_marks}
+use Rattle.bus_order.proofs.Laws.Queues.{line_of_first_of}
+use Rattle.residency.specs.Cache.{bit_in, has_marks, marked, touched, way_of, write_bit}
+use Rattle.residency.specs.Residency.{Way, with_bit}
+use Rattle.residency.proofs.Laws.CacheLemmas.{way_of-marked_other, way_of-marked_same, way_of-touched}
+use Rattle.residency.proofs.Laws.MarkLemmas.{no_marks}
 use Rattle.el_base.specs.Line.{line_number}
 use Rattle.el_base.specs.declared.outcomes.Need.{Need}
 use Rattle.el_base.specs.declared.outcomes.Need.TheVariants.{Read, Write}
@@ -19,16 +19,16 @@ use Rattle.el_model.specs.Next.{step_turn}
 use Rattle.el_model.specs.Plain.{after_candidate, began_hart, candidate_of}
 use Rattle.el_model.specs.State.{Hart, ModelState, Section, cache_of, hart_of, head_of, new_hart, section_of}
 use Rattle.el_model.specs.Upcoming.{Swap, Touch}
-use Rattle.el_model.proofs.Deeds.{step_deed}
+use Rattle.el_model.proofs.Laws.Deeds.{step_deed}
 use Rattle.progress_laws.proofs.Faced.{NoneRetains, dead_unmet}
-use Rattle.section_laws.proofs.Fewer.{fewer_unmet}
-use Rattle.section_laws.proofs.Bits.{Fewer, NoMore, fewer_same, no_more_marked, no_more_same, no_more_touched}
-use Rattle.section_laws.proofs.Bits.{no_more_twice}
+use Rattle.section_laws.proofs.Laws.Fewer.{fewer_unmet}
+use Rattle.section_laws.proofs.Laws.Bits.{Fewer, NoMore, fewer_same, no_more_marked, no_more_same, no_more_touched}
+use Rattle.section_laws.proofs.Laws.Bits.{no_more_twice}
 use Rattle.section_laws.specs.EachHart.{HasNoOtherBit}
-use Rattle.section_laws.proofs.ArmedBits as bits
-use Rattle.section_laws.proofs.FreeLines.{first_not, not_met, second_not}
-use Rattle.el_model.proofs.EachHart.{Each, each_but}
-use Rattle.progress_laws.proofs.Cases.{false_true, true_false}
+use Rattle.section_laws.proofs.Laws.ArmedBits as bits
+use Rattle.section_laws.proofs.Laws.FreeLines.{first_not, not_met, second_not}
+use Rattle.el_model.proofs.Laws.EachHart.{Each, each_but}
+use Rattle.progress_laws.proofs.Laws.Cases.{false_true, true_false}
 
 -- what nobody else asks of a line, its head does not ask
 asked_first : (counts : Request → Bool) (order : List Request) (h line : ℕ) (head : Request) → is_asked counts order h line ≡ false →

@@ -8,16 +8,16 @@ use Rattle.el_model.specs.Next.{all_stopped, has_stopped, is_over, kind_turn, ne
 use Rattle.el_model.specs.Order.{order_raised, order_turn}
 use Rattle.el_model.specs.Serve.{serve_ordered, serve_turn}
 use Rattle.el_model.specs.State.{ModelState, hart_of}
-use Rattle.progress_laws.proofs.GettingOn.{GetsOn, Orderly}
+use Rattle.progress_laws.proofs.Laws.GettingOn.{GetsOn, Orderly}
 use Rattle.progress_laws.proofs.Ready.{gets_on_by_number, none_is_ready_where_none_gets_on, number_kept, of_kind}
 use Rattle.progress_laws.specs.Ready.{gets_on, is_progress, ready_event}
 use Rattle.rv_alu.specs.declared.view.HartStatus.{HartStatus}
 use Rattle.rv_alu.specs.declared.view.HartStatus.TheVariants.{Exited, Running, Trapped}
 use Rattle.rv_alu.specs.declared.view.HartView.{HartView}
 use Rattle.rv_flat.specs.FlatState.{no_hart, status_of}
-use Rattle.section_laws.proofs.Waiting.{Sound}
-use Rattle.progress_laws.proofs.Cases.{true_false}
-use Rattle.section_laws.proofs.Bits.{first_of_both, second_of_both}
+use Rattle.section_laws.proofs.Laws.Waiting.{Sound}
+use Rattle.progress_laws.proofs.Laws.Cases.{true_false}
+use Rattle.section_laws.proofs.Laws.Bits.{first_of_both, second_of_both}
 
 -- where all have stopped, no hart runs
 stopped_not_running : (status : HartStatus) → has_stopped status ≡ true → status ≢ Running

@@ -6,23 +6,23 @@ use Rattle.elf_image.specs.Program.{Program}
 use Rattle.el_model.specs.Next.{after, is_over, next}
 use Rattle.el_model.specs.Quiet.{IsSilent, has_stamps}
 use Rattle.el_model.specs.State.{ModelState, begin}
-use Rattle.el_model.proofs.AllHarts.{All}
-use Rattle.el_model.proofs.BusEvents.{by_event}
-use Rattle.el_model.proofs.FromStart.{kept_after, next_config, stampless_silent}
-use Rattle.el_model.proofs.Silent.{next_silent}
+use Rattle.el_model.proofs.Laws.AllHarts.{All}
+use Rattle.el_model.proofs.Laws.BusEvents.{by_event}
+use Rattle.el_model.proofs.Laws.FromStart.{kept_after, next_config, stampless_silent}
+use Rattle.el_model.proofs.Laws.Silent.{next_silent}
 use Rattle.progress_laws.proofs.Faced.{NoneRetains, bus_unretained}
 use Rattle.progress_laws.proofs.AllWait.{OnlyWaits, gets_on_or_waits}
-use Rattle.progress_laws.proofs.GettingOn.{GetsOn, Orderly, always_orderly, line_gets_on}
+use Rattle.progress_laws.proofs.Laws.GettingOn.{GetsOn, Orderly, always_orderly, line_gets_on}
 use Rattle.progress_laws.proofs.NewBits.{step_unretained}
 use Rattle.progress_laws.proofs.Over.{not_stuck}
 use Rattle.progress_laws.specs.Laws.{NoSectionRetainsWithoutStamps}
 use Rattle.progress_laws.specs.Ready.{ready_event}
 use Rattle.rv_alu.specs.declared.view.HartStatus.TheVariants.{Running}
 use Rattle.rv_flat.specs.FlatState.{status_of}
-use Rattle.el_model.proofs.EachHart.{Each}
-use Rattle.section_laws.proofs.ArmedBits as bits
-use Rattle.section_laws.proofs.EachKept.{first_each, next_keeps}
-use Rattle.section_laws.proofs.Numbered.{Once, first_once, next_once}
+use Rattle.el_model.proofs.Laws.EachHart.{Each}
+use Rattle.section_laws.proofs.Laws.ArmedBits as bits
+use Rattle.section_laws.proofs.Laws.EachKept.{first_each, next_keeps}
+use Rattle.section_laws.proofs.Laws.Numbered.{Once, first_once, next_once}
 
 -- what holds in these modes
 record Stampless (state : ModelState) : Type 0 where

@@ -7,9 +7,9 @@
 //! ever its turn.
 #![tactic(auto)]
 
-mod laws;
+mod theorems;
 
-pub use laws::{
+pub use theorems::{
     line_of_least_stamp_moves_on, no_section_retains_without_stamps, no_state_is_stuck,
     none_is_ready_where_none_gets_on, ready_event_gets_on,
 };

@@ -2,7 +2,7 @@
 //!
 //! It stands on `el_base` and `rv_alu`, and no call of it takes memory. Contracts see a [`Marked`] by
 //! its two fields, and each call as the definition's function on them, in `specs/Marks.antt`. What the
-//! committed and the present view are after each call stands as lemmas in `proofs/Views.antt`.
+//! committed and the present view are after each call stands as lemmas in `proofs/Laws/Views.antt`.
 //!
 //! Where a doc comment names no other source, its rule is this project's profile.
 #![tactic(auto)]

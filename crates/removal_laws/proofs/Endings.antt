@@ -1,6 +1,6 @@
 -- the section of the hart with the least stamp ends by a commit or by a rollback of its own
 use Rattle.std.proofs.Common.{◌≡◌, ◌∙◌, ◌==◌, ◌&&◌, ℕ, true, false, Option, None, Some, is_some, refl, ap}
-use Rattle.bus_order.proofs.LookUps.{own_test}
+use Rattle.bus_order.proofs.Laws.LookUps.{own_test}
 use Rattle.el_base.specs.declared.config.Mode.{Mode}
 use Rattle.el_model.specs.BusEvent.{IsBusEvent}
 use Rattle.el_model.specs.Deed.{Arms, Begins, Buffers, Commits, Continues, Deed, Elides, LetsGo, Misses, Rests, RollsBack, Runs, Waits, hart_after, outcome_of}
@@ -9,17 +9,17 @@ use Rattle.el_model.specs.Losses.{HartsAreNumbered, Standing, restored, standing
 use Rattle.el_model.specs.Next.{after, step_turn}
 use Rattle.el_model.specs.Plain.{candidate_of}
 use Rattle.el_model.specs.State.{Hart, ModelState, Turn, hart_of, is_live}
-use Rattle.el_model.proofs.BusEvents.{by_event}
-use Rattle.el_model.proofs.Deeds.{step_deed}
-use Rattle.el_model.proofs.Restoring.{bus_restores}
+use Rattle.el_model.proofs.Laws.BusEvents.{by_event}
+use Rattle.el_model.proofs.Laws.Deeds.{step_deed}
+use Rattle.el_model.proofs.Laws.Restoring.{bus_restores}
 use Rattle.removal_laws.specs.Laws.{LeastEndsItsOwnSection}
-use Rattle.removal_laws.proofs.Attempts.{candidate_keeps}
-use Rattle.section_laws.proofs.Bits.{clash}
-use Rattle.removal_laws.proofs.Clocks.{closes_it}
-use Rattle.removal_laws.proofs.Facing.{live_below}
-use Rattle.removal_laws.proofs.Promises.{least_stamp_never_loses}
-use Rattle.el_model.proofs.EachHart.{each_with}
-use Rattle.section_laws.proofs.Numbered.{requests_are_numbered}
+use Rattle.removal_laws.proofs.Laws.Attempts.{candidate_keeps}
+use Rattle.section_laws.proofs.Laws.Bits.{clash}
+use Rattle.removal_laws.proofs.Laws.Clocks.{closes_it}
+use Rattle.removal_laws.proofs.Laws.Facing.{live_below}
+use Rattle.removal_laws.proofs.Laws.Promises.{least_stamp_never_loses}
+use Rattle.el_model.proofs.Laws.EachHart.{each_with}
+use Rattle.section_laws.proofs.Laws.Numbered.{requests_are_numbered}
 
 -- where a deed ends a section it closes an attempt
 abbrev Ends : ModelState → ℕ → Deed → ℕ → Hart → Type 0

@@ -2,23 +2,23 @@
 use Rattle.std.proofs.Common.{◌≡◌, ◌≢◌, ◌∙◌, ℕ, true, Some, is_some, refl, ap, sym, inl, inr, ◌⊎◌, subst}
 use Rattle.std.proofs.lemmas.Bool.{cases_eq}
 use Rattle.bus_order.specs.Order.{Request, first_of, request_of}
-use Rattle.cache_sets.specs.Cache.{has_bit}
+use Rattle.residency.specs.Cache.{has_bit}
 use Rattle.el_base.specs.declared.config.Mode.TheVariants.{Tlr}
 use Rattle.el_model.specs.Armed.{freed_hart, is_freed, let_go, let_go_hart}
 use Rattle.el_model.specs.Conflicts.{retains}
 use Rattle.el_model.specs.Face.{faced, met}
 use Rattle.el_model.specs.State.{ModelState, cache_of, hart_of, head_of, is_live, ordered_of}
-use Rattle.el_model.proofs.EachHart.{each_after}
-use Rattle.el_model.proofs.Keeps.{frame_let_go, keeps_faced}
-use Rattle.el_model.proofs.Tests.{by_test}
+use Rattle.el_model.proofs.Laws.EachHart.{each_after}
+use Rattle.el_model.proofs.Laws.Keeps.{frame_let_go, keeps_faced}
+use Rattle.el_model.proofs.Laws.Tests.{by_test}
 use Rattle.removal_laws.specs.Facts.{Everywhere, MayRetain, Messages, Retaining}
-use Rattle.removal_laws.proofs.Facing.{face_may, face_posts}
+use Rattle.removal_laws.proofs.Laws.Facing.{face_may, face_posts}
 use Rattle.removal_laws.proofs.Grounds.{Standing}
 use Rattle.removal_laws.proofs.Kept.{AllPosted, messages_moved, moved_by_post, retaining_posted}
 use Rattle.removal_laws.proofs.Posting.{Posted, let_go_posts, unchanged}
 use Rattle.removal_laws.proofs.Requests.{AllBelow}
 use Rattle.rv_flat.specs.FlatState.{view_of}
-use Rattle.section_laws.proofs.Bits.{Fewer, fewer_twice}
+use Rattle.section_laws.proofs.Laws.Bits.{Fewer, fewer_twice}
 
 -- the other lines
 abbrev pub Other : ℕ → ℕ → Type 0

@@ -3,12 +3,12 @@ use Rattle.el_base.specs.declared.events.Event.{Event}
 use Rattle.el_model.specs.Next.{next}
 use Rattle.el_model.specs.State.{ModelState}
 use Rattle.removal_laws.specs.Facts.{Everywhere, Facts, Messages, Retaining}
-use Rattle.removal_laws.proofs.Attempts.{AllOpen, Own, next_open, next_own}
+use Rattle.removal_laws.proofs.Laws.Attempts.{AllOpen, Own, next_open, next_own}
 use Rattle.removal_laws.proofs.Requests.{AllBelow, AllStamped, next_below, next_stamped}
-use Rattle.el_model.proofs.EachHart.{Each}
-use Rattle.section_laws.proofs.ArmedBits as bits
-use Rattle.section_laws.proofs.EachKept.{next_keeps}
-use Rattle.section_laws.proofs.Numbered.{Once, next_once}
+use Rattle.el_model.proofs.Laws.EachHart.{Each}
+use Rattle.section_laws.proofs.Laws.ArmedBits as bits
+use Rattle.section_laws.proofs.Laws.EachKept.{next_keeps}
+use Rattle.section_laws.proofs.Laws.Numbered.{Once, next_once}
 
 pub record Grounds (state : ModelState) : Type 0 where
   pub once : Once state

@@ -1,15 +1,15 @@
 -- which changes keep what is in mailboxes and sets, and what sections have to do with requests
 use Rattle.std.proofs.Common.{◌≡◌, ◌≢◌, ◌∙◌, ◌≤◌, ℕ, true, false, List, [], ◌∷◌, length, Option, None, Some, is_some, refl, ap, sym, inl, inr, ◌⊎◌, arith, subst}
 use Rattle.bus_order.specs.Order.{Request, first_of, queue_of, request_of}
-use Rattle.cache_sets.specs.Cache.{has_bit}
+use Rattle.residency.specs.Cache.{has_bit}
 use Rattle.defer_list.specs.HartSet.{has}
 use Rattle.el_model.specs.Conflicts.{conflicts_with}
 use Rattle.el_model.specs.State.{Hart, ModelState, cache_of, for_line, hart_of, head_of, is_live, ordered_on}
-use Rattle.bus_order.proofs.Queues.{line_of_first_of}
+use Rattle.bus_order.proofs.Laws.Queues.{line_of_first_of}
 use Rattle.removal_laws.specs.Facts.{AreLinked, IsChained, IsLinked, IsWaiting, Knows, MayBeKnown, MayPrecede, MayRetain, Messages, Retaining}
-use Rattle.section_laws.proofs.Bits.{Fewer, fewer_bit, fewer_conflicts}
+use Rattle.section_laws.proofs.Laws.Bits.{Fewer, fewer_bit, fewer_conflicts}
 use Rattle.removal_laws.proofs.Posting.{Posted}
-use Rattle.el_model.proofs.EachHart.{Each}
+use Rattle.el_model.proofs.Laws.EachHart.{Each}
 use Rattle.stamp.specs.Stamps.{is_before}
 
 -- chains

@@ -1,22 +1,15 @@
-pub mod Attempts
-pub mod Clocks
-pub mod Posting
-pub mod Facing
-pub mod Kept
-pub mod Requests
-pub mod Queues
-pub mod Grounds
-pub mod Ordering
-pub mod Faced
-pub mod Placing
-pub mod Leaving
-pub mod Serving
-pub mod Probing
-pub mod Delivering
-pub mod Telling
-pub mod Stepping
-pub mod Throughout
-pub mod Climbing
-pub mod Beating
-pub mod Promises
-pub mod Endings
+pub mod Laws
+mod Posting
+mod Kept
+mod Requests
+mod Queues
+mod Grounds
+mod Ordering
+mod Faced
+mod Placing
+mod Leaving
+mod Serving
+mod Probing
+mod Telling
+mod Stepping
+mod Endings

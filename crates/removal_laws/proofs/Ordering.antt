@@ -3,21 +3,21 @@ use Rattle.std.proofs.Common.{◌≡◌, ◌≢◌, ◌∙◌, ◌<◌, ℕ, tru
 use Rattle.std.proofs.Math.ListN.{length-set}
 use Rattle.std.proofs.lemmas.Bool.{cases_eq}
 use Rattle.bus_order.specs.Order.{Request, queue_of}
-use Rattle.cache_sets.specs.Cache.{has_bit}
+use Rattle.residency.specs.Cache.{has_bit}
 use Rattle.defer_list.specs.HartSet.{has}
 use Rattle.el_base.specs.declared.outcomes.Need.TheVariants.{Write}
 use Rattle.el_model.specs.BusEvent.{order_at}
 use Rattle.el_model.specs.Conflicts.{conflicts_with}
 use Rattle.el_model.specs.Order.{Place, unraised}
 use Rattle.el_model.specs.State.{Hart, ModelState, cache_of, for_line, hart_of, head_of, is_live, ordered_of, ordered_on, raised_of}
-use Rattle.el_model.proofs.Harts.{hart_of-with_hart_other, hart_of-with_hart_same, with_hart_kept}
+use Rattle.el_model.proofs.Laws.Harts.{hart_of-with_hart_other, hart_of-with_hart_same, with_hart_kept}
 use Rattle.removal_laws.specs.Facts.{IsChained, IsLinked, IsWaiting, Knows, Messages, Retaining}
-use Rattle.section_laws.proofs.Bits.{Fewer, clash, fewer_bit, fewer_same, some_none, some_same}
+use Rattle.section_laws.proofs.Laws.Bits.{Fewer, clash, fewer_bit, fewer_same, some_none, some_same}
 use Rattle.removal_laws.proofs.Grounds.{Grounds, Standing}
 use Rattle.removal_laws.proofs.Kept.{chained_kept, may_kept, retained_before, head_line}
 use Rattle.removal_laws.proofs.Requests.{placed_own}
-use Rattle.section_laws.proofs.OrderedHarts.{AreBelow}
-use Rattle.section_laws.proofs.Waiting.{order_other}
+use Rattle.section_laws.proofs.Laws.OrderedHarts.{AreBelow}
+use Rattle.section_laws.proofs.Laws.Waiting.{order_other}
 
 -- the state with the request in its place, before anything else
 abbrev pub base : ModelState → Request → Place → ModelState

@@ -4,9 +4,9 @@ use Rattle.std.specs.Option.{option_or}
 use Rattle.std.proofs.Math.ListN.{length-set}
 use Rattle.std.proofs.lemmas.Bool.{cases_eq}
 use Rattle.bus_order.specs.Order.{Request, appended, first_of, queue_of, request_of, tail_of}
-use Rattle.bus_order.proofs.LookUps.{first_of_appended_other, first_of_appended_own, first_of_in_front_of_other, first_of_in_front_of_own}
-use Rattle.bus_order.proofs.Queues.{hart_of_request_of, queue_of_appended_other, queue_of_appended_own, queue_of_in_front_of_other, queue_of_in_front_of_own, request_of_first_of, request_of_tail_of}
-use Rattle.cache_sets.specs.Cache.{has_bit}
+use Rattle.bus_order.proofs.Laws.LookUps.{first_of_appended_other, first_of_appended_own, first_of_in_front_of_other, first_of_in_front_of_own}
+use Rattle.bus_order.proofs.Laws.Queues.{hart_of_request_of, queue_of_appended_other, queue_of_appended_own, queue_of_in_front_of_other, queue_of_in_front_of_own, request_of_first_of, request_of_tail_of}
+use Rattle.residency.specs.Cache.{has_bit}
 use Rattle.el_base.specs.declared.config.Mode.{Mode}
 use Rattle.el_base.specs.declared.config.Mode.TheVariants.{Plain, Sle, Tlr}
 use Rattle.el_base.specs.declared.outcomes.Need.{Need}
@@ -16,26 +16,26 @@ use Rattle.el_model.specs.Armed.{let_go}
 use Rattle.el_model.specs.Face.{met}
 use Rattle.el_model.specs.Order.{Alone, Behind, InFront, marked_by, marked_from, marking, order_raised, place_for, placed}
 use Rattle.el_model.specs.State.{Hart, ModelState, cache_of, hart_of, head_of, is_live, ordered_of, raised_of}
-use Rattle.el_model.proofs.Harts.{hart_of-with_hart_same}
-use Rattle.el_model.proofs.Keeps.{frame_let_go, keeps_marking}
-use Rattle.el_model.proofs.Tests.{by_test}
+use Rattle.el_model.proofs.Laws.Harts.{hart_of-with_hart_same}
+use Rattle.el_model.proofs.Laws.Keeps.{frame_let_go, keeps_marking}
+use Rattle.el_model.proofs.Laws.Tests.{by_test}
 use Rattle.removal_laws.specs.Facts.{Everywhere, IsChained, IsLinked, MayPrecede, Messages}
-use Rattle.section_laws.proofs.Bits.{Fewer, both, clash, fewer_bit, fewer_twice, first_of_both, in_the_way}
-use Rattle.section_laws.proofs.Bits.{second_of_both, some_none, some_same}
+use Rattle.section_laws.proofs.Laws.Bits.{Fewer, both, clash, fewer_bit, fewer_twice, first_of_both, in_the_way}
+use Rattle.section_laws.proofs.Laws.Bits.{second_of_both, some_none, some_same}
 use Rattle.removal_laws.proofs.Faced.{Facing, FirstOn, Other, all_let_go, met_fewer, met_stands}
-use Rattle.removal_laws.proofs.Facing.{faced_retains}
+use Rattle.removal_laws.proofs.Laws.Facing.{faced_retains}
 use Rattle.removal_laws.proofs.Grounds.{Grounds, Standing}
 use Rattle.removal_laws.proofs.Kept.{AllPosted, chained_kept, messages_moved, moved_by_post, retaining_posted}
 use Rattle.removal_laws.proofs.Ordering.{Ordering, base, base_below, base_messages, base_retaining, linked_still, mask, other_ordered, own_ordered, same_bits, same_count, waits_still}
 use Rattle.removal_laws.proofs.Posting.{Posted, is_marked, marked, unchanged}
 use Rattle.removal_laws.proofs.Queues.{chained_before, chained_more, head_is, no_queue, tail_is}
 use Rattle.removal_laws.proofs.Requests.{raised_own}
-use Rattle.el_model.proofs.EachHart.{each_with}
-use Rattle.section_laws.proofs.FreeLines.{has_head}
-use Rattle.section_laws.proofs.Numbered.{raised_exists}
-use Rattle.section_laws.proofs.Waiting.{free_of_order}
+use Rattle.el_model.proofs.Laws.EachHart.{each_with}
+use Rattle.section_laws.proofs.Laws.FreeLines.{has_head}
+use Rattle.section_laws.proofs.Laws.Numbered.{raised_exists}
+use Rattle.section_laws.proofs.Laws.Waiting.{free_of_order}
 use Rattle.stamp.specs.Stamps.{Stamp, is_before}
-use Rattle.stamp.proofs.StampOrder.{less_strict}
+use Rattle.stamp.proofs.Laws.StampOrder.{less_strict}
 
 -- nobody was posted anything, or one hart a marker
 pub posted_none : (state : ModelState) → AllPosted state state

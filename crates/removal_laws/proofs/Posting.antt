@@ -1,18 +1,18 @@
 -- a hart that is posted messages, sees a stamp, loses its section or has its armed one let go, and nothing else
 use Rattle.std.proofs.Common.{◌≡◌, ◌∙◌, ◌≤◌, ◌==◌, ℕ, Bool, true, false, List, [], ◌∷◌, map, Option, refl, sym, inl, inr, ◌⊎◌, arith, subst, if◌then◌else◌}
-use Rattle.bus_order.proofs.LookUps.{number_of_test, own_test}
+use Rattle.bus_order.proofs.Laws.LookUps.{number_of_test, own_test}
 use Rattle.defer_list.specs.HartSet.{has}
 use Rattle.el_model.specs.Armed.{let_go_hart}
 use Rattle.el_model.specs.Attempts.{see}
 use Rattle.el_model.specs.RollBack.{out_of_section}
 use Rattle.el_model.specs.State.{Hart, ModelState, post_all}
-use Rattle.el_model.proofs.Tests.{by_test}
+use Rattle.el_model.proofs.Laws.Tests.{by_test}
 use Rattle.mail.specs.Mailbox.{Marker, Message, Probe, has_message, posted, same_message}
-use Rattle.mail.proofs.LookUps.{has_posted_other, has_posted_own}
-use Rattle.mail.proofs.OnceEach.{same_is_one}
+use Rattle.mail.proofs.Laws.LookUps.{has_posted_other, has_posted_own}
+use Rattle.mail.proofs.Laws.OnceEach.{same_is_one}
 use Rattle.removal_laws.specs.Facts.{IsLinked, Knows, MayPrecede}
-use Rattle.section_laws.proofs.Bits.{Fewer, fewer_ended, fewer_same, fewer_twice, no_less, no_more_cleared}
-use Rattle.section_laws.proofs.Moves.{seen_grows}
+use Rattle.section_laws.proofs.Laws.Bits.{Fewer, fewer_ended, fewer_same, fewer_twice, no_less, no_more_cleared}
+use Rattle.section_laws.proofs.Laws.Moves.{seen_grows}
 use Rattle.stamp.specs.Stamps.{Stamp}
 
 -- what is in a box after a message was posted

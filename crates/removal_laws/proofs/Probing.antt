@@ -1,19 +1,19 @@
 -- what a delivered message changes of each hart
 use Rattle.std.proofs.Common.{◌≡◌, ◌≤◌, ◌==◌, ℕ, Bool, true, false, List, [], ◌∷◌, length, map, Some, refl, ap, inl, inr, ◌⊎◌, subst, if◌then◌else◌}
 use Rattle.bus_order.specs.Order.{Request}
-use Rattle.bus_order.proofs.LookUps.{number_of_test, own_test}
+use Rattle.bus_order.proofs.Laws.LookUps.{number_of_test, own_test}
 use Rattle.defer_list.specs.HartSet.{has}
 use Rattle.el_model.specs.Conflicts.{conflicts_with}
 use Rattle.el_model.specs.State.{Hart, ModelState, hart_of, head_of, ordered_on, post_all}
 use Rattle.mail.specs.Mailbox.{Marker, Message, Probe, has_message, posted, same_message}
-use Rattle.mail.proofs.LookUps.{has_posted_own}
-use Rattle.mail.proofs.OnceEach.{same_as_itself, same_is_one}
+use Rattle.mail.proofs.Laws.LookUps.{has_posted_own}
+use Rattle.mail.proofs.Laws.OnceEach.{same_as_itself, same_is_one}
 use Rattle.removal_laws.specs.Facts.{Everywhere, IsLinked, Knows, MayBeKnown}
-use Rattle.section_laws.proofs.Bits.{Fewer, fewer_same, fewer_twice, no_less}
+use Rattle.section_laws.proofs.Laws.Bits.{Fewer, fewer_same, fewer_twice, no_less}
 use Rattle.removal_laws.proofs.Grounds.{Standing}
 use Rattle.removal_laws.proofs.Kept.{Owed, OwedOf, messages_moved, retaining_trimmed}
 use Rattle.removal_laws.proofs.Posting.{still_there, there_or_new}
-use Rattle.el_model.proofs.EachHart.{Each}
+use Rattle.el_model.proofs.Laws.EachHart.{Each}
 use Rattle.stamp.specs.Stamps.{is_before}
 
 -- the links, origins and entries of a hart, after a message was taken and others were posted; `Up` and `Told` tell of the

@@ -2,10 +2,10 @@
 use Rattle.std.proofs.Common.{◌≡◌, ◌∙◌, ◌==◌, ◌++◌, ℕ, Bool, true, false, List, [], ◌∷◌, Option, None, Some, refl, ap, sym, if◌then◌else◌}
 use Rattle.std.specs.Option.{option_or}
 use Rattle.bus_order.specs.Order.{Request, first_of, queue_of, tail_of}
-use Rattle.bus_order.proofs.LookUps.{or_nothing}
+use Rattle.bus_order.proofs.Laws.LookUps.{or_nothing}
 use Rattle.el_model.specs.State.{ModelState, hart_of}
 use Rattle.removal_laws.specs.Facts.{AreLinked, IsChained, IsLinked}
-use Rattle.section_laws.proofs.Bits.{some_none}
+use Rattle.section_laws.proofs.Laws.Bits.{some_none}
 
 -- the hart of the last of these requests, or of the one before them
 abbrev pub last_hart : ℕ → List Request → ℕ

@@ -3,8 +3,8 @@ use Rattle.std.proofs.Common.{◌≡◌, ◌∙◌, ◌≤◌, ℕ, Bool, true, 
 use Rattle.std.proofs.Common.{ap, sym, inl, inr, ◌⊎◌, subst}
 use Rattle.std.proofs.lemmas.Bool.{cases_eq}
 use Rattle.bus_order.specs.Order.{Request, removed, request_of}
-use Rattle.bus_order.proofs.LookUps.{request_of_appended_own, request_of_in_front_of_own, request_of_removed_other}
-use Rattle.bus_order.proofs.LookUps.{request_of_removed_own}
+use Rattle.bus_order.proofs.Laws.LookUps.{request_of_appended_own, request_of_in_front_of_own, request_of_removed_other}
+use Rattle.bus_order.proofs.Laws.LookUps.{request_of_removed_own}
 use Rattle.el_base.specs.declared.events.Event.{Event}
 use Rattle.el_model.specs.BusEvent.{IsBusEvent, Nothing, Places, Serves, Start, StartsWhere, Takes, having_taken}
 use Rattle.el_model.specs.BusEvent.{order_after, order_at, started}
@@ -15,16 +15,16 @@ use Rattle.el_model.specs.Plain.{after_candidate, candidate_of}
 use Rattle.el_model.specs.Serve.{bystander, served_hart, with_claim}
 use Rattle.el_model.specs.State.{Hart, ModelState, Turn, hart_of, ordered_of, raised_of}
 use Rattle.el_model.specs.Upcoming.{Swap}
-use Rattle.el_model.proofs.BusEvents.{by_event}
-use Rattle.el_model.proofs.Deeds.{step_deed}
-use Rattle.el_model.proofs.Harts.{hart_of-past}
-use Rattle.el_model.proofs.Tests.{by_hart}
-use Rattle.section_laws.proofs.Bits.{some_none, some_same}
-use Rattle.el_model.proofs.EachHart.{Each}
-use Rattle.section_laws.proofs.Moves.{Moves, moved, step_keeps, taken_keeps}
-use Rattle.section_laws.proofs.Numbered.{next_count, order_keeps}
-use Rattle.section_laws.proofs.OrderedHarts.{AreBelow, below_kept}
-use Rattle.section_laws.proofs.Waiting.{Sound, free_of_order, is_rolled, no_request, order_other}
+use Rattle.el_model.proofs.Laws.BusEvents.{by_event}
+use Rattle.el_model.proofs.Laws.Deeds.{step_deed}
+use Rattle.el_model.proofs.Laws.Harts.{hart_of-past}
+use Rattle.el_model.proofs.Laws.Tests.{by_hart}
+use Rattle.section_laws.proofs.Laws.Bits.{some_none, some_same}
+use Rattle.el_model.proofs.Laws.EachHart.{Each}
+use Rattle.section_laws.proofs.Laws.Moves.{Moves, moved, step_keeps, taken_keeps}
+use Rattle.section_laws.proofs.Laws.Numbered.{next_count, order_keeps}
+use Rattle.section_laws.proofs.Laws.OrderedHarts.{AreBelow, below_kept}
+use Rattle.section_laws.proofs.Laws.Waiting.{Sound, free_of_order, is_rolled, no_request, order_other}
 use Rattle.stamp.specs.Stamps.{Stamp}
 
 -- a hart's requests, raised or ordered, have the stamp of its attempt

@@ -2,24 +2,24 @@
 use Rattle.std.proofs.Common.{◌≡◌, ◌≢◌, ◌∙◌, ◌==◌, ℕ, Bool, true, false, List, [], ◌∷◌, length, Option, None, Some, is_some, refl, ap, sym, inl, inr, ◌⊎◌, arith, subst, if◌then◌else◌}
 use Rattle.std.proofs.lemmas.Bool.{cases_eq}
 use Rattle.bus_order.specs.Order.{IsOneEach, Request, first_of, queue_of, removed, request_of}
-use Rattle.bus_order.proofs.LookUps.{own_test, request_of_removed_other, request_of_removed_own}
-use Rattle.bus_order.proofs.Orders.{one_each_removed}
-use Rattle.bus_order.proofs.Queues.{first_of_removed_other, hart_of_request_of, queue_of_removed, queue_of_removed_other, queue_of_removed_own, request_of_first_of}
-use Rattle.cache_sets.specs.Cache.{has_bit}
+use Rattle.bus_order.proofs.Laws.LookUps.{own_test, request_of_removed_other, request_of_removed_own}
+use Rattle.bus_order.proofs.Laws.Orders.{one_each_removed}
+use Rattle.bus_order.proofs.Laws.Queues.{first_of_removed_other, hart_of_request_of, queue_of_removed, queue_of_removed_other, queue_of_removed_own, request_of_first_of}
+use Rattle.residency.specs.Cache.{has_bit}
 use Rattle.el_base.specs.declared.outcomes.Why.TheVariants.{Behind}
 use Rattle.el_model.specs.Conflicts.{conflicts_with, retains}
 use Rattle.el_model.specs.Face.{met, met_if}
 use Rattle.el_model.specs.Serve.{Blocks, Free, Obstacle, obstacle_to, serve_ordered, serve_past, served}
 use Rattle.el_model.specs.State.{ModelState, cache_of, for_line, hart_of, head_of, is_live, ordered_of, ordered_on, raised_of}
-use Rattle.el_model.proofs.Keeps.{keeps_served}
+use Rattle.el_model.proofs.Laws.Keeps.{keeps_served}
 use Rattle.removal_laws.specs.Facts.{AreLinked, Everywhere, IsChained, IsLinked, IsWaiting, MayRetain, Messages, Retaining}
-use Rattle.section_laws.proofs.Bits.{clash, fewer_bit, some_none, some_same}
+use Rattle.section_laws.proofs.Laws.Bits.{clash, fewer_bit, some_none, some_same}
 use Rattle.removal_laws.proofs.Faced.{Facing, FirstOn, Other, met_fewer, met_stands}
 use Rattle.removal_laws.proofs.Grounds.{Grounds, Standing}
 use Rattle.removal_laws.proofs.Kept.{may_kept, retained_before, head_line}
 use Rattle.removal_laws.proofs.Leaving.{Left, served_left}
 use Rattle.removal_laws.proofs.Queues.{IsHead, head_is}
-use Rattle.section_laws.proofs.FreeLines.{has_head, head_is as first_is, not_blocked}
+use Rattle.section_laws.proofs.Laws.FreeLines.{has_head, head_is as first_is, not_blocked}
 
 -- the request that is served, as the head of its line
 pub record Serving (state : ModelState) (request : Request) : Type 0 where

@@ -3,11 +3,11 @@ use Rattle.std.proofs.Common.{◌≡◌, ◌≢◌, ◌∙◌, ◌≤◌, ◌+�
 use Rattle.std.proofs.Math.ListN.{length-set}
 use Rattle.std.proofs.lemmas.Bool.{cases_eq}
 use Rattle.bus_order.specs.Order.{Request, first_of}
-use Rattle.bus_order.proofs.LookUps.{other_test}
-use Rattle.cache_sets.specs.Cache.{bit_in, has_bit, has_marks, marked, read_bit, touched, way_of, write_bit}
-use Rattle.cache_sets.specs.Residency.{Way}
-use Rattle.cache_sets.proofs.CacheLemmas.{way_of-touched}
-use Rattle.cache_sets.proofs.MarkLemmas.{no_marks}
+use Rattle.bus_order.proofs.Laws.LookUps.{other_test}
+use Rattle.residency.specs.Cache.{bit_in, has_bit, has_marks, marked, read_bit, touched, way_of, write_bit}
+use Rattle.residency.specs.Residency.{Way}
+use Rattle.residency.proofs.Laws.CacheLemmas.{way_of-touched}
+use Rattle.residency.proofs.Laws.MarkLemmas.{no_marks}
 use Rattle.defer_list.specs.HartSet.{has}
 use Rattle.el_base.specs.Line.{line_number}
 use Rattle.el_base.specs.declared.outcomes.Need.{Need}
@@ -19,20 +19,20 @@ use Rattle.el_model.specs.Next.{step_turn}
 use Rattle.el_model.specs.Plain.{after_candidate, candidate_of}
 use Rattle.el_model.specs.State.{Armed, Hart, ModelState, Section, has_request, hart_of, head_of, ordered_of, raised_of}
 use Rattle.el_model.specs.Upcoming.{Swap, Touch}
-use Rattle.el_model.proofs.Deeds.{step_deed}
-use Rattle.el_model.proofs.Harts.{hart_of-past, with_hart_kept}
+use Rattle.el_model.proofs.Laws.Deeds.{step_deed}
+use Rattle.el_model.proofs.Laws.Harts.{hart_of-past, with_hart_kept}
 use Rattle.mail.specs.Mailbox.{Marker, Message, Probe, has_message}
 use Rattle.removal_laws.specs.Facts.{Everywhere}
-use Rattle.section_laws.proofs.Bits.{Meets, NoBitMore, clash, in_the_way, meets, meets_no_more, no_more_marked}
-use Rattle.section_laws.proofs.Bits.{no_more_touched, no_more_twice, some_none, some_same, write_of_read_marked}
-use Rattle.section_laws.proofs.ArmedBits.{completing}
-use Rattle.section_laws.proofs.Bits.{either, no_less}
+use Rattle.section_laws.proofs.Laws.Bits.{Meets, NoBitMore, clash, in_the_way, meets, meets_no_more, no_more_marked}
+use Rattle.section_laws.proofs.Laws.Bits.{no_more_touched, no_more_twice, some_none, some_same, write_of_read_marked}
+use Rattle.section_laws.proofs.Laws.ArmedBits.{completing}
+use Rattle.section_laws.proofs.Laws.Bits.{either, no_less}
 use Rattle.section_laws.specs.EachHart.{HasNoOtherBit}
 use Rattle.removal_laws.proofs.Grounds.{Grounds, Standing}
 use Rattle.removal_laws.proofs.Kept.{Moved, head_line, may_kept, messages_moved}
-use Rattle.el_model.proofs.EachHart.{Each, each_but}
-use Rattle.section_laws.proofs.FreeLines.{second_not}
-use Rattle.section_laws.proofs.Waiting.{no_request}
+use Rattle.el_model.proofs.Laws.EachHart.{Each, each_but}
+use Rattle.section_laws.proofs.Laws.FreeLines.{second_not}
+use Rattle.section_laws.proofs.Laws.Waiting.{no_request}
 
 -- a hart's mailbox and sets
 record Contents : Type 0 where

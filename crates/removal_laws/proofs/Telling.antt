@@ -2,9 +2,9 @@
 use Rattle.std.proofs.Common.{◌≡◌, ◌≢◌, ◌∙◌, ◌<◌, ◌==◌, ◌&&◌, ℕ, Bool, true, false, not, List, [], ◌∷◌, length, Option, None, Some, is_some, refl, ap, sym, inl, inr, ◌⊎◌, arith, subst}
 use Rattle.std.proofs.Math.ListN.{length-set}
 use Rattle.bus_order.specs.Order.{Request}
-use Rattle.bus_order.proofs.LookUps.{other_test, own_test}
+use Rattle.bus_order.proofs.Laws.LookUps.{other_test, own_test}
 use Rattle.defer_list.specs.HartSet.{has, included}
-use Rattle.defer_list.proofs.LookUps.{has_included_own}
+use Rattle.defer_list.proofs.Laws.LookUps.{has_included_own}
 use Rattle.el_base.specs.declared.config.Mode.{Mode}
 use Rattle.el_base.specs.declared.config.Mode.TheVariants.{Plain, Sle, Tlr}
 use Rattle.el_model.specs.Attempts.{see}
@@ -12,20 +12,20 @@ use Rattle.el_model.specs.Conflicts.{conflicts_with, retains, stamp_in}
 use Rattle.el_model.specs.Deliver.{after_probe, deliver_next, deliver_turn, delivered, forwarded, forwards_on, loses_to_origin, taken, told_of}
 use Rattle.el_model.specs.RollBack.{beaten, out_of_section}
 use Rattle.el_model.specs.State.{Hart, ModelState, hart_of, head_of, ordered_of, ordered_on, with_hart}
-use Rattle.el_model.proofs.Harts.{each_hart_kept, hart_of-each_hart, hart_of-with_hart_other, hart_of-with_hart_same}
-use Rattle.el_model.proofs.Keeps.{length-each_from}
-use Rattle.el_model.proofs.Tests.{by_test}
+use Rattle.el_model.proofs.Laws.Harts.{each_hart_kept, hart_of-each_hart, hart_of-with_hart_other, hart_of-with_hart_same}
+use Rattle.el_model.proofs.Laws.Keeps.{length-each_from}
+use Rattle.el_model.proofs.Laws.Tests.{by_test}
 use Rattle.mail.specs.Mailbox.{Marker, Message, Probe, has_message, posted}
-use Rattle.mail.proofs.LookUps.{has_posted_own}
+use Rattle.mail.proofs.Laws.LookUps.{has_posted_own}
 use Rattle.removal_laws.specs.Facts.{IsLinked, Knows, MayBeKnown}
-use Rattle.section_laws.proofs.Bits.{both, clash, fewer_ended, fewer_same, first_of_both, meets}
-use Rattle.section_laws.proofs.Bits.{some_same}
-use Rattle.removal_laws.proofs.Delivering.{Entry, NoEntry, mail_exists, marker_stands, more_has, new_or_had, own_line}
+use Rattle.section_laws.proofs.Laws.Bits.{both, clash, fewer_ended, fewer_same, first_of_both, meets}
+use Rattle.section_laws.proofs.Laws.Bits.{some_same}
+use Rattle.removal_laws.proofs.Laws.Delivering.{Entry, NoEntry, mail_exists, marker_stands, more_has, new_or_had, own_line}
 use Rattle.removal_laws.proofs.Grounds.{Grounds, Standing}
 use Rattle.removal_laws.proofs.Kept.{OwedOf, head_line, retained_before}
 use Rattle.removal_laws.proofs.Probing.{Took, debts_stand, first_or_later, first_there, later_there, probed, took_nothing}
-use Rattle.el_model.proofs.EachHart.{Each, each_after, each_but}
-use Rattle.section_laws.proofs.Moves.{seen_grows}
+use Rattle.el_model.proofs.Laws.EachHart.{Each, each_after, each_but}
+use Rattle.section_laws.proofs.Laws.Moves.{seen_grows}
 use Rattle.stamp.specs.Stamps.{Stamp, is_before}
 
 -- a section that is lost by the way

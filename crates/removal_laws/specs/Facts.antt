@@ -1,7 +1,7 @@
 -- what holds in lock removal between the harts of a queue, their mailboxes and their sections
 use Rattle.std.specs.Prelude.{ℕ, ◌≡◌, ◌≢◌, ◌<◌, ◌≤◌, ◌⊎◌, true, false, List, [], ◌∷◌, length, Some, is_some}
 use Rattle.bus_order.specs.Order.{Request, queue_of}
-use Rattle.cache_sets.specs.Cache.{has_bit}
+use Rattle.residency.specs.Cache.{has_bit}
 use Rattle.defer_list.specs.HartSet.{has}
 use Rattle.el_base.specs.declared.config.Mode.TheVariants.{Tlr}
 use Rattle.el_base.specs.declared.outcomes.Need.TheVariants.{Write}

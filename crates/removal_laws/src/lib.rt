@@ -9,9 +9,9 @@
 //! ASPLOS 2002; the rules are this project's profile.
 #![tactic(auto)]
 
-mod laws;
+mod theorems;
 
-pub use laws::{
+pub use theorems::{
     attempts_are_current, facts_hold_throughout, head_is_served, later_attempts_are_later,
     later_than_deferred_heads, later_than_winners, least_ends_its_own_section,
     least_stamp_is_not_retained, least_stamp_never_loses, losers_lose_to_earlier,

@@ -2,8 +2,8 @@
 use Rattle.std.proofs.Common.{◌≡◌, ◌≢◌, ◌≤◌, ◌<◌, ◌+◌, ◌-◌, ◌∙◌, ℕ, zero, suc, Bool, true, false, List, [], Some, length, arith, refl, ap, sym, subst, inl, inr, ◌⊎◌}
 use Rattle.std.specs.Prelude.{nat_lt, slice_index}
 use Rattle.std.proofs.lemmas.Bool.{ltb-false, ltb-true}
-use Rattle.cache_sets.specs.Cache.{has_bit, write_bit}
-use Rattle.cache_sets.specs.Residency.{Way}
+use Rattle.residency.specs.Cache.{has_bit, write_bit}
+use Rattle.residency.specs.Residency.{Way}
 use Rattle.el_base.specs.Line.{line_number}
 use Rattle.el_base.specs.declared.outcomes.Need.TheVariants as needs
 use Rattle.el_model.specs.State.{Armed, Section}
@@ -13,19 +13,19 @@ use Rattle.rv_alu.specs.declared.footprint.Access.{Access}
 use Rattle.rv_alu.specs.declared.footprint.Access.TheVariants.{Nothing, Read, Write, Trap, Exit}
 use Rattle.rv_alu.specs.declared.view.HartStatus.TheVariants.{Running}
 use Rattle.rv_alu.specs.declared.view.HartView.{HartView}
-use Rattle.rv_flat.proofs.StepLaws.{keeps_others, keeps_shape}
+use Rattle.rv_flat.proofs.Laws.StepLaws.{keeps_others, keeps_shape}
 use Rattle.rv_flat.specs.FlatState.{FlatState, status_of, view_of}
 use Rattle.rv_flat.specs.Laws.{footprint_of, seen_after}
 use Rattle.rv_flat.specs.Memory.{AreBytes, byte_in, put_bytes}
 use Rattle.rv_flat.specs.Run.{alone}
 use Rattle.rv_flat.specs.Step.{flat}
-use Rattle.run_laws.proofs.Bits.{KeepsBits, covered_kept, same_bits}
-use Rattle.run_laws.proofs.Restored.{put_back}
-use Rattle.run_laws.proofs.Shown.{keeps_line, keeps_outside, puts_word, unwritten_shown, word_there}
-use Rattle.run_laws.proofs.Alike.{alone_base, alone_more}
-use Rattle.run_laws.proofs.Tests.{not_both}
-use Rattle.run_laws.proofs.Reserving.{acquires_at, armed_memory}
-use Rattle.run_laws.proofs.WordStores.{StoresWord}
+use Rattle.run_laws.proofs.Laws.Bits.{KeepsBits, covered_kept, same_bits}
+use Rattle.run_laws.proofs.Laws.Restored.{put_back}
+use Rattle.run_laws.proofs.Laws.Shown.{keeps_line, keeps_outside, puts_word, unwritten_shown, word_there}
+use Rattle.run_laws.proofs.Laws.Alike.{alone_base, alone_more}
+use Rattle.run_laws.proofs.Laws.Tests.{not_both}
+use Rattle.run_laws.proofs.Laws.Reserving.{acquires_at, armed_memory}
+use Rattle.run_laws.proofs.Laws.WordStores.{StoresWord}
 use Rattle.run_laws.specs.PrivateRun.{IsArmedRun, IsOutsideWord, IsChangeBeside, IsCoveredRun}
 
 -- where no line has a bit, a change beside a hart is one of its reservation alone

@@ -1,20 +1,4 @@
-pub mod Tests
-pub mod Touches
-pub mod Alike
-pub mod WordStores
-pub mod Reserving
-pub mod Survival
-pub mod Shown
-pub mod ButAView
-pub mod Bits
-pub mod Growing
-pub mod Restored
-pub mod Beside
-pub mod Reached
-pub mod EventsBeside
-pub mod LettingGo
-pub mod Kept
-pub mod Reachable
-pub mod OtherHarts
-pub mod Releasing
-pub mod LoadedBytes
+pub mod Laws
+mod Beside
+mod OtherHarts
+mod LoadedBytes

@@ -6,16 +6,16 @@ use Rattle.elf_image.specs.Program.{Program}
 use Rattle.el_model.specs.Next.{after, kind_turn, next, state_after}
 use Rattle.el_model.specs.State.{ModelState, Section, armed_of, begin, cache_of, hart_of, section_of}
 use Rattle.rv_flat.specs.Memory.{AreBytes}
-use Rattle.section_laws.proofs.Numbered.{one_ordered_request_each}
-use Rattle.section_laws.proofs.OnceEach.{no_set_has_a_line_twice}
-use Rattle.section_laws.proofs.Waiting.{always_settled, live_unarmed, rested_in}
+use Rattle.section_laws.proofs.Laws.Numbered.{one_ordered_request_each}
+use Rattle.section_laws.proofs.Laws.OnceEach.{no_set_has_a_line_twice}
+use Rattle.section_laws.proofs.Laws.Waiting.{always_settled, live_unarmed, rested_in}
 use Rattle.run_laws.proofs.Beside.{beside_twice, same_beside}
-use Rattle.run_laws.proofs.Bits.{KeepsBits, same_bits}
-use Rattle.run_laws.proofs.Kept.{IsKept, other_kept}
-use Rattle.run_laws.proofs.Reachable.{live_sections_run_covered, other_harts_change_nothing_covered}
-use Rattle.run_laws.proofs.Reached.{state_after-last}
-use Rattle.run_laws.proofs.Survival.{survives}
-use Rattle.run_laws.proofs.Tests.{not_both}
+use Rattle.run_laws.proofs.Laws.Bits.{KeepsBits, same_bits}
+use Rattle.run_laws.proofs.Laws.Kept.{IsKept, other_kept}
+use Rattle.run_laws.proofs.Laws.Reachable.{live_sections_run_covered, other_harts_change_nothing_covered}
+use Rattle.run_laws.proofs.Laws.Reached.{state_after-last}
+use Rattle.run_laws.proofs.Laws.Survival.{survives}
+use Rattle.run_laws.proofs.Laws.Tests.{not_both}
 use Rattle.run_laws.specs.Laws.{AreOfOthers, OtherHartsChangeNothingShown, SectionsSurviveOtherHarts}
 use Rattle.run_laws.specs.PrivateRun.{IsChangeBeside}
 

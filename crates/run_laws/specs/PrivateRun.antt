@@ -1,7 +1,7 @@
 -- the private run of an armed or a live section: the steps of its hart alone, from what is committed on
 use Rattle.std.specs.Prelude.{ℕ, zero, suc, ◌≡◌, ◌≢◌, ◌≤◌, ◌<◌, ◌+◌, ◌%◌, ◌^◌, true, false, List, length, Option, None, Some, slice_index}
-use Rattle.cache_sets.specs.Cache.{has_bit, read_bit, write_bit}
-use Rattle.cache_sets.specs.Residency.{Way}
+use Rattle.residency.specs.Cache.{has_bit, read_bit, write_bit}
+use Rattle.residency.specs.Residency.{Way}
 use Rattle.el_base.specs.Line.{line_number}
 use Rattle.el_model.specs.Armed.{is_quiet}
 use Rattle.el_model.specs.InSection.{is_covered}

@@ -11,9 +11,9 @@
 //! 'Transactional Lock-Free Execution of Lock-Based Programs', ASPLOS 2002; the rules are this project's profile.
 #![tactic(auto)]
 
-mod laws;
+mod theorems;
 
-pub use laws::{
+pub use theorems::{
     armed_runs_keep_all_but_a_view, armed_runs_survive, armed_sections_run_covered,
     covered_runs_show_their_own, covered_runs_survive, letting_go_changes_nothing_beside,
     letting_go_leaves_memory, live_sections_run_covered, loaded_programs_are_bytes,

@@ -1,4 +1,3 @@
-pub mod Footprints
-pub mod Executions
+pub mod Laws
 mod Worked
 mod Products

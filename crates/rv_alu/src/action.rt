@@ -117,7 +117,7 @@ impl Action {
     /// store, SC or atomic operation likewise with 6 and 7. (RISC-V unprivileged manual, chapter 2
     /// and 'A Standard Extension for Atomic Instructions'; causes as in the privileged manual's
     /// `mcause`; the order of the checks and the calls are this project's profile.)
-    #[tactic(auto, using(crate::proofs::Footprints::fits), unfolding(crate::specs::Action::action_of))]
+    #[tactic(auto, using(crate::proofs::Laws::Footprints::fits), unfolding(crate::specs::Action::action_of))]
     pub fn of(
         insn: &Insn,
         pc: u32,

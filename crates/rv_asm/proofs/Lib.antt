@@ -1,3 +1,3 @@
-pub mod Placed
-pub mod Words
-pub mod Faultless
+pub mod Laws
+mod Placed
+mod Words

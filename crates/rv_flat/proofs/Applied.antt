@@ -3,7 +3,7 @@ use Rattle.std.proofs.Common.{◌≡◌, ℕ, List, Option, None, Some, ap, refl
 use Rattle.std.specs.Prelude.{OnSome, slice_set}
 use Rattle.std.proofs.lemmas.List.{map-set}
 use Rattle.el_base.specs.Line.{line_number}
-use Rattle.rv_alu.proofs.Executions.{store_ends_reservation}
+use Rattle.rv_alu.proofs.Laws.Executions.{store_ends_reservation}
 use Rattle.rv_alu.specs.declared.action.Action.{Action}
 use Rattle.rv_alu.specs.declared.view.HartView.{HartView}
 use Rattle.rv_alu.specs.Execution.{Append, Execution, Store, append_in, executed, perform, store_in, view_after}

@@ -4,7 +4,7 @@ use Rattle.std.specs.Prelude.{is_some, slice_index}
 use Rattle.std.specs.Option.{unwrap_or}
 use Rattle.elf_image.specs.Program.{code_word}
 use Rattle.el_base.specs.Harts.{has_hart}
-use Rattle.rv_alu.proofs.Footprints.{fits}
+use Rattle.rv_alu.proofs.Laws.Footprints.{fits}
 use Rattle.rv_alu.specs.declared.action.Action.{Action}
 use Rattle.rv_alu.specs.declared.action.Action.TheVariants as actions
 use Rattle.rv_alu.specs.declared.footprint.Access.{Access}

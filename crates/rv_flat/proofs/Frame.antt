@@ -4,7 +4,7 @@ use Rattle.std.specs.Prelude.{IfSome, slice_index}
 use Rattle.std.proofs.lemmas.Grind.{common_steps, same_number_lists}
 use Rattle.std.proofs.lemmas.List.{append-nil, get_or-drop, get_or-take, length-take}
 use Rattle.elf_image.specs.Program.{code_word}
-use Rattle.rv_alu.proofs.Executions.{executed-append, executed-room, executed_agree}
+use Rattle.rv_alu.proofs.Laws.Executions.{executed-append, executed-room, executed_agree}
 use Rattle.rv_alu.specs.declared.footprint.Access.{Access}
 use Rattle.rv_alu.specs.declared.footprint.Access.TheVariants.{Read}
 use Rattle.rv_alu.specs.declared.view.HartStatus.{HartStatus}
@@ -16,8 +16,8 @@ use Rattle.rv_flat.specs.FlatState.{FlatState, room_of, span_of, status_of, view
 use Rattle.rv_flat.specs.Laws.{AreSameTo, DidTheSame, IsInOneLine, next_insn, touched_by, touched_in, with_output}
 use Rattle.rv_flat.specs.Memory.{byte_in, piece_of}
 use Rattle.rv_flat.specs.Step.{appended_by, applied, execution_of, flat, status_step, stored_by}
-use Rattle.rv_flat.proofs.PutBytes.{put_bytes-same}
-use Rattle.rv_flat.proofs.StepLaws.{appended, appended_by-more, one_line-touched, view-applied, within}
+use Rattle.rv_flat.proofs.Laws.PutBytes.{put_bytes-same}
+use Rattle.rv_flat.proofs.Laws.StepLaws.{appended, appended_by-more, one_line-touched, view-applied, within}
 
 -- a hart does the same next in two states that are the same to it
 pub same_execution : (left right : FlatState) (view : HartView) → left.code ≡ right.code → span_of left ≡ span_of right → room_of left ≡ room_of right →

@@ -1,9 +1,7 @@
-pub mod PutBytes
-pub mod StepLaws
-pub mod Frame
-pub mod LostReservations
-pub mod RunsAfter
-pub mod Changes
-pub mod Undoing
+pub mod Laws
+mod Frame
+mod LostReservations
+mod Changes
+mod Undoing
 mod Applied
 mod Worked

@@ -6,7 +6,7 @@ use Rattle.std.proofs.lemmas.List.{get_or-set_other, get_or-set_same, map-set, s
 use Rattle.std.proofs.Math.ListN.{get_or-map}
 use Rattle.elf_image.specs.Program.{code_word}
 use Rattle.el_base.specs.Line.{line_number}
-use Rattle.rv_alu.proofs.Executions.{IsSameButReservation, executed-reserved}
+use Rattle.rv_alu.proofs.Laws.Executions.{IsSameButReservation, executed-reserved}
 use Rattle.rv_alu.specs.declared.view.HartStatus.{HartStatus}
 use Rattle.rv_alu.specs.declared.view.HartStatus.TheVariants.{Running, Exited, Trapped}
 use Rattle.rv_alu.specs.declared.view.HartView.{HartView}
@@ -17,7 +17,7 @@ use Rattle.rv_flat.specs.Laws.{MakesNoStoreConditional, next_insn, with_reserved
 use Rattle.rv_flat.specs.Memory.{byte_in}
 use Rattle.rv_flat.specs.Run.{run}
 use Rattle.rv_flat.specs.Step.{appended_by, applied, execution_of, flat, status_step, stored_by, unreserved, unreserved_by, with_view}
-use Rattle.rv_flat.proofs.StepLaws.{keeps_shape, view-applied}
+use Rattle.rv_flat.proofs.Laws.StepLaws.{keeps_shape, view-applied}
 
 -- a view after a store, if there is one
 abbrev pub seen_by : Option Store → HartView → HartView

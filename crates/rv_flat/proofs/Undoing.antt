@@ -23,7 +23,7 @@ use Rattle.rv_flat.specs.Laws.{KeepsShape, Writes, footprint_of, seen_after}
 use Rattle.rv_flat.specs.Memory.{byte_in, piece_of}
 use Rattle.rv_flat.specs.Step.{action_of, execution_of, flat, status_step}
 use Rattle.rv_flat.proofs.Changes.{IsWritable, reserved-held, step-writable}
-use Rattle.rv_flat.proofs.StepLaws.{keeps_others, keeps_shape, view-applied, writes_in_footprint}
+use Rattle.rv_flat.proofs.Laws.StepLaws.{keeps_others, keeps_shape, view-applied, writes_in_footprint}
 
 -- a register that is written twice, the second time with what it had, is as it was
 set-back : (regs : List ℕ) (reg value : ℕ) → set (set regs reg value) reg (get regs reg) ≡ regs

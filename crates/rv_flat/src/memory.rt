@@ -19,7 +19,7 @@ pub fn loaded(bytes: &[u8], place: usize, len: u32) -> u32
 }
 
 /// Puts the low bytes of a number at a place, the lowest first.
-#[tactic(auto, using(crate::proofs::PutBytes::put_bytes_more))]
+#[tactic(auto, using(crate::proofs::Laws::PutBytes::put_bytes_more))]
 pub fn put_bytes(bytes: &mut [u8], place: usize, len: u32, value: u32)
     requires { place + len ≤ length bytes.old }
     ensures { bytes.new ≡ put_bytes bytes.old place len value }

@@ -1,4 +1,4 @@
-pub mod Powers
-pub mod Codes
-pub mod Meanings
+mod Powers
+mod Codes
+mod Meanings
 mod Examples

@@ -15,15 +15,15 @@ mod field;
 mod form;
 mod immediate;
 mod insn;
-mod laws;
 mod opcode;
 mod reg;
 #[cfg(test)]
 mod tests;
+mod theorems;
 mod validity;
 
 pub use decoding::decode;
 pub use encoding::encode;
 pub use insn::{Alu, AmoOp, Insn, LoadWidth, StoreWidth, Test};
-pub use laws::{decode_encoded, encode_decoded};
 pub use reg::Reg;
+pub use theorems::{decode_encoded, encode_decoded};

@@ -1,1 +1,1 @@
-pub mod Spellings
+mod Spellings

@@ -3,13 +3,13 @@ use Rattle.std.proofs.Common.{◌≡◌, ◌∙◌, ℕ, zero, suc, ◌+◌, ◌
 use Rattle.std.proofs.Common.{arith, if◌then◌else◌}
 use Rattle.std.proofs.lemmas.List.{length-map, length-replicate}
 use Rattle.bus_order.specs.Order.{Request}
-use Rattle.cache_sets.specs.Cache.{cleared, committed, empty_cache, lettered, marked, room_of, touched, write_bit, write_bits_of}
-use Rattle.cache_sets.specs.Residency.{Way, without_bits}
-use Rattle.cache_sets.proofs.CacheLemmas.{length-with_set}
-use Rattle.cache_sets.proofs.MarkLemmas.{write_bits_of-cleared, write_bits_of-committed, write_bits_of-lettered, write_bits_of-marked_read}
-use Rattle.cache_sets.proofs.MarkLemmas.{write_bits_of-touched}
-use Rattle.cache_sets.proofs.WellFormedLemmas.{well_formed-cleared, well_formed-committed, well_formed-empty_cache, well_formed-lettered}
-use Rattle.cache_sets.proofs.WellFormedLemmas.{well_formed-marked, well_formed-touched}
+use Rattle.residency.specs.Cache.{cleared, committed, empty_cache, lettered, marked, room_of, touched, write_bit, write_bits_of}
+use Rattle.residency.specs.Residency.{Way, without_bits}
+use Rattle.residency.proofs.Laws.CacheLemmas.{length-with_set}
+use Rattle.residency.proofs.Laws.MarkLemmas.{write_bits_of-cleared, write_bits_of-committed, write_bits_of-lettered, write_bits_of-marked_read}
+use Rattle.residency.proofs.Laws.MarkLemmas.{write_bits_of-touched}
+use Rattle.residency.proofs.Laws.WellFormedLemmas.{well_formed-cleared, well_formed-committed, well_formed-empty_cache, well_formed-lettered}
+use Rattle.residency.proofs.Laws.WellFormedLemmas.{well_formed-marked, well_formed-touched}
 use Rattle.el_base.specs.declared.config.Config.{Config}
 use Rattle.el_base.specs.declared.outcomes.Need.{Need}
 use Rattle.el_base.specs.declared.outcomes.Need.TheVariants.{Read, Write}
@@ -17,12 +17,12 @@ use Rattle.el_model.specs.InSection.{covered, is_covered}
 use Rattle.el_model.specs.Plain.{after_access, after_touch}
 use Rattle.el_model.specs.Serve.{others_cache}
 use Rattle.el_model.specs.Upcoming.{Touch}
-use Rattle.el_model.proofs.Tests.{by_test}
+use Rattle.el_model.proofs.Laws.Tests.{by_test}
 use Rattle.moesi.specs.declared.letter.Letter.TheVariants.{M}
 use Rattle.section_laws.specs.Bounds.{IsShaped}
 use Rattle.section_laws.proofs.Rooms.{room_cleared}
-use Rattle.section_laws.proofs.ServedCaches.{WritesNoMore, marked_writes, others_room, others_sets, others_well_formed, others_writes, own_after}
-use Rattle.section_laws.proofs.ServedCaches.{own_after_sets, own_after_well_formed, own_after_write_bit, own_after_writes}
+use Rattle.section_laws.proofs.Laws.ServedCaches.{WritesNoMore, marked_writes, others_room, others_sets, others_well_formed, others_writes, own_after}
+use Rattle.section_laws.proofs.Laws.ServedCaches.{own_after_sets, own_after_well_formed, own_after_write_bit, own_after_writes}
 
 -- a cache of the configuration's shape, with no more written lines than configured
 pub record IsConfigured (config : Config) (cache : List (List Way)) : Type 0 where

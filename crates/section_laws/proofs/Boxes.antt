@@ -4,16 +4,16 @@ use Rattle.std.proofs.Common.{◌⊎◌, arith}
 use Rattle.std.specs.List.{count_by}
 use Rattle.std.proofs.lemmas.Bool.{cases_eq}
 use Rattle.std.proofs.lemmas.List.Sums.{sum_by-cons}
-use Rattle.cache_sets.proofs.MarkLemmas.{one_if}
-use Rattle.bus_order.proofs.LookUps.{number_of_test, own_test}
+use Rattle.residency.proofs.Laws.MarkLemmas.{one_if}
+use Rattle.bus_order.proofs.Laws.LookUps.{number_of_test, own_test}
 use Rattle.defer_list.specs.HartSet as sets
 use Rattle.defer_list.specs.HartSet.{excluded, has, included}
-use Rattle.defer_list.proofs.LookUps.{has_excluded_other, has_excluded_own, has_included_other}
-use Rattle.defer_list.proofs.OnceEach.{once_each_cons, once_each_excluded, once_each_included}
-use Rattle.el_model.proofs.Tests.{by_test}
+use Rattle.defer_list.proofs.Laws.LookUps.{has_excluded_other, has_excluded_own, has_included_other}
+use Rattle.defer_list.proofs.Laws.OnceEach.{once_each_cons, once_each_excluded, once_each_included}
+use Rattle.el_model.proofs.Laws.Tests.{by_test}
 use Rattle.mail.specs.Mailbox.{Marker, Message, Probe, has_message, posted, same_message, without_markers, without_probe}
-use Rattle.mail.proofs.LookUps.{has_posted_other}
-use Rattle.mail.proofs.OnceEach.{count_of, count_of_cons, once_each_none, once_each_posted, once_each_without_oldest, same_as_itself, same_is_one}
+use Rattle.mail.proofs.Laws.LookUps.{has_posted_other}
+use Rattle.mail.proofs.Laws.OnceEach.{count_of, count_of_cons, once_each_none, once_each_posted, once_each_without_oldest, same_as_itself, same_is_one}
 use Rattle.section_laws.specs.Messages.{IsMailbox, IsOther, IsSetOfOthers, named, origins, senders}
 
 -- a mailbox without messages, and a set without harts

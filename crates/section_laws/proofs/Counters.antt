@@ -18,7 +18,7 @@ use Rattle.pair_table.specs.declared.verdict.Verdict.{Verdict}
 use Rattle.pair_table.specs.declared.verdict.Verdict.TheVariants.{Up, Down}
 use Rattle.section_laws.specs.EachHart.{AreCounters}
 use Rattle.section_laws.specs.Laws.{CountersStayInRange}
-use Rattle.section_laws.proofs.EachKept.{EachKept, always_each}
+use Rattle.section_laws.proofs.Laws.EachKept.{EachKept, always_each}
 
 abbrev Holds : Hart → Type 0
 Holds hart = AreCounters hart.predictor.counters

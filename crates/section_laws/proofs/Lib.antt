@@ -1,29 +1,10 @@
-pub mod Moves
-pub mod EachKept
-pub mod Statuses
-pub mod Waiting
-pub mod Numbered
-pub mod OrderedHarts
-pub mod SectionSteps
-pub mod Lengths
-pub mod Accounts
-pub mod Steady
-pub mod Bits
-pub mod Fewer
-pub mod FreeLines
-pub mod Serving
-pub mod OnlyInside
-pub mod ArmedBits
-pub mod Coherence
-pub mod LetGone
-pub mod ArmedCounts
-pub mod TriesLeft
-pub mod Counters
-pub mod OnceEach
-pub mod SerialLength
-pub mod Rooms
-pub mod ServedCaches
-pub mod Bounded
-pub mod Bounds
-pub mod Boxes
-pub mod Messages
+pub mod Laws
+mod Steady
+mod Serving
+mod OnlyInside
+mod TriesLeft
+mod Counters
+mod Rooms
+mod Bounded
+mod Boxes
+mod Messages

@@ -4,7 +4,7 @@ use Rattle.std.proofs.Common.{is_some, length}
 use Rattle.std.proofs.Common.{refl, ap, sym, subst, arith, if◌then◌else◌}
 use Rattle.std.proofs.lemmas.List.{length-replicate}
 use Rattle.bus_order.specs.Order.{Request, request_of}
-use Rattle.bus_order.proofs.Queues.{request_of_first_of, request_of_tail_of}
+use Rattle.bus_order.proofs.Laws.Queues.{request_of_first_of, request_of_tail_of}
 use Rattle.el_base.specs.declared.config.Config.{Config}
 use Rattle.el_base.specs.declared.config.Mode.{Mode}
 use Rattle.el_base.specs.declared.config.Mode.TheVariants.{Plain, Sle, Tlr}
@@ -21,20 +21,20 @@ use Rattle.el_model.specs.RollBack.{beaten, most_tries, out_of_section}
 use Rattle.el_model.specs.Serve.{bystander, served_hart, with_claim}
 use Rattle.el_model.specs.State.{Hart, ModelState, begin, hart_of, new_hart, ordered_of, raised_of}
 use Rattle.el_model.specs.Upcoming.{Swap}
-use Rattle.el_model.proofs.AllHarts.{all_first}
-use Rattle.el_model.proofs.BusEvents.{by_event, with_mail}
-use Rattle.el_model.proofs.EachHart.{Each}
-use Rattle.el_model.proofs.FromStart.{kept_after}
-use Rattle.el_model.proofs.Tests.{by_hart}
+use Rattle.el_model.proofs.Laws.AllHarts.{all_first}
+use Rattle.el_model.proofs.Laws.BusEvents.{by_event, with_mail}
+use Rattle.el_model.proofs.Laws.EachHart.{Each}
+use Rattle.el_model.proofs.Laws.FromStart.{kept_after}
+use Rattle.el_model.proofs.Laws.Tests.{by_hart}
 use Rattle.mail.specs.Mailbox.{Marker, Message, Probe}
 use Rattle.section_laws.specs.Messages.{IsMailbox, IsOther, IsSetOfOthers, MessagesAreFewerThanHarts, MessagesNameOthersOnce, NamesOthersOnce, named}
 use Rattle.section_laws.proofs.Boxes.{fewer_others, mailbox_of_served, mailbox_posted, mailbox_taken}
 use Rattle.section_laws.proofs.Boxes.{mailbox_without_probe, no_mail}
 use Rattle.section_laws.proofs.Boxes.{no_others, oldest_other, origins_are_others, others_excluded, others_included, senders_are_others}
-use Rattle.section_laws.proofs.Moves.{step_keeps}
-use Rattle.section_laws.proofs.Numbered.{Once, first_once, next_count, next_once, order_keeps, raised_exists}
-use Rattle.section_laws.proofs.OrderedHarts.{AreBelow, below_kept}
-use Rattle.section_laws.proofs.Waiting.{free_of_order}
+use Rattle.section_laws.proofs.Laws.Moves.{step_keeps}
+use Rattle.section_laws.proofs.Laws.Numbered.{Once, first_once, next_count, next_once, order_keeps, raised_exists}
+use Rattle.section_laws.proofs.Laws.OrderedHarts.{AreBelow, below_kept}
+use Rattle.section_laws.proofs.Laws.Waiting.{free_of_order}
 use Rattle.stamp.specs.Stamps.{Stamp}
 
 abbrev Holds : ℕ → ℕ → Hart → Type 0

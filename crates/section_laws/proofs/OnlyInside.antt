@@ -2,9 +2,9 @@
 use Rattle.std.proofs.Common.{◌≡◌, ℕ, Bool, true, false, List, [], ◌∷◌, Option, None, Some, is_some, map, refl, sym, ◌∙◌}
 use Rattle.std.specs.List.{list_any}
 use Rattle.bus_order.specs.Order.{Request}
-use Rattle.cache_sets.specs.Cache.{committed, committed_way, has_marks, is_resident}
-use Rattle.cache_sets.specs.Residency.{Way, is_marked}
-use Rattle.cache_sets.proofs.Unmarked.{unmarked-cleared, unmarked-empty, unmarked-filled_with, unmarked-lettered, unmarked-touched, unmarked-without_line}
+use Rattle.residency.specs.Cache.{committed, committed_way, has_marks, is_resident}
+use Rattle.residency.specs.Residency.{Way, is_marked}
+use Rattle.residency.proofs.Laws.Unmarked.{unmarked-cleared, unmarked-empty, unmarked-filled_with, unmarked-lettered, unmarked-touched, unmarked-without_line}
 use Rattle.el_base.specs.declared.outcomes.Need.{Need}
 use Rattle.el_base.specs.declared.outcomes.Need.TheVariants.{Read, Write}
 use Rattle.el_model.specs.Deed.{Arms, Begins, Buffers, Commits, Continues, Deed, Elides, LetsGo, Misses, Rests, RollsBack, Runs, Waits, hart_after}
@@ -12,10 +12,10 @@ use Rattle.el_model.specs.Plain.{after_access, after_candidate, after_touch, can
 use Rattle.el_model.specs.Serve.{given_up, others_cache, own_copy, with_claim}
 use Rattle.el_model.specs.State.{Hart, ModelState, Section, hart_of}
 use Rattle.el_model.specs.Upcoming.{Swap, Touch}
-use Rattle.el_model.proofs.Tests.{by_test}
+use Rattle.el_model.proofs.Laws.Tests.{by_test}
 use Rattle.section_laws.specs.EachHart.{HasBitsOnlyInside}
 use Rattle.section_laws.specs.Laws.{OnlyLiveSectionsHaveBits}
-use Rattle.section_laws.proofs.EachKept.{EachKept, always_each}
+use Rattle.section_laws.proofs.Laws.EachKept.{EachKept, always_each}
 
 abbrev pub Holds : Hart → Type 0
 Holds hart = HasBitsOnlyInside hart.section hart.armed hart.cache

@@ -6,11 +6,11 @@ use Rattle.std.specs.Prelude.{nat_lt, slice_index_or}
 use Rattle.std.proofs.lemmas.Bool.{cases_eq}
 use Rattle.std.proofs.lemmas.Bool.Decides.{nat_tests}
 use Rattle.std.proofs.lemmas.List.{get_or-map, length-map}
-use Rattle.cache_sets.specs.Cache.{cleared, has_marks, lettered, room_of, set_number, set_of, with_set, without_line}
-use Rattle.cache_sets.specs.Residency.{Way, changed_in, dropped, has_unmarked, is_marked, room_in, way_in, with_letter, without_bits}
-use Rattle.cache_sets.specs.WellFormed.{IsWellFormed}
-use Rattle.cache_sets.proofs.CacheLemmas.{set_of-with_set_other, set_of-with_set_same}
-use Rattle.el_model.proofs.Tests.{by_test}
+use Rattle.residency.specs.Cache.{cleared, has_marks, lettered, room_of, set_number, set_of, with_set, without_line}
+use Rattle.residency.specs.Residency.{Way, changed_in, dropped, has_unmarked, is_marked, room_in, way_in, with_letter, without_bits}
+use Rattle.residency.specs.WellFormed.{IsWellFormed}
+use Rattle.residency.proofs.Laws.CacheLemmas.{set_of-with_set_other, set_of-with_set_same}
+use Rattle.el_model.proofs.Laws.Tests.{by_test}
 use Rattle.moesi.specs.declared.letter.Letter.{Letter}
 
 -- room that a line has by one of three things: it is there, the set has a way to spare, or a line without bits

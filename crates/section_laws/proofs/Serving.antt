@@ -1,17 +1,17 @@
 -- what a served request does to the copies of its line, and to the other lines
 use Rattle.std.proofs.Common.{◌≡◌, ◌≢◌, ◌∙◌, ℕ, Bool, true, false, List, [], ◌∷◌, Option, None, Some, is_some, option_map, refl, ap, sym, subst, inl, inr, ◌⊎◌, arith}
-use Rattle.cache_sets.specs.Cache.{filled_with, is_resident, letter_in, letter_of, lettered, way_of}
-use Rattle.cache_sets.specs.Residency.{Way, with_letter}
-use Rattle.cache_sets.proofs.CacheLemmas.{way_of-filled_with_same, way_of-lettered_other, way_of-lettered_same, way_of-without_line_same}
+use Rattle.residency.specs.Cache.{filled_with, is_resident, letter_in, letter_of, lettered, way_of}
+use Rattle.residency.specs.Residency.{Way, with_letter}
+use Rattle.residency.proofs.Laws.CacheLemmas.{way_of-filled_with_same, way_of-lettered_other, way_of-lettered_same, way_of-without_line_same}
 use Rattle.el_base.specs.declared.outcomes.Need.{Need}
 use Rattle.el_base.specs.declared.outcomes.Need.TheVariants.{Read, Write}
 use Rattle.el_model.specs.Serve.{kept_letter, others_cache, own_copy}
-use Rattle.el_model.proofs.Tests.{by_test}
+use Rattle.el_model.proofs.Laws.Tests.{by_test}
 use Rattle.moesi.specs.Letters.{filled_of, may_write, on_read_of}
 use Rattle.moesi.specs.declared.letter.Letter.{Letter}
 use Rattle.moesi.specs.declared.letter.Letter.TheVariants.{M, O, E, S, I}
 use Rattle.section_laws.specs.Coherence.{IsOwned, MayBeTogether}
-use Rattle.section_laws.proofs.FreeLines.{NotWritten}
+use Rattle.section_laws.proofs.Laws.FreeLines.{NotWritten}
 use Rattle.section_laws.proofs.Steady.{IsSteady, Steady, SteadyWay, same_way, steady_filled, steady_lettered, steady_without_line, together_kept}
 
 on_read_shared : (letter : Letter) → may_write (on_read_of letter) ≡ false

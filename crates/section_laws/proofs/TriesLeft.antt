@@ -10,7 +10,7 @@ use Rattle.el_model.specs.State.{Hart, ModelState, hart_of}
 use Rattle.el_model.specs.Upcoming.{Swap}
 use Rattle.section_laws.specs.EachHart.{HasTriesLeft}
 use Rattle.section_laws.specs.Laws.{TriesStayBelowFour}
-use Rattle.section_laws.proofs.EachKept.{EachKept, always_each}
+use Rattle.section_laws.proofs.Laws.EachKept.{EachKept, always_each}
 
 abbrev Holds : Hart → Type 0
 Holds hart = HasTriesLeft hart.tries

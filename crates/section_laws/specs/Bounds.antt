@@ -1,9 +1,9 @@
 -- how much a cache has at most, and what it has left for a hart that waits
 use Rattle.std.specs.Prelude.{ℕ, ◌≡◌, ◌≤◌, ◌<◌, ◌⊎◌, true, false, List, Some, length}
 use Rattle.bus_order.specs.Order.{Request}
-use Rattle.cache_sets.specs.Cache.{room_of, write_bit, write_bits_of}
-use Rattle.cache_sets.specs.Residency.{Way}
-use Rattle.cache_sets.specs.WellFormed.{IsWellFormed}
+use Rattle.residency.specs.Cache.{room_of, write_bit, write_bits_of}
+use Rattle.residency.specs.Residency.{Way}
+use Rattle.residency.specs.WellFormed.{IsWellFormed}
 use Rattle.el_base.specs.Config.{IsInRange}
 use Rattle.el_base.specs.declared.config.Config.{Config}
 use Rattle.el_base.specs.declared.events.Event.{Event}

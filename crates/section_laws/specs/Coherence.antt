@@ -1,7 +1,7 @@
 -- how the copies of a line in the caches of several harts stand to one another
 use Rattle.std.specs.Prelude.{ℕ, ◌≡◌, ◌≢◌, true, false, List, Option, None, Some}
-use Rattle.cache_sets.specs.Cache.{way_of}
-use Rattle.cache_sets.specs.Residency.{Way}
+use Rattle.residency.specs.Cache.{way_of}
+use Rattle.residency.specs.Residency.{Way}
 use Rattle.el_model.specs.State.{ModelState, cache_of}
 use Rattle.moesi.specs.Letters.{may_write}
 use Rattle.moesi.specs.declared.letter.Letter.{Letter}

@@ -1,7 +1,7 @@
 -- what holds of each hart by itself, whatever the events
 use Rattle.std.specs.Prelude.{ℕ, ◌≡◌, ◌≢◌, ◌≤◌, ◌<◌, true, false, List, None, Option, length, slice_index}
-use Rattle.cache_sets.specs.Cache.{has_marks, read_bit, write_bit}
-use Rattle.cache_sets.specs.Residency.{Way}
+use Rattle.residency.specs.Cache.{has_marks, read_bit, write_bit}
+use Rattle.residency.specs.Residency.{Way}
 use Rattle.el_base.specs.Line.{line_number}
 use Rattle.el_model.specs.Armed.{most_armed}
 use Rattle.el_model.specs.RollBack.{most_tries}

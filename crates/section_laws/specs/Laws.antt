@@ -1,7 +1,7 @@
 -- what holds of every state that can be reached
 use Rattle.std.specs.Prelude.{ℕ, ◌≡◌, ◌≢◌, true, false, List, None, Some}
 use Rattle.bus_order.specs.Order.{IsOneEach, Request}
-use Rattle.cache_sets.specs.Cache.{has_bit, way_of, write_bit}
+use Rattle.residency.specs.Cache.{has_bit, way_of, write_bit}
 use Rattle.el_base.specs.Config.{IsInRange}
 use Rattle.el_base.specs.declared.config.Config.{Config}
 use Rattle.el_base.specs.declared.events.Event.{Event}

@@ -1,6 +1,6 @@
 -- a line is in a set of a cache once
 use Rattle.std.specs.Prelude.{◌≡◌, List, [], ◌∷◌, None}
-use Rattle.cache_sets.specs.Residency.{Way, way_in}
+use Rattle.residency.specs.Residency.{Way, way_in}
 
 -- no later way of the set has the line of an earlier one
 abbrev pub IsOnce : List Way → Type 0

@@ -9,9 +9,9 @@
 //! 'Transactional Lock-Free Execution of Lock-Based Programs', ASPLOS 2002; the rules are this project's profile.
 #![tactic(auto)]
 
-mod laws;
+mod theorems;
 
-pub use laws::{
+pub use theorems::{
     armed_harts_wait_for_nothing, armed_sections_are_short, armed_sections_have_one_read_bit,
     begun_sections_are_accounted_for, caches_are_shaped, copies_are_coherent,
     counters_stay_in_range, each_hart_waits_for_one, messages_are_fewer_than_harts,

@@ -7,7 +7,7 @@ use Rattle.coherence.specs.Beginning.{line_in, line_of}
 use Rattle.el_base.specs.declared.line.TheConstants.{LINE_BYTES}
 use Rattle.rv_flat.specs.FlatState.{FlatState}
 use Rattle.section_view.specs.Release.{IsLineFrom}
-use Rattle.write_hold.proofs.LookUps.{held_at_address, seen_at_no_line}
+use Rattle.write_hold.proofs.Laws.LookUps.{held_at_address, seen_at_no_line}
 use Rattle.write_hold.specs.Held.{Entry, held, held_at, holds, seen_at}
 
 -- a byte of a line

@@ -16,7 +16,7 @@ use Rattle.rv_flat.specs.Step as flat_step
 use Rattle.rv_word.specs.Decoding.{decoded}
 use Rattle.rv_word.specs.declared.insn.Insn.TheVariants as insns
 use Rattle.rv_word.specs.declared.reg.Reg.{Reg}
-use Rattle.run_laws.proofs.Reserving.{completes_by, reserves}
+use Rattle.run_laws.proofs.Laws.Reserving.{completes_by, reserves}
 use Rattle.section_view.specs.ArmedLaws.{ConditionalsAct, ReservesAct}
 
 -- one that reads or writes has passed its checks

@@ -1,6 +1,6 @@
 -- what holds of the view and the value that the code keeps of an armed section
 use Rattle.std.specs.Prelude.{ℕ, ◌≡◌, ◌+◌, Bool, true, List, [], Some}
-use Rattle.cache_sets.specs.Residency.{Way}
+use Rattle.residency.specs.Residency.{Way}
 use Rattle.el_model.specs.Armed.{is_quiet}
 use Rattle.el_model.specs.State.{Armed, Section}
 use Rattle.el_model.specs.Upcoming.{Swap, next_conditional, next_reserved}

@@ -1,8 +1,8 @@
 -- what the code keeps of a live section, its present view and its buffered stores, and of an armed one, its view and its word's value,
 -- against the private run of the definition
 use Rattle.std.specs.Prelude.{ℕ, ◌≡◌, ◌≤◌, ◌<◌, ◌+◌, ◌↔◌, Bool, true, ◌||◌, ◌==◌, List, None, Some, slice_index, unwrap_or}
-use Rattle.cache_sets.specs.Cache.{write_bit}
-use Rattle.cache_sets.specs.Residency.{Way}
+use Rattle.residency.specs.Cache.{write_bit}
+use Rattle.residency.specs.Residency.{Way}
 use Rattle.core_step.specs.Port.{stored}
 use Rattle.el_base.specs.Line.{line_number}
 use Rattle.el_model.specs.State.{Armed, Section}

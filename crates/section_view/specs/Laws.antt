@@ -1,6 +1,6 @@
 -- what holds of the view and the hold that the code keeps of a live section
 use Rattle.std.specs.Prelude.{ℕ, ◌≡◌, ◌+◌, ◌%◌, ◌^◌, ◌<◌, Bool, true, List, [], length, Option, None, Some, slice_index}
-use Rattle.cache_sets.specs.Residency.{Way}
+use Rattle.residency.specs.Residency.{Way}
 use Rattle.core_step.specs.Port.{byte_of}
 use Rattle.el_base.specs.Line.{line_number}
 use Rattle.el_base.specs.declared.config.Config.{Config}

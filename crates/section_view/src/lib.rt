@@ -12,9 +12,9 @@
 //! 'Transactional Lock-Free Execution of Lock-Based Programs', ASPLOS 2002; the rules are this project's profile.
 #![tactic(auto)]
 
-mod laws;
+mod theorems;
 
-pub use laws::{
+pub use theorems::{
     armed_sections_begin, armed_sections_come_to, armed_sections_elide, armed_sections_go_on,
     committed_is_of_its_program, conditionals_act, kept_armed_runs_survive, kept_runs_survive,
     marks_stay, released_views_are_told, releases_store_their_word, reserves_act, sections_begin,

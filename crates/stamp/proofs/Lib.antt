@@ -1,1 +1,1 @@
-pub mod StampOrder
+pub mod Laws

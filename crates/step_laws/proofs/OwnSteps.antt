@@ -10,15 +10,15 @@ use Rattle.el_model.specs.Deed.{Arms, Begins, Buffers, Commits, Continues, Deed,
 use Rattle.el_model.specs.Deed.{RollsBack, Runs, Waits, done, hart_after, outcome_of}
 use Rattle.el_model.specs.Next.{after, next}
 use Rattle.el_model.specs.State.{ModelState, begin, hart_of}
-use Rattle.el_model.proofs.BusEvents.{by_event}
-use Rattle.el_model.proofs.FromStart.{kept_after, steps_are_deeds}
-use Rattle.el_model.proofs.Harts.{hart_of-with_hart_same, with_hart_kept}
+use Rattle.el_model.proofs.Laws.BusEvents.{by_event}
+use Rattle.el_model.proofs.Laws.FromStart.{kept_after, steps_are_deeds}
+use Rattle.el_model.proofs.Laws.Harts.{hart_of-with_hart_same, with_hart_kept}
 use Rattle.rv_alu.specs.declared.view.HartStatus.TheVariants.{Running}
-use Rattle.rv_flat.proofs.RunsAfter.{runs-exists}
+use Rattle.rv_flat.proofs.Laws.RunsAfter.{runs-exists}
 use Rattle.rv_flat.specs.FlatState.{status_of}
 use Rattle.rv_flat.specs.Run.{alone}
-use Rattle.section_laws.proofs.Lengths.{AsMany, first_as_many, next_as_many}
-use Rattle.section_laws.proofs.Waiting.{is_rolled}
+use Rattle.section_laws.proofs.Laws.Lengths.{AsMany, first_as_many, next_as_many}
+use Rattle.section_laws.proofs.Laws.Waiting.{is_rolled}
 use Rattle.step_laws.specs.OwnSteps.{Does, OwnCommits, OwnDeeds, OwnOutcomes, OwnRollbacks, TellsOf}
 
 -- a hart that runs is one of the machine's

@@ -1,6 +1,6 @@
 -- a step as its own hart comes out of it
 use Rattle.std.specs.Prelude.{ℕ, ◌≡◌, ◌+◌, ◌⊎◌, List, Option, None, Some}
-use Rattle.cache_sets.specs.Cache as caches
+use Rattle.residency.specs.Cache as caches
 use Rattle.el_base.specs.LineAddr.{line_addr}
 use Rattle.el_base.specs.declared.config.Config.{Config}
 use Rattle.el_base.specs.declared.events.Event.{Event}

@@ -1,7 +1,7 @@
 -- what an event that is no step of a section's own hart leaves of the section, where it is live before and after
 use Rattle.std.specs.Prelude.{ℕ, ◌≡◌, ◌≢◌, true, List, Some}
-use Rattle.cache_sets.specs.Cache.{read_bit, write_bit}
-use Rattle.cache_sets.specs.Residency.{Way}
+use Rattle.residency.specs.Cache.{read_bit, write_bit}
+use Rattle.residency.specs.Residency.{Way}
 use Rattle.el_base.specs.declared.config.Config.{Config}
 use Rattle.el_base.specs.declared.events.Event.{Event}
 use Rattle.el_base.specs.declared.events.Kind.TheVariants as kinds

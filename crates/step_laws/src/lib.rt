@@ -10,9 +10,9 @@
 //! Lock-Free Execution of Lock-Based Programs', ASPLOS 2002; the rules are this project's profile.
 #![tactic(auto)]
 
-mod laws;
+mod theorems;
 
-pub use laws::{
+pub use theorems::{
     bus_events_keep, bus_events_let_harts_go, clocks_are_few, only_live_sections_lose, own_commits,
     own_deeds, own_outcomes, own_rollbacks, sections_are_short, steps_keep_others,
     survivors_keep_bits, survivors_keep_what_they_show, watches_are_short, what_ends_a_section,

@@ -1,6 +1,6 @@
-pub mod Conflicts
-pub mod Counting
-pub mod Readings
-pub mod Rows
-pub mod Standing
-pub mod Summing
+mod Conflicts
+mod Counting
+mod Readings
+mod Rows
+mod Standing
+mod Summing

@@ -1,3 +1,3 @@
-pub mod Contents
-pub mod Images
-pub mod Numbered
+mod Contents
+mod Images
+mod Numbered

@@ -9,7 +9,7 @@ use Rattle.elf_image.specs.Built.{built_memory, built_program, data_start, data_
 use Rattle.elf_image.specs.Layout.{round_up}
 use Rattle.elf_image.specs.Limits.{line_size, stack_size}
 use Rattle.elf_image.specs.Numbers.{word_at, word_bytes}
-use Rattle.elf_image.proofs.WrittenBytes.{length-word_bytes}
+use Rattle.elf_image.proofs.Laws.WrittenBytes.{length-word_bytes}
 
 -- a number behind other bytes
 behind : (xs ys : List ℕ) (i n k : ℕ) → k ≡ length xs + i → little_from k n (xs ++ ys) ≡ little_from i n ys

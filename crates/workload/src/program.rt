@@ -100,7 +100,7 @@ impl Program {
     }
 
     /// The words in order.
-    #[tactic(auto, using(rv_asm::proofs::Faultless::all_placed, rv_asm::proofs::Faultless::short_near), unfolding(crate::specs::Extent::extent))]
+    #[tactic(auto, using(rv_asm::proofs::Laws::Faultless::all_placed, rv_asm::proofs::Laws::Faultless::short_near), unfolding(crate::specs::Extent::extent))]
     pub fn finish(self) -> Result<Vec<u32>, NoMemory>
         requires { (extent self).words ≤ MOST_WORDS }
         ensures size { IfOk result (λ words. length words.items ≡ (extent self).words) }

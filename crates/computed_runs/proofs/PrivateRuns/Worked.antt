@@ -2,7 +2,7 @@
 -- private run is covered, and shows what it showed. What it does not say is refuted on the same run.
 use Rattle.std.specs.Prelude.{slice_index}
 use Rattle.std.proofs.Common.{◌≡◌, ℕ, List, [], ◌∷◌, None, Some, true, replicate, refl, arith, ◌<◌}
-use Rattle.cache_sets.specs.Cache.{read_bit}
+use Rattle.residency.specs.Cache.{read_bit}
 use Rattle.el_base.specs.LineAddr.{line_addr}
 use Rattle.el_base.specs.declared.config.Mode.TheVariants.{Sle}
 use Rattle.el_base.specs.declared.events.Event.{Event}

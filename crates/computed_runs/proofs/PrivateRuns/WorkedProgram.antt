@@ -11,7 +11,7 @@ use Rattle.computed_runs.proofs.Given.{ordered_with, section, served_with}
 use Rattle.computed_runs.proofs.Rows.Given.{settings}
 use Rattle.el_model.specs.Next.{after, outcomes}
 use Rattle.el_model.specs.State.{cache_of, section_of}
-use Rattle.run_laws.proofs.Reachable.{live_sections_run_covered}
+use Rattle.run_laws.proofs.Laws.Reachable.{live_sections_run_covered}
 use Rattle.run_laws.specs.PrivateRun.{IsCoveredRun}
 use Rattle.computed_runs.proofs.Sections.FullSet.{events, program}
 

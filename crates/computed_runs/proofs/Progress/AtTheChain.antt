@@ -5,7 +5,7 @@ use Rattle.std.specs.Prelude.{count_by, is_some, nat_lt, slice_index}
 use Rattle.std.specs.List.{list_all}
 use Rattle.std.specs.Option.{option_map}
 use Rattle.std.proofs.Common.{◌≡◌, ◌++◌, ◌==◌, ℕ, Bool, true, false, List, [], ◌∷◌, length, map, replicate, None, Some, refl, if◌then◌else◌}
-use Rattle.cache_sets.specs.Cache.{has_marks, letter_of, room_of, way_of, write_bit, write_bits_of}
+use Rattle.residency.specs.Cache.{has_marks, letter_of, room_of, way_of, write_bit, write_bits_of}
 use Rattle.chronicle.specs.Serial.{serial}
 use Rattle.el_base.specs.declared.entries.Entry.{Entry}
 use Rattle.el_base.specs.declared.events.Event.{Event}

@@ -16,7 +16,7 @@ use Rattle.computed_runs.proofs.Rows.Given.{machine_of, settings, store_word, us
 use Rattle.mail.specs.Mailbox.{Marker, Probe}
 use Rattle.progress_laws.specs.Ready.{gets_on, is_progress, ready_event}
 use Rattle.rv_flat.specs.FlatState.{status_of}
-use Rattle.progress_laws.proofs.Cases.{true_false}
+use Rattle.progress_laws.proofs.Laws.Cases.{true_false}
 
 -- four harts in lock removal: hart 1 has written a line in its section, and harts 2, 3 and 0 wait for it in this order, each with a
 -- marker of the one before it

@@ -2,7 +2,7 @@
 -- wrong rule, and what it would come to.
 use Rattle.std.proofs.Common.{◌≡◌, List, [], ◌∷◌, Option, None, Some, refl, true, false}
 use Rattle.bus_order.specs.Order.{Request, in_front_of}
-use Rattle.cache_sets.specs.Residency.{Way, victim_in}
+use Rattle.residency.specs.Residency.{Way, victim_in}
 use Rattle.el_base.specs.declared.outcomes.Need.TheVariants.{Read, Write}
 use Rattle.computed_runs.proofs.Given.{request, way}
 use Rattle.moesi.specs.declared.letter.Letter.TheVariants.{S}

@@ -1,7 +1,7 @@
 -- One hart arms at an LR, writes over its register, and comes to its SC: its view and the value that the LR found keep its run, and the live
 -- section that it becomes begins with them. What the laws do not say is refuted on the same run.
 use Rattle.std.proofs.Common.{◌≡◌, ◌≤◌, ◌<◌, ◌+◌, ◌*◌, ℕ, zero, suc, true, false, List, [], ◌∷◌, None, Some, arith, refl, replicate, subst, sym, ap}
-use Rattle.cache_sets.specs.Residency.{Way}
+use Rattle.residency.specs.Residency.{Way}
 use Rattle.computed_runs.proofs.Computing.{computing}
 use Rattle.computed_runs.proofs.Given.{patched, section, way}
 use Rattle.computed_runs.proofs.Rows.Given.{load_reserved, machine_of, settings, store_conditional, store_word, usual}
@@ -18,7 +18,7 @@ use Rattle.rv_flat.specs.Run.{alone}
 use Rattle.rv_flat.specs.Step.{action_of}
 use Rattle.rv_word.specs.Field.{rd_of}
 use Rattle.run_laws.specs.PrivateRun.{IsArmedRun}
-use Rattle.section_view.proofs.Arming.{armed_elides, armed_goes, arms}
+use Rattle.section_view.proofs.Laws.Arming.{armed_elides, armed_goes, arms}
 use Rattle.section_view.specs.ArmedLaws.{IsElided}
 use Rattle.section_view.specs.KeptRun.{KeepsArmed, KeepsRun}
 

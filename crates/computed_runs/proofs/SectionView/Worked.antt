@@ -7,8 +7,8 @@ use Rattle.std.specs.Prelude.{slice_index}
 use Rattle.std.proofs.lemmas.Bool.{cases_eq}
 use Rattle.std.proofs.lemmas.Bool.Decides.{nat_tests}
 use Rattle.std.proofs.lemmas.Grind.{common_steps}
-use Rattle.bus_order.proofs.LookUps.{other_test}
-use Rattle.cache_sets.specs.Residency.{Way}
+use Rattle.bus_order.proofs.Laws.LookUps.{other_test}
+use Rattle.residency.specs.Residency.{Way}
 use Rattle.el_base.specs.Line.{line_number}
 use Rattle.el_base.specs.declared.config.Mode.TheVariants.{Sle}
 use Rattle.computed_runs.proofs.Computing.{computing}
@@ -27,14 +27,14 @@ use Rattle.rv_flat.specs.Step.{action_of}
 use Rattle.rv_word.specs.Field.{rd_of}
 use Rattle.rv_word.specs.declared.insn.AmoOp.TheVariants as amos
 use Rattle.run_laws.specs.PrivateRun.{IsCoveredRun, IsCoveredStep}
-use Rattle.section_view.proofs.Beginning.{begins}
-use Rattle.section_view.proofs.Committing.{commits}
-use Rattle.section_view.proofs.GoingOn.{goes_on}
+use Rattle.section_view.proofs.Laws.Beginning.{begins}
+use Rattle.section_view.proofs.Laws.Committing.{commits}
+use Rattle.section_view.proofs.Laws.GoingOn.{goes_on}
 use Rattle.section_view.specs.KeptRun.{KeepsRun, section_execution}
 use Rattle.section_view.specs.Laws.{HoldsAfter}
 use Rattle.section_view.specs.Release.{HasEffect}
-use Rattle.write_hold.proofs.LookUps.{laid_above, laid_below}
-use Rattle.write_hold.proofs.Masks.{mask_of_places}
+use Rattle.write_hold.proofs.Laws.LookUps.{laid_above, laid_below}
+use Rattle.write_hold.proofs.Laws.Masks.{mask_of_places}
 use Rattle.write_hold.specs.Calls.{IsPut}
 use Rattle.write_hold.specs.Held.{Entry, Held, held, laid, stored_at}
 

@@ -1,6 +1,6 @@
 -- a program that comes to a full set of which each line has a bit: the lines that a hart waits for have room, and others have none
 use Rattle.std.proofs.Common.{◌≡◌, ◌∙◌, ℕ, true, false, List, [], ◌∷◌, replicate, refl, sym, arith}
-use Rattle.cache_sets.specs.Cache.{room_of}
+use Rattle.residency.specs.Cache.{room_of}
 use Rattle.el_base.specs.Config.{IsInRange}
 use Rattle.el_base.specs.LineAddr.{line_addr}
 use Rattle.el_base.specs.declared.config.Config.{Config}
@@ -16,7 +16,7 @@ use Rattle.computed_runs.proofs.Rows.Given.{code_at, settings, swap}
 use Rattle.el_model.specs.Next.{after, outcomes}
 use Rattle.el_model.specs.State.{cache_of}
 use Rattle.section_laws.specs.Bounds.{IsShaped}
-use Rattle.section_laws.proofs.Bounds.{caches_are_shaped}
+use Rattle.section_laws.proofs.Laws.Bounds.{caches_are_shaped}
 
 -- lui x10, 16; addi x5, x0, 1; amoswap.w x7, x5, (x10)
 abbrev pub words : List ℕ

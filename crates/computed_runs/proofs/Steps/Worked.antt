@@ -1,7 +1,7 @@
 -- The laws at worked values: a section and a watch at their longest, a clock that grows, a section that is lost, and one that
 -- survives. What the laws do not say is refuted on the same runs.
 use Rattle.std.proofs.Common.{◌≡◌, ◌<◌, ℕ, List, [], ◌∷◌, None, Some, true, refl, ap, sym, ◌∙◌, arith}
-use Rattle.cache_sets.specs.Cache.{letter_of, read_bit}
+use Rattle.residency.specs.Cache.{letter_of, read_bit}
 use Rattle.el_base.specs.LineAddr.{line_addr}
 use Rattle.el_base.specs.declared.config.Mode.TheVariants.{Sle, Tlr}
 use Rattle.el_base.specs.declared.events.Event.{Event}

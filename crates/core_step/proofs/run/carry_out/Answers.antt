@@ -1,7 +1,7 @@
 -- what the action stores, by the number that it loads from the port's bytes
 use Rattle.std.proofs.Common.{◌≡◌}
 use Rattle.rv_alu.specs.Execution.{number_of}
-use Rattle.core_step.proofs.Runs.{store_ready}
+use Rattle.core_step.proofs.Laws.Runs.{store_ready}
 use Rattle.core_step.proofs.run.carry_out.Goals as goal
 
 pub store-requires : goal.store-requires

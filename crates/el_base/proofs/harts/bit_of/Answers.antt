@@ -1,4 +1,4 @@
-use Rattle.el_base.proofs.BitSets.{bit_alone}
+use Rattle.el_base.proofs.Laws.BitSets.{bit_alone}
 use Rattle.el_base.proofs.harts.bit_of.Goals as goal
 
 pub returns : goal.returns

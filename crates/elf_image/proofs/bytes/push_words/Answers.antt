@@ -1,5 +1,5 @@
 use Rattle.std.proofs.Common.{arith}
-use Rattle.elf_image.proofs.WrittenBytes.{word_at-word_bytes}
+use Rattle.elf_image.proofs.Laws.WrittenBytes.{word_at-word_bytes}
 use Rattle.elf_image.proofs.bytes.push_words.Goals as goal
 
 pub returns-clause-read_back : goal.returns-clause-read_back

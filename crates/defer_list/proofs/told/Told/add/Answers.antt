@@ -1,5 +1,5 @@
 use Rattle.std.proofs.Common.{rules}
-use Rattle.defer_list.proofs.OnceEach.{unknown_fits, unknown_kept}
+use Rattle.defer_list.proofs.Laws.OnceEach.{unknown_fits, unknown_kept}
 use Rattle.defer_list.proofs.told.Told.add.Goals as goal
 
 pub put_in_front-requires : goal.put_in_front-requires

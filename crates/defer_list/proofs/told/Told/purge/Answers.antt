@@ -1,5 +1,5 @@
 use Rattle.std.proofs.Common.{rules}
-use Rattle.defer_list.proofs.OnceEach.{others_excluded, others_kept}
+use Rattle.defer_list.proofs.Laws.OnceEach.{others_excluded, others_kept}
 use Rattle.defer_list.proofs.told.Told.purge.Goals as goal
 
 pub invariant_of-self : goal.invariant_of-self

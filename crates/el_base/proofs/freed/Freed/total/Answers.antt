@@ -1,6 +1,6 @@
 use Rattle.std.proofs.Common.{◌≡◌, ◌+◌, ℕ, length, ap, sym, ◌∙◌, arith}
 use Rattle.el_base.specs.Freed.{count_in, order_below, order_of}
-use Rattle.el_base.proofs.FreedOrder.{length-order_below-more}
+use Rattle.el_base.proofs.Laws.FreedOrder.{length-order_below-more}
 use Rattle.el_base.proofs.freed.Freed.total.Goals as goal
 
 pub loop-number-preserved : goal.loop-number-preserved

@@ -1,4 +1,4 @@
-use Rattle.el_base.proofs.SameLosers.{same_losers}
+use Rattle.el_base.proofs.Laws.SameLosers.{same_losers}
 use Rattle.el_base.proofs.losers.Losers.equal_by_winners.Goals as goal
 
 pub returns : goal.returns

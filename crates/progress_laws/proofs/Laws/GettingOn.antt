@@ -1,0 +1,236 @@
+-- how a state gets on: by a hart that waits for nothing, by a request or a message, or by the head of a line that no section retains
+use Rattle.std.proofs.Common.{◌≡◌, ◌≢◌, ◌∙◌, ℕ, zero, suc, ◌<◌, ◌≤◌, ◌==◌, Bool, true, false, ◌&&◌, not}
+use Rattle.std.proofs.Common.{List, [], ◌∷◌, Option, None, Some, is_some, length, refl, ap, sym, inl, inr, ◌⊎◌, arith, if◌then◌else◌}
+use Rattle.std.specs.Prelude.{nat_lt, slice_index_or}
+use Rattle.std.proofs.lemmas.Bool.{ltb-true, ltb-false}
+use Rattle.bus_order.specs.Order.{IsOneEach, Request}
+use Rattle.bus_order.proofs.Laws.LookUps.{own_test}
+use Rattle.bus_order.proofs.Laws.Queues.{line_of_first_of, request_of_first_of}
+use Rattle.el_base.specs.declared.config.Config.{Config}
+use Rattle.el_base.specs.declared.events.Event.{Event}
+use Rattle.el_base.specs.declared.events.Kind.{Kind}
+use Rattle.el_base.specs.declared.events.Kind.TheVariants.{Step, Order, Serve, Deliver}
+use Rattle.el_base.specs.declared.outcomes.Why.TheVariants.{Behind, Retained, Locked}
+use Rattle.elf_image.specs.Program.{Program}
+use Rattle.el_model.specs.Conflicts.{first_such, holder_of, retainer_of, retains}
+use Rattle.el_model.specs.Deed.{Arms, Begins, Buffers, Commits, Continues, Deed, DoesWhere, Elides, LetsGo, Misses, Rests, RollsBack, Runs, Waits, outcome_of}
+use Rattle.el_model.specs.Deliver.{deliver_next, deliver_turn}
+use Rattle.el_model.specs.Next.{after, kind_turn}
+use Rattle.el_model.specs.Order.{order_raised, order_turn}
+use Rattle.el_model.specs.Serve.{Free, Obstacle, blocks_if, obstacle_to, other_head, serve_ordered, serve_past, serve_turn}
+use Rattle.el_model.specs.State.{ModelState, begin, has_request, hart_of, head_of, is_held, is_live, numbers_of, ordered_of, raised_of}
+use Rattle.el_model.proofs.Laws.Deeds.{step_deed}
+use Rattle.el_model.proofs.Laws.FromStart.{kept_after}
+use Rattle.mail.specs.Mailbox.{Message}
+use Rattle.progress_laws.specs.Ready.{is_progress}
+use Rattle.rv_alu.specs.declared.view.HartStatus.{HartStatus}
+use Rattle.rv_alu.specs.declared.view.HartStatus.TheVariants.{Exited, Running, Trapped}
+use Rattle.rv_alu.specs.declared.view.HartView.{HartView}
+use Rattle.rv_flat.specs.FlatState.{FlatState, no_hart, status_of}
+use Rattle.section_laws.specs.Waiting.{OnlyHolds}
+use Rattle.section_laws.proofs.Laws.FreeLines.{has_head}
+use Rattle.section_laws.proofs.Laws.Lengths.{AsMany, first_as_many, next_as_many}
+use Rattle.section_laws.proofs.Laws.Numbered.{one_ordered_request_each}
+use Rattle.section_laws.proofs.Laws.Waiting.{Sound, always_sound}
+use Rattle.progress_laws.proofs.Laws.Cases.{some_none, true_false}
+use Rattle.section_laws.proofs.Laws.Bits.{second_of_both}
+
+-- an event of one of the machine's harts is progress
+pub record GetsOn (state : ModelState) : Type 0 where
+  pub hart : ℕ
+  pub kind : Kind
+  pub exists : hart < length state.harts
+  pub progress : is_progress (kind_turn state hart kind).outcome ≡ true
+
+-- what a state is known to be, in every mode: each hart waits for one thing, has one ordered request, and is one of the machine's
+pub record Orderly (state : ModelState) : Type 0 where
+  pub sound : Sound state
+  pub once : IsOneEach state.order
+  pub as_many : AsMany state
+
+pub always_orderly : (program : Program) (config : Config) (events : List Event) → Orderly (after program config events)
+always_orderly program config events = record {
+  sound = always_sound program config events;
+  once = one_ordered_request_each program config events;
+  as_many = kept_after AsMany next_as_many (begin program config) events (first_as_many program config);
+}
+
+-- a hart that runs is one of the machine's
+view_past : (harts : List HartView) (h : ℕ) → length harts ≤ h → slice_index_or harts h no_hart ≡ no_hart
+view_past [] h past = refl
+view_past (view ∷ views) zero past = absurd (omega arith)
+view_past (view ∷ views) (suc h) past = view_past views h (omega (arith, past))
+
+none_past : (state : FlatState) (h : ℕ) → length state.harts ≤ h → status_of state h ≡ Exited 0
+none_past state h past = ap (λ view. view.status) (view_past state.harts h past)
+
+runs_below : (state : FlatState) (h : ℕ) (below : Bool) → nat_lt h (length state.harts) ≡ below → status_of state h ≡ Running →
+    h < length state.harts
+runs_below state h true is running = ltb-true h (length state.harts) is
+runs_below state h false is running = never (sym running ∙ none_past state h (ltb-false h (length state.harts) is))
+  where
+    never : Running ≡ Exited 0 → h < length state.harts
+    never wrong = absurd (cc)
+
+pub runs_exists : (state : ModelState) (h : ℕ) → AsMany state → status_of state.committed h ≡ Running → h < length state.harts
+runs_exists state h same running =
+    let below = runs_below state.committed h (nat_lt h (length state.committed.harts)) refl running in
+    omega (arith, below, same)
+
+-- a hart that waits for something, or that holds a line, runs
+running_or : (status : HartStatus) → (status ≢ Running → ⊥) → status ≡ Running
+running_or Running never = refl
+running_or (Exited code) never = absurd (never (λ wrong. absurd (cc)))
+running_or (Trapped cause pc) never = absurd (never (λ wrong. absurd (cc)))
+
+pub ordered_runs : (state : ModelState) (h : ℕ) (request : Request) → Sound state → ordered_of state h ≡ Some request →
+    status_of state.committed h ≡ Running
+ordered_runs state h request sound is =
+    running_or (status_of state.committed h) (λ ended. some_none (sym is ∙ ((sound h).stopped ended).not_ordered))
+
+pub raised_runs : (state : ModelState) (h : ℕ) (request : Request) → Sound state → raised_of state h ≡ Some request →
+    status_of state.committed h ≡ Running
+raised_runs state h request sound is =
+    running_or (status_of state.committed h) (λ ended. some_none (sym is ∙ ((sound h).stopped ended).not_raised))
+
+pub live_runs : (state : ModelState) (h : ℕ) → Sound state → is_live state h ≡ true → status_of state.committed h ≡ Running
+live_runs state h sound live =
+    running_or (status_of state.committed h)
+    (λ ended. true_false (sym live ∙ ap is_some ((sound h).stopped ended).no_section))
+
+pub held_runs : (state : ModelState) (h line : ℕ) → Sound state → (hart_of state h).held ≡ Some line → status_of state.committed h ≡ Running
+held_runs state h line sound is =
+    running_or (status_of state.committed h) (λ ended. some_none (sym is ∙ ((sound h).stopped ended).not_held))
+
+-- a hart that runs and has no request steps
+pub deed_gets_on : (state : ModelState) (h : ℕ) (deed : Deed) → DoesWhere state h deed → status_of state.committed h ≡ Running →
+    has_request state h ≡ false → is_progress (outcome_of deed) ≡ true
+deed_gets_on state h Rests rests running free = absurd (rests running)
+deed_gets_on state h Waits waits running free = true_false (sym waits.waits ∙ free)
+deed_gets_on state h (Misses line need) does running free = refl
+deed_gets_on state h (Runs touch) does running free = refl
+deed_gets_on state h (Begins swap) does running free = refl
+deed_gets_on state h (Buffers section touch) does running free = refl
+deed_gets_on state h (Commits section) does running free = refl
+deed_gets_on state h (RollsBack section cause) does running free = refl
+deed_gets_on state h (Arms word) does running free = refl
+deed_gets_on state h (Elides armed swap) does running free = refl
+deed_gets_on state h (Continues armed) does running free = refl
+deed_gets_on state h (LetsGo armed) does running free = refl
+
+pub free_gets_on : (state : ModelState) (h : ℕ) → AsMany state → status_of state.committed h ≡ Running → has_request state h ≡ false →
+    GetsOn state
+free_gets_on state h same running free =
+    let step = step_deed state h in
+    record {
+      hart = h;
+      kind = Step;
+      exists = runs_exists state h same running;
+      progress =
+          ap (λ turn. is_progress turn.outcome) step.turn_is ∙ deed_gets_on state h step.deed step.where_it running free;
+    }
+
+-- a raised request is ordered, and a message is delivered
+pub raised_gets_on : (state : ModelState) (h : ℕ) (request : Request) → h < length state.harts → raised_of state h ≡ Some request → GetsOn state
+unfolding order_turn
+raised_gets_on state h request exists raised = record {
+  hart = h;
+  kind = Order;
+  exists = exists;
+  progress = ap (λ found. is_progress (order_raised state found).outcome) raised;
+}
+
+pub mail_gets_on : (state : ModelState) (h : ℕ) (message : Message) (others : List Message) → h < length state.harts →
+    (hart_of state h).mail ≡ message ∷ others → GetsOn state
+unfolding deliver_turn
+mail_gets_on state h message others exists mail = record {
+  hart = h;
+  kind = Deliver;
+  exists = exists;
+  progress = ap (λ box. is_progress (deliver_next state h box).outcome) mail;
+}
+
+-- the first hart of which a test holds, and none where it holds of none
+none_first : (test : ℕ → Bool) (numbers : List ℕ) → ((h : ℕ) → test h ≡ false) → first_such test numbers ≡ None
+none_first test [] none = refl
+none_first test (h ∷ others) none = rw (none h) (none_first test others none)
+
+pub first_passes : (test : ℕ → Bool) (numbers : List ℕ) (h : ℕ) → first_such test numbers ≡ Some h → test h ≡ true
+first_passes test [] h is = absurd (cc)
+first_passes test (first ∷ others) h is = by (test first) refl (first_passes test others h) is
+  where
+    by : (passes : Bool) → test first ≡ passes → (first_such test others ≡ Some h → test h ≡ true) →
+        (if passes then Some first else first_such test others) ≡ Some h → test h ≡ true
+    by true passes rest is = let same : first ≡ h = cc in ap test (sym same) ∙ passes
+    by false passes rest is = rest is
+
+-- a hart that holds a line waits for nothing, and steps
+held_line : (held : Option ℕ) (line : ℕ) → is_held held line ≡ true → (l : ℕ) × (held ≡ Some l)
+held_line None line is = absurd (cc)
+held_line (Some l) line is = (l, refl)
+
+pub holds_only : (state : ModelState) (h line : ℕ) → Sound state → (hart_of state h).held ≡ Some line → has_request state h ≡ false
+holds_only state h line sound is = only (sound h).only_holds
+  where
+    only : ((hart_of state h).held ≡ None) ⊎ OnlyHolds (ordered_of state h) (hart_of state h).section (raised_of state h) → has_request state h ≡ false
+    only (inl none) = some_none (sym is ∙ none)
+    only (inr alone) = rw (alone.not_raised, alone.not_ordered) refl
+
+holder_gets_on : (state : ModelState) (h k line : ℕ) → Sound state → AsMany state → holder_of state h line ≡ Some k → GetsOn state
+holder_gets_on state h k line sound same is =
+    let test = first_passes (λ other. not (other == h) && is_held (hart_of state other).held line) (numbers_of state) k is in
+    let held = held_line (hart_of state k).held line (second_of_both _ _ test) in
+    free_gets_on state k same (held_runs state k held.0 sound held.1) (holds_only state k held.0 sound held.1)
+
+-- the head of a line that no section retains is served, unless a hart holds the line, which then steps
+served_gets_on : (state : ModelState) (h : ℕ) (request : Request) → h < length state.harts → ordered_of state h ≡ Some request →
+    obstacle_to state request ≡ Free → GetsOn state
+unfolding serve_turn
+served_gets_on state h request exists is free = record {
+  hart = h;
+  kind = Serve;
+  exists = exists;
+  progress =
+      ap (λ found. is_progress (serve_ordered state found).outcome) is
+      ∙ ap (λ obstacle. is_progress (serve_past state request obstacle).outcome) free;
+}
+
+own_head : (head : Request) → other_head head.hart (Some head) ≡ None
+own_head head = rw (own_test head.hart) refl
+
+head_gets_on : (state : ModelState) (head : Request) → Orderly state → ordered_of state head.hart ≡ Some head →
+    head_of state head.line ≡ Some head → retainer_of state head.line ≡ None → GetsOn state
+head_gets_on state head orderly ordered first retained = by (holder_of state head.hart head.line) refl
+  where
+    exists : head.hart < length state.harts
+    exists = runs_exists state head.hart orderly.as_many (ordered_runs state head.hart head orderly.sound ordered)
+
+    behind : other_head head.hart (head_of state head.line) ≡ None
+    behind = ap (other_head head.hart) first ∙ own_head head
+
+    locked : Obstacle
+    locked = blocks_if Locked (holder_of state head.hart head.line) Free
+
+    by : (holder : Option ℕ) → holder_of state head.hart head.line ≡ holder → GetsOn state
+    by (Some k) is = holder_gets_on state head.hart k head.line orderly.sound orderly.as_many is
+    by None is =
+        served_gets_on state head.hart head exists ordered
+        (ap (λ first. blocks_if Behind first (blocks_if Retained (retainer_of state head.line) locked)) behind
+        ∙ ap (λ section. blocks_if Retained section locked) retained
+        ∙ ap (λ holder. blocks_if Locked holder Free) is)
+
+pub unretained_gets_on : (state : ModelState) (h : ℕ) (request : Request) → Orderly state → ordered_of state h ≡ Some request →
+    retainer_of state request.line ≡ None → GetsOn state
+unretained_gets_on state h request orderly is unretained = by (head_of state request.line) refl
+  where
+    by : (head : Option Request) → head_of state request.line ≡ head → GetsOn state
+    by None none = absurd (has_head state.order h request is none)
+    by (Some head) first =
+        let line = line_of_first_of state.order request.line head first in
+        head_gets_on state head orderly (request_of_first_of state.order request.line head orderly.once first)
+        (ap (head_of state) line ∙ first) (ap (retainer_of state) line ∙ unretained)
+
+pub line_gets_on : (state : ModelState) (h : ℕ) (request : Request) → Orderly state → ordered_of state h ≡ Some request →
+    ((g : ℕ) → retains state g request.line ≡ false) → GetsOn state
+line_gets_on state h request orderly is unretained =
+    unretained_gets_on state h request orderly is (none_first (λ g. retains state g request.line) (numbers_of state) unretained)

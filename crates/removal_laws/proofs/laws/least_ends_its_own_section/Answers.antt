@@ -1,6 +1,0 @@
-use Rattle.removal_laws.proofs.Endings as endings
-use Rattle.removal_laws.proofs.laws.least_ends_its_own_section.Goals as goal
-
--- src/laws.rt:79:1
-pub returns : goal.returns
-returns c = endings.least_ends_its_own_section

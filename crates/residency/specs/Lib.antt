@@ -1,0 +1,4 @@
+pub mod Residency
+pub mod Cache
+pub mod WellFormed
+pub mod Keyed

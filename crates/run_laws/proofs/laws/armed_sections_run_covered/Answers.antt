@@ -1,5 +1,0 @@
-use Rattle.run_laws.proofs.Reachable as reachable
-use Rattle.run_laws.proofs.laws.armed_sections_run_covered.Goals as goal
-
-pub returns : goal.returns
-returns c = reachable.armed_sections_run_covered

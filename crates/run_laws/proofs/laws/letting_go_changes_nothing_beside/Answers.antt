@@ -1,5 +1,0 @@
-use Rattle.run_laws.proofs.Reachable as reachable
-use Rattle.run_laws.proofs.laws.letting_go_changes_nothing_beside.Goals as goal
-
-pub returns : goal.returns
-returns c = reachable.letting_go_changes_nothing_beside

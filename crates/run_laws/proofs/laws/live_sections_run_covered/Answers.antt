@@ -1,5 +1,0 @@
-use Rattle.run_laws.proofs.Reachable as reachable
-use Rattle.run_laws.proofs.laws.live_sections_run_covered.Goals as goal
-
-pub returns : goal.returns
-returns c = reachable.live_sections_run_covered

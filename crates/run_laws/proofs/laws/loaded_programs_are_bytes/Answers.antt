@@ -1,5 +1,0 @@
-use Rattle.run_laws.proofs.LoadedBytes as loaded_bytes
-use Rattle.run_laws.proofs.laws.loaded_programs_are_bytes.Goals as goal
-
-pub returns : goal.returns
-returns c = loaded_bytes.loaded_programs_are_bytes

@@ -1,5 +1,0 @@
-use Rattle.run_laws.proofs.Reachable as reachable
-use Rattle.run_laws.proofs.laws.other_harts_change_nothing_covered.Goals as goal
-
-pub returns : goal.returns
-returns c = reachable.other_harts_change_nothing_covered

@@ -1,5 +1,0 @@
-use Rattle.run_laws.proofs.OtherHarts as other_harts
-use Rattle.run_laws.proofs.laws.sections_survive_other_harts.Goals as goal
-
-pub returns : goal.returns
-returns c = other_harts.sections_survive_other_harts

@@ -1,5 +1,0 @@
-use Rattle.rv_flat.proofs.StepLaws.{start_regs}
-use Rattle.rv_flat.proofs.laws.start_has_registers.Goals as goal
-
-pub returns : goal.returns
-returns c = λ program. start_regs program

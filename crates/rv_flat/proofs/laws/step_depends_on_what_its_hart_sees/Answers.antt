@@ -1,5 +1,0 @@
-use Rattle.rv_flat.proofs.Frame.{same_step}
-use Rattle.rv_flat.proofs.laws.step_depends_on_what_its_hart_sees.Goals as goal
-
-pub returns : goal.returns
-returns c = λ hart left right in_left in_right same. same_step hart left right in_left in_right same

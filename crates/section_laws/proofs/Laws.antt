@@ -1,0 +1,21 @@
+-- the laws that are offered to the crates above; every other file here is private
+pub mod Moves
+pub mod EachKept
+pub mod Statuses
+pub mod Waiting
+pub mod Numbered
+pub mod OrderedHarts
+pub mod SectionSteps
+pub mod Lengths
+pub mod Accounts
+pub mod Bits
+pub mod Fewer
+pub mod FreeLines
+pub mod ArmedBits
+pub mod Coherence
+pub mod LetGone
+pub mod ArmedCounts
+pub mod OnceEach
+pub mod SerialLength
+pub mod ServedCaches
+pub mod Bounds

@@ -1,6 +1,0 @@
-use Rattle.section_laws.proofs.Counters as counters
-use Rattle.section_laws.proofs.laws.counters_stay_in_range.Goals as goal
-
--- src/laws.rt:42:1
-pub returns : goal.returns
-returns c = counters.counters_stay_in_range

@@ -1,6 +1,0 @@
-use Rattle.section_laws.proofs.Messages as messages
-use Rattle.section_laws.proofs.laws.messages_are_fewer_than_harts.Goals as goal
-
--- src/laws.rt:140:1
-pub returns : goal.returns
-returns c = messages.messages_are_fewer_than_harts

@@ -1,6 +1,0 @@
-use Rattle.section_laws.proofs.Messages as messages
-use Rattle.section_laws.proofs.laws.messages_name_others_once.Goals as goal
-
--- src/laws.rt:133:1
-pub returns : goal.returns
-returns c = messages.messages_name_others_once

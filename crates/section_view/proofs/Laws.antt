@@ -1,0 +1,11 @@
+-- the laws that are offered to the crates above; every other file here is private
+pub mod Bytes
+pub mod Shapes
+pub mod ShownBytes
+pub mod Beginning
+pub mod GoingOn
+pub mod Arming
+pub mod Surviving
+pub mod Releasing
+pub mod Committing
+pub mod OfProgram

@@ -1,5 +1,0 @@
-use Rattle.section_view.proofs.Shapes as shapes
-use Rattle.section_view.proofs.laws.armed_sections_come_to.Goals as goal
-
-pub returns : goal.returns
-returns c = shapes.armed_comes_to

@@ -1,5 +1,0 @@
-use Rattle.section_view.proofs.Arming as arming
-use Rattle.section_view.proofs.laws.armed_sections_elide.Goals as goal
-
-pub returns : goal.returns
-returns c = arming.armed_elides

@@ -1,6 +1,0 @@
-use Rattle.section_view.proofs.OfProgram as of_program
-use Rattle.section_view.proofs.laws.committed_is_of_its_program.Goals as goal
-
--- src/laws.rt:84:1
-pub returns : goal.returns
-returns c = of_program.committed_is

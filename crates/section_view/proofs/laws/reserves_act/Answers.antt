@@ -1,5 +1,0 @@
-use Rattle.section_view.proofs.Reserving as reserving
-use Rattle.section_view.proofs.laws.reserves_act.Goals as goal
-
-pub returns : goal.returns
-returns c = reserving.reserves_act

@@ -1,5 +1,0 @@
-use Rattle.step_laws.proofs.OwnSteps as own_steps
-use Rattle.step_laws.proofs.laws.own_commits.Goals as goal
-
-pub returns : goal.returns
-returns c = own_steps.own_commits

@@ -3,10 +3,10 @@ use Rattle.std.proofs.Common.{◌≡◌, ◌∙◌, ℕ, Bool, true, false, Opti
 use Rattle.std.specs.Prelude.{◌↔◌}
 use Rattle.moesi.specs.declared.letter.Letter.{Letter}
 use Rattle.moesi.specs.declared.letter.Letter.TheVariants.{I}
-use Rattle.cache_sets.specs.Cache.{is_resident, letter_in, letter_of, way_of}
+use Rattle.residency.specs.Cache.{is_resident, letter_in, letter_of, way_of}
 use Rattle.cache_sets.specs.Cached.{Cached}
 use Rattle.cache_sets.specs.Calls.{IsCached}
-use Rattle.cache_sets.specs.Residency.{Way}
+use Rattle.residency.specs.Residency.{Way}
 
 pub absent_letter : (cached : Cached) (line : ℕ) (letter : Letter) → IsCached cached → letter ≡ letter_of cached.residency line →
     (letter ≡ I) ↔ (is_resident cached.residency line ≡ false)

@@ -1,8 +1,7 @@
 -- What bits say of reading and writing.
-use Rattle.std.proofs.Common.{◌≡◌, ℕ, zero, suc, ◌+◌, Bool, true, false, cond, eqb, ltb, List, ◌||◌, Option, None, Some, is_some, bit_and, bit_or, refl, ap}
+use Rattle.std.proofs.Common.{◌≡◌, ℕ, zero, suc, ◌+◌, Bool, true, false, cond, eqb, ltb, ◌||◌, Option, None, Some, is_some, bit_and, bit_or, refl, ap}
 use Rattle.std.proofs.Common.{sym, ◌∙◌, arith}
 use Rattle.std.specs.Option.{option_map_or}
-use Rattle.std.specs.List.{count_by}
 use Rattle.std.proofs.lemmas.Bool.Decides.{nat_tests}
 use Rattle.std.proofs.lemmas.Nat.{and_or_apart, and_or_self, or_lt}
 use Rattle.el_base.specs.declared.outcomes.Need.{Need}
@@ -10,10 +9,8 @@ use Rattle.el_base.specs.declared.outcomes.Need.TheVariants.{Read, Write}
 use Rattle.cache_sets.specs.declared.bits.Bits.{Bits}
 use Rattle.cache_sets.specs.declared.way.Way as code
 use Rattle.cache_sets.specs.Bits.{bits_of, bits_of_need, bits_of_number, has_need, marks_in, with_need, writes_in}
-use Rattle.cache_sets.specs.Residency.{Way, is_marked, with_bit}
-use Rattle.cache_sets.specs.Keyed.{found}
-use Rattle.cache_sets.specs.Kept.{marked_way, number_of, shown_way}
-use Rattle.cache_sets.proofs.KeyedLemmas.{found-le-sum_by}
+use Rattle.residency.specs.Residency.{Way, is_marked, with_bit}
+use Rattle.cache_sets.specs.Kept.{marked_way, shown_way}
 
 -- the bit of a need that was set, and the other one
 has_need-with_need_same : (need : Need) (bits : Bits) → has_need need (with_need need bits) ≡ true
@@ -46,11 +43,6 @@ named_bits (suc (suc (suc (suc n)))) named = absurd (grind (arith, nat_tests))
 -- so the bits of a way are the ones that its definition has
 pub bits_of_shown : (way : code.Way) → ltb 3 way.bits.0 ≡ false → bits_of (Some (shown_way way)) ≡ way.bits
 bits_of_shown way named = ap bits_of_number (named_bits way.bits.0 named)
-
-pub named_found : (ways : List code.Way) (line : ℕ) (way : code.Way) → count_by (λ w. ltb 3 w.bits.0) ways ≡ 0 → found number_of ways line ≡ Some way →
-    ltb 3 way.bits.0 ≡ false
-named_found ways line way named is =
-    grind (arith, nat_tests, found-le-sum_by number_of (λ w. cond (ltb 3 w.bits.0) 1 0) ways line way is)
 
 -- bits that got a named one are named
 pub named-with_need : (need : Need) (n : ℕ) → ltb 3 n ≡ false → ltb 3 (bit_or n (bits_of_need need).0) ≡ false

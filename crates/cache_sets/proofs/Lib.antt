@@ -1,24 +1,21 @@
-pub mod KeyedLemmas
-pub mod ResidencyLemmas
-pub mod CacheLemmas
-pub mod WellFormedLemmas
-pub mod MarkLemmas
-pub mod VictimPlaces
-pub mod Places
-pub mod ShownLemmas
-pub mod RowLemmas
-pub mod BitLemmas
-pub mod CachedLemmas
-pub mod StepLemmas
-pub mod ChangeSteps
-pub mod CountSteps
-pub mod DropSteps
-pub mod FillSteps
-pub mod EachSteps
-pub mod Unmarked
-pub mod AbsentLetters
-pub mod AbsentLines
-pub mod ListSteps
-pub mod LendSteps
-pub mod WrittenLines
-pub mod EmptySteps
+pub mod Laws
+mod AbsentLetters
+mod WrittenLines
+mod VictimPlaces
+mod BitLemmas
+mod Shown
+mod Totals
+mod Slots
+mod Reached
+mod Counts
+mod Changes
+mod Loans
+mod Drops
+mod Fills
+mod After
+mod Filled
+mod Every
+mod Rooms
+mod Made
+mod Readings
+mod Sweeps

@@ -5,8 +5,8 @@ use Rattle.std.proofs.lemmas.Bool.{cases_eq, cases_lt}
 use Rattle.std.proofs.lemmas.Bool.Decides.{nat_tests}
 use Rattle.std.proofs.lemmas.List.{get_or-set_other, get_or-set_same, get_or_past, set_past}
 use Rattle.std.proofs.Math.ListN as numbers
-use Rattle.cache_sets.specs.Residency.{Way, way_in}
-use Rattle.cache_sets.specs.Cache.{set_number, set_of, way_of}
+use Rattle.residency.specs.Residency.{Way, way_in}
+use Rattle.residency.specs.Cache.{set_number, set_of, way_of}
 use Rattle.cache_sets.specs.Cached.{Cached, Copy, bytes_in, bytes_of, copy_in, copy_with_bytes, put_in, with_bytes}
 use Rattle.cache_sets.specs.Calls.{IsCached, IsWritten}
 

@@ -4,8 +4,8 @@ use Rattle.std.specs.Int.RustNames.{bit_and, bit_or}
 use Rattle.el_base.specs.declared.outcomes.Need.{Need}
 use Rattle.el_base.specs.declared.outcomes.Need.TheVariants.{Read, Write}
 use Rattle.cache_sets.specs.declared.bits.Bits.{Bits}
-use Rattle.cache_sets.specs.Residency.{Way}
-use Rattle.cache_sets.specs.Cache.{bit_in}
+use Rattle.residency.specs.Residency.{Way}
+use Rattle.residency.specs.Cache.{bit_in}
 
 -- the bits of this number
 abbrev pub bits_of_number : ℕ → Bits

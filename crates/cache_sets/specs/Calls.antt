@@ -4,9 +4,9 @@ use Rattle.el_base.specs.declared.outcomes.Need.{Need}
 use Rattle.moesi.specs.declared.letter.Letter.{Letter}
 use Rattle.moesi.specs.declared.letter.Letter.TheVariants.{M}
 use Rattle.cache_sets.specs.declared.evicted.Evicted.{Evicted}
-use Rattle.cache_sets.specs.Cache.{cleared, committed, evicted_by, filled_with, lettered, marked, touched, without_line, write_bit}
+use Rattle.residency.specs.Cache.{cleared, committed, evicted_by, filled_with, lettered, marked, touched, without_line, write_bit}
 use Rattle.cache_sets.specs.Cached.{Cached, copy_in, copy_with_bytes, copy_with_letter}
-use Rattle.cache_sets.specs.WellFormed.{IsWellFormed}
+use Rattle.residency.specs.WellFormed.{IsWellFormed}
 
 -- what holds of every cache with its bytes
 pub record IsCached (cached : Cached) : Type 0 where

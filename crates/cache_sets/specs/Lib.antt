@@ -1,9 +1,5 @@
-pub mod Residency
-pub mod Cache
-pub mod WellFormed
 pub mod Cached
 pub mod Calls
 pub mod Bits
-pub mod Keyed
 pub mod Kept
-pub mod Lending
+pub mod Slotted

@@ -1,23 +1,33 @@
 ghost use Rattle.std.specs.Prelude.{◌≡◌};
+ghost use Rattle.cache_sets.specs.Kept.{new_way};
 
 use crate::bits::Bits;
 use bitflags::Flags;
 use el_base::LineAddr;
 use moesi::Letter;
 
-/// A line in a set: what is known of it, and in which of the set's rows its bytes are.
+/// What is known of a line in a set.
 #[derive(Clone, Copy, Debug, PartialEq, Eq)]
 pub struct Way {
     pub line: LineAddr,
     pub letter: Letter,
     pub bits: Bits,
-    /// The row of the line's bytes among those of the set.
-    pub slot: u8,
 }
 
 impl Way {
     ghost use Rattle.cache_sets.specs.Kept.{cleared_way, committed_way, shown_way};
-    ghost use Rattle.cache_sets.specs.Residency.{is_marked};
+    ghost use Rattle.residency.specs.Residency.{is_marked};
+
+    /// The way of a line that comes: no bit is set.
+    pub fn new(line: LineAddr, letter: Letter) -> Way
+        ensures { result ≡ new_way line letter }
+    {
+        Way {
+            line,
+            letter,
+            bits: Bits::empty(),
+        }
+    }
 
     /// Whether the way has a bit.
     pub fn is_marked(&self) -> bool
@@ -48,18 +58,6 @@ impl Way {
         Way {
             letter,
             ..self.cleared()
-        }
-    }
-}
-
-/// What fills the places of a set that no line has.
-impl Default for Way {
-    fn default() -> Way {
-        Way {
-            line: LineAddr { number: 0 },
-            letter: Letter::I,
-            bits: Bits::empty(),
-            slot: 0,
         }
     }
 }

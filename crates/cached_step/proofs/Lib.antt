@@ -1,7 +1,5 @@
-pub mod PutBytes
-pub mod CachedBytes
-pub mod Runs
-pub mod Windows
-pub mod Rooms
-pub mod Told
-pub mod Rules
+pub mod Laws
+mod PutBytes
+mod Runs
+mod Windows
+mod Rules

@@ -6,7 +6,7 @@ use Rattle.std.proofs.lemmas.List.{get_or-set_same, length-set}
 use Rattle.std.proofs.Math.Nat.{div-div-eq-div-mul, pow-suc}
 use Rattle.core_step.specs.Port.{byte_of, stored}
 use Rattle.rv_flat.specs.Memory.{put_bytes}
-use Rattle.rv_flat.proofs.PutBytes.{put_bytes-other}
+use Rattle.rv_flat.proofs.Laws.PutBytes.{put_bytes-other}
 
 -- a byte of a number is that of its high bytes one place lower
 byte_of-more : (value k : ℕ) → byte_of (value / 256) k ≡ byte_of value (suc k)

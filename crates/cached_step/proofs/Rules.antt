@@ -1,9 +1,9 @@
 -- the rule of a hart's step outside of a section shows in how its action ends over its cache
 use Rattle.std.proofs.Common.{◌≡◌, ◌∙◌, ℕ, Bool, true, false, List, Option, None, Some, refl, sym, subst}
 use Rattle.std.specs.Prelude.{if◌then◌else◌}
-use Rattle.cache_sets.specs.Cache.{letter_of}
+use Rattle.residency.specs.Cache.{letter_of}
 use Rattle.cache_sets.specs.Cached.{Cached}
-use Rattle.cache_sets.specs.Residency.{Way}
+use Rattle.residency.specs.Residency.{Way}
 use Rattle.core_step.specs.Run.{ended_by, ended_of, lacking}
 use Rattle.core_step.specs.declared.ended.Ended.{Ended}
 use Rattle.core_step.specs.declared.ended.Ended.TheVariants as ends

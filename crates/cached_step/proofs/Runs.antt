@@ -1,24 +1,52 @@
 -- what a run makes of a cache: its store, and then the use of its line
-use Rattle.std.proofs.Common.{◌≡◌, ◌∙◌, ℕ, None, Some, option_map, ap, refl, sym, true}
+use Rattle.std.proofs.Common.{◌≡◌, ◌∙◌, ℕ, Option, None, Some, option_map, ap, refl, subst, sym, true}
 use Rattle.std.specs.Prelude.{MatchOption}
-use Rattle.cache_sets.specs.Cache.{lettered, touched}
+use Rattle.residency.specs.Cache.{is_resident, lettered, touched}
 use Rattle.cache_sets.specs.Cached.{Cached, copy_in, copy_with_bytes, copy_with_letter}
 use Rattle.cache_sets.specs.Calls.{IsTouched}
-use Rattle.coherence.proofs.GivenBackLaws.{writable_there}
-use Rattle.coherence.proofs.Owners.{copy_is}
+use Rattle.cache_sets.specs.Slotted.{IsLent, Slotted, lent}
+use Rattle.coherence.proofs.Laws.Fetched.{copy_resident}
+use Rattle.coherence.proofs.Laws.GivenBackLaws.{writable_there}
+use Rattle.coherence.proofs.Laws.Owners.{copy_is}
 use Rattle.core_step.specs.Run.{IsReady}
-use Rattle.core_step.proofs.Runs.{store_ready}
+use Rattle.core_step.proofs.Laws.Runs.{store_ready}
 use Rattle.el_base.specs.Line.{line_number}
 use Rattle.el_base.specs.declared.outcomes.Need.TheVariants as needs
 use Rattle.el_model.specs.Plain.{after_touch}
 use Rattle.el_model.specs.Upcoming.{touch_of}
+use Rattle.line_pool.specs.Others.{LeavesOthers}
+use Rattle.line_pool.specs.Pooled.{Pooled}
+use Rattle.line_pool.proofs.Laws.OtherLaws.{leaves-same}
 use Rattle.moesi.specs.declared.letter.Letter.TheVariants.{M}
 use Rattle.rv_alu.specs.Execution.{Store, perform, store_in}
 use Rattle.rv_alu.specs.Footprint.{footprint}
 use Rattle.rv_alu.specs.declared.action.Action.{Action}
 use Rattle.rv_alu.specs.declared.action.Action.TheVariants as actions
 use Rattle.rv_alu.specs.declared.view.HartView.{HartView}
-use Rattle.cached_step.specs.CacheRun.{HasRun, IsModified, IsUsed, PutsIn, line_after, permitted}
+use Rattle.cached_step.specs.CacheRun.{HasRun, IsModified, IsUsed, PutsIn, PutsInPool, line_after, permitted}
+
+-- a line of which the copy is as it was is there still
+pub stays_resident : (old new : Cached) (line : ℕ) → copy_in new line ≡ copy_in old line → is_resident old.residency line ≡ true →
+    is_resident new.residency line ≡ true
+stays_resident old new line same there = copy_resident new line _ (same ∙ copy_is old line there)
+
+-- what a store, if there was one, made of the cache and of its pool
+module _ (cache : Slotted) (old new : Pooled) where
+  abbrev pub MayPut : Option Store → Type 0
+  MayPut store = MatchOption store (new ≡ old) (λ s. PutsInPool cache old new s.address s.len s.value)
+
+  pub put_lent : (store : Option Store) → MayPut store →
+      MatchOption store (lent new cache ≡ lent old cache) (λ s. PutsIn (lent old cache) (lent new cache) s.address s.len s.value)
+  put_lent None same = ap (λ pool. lent pool cache) same
+  put_lent (Some store) put = put.puts
+
+  pub kept_put : (store : Option Store) → MayPut store → IsLent old cache → IsLent new cache
+  kept_put None same owed = subst (λ pool. IsLent pool cache) (sym same) owed
+  kept_put (Some store) put owed = put.kept
+
+  pub others_put : (store : Option Store) → MayPut store → LeavesOthers cache.owner old new
+  others_put None same = subst (LeavesOthers cache.owner old) (sym same) (leaves-same cache.owner old)
+  others_put (Some store) put = put.others
 
 -- nothing was touched
 untouched : (old mid new : Cached) (action : Action) → mid ≡ old → new ≡ mid → touch_of (footprint action) ≡ None → HasRun old new action None

@@ -1,10 +1,10 @@
 -- what a run over a cache promises of plain shared memory
 use Rattle.std.specs.Prelude.{ℕ, ◌≡◌, ◌≢◌, ◌≤◌, false, true, List, Option, None, Some}
-use Rattle.cache_sets.specs.Cache as caches
-use Rattle.cache_sets.specs.Cache.{has_marks}
+use Rattle.residency.specs.Cache as caches
+use Rattle.residency.specs.Cache.{has_marks}
 use Rattle.cache_sets.specs.Cached.{Cached, cached_byte}
-use Rattle.cache_sets.specs.Residency.{Way}
-use Rattle.cache_sets.specs.WellFormed.{IsWellFormed}
+use Rattle.residency.specs.Residency.{Way}
+use Rattle.residency.specs.WellFormed.{IsWellFormed}
 use Rattle.coherence.specs.Caches.{cache_at}
 use Rattle.coherence.specs.GivenBack.{copies_with}
 use Rattle.coherence.specs.Served.{Copies, HasLine}

@@ -19,7 +19,7 @@ pub fn word_at(bytes: &[u8; 64], place: u8) -> u32
 }
 
 /// Puts the low `len` bytes of a value at a place of a line, the lowest first.
-#[tactic(auto, using(rv_flat::proofs::PutBytes::put_bytes_more))]
+#[tactic(auto, using(rv_flat::proofs::Laws::PutBytes::put_bytes_more))]
 pub fn put_at(bytes: &mut [u8; 64], place: u8, len: u32, value: u32)
     requires { place + len ≤ 64 }
     ensures bytes { bytes.new ≡ put_bytes bytes.old place len value }

@@ -3,12 +3,14 @@
 //! table of the letters.
 
 ghost use Rattle.std.specs.Prelude.{◌≡◌};
+ghost use Rattle.cache_sets.specs.Slotted.{IsLent};
 ghost use Rattle.rv_alu.specs.declared.view.HartStatus.TheVariants.{Running};
 
 use super::*;
 use cache_sets::Sets;
 use core_step::Ended;
 use el_base::{Config, Need, line_of};
+use line_pool::Pool;
 use moesi::Letter;
 use rv_alu::{Action, HartStatus, HartView, Regs, Span};
 use rv_word::Reg;
@@ -101,18 +103,26 @@ fn line_with(word: u32) -> [u8; 64] {
     bytes
 }
 
+/// A cache and the pool that lends it.
+#[derive(Drop)]
+struct Cache {
+    pool: Pool,
+    sets: Sets,
+    ghost lent: { IsLent pool sets },
+}
+
 /// Fills a line where that may be. Tells the number of a line that left.
-fn fill(cache: &mut Sets, address: u32, letter: Letter, bytes: &[u8; 64]) -> Option<u32> {
+fn fill(cache: &mut Cache, address: u32, letter: Letter, bytes: &[u8; 64]) -> Option<u32> {
     let line = line_of(address);
-    if letter == Letter::I || cache.has(line) || !cache.room(line) {
+    if letter == Letter::I || cache.sets.has(line) || !cache.sets.room(line) {
         return None;
     }
-    let gone = cache.fill(line, letter, bytes)?;
+    let gone = cache.sets.fill(&mut cache.pool, line, letter, bytes)?;
     Some(gone.line.number)
 }
 
 /// A cache that has the line of the address in x5 with a letter, and another one that is more recent.
-fn cache_with(alloc: Global, letter: Letter) -> Result<Sets, Fail> {
+fn cache_with(alloc: Global, letter: Letter) -> Result<Cache, Fail> {
     let config = Config {
         sets: 1,
         ways: 2,
@@ -121,39 +131,43 @@ fn cache_with(alloc: Global, letter: Letter) -> Result<Sets, Fail> {
     if config.check().is_err() {
         return Err("no such cache".into());
     }
-    let mut cache = Sets::make(alloc, &config)?;
+    let mut cache = Cache {
+        pool: Pool::make(alloc, &[2])?,
+        sets: Sets::make(alloc, &config, 0)?,
+    };
     fill(&mut cache, ADDRESS, letter, &line_with(MEMORY));
     fill(&mut cache, OTHER, Letter::S, &[0x55; 64]);
     Ok(cache)
 }
 
 /// The letter and the bytes of a line, if the cache has it.
-fn copy(cache: &Sets, address: u32) -> (Letter, Option<[u8; 64]>) {
+fn copy(cache: &Cache, address: u32) -> (Letter, Option<[u8; 64]>) {
     let line = line_of(address);
-    if cache.has(line) {
-        (cache.letter(line), Some(*cache.bytes(line)))
+    let sets = &cache.sets;
+    if sets.has(line) {
+        (sets.letter(line), Some(*sets.bytes(&cache.pool, line)))
     } else {
         (Letter::I, None)
     }
 }
 
 /// Runs one instruction over a cache.
-fn step(cache: &mut Sets, view: &mut HartView, word: u32, span: Span, room: u32) -> Ended
+fn step(cache: &mut Cache, view: &mut HartView, word: u32, span: Span, room: u32) -> Ended
     requires { view.old.status ≡ Running }
 {
     let action = Action::at(Some(word), view, span, room);
-    step_in_cache(cache, view, action)
+    step_in_cache(&mut cache.pool, &mut cache.sets, view, action)
 }
 
 /// Runs one instruction of a running hart.
-fn run(rt: &impl Abort, cache: &mut Sets, view: &mut HartView, word: u32) -> Ended {
+fn run(rt: &impl Abort, cache: &mut Cache, view: &mut HartView, word: u32) -> Ended {
     assert_eq!(rt; view.status, HartStatus::Running);
     step(cache, view, word, SPAN, ROOM)
 }
 
 /// The cache has the line of the address in x5 with this letter and these bytes, the other line is as it was, and
 /// this line is the least recent one.
-fn looks(rt: &impl Abort, cache: &mut Sets, letter: Letter, memory: u32, least: u32, word: u32) {
+fn looks(rt: &impl Abort, cache: &mut Cache, letter: Letter, memory: u32, least: u32, word: u32) {
     let bytes = match letter {
         Letter::I => None,
         _ => Some(line_with(memory)),

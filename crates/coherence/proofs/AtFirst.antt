@@ -3,14 +3,14 @@ use Rattle.std.proofs.Common.{◌≡◌, ◌∙◌, ◌<◌, ◌≤◌, ◌+◌,
 use Rattle.std.specs.List.{range_with_len}
 use Rattle.std.specs.Prelude.{slice_index_or}
 use Rattle.std.proofs.lemmas.List.FromFn.{get_or-map-range_with_len, length-map-range_with_len}
-use Rattle.cache_sets.specs.Cache.{is_resident}
+use Rattle.residency.specs.Cache.{is_resident}
 use Rattle.cache_sets.specs.Cached.{Cached, Copy, empty_cached}
-use Rattle.cache_sets.specs.Residency.{Way, way_in}
+use Rattle.residency.specs.Residency.{Way, way_in}
 use Rattle.coherence.specs.Beginning.{bytes_at_first, line_in}
 use Rattle.coherence.specs.Caches.{AreCoherent, cache_at, copies_of}
 use Rattle.coherence.specs.Line.{Coherent}
-use Rattle.coherence.proofs.LineLaws.{none_is}
-use Rattle.cache_sets.proofs.AbsentLines.{no_copy}
+use Rattle.coherence.proofs.Laws.LineLaws.{none_is}
+use Rattle.cache_sets.proofs.Laws.AbsentLines.{no_copy}
 use Rattle.elf_image.specs.Program.{Program}
 
 abbrev no_set : List Way

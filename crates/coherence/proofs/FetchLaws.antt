@@ -4,16 +4,16 @@ use Rattle.std.specs.Prelude.{slice_set}
 use Rattle.std.proofs.lemmas.Bool.{cases_eq, cases_lt}
 use Rattle.std.proofs.lemmas.Bool.Decides.{nat_tests}
 use Rattle.std.proofs.lemmas.List.{get_or-set_other, get_or-set_same}
-use Rattle.cache_sets.specs.Cache.{is_resident, letter_of}
+use Rattle.residency.specs.Cache.{is_resident, letter_of}
 use Rattle.cache_sets.specs.Cached.{Cached, Copy, copy_in, copy_with_letter}
 use Rattle.cache_sets.specs.Calls.{IsFilledWith}
 use Rattle.cache_sets.specs.declared.evicted.Evicted.{Evicted}
-use Rattle.cache_sets.proofs.AbsentLines.{no_copy}
+use Rattle.cache_sets.proofs.Laws.AbsentLines.{no_copy}
 use Rattle.coherence.specs.Caches.{GivesUp, OthersGiveUp, cache_at, copies_of, no_cache, others_from, others_have}
 use Rattle.coherence.specs.Line.{Coherent, IsFound}
-use Rattle.coherence.proofs.GivenUp.{beyond}
-use Rattle.coherence.proofs.LineLaws.{as_read, found_bytes, left_cache, none_is, read_served, write_served}
-use Rattle.coherence.proofs.Owners.{letter_is}
+use Rattle.coherence.proofs.Laws.GivenUp.{beyond}
+use Rattle.coherence.proofs.Laws.LineLaws.{as_read, found_bytes, left_cache, none_is, read_served, write_served}
+use Rattle.coherence.proofs.Laws.Owners.{letter_is}
 use Rattle.coherence.proofs.Stays.{nothing_given_up}
 use Rattle.el_base.specs.declared.outcomes.Need.{Need}
 use Rattle.el_base.specs.declared.outcomes.Need.TheVariants.{Read, Write}

@@ -3,33 +3,61 @@ use Rattle.std.proofs.Common.{◌≡◌, ◌≢◌, ◌∙◌, ◌⊎◌, ◌<�
 use Rattle.std.specs.Prelude.{slice_set}
 use Rattle.std.proofs.lemmas.Bool.{cases_eq, cases_lt}
 use Rattle.std.proofs.lemmas.List.{get_or-set_same, length-set}
-use Rattle.cache_sets.specs.Cache.{is_resident, letter_of}
+use Rattle.residency.specs.Cache.{is_resident, letter_of}
 use Rattle.cache_sets.specs.Cached.{Cached, bytes_of, copy_in, copy_with_letter}
 use Rattle.cache_sets.specs.Calls.{IsLettered, IsWithout}
+use Rattle.cache_sets.specs.Slotted.{Slotted, lent}
 use Rattle.coherence.specs.Caches.{AreCoherent, IsInMemory, OthersGiveUp, behind_of, cache_at, copies_of, no_cache}
+use Rattle.coherence.specs.Changed.{IsReplacedAt}
 use Rattle.coherence.specs.Kept.{IsKept, LeavesTo}
+use Rattle.coherence.specs.Lent.{IsReplacedIn, slotted_at}
 use Rattle.coherence.specs.Line.{Coherent}
 use Rattle.coherence.proofs.FetchLaws.{given_up_at, other_new}
-use Rattle.coherence.proofs.Fetched.{copy_resident}
-use Rattle.coherence.proofs.GivenUp.{beyond}
-use Rattle.coherence.proofs.LineLaws.{same_line, write_served}
-use Rattle.coherence.proofs.Owners.{copy_is}
+use Rattle.coherence.proofs.Laws.Fetched.{copy_resident}
+use Rattle.coherence.proofs.Laws.GivenUp.{beyond}
+use Rattle.coherence.proofs.Laws.LineLaws.{same_line, write_served}
+use Rattle.coherence.proofs.Laws.Owners.{copy_is}
 use Rattle.el_base.specs.declared.outcomes.Need.{Need}
 use Rattle.el_base.specs.declared.outcomes.Need.TheVariants.{Read, Write}
 use Rattle.el_model.specs.Serve.{kept_letter}
+use Rattle.moesi.specs.declared.letter.Letter.{Letter}
 use Rattle.moesi.specs.declared.letter.Letter.TheVariants.{M}
 
-pub modified : (h place line : ℕ) (old mid : List Cached) (before after : Cached) → OthersGiveUp Write h line old mid → place ≡ h →
-    h < length old → before ≡ cache_at mid h → IsLettered before after line M → IsKept Write h line old (slice_set mid place after)
-modified h place line old mid before after gave same inside was lettered =
-    rw same
+-- the copy keeps its letter, or is modified as the only one
+pub letter_kept : (h line : ℕ) (letter : Letter) (old new : List Slotted) → letter ≡ letter_of (slotted_at old h).residency line →
+    IsReplacedIn (λ before after. IsLettered before after line letter) h old new →
+    IsReplacedIn (λ before after. IsLettered before after line (letter_of before.residency line)) h old new
+letter_kept h line letter old new is replaced = record {
+  cache = replaced.cache;
+  becomes = λ pool.
+      subst (λ l. IsLettered (lent pool (slotted_at old h)) (lent pool replaced.cache) line l) is (replaced.becomes pool);
+  kept = replaced.kept;
+  owner = replaced.owner;
+  new_is = replaced.new_is;
+}
+
+pub kept_letter_same : (h line : ℕ) (old new : List Cached) → h < length old →
+    IsReplacedAt (λ before after. IsLettered before after line (letter_of before.residency line)) h old new → IsKept Read h line old new
+kept_letter_same h line old new inside replaced =
+    rw replaced.new_is
     (record {
-      count = length-set mid h after ∙ gave.count;
+      count = length-set old h replaced.cache;
+      own = rw (get_or-set_same old h replaced.cache no_cache inside) replaced.becomes;
+      others = λ g other. other_new h g old replaced.cache other;
+    })
+
+pub modified : (h line : ℕ) (old mid new : List Cached) → OthersGiveUp Write h line old mid → h < length old →
+    IsReplacedAt (λ before after. IsLettered before after line M) h mid new → IsKept Write h line old new
+modified h line old mid new gave inside replaced =
+    rw replaced.new_is
+    (record {
+      count = length-set mid h replaced.cache ∙ gave.count;
       own =
-          rw (get_or-set_same mid h after no_cache (subst (λ n. h < n) (sym gave.count) inside))
-          (subst (λ c. IsLettered c after line M) (was ∙ gave.own) lettered);
+          rw (get_or-set_same mid h replaced.cache no_cache (subst (λ n. h < n) (sym gave.count) inside))
+          (subst (λ c. IsLettered c replaced.cache line M) gave.own replaced.becomes);
       others = λ g other.
-          subst (λ c. IsWithout (cache_at old g) c line) (sym (other_new h g mid after other)) (given_up_at Write h line old mid gave g other);
+          subst (λ c. IsWithout (cache_at old g) c line) (sym (other_new h g mid replaced.cache other))
+          (given_up_at Write h line old mid gave g other);
     })
 
 -- where the copies of other lines are as they were, only the line itself is to be looked at

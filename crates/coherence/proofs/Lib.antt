@@ -1,13 +1,8 @@
-pub mod LineLaws
-pub mod Stays
-pub mod GivenUp
-pub mod Owners
-pub mod FetchLaws
-pub mod Fetched
-pub mod KeptLaws
-pub mod ServedLaws
-pub mod ChangedLaws
-pub mod RoomLaws
-pub mod GivenBackLaws
-pub mod LoanSteps
-pub mod AtFirst
+pub mod Laws
+mod Stays
+mod GivingUp
+mod FetchLaws
+mod KeptLaws
+mod ServedLaws
+mod ChangedLaws
+mod AtFirst

@@ -3,17 +3,17 @@ use Rattle.std.proofs.Common.{◌≡◌, ◌∙◌, ◌<◌, ℕ, Bool, true, fa
 use Rattle.std.specs.Prelude.{slice_set}
 use Rattle.std.proofs.lemmas.Bool.{cases_eq}
 use Rattle.std.proofs.lemmas.List.{get_or-set_same, length-set}
-use Rattle.cache_sets.specs.Cache.{is_resident, touched}
+use Rattle.residency.specs.Cache.{is_resident, touched}
 use Rattle.cache_sets.specs.Cached.{Cached, copy_in}
 use Rattle.cache_sets.specs.Calls.{IsTouched}
-use Rattle.cache_sets.specs.Residency.{Way}
+use Rattle.residency.specs.Residency.{Way}
 use Rattle.coherence.specs.Caches.{cache_at, no_cache}
 use Rattle.coherence.specs.Kept.{IsKept, LeavesTo}
 use Rattle.coherence.specs.Served.{Copies, IsFetched, IsServed, Moves, lines_after, with_line_back}
 use Rattle.coherence.proofs.FetchLaws.{other_new}
 use Rattle.coherence.proofs.KeptLaws.{coherent_kept, coherent_same_copies, own_kept}
-use Rattle.coherence.proofs.Fetched.{chosen_else, chosen_then, copy_resident}
-use Rattle.coherence.proofs.Owners.{copy_is}
+use Rattle.coherence.proofs.Laws.Fetched.{chosen_else, chosen_then, copy_resident}
+use Rattle.coherence.proofs.Laws.Owners.{copy_is}
 use Rattle.el_base.specs.declared.outcomes.Need.{Need}
 use Rattle.el_base.specs.declared.outcomes.Need.TheVariants.{Read, Write}
 use Rattle.el_model.specs.Serve.{given_up, others_cache}

@@ -1,8 +1,8 @@
 -- a cache that has not the line has nothing to give up
 use Rattle.std.proofs.Common.{◌≡◌, ℕ, false}
-use Rattle.cache_sets.specs.Cache.{is_resident, letter_of}
+use Rattle.residency.specs.Cache.{is_resident, letter_of}
 use Rattle.cache_sets.specs.Cached.{Cached}
-use Rattle.cache_sets.proofs.AbsentLines.{stays_lettered, stays_without}
+use Rattle.cache_sets.proofs.Laws.AbsentLines.{stays_lettered, stays_without}
 use Rattle.coherence.specs.Caches.{GivesUp}
 use Rattle.el_base.specs.declared.outcomes.Need.{Need}
 use Rattle.el_base.specs.declared.outcomes.Need.TheVariants.{Read, Write}

@@ -1,6 +1,6 @@
 -- the caches of all harts, and main memory line by line
 use Rattle.std.specs.Prelude.{ℕ, suc, ◌≡◌, ◌≢◌, ◌<◌, ◌≤◌, ◌+◌, ◌-◌, Bool, true, false, ◌==◌, not, ◌&&◌, ◌||◌, List, [], ◌∷◌, length, Option, slice_index_or}
-use Rattle.cache_sets.specs.Cache.{is_resident, letter_of}
+use Rattle.residency.specs.Cache.{is_resident, letter_of}
 use Rattle.cache_sets.specs.Cached.{Cached, Copy, copy_in}
 use Rattle.cache_sets.specs.Calls.{IsLettered, IsWithout}
 use Rattle.coherence.specs.Line.{Coherent}

@@ -1,7 +1,7 @@
 -- what a caller gives back of a cache that was lent to it, and what caches and main memory tell then
 use Rattle.std.specs.Prelude.{ℕ, ◌≡◌, ◌≢◌, ◌==◌, Bool, true, false, List, Option, Some, option_map, if◌then◌else◌, slice_set}
 use Rattle.std.specs.Option.{option_map_or}
-use Rattle.cache_sets.specs.Cache.{letter_of, write_bit}
+use Rattle.residency.specs.Cache.{letter_of, write_bit}
 use Rattle.cache_sets.specs.Cached.{Cached, Copy, copy_in, copy_with_bytes}
 use Rattle.coherence.specs.Caches.{cache_at}
 use Rattle.coherence.specs.Served.{Copies, HasLine}

@@ -1,6 +1,6 @@
 -- a request for a line that the hart has already
 use Rattle.std.specs.Prelude.{ℕ, ◌≡◌, ◌≢◌, List, length}
-use Rattle.cache_sets.specs.Cache.{letter_of}
+use Rattle.residency.specs.Cache.{letter_of}
 use Rattle.cache_sets.specs.Cached.{Cached}
 use Rattle.cache_sets.specs.Calls.{IsLettered, IsWithout}
 use Rattle.coherence.specs.Caches.{cache_at}

@@ -1,5 +1,6 @@
 pub mod Line
 pub mod Caches
+pub mod Lent
 pub mod Served
 pub mod Writing
 pub mod Kept

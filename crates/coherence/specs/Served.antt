@@ -1,13 +1,16 @@
 -- what a served request makes of the caches and of main memory
 use Rattle.std.specs.Prelude.{ℕ, ◌≡◌, ◌≢◌, ◌-◌, Bool, true, List, length, Option, None, Some, option_map, if◌then◌else◌, slice_set}
-use Rattle.cache_sets.specs.Cache.{evicted_by, filled_with, is_resident, room_of, touched}
+use Rattle.residency.specs.Cache.{evicted_by, filled_with, is_resident, room_of, touched}
 use Rattle.cache_sets.specs.Cached.{Cached, Copy, copy_in}
-use Rattle.cache_sets.specs.Residency.{Way}
+use Rattle.residency.specs.Residency.{Way}
+use Rattle.cache_sets.specs.Slotted.{Slotted}
 use Rattle.cache_sets.specs.declared.evicted.Evicted.{Evicted}
 use Rattle.coherence.specs.Caches.{AreCoherent, IsInMemory, cache_at, others_have}
+use Rattle.coherence.specs.Lent.{lent_all}
 use Rattle.coherence.specs.declared.hierarchy.Hierarchy as hierarchies
 use Rattle.el_base.specs.declared.outcomes.Need.{Need}
 use Rattle.el_model.specs.Serve.{given_up, others_cache, own_copy}
+use Rattle.line_pool.specs.Pooled.{Pooled}
 use Rattle.moesi.specs.Letters.{filled_of, is_dirty}
 
 -- main memory after a line left a cache, if one did: it is written back where main memory was behind
@@ -91,9 +94,13 @@ pub record IsCoherent (copies : Copies) : Type 0 where
   pub bytes : ℕ → List ℕ
   pub tells : TellsOf copies bytes
 
--- main memory and caches as contracts see them
-abbrev pub shown : hierarchies.Hierarchy → Copies
-shown hierarchy = record { first = hierarchy.first; lines = hierarchy.lines.items; caches = hierarchy.caches.items }
+-- main memory and caches as contracts see them: the caches with the bytes that a pool has for them
+abbrev pub shown : Pooled → hierarchies.Hierarchy → Copies
+shown pool hierarchy = record { first = hierarchy.first; lines = hierarchy.lines.items; caches = lent_all pool hierarchy.caches.items }
+
+-- the caches where the pool is not at hand
+abbrev pub caches_of : hierarchies.Hierarchy → List Slotted
+caches_of hierarchy = hierarchy.caches.items
 
 -- a line lies in main memory
 abbrev pub HasLine : Copies → ℕ → Type 0

@@ -1,8 +1,8 @@
 //! Main memory and the caches before the first event.
 
-ghost use Rattle.std.specs.Prelude.{◌≡◌, ◌*◌, ◌+◌, ◌≤◌, IfOk, length, map, replicate};
+ghost use Rattle.std.specs.Prelude.{◌≡◌, ◌*◌, ◌+◌, ◌≤◌, IfOk, length, map};
 ghost use Rattle.std.specs.List.{range_with_len};
-ghost use Rattle.cache_sets.specs.Cached.{empty_cached};
+ghost use Rattle.cache_sets.specs.Slotted.{empty_slotted};
 ghost use Rattle.coherence.specs.Beginning.{line_in};
 ghost use Rattle.el_base.specs.Config.{IsInRange};
 
@@ -34,15 +34,16 @@ pub fn lines_of(alloc: Global, bytes: &[u8], count: u32) -> Result<Vec<[u8; 64]>
     Ok(lines)
 }
 
-/// A cache for each hart, without lines.
+/// A cache for each hart, without lines, which takes its slots as the owner of the hart's number.
 pub fn empty_caches(alloc: Global, config: &Config) -> Result<Vec<Sets>, NoMemory>
     requires { IsInRange config.now }
     ensures { IfOk result (λ caches.
-        caches.items ≡ replicate config.now.harts (empty_cached config.now.ways config.now.sets)) }
+        caches.items ≡ map (λ h. empty_slotted config.now.ways config.now.sets h)
+        (range_with_len 0 config.now.harts)) }
 {
     let mut caches = Vec::new(alloc);
-    for _hart in 0..config.harts {
-        caches.push(Sets::make(alloc, config)?)?;
+    for hart in 0..config.harts {
+        caches.push(Sets::make(alloc, config, hart.into())?)?;
     }
     Ok(caches)
 }

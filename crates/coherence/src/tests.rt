@@ -2,18 +2,20 @@
 //! hand from the table of the letters.
 
 ghost use Rattle.std.specs.Prelude.{◌≡◌, ◌<◌, ℕ, List, IfOk, Some, length, slice_set, true};
-ghost use Rattle.cache_sets.specs.Cache.{letter_of};
+ghost use Rattle.residency.specs.Cache.{letter_of};
 ghost use Rattle.cache_sets.specs.Cached.{bytes_of};
-ghost use Rattle.coherence.specs.Caches.{cache_at};
+ghost use Rattle.cache_sets.specs.Slotted.{lent};
 ghost use Rattle.coherence.specs.GivenBack.{bytes_with};
-ghost use Rattle.coherence.specs.Served.{IsCoherent, TellsOf, shown};
+ghost use Rattle.coherence.specs.Lent.{IsLentTo, slotted_at};
+ghost use Rattle.coherence.specs.Served.{IsCoherent, TellsOf, caches_of, shown};
 ghost use Rattle.el_base.specs.Line.{line_number};
 ghost use Rattle.moesi.specs.Letters.{may_write};
 
 use super::*;
-use cache_sets::Letter;
+use cache_sets::{Letter, Sets};
 use el_base::{Config, HartId, LineAddr, Mode, Need, line_of};
 use elf_image::load;
+use line_pool::Pool;
 use std::alloc::Global;
 use std::test::Fail;
 
@@ -31,9 +33,17 @@ const HEADER: [u8; 88] = [
 /// The number of the first line of its memory, 0x10000 divided by 64.
 const FIRST: u32 = 1024;
 
+/// Main memory and the caches of two harts, and the pool that lends these.
+#[derive(Drop)]
+struct Memory {
+    hierarchy: Hierarchy,
+    pool: Pool,
+    ghost lent: { IsLentTo pool (caches_of hierarchy) },
+}
+
 /// Main memory and the caches of two harts, each of one set with so many ways.
-fn made(alloc: Global, ways: u8) -> Result<Hierarchy, Fail>
-    ensures { IfOk result (λ hierarchy. IsCoherent (shown hierarchy)) }
+fn made(alloc: Global, ways: u8) -> Result<Memory, Fail>
+    ensures { IfOk result (λ memory. IsCoherent (shown memory.pool memory.hierarchy)) }
 {
     let config = Config {
         harts: 2,
@@ -49,19 +59,22 @@ fn made(alloc: Global, ways: u8) -> Result<Hierarchy, Fail>
     if image.harts() != config.harts {
         return Err("an image for other harts".into());
     }
-    Ok(Hierarchy::make(alloc, &image, &config)?)
+    let pool = Pool::make(alloc, &[ways.into(), ways.into()])?;
+    let hierarchy = Hierarchy::make(alloc, &image, &config)?;
+    Ok(Memory { hierarchy, pool })
 }
 
 /// Serves a request, where that may be.
-fn serve(hierarchy: &mut Hierarchy, hart: HartId, line: LineAddr, need: Need) -> bool
-    requires { IsCoherent (shown hierarchy.old) }
-    ensures { IsCoherent (shown hierarchy.new) }
+fn serve(memory: &mut Memory, hart: HartId, line: LineAddr, need: Need) -> bool
+    requires { IsCoherent (shown memory.old.pool memory.old.hierarchy) }
+    ensures { IsCoherent (shown memory.new.pool memory.new.hierarchy) }
 {
+    let hierarchy = &mut memory.hierarchy;
     let served = usize::from(hart.number) < hierarchy.harts()
         && hierarchy.has_in_memory(line)
         && hierarchy.cache(hart).room(line);
     if served {
-        hierarchy.serve(hart, line, need);
+        hierarchy.serve(&mut memory.pool, hart, line, need);
     }
     served
 }
@@ -77,61 +90,65 @@ fn write(bytes: &mut [u8; 64], at: u8, byte: u8)
 
 /// Puts a byte into the copy of a line that the hart may write, as a store does: the line is touched and
 /// modified.
-fn put(hierarchy: &mut Hierarchy, hart: HartId, line: LineAddr, at: u8, byte: u8)
-    requires hart_exists { hart.number < length (shown hierarchy.old).caches }
+fn put(memory: &mut Memory, hart: HartId, line: LineAddr, at: u8, byte: u8)
+    requires hart_exists { hart.number < length (caches_of memory.old.hierarchy) }
     requires may { may_write
-        (letter_of (cache_at (shown hierarchy.old).caches hart.number).residency line.number) ≡ true }
+        (letter_of (slotted_at (caches_of memory.old.hierarchy) hart.number).residency line.number) ≡ true }
     requires within { at < 64 }
-    ensures tells { (bytes : ℕ → List ℕ) → TellsOf (shown hierarchy.old) bytes →
-        TellsOf (shown hierarchy.new) (bytes_with bytes line.number (slice_set (bytes line.number) at byte)) }
-    ensures memory { ((shown hierarchy.new).first ≡ (shown hierarchy.old).first)
-        × ((shown hierarchy.new).lines ≡ (shown hierarchy.old).lines) }
-    ensures long { length (bytes_of (cache_at (shown hierarchy.old).caches hart.number) line.number) ≡ 64 }
+    ensures tells { (bytes : ℕ → List ℕ) → TellsOf (shown memory.old.pool memory.old.hierarchy) bytes →
+        TellsOf (shown memory.new.pool memory.new.hierarchy)
+        (bytes_with bytes line.number (slice_set (bytes line.number) at byte)) }
+    ensures place { (memory.new.hierarchy.first ≡ memory.old.hierarchy.first)
+        × (memory.new.hierarchy.lines ≡ memory.old.hierarchy.lines) }
+    ensures long { length (bytes_of
+        (lent memory.old.pool (slotted_at (caches_of memory.old.hierarchy) hart.number)) line.number) ≡ 64 }
 {
-    let cache = hierarchy.cache_mut(hart);
+    let cache = memory.hierarchy.cache_mut(hart);
     cache.touch(line);
     cache.set_letter(line, Letter::M);
-    write(cache.bytes_mut(line), at, byte);
+    write(Sets::bytes_mut(&mut memory.pool, cache, line), at, byte);
 }
 
 /// Stores a byte at an address of a line that the hart may write, and tells which byte is there then.
-fn store(hierarchy: &mut Hierarchy, hart: HartId, address: u32, byte: u8) -> Option<u8>
-    requires hart_exists { hart.number < length (shown hierarchy.old).caches }
+fn store(memory: &mut Memory, hart: HartId, address: u32, byte: u8) -> Option<u8>
+    requires hart_exists { hart.number < length (caches_of memory.old.hierarchy) }
     requires may { may_write
-        (letter_of (cache_at (shown hierarchy.old).caches hart.number).residency (line_number address)) ≡ true }
-    requires coherent { IsCoherent (shown hierarchy.old) }
+        (letter_of (slotted_at (caches_of memory.old.hierarchy) hart.number).residency (line_number address)) ≡ true }
+    requires coherent { IsCoherent (shown memory.old.pool memory.old.hierarchy) }
     ensures there { result ≡ Some byte }
-    ensures coherent { IsCoherent (shown hierarchy.new) }
+    ensures coherent { IsCoherent (shown memory.new.pool memory.new.hierarchy) }
 {
-    put(
-        hierarchy,
-        hart,
-        line_of(address),
-        (address % 64) as u8,
-        byte,
-    );
-    hierarchy.byte(address)
+    put(memory, hart, line_of(address), (address % 64) as u8, byte);
+    memory.hierarchy.byte(&memory.pool, address)
 }
 
 /// Stores a byte, where the hart may write the line, and tells which byte is there then.
-fn try_store(hierarchy: &mut Hierarchy, hart: HartId, address: u32, byte: u8) -> Option<u8>
-    requires { IsCoherent (shown hierarchy.old) }
-    ensures { IsCoherent (shown hierarchy.new) }
+fn try_store(memory: &mut Memory, hart: HartId, address: u32, byte: u8) -> Option<u8>
+    requires { IsCoherent (shown memory.old.pool memory.old.hierarchy) }
+    ensures { IsCoherent (shown memory.new.pool memory.new.hierarchy) }
 {
-    if usize::from(hart.number) >= hierarchy.harts() {
+    if usize::from(hart.number) >= memory.hierarchy.harts() {
         return None;
     }
-    match hierarchy.cache(hart).letter(line_of(address)) {
-        Letter::M | Letter::E => store(hierarchy, hart, address, byte),
+    match memory.hierarchy.cache(hart).letter(line_of(address)) {
+        Letter::M | Letter::E => store(memory, hart, address, byte),
         Letter::O | Letter::S | Letter::I => None,
     }
 }
 
-/// Sets a bit of a line, where the hart's cache has it.
-fn mark(hierarchy: &mut Hierarchy, hart: HartId, line: LineAddr, need: Need) -> bool
-    requires { IsCoherent (shown hierarchy.old) }
-    ensures { IsCoherent (shown hierarchy.new) }
+/// The byte at an address.
+fn byte(memory: &Memory, address: u32) -> Option<u8>
+    requires { IsCoherent (shown memory.now.pool memory.now.hierarchy) }
 {
+    memory.hierarchy.byte(&memory.pool, address)
+}
+
+/// Sets a bit of a line, where the hart's cache has it.
+fn mark(memory: &mut Memory, hart: HartId, line: LineAddr, need: Need) -> bool
+    requires { IsCoherent (shown memory.old.pool memory.old.hierarchy) }
+    ensures { IsCoherent (shown memory.new.pool memory.new.hierarchy) }
+{
+    let hierarchy = &mut memory.hierarchy;
     let marked = usize::from(hart.number) < hierarchy.harts() && hierarchy.cache(hart).has(line);
     if marked {
         hierarchy.mark(hart, line, need);
@@ -140,19 +157,19 @@ fn mark(hierarchy: &mut Hierarchy, hart: HartId, line: LineAddr, need: Need) -> 
 }
 
 /// Clears a hart's bits, where there is such a hart.
-fn clear(hierarchy: &mut Hierarchy, hart: HartId)
-    requires { IsCoherent (shown hierarchy.old) }
-    ensures { IsCoherent (shown hierarchy.new) }
+fn clear(memory: &mut Memory, hart: HartId)
+    requires { IsCoherent (shown memory.old.pool memory.old.hierarchy) }
+    ensures { IsCoherent (shown memory.new.pool memory.new.hierarchy) }
 {
-    if usize::from(hart.number) < hierarchy.harts() {
-        hierarchy.clear(hart);
+    if usize::from(hart.number) < memory.hierarchy.harts() {
+        memory.hierarchy.clear(hart);
     }
 }
 
 /// Whether some line of a hart's cache has a bit, and how many are written.
-fn marks(hierarchy: &Hierarchy, hart: HartId) -> (bool, u16) {
-    if usize::from(hart.number) < hierarchy.harts() {
-        let cache = hierarchy.cache(hart);
+fn marks(memory: &Memory, hart: HartId) -> (bool, u16) {
+    if usize::from(hart.number) < memory.hierarchy.harts() {
+        let cache = memory.hierarchy.cache(hart);
         (cache.marked(), cache.write_bits())
     } else {
         (false, 0)
@@ -160,21 +177,22 @@ fn marks(hierarchy: &Hierarchy, hart: HartId) -> (bool, u16) {
 }
 
 /// Whether a hart's cache has room for a line.
-fn room(hierarchy: &Hierarchy, hart: HartId, line: LineAddr) -> bool {
-    usize::from(hart.number) < hierarchy.harts() && hierarchy.cache(hart).room(line)
+fn room(memory: &Memory, hart: HartId, line: LineAddr) -> bool {
+    usize::from(hart.number) < memory.hierarchy.harts() && memory.hierarchy.cache(hart).room(line)
 }
 
 /// The byte at an address in main memory.
-fn main_byte(hierarchy: &Hierarchy, address: u32) -> Option<u8> {
-    hierarchy
+fn main_byte(memory: &Memory, address: u32) -> Option<u8> {
+    memory
+        .hierarchy
         .has_in_memory(line_of(address))
-        .then(|| hierarchy.main_byte(address))
+        .then(|| memory.hierarchy.main_byte(address))
 }
 
 /// What a hart knows of a line.
-fn letter(hierarchy: &Hierarchy, hart: HartId, line: LineAddr) -> Letter {
-    if usize::from(hart.number) < hierarchy.harts() {
-        hierarchy.cache(hart).letter(line)
+fn letter(memory: &Memory, hart: HartId, line: LineAddr) -> Letter {
+    if usize::from(hart.number) < memory.hierarchy.harts() {
+        memory.hierarchy.cache(hart).letter(line)
     } else {
         Letter::I
     }
@@ -184,7 +202,7 @@ fn letter(hierarchy: &Hierarchy, hart: HartId, line: LineAddr) -> Letter {
 fn letters_follow_requests_of_two_harts(rt: HostRuntime) -> Result<(), Fail> {
     let (zero, one) = harts()?;
     let line = line_of(FIRST * 64);
-    let mut hierarchy = made(rt.alloc(), 2)?;
+    let mut memory = made(rt.alloc(), 2)?;
     // who asks, for what, and the letters of both harts then
     for (hart, need, first, second) in [
         (zero, Need::Read, Letter::E, Letter::I),
@@ -195,10 +213,10 @@ fn letters_follow_requests_of_two_harts(rt: HostRuntime) -> Result<(), Fail> {
         (one, Need::Write, Letter::I, Letter::M),
         (zero, Need::Write, Letter::M, Letter::I),
     ] {
-        assert!(rt; serve(&mut hierarchy, hart, line, need));
-        assert_eq!(rt; letter(&hierarchy, zero, line), first, "{hart:?} {need:?}");
-        assert_eq!(rt; letter(&hierarchy, one, line), second, "{hart:?} {need:?}");
-        assert_eq!(rt; hierarchy.byte(FIRST * 64), Some(0x7f), "{hart:?} {need:?}");
+        assert!(rt; serve(&mut memory, hart, line, need));
+        assert_eq!(rt; letter(&memory, zero, line), first, "{hart:?} {need:?}");
+        assert_eq!(rt; letter(&memory, one, line), second, "{hart:?} {need:?}");
+        assert_eq!(rt; byte(&memory, FIRST * 64), Some(0x7f), "{hart:?} {need:?}");
     }
     Ok(())
 }
@@ -206,83 +224,83 @@ fn letters_follow_requests_of_two_harts(rt: HostRuntime) -> Result<(), Fail> {
 #[test]
 fn a_line_leaves_for_another(rt: HostRuntime) -> Result<(), Fail> {
     let (zero, one) = harts()?;
-    let mut hierarchy = made(rt.alloc(), 1)?;
+    let mut memory = made(rt.alloc(), 1)?;
     let here = line_of(FIRST * 64);
     let next = line_of(FIRST * 64 + 64);
-    assert!(rt; serve(&mut hierarchy, zero, here, Need::Write));
-    assert!(rt; serve(&mut hierarchy, one, next, Need::Read));
+    assert!(rt; serve(&mut memory, zero, here, Need::Write));
+    assert!(rt; serve(&mut memory, one, next, Need::Read));
     // the only way of hart 0 is for the other line then, which both harts have
-    assert!(rt; serve(&mut hierarchy, zero, next, Need::Read));
-    assert_eq!(rt; letter(&hierarchy, zero, here), Letter::I);
-    assert_eq!(rt; letter(&hierarchy, zero, next), Letter::S);
-    assert_eq!(rt; letter(&hierarchy, one, next), Letter::S);
-    assert_eq!(rt; hierarchy.byte(FIRST * 64 + 1), Some(0x45));
+    assert!(rt; serve(&mut memory, zero, next, Need::Read));
+    assert_eq!(rt; letter(&memory, zero, here), Letter::I);
+    assert_eq!(rt; letter(&memory, zero, next), Letter::S);
+    assert_eq!(rt; letter(&memory, one, next), Letter::S);
+    assert_eq!(rt; byte(&memory, FIRST * 64 + 1), Some(0x45));
     // the code at 0x10054, and the end of memory with two stacks
-    assert_eq!(rt; hierarchy.byte(0x10054), Some(0x73));
-    assert_eq!(rt; hierarchy.byte(0x10000 + 256 + 2 * 65536), None);
-    assert_eq!(rt; hierarchy.byte(0xffff), None);
+    assert_eq!(rt; byte(&memory, 0x10054), Some(0x73));
+    assert_eq!(rt; byte(&memory, 0x10000 + 256 + 2 * 65536), None);
+    assert_eq!(rt; byte(&memory, 0xffff), None);
     Ok(())
 }
 
 #[test]
 fn a_store_reaches_main_memory_as_its_line_leaves(rt: HostRuntime) -> Result<(), Fail> {
     let (zero, one) = harts()?;
-    let mut hierarchy = made(rt.alloc(), 1)?;
+    let mut memory = made(rt.alloc(), 1)?;
     let address = FIRST * 64 + 1;
     let here = line_of(address);
     let next = line_of(FIRST * 64 + 64);
     // not before the line is there, nor to a copy that others have too
-    assert_eq!(rt; try_store(&mut hierarchy, zero, address, 0x11), None);
-    assert!(rt; serve(&mut hierarchy, zero, here, Need::Read));
-    assert!(rt; serve(&mut hierarchy, one, here, Need::Read));
-    assert_eq!(rt; try_store(&mut hierarchy, zero, address, 0x11), None);
-    assert_eq!(rt; hierarchy.byte(address), Some(0x45));
+    assert_eq!(rt; try_store(&mut memory, zero, address, 0x11), None);
+    assert!(rt; serve(&mut memory, zero, here, Need::Read));
+    assert!(rt; serve(&mut memory, one, here, Need::Read));
+    assert_eq!(rt; try_store(&mut memory, zero, address, 0x11), None);
+    assert_eq!(rt; byte(&memory, address), Some(0x45));
     // the only copy is written and modified, and main memory is behind it
-    assert!(rt; serve(&mut hierarchy, one, next, Need::Read));
-    assert!(rt; serve(&mut hierarchy, one, here, Need::Write));
-    assert!(rt; serve(&mut hierarchy, one, next, Need::Read));
-    assert!(rt; serve(&mut hierarchy, zero, here, Need::Read));
-    assert_eq!(rt; letter(&hierarchy, zero, here), Letter::E);
-    assert_eq!(rt; try_store(&mut hierarchy, zero, address, 0x11), Some(0x11));
-    assert_eq!(rt; letter(&hierarchy, zero, here), Letter::M);
-    assert_eq!(rt; hierarchy.byte(address), Some(0x11));
-    assert_eq!(rt; hierarchy.byte(address - 1), Some(0x7f));
-    assert_eq!(rt; hierarchy.byte(address + 1), Some(0x4c));
-    assert_eq!(rt; main_byte(&hierarchy, address), Some(0x45));
+    assert!(rt; serve(&mut memory, one, next, Need::Read));
+    assert!(rt; serve(&mut memory, one, here, Need::Write));
+    assert!(rt; serve(&mut memory, one, next, Need::Read));
+    assert!(rt; serve(&mut memory, zero, here, Need::Read));
+    assert_eq!(rt; letter(&memory, zero, here), Letter::E);
+    assert_eq!(rt; try_store(&mut memory, zero, address, 0x11), Some(0x11));
+    assert_eq!(rt; letter(&memory, zero, here), Letter::M);
+    assert_eq!(rt; byte(&memory, address), Some(0x11));
+    assert_eq!(rt; byte(&memory, address - 1), Some(0x7f));
+    assert_eq!(rt; byte(&memory, address + 1), Some(0x4c));
+    assert_eq!(rt; main_byte(&memory, address), Some(0x45));
     // the only way of hart 0 is for the other line then
-    assert!(rt; serve(&mut hierarchy, zero, next, Need::Read));
-    assert_eq!(rt; letter(&hierarchy, zero, here), Letter::I);
-    assert_eq!(rt; main_byte(&hierarchy, address), Some(0x11));
-    assert_eq!(rt; main_byte(&hierarchy, address + 1), Some(0x4c));
-    assert_eq!(rt; hierarchy.byte(address), Some(0x11));
+    assert!(rt; serve(&mut memory, zero, next, Need::Read));
+    assert_eq!(rt; letter(&memory, zero, here), Letter::I);
+    assert_eq!(rt; main_byte(&memory, address), Some(0x11));
+    assert_eq!(rt; main_byte(&memory, address + 1), Some(0x4c));
+    assert_eq!(rt; byte(&memory, address), Some(0x11));
     Ok(())
 }
 
 #[test]
 fn bits_are_set_and_cleared_in_one_cache(rt: HostRuntime) -> Result<(), Fail> {
     let (zero, one) = harts()?;
-    let mut hierarchy = made(rt.alloc(), 1)?;
+    let mut memory = made(rt.alloc(), 1)?;
     let here = line_of(FIRST * 64);
     let next = line_of(FIRST * 64 + 64);
-    assert!(rt; !mark(&mut hierarchy, zero, here, Need::Read));
-    assert!(rt; serve(&mut hierarchy, zero, here, Need::Read));
-    assert!(rt; serve(&mut hierarchy, one, here, Need::Read));
-    assert!(rt; mark(&mut hierarchy, zero, here, Need::Read));
-    assert!(rt; mark(&mut hierarchy, one, here, Need::Write));
-    assert_eq!(rt; marks(&hierarchy, zero), (true, 0));
-    assert_eq!(rt; marks(&hierarchy, one), (true, 1));
-    assert!(rt; mark(&mut hierarchy, zero, here, Need::Write));
-    assert_eq!(rt; marks(&hierarchy, zero), (true, 1));
+    assert!(rt; !mark(&mut memory, zero, here, Need::Read));
+    assert!(rt; serve(&mut memory, zero, here, Need::Read));
+    assert!(rt; serve(&mut memory, one, here, Need::Read));
+    assert!(rt; mark(&mut memory, zero, here, Need::Read));
+    assert!(rt; mark(&mut memory, one, here, Need::Write));
+    assert_eq!(rt; marks(&memory, zero), (true, 0));
+    assert_eq!(rt; marks(&memory, one), (true, 1));
+    assert!(rt; mark(&mut memory, zero, here, Need::Write));
+    assert_eq!(rt; marks(&memory, zero), (true, 1));
     // a line with a bit does not leave for another
-    assert!(rt; room(&hierarchy, zero, here));
-    assert!(rt; !room(&hierarchy, zero, next));
-    clear(&mut hierarchy, zero);
-    assert!(rt; room(&hierarchy, zero, next));
-    assert_eq!(rt; marks(&hierarchy, zero), (false, 0));
-    assert_eq!(rt; marks(&hierarchy, one), (true, 1));
-    assert_eq!(rt; letter(&hierarchy, zero, here), Letter::S);
-    assert_eq!(rt; letter(&hierarchy, one, here), Letter::S);
-    assert_eq!(rt; hierarchy.byte(FIRST * 64), Some(0x7f));
+    assert!(rt; room(&memory, zero, here));
+    assert!(rt; !room(&memory, zero, next));
+    clear(&mut memory, zero);
+    assert!(rt; room(&memory, zero, next));
+    assert_eq!(rt; marks(&memory, zero), (false, 0));
+    assert_eq!(rt; marks(&memory, one), (true, 1));
+    assert_eq!(rt; letter(&memory, zero, here), Letter::S);
+    assert_eq!(rt; letter(&memory, one, here), Letter::S);
+    assert_eq!(rt; byte(&memory, FIRST * 64), Some(0x7f));
     Ok(())
 }
 

@@ -1,4 +1,4 @@
+pub mod Laws
 mod Bytes
 mod Ones
 mod Puts
-pub mod Laws

@@ -1,10 +1,11 @@
 -- Eight bytes that were put into a line, merged ones among them, and the bytes of a merged word.
-use Rattle.std.proofs.Common.{◌≡◌, ℕ, zero, suc, ◌+◌, ◌-◌, ◌/◌, ◌%◌, ◌^◌, ◌<◌, ◌≤◌, List, ◌++◌, drop, length, take, slice_index, ap, sym, ◌∙◌, lit<, add-zero, arith}
+use Rattle.std.proofs.Common.{◌≡◌, ℕ, zero, suc, ◌+◌, ◌-◌, ◌/◌, ◌%◌, ◌^◌, ◌<◌, ◌≤◌, List, ◌++◌, drop, length, take, slice_index, ap, sym, subst, ◌∙◌, lit<, add-zero, arith}
 use Rattle.std.specs.Int.{bit_at, byte_at, bytes_low_first, to_le_bytes, w64}
 use Rattle.std.proofs.lemmas.Nat.{shr-shr}
 use Rattle.std.proofs.lemmas.Grind.{common_steps}
 use Rattle.line_lanes.specs.Lanes.{IsMergedFrom, IsPutAt}
 use Rattle.line_lanes.specs.Merged.{merged_byte, word_at}
+use Rattle.line_lanes.proofs.Bytes.{byte_below}
 
 -- the bytes of a number, listed from one on
 listed : (i n k x : ℕ) → k < n → slice_index (bytes_low_first i n x) k ≡ byte_at (i + k) x
@@ -74,3 +75,11 @@ word_is lane word place bytes byte is bytes_are are =
   where
     each : (k : ℕ) → k < 4 → slice_index bytes k ≡ byte (place + k)
     each k less = ap (λ l. slice_index l k) bytes_are ∙ byte_listed k lane (omega arith) ∙ are k less
+
+-- and they are bytes
+pub bytes_fit : (byte : ℕ → ℕ) (lane from offset : ℕ) → from ≡ offset → ((k : ℕ) → k < 4 → byte_at k lane ≡ byte (from + k))
+    → (place : ℕ) → offset ≤ place → place < offset + 4 → byte place < 256
+bytes_fit byte lane from offset is are place past before = at (place - from) (omega arith) (omega arith)
+  where
+    at : (k : ℕ) → k < 4 → place ≡ from + k → byte place < 256
+    at k less same = subst (λ n. n < 256) (are k less ∙ ap byte (sym same)) (byte_below k lane)

@@ -17,7 +17,8 @@ pub fn merge(line: &mut [u8; 64], over: &[u8; 64], mask: u64)
 /// The little-endian word at a place of the line, as it is once it is merged.
 pub fn merged_word(line: &[u8; 64], over: &[u8; 64], mask: u64, offset: u8) -> u32
     requires { offset ≤ 60 }
-    ensures { result ≡ word_at (merged_byte line.now over.now mask) offset }
+    ensures word { result ≡ word_at (merged_byte line.now over.now mask) offset }
+    ensures bytes { (place : ℕ) → offset ≤ place → place < offset + 4 → merged_byte line.now over.now mask place < 256 }
 {
     word_of(merged_half(line, over, mask, offset.into()))
 }

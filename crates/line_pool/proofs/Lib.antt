@@ -1,6 +1,6 @@
+pub mod Laws
 mod Counting
 mod Made
 mod Moves
 mod Places
 mod Steps
-pub mod Laws

@@ -16,6 +16,10 @@ pub record Pooled : Type 0 where
 abbrev pub owner_of : Slot → ℕ
 owner_of slot = slot.owner
 
+-- what stands for a slot where there is none
+abbrev pub no_slot : Slot
+no_slot = record { owner = 0; place = 0 }
+
 -- the quota of each owner, and of one
 abbrev pub quotas_of : Pooled → List ℕ
 quotas_of pool = map (λ share. share.quota) pool.shares

@@ -5,7 +5,7 @@ use Rattle.std.specs.Option.{option_or}
 use Rattle.std.proofs.lemmas.List.Folds.{find-append, find_at}
 use Rattle.std.proofs.lemmas.List.Sums.{sum_by-cons}
 use Rattle.std.proofs.lemmas.Option.{slice_get-get_or, slice_get_read}
-use Rattle.el_base.proofs.ListLaws.{find_by_no_position, place_by_position}
+use Rattle.el_base.proofs.Laws.ListLaws.{find_by_no_position, place_by_position}
 
 module _ {X : Type 0} (p : X → Bool) where
   -- an element that is not looked for was taken out

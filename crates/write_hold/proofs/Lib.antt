@@ -1,6 +1,8 @@
-pub mod Masks
-pub mod Stores
-pub mod Finds
-pub mod Steps
-pub mod Shown
-pub mod LookUps
+pub mod Laws
+mod Finds
+mod Stores
+mod Steps
+mod Shown
+mod Slots
+mod Calls
+mod After

@@ -8,8 +8,8 @@ use Rattle.std.proofs.lemmas.List.{length-append, length-set}
 use Rattle.std.proofs.lemmas.List.Edits.{length-remove}
 use Rattle.std.proofs.lemmas.List.Folds.{find-set, find_past}
 use Rattle.std.proofs.lemmas.List.Quantifiers.{position-Some}
-use Rattle.std.proofs.lemmas.List.Sums.{sum_by-append, sum_by-remove, sum_by-set}
-use Rattle.el_base.proofs.ListLaws.{find_by_no_position, place_by_position}
+use Rattle.std.proofs.lemmas.List.Sums.{sum_by-append, sum_by-remove, sum_by-set, sum_by_push}
+use Rattle.el_base.proofs.Laws.ListLaws.{find_by_no_position, place_by_position}
 use Rattle.write_hold.specs.declared.entry.Entry as code
 use Rattle.write_hold.specs.Entries.{Stands, number_of}
 use Rattle.write_hold.proofs.Finds.{count_none_found, find_none_counted, find_pushed_other, find_pushed_same, find_removed_other, found_at_position}
@@ -138,3 +138,12 @@ module _ (entries : List code.Entry) (line i : ℕ) (x : code.Entry) (at : posit
     reserved = omega (arith, stands.reserved);
     once = λ l. omega (arith, count_removed l, stands.once l);
   }
+
+-- the last entry left
+pub stands_popped : (limit room more : ℕ) (entries rest : List code.Entry) (x : code.Entry) → entries ≡ rest ++ x ∷ [] → room ≤ more
+    → Stands limit room entries → Stands limit more rest
+stands_popped limit room more entries rest x is grows stands = record {
+  few = omega (arith, stands.few, ap length is, length-append rest (x ∷ []));
+  reserved = omega (arith, stands.reserved);
+  once = λ l. omega (arith, stands.once l, ap (count_by (is_of l)) is, sum_by_push (weight l) rest x);
+}

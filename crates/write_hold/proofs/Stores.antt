@@ -4,7 +4,7 @@ use Rattle.std.specs.Int.{bit_at}
 use Rattle.std.proofs.lemmas.Bool.{cases_lt}
 use Rattle.std.proofs.lemmas.Bool.Decides.{nat_tests}
 use Rattle.std.proofs.lemmas.Grind.{common_steps}
-use Rattle.el_base.proofs.BitSets.{bit_in_or}
+use Rattle.el_base.proofs.Laws.BitSets.{bit_in_or}
 use Rattle.write_hold.specs.Held.{laid}
 
 -- a list after some bytes took the place of others

@@ -1,3 +1,4 @@
 pub mod Held
+pub mod Slotted
 pub mod Entries
 pub mod Calls

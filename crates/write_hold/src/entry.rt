@@ -1,86 +1,67 @@
-ghost use Rattle.std.specs.Prelude.{◌≡◌, ◌≤◌, ◌<◌, ◌+◌, ◌==◌, ◌&&◌, ℕ, nat_le, nat_lt, length, None, Some, slice_index};
+ghost use Rattle.std.specs.Prelude.{◌≡◌, ◌≤◌, ◌<◌, ◌+◌, ◌==◌, ◌&&◌, ℕ, nat_le, nat_lt, length, None, Some, slice_index, true};
 ghost use Rattle.std.specs.Int.{bit_at};
+ghost use Rattle.line_pool.specs.Pooled.{Pooled, is_out};
 ghost use Rattle.rv_alu.specs.Loaded.{loaded};
 ghost use Rattle.write_hold.specs.Held.{laid};
 
 use el_base::LineAddr;
+use line_lanes::{merge, merged_word};
+use line_pool::{Pool, Slot};
 
-/// A line that is held: which of its bytes were stored, and those.
-#[derive(Clone, Copy, Debug)]
+/// A line that is held: which of its bytes were stored, and the slot that has those.
+#[derive(Debug, Drop)]
 pub struct Entry {
     pub line: LineAddr,
     /// Bit `place` is set where the byte at that place was stored.
     pub mask: u64,
-    pub bytes: [u8; 64],
+    pub slot: Slot,
 }
 
 impl Entry {
     ghost use Rattle.write_hold.specs.Held.{stored_at};
     ghost use Rattle.write_hold.specs.Entries.{IsMerged, IsStored, byte_over, shown};
+    ghost use Rattle.write_hold.specs.Slotted.{lent_entry};
 
-    /// A line in which nothing was stored.
-    pub fn new(line: LineAddr) -> Entry
+    /// A line in which nothing was stored, whatever bytes its slot has.
+    pub fn new(line: LineAddr, slot: Slot) -> Entry
         ensures line { result.line ≡ line }
-        ensures nothing { (place : ℕ) → stored_at (shown result) place ≡ None }
+        ensures slot { result.slot ≡ slot }
+        ensures nothing { (pool : Pooled) (place : ℕ) → stored_at (lent_entry pool (shown result)) place ≡ None }
     {
         Entry {
             line,
             mask: 0,
-            bytes: [0; 64],
+            slot,
         }
     }
 
     /// Stores bytes from a place on.
-    pub fn store(&mut self, offset: u8, bytes: &[u8])
+    pub fn store(&mut self, pool: &mut Pool, offset: u8, bytes: &[u8])
+        requires out { is_out pool.old self.old.slot ≡ true }
         requires some { 1 ≤ length bytes.now }
         requires inside { offset + length bytes.now ≤ 64 }
-        ensures { IsStored self.old self.new offset bytes.now }
+        ensures { IsStored pool.old pool.new self.old self.new offset bytes.now }
     {
-        write_at(&mut self.bytes, offset, bytes);
+        write_at(pool.bytes_mut(&self.slot), offset, bytes);
         self.mask |= places(offset, bytes.len());
     }
 
-    /// Whether the byte at a place was stored.
-    fn has(&self, place: u8) -> bool
-        requires { place < 64 }
-        ensures { result ≡ (bit_at self.now.mask place == 1) }
-    {
-        (self.mask >> place) & 1 == 1
-    }
-
-    /// The byte at a place: the stored one, else the one under it.
-    fn byte_over(&self, under: &[u8; 64], place: u8) -> u8
-        requires { place < 64 }
-        ensures { result ≡ byte_over self.now under.now place }
-    {
-        if self.has(place) {
-            self.bytes[place as usize]
-        } else {
-            under[place as usize]
-        }
-    }
-
     /// The little-endian word at a place, of the stored bytes and, where none were, those under them.
-    pub fn word_over(&self, under: &[u8; 64], offset: u8) -> u32
-        requires { offset ≤ 60 }
-        ensures value { result ≡ loaded (byte_over self.now under.now) offset 4 }
-        ensures bytes { (place : ℕ) → offset ≤ place → place < offset + 4 → byte_over self.now under.now place < 256 }
+    pub fn word_over(&self, pool: &Pool, under: &[u8; 64], offset: u8) -> u32
+        requires out { is_out pool.now self.now.slot ≡ true }
+        requires inside { offset ≤ 60 }
+        ensures value { result ≡ loaded (byte_over pool.now self.now under.now) offset 4 }
+        ensures bytes { (place : ℕ) → offset ≤ place → place < offset + 4 → byte_over pool.now self.now under.now place < 256 }
     {
-        u32::from(self.byte_over(under, offset))
-            + 256
-                * (u32::from(self.byte_over(under, offset + 1))
-                    + 256
-                        * (u32::from(self.byte_over(under, offset + 2))
-                            + 256 * u32::from(self.byte_over(under, offset + 3))))
+        merged_word(under, pool.bytes(&self.slot), self.mask, offset)
     }
 
     /// Puts the stored bytes over those of the line.
-    pub fn merge_into(&self, target: &mut [u8; 64])
-        ensures { IsMerged self.now target.old target.new }
+    pub fn merge_into(&self, pool: &Pool, target: &mut [u8; 64])
+        requires { is_out pool.now self.now.slot ≡ true }
+        ensures { IsMerged pool.now self.now target.old target.new }
     {
-        for place in 0..64 {
-            target[place as usize] = self.byte_over(target, place);
-        }
+        merge(target, pool.bytes(&self.slot), self.mask);
     }
 }
 

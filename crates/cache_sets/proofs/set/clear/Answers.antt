@@ -1,11 +1,12 @@
 use Rattle.std.proofs.Common.{ap, sym, ◌∙◌}
 use Rattle.std.specs.Prelude.{slice_set}
 use Rattle.std.proofs.lemmas.List.Edits.{map_over_more}
-use Rattle.cache_sets.specs.Kept.{cleared_way}
+use Rattle.cache_sets.specs.Kept.{cleared_way, with_way}
 use Rattle.cache_sets.proofs.set.clear.Goals as goal
 
-pub loop-way-preserved : goal.loop-way-preserved
-loop-way-preserved c =
-    let way = c.way-item.result in
-    ap (λ w. slice_set c.loop-way.ways c.loop-way.way-index w) (c.cleared.ensures ∙ ap cleared_way (sym c.way-item.is))
-    ∙ map_over_more cleared_way c.args.ways.now c.loop-way.ways c.loop-way.way-index way c.loop-way-test.true c.loop-way.invariant c.way-item.is
+pub loop-line-preserved : goal.loop-line-preserved
+loop-line-preserved c =
+    let line = c.line-item.result in
+    ap (λ l. slice_set c.loop-line.lines c.loop-line.line-index l) (c.clear_bits.ensures ∙ ap (with_way cleared_way) (sym c.line-item.is))
+    ∙ map_over_more (with_way cleared_way) c.args.lines.now c.loop-line.lines c.loop-line.line-index line c.loop-line-test.true
+    c.loop-line.invariant c.line-item.is

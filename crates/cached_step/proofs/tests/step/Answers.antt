@@ -1,6 +1,6 @@
 -- the action of an instruction is aligned
 use Rattle.std.proofs.Common.{Some}
-use Rattle.core_step.proofs.Runs.{aligned_at}
+use Rattle.core_step.proofs.Laws.Runs.{aligned_at}
 use Rattle.cached_step.proofs.tests.step.Goals as goal
 
 pub step_in_cache-requires-clause-aligned : goal.step_in_cache-requires-clause-aligned

@@ -1,8 +1,12 @@
 use Rattle.std.proofs.Common.{ap, ◌∙◌}
 use Rattle.line_lanes.specs.Merged.{merged_byte, word_at}
+use Rattle.line_lanes.proofs.Puts.{bytes_fit}
 use Rattle.line_lanes.proofs.line.merged_word.Goals as goal
 
 pub returns : goal.returns
 returns c =
     let byte = merged_byte c.args.line.now c.args.over.now c.args.mask in
-    c.word_of.ensures byte c.into.result c.merged_half.ensures ∙ ap (word_at byte) c.into.ensures
+    record {
+      word = c.word_of.ensures byte c.into.result c.merged_half.ensures ∙ ap (word_at byte) c.into.ensures;
+      bytes = bytes_fit byte c.merged_half.result c.into.result c.args.offset c.into.ensures c.merged_half.ensures;
+    }

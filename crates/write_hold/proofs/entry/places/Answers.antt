@@ -1,4 +1,4 @@
-use Rattle.write_hold.proofs.Masks.{mask_of_places}
+use Rattle.write_hold.proofs.Laws.Masks.{mask_of_places}
 use Rattle.write_hold.proofs.entry.places.Goals as goal
 
 pub returns : goal.returns

@@ -1,13 +1,14 @@
-use Rattle.std.proofs.Common.{arith}
-use Rattle.cache_sets.proofs.Places.{made_room, no_victim}
+use Rattle.std.proofs.Common.{subst, sym, arith}
+use Rattle.cache_sets.specs.Kept.{MakesRoom}
+use Rattle.cache_sets.proofs.Rooms.{room_made, room_none}
 use Rattle.cache_sets.proofs.set.Set.make_room.Goals as goal
 
-pub unreachable-requires-in-None-victim_place : goal.unreachable-requires-in-None-victim_place
-unreachable-requires-in-None-victim_place c =
-    no_victim c.args.ways c.args.self.now.ways.items (omega arith) c.requires.room c.in-None-victim_place.ensures
+pub returns-in_err-place : goal.returns-in_err-place
+returns-in_err-place c =
+    subst (MakesRoom c.args.ways c.args.self.now c.args.self.now) (sym c.from_residual.ensures)
+    (room_none c.args.ways c.args.self.now (omega arith) c.in_err-place.ensures)
 
-pub returns-in-Some-victim_place : goal.returns-in-Some-victim_place
-returns-in-Some-victim_place c =
-    made_room c.args.ways c.args.self.now c.in-Some-victim_place.place c.remove-victim.result c.remove-victim.new.self c.requires.set c.requires.once
-    (omega arith) c.in-Some-victim_place.ensures.0 c.remove-victim.ensures.value (c.in-Some-victim_place.ensures.1 c.remove-victim.result)
-    c.remove-victim.ensures.items
+pub returns-in_ok-place : goal.returns-in_ok-place
+returns-in_ok-place c =
+    room_made c.args.ways c.args.self.now _ c.in_ok-place.place c.remove.result c.requires (omega arith) c.in_ok-place.ensures.0
+    c.remove.ensures.value (c.in_ok-place.ensures.1 c.remove.result) c.remove.ensures.items c.remove.ensures.capacity

@@ -1,14 +1,14 @@
 use Rattle.std.proofs.Common.{sym, ◌∙◌}
-use Rattle.cache_sets.specs.Kept.{lettered_way, number_of}
-use Rattle.cache_sets.proofs.KeyedLemmas.{changed-absent, changed_read, position-found}
+use Rattle.cache_sets.specs.Kept.{lettered_way, number_of, with_way}
+use Rattle.residency.proofs.Laws.KeyedLemmas.{changed-absent, changed_read, position-found}
 use Rattle.cache_sets.proofs.set.Set.set_letter.Goals as goal
 
-pub returns-in-Some-get_mut-clause-ways : goal.returns-in-Some-get_mut-clause-ways
-returns-in-Some-get_mut-clause-ways c =
-    changed_read number_of (lettered_way c.args.letter) c.args.self.now.ways.items c.args.line.number c.in-Some.place c.in-Some-get_mut.way.now c.requires
-    (sym c.place_of.ensures ∙ c.in-Some.is) c.in-Some-get_mut.ensures.value
+pub returns-in-Some-get_mut-clause-lines : goal.returns-in-Some-get_mut-clause-lines
+returns-in-Some-get_mut-clause-lines c =
+    changed_read number_of (with_way (lettered_way c.args.letter)) c.args.self.now.lines.items c.args.line.number c.in-Some.place
+    c.in-Some-get_mut.found.now c.requires (sym c.place_of.ensures ∙ c.in-Some.is) c.in-Some-get_mut.ensures.value
 
-pub returns-in_default-clause-ways : goal.returns-in_default-clause-ways
-returns-in_default-clause-ways c =
-    sym (changed-absent number_of (lettered_way c.args.letter) c.args.self.now.ways.items c.args.line.number
-    (position-found number_of c.args.self.now.ways.items c.args.line.number (sym c.place_of.ensures ∙ c.in_default.is)))
+pub returns-in_default-clause-lines : goal.returns-in_default-clause-lines
+returns-in_default-clause-lines c =
+    sym (changed-absent number_of (with_way (lettered_way c.args.letter)) c.args.self.now.lines.items c.args.line.number
+    (position-found number_of c.args.self.now.lines.items c.args.line.number (sym c.place_of.ensures ∙ c.in_default.is)))

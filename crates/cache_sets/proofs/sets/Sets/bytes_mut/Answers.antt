@@ -1,45 +1,35 @@
-use Rattle.std.proofs.Common.{arith, refl}
-use Rattle.cache_sets.proofs.LendSteps.{lent_row, lent_shown, lent_stands, lent_value, resident_there}
-use Rattle.cache_sets.proofs.CachedLemmas.{cached_kept}
-use Rattle.cache_sets.proofs.WrittenLines.{is_written}
+use Rattle.std.proofs.Common.{ap, refl, subst, ◌∙◌}
+use Rattle.line_pool.specs.Calls.{IsWritten}
+use Rattle.line_pool.specs.Pooled.{with_bytes}
+use Rattle.cache_sets.specs.Slotted.{slot_of}
+use Rattle.cache_sets.proofs.Readings.{line-there, used-bytes, used-out, used-slot, used-written}
 use Rattle.cache_sets.proofs.sets.Sets.bytes_mut.Goals as goal
 
-pub row_at-row-requires-clause-there : goal.row_at-row-requires-clause-there
-row_at-row-requires-clause-there c =
-    let i = c.self.inside in
-    resident_there i.ways i.sets.items c.as_slice.result.now i.rows.items c.args.self.now c.args.line.number c.self.view_is c.requires
-    c.as_slice.ensures.value
+pub slot_in_use-slot-requires-clause-there : goal.slot_in_use-slot-requires-clause-there
+slot_in_use-slot-requires-clause-there c =
+    line-there c.cache.invariant c.cache.view_is c.as_slice.ensures.value c.args.line.number c.requires.resident
 
-pub index_mut-requires : goal.index_mut-requires
-index_mut-requires c =
-    let i = c.self.inside in
-    omega (
-      arith,
-      i.rows.ok.0,
-      lent_row i.ways i.sets.items c.as_slice.result.now i.rows.items i.marked i.written c.args.line.number c.row_at-row.result c.args.self.now
-          c.self.invariant c.self.view_is c.requires c.as_slice.ensures.value c.row_at-row.ensures,
-    )
-
-pub invariant_of-self-lent : goal.invariant_of-self-lent
-invariant_of-self-lent c w =
-    let i = c.self.inside in
-    lent_stands i.ways i.sets.items c.as_slice.result.now i.rows.items i.marked i.written c.args.line.number c.row_at-row.result c.args.self.now w
-    c.self.invariant c.self.view_is c.requires c.as_slice.ensures.value c.row_at-row.ensures
+pub bytes_mut-requires : goal.bytes_mut-requires
+bytes_mut-requires c =
+    used-out c.cache.invariant c.cache.view_is c.as_slice.ensures.value c.args.line.number c.requires.resident c.requires.lent
+    c.slot_in_use-slot.ensures
 
 pub returns : goal.returns
 returns c =
-    let i = c.self.inside in (
-      (
-        refl,
-        λ w. lent_shown i.ways i.sets.items c.as_slice.result.now i.rows.items i.marked i.written c.args.line.number c.row_at-row.result c.args.self.now w
-            c.self.invariant c.self.view_is c.requires c.as_slice.ensures.value c.row_at-row.ensures,
-      ),
+    let line = c.args.line.number in
+    let pool = c.args.pool.now in
+    let slot = c.slot_in_use-slot.result.now in
+    let used =
+    used-slot c.cache.invariant c.cache.view_is c.as_slice.ensures.value line c.requires.resident c.requires.lent c.slot_in_use-slot.ensures in (
+      (refl, λ w. ap (λ s. with_bytes pool s w) used),
       record {
         lends = tt;
-        value = lent_value i.ways i.sets.items c.as_slice.result.now i.rows.items i.marked i.written c.args.line.number c.row_at-row.result c.args.self.now
-            c.index_mut.result.now c.self.invariant c.self.view_is c.requires c.as_slice.ensures.value c.row_at-row.ensures c.index_mut.ensures.value;
+        value = c.bytes_mut.ensures.value
+            ∙ used-bytes c.cache.invariant c.cache.view_is c.as_slice.ensures.value line c.requires.resident c.requires.lent
+            c.slot_in_use-slot.ensures;
         written = λ bytes.
-            is_written c.args.self.now c.args.line.number bytes
-            (cached_kept i.ways i.sets.items i.rows.items i.marked i.written c.args.self.now c.self.invariant c.self.view_is);
+            used-written c.cache.invariant c.cache.view_is c.as_slice.ensures.value line c.requires.resident c.requires.lent
+            c.slot_in_use-slot.ensures (with_bytes pool (slot_of c.args.cache.now line) bytes) bytes
+            (subst (λ s. IsWritten pool (with_bytes pool s bytes) slot bytes) used (c.bytes_mut.ensures.written bytes));
       },
     )

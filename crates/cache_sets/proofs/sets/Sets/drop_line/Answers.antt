@@ -1,56 +1,54 @@
-use Rattle.std.proofs.Common.{◌-◌, arith}
-use Rattle.cache_sets.proofs.CountSteps.{marks_after_drop, marks_below, writes_after_drop, writes_below}
-use Rattle.cache_sets.proofs.DropSteps.{dropped_after}
-use Rattle.cache_sets.proofs.StepLemmas.{once_in, reached}
+use Rattle.std.proofs.Common.{◌-◌, ap, sym, ◌∙◌, arith}
+use Rattle.std.proofs.Common.{subst}
+use Rattle.line_pool.specs.Others.{LeavesOthers}
+use Rattle.cache_sets.specs.Bits.{bits_of}
+use Rattle.residency.specs.Cache.{way_of}
+use Rattle.cache_sets.specs.Slotted.{Slotted}
+use Rattle.cache_sets.proofs.After.{gone-out, leaves-after, lent-without, stands-dropped, without-after}
+use Rattle.cache_sets.proofs.Counts.{marks-after_drop, marks-below, writes-after_drop, writes-below}
+use Rattle.cache_sets.proofs.Reached.{once-reached, reached}
 use Rattle.cache_sets.proofs.sets.Sets.drop_line.Goals as goal
 
-pub drop_line-requires-clause-once : goal.drop_line-requires-clause-once
-drop_line-requires-clause-once c =
-    let i = c.self.inside in
-    once_in i.ways i.sets.items i.rows.items i.marked i.written c.args.line.number c.set_number-number.result c.index_mut-set.result.now c.self.invariant
-    (reached i.sets.items c.as_slice.result.now c.args.line.number c.set_number-number.result c.index_mut-set.result.now c.as_slice.ensures.value
-    c.set_number-number.ensures.exact c.set_number-number.ensures.within c.index_mut-set.ensures.value) c.args.line.number
+pub remove-gone-requires : goal.remove-gone-requires
+remove-gone-requires c =
+    once-reached _ _ _ _ (reached c.as_slice.ensures.value c.set_number-number.ensures.exact c.set_number-number.ensures.within c.index_mut-set.ensures.value) _ _ _ c.self.invariant c.args.line.number
+
+pub give_back-requires : goal.give_back-requires
+give_back-requires c =
+    let at = reached c.as_slice.ensures.value c.set_number-number.ensures.exact c.set_number-number.ensures.within c.index_mut-set.ensures.value in
+    gone-out c.remove-gone.new.self c.self.invariant c.self.view_is at c.remove-gone.ensures.room c.remove-gone.ensures.left c.args.pool.now c.args.pool.now c.remove-gone.result
+    c.requires.lent c.requires.resident c.remove-gone.ensures.gone
 
 pub overflow_sub-self : goal.overflow_sub-self
 overflow_sub-self c =
-    let i = c.self.inside in
-    omega (
-      arith,
-      c.marks.ensures,
-      marks_below i.ways i.sets.items i.rows.items i.marked i.written c.args.self.now c.args.line.number c.bits-before.result c.self.invariant
-          c.self.view_is c.bits-before.ensures,
-    )
+    let bits = c.bits-before.ensures ∙ ap (λ (v : Slotted). bits_of (way_of v.residency c.args.line.number)) (sym c.self.view_is) in
+    omega (arith, c.marks.ensures, marks-below _ _ _ _ _ _ c.self.invariant.sound bits)
 
 pub overflow_sub-self-2 : goal.overflow_sub-self-2
 overflow_sub-self-2 c =
-    let i = c.self.inside in
-    omega (
-      arith,
-      c.writes.ensures,
-      writes_below i.ways i.sets.items i.rows.items i.marked i.written c.args.self.now c.args.line.number c.bits-before.result c.self.invariant
-          c.self.view_is c.bits-before.ensures,
-    )
+    let bits = c.bits-before.ensures ∙ ap (λ (v : Slotted). bits_of (way_of v.residency c.args.line.number)) (sym c.self.view_is) in
+    omega (arith, c.writes.ensures, writes-below _ _ _ _ _ _ c.self.invariant.sound bits)
 
 pub invariant_of-self : goal.invariant_of-self
 invariant_of-self c =
     let i = c.self.inside in
-    (dropped_after i.ways i.sets.items i.rows.items i.marked i.written (i.marked - c.marks.result) (i.written - c.writes.result)
-    c.args.line.number c.set_number-number.result c.index_mut-set.result.now c.drop_line.new.self c.args.self.now c.self.invariant
-    (reached i.sets.items c.as_slice.result.now c.args.line.number c.set_number-number.result c.index_mut-set.result.now c.as_slice.ensures.value
-    c.set_number-number.ensures.exact c.set_number-number.ensures.within c.index_mut-set.ensures.value) c.self.view_is
-    (marks_after_drop i.ways i.sets.items i.rows.items i.marked i.written c.args.self.now c.args.line.number c.bits-before.result c.self.invariant
-    c.self.view_is c.bits-before.ensures c.marks.result c.marks.ensures)
-    (writes_after_drop i.ways i.sets.items i.rows.items i.marked i.written c.args.self.now c.args.line.number c.bits-before.result c.self.invariant
-    c.self.view_is c.bits-before.ensures c.writes.result c.writes.ensures) c.drop_line.ensures).0
+    let at = reached c.as_slice.ensures.value c.set_number-number.ensures.exact c.set_number-number.ensures.within c.index_mut-set.ensures.value in
+    let bits = c.bits-before.ensures ∙ ap (λ (v : Slotted). bits_of (way_of v.residency c.args.line.number)) (sym c.self.view_is) in
+    stands-dropped c.remove-gone.new.self c.self.invariant c.self.view_is at c.remove-gone.ensures.room c.remove-gone.ensures.left _ _
+    ((λ k. i.marked - c.marks.ensures k) ∙ marks-after_drop _ _ _ _ _ _ c.self.invariant.sound bits)
+    ((λ k. i.written - c.writes.ensures k) ∙ writes-after_drop _ _ _ _ _ _ c.self.invariant.sound bits)
 
 pub returns : goal.returns
 returns c =
-    let i = c.self.inside in
-    (dropped_after i.ways i.sets.items i.rows.items i.marked i.written (i.marked - c.marks.result) (i.written - c.writes.result)
-    c.args.line.number c.set_number-number.result c.index_mut-set.result.now c.drop_line.new.self c.args.self.now c.self.invariant
-    (reached i.sets.items c.as_slice.result.now c.args.line.number c.set_number-number.result c.index_mut-set.result.now c.as_slice.ensures.value
-    c.set_number-number.ensures.exact c.set_number-number.ensures.within c.index_mut-set.ensures.value) c.self.view_is
-    (marks_after_drop i.ways i.sets.items i.rows.items i.marked i.written c.args.self.now c.args.line.number c.bits-before.result c.self.invariant
-    c.self.view_is c.bits-before.ensures c.marks.result c.marks.ensures)
-    (writes_after_drop i.ways i.sets.items i.rows.items i.marked i.written c.args.self.now c.args.line.number c.bits-before.result c.self.invariant
-    c.self.view_is c.bits-before.ensures c.writes.result c.writes.ensures) c.drop_line.ensures).1
+    let at = reached c.as_slice.ensures.value c.set_number-number.ensures.exact c.set_number-number.ensures.within c.index_mut-set.ensures.value in
+    let own = ap (λ (v : Slotted). v.owner) c.self.view_is in
+    record {
+      without = without-after c.remove-gone.new.self c.self.invariant c.self.view_is at c.remove-gone.ensures.room c.remove-gone.ensures.left c.args.pool.now
+          c.give_back.new.pool c.remove-gone.result c.requires.lent c.requires.resident c.remove-gone.ensures.gone c.give_back.ensures;
+      lent = lent-without c.remove-gone.new.self c.self.invariant c.self.view_is at c.remove-gone.ensures.room c.remove-gone.ensures.left c.args.pool.now
+          c.give_back.new.pool c.remove-gone.result c.requires.lent c.requires.resident c.remove-gone.ensures.gone c.give_back.ensures;
+      others = subst (λ o. LeavesOthers o c.args.pool.now c.give_back.new.pool) own
+          (leaves-after c.remove-gone.new.self c.self.invariant c.self.view_is at c.remove-gone.ensures.room c.remove-gone.ensures.left c.args.pool.now
+          c.give_back.new.pool c.remove-gone.result c.requires.lent c.requires.resident c.remove-gone.ensures.gone c.give_back.ensures);
+      owner = own;
+    }

@@ -1,57 +1,50 @@
-use Rattle.std.proofs.Common.{arith}
-use Rattle.cache_sets.proofs.FillSteps.{filled_after, filled_row}
-use Rattle.cache_sets.proofs.StepLemmas.{once_in, reached}
+use Rattle.std.proofs.Common.{ap, subst}
+use Rattle.line_pool.specs.Others.{LeavesOthers}
+use Rattle.cache_sets.specs.Slotted.{Slotted}
+use Rattle.cache_sets.proofs.Filled.{filled-after, leaves-after, lent-after, may_vacate, none-leaves, place-left, slot-out, stands-filled}
+use Rattle.cache_sets.proofs.Reached.{once-reached, reached}
 use Rattle.cache_sets.proofs.sets.Sets.fill.Goals as goal
 
-pub fill-placed-requires-clause-once : goal.fill-placed-requires-clause-once
-fill-placed-requires-clause-once c =
-    let i = c.self.inside in
-    once_in i.ways i.sets.items i.rows.items i.marked i.written c.args.line.number c.set_number-number.result c.index_mut-set.result.now c.self.invariant
-    (reached i.sets.items c.as_slice.result.now c.args.line.number c.set_number-number.result c.index_mut-set.result.now c.as_slice.ensures.value
-    c.set_number-number.ensures.exact c.set_number-number.ensures.within c.index_mut-set.ensures.value)
+pub make_room-gone-requires : goal.make_room-gone-requires
+make_room-gone-requires c =
+    once-reached _ _ _ _ (reached c.as_slice.ensures.value c.set_number-number.ensures.exact c.set_number-number.ensures.within c.index_mut-set.ensures.value) _ _ _ c.self.invariant
 
-pub index-requires : goal.index-requires
-index-requires c =
-    let i = c.self.inside in
-    omega (
-      arith,
-      i.rows.ok.0,
-      filled_row i.ways i.sets.items i.rows.items i.marked i.written c.set_number-number.result c.row_of-row.result c.args.line c.args.letter
-          c.fill-placed.result.slot c.fill-placed.result.gone c.index_mut-set.result.now c.fill-placed.new.self c.self.invariant
-          (reached i.sets.items c.as_slice.result.now c.args.line.number c.set_number-number.result c.index_mut-set.result.now c.as_slice.ensures.value
-          c.set_number-number.ensures.exact c.set_number-number.ensures.within c.index_mut-set.ensures.value)
-          c.fill-placed.ensures c.row_of-row.ensures,
-    )
+pub vacated-evicted-requires : goal.vacated-evicted-requires
+vacated-evicted-requires c =
+    let at = reached c.as_slice.ensures.value c.set_number-number.ensures.exact c.set_number-number.ensures.within c.index_mut-set.ensures.value in
+    may_vacate c.args.line c.self.invariant c.self.view_is at c.make_room-gone.ensures c.requires.room c.requires.absent c.requires.valid c.requires.lent
 
-pub index_mut-requires : goal.index_mut-requires
-index_mut-requires c =
-    let i = c.self.inside in
-    omega (
-      arith,
-      i.rows.ok.0,
-      filled_row i.ways i.sets.items i.rows.items i.marked i.written c.set_number-number.result c.row_of-row.result c.args.line c.args.letter
-          c.fill-placed.result.slot c.fill-placed.result.gone c.index_mut-set.result.now c.fill-placed.new.self c.self.invariant
-          (reached i.sets.items c.as_slice.result.now c.args.line.number c.set_number-number.result c.index_mut-set.result.now c.as_slice.ensures.value
-          c.set_number-number.ensures.exact c.set_number-number.ensures.within c.index_mut-set.ensures.value)
-          c.fill-placed.ensures c.row_of-row.ensures,
-    )
+pub write-requires : goal.write-requires
+write-requires c =
+    let at = reached c.as_slice.ensures.value c.set_number-number.ensures.exact c.set_number-number.ensures.within c.index_mut-set.ensures.value in
+    slot-out c.args.line c.self.invariant c.self.view_is at c.make_room-gone.ensures c.requires.room c.requires.absent c.requires.valid c.requires.lent
+    c.vacated-evicted.new.pool c.vacated-evicted.result.slot c.vacated-evicted.result.evicted c.vacated-evicted.ensures
+
+pub put_first-requires : goal.put_first-requires
+put_first-requires c =
+    let at = reached c.as_slice.ensures.value c.set_number-number.ensures.exact c.set_number-number.ensures.within c.index_mut-set.ensures.value in
+    place-left c.args.line c.self.invariant c.self.view_is at c.make_room-gone.ensures c.requires.room c.requires.absent c.requires.valid c.requires.lent
+    c.vacated-evicted.new.pool c.vacated-evicted.result.slot c.vacated-evicted.result.evicted c.vacated-evicted.ensures
 
 pub invariant_of-self : goal.invariant_of-self
 invariant_of-self c =
-    let i = c.self.inside in
-    (filled_after i.ways i.sets.items i.rows.items i.marked i.written c.set_number-number.result c.row_of-row.result c.args.line c.args.letter
-    c.fill-placed.result.slot c.fill-placed.result.gone c.index_mut-set.result.now c.fill-placed.new.self c.args.bytes.now c.index.result.now
-    c.evicted-gone.result c.args.self.now c.self.invariant
-    (reached i.sets.items c.as_slice.result.now c.args.line.number c.set_number-number.result c.index_mut-set.result.now c.as_slice.ensures.value
-    c.set_number-number.ensures.exact c.set_number-number.ensures.within c.index_mut-set.ensures.value)
-    c.self.view_is c.requires.room c.requires.absent c.requires.valid c.fill-placed.ensures c.row_of-row.ensures c.index.ensures c.evicted-gone.ensures).0
+    let at = reached c.as_slice.ensures.value c.set_number-number.ensures.exact c.set_number-number.ensures.within c.index_mut-set.ensures.value in
+    stands-filled c.args.line c.self.invariant c.self.view_is at c.make_room-gone.ensures c.requires.room c.requires.absent c.requires.valid c.requires.lent
+    c.vacated-evicted.new.pool c.vacated-evicted.result.slot c.vacated-evicted.result.evicted c.vacated-evicted.ensures c.put_first.new.self c.write.ensures c.new.ensures c.put_first.ensures.lines c.put_first.ensures.room
 
-pub returns-clause-filled : goal.returns-clause-filled
-returns-clause-filled c =
-    let i = c.self.inside in
-    (filled_after i.ways i.sets.items i.rows.items i.marked i.written c.set_number-number.result c.row_of-row.result c.args.line c.args.letter
-    c.fill-placed.result.slot c.fill-placed.result.gone c.index_mut-set.result.now c.fill-placed.new.self c.args.bytes.now c.index.result.now
-    c.evicted-gone.result c.args.self.now c.self.invariant
-    (reached i.sets.items c.as_slice.result.now c.args.line.number c.set_number-number.result c.index_mut-set.result.now c.as_slice.ensures.value
-    c.set_number-number.ensures.exact c.set_number-number.ensures.within c.index_mut-set.ensures.value)
-    c.self.view_is c.requires.room c.requires.absent c.requires.valid c.fill-placed.ensures c.row_of-row.ensures c.index.ensures c.evicted-gone.ensures).1
+pub returns : goal.returns
+returns c =
+    let at = reached c.as_slice.ensures.value c.set_number-number.ensures.exact c.set_number-number.ensures.within c.index_mut-set.ensures.value in
+    let own = ap (λ (v : Slotted). v.owner) c.self.view_is in
+    record {
+      filled = filled-after c.args.line c.self.invariant c.self.view_is at c.make_room-gone.ensures c.requires.room c.requires.absent c.requires.valid
+          c.requires.lent c.vacated-evicted.new.pool c.vacated-evicted.result.slot c.vacated-evicted.result.evicted c.vacated-evicted.ensures c.put_first.new.self c.write.ensures c.new.ensures c.put_first.ensures.lines c.put_first.ensures.room;
+      none_leaves = none-leaves c.args.line c.self.invariant c.self.view_is at c.make_room-gone.ensures c.requires.room c.requires.absent c.requires.valid
+          c.requires.lent c.vacated-evicted.new.pool c.vacated-evicted.result.slot c.vacated-evicted.result.evicted c.vacated-evicted.ensures c.put_first.new.self c.write.ensures c.new.ensures c.put_first.ensures.lines c.put_first.ensures.room;
+      lent = lent-after c.args.line c.self.invariant c.self.view_is at c.make_room-gone.ensures c.requires.room c.requires.absent c.requires.valid
+          c.requires.lent c.vacated-evicted.new.pool c.vacated-evicted.result.slot c.vacated-evicted.result.evicted c.vacated-evicted.ensures c.put_first.new.self c.write.ensures c.new.ensures c.put_first.ensures.lines c.put_first.ensures.room;
+      others = subst (λ o. LeavesOthers o c.args.pool.now c.write.new.pool) own
+          (leaves-after c.args.line c.self.invariant c.self.view_is at c.make_room-gone.ensures c.requires.room c.requires.absent c.requires.valid
+          c.requires.lent c.vacated-evicted.new.pool c.vacated-evicted.result.slot c.vacated-evicted.result.evicted c.vacated-evicted.ensures c.put_first.new.self c.write.ensures c.new.ensures c.put_first.ensures.lines c.put_first.ensures.room);
+      owner = own;
+    }

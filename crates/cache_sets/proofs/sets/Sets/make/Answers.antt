@@ -1,15 +1,8 @@
-use Rattle.std.proofs.Common.{◌≡◌, ◌*◌, ap, length, vec_len, ◌∙◌, arith}
-use Rattle.cache_sets.proofs.EmptySteps.{made_after, made_shown}
+use Rattle.cache_sets.proofs.Made.{shown-made, stands-made}
 use Rattle.cache_sets.proofs.sets.Sets.make.Goals as goal
 
 pub invariant_of-result : goal.invariant_of-result
-invariant_of-result c =
-    let sets = c.in_ok-sets.sets in
-    let rows = c.in_ok-rows.rows in
-    let all_rows : length rows.items ≡ vec_len rows = omega (arith, rows.ok.0) in
-    let all_sets : c.len.result ≡ length sets.items = omega (arith, sets.ok.0, c.len.ensures) in
-    made_after c.args.config.now sets.items rows.items c.requires c.in_ok-sets.ensures
-    (all_rows ∙ c.in_ok-rows.ensures.len ∙ ap (λ n. n * c.args.config.now.ways) all_sets)
+invariant_of-result c = stands-made c.args.config.now c.in_ok-sets.sets.items c.requires c.in_ok-sets.ensures
 
 pub returns : goal.returns
-returns c = made_shown c.args.config.now.ways c.args.config.now.sets c.in_ok-sets.sets.items c.in_ok-sets.ensures c.in_ok-rows.rows.items
+returns c = shown-made c.args.config.now.ways c.args.config.now.sets c.args.owner c.in_ok-sets.sets.items c.in_ok-sets.ensures

@@ -1,82 +1,53 @@
-use Rattle.std.proofs.Common.{◌+◌, ◌-◌, arith}
-use Rattle.cache_sets.proofs.ChangeSteps.{marked_after}
-use Rattle.cache_sets.proofs.CountSteps.{few_marks, few_writes, marks_after_bit, marks_below, marks_in-le, writes_after_bit, writes_below, writes_in-le}
-use Rattle.cache_sets.proofs.StepLemmas.{once_in, reached}
+use Rattle.std.proofs.Common.{◌≡◌, ◌+◌, ◌-◌, ap, subst, sym, true, ◌∙◌, arith}
+use Rattle.cache_sets.specs.Bits.{bits_of}
+use Rattle.residency.specs.Cache.{is_resident, way_of}
+use Rattle.cache_sets.specs.Slotted.{Slotted}
+use Rattle.cache_sets.proofs.After.{lent-marked, marked-after, stands-marked}
+use Rattle.cache_sets.proofs.Counts.{few-marks, few-writes, marks-after_bit, marks-below, marks_in-le, writes-after_bit, writes-below, writes_in-le}
+use Rattle.cache_sets.proofs.Reached.{once-reached, reached}
 use Rattle.cache_sets.proofs.sets.Sets.set_bit.Goals as goal
 
 pub set_bit-requires : goal.set_bit-requires
 set_bit-requires c =
-    let i = c.self.inside in
-    once_in i.ways i.sets.items i.rows.items i.marked i.written c.args.line.number c.set_number-number.result c.index_mut-set.result.now c.self.invariant
-    (reached i.sets.items c.as_slice.result.now c.args.line.number c.set_number-number.result c.index_mut-set.result.now c.as_slice.ensures.value
-    c.set_number-number.ensures.exact c.set_number-number.ensures.within c.index_mut-set.ensures.value) c.args.line.number
+    once-reached _ _ _ _ (reached c.as_slice.ensures.value c.set_number-number.ensures.exact c.set_number-number.ensures.within c.index_mut-set.ensures.value) _ _ _ c.self.invariant c.args.line.number
 
 pub overflow_sub-self : goal.overflow_sub-self
 overflow_sub-self c =
-    let i = c.self.inside in
-    omega (
-      arith,
-      c.marks.ensures,
-      marks_below i.ways i.sets.items i.rows.items i.marked i.written c.args.self.now c.args.line.number c.bits-before.result c.self.invariant
-          c.self.view_is c.bits-before.ensures,
-    )
+    let bits = c.bits-before.ensures ∙ ap (λ (v : Slotted). bits_of (way_of v.residency c.args.line.number)) (sym c.self.view_is) in
+    omega (arith, c.marks.ensures, marks-below _ _ _ _ _ _ c.self.invariant.sound bits)
 
 pub overflow_add-self : goal.overflow_add-self
 overflow_add-self c =
-    let i = c.self.inside in
-    omega (
-      arith,
-      c.marks-2.ensures,
-      marks_in-le c.with-after.result,
-      few_marks i.ways i.sets.items i.rows.items i.marked i.written c.args.self.now c.args.line.number c.bits-before.result c.self.invariant
-          c.self.view_is c.bits-before.ensures,
-    )
+    let bits = c.bits-before.ensures ∙ ap (λ (v : Slotted). bits_of (way_of v.residency c.args.line.number)) (sym c.self.view_is) in
+    omega (arith, c.marks-2.ensures, marks_in-le c.with-after.result, few-marks _ _ _ _ _ _ c.self.invariant.sound bits)
 
 pub overflow_sub-self-2 : goal.overflow_sub-self-2
 overflow_sub-self-2 c =
-    let i = c.self.inside in
-    omega (
-      arith,
-      c.writes.ensures,
-      writes_below i.ways i.sets.items i.rows.items i.marked i.written c.args.self.now c.args.line.number c.bits-before.result c.self.invariant
-          c.self.view_is c.bits-before.ensures,
-    )
+    let bits = c.bits-before.ensures ∙ ap (λ (v : Slotted). bits_of (way_of v.residency c.args.line.number)) (sym c.self.view_is) in
+    omega (arith, c.writes.ensures, writes-below _ _ _ _ _ _ c.self.invariant.sound bits)
 
 pub overflow_add-self-2 : goal.overflow_add-self-2
 overflow_add-self-2 c =
-    let i = c.self.inside in
-    omega (
-      arith,
-      c.writes-2.ensures,
-      writes_in-le c.with-after.result,
-      few_writes i.ways i.sets.items i.rows.items i.marked i.written c.args.self.now c.args.line.number c.bits-before.result c.self.invariant
-          c.self.view_is c.bits-before.ensures,
-    )
+    let bits = c.bits-before.ensures ∙ ap (λ (v : Slotted). bits_of (way_of v.residency c.args.line.number)) (sym c.self.view_is) in
+    omega (arith, c.writes-2.ensures, writes_in-le c.with-after.result, few-writes _ _ _ _ _ _ c.self.invariant.sound bits)
 
 pub invariant_of-self : goal.invariant_of-self
 invariant_of-self c =
     let i = c.self.inside in
-    (marked_after i.ways i.sets.items i.rows.items i.marked i.written (i.marked - c.marks.result + c.marks-2.result) (i.written - c.writes.result + c.writes-2.result)
-    c.args.line.number c.set_number-number.result c.index_mut-set.result.now c.set_bit.new.self c.args.self.now c.args.need c.self.invariant
-    (reached i.sets.items c.as_slice.result.now c.args.line.number c.set_number-number.result c.index_mut-set.result.now c.as_slice.ensures.value
-    c.set_number-number.ensures.exact c.set_number-number.ensures.within c.index_mut-set.ensures.value) c.self.view_is
-    (marks_after_bit i.ways i.sets.items i.rows.items i.marked i.written c.args.self.now c.args.line.number c.bits-before.result c.self.invariant
-    c.self.view_is c.bits-before.ensures c.args.need c.requires c.marks.result c.marks-2.result c.with-after.result c.marks.ensures c.with-after.ensures
-    c.marks-2.ensures)
-    (writes_after_bit i.ways i.sets.items i.rows.items i.marked i.written c.args.self.now c.args.line.number c.bits-before.result c.self.invariant
-    c.self.view_is c.bits-before.ensures c.args.need c.requires c.writes.result c.writes-2.result c.with-after.result c.writes.ensures c.with-after.ensures
-    c.writes-2.ensures) c.set_bit.ensures.ways c.set_bit.ensures.spare).0
+    let at = reached c.as_slice.ensures.value c.set_number-number.ensures.exact c.set_number-number.ensures.within c.index_mut-set.ensures.value in
+    let bits = c.bits-before.ensures ∙ ap (λ (v : Slotted). bits_of (way_of v.residency c.args.line.number)) (sym c.self.view_is) in
+    let resident = subst (λ (v : Slotted). is_resident v.residency c.args.line.number ≡ true) (sym c.self.view_is) c.requires in
+    stands-marked c.set_bit.new.self c.self.invariant c.self.view_is at c.set_bit.ensures.room c.args.need c.set_bit.ensures.lines _ _
+    ((λ k. i.marked - c.marks.ensures k + c.marks-2.ensures k)
+    ∙ marks-after_bit _ _ _ _ _ _ c.self.invariant.sound bits c.args.need c.with-after.result resident c.with-after.ensures)
+    ((λ k. i.written - c.writes.ensures k + c.writes-2.ensures k)
+    ∙ writes-after_bit _ _ _ _ _ _ c.self.invariant.sound bits c.args.need c.with-after.result resident c.with-after.ensures)
 
 pub returns : goal.returns
 returns c =
-    let i = c.self.inside in
-    (marked_after i.ways i.sets.items i.rows.items i.marked i.written (i.marked - c.marks.result + c.marks-2.result) (i.written - c.writes.result + c.writes-2.result)
-    c.args.line.number c.set_number-number.result c.index_mut-set.result.now c.set_bit.new.self c.args.self.now c.args.need c.self.invariant
-    (reached i.sets.items c.as_slice.result.now c.args.line.number c.set_number-number.result c.index_mut-set.result.now c.as_slice.ensures.value
-    c.set_number-number.ensures.exact c.set_number-number.ensures.within c.index_mut-set.ensures.value) c.self.view_is
-    (marks_after_bit i.ways i.sets.items i.rows.items i.marked i.written c.args.self.now c.args.line.number c.bits-before.result c.self.invariant
-    c.self.view_is c.bits-before.ensures c.args.need c.requires c.marks.result c.marks-2.result c.with-after.result c.marks.ensures c.with-after.ensures
-    c.marks-2.ensures)
-    (writes_after_bit i.ways i.sets.items i.rows.items i.marked i.written c.args.self.now c.args.line.number c.bits-before.result c.self.invariant
-    c.self.view_is c.bits-before.ensures c.args.need c.requires c.writes.result c.writes-2.result c.with-after.result c.writes.ensures c.with-after.ensures
-    c.writes-2.ensures) c.set_bit.ensures.ways c.set_bit.ensures.spare).1
+    let at = reached c.as_slice.ensures.value c.set_number-number.ensures.exact c.set_number-number.ensures.within c.index_mut-set.ensures.value in
+    record {
+      marked = marked-after c.set_bit.new.self c.self.invariant c.self.view_is at c.set_bit.ensures.room c.args.need c.set_bit.ensures.lines;
+      lent = lent-marked c.set_bit.new.self c.self.invariant c.self.view_is at c.set_bit.ensures.room c.args.need c.set_bit.ensures.lines;
+      owner = ap (λ (v : Slotted). v.owner) c.self.view_is;
+    }

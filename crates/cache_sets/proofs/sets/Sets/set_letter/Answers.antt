@@ -1,28 +1,23 @@
-use Rattle.cache_sets.proofs.ChangeSteps.{lettered_after}
-use Rattle.cache_sets.proofs.StepLemmas.{once_in, reached}
+use Rattle.std.proofs.Common.{ap}
+use Rattle.cache_sets.specs.Slotted.{Slotted}
+use Rattle.cache_sets.proofs.After.{lent-lettered, lettered-after, stands-lettered}
+use Rattle.cache_sets.proofs.Reached.{once-reached, reached}
 use Rattle.cache_sets.proofs.sets.Sets.set_letter.Goals as goal
 
 pub set_letter-requires : goal.set_letter-requires
 set_letter-requires c =
-    let i = c.self.inside in
-    once_in i.ways i.sets.items i.rows.items i.marked i.written c.args.line.number c.set_number-number.result c.index_mut-set.result.now c.self.invariant
-    (reached i.sets.items c.as_slice.result.now c.args.line.number c.set_number-number.result c.index_mut-set.result.now c.as_slice.ensures.value
-    c.set_number-number.ensures.exact c.set_number-number.ensures.within c.index_mut-set.ensures.value) c.args.line.number
+    once-reached _ _ _ _ (reached c.as_slice.ensures.value c.set_number-number.ensures.exact c.set_number-number.ensures.within c.index_mut-set.ensures.value) _ _ _ c.self.invariant c.args.line.number
 
 pub invariant_of-self : goal.invariant_of-self
 invariant_of-self c =
-    let i = c.self.inside in
-    (lettered_after i.ways i.sets.items i.rows.items i.marked i.written c.args.line.number c.set_number-number.result c.index_mut-set.result.now
-    c.set_letter.new.self c.args.self.now c.args.letter c.self.invariant
-    (reached i.sets.items c.as_slice.result.now c.args.line.number c.set_number-number.result c.index_mut-set.result.now c.as_slice.ensures.value
-    c.set_number-number.ensures.exact c.set_number-number.ensures.within c.index_mut-set.ensures.value)
-    c.self.view_is c.requires.valid c.set_letter.ensures.ways c.set_letter.ensures.spare).0
+    let at = reached c.as_slice.ensures.value c.set_number-number.ensures.exact c.set_number-number.ensures.within c.index_mut-set.ensures.value in
+    stands-lettered c.set_letter.new.self c.self.invariant c.self.view_is at c.set_letter.ensures.room c.args.letter c.set_letter.ensures.lines c.requires.valid
 
 pub returns : goal.returns
 returns c =
-    let i = c.self.inside in
-    (lettered_after i.ways i.sets.items i.rows.items i.marked i.written c.args.line.number c.set_number-number.result c.index_mut-set.result.now
-    c.set_letter.new.self c.args.self.now c.args.letter c.self.invariant
-    (reached i.sets.items c.as_slice.result.now c.args.line.number c.set_number-number.result c.index_mut-set.result.now c.as_slice.ensures.value
-    c.set_number-number.ensures.exact c.set_number-number.ensures.within c.index_mut-set.ensures.value)
-    c.self.view_is c.requires.valid c.set_letter.ensures.ways c.set_letter.ensures.spare).1
+    let at = reached c.as_slice.ensures.value c.set_number-number.ensures.exact c.set_number-number.ensures.within c.index_mut-set.ensures.value in
+    record {
+      lettered = lettered-after c.set_letter.new.self c.self.invariant c.self.view_is at c.set_letter.ensures.room c.args.letter c.set_letter.ensures.lines;
+      lent = lent-lettered c.set_letter.new.self c.self.invariant c.self.view_is at c.set_letter.ensures.room c.args.letter c.set_letter.ensures.lines;
+      owner = ap (λ (v : Slotted). v.owner) c.self.view_is;
+    }

@@ -1,6 +1,0 @@
--- the law itself
-use Rattle.cached_step.proofs.Told.{tells_memory_after}
-use Rattle.cached_step.proofs.laws.caches_tell_memory_after.Goals as goal
-
-pub returns : goal.returns
-returns c = tells_memory_after

@@ -1,6 +1,0 @@
--- the law itself
-use Rattle.cached_step.proofs.Rooms.{stays_in_form}
-use Rattle.cached_step.proofs.laws.runs_keep_the_form.Goals as goal
-
-pub returns : goal.returns
-returns c = stays_in_form

@@ -2,8 +2,8 @@
 use Rattle.std.proofs.Common.{◌≡◌, ◌∙◌, ℕ, ◌+◌, ◌≤◌, Bool, true, false, not, ◌&&◌, ◌==◌, List, [], ◌∷◌, length, Option, None, is_some}
 use Rattle.std.proofs.Common.{refl, ap, sym, if◌then◌else◌}
 use Rattle.bus_order.specs.Order.{Request}
-use Rattle.bus_order.proofs.LookUps.{own_test}
-use Rattle.cache_sets.specs.Cache.{cleared}
+use Rattle.bus_order.proofs.Laws.LookUps.{own_test}
+use Rattle.residency.specs.Cache.{cleared}
 use Rattle.el_base.specs.declared.config.Mode.{Mode}
 use Rattle.el_base.specs.declared.config.Mode.TheVariants.{Plain, Sle, Tlr}
 use Rattle.el_model.specs.Conflicts.{meets_bit, wins_over}
@@ -11,12 +11,12 @@ use Rattle.el_model.specs.Face.{Fate, LosesTo, Stays, Unmet, after_fate, deferri
 use Rattle.el_model.specs.Plain.{armed_count}
 use Rattle.el_model.specs.RollBack.{beaten, most_tries, out_of_section}
 use Rattle.el_model.specs.State.{Hart, ModelState, new_hart, post_all}
-use Rattle.el_model.proofs.Harts.{hart_of-past}
-use Rattle.el_model.proofs.Losing.{no_section_meets}
+use Rattle.el_model.proofs.Laws.Harts.{hart_of-past}
+use Rattle.el_model.proofs.Laws.Losing.{no_section_meets}
 use Rattle.mail.specs.Mailbox.{Message, posted}
-use Rattle.snoop.proofs.Changes.{cleared_if}
-use Rattle.snoop.proofs.Living.{TellsSection, live_unarmed, tells_cleared, tells_yet}
+use Rattle.snoop.proofs.Laws.Living.{TellsSection, live_unarmed, tells_cleared, tells_yet}
 use Rattle.snoop.specs.Agent.{agent_of, agent_seeing}
+use Rattle.snoop.specs.Changing.{cleared_if}
 use Rattle.snoop.specs.Settled.{in_removal, loses, stamp_seen}
 use Rattle.stamp.specs.Stamps.{Stamp}
 

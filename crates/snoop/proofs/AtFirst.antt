@@ -4,14 +4,14 @@ use Rattle.std.specs.Prelude.{slice_index_or}
 use Rattle.std.proofs.lemmas.Bool.Decides.{nat_tests}
 use Rattle.std.proofs.lemmas.List.{length-replicate}
 use Rattle.bus_order.specs.Order.{Request, request_of}
-use Rattle.cache_sets.specs.Cache.{empty_cache, has_marks}
+use Rattle.residency.specs.Cache.{empty_cache, has_marks}
 use Rattle.cache_sets.specs.Cached.{empty_cached}
-use Rattle.cache_sets.specs.WellFormed.{IsWellFormed}
-use Rattle.cache_sets.proofs.WellFormedLemmas.{well_formed-empty_cache}
-use Rattle.coherence.specs.Beginning.{bytes_at_first}
+use Rattle.residency.specs.WellFormed.{IsWellFormed}
+use Rattle.residency.proofs.Laws.WellFormedLemmas.{well_formed-empty_cache}
 use Rattle.coherence.specs.Caches.{cache_at}
-use Rattle.coherence.specs.Served.{TellsOf}
-use Rattle.el_base.proofs.Ranges.{ranges}
+use Rattle.coherence.specs.Lent.{lent_all}
+use Rattle.coherence.proofs.Laws.Offered.{length-lent, lent_at}
+use Rattle.el_base.proofs.Laws.Ranges.{ranges}
 use Rattle.el_base.specs.Config.{IsInRange, allows}
 use Rattle.el_base.specs.declared.line.TheConstants.{LINE_BYTES}
 use Rattle.el_base.specs.declared.config.Config.{Config}
@@ -19,7 +19,8 @@ use Rattle.el_base.specs.declared.config.ConfigFault.TheVariants.{Harts, Sets}
 use Rattle.el_model.specs.State.{Hart, begin, new_hart}
 use Rattle.elf_image.specs.Program.{Program}
 use Rattle.rv_flat.specs.FlatState.{start}
-use Rattle.snoop.proofs.Living.{TellsSection}
+use Rattle.snoop.proofs.Lent.{no_pool, residency_at, ways_at}
+use Rattle.snoop.proofs.Laws.Living.{TellsSection}
 use Rattle.snoop.specs.Agent.{agent_at, agent_of, new_agent}
 use Rattle.snoop.specs.Shows.{IsReady, Kept, Shows}
 
@@ -57,36 +58,36 @@ none_live (suc harts) sets (suc h) = none_live harts sets h
 pub record IsNew (program : Program) (config : Config) (bus : Kept) : Type 0 where
   pub mode : bus.mode ≡ config.mode
   pub agents : bus.agents ≡ replicate config.harts new_agent
-  pub caches : bus.copies.caches ≡ replicate config.harts (empty_cached config.ways config.sets)
+  pub caches : lent_all no_pool bus.copies.caches ≡ replicate config.harts (empty_cached config.ways config.sets)
   pub order : bus.order ≡ []
   pub first : bus.copies.first * LINE_BYTES ≡ program.base
   pub lines : length bus.copies.lines * LINE_BYTES ≡ length program.bytes
-  pub bytes : TellsOf bus.copies (bytes_at_first program)
 
 count_agents : (program : Program) (config : Config) (bus : Kept) → IsNew program config bus → length bus.agents ≡ config.harts
 count_agents program config bus new = ap length new.agents ∙ length-replicate config.harts new_agent
 
 count_caches : (program : Program) (config : Config) (bus : Kept) → IsNew program config bus → length bus.copies.caches ≡ config.harts
-count_caches program config bus new = ap length new.caches ∙ length-replicate config.harts (empty_cached config.ways config.sets)
+count_caches program config bus new =
+    sym (length-lent no_pool bus.copies.caches) ∙ ap length new.caches ∙ length-replicate config.harts (empty_cached config.ways config.sets)
 
 pub shows_first : (program : Program) (config : Config) (bus : Kept) → program.harts ≡ config.harts → IsNew program config bus →
     Shows bus (begin program config)
 unfolding begin start
 shows_first program config bus one_each new = record {
   mode = new.mode;
-  ways = λ h below. ap (λ caches. (cache_at caches h).ways) new.caches
+  ways = λ h below. sym (ways_at no_pool bus.copies.caches h) ∙ ap (λ caches. (cache_at caches h).ways) new.caches
       ∙ ways_new config.harts config.ways config.sets h (omega (arith, below, one_each, harts));
   agent_each = count_agents program config bus new ∙ sym one_each ∙ sym harts;
   cache_each = count_caches program config bus new ∙ sym one_each ∙ sym harts;
   agents = λ h. ap (λ agents. agent_at agents h) new.agents ∙ agents_new config.harts config.sets h
       ∙ ap (λ n. agent_of (hart_in n config.sets h)) (sym one_each);
-  caches = λ h. ap (λ caches. (cache_at caches h).residency) new.caches ∙ caches_new config.harts config.ways config.sets h
+  caches = λ h. sym (residency_at no_pool bus.copies.caches h)
+      ∙ ap (λ caches. (cache_at caches h).residency) new.caches ∙ caches_new config.harts config.ways config.sets h
       ∙ ap (λ n. (hart_in n config.sets h).cache) (sym one_each);
   live = λ h. (none_live program.harts config.sets h).live;
   arms = λ h. (none_live program.harts config.sets h).arms;
   order = new.order;
   memory = record { first = new.first; lines = new.lines };
-  bytes = new.bytes;
 }
   where
     harts : length (replicate program.harts (new_hart config.sets)) ≡ program.harts
@@ -101,11 +102,11 @@ few_harts harts is = grind (arith, nat_tests)
 
 pub ready_first : (program : Program) (config : Config) (bus : Kept) → IsInRange config → IsNew program config bus → IsReady bus
 ready_first program config bus in_range new = record {
-  coherent = record { bytes = bytes_at_first program; tells = new.bytes };
   few = omega (arith, count_agents program config bus new, few_harts config.harts (ranges config in_range).harts);
   each = count_caches program config bus new ∙ sym (count_agents program config bus new);
   well_formed = λ h below.
-      rw new.caches
+      subst (λ cache. IsWellFormed cache.ways cache.residency)
+      (ap (λ caches. cache_at caches h) (sym new.caches) ∙ lent_at no_pool bus.copies.caches h)
       (well_formed_new config.harts config.ways config.sets h (some_sets config.sets (ranges config in_range).sets)
       (omega (arith, below, count_caches program config bus new)));
   raised = λ h request is. absurd (not_some _ request (none_raised h) is);

@@ -10,7 +10,7 @@ use Rattle.defer_list.specs.HartSet.{included}
 use Rattle.el_base.specs.declared.outcomes.Outcome.TheVariants.{Delivered, Idle}
 use Rattle.el_model.specs.Deliver.{after_marker, deliver_next, deliver_turn, delivered, losers_by, post_to, taken, told_on}
 use Rattle.el_model.specs.State.{Hart, ModelState, count_up, hart_of, new_hart, post_all, with_hart}
-use Rattle.el_model.proofs.Harts.{hart_of-with_hart_same}
+use Rattle.el_model.proofs.Laws.Harts.{hart_of-with_hart_same}
 use Rattle.mail.specs.Mailbox.{Message, Probe, oldest, posted, without_oldest}
 use Rattle.snoop.specs.Agent.{Agent, agent_at, agent_behind, agent_posted, agent_taken, with_agent}
 use Rattle.snoop.specs.Delivering.{marker_taken, numbers_from, passed_on, passes, posts_sent, probe_sent, probes_sent}

@@ -1,19 +1,19 @@
 -- a face, as the bus shows it and as it is ready after it
 use Rattle.std.proofs.Common.{◌≡◌, ◌≢◌, ◌∙◌, ℕ, ◌<◌, cond, List, length, refl, ap, sym, subst, arith, inl, inr}
 use Rattle.std.proofs.lemmas.Bool.{cases_eq}
-use Rattle.bus_order.proofs.LookUps.{other_test, own_test}
+use Rattle.bus_order.proofs.Laws.LookUps.{other_test, own_test}
 use Rattle.bus_order.specs.Order.{Request}
-use Rattle.coherence.specs.Beginning.{line_of}
-use Rattle.coherence.specs.Caches.{cache_at}
+use Rattle.coherence.specs.Lent.{slotted_at}
 use Rattle.el_base.specs.Losers.{losers_of}
 use Rattle.el_model.specs.Face.{after_fate, fate_at, face_losers, fate_of, faced, faced_hart, markers_for, winner_in}
 use Rattle.el_model.specs.State.{Hart, ModelState, cache_of, each_hart, hart_of, post_all}
 use Rattle.snoop.proofs.AfterFate.{fate_agent, fate_cache, fate_tells, loser_unarmed, own_unmet, post_all_armed, post_all_cache, post_all_section}
-use Rattle.snoop.proofs.Changes.{any_ways, changed_ready, changed_residency, cleared_if}
-use Rattle.snoop.proofs.Living.{TellsSection, tells, tells_yet}
+use Rattle.snoop.proofs.Changes.{any_ways, changed_ready}
+use Rattle.snoop.proofs.Laws.Living.{TellsSection, tells, tells_yet}
 use Rattle.snoop.proofs.Sent.{head_posted, others_posted, posted_count, sent_ready}
 use Rattle.snoop.proofs.Showing.{ShowsEach, lies_yet, shows_each}
 use Rattle.snoop.specs.Agent.{agent_at, agent_of}
+use Rattle.snoop.specs.Changing.{cleared_if}
 use Rattle.snoop.specs.Fates.{fate_in}
 use Rattle.snoop.specs.Settled.{AreSettledBelow, loses, sent_in, settled_agent}
 use Rattle.snoop.specs.Shows.{IsReady, Kept, Shows}
@@ -65,7 +65,6 @@ faced_each head known old mid state count settled shows is = record {
         (fate_tells state head (fate_at state head h) (hart_of state h) (tells shows h))
   ];
   memory = lies_yet old.copies mid.copies state.committed settled.stays.first settled.stays.lines shows.memory;
-  bytes = settled.stays.coherent (line_of state.committed) shows.bytes;
 }
   where
     had_fate : (h : ℕ) → h < length known →
@@ -81,9 +80,9 @@ faced_each head known old mid state count settled shows is = record {
         shows.order
 
     has_cache : (h : ℕ) → h < length known →
-        (cache_at mid.copies.caches h).residency ≡ cleared_if (loses (fate_at state head h)) (cache_of state h)
+        (slotted_at mid.copies.caches h).residency ≡ cleared_if (loses (fate_at state head h)) (cache_of state h)
     has_cache h below =
-        changed_residency (loses (fate_in known h)) (cache_at old.copies.caches h) (cache_at mid.copies.caches h) (settled.caches h below)
+        (settled.caches h below).residency
         ∙ ap (cleared_if (loses (fate_in known h))) (shows.caches h)
         ∙ ap (λ fate. cleared_if (loses fate) (cache_of state h)) (is h)
 
@@ -100,7 +99,7 @@ faced_each head known old mid state count settled shows is = record {
         ∙ ap agent_of (sym (own_hart state head (hart_of state head.hart)))
 
     own_cache : head.hart < length old.agents →
-        (cache_at mid.copies.caches head.hart).residency ≡ (faced_hart state head head.hart (hart_of state head.hart)).cache
+        (slotted_at mid.copies.caches head.hart).residency ≡ (faced_hart state head head.hart (hart_of state head.hart)).cache
     own_cache inside =
         has_cache head.hart (omega (arith, inside, count))
         ∙ ap (λ fate. cleared_if (loses fate) (cache_of state head.hart)) (own_unmet state head (hart_of state head.hart))

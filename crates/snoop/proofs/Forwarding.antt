@@ -3,7 +3,7 @@ use Rattle.std.proofs.Common.{◌≡◌, ◌∙◌, ◌<◌, ◌==◌, ◌&&◌,
 use Rattle.std.proofs.lemmas.Bool.{cases_lt}
 use Rattle.std.proofs.lemmas.List.{set-get_or}
 use Rattle.defer_list.specs.HartSet.{has}
-use Rattle.el_model.proofs.Tests.{by_test}
+use Rattle.el_model.proofs.Laws.Tests.{by_test}
 use Rattle.mail.specs.Mailbox.{Probe}
 use Rattle.snoop.specs.Agent.{Agent, agent_at, agent_posted, new_agent, with_agent}
 use Rattle.snoop.specs.Delivering.{AreForwarded, agent_forwarded}

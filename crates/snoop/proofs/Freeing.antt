@@ -1,7 +1,7 @@
 -- the harts that a head lets go, one after another
 use Rattle.std.proofs.Common.{◌≡◌, ◌≢◌, ◌∙◌, ℕ, ◌+◌, ◌<◌, ◌≤◌, ◌==◌, Bool, true, false, cond, length, refl, ap, sym, arith, inl, inr, if◌then◌else◌}
 use Rattle.std.proofs.lemmas.Bool.{cases_eq, cases_lt}
-use Rattle.bus_order.proofs.LookUps.{other_test, own_test}
+use Rattle.bus_order.proofs.Laws.LookUps.{other_test, own_test}
 use Rattle.bus_order.specs.Order.{Request}
 use Rattle.el_base.specs.Freed.{count_in}
 use Rattle.el_base.specs.declared.freed.Freed.{Freed}

@@ -5,32 +5,29 @@ use Rattle.std.proofs.lemmas.Bool.{cases_eq, cases_lt}
 use Rattle.std.proofs.lemmas.List.{length-set}
 use Rattle.std.specs.Prelude.{IfSome}
 use Rattle.bus_order.specs.Order.{IsOneEach, Request, request_of}
-use Rattle.cache_sets.specs.Cache.{cleared, room_of}
-use Rattle.cache_sets.specs.WellFormed.{IsWellFormed}
-use Rattle.cache_sets.proofs.WellFormedLemmas.{well_formed-cleared}
-use Rattle.coherence.specs.Beginning.{line_of}
-use Rattle.coherence.specs.Caches.{cache_at}
-use Rattle.coherence.specs.Served.{HasLine, IsCoherent, TellsOf, has_room}
-use Rattle.coherence.proofs.RoomLaws.{room_after_clear}
+use Rattle.residency.specs.Cache.{cleared}
+use Rattle.residency.specs.WellFormed.{IsWellFormed}
+use Rattle.coherence.specs.Lent.{slotted_at}
 use Rattle.defer_list.specs.HartSet.{has, included}
 use Rattle.el_base.specs.Losers.{beaten_by}
 use Rattle.el_base.specs.declared.losers.Losers.{Losers}
-use Rattle.el_base.proofs.MadeLosers.{beaten_by-beyond, beaten_by-losers_of}
-use Rattle.el_base.proofs.SameLosers.{same_losers}
+use Rattle.el_base.proofs.Laws.MadeLosers.{beaten_by-beyond, beaten_by-losers_of}
+use Rattle.el_base.proofs.Laws.SameLosers.{same_losers}
 use Rattle.el_model.specs.Conflicts.{conflicts_with, meets_bit, retains, stamp_in}
 use Rattle.el_model.specs.Deliver.{after_probe, forwarded, forwards_on, loses_to_origin, one_lost, told_of}
 use Rattle.el_model.specs.Plain.{armed_count}
 use Rattle.el_model.specs.RollBack.{beaten}
 use Rattle.el_model.specs.State.{Hart, ModelState, armed_of, cache_of, each_hart, hart_of, head_of, with_hart}
-use Rattle.el_model.proofs.Harts.{hart_of-with_hart_other, hart_of-with_hart_same, with_hart_kept}
-use Rattle.el_model.proofs.Tests.{by_test}
+use Rattle.el_model.proofs.Laws.Harts.{hart_of-with_hart_other, hart_of-with_hart_same, with_hart_kept}
+use Rattle.el_model.proofs.Laws.Tests.{by_test}
 use Rattle.mail.specs.Mailbox.{Probe, posted}
 use Rattle.snoop.specs.Agent.{Agent, agent_at, agent_of, agent_posted, with_agent}
 use Rattle.snoop.specs.Delivering.{Forwards, IsForwarded, IsLostTo, agent_heard, asks_on}
 use Rattle.snoop.specs.Settled.{in_removal}
-use Rattle.snoop.specs.Shows.{IsReady, Kept, LiesWhere, Shows}
+use Rattle.snoop.specs.Shows.{IsReady, Kept, LiesIn, LiesWhere, Shows, has_room_in}
 use Rattle.snoop.proofs.AfterFate.{beaten_agent, beaten_cache, beaten_tells, beaten_upstream}
-use Rattle.snoop.proofs.Living.{TellsSection, live_unarmed, tells, tells_yet}
+use Rattle.snoop.proofs.Laws.Living.{TellsSection, live_unarmed, tells, tells_yet}
+use Rattle.snoop.proofs.Lent.{ClearsOne, clears_one, lies_in_yet, one_room, one_well_formed}
 use Rattle.snoop.proofs.Ready.{asks_agent, few_armed_yet, ready_after}
 use Rattle.snoop.proofs.Showing.{agent_other, agent_past, agent_same, count_with_agent, lies_yet, shows_agent, shows_each}
 
@@ -105,16 +102,17 @@ lost_is_shown : (bus new : Kept) (state : ModelState) (h origin : ℕ) (request 
     armed_count (armed_of state h) ≡ 0 → IsLostTo h origin request bus new → Shows new (with_hart state h (lost_hart state h origin request))
 lost_is_shown bus new state h origin request shows inside unarmed lost =
     let same_harts = length-set state.harts h (lost_hart state h origin request) in
+    let cleared_one = clears_one h bus.copies new.copies lost.copies in
     record {
       mode = lost.mode ∙ shows.mode;
       ways = λ g below. elim (cases_eq g h) [
-        | inl same ↦ ap (λ k. (cache_at new.copies.caches k).ways) same ∙ lost.copies.own.ways ∙ shows.ways h (omega (arith, inside, shows.agent_each))
-        | inr other ↦ ap (λ cache. cache.ways) (lost.copies.others g other) ∙ shows.ways g (omega (arith, below, same_harts))
+        | inl same ↦ ap (λ k. (slotted_at new.copies.caches k).ways) same ∙ cleared_one.own.ways ∙ shows.ways h (omega (arith, inside, shows.agent_each))
+        | inr other ↦ (cleared_one.others g other).ways ∙ shows.ways g (omega (arith, below, same_harts))
       ];
       agent_each = ap length lost.agents
           ∙ count_with_agent bus.agents h (agent_heard origin (in_removal bus.mode (stamp_in request)) (agent_at bus.agents h))
           ∙ shows.agent_each ∙ sym same_harts;
-      cache_each = lost.copies.stays.caches ∙ shows.cache_each ∙ sym same_harts;
+      cache_each = cleared_one.stays.caches ∙ shows.cache_each ∙ sym same_harts;
       agents = λ g. ap (λ agents. agent_at agents g) lost.agents ∙ elim (cases_eq g h) [
         | inl same ↦ ap (agent_at (with_agent bus.agents h (agent_heard origin (in_removal bus.mode (stamp_in request)) (agent_at bus.agents h)))) same
             ∙ agent_same bus.agents h (agent_heard origin (in_removal bus.mode (stamp_in request)) (agent_at bus.agents h)) inside
@@ -124,17 +122,16 @@ lost_is_shown bus new state h origin request shows inside unarmed lost =
             ∙ ap agent_of (sym (lost_there state h origin request g other))
       ];
       caches = λ g. elim (cases_eq g h) [
-        | inl same ↦ ap (λ k. (cache_at new.copies.caches k).residency) same ∙ lost.copies.own.residency ∙ ap cleared (shows.caches h)
+        | inl same ↦ ap (λ k. (slotted_at new.copies.caches k).residency) same ∙ cleared_one.own.residency ∙ ap cleared (shows.caches h)
             ∙ sym (lost_cache state h origin request)
             ∙ ap (λ hart. hart.cache) (sym (lost_here bus state h origin request shows inside g same))
-        | inr other ↦ ap (λ cache. cache.residency) (lost.copies.others g other) ∙ shows.caches g
+        | inr other ↦ (cleared_one.others g other).residency ∙ shows.caches g
             ∙ ap (λ hart. hart.cache) (sym (lost_there state h origin request g other))
       ];
       live = λ g. (lost_tells bus state h origin request shows inside g).live;
       arms = λ g. (lost_tells bus state h origin request shows inside g).arms;
       order = lost.order ∙ shows.order;
-      memory = lies_yet bus.copies new.copies state.committed lost.copies.stays.first lost.copies.stays.lines shows.memory;
-      bytes = lost.copies.stays.coherent (line_of state.committed) shows.bytes;
+      memory = lies_yet bus.copies new.copies state.committed cleared_one.stays.first cleared_one.stays.lines shows.memory;
     }
 
 pub lost_shows : (bus new : Kept) (state : ModelState) (h origin : ℕ) (request : Option Request) → Shows bus state → h < length bus.agents →
@@ -147,42 +144,26 @@ lost_shows bus new state h origin request shows inside loses lost =
 pub lost_ready : (bus new : Kept) (h origin : ℕ) (request : Option Request) → IsReady bus → h < length bus.agents →
     IsLostTo h origin request bus new → IsReady new
 lost_ready bus new h origin request ready inside lost = ready_after bus new ready (record {
-  coherent = record { bytes = ready.coherent.bytes; tells = lost.copies.stays.coherent ready.coherent.bytes ready.coherent.tells };
   agent_each = ap length lost.agents ∙ count_with_agent bus.agents h _;
-  cache_each = lost.copies.stays.caches;
-  well_formed = λ g below. elim (cases_eq g h) [
-    | inl same ↦ subst (λ k. IsWellFormed (cache_at new.copies.caches k).ways (cache_at new.copies.caches k).residency) (sym same)
-        (rw (lost.copies.own.ways, lost.copies.own.residency) (well_formed-cleared _ _ (ready.well_formed h (omega (arith, inside, ready.each)))))
-    | inr other ↦ subst (λ cache. IsWellFormed cache.ways cache.residency) (sym (lost.copies.others g other))
-        (ready.well_formed g (omega (arith, below, lost.copies.stays.caches)))
-  ];
-  inside = λ line has. record {
-    from = let e = lost.copies.stays.first in rw e has.from;
-    below = let e = lost.copies.stays.first in let f = lost.copies.stays.lines in rw (e, f) has.below;
-  };
+  cache_each = cleared_one.stays.caches;
+  well_formed = one_well_formed cleared_one ready.well_formed;
+  inside = λ line has. lies_in_yet line cleared_one.stays has;
   once = subst IsOneEach (sym lost.order) ready.once;
   raised = λ g asked is. record {
     is = ((asks_agent bus h (agent_heard origin (in_removal bus.mode (stamp_in request)) (agent_at bus.agents h)) ready (λ r was. was)
         (ready.few_armed h)).raised g asked
         (ap (λ agents. (agent_at agents g).raised) (sym lost.agents) ∙ is)).is;
-    room = room g asked.line;
+    room = one_room cleared_one g asked.line;
   };
-  ordered = λ g asked is. record { is = ap (λ order. request_of order g) (sym lost.order) ∙ is; room = room g asked.line };
+  ordered = λ g asked is. record { is = ap (λ order. request_of order g) (sym lost.order) ∙ is; room = one_room cleared_one g asked.line };
   few_armed = λ g.
       subst (λ agents. (agent_at agents g).armed ≤ 15) (sym lost.agents)
       (few_armed_yet bus.agents h (agent_heard origin (in_removal bus.mode (stamp_in request)) (agent_at bus.agents h)) ready.few_armed
       (ready.few_armed h) g);
 })
   where
-    room : (g line : ℕ) → has_room bus.copies g line ≡ true → has_room new.copies g line ≡ true
-    room g line had = elim (cases_eq g h) [
-      | inl same ↦ ap (λ k. room_of (cache_at new.copies.caches k).ways (cache_at new.copies.caches k).residency line) same
-          ∙ ap (λ ways. room_of ways (cache_at new.copies.caches h).residency line) lost.copies.own.ways
-          ∙ ap (λ cache. room_of (cache_at bus.copies.caches h).ways cache line) lost.copies.own.residency
-          ∙ room_after_clear (cache_at bus.copies.caches h).ways (cache_at bus.copies.caches h).residency line
-          (ap (λ k. room_of (cache_at bus.copies.caches k).ways (cache_at bus.copies.caches k).residency line) (sym same) ∙ had)
-      | inr other ↦ ap (λ cache. room_of cache.ways cache.residency line) (lost.copies.others g other) ∙ had
-    ]
+    cleared_one : ClearsOne h bus.copies new.copies
+    cleared_one = clears_one h bus.copies new.copies lost.copies
 
 -- one loser
 pub one_loser : (losers : Losers) (h origin : ℕ) → origin < 8 → ((k : ℕ) → beaten_by losers k ≡ (if k == h then Some origin else None)) →
@@ -252,13 +233,13 @@ forward_shows bus new before told h origin request shows order upstream forward 
       mode = forward.mode;
       agent_each = (forwarded_agents _ _ origin bus.agents new.agents forward.agents).0;
       cache_each = ap (λ copies. length copies.caches) forward.copies;
-      ways = λ g. ap (λ copies. (cache_at copies.caches g).ways) forward.copies;
+      ways = λ g. ap (λ copies. (slotted_at copies.caches g).ways) forward.copies;
       agents = λ g below.
           (forwarded_agents _ _ origin bus.agents new.agents forward.agents).1 g below
           ∙ ap (λ test. if test then agent_posted (Probe origin) (agent_at bus.agents g) else agent_at bus.agents g) (same_test g)
           ∙ ap (λ agent. if forwards_on before h origin request g then agent_posted (Probe origin) agent else agent) (shows.agents g)
           ∙ chosen_agent (forwards_on before h origin request g) origin (hart_of told g);
-      caches = λ g below. ap (λ copies. (cache_at copies.caches g).residency) forward.copies ∙ shows.caches g
+      caches = λ g below. ap (λ copies. (slotted_at copies.caches g).residency) forward.copies ∙ shows.caches g
           ∙ sym (chosen_kept (λ hart. hart.cache) (forwards_on before h origin request g) origin (hart_of told g) refl);
       told = λ g below.
           let test = forwards_on before h origin request g in
@@ -267,7 +248,6 @@ forward_shows bus new before told h origin request shows order upstream forward 
           (chosen_kept (λ hart. hart.section) test origin (hart_of told g) refl)
           (chosen_kept (λ hart. hart.armed) test origin (hart_of told g) refl) posts (tells shows g);
       memory = subst (λ copies. LiesWhere copies told.committed) (sym forward.copies) shows.memory;
-      bytes = subst (λ copies. TellsOf copies (line_of told.committed)) (sym forward.copies) shows.bytes;
     }))
   where
     same_test : (g : ℕ) → ((not (g == origin) && has (agent_at bus.agents h).upstream g) && asks_on bus.order h request) ≡ forwards_on before h origin request g
@@ -278,18 +258,17 @@ forward_shows bus new before told h origin request shows order upstream forward 
 
 pub forward_ready : (bus new : Kept) (h origin : ℕ) (request : Option Request) → IsReady bus → IsForwarded h origin request bus new → IsReady new
 forward_ready bus new h origin request ready forward = ready_after bus new ready (record {
-  coherent = subst IsCoherent (sym forward.copies) ready.coherent;
   agent_each = count;
   cache_each = ap (λ copies. length copies.caches) forward.copies;
   well_formed = subst
-      (λ copies. (g : ℕ) → g < length copies.caches → IsWellFormed (cache_at copies.caches g).ways (cache_at copies.caches g).residency)
+      (λ copies. (g : ℕ) → g < length copies.caches → IsWellFormed (slotted_at copies.caches g).ways (slotted_at copies.caches g).residency)
       (sym forward.copies) ready.well_formed;
-  inside = λ line has. subst (λ copies. HasLine copies line) (sym forward.copies) has;
+  inside = λ line has. subst (λ copies. LiesIn copies line) (sym forward.copies) has;
   once = subst IsOneEach (sym forward.order) ready.once;
-  raised = λ g asked is. record { is = before g asked is; room = λ room. ap (λ copies. has_room copies g asked.line) forward.copies ∙ room };
+  raised = λ g asked is. record { is = before g asked is; room = λ room. ap (λ copies. has_room_in copies g asked.line) forward.copies ∙ room };
   ordered = λ g asked is. record {
     is = ap (λ order. request_of order g) (sym forward.order) ∙ is;
-    room = λ room. ap (λ copies. has_room copies g asked.line) forward.copies ∙ room;
+    room = λ room. ap (λ copies. has_room_in copies g asked.line) forward.copies ∙ room;
   };
   few_armed = λ g. elim (cases_lt g (length bus.agents)) [
     | inl below ↦

@@ -2,16 +2,15 @@
 use Rattle.std.proofs.Common.{◌≡◌, ◌∙◌, ℕ, ◌≤◌, ◌==◌, ◌&&◌, Bool, true, false, not, length, is_some, refl, ap, sym, subst, arith, inl, inr, if◌then◌else◌}
 use Rattle.std.proofs.lemmas.Bool.{cases_lt}
 use Rattle.bus_order.specs.Order.{Request}
-use Rattle.cache_sets.specs.Cache.{has_bit}
-use Rattle.coherence.specs.Beginning.{line_of}
-use Rattle.coherence.specs.Caches.{cache_at}
-use Rattle.el_base.proofs.MadeLosers.{count_in-beyond, count_in-freed_of}
-use Rattle.el_base.proofs.SameLosers.{same_freed}
+use Rattle.residency.specs.Cache.{has_bit}
+use Rattle.coherence.specs.Lent.{slotted_at}
+use Rattle.el_base.proofs.Laws.MadeLosers.{count_in-beyond, count_in-freed_of}
+use Rattle.el_base.proofs.Laws.SameLosers.{same_freed}
 use Rattle.el_base.specs.Freed.{count_in}
 use Rattle.el_base.specs.declared.config.Mode.{Mode}
 use Rattle.el_base.specs.declared.config.Mode.TheVariants.{Plain, Sle, Tlr}
 use Rattle.el_base.specs.declared.freed.Freed.{Freed}
-use Rattle.el_model.proofs.Keeps.{keeps_before_face, keeps_faced, keeps_served}
+use Rattle.el_model.proofs.Laws.Keeps.{keeps_before_face, keeps_faced, keeps_served}
 use Rattle.el_model.specs.Armed.{freed_by, freed_count, freed_hart, is_freed, let_go, let_go_hart}
 use Rattle.el_model.specs.Conflicts.{conflicts, is_write, wins_over}
 use Rattle.el_model.specs.Face.{LosesTo, Unmet, deferring_fate, face_losers, fate_at, met, winner_in}
@@ -21,10 +20,11 @@ use Rattle.el_model.specs.Serve.{served}
 use Rattle.el_model.specs.State.{Hart, ModelState, each_hart, hart_of}
 use Rattle.el_base.specs.Losers.{losers_of}
 use Rattle.rv_flat.specs.FlatState.{FlatState, view_of}
-use Rattle.snoop.proofs.Changes.{any_ways, changed_ready, changed_residency, cleared_if}
-use Rattle.snoop.proofs.Living.{TellsSection, armed_lifeless, tells, tells_cleared}
+use Rattle.snoop.proofs.Changes.{any_ways, changed_ready}
+use Rattle.snoop.proofs.Laws.Living.{TellsSection, armed_lifeless, tells, tells_cleared}
 use Rattle.snoop.proofs.Showing.{ShowsEach, lies_yet, shows_each}
 use Rattle.snoop.specs.Agent.{Agent, agent_at, agent_of}
+use Rattle.snoop.specs.Changing.{cleared_if}
 use Rattle.snoop.specs.LettingGo.{AreLetGo, KeepsBytes, agent_let_go, freed_at, frees, goes, with_committed}
 use Rattle.snoop.specs.Shows.{IsReady, Kept, Shows}
 
@@ -33,8 +33,8 @@ frees_shown : (bus : Kept) (state : ModelState) (head : Request) (h : ℕ) → S
     frees bus head h ≡ is_freed head h (hart_of state h)
 frees_shown bus state head h shows =
     let first = is_write head && not (head.hart == h) in
-    ap (λ agent. first && not (agent.armed == 0) && has_bit (cache_at bus.copies.caches h).residency head.line) (shows.agents h)
-    ∙ ap (λ armed. first && armed && has_bit (cache_at bus.copies.caches h).residency head.line) (sym (shows.arms h))
+    ap (λ agent. first && not (agent.armed == 0) && has_bit (slotted_at bus.copies.caches h).residency head.line) (shows.agents h)
+    ∙ ap (λ armed. first && armed && has_bit (slotted_at bus.copies.caches h).residency head.line) (sym (shows.arms h))
     ∙ ap (λ cache. first && is_some (hart_of state h).armed && has_bit cache head.line) (shows.caches h)
 
 freed_shown : (bus : Kept) (state : ModelState) (head : Request) (h : ℕ) → Shows bus state →
@@ -80,7 +80,7 @@ goes_shown : (bus : Kept) (state : ModelState) (head : Request) (freed : Freed) 
 goes_shown bus state head freed shows is h =
     goes_if (frees bus head h) (agent_at bus.agents h).armed (count_in freed h)
     (armed_of_freed (is_write head && not (head.hart == h)) (not ((agent_at bus.agents h).armed == 0))
-    (has_bit (cache_at bus.copies.caches h).residency head.line))
+    (has_bit (slotted_at bus.copies.caches h).residency head.line))
     (is h)
     ∙ frees_shown bus state head h shows
 
@@ -118,13 +118,12 @@ let_go_each bus new state head freed shows is gone = record {
       ∙ ap (λ test. agent_let_go test (agent_of (hart_of state h))) (goes_shown bus state head freed shows is h)
       ∙ gone_agent (is_freed head h (hart_of state h)) (view_of state.committed h).pc (hart_of state h);
   caches = λ h below.
-      changed_residency (goes freed h) (cache_at bus.copies.caches h) (cache_at new.copies.caches h) (gone.caches h below)
+      (gone.caches h below).residency
       ∙ ap (cleared_if (goes freed h)) (shows.caches h)
       ∙ ap (λ test. cleared_if test (hart_of state h).cache) (goes_shown bus state head freed shows is h)
       ∙ gone_cache (is_freed head h (hart_of state h)) (view_of state.committed h).pc (hart_of state h);
   told = λ h below. freed_tells state head h (hart_of state h) (tells shows h);
   memory = lies_yet bus.copies new.copies state.committed gone.stays.first gone.stays.lines shows.memory;
-  bytes = gone.stays.coherent (line_of state.committed) shows.bytes;
 }
 
 -- the state that is shown, over the committed part of before

@@ -1,5 +1,6 @@
-pub mod Living
+pub mod Laws
 mod Showing
+mod Lent
 mod EachAgent
 mod Ready
 mod Facing
@@ -10,7 +11,6 @@ mod AfterFate
 mod Noting
 mod Freeing
 mod LettingGo
-pub mod Conflicts
 mod Wanted
 mod Firsts
 mod ServedMarks
@@ -20,7 +20,6 @@ mod Faced
 mod Placing
 mod AtFirst
 mod Raising
-pub mod Returning
 mod Delivers
 mod Forwarding
 mod Hears

@@ -1,8 +1,8 @@
 -- a raised request takes its place in the order
 use Rattle.std.proofs.Common.{◌≡◌, ◌≢◌, ◌∙◌, ℕ, List, length, Option, Some, None, refl, ap, sym, arith, inl, inr}
 use Rattle.std.proofs.lemmas.Bool.{cases_eq, cases_lt}
-use Rattle.bus_order.proofs.LookUps.{request_of_appended_other, request_of_appended_own, request_of_in_front_of_other, request_of_in_front_of_own}
-use Rattle.bus_order.proofs.Orders.{one_each_appended, one_each_in_front_of}
+use Rattle.bus_order.proofs.Laws.LookUps.{request_of_appended_other, request_of_appended_own, request_of_in_front_of_other, request_of_in_front_of_own}
+use Rattle.bus_order.proofs.Laws.Orders.{one_each_appended, one_each_in_front_of}
 use Rattle.bus_order.specs.Order.{IsOneEach, Request, appended, in_front_of, request_of}
 use Rattle.el_model.specs.Order.{unraised}
 use Rattle.el_model.specs.State.{ModelState, hart_of}
@@ -70,7 +70,6 @@ other_raised bus request h raised is =
 pub ready_ordered : (bus : Kept) (request : Request) (order : List Request) → IsReady bus →
     (agent_at bus.agents request.hart).raised ≡ Some request → HasPlaced bus.order order request → IsReady (ordered_as bus request order)
 ready_ordered bus request order ready raised placed = record {
-  coherent = ready.coherent;
   few = omega (arith, count, ready.few);
   each = ready.each ∙ sym count;
   well_formed = ready.well_formed;
@@ -115,7 +114,6 @@ shows_ordered bus state request order told shows is =
       arms = shown.arms;
       order = is;
       memory = shown.memory;
-      bytes = shown.bytes;
     }
 
 -- a marker that is sent

@@ -2,7 +2,6 @@
 use Rattle.std.proofs.Common.{◌≡◌, ◌≢◌, ◌∙◌, ℕ, ◌<◌, true, length, None, Some, refl, ap, sym, arith, inl, inr}
 use Rattle.std.proofs.lemmas.Bool.{cases_eq}
 use Rattle.bus_order.specs.Order.{Request, request_of}
-use Rattle.coherence.specs.Served.{HasLine, has_room}
 use Rattle.el_base.specs.declared.outcomes.Need.{Need}
 use Rattle.el_model.specs.Plain.{missed_hart}
 use Rattle.el_model.specs.State.{ModelState, hart_of, with_hart}
@@ -10,7 +9,7 @@ use Rattle.snoop.proofs.Ready.{few_armed_yet, served_yet}
 use Rattle.snoop.proofs.Showing.{agent_other, agent_same, count_with_agent, shows_agent}
 use Rattle.snoop.specs.Agent.{Agent, agent_at, agent_of, with_agent}
 use Rattle.snoop.specs.Asking.{HasNoRequest}
-use Rattle.snoop.specs.Shows.{CanBeServed, IsReady, Kept, Shows}
+use Rattle.snoop.specs.Shows.{CanBeServed, IsReady, Kept, LiesIn, Shows, has_room_in}
 
 -- an agent that has raised a request
 abbrev pub raising : Kept → Request → Agent
@@ -20,9 +19,8 @@ abbrev pub raised_in : Kept → Request → Kept
 raised_in bus request = record bus { agents = with_agent bus.agents request.hart (raising bus request) }
 
 pub ready_raised : (bus : Kept) (request : Request) → IsReady bus → request.hart < length bus.agents → HasNoRequest bus request.hart →
-    HasLine bus.copies request.line → has_room bus.copies request.hart request.line ≡ true → IsReady (raised_in bus request)
+    LiesIn bus.copies request.line → has_room_in bus.copies request.hart request.line ≡ true → IsReady (raised_in bus request)
 ready_raised bus request ready inside none in_memory room = record {
-  coherent = ready.coherent;
   few = omega (arith, count, ready.few);
   each = ready.each ∙ sym count;
   well_formed = ready.well_formed;

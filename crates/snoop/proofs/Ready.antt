@@ -2,33 +2,31 @@
 use Rattle.std.proofs.Common.{◌≡◌, ◌∙◌, ℕ, ◌<◌, ◌≤◌, true, List, length, Option, Some, None, refl, ap, sym, subst, inl, inr, arith}
 use Rattle.std.proofs.lemmas.Bool.{cases_eq, cases_lt}
 use Rattle.bus_order.specs.Order.{IsOneEach, Request, request_of}
-use Rattle.cache_sets.specs.WellFormed.{IsWellFormed}
-use Rattle.coherence.specs.Caches.{cache_at}
-use Rattle.coherence.specs.Served.{HasLine, IsCoherent, has_room}
+use Rattle.residency.specs.WellFormed.{IsWellFormed}
+use Rattle.coherence.specs.Lent.{slotted_at}
 use Rattle.snoop.specs.Agent.{Agent, agent_at, with_agent}
-use Rattle.snoop.specs.Shows.{CanBeServed, IsReady, Kept}
+use Rattle.snoop.specs.Shows.{CanBeServed, IsReady, Kept, LiesIn, has_room_in}
 use Rattle.snoop.proofs.Showing.{agent_other, agent_past, agent_same, count_with_agent}
 
 -- a request that stands after a call stood before it, and where there was room for it there is
 pub record Stood (bus new : Kept) (h : ℕ) (before : Option Request) (request : Request) : Type 0 where
   pub is : before ≡ Some request
-  pub room : has_room bus.copies h request.line ≡ true → has_room new.copies h request.line ≡ true
+  pub room : has_room_in bus.copies h request.line ≡ true → has_room_in new.copies h request.line ≡ true
 
 -- no request is new
 pub record AsksNoMore (bus new : Kept) : Type 0 where
-  pub coherent : IsCoherent new.copies
   pub agent_each : length new.agents ≡ length bus.agents
   pub cache_each : length new.copies.caches ≡ length bus.copies.caches
-  pub well_formed : (h : ℕ) → h < length new.copies.caches → IsWellFormed (cache_at new.copies.caches h).ways (cache_at new.copies.caches h).residency
-  pub inside : (line : ℕ) → HasLine bus.copies line → HasLine new.copies line
+  pub well_formed : (h : ℕ) → h < length new.copies.caches → IsWellFormed (slotted_at new.copies.caches h).ways (slotted_at new.copies.caches h).residency
+  pub inside : (line : ℕ) → LiesIn bus.copies line → LiesIn new.copies line
   pub once : IsOneEach new.order
   pub raised : (h : ℕ) (request : Request) → (agent_at new.agents h).raised ≡ Some request → Stood bus new h (agent_at bus.agents h).raised request
   pub ordered : (h : ℕ) (request : Request) → request_of new.order h ≡ Some request → Stood bus new h (request_of bus.order h) request
   pub few_armed : (h : ℕ) → (agent_at new.agents h).armed ≤ 15
 
 pub served_yet : (bus new : Kept) (h : ℕ) (request : Request) → length new.agents ≡ length bus.agents →
-    (HasLine bus.copies request.line → HasLine new.copies request.line) →
-    (has_room bus.copies h request.line ≡ true → has_room new.copies h request.line ≡ true) → CanBeServed bus h request → CanBeServed new h request
+    (LiesIn bus.copies request.line → LiesIn new.copies request.line) →
+    (has_room_in bus.copies h request.line ≡ true → has_room_in new.copies h request.line ≡ true) → CanBeServed bus h request → CanBeServed new h request
 served_yet bus new h request count inside room can = record {
   own = can.own;
   hart_exists = omega (arith, can.hart_exists, count);
@@ -38,7 +36,6 @@ served_yet bus new h request count inside room can = record {
 
 pub ready_after : (bus new : Kept) → IsReady bus → AsksNoMore bus new → IsReady new
 ready_after bus new ready after = record {
-  coherent = after.coherent;
   few = omega (arith, ready.few, after.agent_each);
   each = after.cache_each ∙ ready.each ∙ sym after.agent_each;
   well_formed = after.well_formed;
@@ -79,7 +76,6 @@ pub asks_agent : (bus : Kept) (h : ℕ) (agent : Agent) → IsReady bus →
     ((request : Request) → agent.raised ≡ Some request → (agent_at bus.agents h).raised ≡ Some request) → agent.armed ≤ 15 →
     AsksNoMore bus (record bus { agents = with_agent bus.agents h agent })
 asks_agent bus h agent ready raises few = record {
-  coherent = ready.coherent;
   agent_each = count_with_agent bus.agents h agent;
   cache_each = refl;
   well_formed = ready.well_formed;

@@ -150,7 +150,6 @@ posted_count Plain known to agents = refl
 -- messages ask nothing of the bus
 pub sent_ready : (bus : Kept) (known : List fates.Fate) (to : ℕ) → IsReady bus → IsReady (record bus { agents = sent_in bus.mode known to bus.agents })
 sent_ready bus known to ready = ready_after bus (record bus { agents = sent_in bus.mode known to bus.agents }) ready (record {
-  coherent = ready.coherent;
   agent_each = posted_count bus.mode known to bus.agents;
   cache_each = refl;
   well_formed = ready.well_formed;

@@ -1,17 +1,17 @@
 -- a cache has a bit after a request was served where it had one
 use Rattle.std.proofs.Common.{◌≡◌, ◌∙◌, ℕ, ◌||◌, Bool, true, false, not, eqb, List, Option, Some, None, refl, ap, sym, arith, if◌then◌else◌}
 use Rattle.std.specs.Option.{option_map_or}
-use Rattle.cache_sets.specs.Cache.{bit_in, filled_with, has_bit, has_marks, is_resident, letter_of, lettered, room_of, way_of, without_line}
-use Rattle.cache_sets.specs.Kept.{marks_of}
-use Rattle.cache_sets.specs.Residency.{Way}
-use Rattle.cache_sets.specs.WellFormed.{IsWellFormed}
-use Rattle.cache_sets.proofs.MarkLemmas.{has_marks-counted, has_marks-filled_with, has_marks-lettered, has_marks-touched, mark_of, total-without_line}
+use Rattle.residency.specs.Cache.{bit_in, filled_with, has_bit, has_marks, is_resident, letter_of, lettered, room_of, way_of, without_line}
+use Rattle.residency.specs.Cache.{marks_of}
+use Rattle.residency.specs.Residency.{Way}
+use Rattle.residency.specs.WellFormed.{IsWellFormed}
+use Rattle.residency.proofs.Laws.MarkLemmas.{has_marks-counted, has_marks-filled_with, has_marks-lettered, has_marks-touched, mark_of, total-without_line}
 use Rattle.el_base.specs.declared.outcomes.Need.{Need}
 use Rattle.el_base.specs.declared.outcomes.Need.TheVariants.{Read, Write}
 use Rattle.el_model.specs.Serve.{kept_letter, others_cache}
-use Rattle.el_model.proofs.Tests.{by_test}
+use Rattle.el_model.proofs.Laws.Tests.{by_test}
 use Rattle.moesi.specs.Letters.{filled_of}
-use Rattle.section_laws.proofs.ServedCaches.{own_after, own_well_formed}
+use Rattle.section_laws.proofs.Laws.ServedCaches.{own_after, own_well_formed}
 
 no_mark : (way : Option Way) → (bit_in Read way || bit_in Write way) ≡ false → option_map_or mark_of way 0 ≡ 0
 no_mark None none = refl

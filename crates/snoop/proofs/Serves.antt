@@ -4,19 +4,19 @@ use Rattle.std.proofs.Common.{Option, Some, None, is_some, refl, ap, sym, subst,
 use Rattle.std.specs.List.{list_any}
 use Rattle.std.proofs.lemmas.Bool.{cases_eq, cases_lt}
 use Rattle.bus_order.specs.Order.{IsOneEach, Request, removed, request_of}
-use Rattle.bus_order.proofs.LookUps.{other_test, own_test, request_of_removed_other, request_of_removed_own}
-use Rattle.bus_order.proofs.Orders.{one_each_removed}
-use Rattle.cache_sets.specs.Cache.{has_bit, has_marks, is_resident, marked, room_of, touched}
+use Rattle.bus_order.proofs.Laws.LookUps.{other_test, own_test, request_of_removed_other, request_of_removed_own}
+use Rattle.bus_order.proofs.Laws.Orders.{one_each_removed}
+use Rattle.residency.specs.Cache.{has_bit, has_marks, is_resident, marked, room_of, touched}
 use Rattle.cache_sets.specs.Cached.{Cached}
-use Rattle.cache_sets.specs.Residency.{Way}
-use Rattle.cache_sets.specs.WellFormed.{IsWellFormed}
-use Rattle.cache_sets.proofs.MarkLemmas.{has_marks-marked, no_marks}
-use Rattle.cache_sets.proofs.WellFormedLemmas.{well_formed-marked}
-use Rattle.coherence.specs.Beginning.{line_of}
+use Rattle.residency.specs.Residency.{Way}
+use Rattle.residency.specs.WellFormed.{IsWellFormed}
+use Rattle.residency.proofs.Laws.MarkLemmas.{has_marks-marked, no_marks}
+use Rattle.residency.proofs.Laws.WellFormedLemmas.{well_formed-marked}
 use Rattle.coherence.specs.Caches.{cache_at, others_from}
 use Rattle.coherence.specs.Caches as copies
-use Rattle.coherence.proofs.GivenUp.{beyond}
-use Rattle.coherence.specs.Served.{Copies, StaysCoherent, has_room, lines_after}
+use Rattle.coherence.specs.Lent.{lent_all, slotted_at}
+use Rattle.coherence.specs.Served.{Copies, StaysCoherent, lines_after}
+use Rattle.coherence.proofs.Laws.Offered.{length-lent, lent_at}
 use Rattle.el_base.specs.declared.outcomes.Need.{Need}
 use Rattle.el_base.specs.declared.outcomes.Need.TheVariants.{Write}
 use Rattle.el_model.specs.Conflicts.{meets_bit}
@@ -26,12 +26,13 @@ use Rattle.el_model.specs.Plain.{armed_count}
 use Rattle.el_model.specs.State.{Armed, Hart, ModelState, Section, armed_of, cache_of, count_up, each_hart, hart_of, is_live, section_of}
 use Rattle.snoop.specs.Agent.{Agent, agent_at, agent_forgetting, agent_of, agent_served}
 use Rattle.snoop.specs.Serving.{CopiesClaim, CopiesServe, Serves, agent_after_serve, agent_claiming}
-use Rattle.snoop.specs.Shows.{CanBeServed, IsReady, Kept, Shows, lives, lives_at}
-use Rattle.section_laws.proofs.FreeLines.{unmet as section_unmet}
-use Rattle.snoop.proofs.Changes.{stays_twice}
-use Rattle.snoop.proofs.Living.{TellsSection, lives_alike, lives_shown, lives_unarmed}
+use Rattle.line_pool.specs.Pooled.{Pooled}
+use Rattle.snoop.specs.Shows.{CanBeServed, Holding, IsReady, Kept, Shows, TellsIn, has_room_in, lent_copies, lives, lives_at}
+use Rattle.section_laws.proofs.Laws.FreeLines.{unmet as section_unmet}
+use Rattle.snoop.proofs.Lent.{beyond, count_by_pools, residency_at, ways_at}
+use Rattle.snoop.proofs.Laws.Living.{TellsSection, lives_alike, lives_shown, lives_unarmed}
 use Rattle.snoop.proofs.Ready.{ready_after}
-use Rattle.section_laws.proofs.ServedCaches.{others_room, others_well_formed, own_after, own_after_well_formed}
+use Rattle.section_laws.proofs.Laws.ServedCaches.{others_room, others_well_formed, own_after, own_after_well_formed}
 use Rattle.snoop.proofs.ServedMarks.{others_marks, own_after_marks}
 use Rattle.snoop.proofs.Showing.{ShowsEach, agent_past, lies_yet, shows_each}
 
@@ -71,40 +72,96 @@ claim_stays true request old new claim = claim.stays
 claim_stays false request old new claim =
     subst (λ copies. StaysCoherent old copies) (sym claim) (record { first = refl; lines = refl; caches = refl; coherent = λ bytes was. was })
 
-pub serve_stays : (live : Bool) (request : Request) (old new : Copies) → CopiesServe live request old new → StaysCoherent old new
-serve_stays live request old new serve =
-    stays_twice old serve.filled new serve.served.stays (claim_stays live request serve.filled new serve.claimed)
+copies_stay : (live : Bool) (request : Request) (old new : Copies) → CopiesServe live request old new → StaysCoherent old new
+copies_stay live request old new serve =
+    let first = serve.served.stays in
+    let second = claim_stays live request serve.filled new serve.claimed in
+    record {
+      first = second.first ∙ first.first;
+      lines = second.lines ∙ first.lines;
+      caches = second.caches ∙ first.caches;
+      coherent = λ bytes tells. second.coherent bytes (first.coherent bytes tells);
+    }
 
 -- main memory after the request was served
 claim_lines : (live : Bool) (request : Request) (old new : Copies) → CopiesClaim live request old new → new.lines ≡ old.lines
 claim_lines true request old new claim = claim.lines
 claim_lines false request old new claim = ap (λ copies. copies.lines) claim
 
-pub serve_lines : (bus new : Kept) (request : Request) → Serves request bus new →
-    new.copies.lines ≡ lines_after request.hart request.line bus.copies
-serve_lines bus new request serves =
-    claim_lines _ request serves.copies.filled new.copies serves.copies.claimed ∙ serves.copies.served.memory
+-- what a served request makes of the lines of the caches, whatever pools lend these before and after
+abbrev own_filled : Pooled → Kept → Request → List (List Way)
+own_filled pool bus request =
+    own_after (slotted_at bus.copies.caches request.hart).ways
+    (copies.others_have (lent_all pool bus.copies.caches) request.hart request.line) request.need
+    (slotted_at bus.copies.caches request.hart).residency request.line
 
-serve_ways : (live : Bool) (request : Request) (old new : Copies) → CopiesServe live request old new → (g : ℕ) →
-    (cache_at new.caches g).ways ≡ (cache_at old.caches g).ways
-serve_ways live request old new serve g = claim_ways live request serve.filled new serve.claimed g ∙ serve.served.ways g
+-- main memory has not moved, and what the pool of before and the caches told, the one of after and they tell
+pub record ServeStays (before after : Pooled) (old new : Holding) : Type 0 where
+  pub first : new.first ≡ old.first
+  pub lines : length new.lines ≡ length old.lines
+  pub caches : length new.caches ≡ length old.caches
+  pub told : (bytes : ℕ → List ℕ) → TellsIn before old bytes → TellsIn after new bytes
 
-serve_others : (live : Bool) (request : Request) (old new : Copies) → CopiesServe live request old new → (g : ℕ) → g ≢ request.hart →
-    (cache_at new.caches g).residency
-    ≡ others_cache (is_resident (cache_at old.caches request.hart).residency request.line) request.need (cache_at old.caches g).residency request.line
-serve_others live request old new serve g other =
-    ap (λ cache. cache.residency) (claim_others live request serve.filled new serve.claimed g other) ∙ serve.served.others g other
+module _ (bus new : Kept) (request : Request) (before after : Pooled) (serves : Serves request before after bus new) where
+  abbrev lived : Bool
+  lived = lives_at bus request.hart
 
--- the cache of the served hart before it is claimed
-abbrev own_filled : Copies → Request → List (List Way)
-own_filled old request =
-    own_after (cache_at old.caches request.hart).ways (copies.others_have old.caches request.hart request.line) request.need
-    (cache_at old.caches request.hart).residency request.line
+  abbrev old_copies : Copies
+  old_copies = lent_copies before bus.copies
 
-serve_own : (live : Bool) (request : Request) (old new : Copies) → CopiesServe live request old new →
-    (cache_at new.caches request.hart).residency ≡ claimed_cache live request.line request.need (own_filled old request)
-serve_own live request old new serve =
-    claim_own live request serve.filled new serve.claimed ∙ ap (claimed_cache live request.line request.need) serve.served.own
+  abbrev new_copies : Copies
+  new_copies = lent_copies after new.copies
+
+  pub serve_stays : ServeStays before after bus.copies new.copies
+  serve_stays = record {
+    first = stays.first;
+    lines = stays.lines;
+    caches = count_by_pools before after bus.copies new.copies stays;
+    told = λ bytes told. record { lent = serves.lent; told = stays.coherent bytes told.told };
+  }
+    where
+      stays : StaysCoherent old_copies new_copies
+      stays = copies_stay lived request old_copies new_copies serves.copies
+
+  pub serve_lines : new.copies.lines ≡ lines_after request.hart request.line (lent_copies before bus.copies)
+  serve_lines = claim_lines lived request serves.copies.filled new_copies serves.copies.claimed ∙ serves.copies.served.memory
+
+  serve_ways : (g : ℕ) → (slotted_at new.copies.caches g).ways ≡ (slotted_at bus.copies.caches g).ways
+  serve_ways g =
+      sym (ways_at after new.copies.caches g)
+      ∙ claim_ways lived request serves.copies.filled new_copies serves.copies.claimed g
+      ∙ serves.copies.served.ways g
+      ∙ ways_at before bus.copies.caches g
+
+  serve_others : (g : ℕ) → g ≢ request.hart →
+      (slotted_at new.copies.caches g).residency
+      ≡ others_cache (is_resident (slotted_at bus.copies.caches request.hart).residency request.line) request.need
+      (slotted_at bus.copies.caches g).residency request.line
+  serve_others g other =
+      sym (residency_at after new.copies.caches g)
+      ∙ ap (λ (cache : Cached). cache.residency) (claim_others lived request serves.copies.filled new_copies serves.copies.claimed g other)
+      ∙ serves.copies.served.others g other
+      ∙ ap (λ cache. others_cache (is_resident cache request.line) request.need (cache_at old_copies.caches g).residency request.line)
+      (residency_at before bus.copies.caches request.hart)
+      ∙ ap (λ cache. others_cache (is_resident (slotted_at bus.copies.caches request.hart).residency request.line) request.need cache request.line)
+      (residency_at before bus.copies.caches g)
+
+  -- the cache of the served hart before it is claimed
+  filled_is : (cache_at serves.copies.filled.caches request.hart).residency ≡ own_filled before bus request
+  filled_is =
+      serves.copies.served.own
+      ∙ ap (λ (cache : Cached). own_after cache.ways (copies.others_have old_copies.caches request.hart request.line) request.need
+      cache.residency request.line) (lent_at before bus.copies.caches request.hart)
+
+  filled_here : is_resident (own_filled before bus request) request.line ≡ true
+  filled_here = ap (λ cache. is_resident cache request.line) (sym filled_is) ∙ serves.copies.served.here
+
+  serve_own : (slotted_at new.copies.caches request.hart).residency
+      ≡ claimed_cache lived request.line request.need (own_filled before bus request)
+  serve_own =
+      sym (residency_at after new.copies.caches request.hart)
+      ∙ claim_own lived request serves.copies.filled new_copies serves.copies.claimed
+      ∙ ap (claimed_cache lived request.line request.need) filled_is
 
 -- whether another hart has a copy, as the caches tell it and as the definition does
 others_all : (test : ℕ → Bool) (h line from : ℕ) (caches : List Cached) (harts : List Hart) → length caches ≡ length harts →
@@ -118,11 +175,14 @@ others_all test h line from (cache ∷ caches) (hart ∷ harts) same each =
     ∙ ap (λ rest. test from || rest)
     (others_all test h line (suc from) caches harts (omega (arith, same)) (λ k number is. each (suc k) number (omega (arith, is))))
 
-others_same : (bus : Kept) (state : ModelState) (h line : ℕ) → Shows bus state → copies.others_have bus.copies.caches h line ≡ others_have state h line
-others_same bus state h line shows =
-    others_all (λ other. not (other == h) && is_resident (cache_of state other) line) h line 0 bus.copies.caches state.harts shows.cache_each
+others_same : (pool : Pooled) (bus : Kept) (state : ModelState) (h line : ℕ) → Shows bus state →
+    copies.others_have (lent_all pool bus.copies.caches) h line ≡ others_have state h line
+others_same pool bus state h line shows =
+    others_all (λ other. not (other == h) && is_resident (cache_of state other) line) h line 0 (lent_all pool bus.copies.caches) state.harts
+    (length-lent pool bus.copies.caches ∙ shows.cache_each)
     (λ k number is. let same : k ≡ number = omega (arith, is) in
-    ap (λ cache. not (number == h) && is_resident cache line) (ap (λ n. (cache_at bus.copies.caches n).residency) same ∙ shows.caches number))
+    ap (λ cache. not (number == h) && is_resident cache line)
+    (residency_at pool bus.copies.caches k ∙ ap (λ n. (slotted_at bus.copies.caches n).residency) same ∙ shows.caches number))
 
 -- the definition's hart after its request was served
 claim_cache : (live : Bool) (request : Request) (hart : Hart) → (with_claim live request hart).cache ≡ claimed_cache live request.line request.need hart.cache
@@ -187,49 +247,49 @@ serving_armed state request g hart =
     ]
 
 -- the residency of each cache is the definition's
-served_cache : (bus new : Kept) (state : ModelState) (request : Request) → IsReady bus → Shows bus state → request.hart < length bus.agents →
-    Serves request bus new → (g : ℕ) → g < length bus.agents →
-    (cache_at new.copies.caches g).residency ≡ (serving state request g (hart_of state g)).cache
-served_cache bus new state request ready shows exists serves g below =
+served_cache : (bus new : Kept) (state : ModelState) (request : Request) (before after : Pooled) → IsReady bus → Shows bus state → request.hart < length bus.agents →
+    Serves request before after bus new → (g : ℕ) → g < length bus.agents →
+    (slotted_at new.copies.caches g).residency ≡ (serving state request g (hart_of state g)).cache
+served_cache bus new state request before after ready shows exists serves g below =
     elim (cases_eq g request.hart) [
-      | inl same ↦ ap (λ k. (cache_at new.copies.caches k).residency) same
-          ∙ serve_own _ request bus.copies new.copies serves.copies
-          ∙ ap (λ live. claimed_cache live request.line request.need (own_filled bus.copies request)) (lives_shown bus state request.hart shows)
+      | inl same ↦ ap (λ k. (slotted_at new.copies.caches k).residency) same
+          ∙ serve_own bus new request before after serves
+          ∙ ap (λ live. claimed_cache live request.line request.need (own_filled before bus request)) (lives_shown bus state request.hart shows)
           ∙ ap (claimed_cache (is_live state request.hart) request.line request.need) filled
           ∙ sym (claim_cache (is_live state request.hart) request _)
           ∙ sym (ap (λ k. k.cache) (at_own request.hart request.hart
           (served_hart state request (hart_of state request.hart)) (bystander state request (hart_of state request.hart)) refl))
           ∙ ap (λ k. (serving state request k (hart_of state k)).cache) (sym same)
-      | inr other ↦ serve_others _ request bus.copies new.copies serves.copies g other
-          ∙ ap (λ cache. others_cache (is_resident (cache_at bus.copies.caches request.hart).residency request.line) request.need cache request.line)
+      | inr other ↦ serve_others bus new request before after serves g other
+          ∙ ap (λ cache. others_cache (is_resident (slotted_at bus.copies.caches request.hart).residency request.line) request.need cache request.line)
           (shows.caches g)
           ∙ ap (λ cache. others_cache (is_resident cache request.line) request.need (cache_of state g) request.line) (shows.caches request.hart)
           ∙ ap (λ k. k.cache) (sym (at_other g request.hart (served_hart state request (hart_of state g)) (bystander state request (hart_of state g)) other))
     ]
   where
-    filled : own_filled bus.copies request
+    filled : own_filled before bus request
         ≡ touched
         (own_copy state.config.ways (others_have state request.hart request.line) request.need (cache_of state request.hart) request.line) request.line
     filled =
-        ap (λ ways. own_after ways (copies.others_have bus.copies.caches request.hart request.line) request.need
-        (cache_at bus.copies.caches request.hart).residency request.line) (shows.ways request.hart (omega (arith, exists, shows.agent_each)))
-        ∙ ap (λ others. own_after state.config.ways others request.need (cache_at bus.copies.caches request.hart).residency request.line)
-        (others_same bus state request.hart request.line shows)
+        ap (λ ways. own_after ways (copies.others_have (lent_all before bus.copies.caches) request.hart request.line) request.need
+        (slotted_at bus.copies.caches request.hart).residency request.line) (shows.ways request.hart (omega (arith, exists, shows.agent_each)))
+        ∙ ap (λ others. own_after state.config.ways others request.need (slotted_at bus.copies.caches request.hart).residency request.line)
+        (others_same before bus state request.hart request.line shows)
         ∙ ap (λ cache. own_after state.config.ways (others_have state request.hart request.line) request.need cache request.line) (shows.caches request.hart)
 
 -- a cache of a hart that is not armed has a bit where it had one
-served_marks : (bus new : Kept) (state : ModelState) (request : Request) → IsReady bus → Shows bus state → request_of bus.order request.hart ≡ Some request →
-    obstacle_to state request ≡ Free → Serves request bus new → (g : ℕ) → g < length bus.agents → armed_count (armed_of state g) ≡ 0 →
-    has_marks (cache_at new.copies.caches g).residency ≡ has_marks (cache_at bus.copies.caches g).residency
-served_marks bus new state request ready shows ordered free serves g below unarmed =
+served_marks : (bus new : Kept) (state : ModelState) (request : Request) (before after : Pooled) → IsReady bus → Shows bus state → request_of bus.order request.hart ≡ Some request →
+    obstacle_to state request ≡ Free → Serves request before after bus new → (g : ℕ) → g < length bus.agents → armed_count (armed_of state g) ≡ 0 →
+    has_marks (slotted_at new.copies.caches g).residency ≡ has_marks (slotted_at bus.copies.caches g).residency
+served_marks bus new state request before after ready shows ordered free serves g below unarmed =
     elim (cases_eq g request.hart) [
-      | inl same ↦ ap (λ k. has_marks (cache_at new.copies.caches k).residency) same
-          ∙ ap has_marks (serve_own _ request bus.copies new.copies serves.copies)
-          ∙ claimed (lives_at bus request.hart) (sym (lives_unarmed (cache_at bus.copies.caches request.hart).residency (agent_at bus.agents request.hart).armed
+      | inl same ↦ ap (λ k. has_marks (slotted_at new.copies.caches k).residency) same
+          ∙ ap has_marks (serve_own bus new request before after serves)
+          ∙ claimed (lives_at bus request.hart) (sym (lives_unarmed (slotted_at bus.copies.caches request.hart).residency (agent_at bus.agents request.hart).armed
           (noted request.hart ∙ ap (λ k. armed_count (armed_of state k)) (sym same) ∙ unarmed)))
-          ∙ ap (λ k. has_marks (cache_at bus.copies.caches k).residency) (sym same)
-      | inr other ↦ ap has_marks (serve_others _ request bus.copies new.copies serves.copies g other)
-          ∙ others_marks (cache_at bus.copies.caches g).ways _ request.need (cache_at bus.copies.caches g).residency request.line
+          ∙ ap (λ k. has_marks (slotted_at bus.copies.caches k).residency) (sym same)
+      | inr other ↦ ap has_marks (serve_others bus new request before after serves g other)
+          ∙ others_marks (slotted_at bus.copies.caches g).ways _ request.need (slotted_at bus.copies.caches g).residency request.line
           (ready.well_formed g (omega (arith, below, ready.each)))
           (λ write. ap (λ cache. has_bit cache request.line) (shows.caches g) ∙ unmet bus state request g ready shows ordered free unarmed other write)
     ]
@@ -237,29 +297,29 @@ served_marks bus new state request ready shows ordered free serves g below unarm
     can : CanBeServed bus request.hart request
     can = ready.ordered request.hart request ordered
 
-    well : IsWellFormed (cache_at bus.copies.caches request.hart).ways (cache_at bus.copies.caches request.hart).residency
+    well : IsWellFormed (slotted_at bus.copies.caches request.hart).ways (slotted_at bus.copies.caches request.hart).residency
     well = ready.well_formed request.hart (omega (arith, can.hart_exists, ready.each))
 
     noted : (h : ℕ) → (agent_at bus.agents h).armed ≡ armed_count (armed_of state h)
     noted h = ap (λ agent. agent.armed) (shows.agents h)
 
-    claimed : (live : Bool) → has_marks (cache_at bus.copies.caches request.hart).residency ≡ live →
-        has_marks (claimed_cache live request.line request.need (own_filled bus.copies request))
-        ≡ has_marks (cache_at bus.copies.caches request.hart).residency
+    claimed : (live : Bool) → has_marks (slotted_at bus.copies.caches request.hart).residency ≡ live →
+        has_marks (claimed_cache live request.line request.need (own_filled before bus request))
+        ≡ has_marks (slotted_at bus.copies.caches request.hart).residency
     claimed true is =
-        has_marks-marked (cache_at bus.copies.caches request.hart).ways (own_filled bus.copies request) request.line request.need
-        (own_after_well_formed (cache_at bus.copies.caches request.hart).ways _ request.need
-        (cache_at bus.copies.caches request.hart).residency request.line well can.room)
-        (ap (λ cache. is_resident cache request.line) (sym serves.copies.served.own) ∙ serves.copies.served.here) ∙ sym is
+        has_marks-marked (slotted_at bus.copies.caches request.hart).ways (own_filled before bus request) request.line request.need
+        (own_after_well_formed (slotted_at bus.copies.caches request.hart).ways _ request.need
+        (slotted_at bus.copies.caches request.hart).residency request.line well can.room)
+        (filled_here bus new request before after serves) ∙ sym is
     claimed false is =
-        own_after_marks (cache_at bus.copies.caches request.hart).ways _ request.need
-        (cache_at bus.copies.caches request.hart).residency request.line well can.room
+        own_after_marks (slotted_at bus.copies.caches request.hart).ways _ request.need
+        (slotted_at bus.copies.caches request.hart).residency request.line well can.room
 
 -- it tells of each hart whether it has a live section
-served_tells : (bus new : Kept) (state : ModelState) (request : Request) → IsReady bus → Shows bus state → request_of bus.order request.hart ≡ Some request →
-    obstacle_to state request ≡ Free → Serves request bus new → (g : ℕ) → g < length bus.agents →
+served_tells : (bus new : Kept) (state : ModelState) (request : Request) (before after : Pooled) → IsReady bus → Shows bus state → request_of bus.order request.hart ≡ Some request →
+    obstacle_to state request ≡ Free → Serves request before after bus new → (g : ℕ) → g < length bus.agents →
     TellsSection (serving state request g (hart_of state g))
-served_tells bus new state request ready shows ordered free serves g below =
+served_tells bus new state request before after ready shows ordered free serves g below =
     let can = ready.ordered request.hart request ordered in
     let armed = serving_armed state request g (hart_of state g) in
     record {
@@ -267,17 +327,17 @@ served_tells bus new state request ready shows ordered free serves g below =
           ap is_some (serving_section state request g (hart_of state g)) ∙ shows.live g
           ∙ lives_alike (cache_of state g) (serving state request g (hart_of state g)).cache (armed_count (armed_of state g))
           (λ unarmed. ap has_marks (sym (shows.caches g))
-          ∙ sym (served_marks bus new state request ready shows ordered free serves g below unarmed)
-          ∙ ap has_marks (served_cache bus new state request ready shows can.hart_exists serves g below))
+          ∙ sym (served_marks bus new state request before after ready shows ordered free serves g below unarmed)
+          ∙ ap has_marks (served_cache bus new state request before after ready shows can.hart_exists serves g below))
           ∙ ap (λ (found : Option Armed). lives (serving state request g (hart_of state g)).cache (armed_count found)) (sym armed);
       arms = rw armed (shows.arms g);
     }
 
 -- the state that is shown
-pub serve_shows : (bus new : Kept) (state : ModelState) (request : Request) → IsReady bus → Shows bus state →
-    request_of bus.order request.hart ≡ Some request → obstacle_to state request ≡ Free → Serves request bus new → Shows new (served state request)
+pub serve_shows : (bus new : Kept) (state : ModelState) (request : Request) (before after : Pooled) → IsReady bus → Shows bus state →
+    request_of bus.order request.hart ≡ Some request → obstacle_to state request ≡ Free → Serves request before after bus new → Shows new (served state request)
 unfolding served
-serve_shows bus new state request ready shows ordered free serves =
+serve_shows bus new state request before after ready shows ordered free serves =
     subst (λ order. Shows new (record (each_hart state (serving state request)) { order = order }))
     (serves.order ∙ ap (λ order. removed order request.hart) shows.order)
     (shows_each bus new state (serving state request) shows each)
@@ -289,32 +349,31 @@ serve_shows bus new state request ready shows ordered free serves =
     each = record {
       mode = serves.mode;
       agent_each = serves.agents.count;
-      cache_each = (serve_stays _ request bus.copies new.copies serves.copies).caches;
-      ways = serve_ways _ request bus.copies new.copies serves.copies;
+      cache_each = (serve_stays bus new request before after serves).caches;
+      ways = serve_ways bus new request before after serves;
       agents = λ g below.
           serves.agents.each g below
           ∙ ap (λ live. agent_after_serve live request g (agent_at bus.agents g)) (lives_shown bus state request.hart shows)
           ∙ ap (agent_after_serve (is_live state request.hart) request g) (shows.agents g)
           ∙ served_agent state request g (hart_of state g) (λ same. refl);
-      caches = served_cache bus new state request ready shows can.hart_exists serves;
-      told = served_tells bus new state request ready shows ordered free serves;
+      caches = served_cache bus new state request before after ready shows can.hart_exists serves;
+      told = served_tells bus new state request before after ready shows ordered free serves;
       memory =
-          let stays = serve_stays _ request bus.copies new.copies serves.copies in
+          let stays = serve_stays bus new request before after serves in
           lies_yet bus.copies new.copies state.committed stays.first stays.lines shows.memory;
-      bytes = (serve_stays _ request bus.copies new.copies serves.copies).coherent (line_of state.committed) shows.bytes;
     }
 
 -- every cache is as it must be
-served_well_formed : (bus new : Kept) (request : Request) → IsReady bus → request_of bus.order request.hart ≡ Some request →
-    Serves request bus new → (g : ℕ) → g < length bus.agents → IsWellFormed (cache_at bus.copies.caches g).ways (cache_at new.copies.caches g).residency
-served_well_formed bus new request ready ordered serves g below =
+served_well_formed : (bus new : Kept) (request : Request) (before after : Pooled) → IsReady bus → request_of bus.order request.hart ≡ Some request →
+    Serves request before after bus new → (g : ℕ) → g < length bus.agents → IsWellFormed (slotted_at bus.copies.caches g).ways (slotted_at new.copies.caches g).residency
+served_well_formed bus new request before after ready ordered serves g below =
     elim (cases_eq g request.hart) [
-      | inl same ↦ subst (λ k. IsWellFormed (cache_at bus.copies.caches k).ways (cache_at new.copies.caches k).residency) (sym same)
-          (subst (λ cache. IsWellFormed ways cache) (sym (serve_own _ request bus.copies new.copies serves.copies))
+      | inl same ↦ subst (λ k. IsWellFormed (slotted_at bus.copies.caches k).ways (slotted_at new.copies.caches k).residency) (sym same)
+          (subst (λ cache. IsWellFormed ways cache) (sym (serve_own bus new request before after serves))
           (claimed (lives_at bus request.hart)))
-      | inr other ↦ subst (λ cache. IsWellFormed (cache_at bus.copies.caches g).ways cache)
-          (sym (serve_others _ request bus.copies new.copies serves.copies g other))
-          (others_well_formed (cache_at bus.copies.caches g).ways _ request.need (cache_at bus.copies.caches g).residency request.line
+      | inr other ↦ subst (λ cache. IsWellFormed (slotted_at bus.copies.caches g).ways cache)
+          (sym (serve_others bus new request before after serves g other))
+          (others_well_formed (slotted_at bus.copies.caches g).ways _ request.need (slotted_at bus.copies.caches g).residency request.line
           (ready.well_formed g (omega (arith, below, ready.each))))
     ]
   where
@@ -322,16 +381,16 @@ served_well_formed bus new request ready ordered serves g below =
     can = ready.ordered request.hart request ordered
 
     ways : ℕ
-    ways = (cache_at bus.copies.caches request.hart).ways
+    ways = (slotted_at bus.copies.caches request.hart).ways
 
-    filled : IsWellFormed (cache_at bus.copies.caches request.hart).ways (own_filled bus.copies request)
+    filled : IsWellFormed (slotted_at bus.copies.caches request.hart).ways (own_filled before bus request)
     filled =
-        own_after_well_formed (cache_at bus.copies.caches request.hart).ways _ request.need (cache_at bus.copies.caches request.hart).residency request.line
+        own_after_well_formed (slotted_at bus.copies.caches request.hart).ways _ request.need (slotted_at bus.copies.caches request.hart).residency request.line
         (ready.well_formed request.hart (omega (arith, can.hart_exists, ready.each))) can.room
 
-    claimed : (live : Bool) → IsWellFormed (cache_at bus.copies.caches request.hart).ways
-        (claimed_cache live request.line request.need (own_filled bus.copies request))
-    claimed true = well_formed-marked _ (own_filled bus.copies request) request.line request.need filled
+    claimed : (live : Bool) → IsWellFormed (slotted_at bus.copies.caches request.hart).ways
+        (claimed_cache live request.line request.need (own_filled before bus request))
+    claimed true = well_formed-marked _ (own_filled before bus request) request.line request.need filled
     claimed false = filled
 
 -- an agent is noted as it was, and has raised what it had raised
@@ -366,15 +425,14 @@ none_some (Some other) request none some = absurd (cc)
 no_room : false ≡ true → ⊥
 no_room is = absurd (cc)
 
-pub serve_ready : (bus new : Kept) (request : Request) → IsReady bus → request_of bus.order request.hart ≡ Some request →
-    Serves request bus new → IsReady new
-serve_ready bus new request ready ordered serves = ready_after bus new ready (record {
-  coherent = record { bytes = ready.coherent.bytes; tells = stays.coherent ready.coherent.bytes ready.coherent.tells };
+pub serve_ready : (bus new : Kept) (request : Request) (before after : Pooled) → IsReady bus → request_of bus.order request.hart ≡ Some request →
+    Serves request before after bus new → IsReady new
+serve_ready bus new request before after ready ordered serves = ready_after bus new ready (record {
   agent_each = serves.agents.count;
   cache_each = stays.caches;
   well_formed = λ g below.
-      subst (λ ways. IsWellFormed ways (cache_at new.copies.caches g).residency) (sym (serve_ways _ request bus.copies new.copies serves.copies g))
-      (served_well_formed bus new request ready ordered serves g (omega (arith, below, stays.caches, ready.each)));
+      subst (λ ways. IsWellFormed ways (slotted_at new.copies.caches g).residency) (sym (serve_ways bus new request before after serves g))
+      (served_well_formed bus new request before after ready ordered serves g (omega (arith, below, stays.caches, ready.each)));
   inside = λ line has. record {
     from = let e = stays.first in rw e has.from;
     below = let e = stays.first in let f = stays.lines in rw (e, f) has.below;
@@ -403,8 +461,8 @@ serve_ready bus new request ready ordered serves = ready_after bus new ready (re
   ];
 })
   where
-    stays : StaysCoherent bus.copies new.copies
-    stays = serve_stays _ request bus.copies new.copies serves.copies
+    stays : ServeStays before after bus.copies new.copies
+    stays = serve_stays bus new request before after serves
 
     raised_before : (g : ℕ) (other : Request) → (agent_at new.agents g).raised ≡ Some other → (agent_at bus.agents g).raised ≡ Some other
     raised_before g other is =
@@ -414,12 +472,12 @@ serve_ready bus new request ready ordered serves = ready_after bus new ready (re
               (ap (λ a. a.raised) (agent_past new.agents g (omega (arith, past, serves.agents.count)))) is
         ]
 
-    room : (g line : ℕ) → g ≢ request.hart → has_room bus.copies g line ≡ true → has_room new.copies g line ≡ true
+    room : (g line : ℕ) → g ≢ request.hart → has_room_in bus.copies g line ≡ true → has_room_in new.copies g line ≡ true
     room g line apart had =
-        ap (λ ways. room_of ways (cache_at new.copies.caches g).residency line) (serve_ways _ request bus.copies new.copies serves.copies g)
-        ∙ ap (λ cache. room_of (cache_at bus.copies.caches g).ways cache line) (serve_others _ request bus.copies new.copies serves.copies g apart)
+        ap (λ ways. room_of ways (slotted_at new.copies.caches g).residency line) (serve_ways bus new request before after serves g)
+        ∙ ap (λ cache. room_of (slotted_at bus.copies.caches g).ways cache line) (serve_others bus new request before after serves g apart)
         ∙ elim (cases_lt g (length bus.copies.caches)) [
-          | inl below ↦ others_room (cache_at bus.copies.caches g).ways _ request.need (cache_at bus.copies.caches g).residency request.line line
+          | inl below ↦ others_room (slotted_at bus.copies.caches g).ways _ request.need (slotted_at bus.copies.caches g).residency request.line line
               (ready.well_formed g below) had
           | inr past ↦ absurd (no_room (ap (λ cache. room_of cache.ways cache.residency line) (sym (beyond bus.copies.caches g past)) ∙ had))
         ]

@@ -3,22 +3,20 @@ use Rattle.std.proofs.Common.{◌≡◌, ◌≢◌, ◌∙◌, ℕ, zero, suc, �
 use Rattle.std.specs.Prelude.{slice_set}
 use Rattle.std.proofs.lemmas.Bool.{cases_eq, cases_lt}
 use Rattle.std.proofs.lemmas.List.{get_or-set_same, get_or-set_other, length-set}
-use Rattle.coherence.specs.Beginning.{line_of}
-use Rattle.coherence.specs.Caches.{cache_at}
-use Rattle.coherence.proofs.GivenUp.{beyond}
-use Rattle.coherence.specs.Served.{Copies, TellsOf}
+use Rattle.coherence.specs.Lent.{slotted_at}
 use Rattle.el_base.specs.declared.line.TheConstants.{LINE_BYTES}
 use Rattle.el_model.specs.State.{Hart, ModelState, armed_of, cache_of, each_from, each_hart, hart_of, new_hart, section_of, with_hart}
-use Rattle.el_model.proofs.Harts.{hart_of-each_hart, hart_of-each_hart_past, hart_of-past, hart_of-with_hart_same, hart_of-with_hart_other, with_hart_kept}
-use Rattle.el_model.proofs.Keeps.{length-each_from}
-use Rattle.snoop.proofs.Living.{TellsSection, tells, tells_nothing, tells_yet}
+use Rattle.el_model.proofs.Laws.Harts.{hart_of-each_hart, hart_of-each_hart_past, hart_of-past, hart_of-with_hart_same, hart_of-with_hart_other, with_hart_kept}
+use Rattle.el_model.proofs.Laws.Keeps.{length-each_from}
+use Rattle.snoop.proofs.Lent.{beyond}
+use Rattle.snoop.proofs.Laws.Living.{TellsSection, tells, tells_nothing, tells_yet}
 use Rattle.snoop.specs.Agent.{Agent, agent_at, agent_of, new_agent, with_agent}
 use Rattle.rv_flat.specs.FlatState.{FlatState}
 use Rattle.snoop.specs.LettingGo.{KeepsBytes, with_committed}
-use Rattle.snoop.specs.Shows.{Kept, LiesWhere, Shows}
+use Rattle.snoop.specs.Shows.{Holding, Kept, LiesWhere, Shows}
 
 -- main memory that has not moved lies where it did
-pub lies_yet : (old new : Copies) (flat : FlatState) → new.first ≡ old.first → length new.lines ≡ length old.lines → LiesWhere old flat →
+pub lies_yet : (old new : Holding) (flat : FlatState) → new.first ≡ old.first → length new.lines ≡ length old.lines → LiesWhere old flat →
     LiesWhere new flat
 lies_yet old new flat first lines lies = record {
   first = ap (λ n. n * LINE_BYTES) first ∙ lies.first;
@@ -55,7 +53,6 @@ shows_committed bus state committed keeps shows = record {
   arms = shows.arms;
   order = shows.order;
   memory = record { first = shows.memory.first ∙ sym keeps.base; lines = shows.memory.lines ∙ ap length (sym keeps.bytes) };
-  bytes = rw (keeps.base, keeps.bytes) shows.bytes;
 }
 
 -- the agent of one hart has changed, and no cache
@@ -82,7 +79,6 @@ shows_told bus state h agent hart shows is cache told = record {
   arms = λ g. (all_told g).arms;
   order = shows.order;
   memory = shows.memory;
-  bytes = shows.bytes;
 }
   where
     same_harts : length (slice_set state.harts h hart) ≡ length state.harts
@@ -112,12 +108,11 @@ pub record ShowsEach (bus new : Kept) (state : ModelState) (becomes : ℕ → Ha
   pub mode : new.mode ≡ bus.mode
   pub agent_each : length new.agents ≡ length bus.agents
   pub cache_each : length new.copies.caches ≡ length bus.copies.caches
-  pub ways : (h : ℕ) → (cache_at new.copies.caches h).ways ≡ (cache_at bus.copies.caches h).ways
+  pub ways : (h : ℕ) → (slotted_at new.copies.caches h).ways ≡ (slotted_at bus.copies.caches h).ways
   pub agents : (h : ℕ) → h < length bus.agents → agent_at new.agents h ≡ agent_of (becomes h (hart_of state h))
-  pub caches : (h : ℕ) → h < length bus.agents → (cache_at new.copies.caches h).residency ≡ (becomes h (hart_of state h)).cache
+  pub caches : (h : ℕ) → h < length bus.agents → (slotted_at new.copies.caches h).residency ≡ (becomes h (hart_of state h)).cache
   pub told : (h : ℕ) → h < length bus.agents → TellsSection (becomes h (hart_of state h))
   pub memory : LiesWhere new.copies state.committed
-  pub bytes : TellsOf new.copies (line_of state.committed)
 
 pub shows_each : (bus new : Kept) (state : ModelState) (becomes : ℕ → Hart → Hart) → Shows bus state → ShowsEach bus new state becomes →
     Shows new (record (each_hart state becomes) { order = new.order })
@@ -139,7 +134,6 @@ shows_each bus new state becomes shows each = record {
   arms = λ h. (all_told h).arms;
   order = refl;
   memory = each.memory;
-  bytes = each.bytes;
 }
   where
     same_harts : length (each_from 0 becomes state.harts) ≡ length state.harts

@@ -4,29 +4,27 @@ use Rattle.std.proofs.Common.{is_some, refl, ap, sym, subst, arith, inl, inr}
 use Rattle.std.specs.Bool.{MatchBool}
 use Rattle.std.specs.Option.{option_map}
 use Rattle.std.proofs.lemmas.Bool.{cases_eq}
-use Rattle.bus_order.proofs.Orders.{one_each_none}
+use Rattle.bus_order.proofs.Laws.Orders.{one_each_none}
 use Rattle.bus_order.specs.Order.{Request, numbered, request_of}
 use Rattle.bus_order.specs.declared.request.Request as requests
-use Rattle.cache_sets.specs.WellFormed.{IsWellFormed}
-use Rattle.coherence.specs.Caches.{cache_at}
-use Rattle.coherence.specs.Served.{Copies, IsCoherent}
+use Rattle.residency.specs.WellFormed.{IsWellFormed}
+use Rattle.coherence.specs.Lent.{slotted_at}
 use Rattle.el_base.specs.declared.config.Mode.{Mode}
 use Rattle.snoop.proofs.Ready.{few_armed_yet, served_yet}
 use Rattle.snoop.proofs.Showing.{agent_other, agent_same, count_with_agent}
 use Rattle.snoop.specs.Agent.{Agent, agent_at, with_agent}
-use Rattle.snoop.specs.Shows.{CanBeServed, IsReady, Kept}
+use Rattle.snoop.specs.Shows.{CanBeServed, Holding, IsReady, Kept}
 
 none_is : {A : Type 0} (found : Option Request) (request : Request) → found ≡ None → found ≡ Some request → A
 none_is None request first second = absurd (cc)
 none_is (Some other) request first second = absurd (cc)
 
-pub ready_at_rest : (mode : Mode) (copies : Copies) (agents : List Agent) → IsCoherent copies → length agents ≤ 8 →
+pub ready_at_rest : (mode : Mode) (copies : Holding) (agents : List Agent) → length agents ≤ 8 →
     length copies.caches ≡ length agents →
-    ((h : ℕ) → h < length copies.caches → IsWellFormed (cache_at copies.caches h).ways (cache_at copies.caches h).residency) →
+    ((h : ℕ) → h < length copies.caches → IsWellFormed (slotted_at copies.caches h).ways (slotted_at copies.caches h).residency) →
     ((h : ℕ) → (agent_at agents h).raised ≡ None) → ((h : ℕ) → (agent_at agents h).armed ≤ 15) →
     IsReady (record { mode = mode; copies = copies; agents = agents; order = [] })
-ready_at_rest mode copies agents coherent few each formed none few_armed = record {
-  coherent = coherent;
+ready_at_rest mode copies agents few each formed none few_armed = record {
   few = few;
   each = each;
   well_formed = formed;
@@ -60,7 +58,6 @@ with_raised agents request = with_agent agents request.hart (record (agent_at ag
 pub ready_raised : (bus : Kept) (request : Request) → IsReady bus → request_of bus.order request.hart ≡ None →
     CanBeServed bus request.hart request → IsReady (record bus { agents = with_raised bus.agents request })
 ready_raised bus request ready none can = record {
-  coherent = ready.coherent;
   few = omega (arith, ready.few, count);
   each = ready.each ∙ sym count;
   well_formed = ready.well_formed;

@@ -2,13 +2,12 @@
 use Rattle.std.specs.Prelude.{ℕ, zero, suc, ◌≡◌, ◌<◌, ◌==◌, ◌&&◌, Bool, true, false, not, List, [], ◌∷◌, map, filter, length, Option, None}
 use Rattle.std.specs.Prelude.{Some, is_some, if◌then◌else◌}
 use Rattle.bus_order.specs.Order.{Request, request_of}
-use Rattle.cache_sets.specs.Calls.{IsCleared}
-use Rattle.coherence.specs.Changed.{IsChangedAt}
 use Rattle.defer_list.specs.HartSet.{has}
 use Rattle.el_model.specs.Conflicts.{stamp_in}
 use Rattle.el_model.specs.State.{for_line}
 use Rattle.mail.specs.Mailbox.{Message, Probe}
 use Rattle.snoop.specs.Agent.{Agent, agent_at, agent_behind, agent_posted, agent_seeing, agent_told, with_agent}
+use Rattle.snoop.specs.Changing.{IsClearedAt}
 use Rattle.snoop.specs.Settled.{in_removal}
 use Rattle.snoop.specs.Shows.{Kept}
 use Rattle.stamp.specs.Stamps.{Stamp}
@@ -83,4 +82,4 @@ pub record IsLostTo (h origin : ℕ) (request : Option Request) (old new : Kept)
   pub mode : new.mode ≡ old.mode
   pub order : new.order ≡ old.order
   pub agents : new.agents ≡ with_agent old.agents h (agent_heard origin (in_removal old.mode (stamp_in request)) (agent_at old.agents h))
-  pub copies : IsChangedAt IsCleared h old.copies new.copies
+  pub copies : IsClearedAt h old.copies new.copies

@@ -1,8 +1,8 @@
 -- armed sections that a head lets go
 use Rattle.std.specs.Prelude.{ℕ, ◌≡◌, ◌==◌, ◌&&◌, Bool, true, false, not, is_some, if◌then◌else◌}
 use Rattle.bus_order.specs.Order.{Request}
-use Rattle.cache_sets.specs.Cache.{has_bit}
-use Rattle.coherence.specs.Caches.{cache_at}
+use Rattle.residency.specs.Cache.{has_bit}
+use Rattle.coherence.specs.Lent.{slotted_at}
 use Rattle.el_base.specs.Freed.{count_in}
 use Rattle.el_base.specs.declared.freed.Freed.{Freed}
 use Rattle.el_model.specs.Conflicts.{is_write}
@@ -34,7 +34,7 @@ pub record IsNotedAs (state : ModelState) (h count : ℕ) (now : Hart) : Type 0 
 abbrev pub frees : Kept → Request → ℕ → Bool
 frees bus head h =
     is_write head && not (head.hart == h) && not ((agent_at bus.agents h).armed == 0)
-    && has_bit (cache_at bus.copies.caches h).residency head.line
+    && has_bit (slotted_at bus.copies.caches h).residency head.line
 
 -- how many instructions of a hart take effect then
 abbrev pub freed_at : Kept → Request → ℕ → ℕ

@@ -1,7 +1,7 @@
 -- the bits of a cache that a request meets
 use Rattle.std.specs.Prelude.{ℕ, Bool, List}
-use Rattle.cache_sets.specs.Cache.{has_bit, write_bit}
-use Rattle.cache_sets.specs.Residency.{Way}
+use Rattle.residency.specs.Cache.{has_bit, write_bit}
+use Rattle.residency.specs.Residency.{Way}
 use Rattle.el_base.specs.declared.outcomes.Need.{Need}
 use Rattle.el_base.specs.declared.outcomes.Need.TheVariants.{Read, Write}
 

@@ -2,9 +2,11 @@
 use Rattle.std.specs.Prelude.{ℕ, ◌≡◌, ◌<◌, ◌==◌, Bool, true, false, List, length, Some, if◌then◌else◌}
 use Rattle.bus_order.specs.Order.{Request, removed}
 use Rattle.coherence.specs.Changed.{GetsBit, IsChangedAt}
+use Rattle.coherence.specs.Lent.{IsLentTo, LeavesHolds}
 use Rattle.coherence.specs.Served.{Copies, IsServed}
 use Rattle.snoop.specs.Agent.{Agent, agent_at, agent_forgetting, agent_served}
-use Rattle.snoop.specs.Shows.{Kept, lives_at}
+use Rattle.line_pool.specs.Pooled.{Pooled}
+use Rattle.snoop.specs.Shows.{Kept, lent_copies, lives_at}
 
 -- a hart without a live section holds the line that it was served; one with a live section has a bit instead
 abbrev pub agent_claiming : Bool → ℕ → Agent → Agent
@@ -31,9 +33,11 @@ pub record CopiesServe (live : Bool) (request : Request) (old new : Copies) : Ty
   pub served : IsServed request.need request.hart request.line old filled
   pub claimed : CopiesClaim live request filled new
 
--- what serving a request makes of the bus, before the next head of its line is faced
-pub record Serves (request : Request) (old new : Kept) : Type 0 where
+-- what serving a request makes of the bus and of the pool that lends its caches, before the next head of its line is faced
+pub record Serves (request : Request) (before after : Pooled) (old new : Kept) : Type 0 where
   pub mode : new.mode ≡ old.mode
   pub agents : AgentsServe (lives_at old request.hart) request old.agents new.agents
-  pub copies : CopiesServe (lives_at old request.hart) request old.copies new.copies
+  pub copies : CopiesServe (lives_at old request.hart) request (lent_copies before old.copies) (lent_copies after new.copies)
+  pub lent : IsLentTo after new.copies.caches
+  pub holds : LeavesHolds before after
   pub order : new.order ≡ removed old.order request.hart

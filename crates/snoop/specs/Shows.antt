@@ -1,32 +1,56 @@
 -- what the bus keeps, and the state of the machine's definition that it shows
 use Rattle.std.specs.Prelude.{ℕ, ◌≡◌, ◌<◌, ◌≤◌, ◌*◌, ◌==◌, ◌&&◌, Bool, true, not, List, None, Some, is_some, length}
 use Rattle.bus_order.specs.Order.{IsOneEach, Request, request_of}
-use Rattle.cache_sets.specs.Cache.{has_marks}
-use Rattle.cache_sets.specs.Residency.{Way}
-use Rattle.cache_sets.specs.WellFormed.{IsWellFormed}
-use Rattle.coherence.specs.Beginning.{line_of}
-use Rattle.coherence.specs.Caches.{cache_at}
-use Rattle.coherence.specs.Served.{Copies, HasLine, IsCoherent, TellsOf, has_room, shown}
+use Rattle.residency.specs.Cache.{has_marks, room_of}
+use Rattle.residency.specs.Residency.{Way}
+use Rattle.residency.specs.WellFormed.{IsWellFormed}
+use Rattle.cache_sets.specs.Slotted.{Slotted}
+use Rattle.coherence.specs.Caches.{IsInMemory}
+use Rattle.coherence.specs.Lent.{IsLentTo, lent_all, slotted_at}
+use Rattle.coherence.specs.Served.{Copies, TellsOf, caches_of}
+use Rattle.coherence.specs.declared.hierarchy.Hierarchy as hierarchies
 use Rattle.el_base.specs.declared.config.Mode.{Mode}
 use Rattle.el_base.specs.declared.line.TheConstants.{LINE_BYTES}
 use Rattle.el_model.specs.Plain.{armed_count}
 use Rattle.el_model.specs.State.{ModelState, armed_of, cache_of, hart_of, is_live}
+use Rattle.line_pool.specs.Pooled.{Pooled}
 use Rattle.rv_flat.specs.FlatState.{FlatState}
 use Rattle.snoop.specs.Agent.{Agent, agent_at, agent_of}
 use Rattle.snoop.specs.declared.bus.Bus as buses
 
+-- main memory, and the caches of all harts where their pool is not at hand
+pub record Holding : Type 0 where
+  pub first : ℕ
+  pub lines : List (List ℕ)
+  pub caches : List Slotted
+
+abbrev pub holding_of : hierarchies.Hierarchy → Holding
+holding_of hierarchy = record { first = hierarchy.first; lines = hierarchy.lines.items; caches = caches_of hierarchy }
+
+-- the same, with the bytes that a pool has for the caches
+abbrev pub lent_copies : Pooled → Holding → Copies
+lent_copies pool holding = record { first = holding.first; lines = holding.lines; caches = lent_all pool holding.caches }
+
+-- a line lies in main memory
+abbrev pub LiesIn : Holding → ℕ → Type 0
+LiesIn holding line = IsInMemory holding.first (length holding.lines) line
+
+-- a hart's cache has room for a line
+abbrev pub has_room_in : Holding → ℕ → ℕ → Bool
+has_room_in holding h line = room_of (slotted_at holding.caches h).ways (slotted_at holding.caches h).residency line
+
 -- what the bus keeps
 pub record Kept : Type 0 where
   pub mode : Mode
-  pub copies : Copies  -- main memory and the caches
+  pub copies : Holding  -- main memory and the caches
   pub agents : List Agent
   pub order : List Request
 
 abbrev pub kept : buses.Bus → Kept
-kept bus = record { mode = bus.mode; copies = shown bus.hierarchy; agents = bus.agents.items; order = bus.order }
+kept bus = record { mode = bus.mode; copies = holding_of bus.hierarchy; agents = bus.agents.items; order = bus.order }
 
 -- main memory lies where the state's memory does, and is as long
-pub record LiesWhere (copies : Copies) (flat : FlatState) : Type 0 where
+pub record LiesWhere (copies : Holding) (flat : FlatState) : Type 0 where
   pub first : copies.first * LINE_BYTES ≡ flat.base
   pub lines : length copies.lines * LINE_BYTES ≡ length flat.bytes
 
@@ -35,40 +59,56 @@ abbrev pub lives : List (List Way) → ℕ → Bool
 lives cache count = has_marks cache && (count == 0)
 
 abbrev pub lives_at : Kept → ℕ → Bool
-lives_at bus h = lives (cache_at bus.copies.caches h).residency (agent_at bus.agents h).armed
+lives_at bus h = lives (slotted_at bus.copies.caches h).residency (agent_at bus.agents h).armed
 
--- each part is the definition's, main memory lies in its place, and the copies and main memory tell the committed bytes; a hart has a live
--- section exactly where some line of its cache has a bit and it is not armed, and an armed one has run an instruction
+-- each part is the definition's, and main memory lies in its place; a hart has a live section exactly where some line of its cache has a
+-- bit and it is not armed, and an armed one has run an instruction
 pub record Shows (bus : Kept) (state : ModelState) : Type 0 where
   pub mode : bus.mode ≡ state.config.mode
-  pub ways : (h : ℕ) → h < length state.harts → (cache_at bus.copies.caches h).ways ≡ state.config.ways
+  pub ways : (h : ℕ) → h < length state.harts → (slotted_at bus.copies.caches h).ways ≡ state.config.ways
   pub agent_each : length bus.agents ≡ length state.harts
   pub cache_each : length bus.copies.caches ≡ length state.harts
   pub agents : (h : ℕ) → agent_at bus.agents h ≡ agent_of (hart_of state h)
-  pub caches : (h : ℕ) → (cache_at bus.copies.caches h).residency ≡ cache_of state h
+  pub caches : (h : ℕ) → (slotted_at bus.copies.caches h).residency ≡ cache_of state h
   pub live : (h : ℕ) → is_live state h ≡ lives (cache_of state h) (armed_count (armed_of state h))
   pub arms : (h : ℕ) → is_some (armed_of state h) ≡ not (armed_count (armed_of state h) == 0)
   pub order : bus.order ≡ state.order
   pub memory : LiesWhere bus.copies state.committed
-  pub bytes : TellsOf bus.copies (line_of state.committed)
 
 -- a request can be served once it is the head of its line and nothing is in its way: its hart is there, its line lies in
 -- memory, and the hart's cache has room for it
 pub record CanBeServed (bus : Kept) (h : ℕ) (request : Request) : Type 0 where
   pub own : request.hart ≡ h
   pub hart_exists : h < length bus.agents
-  pub in_memory : HasLine bus.copies request.line
-  pub room : has_room bus.copies h request.line ≡ true
+  pub in_memory : LiesIn bus.copies request.line
+  pub room : has_room_in bus.copies h request.line ≡ true
 
--- what each call of the bus needs, and leaves: copies and main memory tell one thing, each request can be served, a hart has at most one,
--- and an armed section has run 15 instructions at most
+-- what each call of the bus needs, and leaves: each request can be served, a hart has at most one, and an armed section has run 15
+-- instructions at most
 pub record IsReady (bus : Kept) : Type 0 where
-  pub coherent : IsCoherent bus.copies
   pub few : length bus.agents ≤ 8
   pub each : length bus.copies.caches ≡ length bus.agents
-  pub well_formed : (h : ℕ) → h < length bus.copies.caches → IsWellFormed (cache_at bus.copies.caches h).ways (cache_at bus.copies.caches h).residency
+  pub well_formed : (h : ℕ) → h < length bus.copies.caches → IsWellFormed (slotted_at bus.copies.caches h).ways (slotted_at bus.copies.caches h).residency
   pub raised : (h : ℕ) (request : Request) → (agent_at bus.agents h).raised ≡ Some request → CanBeServed bus h request
   pub ordered : (h : ℕ) (request : Request) → request_of bus.order h ≡ Some request → CanBeServed bus h request
   pub once : IsOneEach bus.order
   pub one_request : (h : ℕ) (request : Request) → (agent_at bus.agents h).raised ≡ Some request → request_of bus.order h ≡ None
   pub few_armed : (h : ℕ) → (agent_at bus.agents h).armed ≤ 15
+
+-- a pool lends these caches, and they and main memory tell these bytes of each line
+pub record TellsIn (pool : Pooled) (holding : Holding) (bytes : ℕ → List ℕ) : Type 0 where
+  pub lent : IsLentTo pool holding.caches
+  pub told : TellsOf (lent_copies pool holding) bytes
+
+-- so for those of the bus
+abbrev pub Tells : Pooled → Kept → (ℕ → List ℕ) → Type 0
+Tells pool bus bytes = TellsIn pool bus.copies bytes
+
+-- and of some bytes
+pub record IsTold (pool : Pooled) (bus : Kept) : Type 0 where
+  pub bytes : ℕ → List ℕ
+  pub tells : Tells pool bus bytes
+
+-- whatever a pool and the caches told, they tell still
+abbrev pub StaysTold : Kept → Kept → Type 0
+StaysTold old new = (pool : Pooled) (bytes : ℕ → List ℕ) → Tells pool old bytes → Tells pool new bytes

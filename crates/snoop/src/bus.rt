@@ -1,21 +1,22 @@
 //! The bus, and its calls that are no event of it.
 
-ghost use Rattle.std.specs.Prelude.{◌≡◌, ◌<◌, ◌≤◌, ◌%◌, ◌↔◌, IfOk, IfSome, IsNone, None, length, slice_index, true};
+ghost use Rattle.std.specs.Prelude.{◌≡◌, ◌<◌, ◌≤◌, ◌*◌, ◌%◌, ◌↔◌, ℕ, List, IfOk, IfSome, IsNone, None, length, slice_index, true};
 ghost use Rattle.std.specs.Borrow.{sem};
 ghost use Rattle.bus_order.specs.Order.{request_of};
-ghost use Rattle.coherence.specs.Beginning.{line_of, lines_at_first};
-ghost use Rattle.coherence.specs.Caches.{behind_of, cache_at};
-ghost use Rattle.coherence.specs.Served.{HasLine, has_room};
+ghost use Rattle.coherence.specs.Beginning.{bytes_at_first, lines_at_first};
+ghost use Rattle.coherence.specs.Caches.{behind_of};
+ghost use Rattle.coherence.specs.Lent.{Offers, slotted_at};
 ghost use Rattle.el_base.specs.Config.{IsInRange};
 ghost use Rattle.el_base.specs.Line.{line_number};
 ghost use Rattle.el_base.specs.declared.line.TheConstants.{LINE_BYTES};
 ghost use Rattle.el_model.specs.Attempts as attempts;
 ghost use Rattle.el_model.specs.Plain.{missed_hart};
 ghost use Rattle.el_model.specs.State.{Hart, ModelState, begin, cache_of, hart_of, ordered_of, raised_of, with_hart};
+ghost use Rattle.line_pool.specs.Pooled.{Pooled};
 ghost use Rattle.snoop.specs.Agent.{agent_at};
 ghost use Rattle.snoop.specs.Asking.{HasNoRequest, asking, numbered_asked};
 ghost use Rattle.snoop.specs.LettingGo.{IsNotedAs};
-ghost use Rattle.snoop.specs.Shows.{IsReady, Shows, kept};
+ghost use Rattle.snoop.specs.Shows.{IsReady, IsTold, LiesIn, Shows, Tells, has_room_in, kept};
 
 use crate::agent::Agent;
 use crate::agents::{close_attempt, give_up, new_agents, note_armed, open_attempt, raise};
@@ -25,6 +26,7 @@ use cache_sets::Sets;
 use coherence::Hierarchy;
 use el_base::{Config, HartId, LineAddr, Mode, Need, NoMemory};
 use elf_image::Image;
+use line_pool::Pool;
 use std::alloc::Global;
 
 /// Main memory, and of all harts the caches, the requests and their order, the mailboxes, and what lock removal
@@ -41,13 +43,17 @@ impl Bus {
     ghost use Rattle.snoop.specs.Lending.{LendsSets};
 
     /// The bus before the first event: main memory as the image has it, and for each of the image's harts a
-    /// cache without lines and no request. It takes all memory of the bus.
+    /// cache without lines and no request. It takes all memory of the bus but that of the pool: any lends the caches
+    /// that offers each hart sets times ways slots.
     pub fn make(alloc: Global, image: &Image, config: &Config) -> Result<Bus, NoMemory>
         requires in_range { IsInRange config.now }
         requires one_hart_each { image.now.harts ≡ config.now.harts }
         ensures ready { IfOk result (λ bus. IsReady (kept bus)) }
         ensures shows { IfOk result (λ bus. Shows (kept bus) (begin image.now config.now)) }
         ensures memory { IfOk result (λ bus. (kept bus).copies.lines ≡ lines_at_first image.now) }
+        ensures told { IfOk result (λ bus. (pool : Pooled) →
+            Offers pool config.now.harts (config.now.sets * config.now.ways) →
+            Tells pool (kept bus) (bytes_at_first image.now)) }
     {
         Ok(Bus {
             mode: config.mode,
@@ -101,12 +107,12 @@ impl Bus {
         requires ready { IsReady (kept self.old) }
         requires no_request { HasNoRequest (kept self.old) hart.number }
         requires holds_nothing { (agent_at (kept self.old).agents hart.number).held ≡ None }
-        requires in_memory { HasLine (kept self.old).copies line.number }
-        requires room { has_room (kept self.old).copies hart.number line.number ≡ true }
+        requires in_memory { LiesIn (kept self.old).copies line.number }
+        requires room { has_room_in (kept self.old).copies hart.number line.number ≡ true }
         ensures ready { IsReady (kept self.new) }
         ensures shows { (state : ModelState) → Shows (kept self.old) state → Shows (kept self.new)
             (with_hart state hart.number (missed_hart hart.number line.number need (hart_of state hart.number))) }
-        ensures memory_stays { (kept self.new).copies.lines ≡ (kept self.old).copies.lines }
+        ensures copies_stay { (kept self.new).copies ≡ (kept self.old).copies }
     {
         let stamp = self.agent(hart).attempt();
         raise(
@@ -127,7 +133,7 @@ impl Bus {
         ensures ready { IsReady (kept self.new) }
         ensures shows { (state : ModelState) → Shows (kept self.old) state → Shows (kept self.new)
             (with_hart state hart.number (record (hart_of state hart.number) { held = None })) }
-        ensures memory_stays { (kept self.new).copies.lines ≡ (kept self.old).copies.lines }
+        ensures copies_stay { (kept self.new).copies ≡ (kept self.old).copies }
     {
         give_up(&mut self.agents, hart);
     }
@@ -143,7 +149,7 @@ impl Bus {
         ensures ready { IsReady (kept self.new) }
         ensures shows { (state : ModelState) (now : Hart) → Shows (kept self.old) state →
             IsNotedAs state hart.number count now → Shows (kept self.new) (with_hart state hart.number now) }
-        ensures memory_stays { (kept self.new).copies.lines ≡ (kept self.old).copies.lines }
+        ensures copies_stay { (kept self.new).copies ≡ (kept self.old).copies }
     {
         note_armed(&mut self.agents, hart, count);
     }
@@ -158,7 +164,7 @@ impl Bus {
         ensures shows { (state : ModelState) → Shows (kept self.old) state → Shows (kept self.new)
             (with_hart state hart.number
             (attempts.open_attempt state.config.mode hart.number (hart_of state hart.number))) }
-        ensures memory_stays { (kept self.new).copies.lines ≡ (kept self.old).copies.lines }
+        ensures copies_stay { (kept self.new).copies ≡ (kept self.old).copies }
     {
         open_attempt(&mut self.agents, self.mode, hart);
     }
@@ -174,7 +180,7 @@ impl Bus {
         ensures ready { IsReady (kept self.new) }
         ensures shows { (state : ModelState) → Shows (kept self.old) state → Shows (kept self.new)
             (with_hart state hart.number (attempts.close_attempt (hart_of state hart.number))) }
-        ensures memory_stays { (kept self.new).copies.lines ≡ (kept self.old).copies.lines }
+        ensures copies_stay { (kept self.new).copies ≡ (kept self.old).copies }
     {
         close_attempt(&mut self.agents, hart);
     }
@@ -182,7 +188,7 @@ impl Bus {
     /// The cache of a hart.
     pub fn sets(&self, hart: HartId) -> &Sets
         requires { hart.number < length (kept self.now).copies.caches }
-        ensures exact { result.now ≡ cache_at (kept self.now).copies.caches hart.number }
+        ensures exact { result.now ≡ slotted_at (kept self.now).copies.caches hart.number }
         ensures shown { (state : ModelState) → Shows (kept self.now) state →
             result.now.residency ≡ cache_of state hart.number }
     {
@@ -191,29 +197,30 @@ impl Bus {
 
     /// The cache of a hart, to be changed. What is left there is the hart's cache from then on; the rest of the bus
     /// is as it was. Later calls need a bus that is ready: what the caller owes for that is `IsReturned`, in
-    /// `specs/Returned.antt`.
+    /// `specs/Returned.antt`. Those with a pool need one that lends the caches (`Tells` in `specs/Shows.antt`).
     pub fn sets_mut(&mut self, hart: HartId) -> &mut Sets
         requires { hart.number < length (kept self.old).copies.caches }
         ensures* lends { sem 𝓛 (LendsSets self.entry hart.number result) }
-        ensures value { result.now ≡ cache_at (kept self.old).copies.caches hart.number }
+        ensures value { result.now ≡ slotted_at (kept self.old).copies.caches hart.number }
     {
         self.hierarchy.cache_mut(hart)
     }
 
     /// The byte at an address of committed memory: that of the copy which main memory may be behind, and where
     /// there is none such, main memory's. `None` comes exactly outside memory.
-    pub fn byte(&self, address: u32) -> Option<u8>
-        requires { IsReady (kept self.now) }
-        ensures none_exactly_outside { IsNone result ↔ ¬ (HasLine (kept self.now).copies (line_number address)) }
-        ensures committed { (state : ModelState) → Shows (kept self.now) state → IfSome result (λ byte.
-            byte ≡ slice_index (line_of state.committed (line_number address)) (address % LINE_BYTES)) }
+    pub fn byte(&self, pool: &Pool, address: u32) -> Option<u8>
+        requires ready { IsReady (kept self.now) }
+        requires told { IsTold pool.now (kept self.now) }
+        ensures none_exactly_outside { IsNone result ↔ ¬ (LiesIn (kept self.now).copies (line_number address)) }
+        ensures committed { (bytes : ℕ → List ℕ) → Tells pool.now (kept self.now) bytes → IfSome result (λ byte.
+            byte ≡ slice_index (bytes (line_number address)) (address % LINE_BYTES)) }
     {
-        self.hierarchy.byte(address)
+        self.hierarchy.byte(pool, address)
     }
 
     /// The byte at an address of memory in main memory, whatever copies there are.
     pub fn main_byte(&self, address: u32) -> u8
-        requires { HasLine (kept self.now).copies (line_number address) }
+        requires { LiesIn (kept self.now).copies (line_number address) }
         ensures { result ≡ slice_index
             (behind_of (kept self.now).copies.first (kept self.now).copies.lines (line_number address))
             (address % LINE_BYTES) }

@@ -24,7 +24,7 @@ ghost use Rattle.snoop.specs.Delivering.{
   probes_sent,
 };
 ghost use Rattle.snoop.specs.Settled.{in_removal};
-ghost use Rattle.snoop.specs.Shows.{IsReady, Shows, kept};
+ghost use Rattle.snoop.specs.Shows.{IsReady, Shows, StaysTold, kept};
 ghost use Rattle.stamp.specs.Stamps as stamps;
 
 use crate::agent::Agent;
@@ -55,6 +55,7 @@ impl Bus {
         ensures outcome { (state : ModelState) → Shows (kept self.old) state →
             result ≡ (delivery.deliver_turn state hart.number).outcome }
         ensures memory_stays { (kept self.new).copies.lines ≡ (kept self.old).copies.lines }
+        ensures told { StaysTold (kept self.old) (kept self.new) }
     {
         match self.take_message(hart) {
             Some(message) => Outcome::Delivered {
@@ -74,7 +75,7 @@ impl Bus {
             option_map mailbox.numbered result ≡ mailbox.oldest (hart_of state hart.number).mail }
         ensures shows { (state : ModelState) → Shows (kept self.old) state → Shows (kept self.new)
             (delivery.taken state hart.number (mailbox.without_oldest (hart_of state hart.number).mail)) }
-        ensures memory_stays { (kept self.new).copies.lines ≡ (kept self.old).copies.lines }
+        ensures copies_stay { (kept self.new).copies ≡ (kept self.old).copies }
     {
         take_message(&mut self.agents, hart)
     }
@@ -90,6 +91,7 @@ impl Bus {
         ensures losers { (state : ModelState) → Shows (kept self.old) state →
             result ≡ delivery.losers_by state hart.number (mailbox.numbered message) }
         ensures memory_stays { (kept self.new).copies.lines ≡ (kept self.old).copies.lines }
+        ensures told { StaysTold (kept self.old) (kept self.new) }
     {
         match message {
             Message::Marker { from } => {
@@ -107,7 +109,7 @@ impl Bus {
         ensures ready { IsReady (kept self.new) }
         ensures shows { (state : ModelState) → Shows (kept self.old) state →
             Shows (kept self.new) (delivery.after_marker state hart.number sender.number) }
-        ensures memory_stays { (kept self.new).copies.lines ≡ (kept self.old).copies.lines }
+        ensures copies_stay { (kept self.new).copies ≡ (kept self.old).copies }
     {
         self.answer_marker(hart, sender);
     }
@@ -170,6 +172,7 @@ impl Bus {
             ≡ (if has (hart_of state hart.number).told origin.number then delivery.nobody
             else delivery.probe_losers state hart.number origin.number (ordered_of state origin.number)) }
         ensures memory_stays { (kept self.new).copies.lines ≡ (kept self.old).copies.lines }
+        ensures told { StaysTold (kept self.old) (kept self.new) }
     {
         if self.agent(hart).knows(origin) {
             return Losers::none();
@@ -192,6 +195,7 @@ impl Bus {
         ensures losers { (state : ModelState) → Shows (kept self.old) state →
             result ≡ delivery.probe_losers state hart.number origin.number (option_map numbered request) }
         ensures memory_stays { (kept self.new).copies.lines ≡ (kept self.old).copies.lines }
+        ensures told { StaysTold (kept self.old) (kept self.new) }
     {
         if self.loses_to_origin(hart, request) {
             self.lose_to(hart, origin, request);

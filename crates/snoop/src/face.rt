@@ -10,7 +10,7 @@ ghost use Rattle.el_model.specs.State.{ModelState};
 ghost use Rattle.policy.specs.Winners.{wins_of};
 ghost use Rattle.snoop.specs.LettingGo.{KeepsBytes};
 ghost use Rattle.snoop.specs.Settled.{sent_in};
-ghost use Rattle.snoop.specs.Shows.{IsReady, Shows, kept};
+ghost use Rattle.snoop.specs.Shows.{IsReady, Shows, StaysTold, kept};
 ghost use Rattle.stamp.specs.Stamps as stamps;
 
 use crate::bus::Bus;
@@ -57,6 +57,7 @@ impl Bus {
         ensures freed { (state : ModelState) → Shows (kept self.old) state →
             result.freed ≡ freed_by state (numbered head) }
         ensures memory_stays { (kept self.new).copies.lines ≡ (kept self.old).copies.lines }
+        ensures told { StaysTold (kept self.old) (kept self.new) }
     {
         let freed = self.let_go(head);
         let losers = self.face(head, policy);
@@ -90,6 +91,7 @@ impl Bus {
         ensures losers { (state : ModelState) → Shows (kept self.old) state →
             result ≡ face_losers state (numbered head) }
         ensures memory_stays { (kept self.new).copies.lines ≡ (kept self.old).copies.lines }
+        ensures told { StaysTold (kept self.old) (kept self.new) }
     {
         let fates = self.fates(head, policy);
         self.settle_all(head, &fates);

@@ -6,7 +6,7 @@ ghost use Rattle.el_base.specs.Freed.{count_in};
 ghost use Rattle.el_model.specs.Armed as model;
 ghost use Rattle.el_model.specs.State.{ModelState};
 ghost use Rattle.snoop.specs.LettingGo.{AreLetGo, IsLetGo, KeepsBytes, freed_at, frees, goes, with_committed};
-ghost use Rattle.snoop.specs.Shows.{IsReady, Shows, kept};
+ghost use Rattle.snoop.specs.Shows.{IsReady, Shows, StaysTold, kept};
 
 use crate::agents::note_armed;
 use crate::bus::Bus;
@@ -108,6 +108,7 @@ impl Bus {
         ensures freed { (state : ModelState) → Shows (kept self.old) state →
             result ≡ model.freed_by state (numbered head) }
         ensures memory_stays { (kept self.new).copies.lines ≡ (kept self.old).copies.lines }
+        ensures told { StaysTold (kept self.old) (kept self.new) }
     {
         let freed = self.freed_by(head);
         self.let_each_go(freed);

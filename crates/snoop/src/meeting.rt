@@ -3,7 +3,7 @@
 ghost use Rattle.std.specs.Prelude.{◌≡◌, ◌<◌, ◌==◌, ◌&&◌, not, length};
 ghost use Rattle.bus_order.specs.Order.{numbered};
 ghost use Rattle.cache_sets.specs.Bits.{has_need};
-ghost use Rattle.coherence.specs.Caches.{cache_at};
+ghost use Rattle.coherence.specs.Lent.{slotted_at};
 ghost use Rattle.el_model.specs.Conflicts as model;
 ghost use Rattle.el_model.specs.State.{ModelState, hart_of};
 ghost use Rattle.snoop.specs.Meets.{meets_in};
@@ -30,13 +30,13 @@ impl Bus {
         requires hart_exists { hart.number < length (kept self.now).agents }
         requires ready { IsReady (kept self.now) }
         ensures { result ≡ (lives_at (kept self.now) hart.number
-            && meets_in (cache_at (kept self.now).copies.caches hart.number).residency line.number need) }
+            && meets_in (slotted_at (kept self.now).copies.caches hart.number).residency line.number need) }
     {
         self.is_live(hart) && meets(self.hierarchy.cache(hart), line, need)
     }
 
     /// Whether a request conflicts with the live section of a hart.
-    #[tactic(auto, using(crate::proofs::Conflicts::conflicts_shown))]
+    #[tactic(auto, using(crate::proofs::Laws::Conflicts::conflicts_shown))]
     pub(crate) fn conflicts(&self, request: Request, hart: HartId) -> bool
         requires hart_exists { hart.number < length (kept self.now).agents }
         requires ready { IsReady (kept self.now) }
@@ -48,7 +48,7 @@ impl Bus {
 }
 
 /// Whether a line has a bit that a request of this need conflicts with.
-#[tactic(auto, using(crate::proofs::Conflicts::read_need, crate::proofs::Conflicts::write_need))]
+#[tactic(auto, using(crate::proofs::Laws::Conflicts::read_need, crate::proofs::Laws::Conflicts::write_need))]
 pub fn meets(cache: &Sets, line: LineAddr, need: Need) -> bool
     ensures { result ≡ meets_in cache.now.residency line.number need }
 {

@@ -21,7 +21,7 @@ ghost use Rattle.policy.specs.Winners.{wins_of};
 ghost use Rattle.snoop.specs.Agent.{agent_at};
 ghost use Rattle.snoop.specs.LettingGo.{KeepsBytes};
 ghost use Rattle.snoop.specs.Places.{definition_place};
-ghost use Rattle.snoop.specs.Shows.{IsReady, Shows, kept};
+ghost use Rattle.snoop.specs.Shows.{IsReady, Shows, StaysTold, kept};
 ghost use Rattle.stamp.specs.Stamps as stamps;
 
 use crate::agents::{post, unraise};
@@ -45,7 +45,7 @@ enum Place {
 
 impl Bus {
     /// Where a request goes.
-    #[tactic(auto, using(crate::proofs::Living::lives_shown))]
+    #[tactic(auto, using(crate::proofs::Laws::Living::lives_shown))]
     fn place_for(&self, request: Request) -> Place
         requires hart_exists { request.hart.number < length (kept self.now).agents }
         requires ready { IsReady (kept self.now) }
@@ -68,7 +68,7 @@ impl Bus {
         ensures mode { (kept self.new).mode ≡ (kept self.old).mode }
         ensures shows { (state : ModelState) → Shows (kept self.old) state →
             Shows (kept self.new) (marked_from state.config.mode state from.number to.number) }
-        ensures memory_stays { (kept self.new).copies.lines ≡ (kept self.old).copies.lines }
+        ensures copies_stay { (kept self.new).copies ≡ (kept self.old).copies }
     {
         match self.mode {
             Mode::Tlr => post(&mut self.agents, to, Message::Marker { from }),
@@ -84,7 +84,7 @@ impl Bus {
         ensures mode { (kept self.new).mode ≡ (kept self.old).mode }
         ensures shows { (state : ModelState) → Shows (kept self.old) state →
             Shows (kept self.new) (placed_in_front state (numbered request)) }
-        ensures memory_stays { (kept self.new).copies.lines ≡ (kept self.old).copies.lines }
+        ensures copies_stay { (kept self.new).copies ≡ (kept self.old).copies }
     {
         unraise(&mut self.agents, request.hart);
         self.order.in_front(request);
@@ -98,7 +98,7 @@ impl Bus {
         ensures mode { (kept self.new).mode ≡ (kept self.old).mode }
         ensures shows { (state : ModelState) → Shows (kept self.old) state →
             Shows (kept self.new) (placed_last state (numbered request)) }
-        ensures memory_stays { (kept self.new).copies.lines ≡ (kept self.old).copies.lines }
+        ensures copies_stay { (kept self.new).copies ≡ (kept self.old).copies }
     {
         unraise(&mut self.agents, request.hart);
         self.order.append(request);
@@ -112,7 +112,7 @@ impl Bus {
         ensures mode { (kept self.new).mode ≡ (kept self.old).mode }
         ensures shows { (state : ModelState) → Shows (kept self.old) state →
             Shows (kept self.new) (before_face state (numbered request) InFront) }
-        ensures memory_stays { (kept self.new).copies.lines ≡ (kept self.old).copies.lines }
+        ensures copies_stay { (kept self.new).copies ≡ (kept self.old).copies }
     {
         let former = self.order.first_of(request.line);
         self.put_in_front(request);
@@ -129,7 +129,7 @@ impl Bus {
         ensures mode { (kept self.new).mode ≡ (kept self.old).mode }
         ensures shows { (state : ModelState) → Shows (kept self.old) state →
             Shows (kept self.new) (before_face state (numbered request) Behind) }
-        ensures memory_stays { (kept self.new).copies.lines ≡ (kept self.old).copies.lines }
+        ensures copies_stay { (kept self.new).copies ≡ (kept self.old).copies }
     {
         let last = self.order.tail_of(request.line);
         self.put_last(request);
@@ -154,6 +154,7 @@ impl Bus {
         ensures freed { (state : ModelState) → Shows (kept self.old) state →
             result.freed ≡ order_freed state (numbered request) }
         ensures memory_stays { (kept self.new).copies.lines ≡ (kept self.old).copies.lines }
+        ensures told { StaysTold (kept self.old) (kept self.new) }
     {
         match self.place_for(request) {
             Place::InFront => {
@@ -192,6 +193,7 @@ impl Bus {
         ensures outcome { (state : ModelState) → Shows (kept self.old) state →
             result ≡ (order_turn state hart.number).outcome }
         ensures memory_stays { (kept self.new).copies.lines ≡ (kept self.old).copies.lines }
+        ensures told { StaysTold (kept self.old) (kept self.new) }
     {
         match self.agent(hart).raised() {
             Some(request) => {

@@ -1,9 +1,10 @@
 //! An ordered request is served, or something is in its way.
 
-ghost use Rattle.std.specs.Prelude.{◌≡◌, ◌<◌, Option, Some, length, true};
+ghost use Rattle.std.specs.Prelude.{◌≡◌, ◌<◌, ℕ, List, Option, Some, length, true};
 ghost use Rattle.std.specs.Option.{option_map};
 ghost use Rattle.bus_order.specs.Order.{numbered, removed, request_of};
-ghost use Rattle.coherence.specs.Served.{HasLine, IsCoherent, IsServed, has_room, lines_after, shown};
+ghost use Rattle.coherence.specs.Lent.{IsLentTo, LeavesHolds};
+ghost use Rattle.coherence.specs.Served.{HasLine, IsCoherent, IsServed, caches_of, has_room, lines_after, shown};
 ghost use Rattle.el_model.specs.Serve as serving;
 ghost use Rattle.el_model.specs.Serve.{Free};
 ghost use Rattle.el_model.specs.Face.{freed_if, met_if, met_losers_if};
@@ -12,7 +13,7 @@ ghost use Rattle.policy.specs.Winners.{wins_of};
 ghost use Rattle.snoop.specs.LettingGo.{KeepsBytes};
 ghost use Rattle.snoop.specs.MainMemory.{lines_served};
 ghost use Rattle.snoop.specs.Serving.{AgentsServe, CopiesClaim, CopiesServe, Serves};
-ghost use Rattle.snoop.specs.Shows.{IsReady, Shows, kept};
+ghost use Rattle.snoop.specs.Shows.{IsReady, IsTold, Shows, StaysTold, Tells, kept, lent_copies};
 ghost use Rattle.stamp.specs.Stamps as stamps;
 
 use crate::agents::{claim, forget};
@@ -22,6 +23,7 @@ use crate::obstacle::Obstacle;
 use bus_order::Request;
 use coherence::Hierarchy;
 use el_base::{HartId, LineAddr, Outcome};
+use line_pool::Pool;
 use policy::Policy;
 
 impl Bus {
@@ -33,32 +35,40 @@ impl Bus {
     /// go, with the number of instructions. `Blocked` tells the first thing that is in the way, with its hart, and then
     /// nothing changes. It is `Idle` exactly where the hart has nothing in the order.
     #[tactic(auto, unfolding(el_model::specs::Serve::serve_turn))]
-    pub fn serve<P: Policy>(&mut self, hart: HartId, policy: &P) -> Outcome
+    pub fn serve<P: Policy>(&mut self, pool: &mut Pool, hart: HartId, policy: &P) -> Outcome
         requires hart_exists { hart.number < length (kept self.old).agents }
         requires ready { IsReady (kept self.old) }
+        requires told { IsTold pool.old (kept self.old) }
         requires policy { (request holder : Option stamps.Stamp) →
             P.beats policy.now request holder ≡ wins_of (kept self.old).mode request holder }
         ensures ready { IsReady (kept self.new) }
+        ensures told { (bytes : ℕ → List ℕ) →
+            Tells pool.old (kept self.old) bytes → Tells pool.new (kept self.new) bytes }
+        ensures holds { LeavesHolds pool.old pool.new }
         ensures state { (state : ModelState) → Shows (kept self.old) state →
             KeepsBytes state.committed (serving.serve_turn state hart.number).state.committed →
             Shows (kept self.new) (serving.serve_turn state hart.number).state }
         ensures outcome { (state : ModelState) → Shows (kept self.old) state →
             result ≡ (serving.serve_turn state hart.number).outcome }
-        ensures memory { (kept self.new).copies.lines ≡ lines_served (kept self.old) hart.number result }
+        ensures memory { (kept self.new).copies.lines ≡ lines_served pool.old (kept self.old) hart.number result }
     {
         match self.order.of(hart) {
-            Some(request) => self.serve_past(request, policy),
+            Some(request) => self.serve_past(pool, request, policy),
             None => Outcome::Idle,
         }
     }
 
     /// A request is served where nothing is in its way.
-    fn serve_past<P: Policy>(&mut self, request: Request, policy: &P) -> Outcome
+    fn serve_past<P: Policy>(&mut self, pool: &mut Pool, request: Request, policy: &P) -> Outcome
         requires ready { IsReady (kept self.old) }
+        requires told { IsTold pool.old (kept self.old) }
         requires ordered { request_of (kept self.old).order request.hart.number ≡ Some (numbered request) }
         requires policy { (request holder : Option stamps.Stamp) →
             P.beats policy.now request holder ≡ wins_of (kept self.old).mode request holder }
         ensures ready { IsReady (kept self.new) }
+        ensures told { (bytes : ℕ → List ℕ) →
+            Tells pool.old (kept self.old) bytes → Tells pool.new (kept self.new) bytes }
+        ensures holds { LeavesHolds pool.old pool.new }
         ensures state { (state : ModelState) → Shows (kept self.old) state → KeepsBytes state.committed
             (serving.serve_past state (numbered request)
             (serving.obstacle_to state (numbered request))).state.committed →
@@ -66,11 +76,11 @@ impl Bus {
             (serving.serve_past state (numbered request) (serving.obstacle_to state (numbered request))).state }
         ensures outcome { (state : ModelState) → Shows (kept self.old) state → result
             ≡ (serving.serve_past state (numbered request) (serving.obstacle_to state (numbered request))).outcome }
-        ensures memory { (kept self.new).copies.lines ≡ lines_served (kept self.old) request.hart.number result }
+        ensures memory { (kept self.new).copies.lines ≡ lines_served pool.old (kept self.old) request.hart.number result }
     {
         match self.obstacle_to(request) {
             Obstacle::Free => {
-                let Met { losers, freed } = self.serve_free(request, policy);
+                let Met { losers, freed } = self.serve_free(pool, request, policy);
                 Outcome::Served { losers, freed }
             }
             Obstacle::Blocks { why, by } => Outcome::Blocked { why, by },
@@ -78,14 +88,18 @@ impl Bus {
     }
 
     /// A request that nothing is in the way of is served, and the next one of its line is met.
-    fn serve_free<P: Policy>(&mut self, request: Request, policy: &P) -> Met
+    fn serve_free<P: Policy>(&mut self, pool: &mut Pool, request: Request, policy: &P) -> Met
         requires ready { IsReady (kept self.old) }
+        requires told { IsTold pool.old (kept self.old) }
         requires ordered { request_of (kept self.old).order request.hart.number ≡ Some (numbered request) }
         requires free { (state : ModelState) → Shows (kept self.old) state →
             serving.obstacle_to state (numbered request) ≡ Free }
         requires policy { (request holder : Option stamps.Stamp) →
             P.beats policy.now request holder ≡ wins_of (kept self.old).mode request holder }
         ensures ready { IsReady (kept self.new) }
+        ensures told { (bytes : ℕ → List ℕ) →
+            Tells pool.old (kept self.old) bytes → Tells pool.new (kept self.new) bytes }
+        ensures holds { LeavesHolds pool.old pool.new }
         ensures state { (state : ModelState) → Shows (kept self.old) state →
             KeepsBytes state.committed (serving.served_turn state (numbered request)).state.committed →
             Shows (kept self.new) (serving.served_turn state (numbered request)).state }
@@ -94,9 +108,9 @@ impl Bus {
         ensures freed { (state : ModelState) → Shows (kept self.old) state →
             result.freed ≡ serving.serve_freed state (numbered request) }
         ensures memory { (kept self.new).copies.lines ≡
-            lines_after request.hart.number request.line.number (kept self.old).copies }
+            lines_after request.hart.number request.line.number (lent_copies pool.old (kept self.old).copies) }
     {
-        self.give_line(request);
+        self.give_line(pool, request);
         self.meet_head(request.line, policy)
     }
 
@@ -114,6 +128,7 @@ impl Bus {
         ensures freed { (state : ModelState) → Shows (kept self.old) state →
             result.freed ≡ freed_if state (head_of state line.number) }
         ensures memory_stays { (kept self.new).copies.lines ≡ (kept self.old).copies.lines }
+        ensures told { StaysTold (kept self.old) (kept self.new) }
     {
         match self.order.first_of(line) {
             Some(head) => self.meet(head, policy),
@@ -123,29 +138,34 @@ impl Bus {
 
     /// The line of a request comes to its hart, and what came with the request is forgotten. The request is the
     /// head of its line, and nothing is in its way.
-    fn give_line(&mut self, request: Request)
+    fn give_line(&mut self, pool: &mut Pool, request: Request)
         requires ready { IsReady (kept self.old) }
+        requires told { IsTold pool.old (kept self.old) }
         requires ordered { request_of (kept self.old).order request.hart.number ≡ Some (numbered request) }
         requires free { (state : ModelState) → Shows (kept self.old) state →
             serving.obstacle_to state (numbered request) ≡ Free }
         ensures ready { IsReady (kept self.new) }
+        ensures told { (bytes : ℕ → List ℕ) →
+            Tells pool.old (kept self.old) bytes → Tells pool.new (kept self.new) bytes }
+        ensures holds { LeavesHolds pool.old pool.new }
         ensures mode { (kept self.new).mode ≡ (kept self.old).mode }
         ensures shows { (state : ModelState) → Shows (kept self.old) state →
             Shows (kept self.new) (serving.served state (numbered request)) }
         ensures memory { (kept self.new).copies.lines ≡
-            lines_after request.hart.number request.line.number (kept self.old).copies }
+            lines_after request.hart.number request.line.number (lent_copies pool.old (kept self.old).copies) }
     {
-        self.serve_parts(request);
+        self.serve_parts(pool, request);
     }
 
     /// The same, part by part.
-    fn serve_parts(&mut self, request: Request)
+    fn serve_parts(&mut self, pool: &mut Pool, request: Request)
         requires ready { IsReady (kept self.old) }
+        requires told { IsTold pool.old (kept self.old) }
         requires ordered { request_of (kept self.old).order request.hart.number ≡ Some (numbered request) }
-        ensures { Serves (numbered request) (kept self.old) (kept self.new) }
+        ensures { Serves (numbered request) pool.old pool.new (kept self.old) (kept self.new) }
     {
         let live = self.is_live(request.hart);
-        fill(&mut self.hierarchy, request, live);
+        fill(&mut self.hierarchy, pool, request, live);
         forget(&mut self.agents, request.hart);
         claim(&mut self.agents, request, live);
         self.order.remove(request.hart);
@@ -153,14 +173,17 @@ impl Bus {
 }
 
 /// The line of a request comes into its hart's cache, with a bit where the hart has a live section.
-fn fill(hierarchy: &mut Hierarchy, request: Request, live: bool)
-    requires hart_exists { request.hart.number < length (shown hierarchy.old).caches }
-    requires in_memory { HasLine (shown hierarchy.old) request.line.number }
-    requires room { has_room (shown hierarchy.old) request.hart.number request.line.number ≡ true }
-    requires coherent { IsCoherent (shown hierarchy.old) }
-    ensures { CopiesServe live (numbered request) (shown hierarchy.old) (shown hierarchy.new) }
+fn fill(hierarchy: &mut Hierarchy, pool: &mut Pool, request: Request, live: bool)
+    requires hart_exists { request.hart.number < length (caches_of hierarchy.old) }
+    requires lent { IsLentTo pool.old (caches_of hierarchy.old) }
+    requires in_memory { HasLine (shown pool.old hierarchy.old) request.line.number }
+    requires room { has_room (shown pool.old hierarchy.old) request.hart.number request.line.number ≡ true }
+    requires coherent { IsCoherent (shown pool.old hierarchy.old) }
+    ensures served { CopiesServe live (numbered request) (shown pool.old hierarchy.old) (shown pool.new hierarchy.new) }
+    ensures lent { IsLentTo pool.new (caches_of hierarchy.new) }
+    ensures holds { LeavesHolds pool.old pool.new }
 {
-    hierarchy.serve(request.hart, request.line, request.need);
+    hierarchy.serve(pool, request.hart, request.line, request.need);
     if live {
         hierarchy.mark(request.hart, request.line, request.need);
     }

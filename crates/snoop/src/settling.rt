@@ -3,14 +3,13 @@
 ghost use Rattle.std.specs.Prelude.{◌≡◌, ◌<◌, ◌≤◌, ◌==◌, ℕ, None, if◌then◌else◌, length};
 ghost use Rattle.std.specs.Option.{option_map};
 ghost use Rattle.bus_order.specs.Order.{numbered};
-ghost use Rattle.coherence.specs.Served.{shown};
 ghost use Rattle.el_base.specs.Losers.{beaten_by, losers_of};
 ghost use Rattle.el_model.specs.Face.{winner_in};
 ghost use Rattle.snoop.specs.Agent.{agent_at, agent_seeing, with_agent};
 ghost use Rattle.snoop.specs.Changing.{ClearsIf};
 ghost use Rattle.snoop.specs.Fates.{fate_in, numbered_fate};
 ghost use Rattle.snoop.specs.Settled.{AreSettledBelow, IsSettledAt, loses, marker_sent, markers_sent, stamp_seen};
-ghost use Rattle.snoop.specs.Shows.{IsReady, kept};
+ghost use Rattle.snoop.specs.Shows.{IsReady, holding_of, kept};
 ghost use Rattle.stamp.specs.Stamps.{numbered_stamp};
 
 use crate::agent::Agent;
@@ -35,8 +34,8 @@ fn see(agents: &mut Vec<Agent>, hart: HartId, stamp: Option<Stamp>)
 
 /// A loser's cache has no bits any more.
 fn clear_loser(hierarchy: &mut Hierarchy, hart: HartId, fate: Fate)
-    requires { hart.number < length (shown hierarchy.old).caches }
-    ensures { ClearsIf (loses (numbered_fate fate)) hart.number (shown hierarchy.old) (shown hierarchy.new) }
+    requires { hart.number < length (holding_of hierarchy.old).caches }
+    ensures { ClearsIf (loses (numbered_fate fate)) hart.number (holding_of hierarchy.old) (holding_of hierarchy.new) }
 {
     match fate {
         Fate::LosesTo { .. } => hierarchy.clear(hart),

@@ -1,14 +1,14 @@
 //! Four harts at one bus, worked by hand. Each hart's cache has one set of two ways; in lock removal each hart has an
 //! open attempt with the clock 0, so a hart of a less number comes before one of a greater.
 
-ghost use Rattle.std.specs.Prelude.{◌≡◌, ◌<◌, ◌≤◌, ℕ, IfOk, None, Some, length};
+ghost use Rattle.std.specs.Prelude.{◌≡◌, ◌<◌, ◌≤◌, ◌*◌, ℕ, IfOk, None, Some, length};
 ghost use Rattle.bus_order.specs.Order.{numbered};
-ghost use Rattle.cache_sets.specs.WellFormed.{IsWellFormed};
-ghost use Rattle.coherence.specs.Caches.{cache_at};
-ghost use Rattle.coherence.specs.Served.{IsCoherent, has_room, shown};
+ghost use Rattle.residency.specs.WellFormed.{IsWellFormed};
+ghost use Rattle.coherence.specs.Lent.{IsLentTo, Offers, slotted_at};
+ghost use Rattle.coherence.specs.Served.{IsCoherent, caches_of, shown};
 ghost use Rattle.el_base.specs.Config.{IsInRange};
 ghost use Rattle.snoop.specs.Agent.{agent_at, with_agent};
-ghost use Rattle.snoop.specs.Shows.{IsReady, kept};
+ghost use Rattle.snoop.specs.Shows.{IsReady, IsTold, has_room_in, kept};
 
 mod delivering;
 mod events;
@@ -20,11 +20,13 @@ mod serving;
 mod writing_back;
 
 use crate::agent::Agent;
+use crate::agents::take_message;
 use crate::bus::Bus;
 use bus_order::{Order, Request};
 use coherence::Hierarchy;
 use el_base::{Config, HartId, LineAddr, Mode, Need, Outcome, line_of};
 use elf_image::{Image, load};
+use line_pool::Pool;
 use mail::Message;
 use policy::{SlePolicy, TlrPolicy};
 use std::alloc::Global;
@@ -65,17 +67,44 @@ fn image(alloc: Global, config: &Config) -> Result<Image, Fail>
     Ok(image)
 }
 
+/// A pool from which the caches of a configuration take their slots.
+fn pool(alloc: Global, config: &Config) -> Result<Pool, Fail>
+    requires { IsInRange config.now }
+    ensures { IfOk result (λ pool. Offers pool config.now.harts (config.now.sets * config.now.ways)) }
+{
+    let slots = u16::from(config.sets) * u16::from(config.ways);
+    Ok(Pool::make(alloc, &[slots; 8])?)
+}
+
+/// A bus that is ready, and a pool for its caches.
+#[derive(Drop)]
+struct Rig {
+    bus: Bus,
+    pool: Pool,
+    ghost ready: { IsReady (kept bus) },
+}
+
 /// The bus before its first event.
-fn first_bus(alloc: Global, config: &Config) -> Result<Bus, Fail>
-    ensures { IfOk result (λ bus. IsReady (kept bus)) }
+fn first_rig(alloc: Global, config: &Config) -> Result<Rig, Fail>
+    ensures { IfOk result (λ rig. IsTold rig.pool (kept rig.bus)) }
 {
     let image = image(alloc, config)?;
-    Ok(Bus::make(alloc, &image, config)?)
+    let pool = pool(alloc, config)?;
+    let bus = Bus::make(alloc, &image, config)?;
+    Ok(Rig { bus, pool })
+}
+
+/// Main memory and caches, and the pool that lends these.
+#[derive(Drop)]
+struct Memory {
+    hierarchy: Hierarchy,
+    pool: Pool,
+    ghost lent: { IsLentTo pool (caches_of hierarchy) },
 }
 
 /// Main memory and four caches, of which those of these harts have read the line in a section.
-fn hierarchy(alloc: Global, mode: Mode, readers: &[u8]) -> Result<Hierarchy, Fail>
-    ensures { IfOk result (λ hierarchy. IsCoherent (shown hierarchy)) }
+fn read_by(alloc: Global, mode: Mode, readers: &[u8]) -> Result<Memory, Fail>
+    ensures { IfOk result (λ memory. IsCoherent (shown memory.pool memory.hierarchy)) }
 {
     let config = Config {
         harts: 4,
@@ -85,28 +114,31 @@ fn hierarchy(alloc: Global, mode: Mode, readers: &[u8]) -> Result<Hierarchy, Fai
         ..Config::usual()
     };
     let image = image(alloc, &config)?;
-    let mut hierarchy = Hierarchy::make(alloc, &image, &config)?;
+    let pool = pool(alloc, &config)?;
+    let hierarchy = Hierarchy::make(alloc, &image, &config)?;
+    let mut memory = Memory { hierarchy, pool };
     for reader in readers {
-        if !read_in_section(&mut hierarchy, hart(*reader)?) {
+        if !read_in_section(&mut memory, hart(*reader)?) {
             return Err("a line that is not there".into());
         }
     }
-    Ok(hierarchy)
+    Ok(memory)
 }
 
 /// A hart reads the line in its section, where that may be.
-fn read_in_section(hierarchy: &mut Hierarchy, hart: HartId) -> bool
-    requires { IsCoherent (shown hierarchy.old) }
-    ensures { IsCoherent (shown hierarchy.new) }
+fn read_in_section(memory: &mut Memory, hart: HartId) -> bool
+    requires { IsCoherent (shown memory.old.pool memory.old.hierarchy) }
+    ensures { IsCoherent (shown memory.new.pool memory.new.hierarchy) }
 {
     let line = line();
+    let hierarchy = &mut memory.hierarchy;
     if usize::from(hart.number) >= hierarchy.harts() || !hierarchy.has_in_memory(line) {
         return false;
     }
     if !hierarchy.cache(hart).room(line) {
         return false;
     }
-    hierarchy.serve(hart, line, Need::Read);
+    hierarchy.serve(&mut memory.pool, hart, line, Need::Read);
     hierarchy.mark(hart, line, Need::Read);
     true
 }
@@ -139,10 +171,10 @@ fn agent(alloc: Global, mode: Mode, hart: HartId, told: bool) -> Result<Agent, F
 
 /// No cache has a line twice, as its type says.
 fn well_formed(hierarchy: &Hierarchy)
-    requires { length (shown hierarchy.now).caches ≤ 8 }
-    ensures { (h : ℕ) → h < length (shown hierarchy.now).caches →
-        IsWellFormed (cache_at (shown hierarchy.now).caches h).ways
-        (cache_at (shown hierarchy.now).caches h).residency }
+    requires { length (caches_of hierarchy.now) ≤ 8 }
+    ensures { (h : ℕ) → h < length (caches_of hierarchy.now) →
+        IsWellFormed (slotted_at (caches_of hierarchy.now) h).ways
+        (slotted_at (caches_of hierarchy.now) h).residency }
 {
     for number in 0..hierarchy.harts() {
         hierarchy.cache(HartId::at(number)).room(line());
@@ -150,38 +182,38 @@ fn well_formed(hierarchy: &Hierarchy)
 }
 
 /// The bus of four harts that have asked for nothing yet.
-fn made(alloc: Global, mode: Mode, readers: &[u8], told: bool) -> Result<Bus, Fail>
-    ensures { IfOk result (λ bus. IsReady (kept bus)) }
+fn made(alloc: Global, mode: Mode, readers: &[u8], told: bool) -> Result<Rig, Fail>
+    ensures { IfOk result (λ rig. IsTold rig.pool (kept rig.bus)) }
 {
-    let hierarchy = hierarchy(alloc, mode, readers)?;
+    let Memory { hierarchy, pool } = read_by(alloc, mode, readers)?;
     let agents = agents(alloc, mode, told)?;
     if hierarchy.harts() != 4 || agents.len() != 4 {
         return Err("harts without a cache".into());
     }
     well_formed(&hierarchy);
-    Ok(Bus {
+    let bus = Bus {
         mode,
         hierarchy,
         agents,
         order: Order::new(),
-    })
+    };
+    Ok(Rig { bus, pool })
 }
 
 /// A hart asks for the line, where it may.
-fn ask(bus: &mut Bus, hart: HartId, need: Need) -> bool
-    requires { IsReady (kept bus.old) }
-    ensures { IsReady (kept bus.new) }
+fn ask(rig: &mut Rig, hart: HartId, need: Need) -> bool
+    requires { IsTold rig.old.pool (kept rig.old.bus) }
+    ensures { IsTold rig.new.pool (kept rig.new.bus) }
 {
-    events::ask_for(bus, hart, line(), need)
+    events::ask_for(rig, hart, line(), need)
 }
 
 /// Whether a hart's cache has room for a line.
-fn has_room(bus: &Bus, hart: HartId, line: LineAddr) -> bool
-    requires ready { IsReady (kept bus.now) }
-    requires hart_exists { hart.number < length (kept bus.now).agents }
-    ensures { result ≡ has_room (kept bus.now).copies hart.number line.number }
+fn has_room(rig: &Rig, hart: HartId, line: LineAddr) -> bool
+    requires { hart.number < length (kept rig.now.bus).agents }
+    ensures { result ≡ has_room_in (kept rig.now.bus).copies hart.number line.number }
 {
-    bus.hierarchy.cache(hart).room(line)
+    rig.bus.hierarchy.cache(hart).room(line)
 }
 
 /// A hart has raised a request.
@@ -195,10 +227,11 @@ fn raise(agents: &mut Vec<Agent>, request: Request)
 }
 
 /// What Order says, under the policy of the mode, or nothing where the hart is not there.
-fn order(bus: &mut Bus, hart: HartId) -> Option<Outcome>
-    requires { IsReady (kept bus.old) }
-    ensures { IsReady (kept bus.new) }
+fn order(rig: &mut Rig, hart: HartId) -> Option<Outcome>
+    requires { IsTold rig.old.pool (kept rig.old.bus) }
+    ensures { IsTold rig.new.pool (kept rig.new.bus) }
 {
+    let bus = &mut rig.bus;
     if usize::from(hart.number) >= bus.agents.len() {
         return None;
     }
@@ -210,8 +243,8 @@ fn order(bus: &mut Bus, hart: HartId) -> Option<Outcome>
 }
 
 /// Whether a hart's cache has a bit.
-fn is_marked(bus: &Bus, hart: HartId) -> bool {
-    usize::from(hart.number) < bus.hierarchy.harts() && bus.hierarchy.cache(hart).marked()
+fn is_marked(rig: &Rig, hart: HartId) -> bool {
+    usize::from(hart.number) < rig.bus.hierarchy.harts() && rig.bus.hierarchy.cache(hart).marked()
 }
 
 /// A marker that a hart sends.
@@ -220,6 +253,10 @@ fn marker(from: u8) -> Result<Message, Fail> {
 }
 
 /// Takes the oldest message of a hart.
-fn message(bus: &mut Bus, hart: HartId) -> Option<Message> {
-    bus.agents.get_mut(usize::from(hart.number))?.next()
+fn message(rig: &mut Rig, hart: HartId) -> Option<Message> {
+    let agents = &mut rig.bus.agents;
+    if usize::from(hart.number) >= agents.len() {
+        return None;
+    }
+    take_message(agents, hart)
 }

@@ -1,22 +1,25 @@
 -- the rule of an LR at which its hart may arm, and the value that it finds
 use Rattle.std.proofs.Common.{◌≡◌, ◌∙◌, ◌≤◌, ◌%◌, ℕ, Bool, true, false, ◌&&◌, not, List, Option, None, Some, refl, ap, sym, if◌then◌else◌}
 use Rattle.std.specs.Prelude.{slice_index}
-use Rattle.cache_sets.specs.Cache.{letter_of}
+use Rattle.residency.specs.Cache.{letter_of}
 use Rattle.cache_sets.specs.Cached.{Cached, bytes_of}
-use Rattle.cache_sets.specs.Residency.{Way}
-use Rattle.coherence.specs.Caches.{cache_at}
+use Rattle.cache_sets.specs.Slotted.{lent}
+use Rattle.residency.specs.Residency.{Way}
+use Rattle.coherence.specs.Beginning.{line_of}
+use Rattle.coherence.specs.Lent.{slotted_at}
 use Rattle.el_base.specs.Line.{line_number}
 use Rattle.el_base.specs.declared.line.TheConstants.{LINE_BYTES}
 use Rattle.el_model.specs.Conflicts.{is_wanted_to_write}
 use Rattle.el_model.specs.Plain.{PlainRule, reserve_rule}
 use Rattle.el_model.specs.State.{ModelState, cache_of}
 use Rattle.el_model.specs.Upcoming.{Touch, next_touch}
+use Rattle.line_pool.specs.Pooled.{Pooled}
 use Rattle.moesi.specs.Letters.{may_of, may_read}
 use Rattle.rv_alu.specs.Loaded.{loaded}
 use Rattle.rv_flat.specs.FlatState.{FlatState}
 use Rattle.rv_flat.specs.Memory.{byte_in}
-use Rattle.snoop.specs.Shows.{Kept, Shows}
-use Rattle.step_rules.proofs.Begins.{readable_there, touching_same, word_told}
+use Rattle.snoop.specs.Shows.{Kept, Shows, Tells}
+use Rattle.step_rules.proofs.Laws.Begins.{readable_there, touching_same, word_told}
 use Rattle.step_rules.specs.Rules.{FindsOld, IfArms, IsOnLine, NeverArms, TellsOld, arming_rule, definition_plain, touching_rule}
 use Rattle.step_rules.specs.declared.plain.PlainRule as plain_rules
 use Rattle.step_rules.specs.declared.plain.PlainRule.TheVariants.{Arms, Begins, Misses, Runs}
@@ -59,26 +62,26 @@ arms_at cache wanted word touch found is = by (may_read (letter_of cache (line_n
     by false open_line may arms = never_touching cache touch found arms
 
 -- the value that its cache has there is the committed one
-pub tells : (bus : Kept) (state : ModelState) (h word : ℕ) (wanted : Bool) (touch : Option Touch) (rule : plain_rules.PlainRule) → Shows bus state →
-    IsOnLine state.committed → state.committed.base ≤ word → word % 4 ≡ 0 →
-    definition_plain rule ≡ arming_rule (cache_at bus.copies.caches h).residency wanted word touch →
-    FindsOld rule (cache_at bus.copies.caches h) → TellsOld rule state.committed
-tells bus state h word wanted touch (Runs ran) shows on_line from aligned is found = tt
-tells bus state h word wanted touch (Misses line need) shows on_line from aligned is found = tt
-tells bus state h word wanted touch (Begins swap) shows on_line from aligned is found = tt
-tells bus state h word wanted touch (Arms at old) shows on_line from aligned is found =
-    let cache = (cache_at bus.copies.caches h).residency in
+pub tells : (pool : Pooled) (bus : Kept) (state : ModelState) (h word : ℕ) (wanted : Bool) (touch : Option Touch) (rule : plain_rules.PlainRule) →
+    Tells pool bus (line_of state.committed) → IsOnLine state.committed → state.committed.base ≤ word → word % 4 ≡ 0 →
+    definition_plain rule ≡ arming_rule (slotted_at bus.copies.caches h).residency wanted word touch →
+    FindsOld rule (lent pool (slotted_at bus.copies.caches h)) → TellsOld rule state.committed
+tells pool bus state h word wanted touch (Runs ran) told on_line from aligned is found = tt
+tells pool bus state h word wanted touch (Misses line need) told on_line from aligned is found = tt
+tells pool bus state h word wanted touch (Begins swap) told on_line from aligned is found = tt
+tells pool bus state h word wanted touch (Arms at old) told on_line from aligned is found =
+    let cache = (slotted_at bus.copies.caches h).residency in
     let arms = arms_at cache wanted word touch at is in
     let there = readable_there cache (line_number word) arms.readable in
     found
-    ∙ ap (λ w. loaded (slice_index (bytes_of (cache_at bus.copies.caches h) (line_number w))) (w % LINE_BYTES) 4) arms.same
-    ∙ word_told bus state h word shows on_line from aligned there
+    ∙ ap (λ w. loaded (slice_index (bytes_of (lent pool (slotted_at bus.copies.caches h)) (line_number w))) (w % LINE_BYTES) 4) arms.same
+    ∙ word_told pool bus state h word told on_line from aligned there
     ∙ ap (λ w. loaded (byte_in state.committed.base state.committed.bytes) w 4) (sym arms.same)
 
 -- the rule is the definition's
 pub arms_shown : (bus : Kept) (state : ModelState) (h word : ℕ) (wanted : Bool) (touch : Option Touch) → Shows bus state →
     touch ≡ next_touch state.committed h → wanted ≡ is_wanted_to_write state h (line_number word) →
-    arming_rule (cache_at bus.copies.caches h).residency wanted word touch ≡ reserve_rule state h (Some word)
+    arming_rule (slotted_at bus.copies.caches h).residency wanted word touch ≡ reserve_rule state h (Some word)
 arms_shown bus state h word wanted touch shows touches asked =
     ap (λ cache. arming_rule cache wanted word touch) (shows.caches h)
     ∙ ap (λ waits. arming_rule (cache_of state h) waits word touch) asked

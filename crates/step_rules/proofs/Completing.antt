@@ -1,6 +1,6 @@
 -- the rule of an SC that succeeds in an armed section
 use Rattle.std.proofs.Common.{◌≡◌, ◌∙◌, ℕ, Bool, true, false, ◌&&◌, ◌==◌, not, Some, refl, ap, sym, if◌then◌else◌}
-use Rattle.bus_order.proofs.LookUps.{number_of_test}
+use Rattle.bus_order.proofs.Laws.LookUps.{number_of_test}
 use Rattle.el_base.specs.Line.{line_number}
 use Rattle.el_model.specs.Armed.{ArmedRule, exchange_rule}
 use Rattle.el_model.specs.Conflicts.{is_wanted_to_write}
@@ -9,7 +9,7 @@ use Rattle.el_model.specs.Upcoming.{changes_word}
 use Rattle.rv_alu.specs.Loaded.{loaded}
 use Rattle.rv_flat.specs.FlatState.{FlatState}
 use Rattle.rv_flat.specs.Memory.{byte_in}
-use Rattle.step_rules.proofs.Begins.{told}
+use Rattle.step_rules.proofs.Laws.Begins.{told}
 use Rattle.step_rules.specs.Actions.{swap_over}
 use Rattle.step_rules.specs.Rules.{HasOld, armed_of, completing_rule}
 use Rattle.step_rules.specs.declared.in_section.Progress.{Progress}

@@ -1,8 +1,6 @@
-pub mod Origins
-pub mod NextAction
-pub mod LittleEndian
-pub mod CommittedWords
-pub mod Begins
-pub mod Arming
-pub mod Completing
-pub mod Elides
+pub mod Laws
+mod Origins
+mod LittleEndian
+mod CommittedWords
+mod Arming
+mod Completing

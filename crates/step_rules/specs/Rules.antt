@@ -1,9 +1,9 @@
 -- the rules as the code has them, and what they rest on
 use Rattle.std.specs.Prelude.{ℕ, suc, ◌≡◌, ◌%◌, Bool, false, List, Option, None, Some, not, option_map, ◌==◌, ◌&&◌, ◌||◌, if◌then◌else◌}
 use Rattle.std.specs.Prelude.{nat_lt, slice_index}
-use Rattle.cache_sets.specs.Cache.{letter_of, room_of, write_bits_of}
+use Rattle.residency.specs.Cache.{letter_of, room_of, write_bits_of}
 use Rattle.cache_sets.specs.Cached.{Cached, bytes_of}
-use Rattle.cache_sets.specs.Residency.{Way}
+use Rattle.residency.specs.Residency.{Way}
 use Rattle.el_base.specs.Line.{line_number}
 use Rattle.el_base.specs.declared.line.TheConstants.{LINE_BYTES}
 use Rattle.el_base.specs.declared.outcomes.Cause.TheVariants.{Room, Lines}

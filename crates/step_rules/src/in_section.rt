@@ -125,7 +125,7 @@ fn is_full(sets: &Sets, need: Need, lines: u8) -> bool
 }
 
 /// Whether a line has the bit that an action wants: the write bit, or for a read either.
-#[tactic(auto, using(snoop::proofs::Conflicts::read_need, snoop::proofs::Conflicts::write_need))]
+#[tactic(auto, using(snoop::proofs::Laws::Conflicts::read_need, snoop::proofs::Laws::Conflicts::write_need))]
 pub fn is_covered(sets: &Sets, touch: Touch) -> bool
     ensures { result ≡ model.is_covered sets.now.residency touch.line.number touch.need }
 {

@@ -2,12 +2,15 @@
 
 ghost use Rattle.std.specs.Prelude.{◌≡◌, ◌<◌, ◌≤◌, ◌%◌, Some, length};
 ghost use Rattle.std.specs.Option.{option_map};
+ghost use Rattle.cache_sets.specs.Slotted.{IsLent, lent};
+ghost use Rattle.coherence.specs.Beginning.{line_of as committed_line};
+ghost use Rattle.coherence.specs.Lent.{slotted_at};
 ghost use Rattle.core_step.specs.Run.{IsAligned};
 ghost use Rattle.el_model.specs.Plain as model;
 ghost use Rattle.el_model.specs.State.{ModelState};
 ghost use Rattle.el_model.specs.Upcoming.{next_swap, next_touch};
 ghost use Rattle.rv_flat.specs.Memory.{byte_in};
-ghost use Rattle.snoop.specs.Shows.{Shows, kept};
+ghost use Rattle.snoop.specs.Shows.{Shows, Tells, kept};
 ghost use Rattle.step_rules.specs.Actions.{IsNext, numbered_swap, numbered_touch, swap_over};
 ghost use Rattle.step_rules.specs.Rules.{
   FindsOld,
@@ -26,6 +29,7 @@ use crate::upcoming::{Exchange, Swap, Touch, reserve_of, swap_of, touch_of};
 use crate::words::word_in;
 use cache_sets::Sets;
 use el_base::{HartId, LineAddr, Need, line_of};
+use line_pool::Pool;
 use moesi::may;
 use rv_alu::Action;
 use snoop::Bus;
@@ -44,22 +48,31 @@ pub enum PlainRule {
 }
 
 /// The rule of a hart outside of a section, whose next action this is; `may_elide` says whether a swap at its pc may
-/// be elided, and whether its hart may arm at an LR there. (The elision of an acquire is the idea of 'Speculative Lock
-/// Elision', MICRO 2001.)
+/// be elided, and whether its hart may arm at an LR there. The pool lends the hart's cache. (The elision of an acquire
+/// is the idea of 'Speculative Lock Elision', MICRO 2001.)
 #[tactic(auto, using(crate::proofs::Arming::never_tells))]
-pub fn plain_rule(bus: &Bus, hart: HartId, action: &Action, may_elide: bool) -> PlainRule
+pub fn plain_rule(
+    pool: &Pool,
+    bus: &Bus,
+    hart: HartId,
+    action: &Action,
+    may_elide: bool,
+) -> PlainRule
     requires hart_exists { hart.number < length (kept bus.now).copies.caches }
+    requires lent { IsLent pool.now (slotted_at (kept bus.now).copies.caches hart.number) }
     requires aligned { IsAligned action.now }
-    ensures rule { (state : ModelState) → Shows (kept bus.now) state → IsOnLine state.committed →
+    ensures rule { (state : ModelState) → Shows (kept bus.now) state →
+        Tells pool.now (kept bus.now) (committed_line state.committed) → IsOnLine state.committed →
         IsNext action.now state.committed hart.number →
         MayElide state hart.number may_elide →
         definition_plain result ≡ model.plain_rule state hart.number }
-    ensures old { (state : ModelState) → Shows (kept bus.now) state → IsOnLine state.committed →
+    ensures old { (state : ModelState) → Shows (kept bus.now) state →
+        Tells pool.now (kept bus.now) (committed_line state.committed) → IsOnLine state.committed →
         IsNext action.now state.committed hart.number → TellsOld result state.committed }
 {
     let touch = touch_of(action);
     if may_elide {
-        acquire_rule(bus, hart, action, touch)
+        acquire_rule(pool, bus, hart, action, touch)
     } else {
         touch_rule(bus.sets(hart), touch)
     }
@@ -67,33 +80,50 @@ pub fn plain_rule(bus: &Bus, hart: HartId, action: &Action, may_elide: bool) -> 
 
 /// The same where an acquire that comes next may be elided.
 #[tactic(auto, using(crate::proofs::Arming::never_tells))]
-fn acquire_rule(bus: &Bus, hart: HartId, action: &Action, touch: Option<Touch>) -> PlainRule
+fn acquire_rule(
+    pool: &Pool,
+    bus: &Bus,
+    hart: HartId,
+    action: &Action,
+    touch: Option<Touch>,
+) -> PlainRule
     requires hart_exists { hart.number < length (kept bus.now).copies.caches }
+    requires lent { IsLent pool.now (slotted_at (kept bus.now).copies.caches hart.number) }
     requires aligned { IsAligned action.now }
-    ensures rule { (state : ModelState) → Shows (kept bus.now) state → IsOnLine state.committed →
+    ensures rule { (state : ModelState) → Shows (kept bus.now) state →
+        Tells pool.now (kept bus.now) (committed_line state.committed) → IsOnLine state.committed →
         IsNext action.now state.committed hart.number →
         option_map numbered_touch touch ≡ next_touch state.committed hart.number →
         definition_plain result ≡ acquiring_rule state hart.number (next_swap state.committed hart.number) }
-    ensures old { (state : ModelState) → Shows (kept bus.now) state → IsOnLine state.committed →
+    ensures old { (state : ModelState) → Shows (kept bus.now) state →
+        Tells pool.now (kept bus.now) (committed_line state.committed) → IsOnLine state.committed →
         IsNext action.now state.committed hart.number → TellsOld result state.committed }
 {
     if let Some(exchange) = swap_of(action) {
-        return swap_rule(bus, hart, exchange, touch);
+        return swap_rule(pool, bus, hart, exchange, touch);
     }
     match reserve_of(action) {
-        Some(word) => reserve_rule(bus, hart, word, touch),
+        Some(word) => reserve_rule(pool, bus, hart, word, touch),
         None => touch_rule(bus.sets(hart), touch),
     }
 }
 
 /// The rule where the action is a swap that may be elided: it needs its line for reading; one that changes its word
 /// begins a section, unless another hart waits to write there.
-#[tactic(auto, using(crate::proofs::Begins::readable_there))]
-fn swap_rule(bus: &Bus, hart: HartId, exchange: Exchange, touch: Option<Touch>) -> PlainRule
+#[tactic(auto, using(crate::proofs::Laws::Begins::readable_there))]
+fn swap_rule(
+    pool: &Pool,
+    bus: &Bus,
+    hart: HartId,
+    exchange: Exchange,
+    touch: Option<Touch>,
+) -> PlainRule
     requires hart_exists { hart.number < length (kept bus.now).copies.caches }
+    requires lent { IsLent pool.now (slotted_at (kept bus.now).copies.caches hart.number) }
     requires aligned { exchange.word % 4 ≡ 0 }
     ensures never_arms { NeverArms result }
-    ensures rule { (state : ModelState) → Shows (kept bus.now) state → IsOnLine state.committed →
+    ensures rule { (state : ModelState) → Shows (kept bus.now) state →
+        Tells pool.now (kept bus.now) (committed_line state.committed) → IsOnLine state.committed →
         state.committed.base ≤ exchange.word →
         option_map numbered_touch touch ≡ next_touch state.committed hart.number →
         definition_plain result ≡ model.swap_rule state hart.number
@@ -109,7 +139,7 @@ fn swap_rule(bus: &Bus, hart: HartId, exchange: Exchange, touch: Option<Touch>) 
     }
     let swap = Swap {
         word: exchange.word,
-        old: word_in(sets.bytes(line), exchange.word),
+        old: word_in(sets.bytes(pool, line), exchange.word),
         new: exchange.new,
     };
     begin_rule(sets, bus.is_wanted(hart, line, Need::Read), swap, touch)
@@ -134,27 +164,36 @@ pub(crate) fn begin_rule(sets: &Sets, wanted: bool, swap: Swap, touch: Option<To
 }
 
 /// The rule where the action is an LR at which its hart may arm.
-fn reserve_rule(bus: &Bus, hart: HartId, word: u32, touch: Option<Touch>) -> PlainRule
+fn reserve_rule(pool: &Pool, bus: &Bus, hart: HartId, word: u32, touch: Option<Touch>) -> PlainRule
     requires hart_exists { hart.number < length (kept bus.now).copies.caches }
+    requires lent { IsLent pool.now (slotted_at (kept bus.now).copies.caches hart.number) }
     requires aligned { word % 4 ≡ 0 }
     ensures rule { (state : ModelState) → Shows (kept bus.now) state →
         option_map numbered_touch touch ≡ next_touch state.committed hart.number →
         definition_plain result ≡ model.reserve_rule state hart.number (Some word) }
-    ensures old { (state : ModelState) → Shows (kept bus.now) state → IsOnLine state.committed →
+    ensures old { (state : ModelState) → Shows (kept bus.now) state →
+        Tells pool.now (kept bus.now) (committed_line state.committed) → IsOnLine state.committed →
         state.committed.base ≤ word → TellsOld result state.committed }
 {
     let wanted = bus.is_wanted(hart, line_of(word), Need::Read);
-    arm_rule(bus.sets(hart), wanted, word, touch)
+    arm_rule(pool, bus.sets(hart), wanted, word, touch)
 }
 
 /// The same by whether another hart waits to write on the word's line: the hart arms where none does and it may read
 /// the line; else the LR runs as any instruction.
-#[tactic(auto, using(crate::proofs::Begins::readable_there, crate::proofs::Arming::never_finds))]
-pub(crate) fn arm_rule(sets: &Sets, wanted: bool, word: u32, touch: Option<Touch>) -> PlainRule
+#[tactic(auto, using(crate::proofs::Laws::Begins::readable_there, crate::proofs::Arming::never_finds))]
+pub(crate) fn arm_rule(
+    pool: &Pool,
+    sets: &Sets,
+    wanted: bool,
+    word: u32,
+    touch: Option<Touch>,
+) -> PlainRule
+    requires lent { IsLent pool.now sets.now }
     requires aligned { word % 4 ≡ 0 }
     ensures rule { definition_plain result
         ≡ arming_rule sets.now.residency wanted word (option_map numbered_touch touch) }
-    ensures old { FindsOld result sets.now }
+    ensures old { FindsOld result (lent pool.now sets.now) }
 {
     let line = line_of(word);
     if wanted || !may(sets.letter(line), Need::Read) {
@@ -162,7 +201,7 @@ pub(crate) fn arm_rule(sets: &Sets, wanted: bool, word: u32, touch: Option<Touch
     }
     PlainRule::Arms {
         word,
-        old: word_in(sets.bytes(line), word),
+        old: word_in(sets.bytes(pool, line), word),
     }
 }
 

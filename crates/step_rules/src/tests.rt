@@ -1,7 +1,10 @@
 //! What each instruction is to the rules, and each row of the three tables of rules once. Expected values are those of
 //! the tables, worked by hand. The harts' caches have one set of two ways.
 
-ghost use Rattle.std.specs.Prelude.{◌<◌, IfOk, length};
+ghost use Rattle.std.specs.Prelude.{◌≡◌, ◌<◌, length};
+ghost use Rattle.cache_sets.specs.Slotted.{IsLent};
+ghost use Rattle.coherence.specs.Lent.{slotted_at};
+ghost use Rattle.line_pool.specs.Pooled.{Pooled};
 ghost use Rattle.snoop.specs.Shows.{kept};
 
 mod actions;
@@ -10,6 +13,7 @@ mod rules;
 use cache_sets::Sets;
 use el_base::{Config, HartId, Mode, Need, line_of};
 use elf_image::load;
+use line_pool::Pool;
 use moesi::Letter;
 use rv_alu::Action;
 use rv_word::{AmoOp, LoadWidth, Reg};
@@ -88,7 +92,9 @@ struct Line {
 }
 
 /// Two harts that may write one line in a section.
-fn config() -> Config {
+fn config() -> Config
+    ensures { (result.harts ≡ 2) × (result.sets ≡ 1) × (result.ways ≡ 2) }
+{
     Config {
         harts: 2,
         mode: Mode::Sle,
@@ -100,10 +106,24 @@ fn config() -> Config {
     }
 }
 
-/// The bus of two harts, of which the first has these lines in its cache.
-fn bus(alloc: Global, lines: &[Line]) -> Result<Bus, Fail>
-    ensures { IfOk result (λ bus. 0 < length (kept bus).copies.caches) }
-{
+/// The bus of two harts, and the pool that lends the first one's cache.
+#[derive(Drop)]
+struct Harts {
+    pool: Pool,
+    bus: Bus,
+    ghost there: { 0 < length (kept bus).copies.caches },
+    ghost lent: { IsLent pool (slotted_at (kept bus).copies.caches 0) },
+}
+
+/// Two harts, of which the first has these lines in its cache.
+fn two_harts(alloc: Global, lines: &[Line]) -> Result<Harts, Fail> {
+    let Harts { mut pool, mut bus } = empty_harts(alloc)?;
+    fill(&mut pool, bus.sets_mut(HART), lines)?;
+    Ok(Harts { pool, bus })
+}
+
+/// Two harts without lines.
+fn empty_harts(alloc: Global) -> Result<Harts, Fail> {
     let config = config();
     if config.check().is_err() {
         return Err("no such bus".into());
@@ -112,47 +132,64 @@ fn bus(alloc: Global, lines: &[Line]) -> Result<Bus, Fail>
     if image.harts() != config.harts {
         return Err("an image for other harts".into());
     }
-    let mut bus = Bus::make(alloc, &image, &config)?;
+    let bus = Bus::make(alloc, &image, &config)?;
     if bus.harts() != 2 {
         return Err("harts that are not there".into());
     }
-    fill(bus.sets_mut(HART), lines)?;
-    Ok(bus)
+    let pool = Pool::make(alloc, &[2, 2])?;
+    Ok(Harts { pool, bus })
+}
+
+/// A cache, and the pool that lends it.
+#[derive(Drop)]
+struct Cache {
+    pool: Pool,
+    sets: Sets,
+    ghost lent: { IsLent pool sets },
 }
 
 /// A cache that has these lines.
-fn cache(alloc: Global, lines: &[Line]) -> Result<Sets, Fail> {
+fn cache_of(alloc: Global, lines: &[Line]) -> Result<Cache, Fail> {
     let config = config();
     if config.check().is_err() {
         return Err("no such cache".into());
     }
-    let mut sets = Sets::make(alloc, &config)?;
-    fill(&mut sets, lines)?;
-    Ok(sets)
+    let mut sets = Sets::make(alloc, &config, 0)?;
+    let mut pool = Pool::make(alloc, &[2])?;
+    fill(&mut pool, &mut sets, lines)?;
+    Ok(Cache { pool, sets })
 }
 
 /// Puts lines into a cache.
-fn fill(sets: &mut Sets, lines: &[Line]) -> Result<(), Fail> {
+fn fill(pool: &mut Pool, sets: &mut Sets, lines: &[Line]) -> Result<(), Fail>
+    requires { IsLent pool.old sets.old }
+    ensures { IsLent pool.new sets.new }
+{
     for line in lines {
-        put(sets, line)?;
+        put(pool, sets, line)?;
     }
     Ok(())
 }
 
 /// Puts one line into a cache that has it not.
-fn put(sets: &mut Sets, line: &Line) -> Result<(), Fail> {
+fn put(pool: &mut Pool, sets: &mut Sets, line: &Line) -> Result<(), Fail>
+    requires { IsLent pool.old sets.old }
+    ensures { IsLent pool.new sets.new }
+{
     let place = line_of(line.address);
     if line.letter == Letter::I || sets.has(place) || !sets.room(place) {
         return Err("a line that cannot come".into());
     }
     let mut bytes = [0; 64];
     bytes[0] = 5;
-    sets.fill(place, line.letter, &bytes);
+    sets.fill(pool, place, line.letter, &bytes);
     mark(sets, line)
 }
 
 /// The hart's section has done to a line what it says.
-fn mark(sets: &mut Sets, line: &Line) -> Result<(), Fail> {
+fn mark(sets: &mut Sets, line: &Line) -> Result<(), Fail>
+    ensures { (pool : Pooled) → IsLent pool sets.old → IsLent pool sets.new }
+{
     let place = line_of(line.address);
     if !sets.has(place) {
         return Err("a line that is not there".into());

@@ -52,7 +52,7 @@ impl Swap {
 }
 
 /// The line that an action touches, if it touches one.
-#[tactic(auto, using(crate::proofs::NextAction::next_touch))]
+#[tactic(auto, using(crate::proofs::Laws::NextAction::next_touch))]
 pub fn touch_of(action: &Action) -> Option<Touch>
     ensures { (flat : FlatState) (h : ℕ) → IsNext action.now flat h →
         option_map numbered_touch result ≡ model.next_touch flat h }
@@ -72,7 +72,7 @@ pub fn touch_of(action: &Action) -> Option<Touch>
 
 /// The swap that an action is, if it is one. A swap that traps is none. (AMOSWAP.W, RISC-V unprivileged manual, the
 /// chapter 'A Standard Extension for Atomic Instructions'.)
-#[tactic(auto, using(crate::proofs::NextAction::next_swap))]
+#[tactic(auto, using(crate::proofs::Laws::NextAction::next_swap))]
 pub fn swap_of(action: &Action) -> Option<Exchange>
     ensures next { (flat : FlatState) (h : ℕ) → IsNext action.now flat h →
         option_map (swap_over (byte_in flat.base flat.bytes)) result ≡ model.next_swap flat h }
@@ -83,7 +83,7 @@ pub fn swap_of(action: &Action) -> Option<Exchange>
 
 /// The exchange that an action is where it is a store conditional that succeeds. One that fails or traps is none.
 /// (SC.W, in the same chapter.)
-#[tactic(auto, using(crate::proofs::NextAction::next_conditional))]
+#[tactic(auto, using(crate::proofs::Laws::NextAction::next_conditional))]
 pub fn conditional_of(action: &Action) -> Option<Exchange>
     ensures next { (flat : FlatState) (h : ℕ) → IsNext action.now flat h →
         option_map (swap_over (byte_in flat.base flat.bytes)) result ≡ model.next_conditional flat h }
@@ -93,7 +93,7 @@ pub fn conditional_of(action: &Action) -> Option<Exchange>
 }
 
 /// The exchange that an action is, if it is one: a swap, or a store conditional that succeeds.
-#[tactic(auto, using(crate::proofs::NextAction::next_exchange))]
+#[tactic(auto, using(crate::proofs::Laws::NextAction::next_exchange))]
 pub fn exchange_of(action: &Action) -> Option<Exchange>
     ensures next { (flat : FlatState) (h : ℕ) → IsNext action.now flat h →
         option_map (swap_over (byte_in flat.base flat.bytes)) result ≡ model.next_exchange flat h }
@@ -112,7 +112,7 @@ pub fn is_conditional(action: &Action) -> bool
 
 /// The word that an action reserves, if it is a load reserved. One that traps reserves none. (LR.W, in the same
 /// chapter.)
-#[tactic(auto, using(crate::proofs::NextAction::next_reserved, crate::proofs::NextAction::reserves_going))]
+#[tactic(auto, using(crate::proofs::Laws::NextAction::next_reserved, crate::proofs::Laws::NextAction::reserves_going))]
 pub fn reserve_of(action: &Action) -> Option<u32>
     ensures next { (flat : FlatState) (h : ℕ) → IsNext action.now flat h → result ≡ model.next_reserved flat h }
     ensures going { (flat : FlatState) (h : ℕ) → IsNext action.now flat h → model.calls_or_stops flat h ≡ false →
@@ -123,7 +123,7 @@ pub fn reserve_of(action: &Action) -> Option<u32>
 }
 
 /// Whether an action touches no memory, is no store conditional and neither calls nor stops its hart.
-#[tactic(auto, using(crate::proofs::NextAction::next_quiet))]
+#[tactic(auto, using(crate::proofs::Laws::NextAction::next_quiet))]
 pub fn is_quiet(action: &Action) -> bool
     ensures { (flat : FlatState) (h : ℕ) → IsNext action.now flat h → result ≡ armed.is_quiet flat h }
 {
@@ -131,7 +131,7 @@ pub fn is_quiet(action: &Action) -> bool
 }
 
 /// Whether an action gives a word its old value back: a store of a word, or a swap. A store conditional does not.
-#[tactic(auto, using(crate::proofs::NextAction::next_release))]
+#[tactic(auto, using(crate::proofs::Laws::NextAction::next_release))]
 pub fn is_release(action: &Action, word: u32, old: u32) -> bool
     ensures { (flat : FlatState) (h : ℕ) → IsNext action.now flat h → result ≡ model.is_release flat h word old }
 {
@@ -139,7 +139,7 @@ pub fn is_release(action: &Action, word: u32, old: u32) -> bool
 }
 
 /// Whether an action stores to a byte of the word at an address.
-#[tactic(auto, using(crate::proofs::NextAction::next_store_to_word))]
+#[tactic(auto, using(crate::proofs::Laws::NextAction::next_store_to_word))]
 pub fn stores_to_word(action: &Action, word: u32) -> bool
     ensures { (flat : FlatState) (h : ℕ) → IsNext action.now flat h → result ≡ model.stores_to_word flat h word }
 {
@@ -147,7 +147,7 @@ pub fn stores_to_word(action: &Action, word: u32) -> bool
 }
 
 /// Whether an action is a system call, or stops its hart: it traps or exits.
-#[tactic(auto, using(crate::proofs::NextAction::next_call_or_stop))]
+#[tactic(auto, using(crate::proofs::Laws::NextAction::next_call_or_stop))]
 pub fn calls_or_stops(action: &Action) -> bool
     ensures { (flat : FlatState) (h : ℕ) → IsNext action.now flat h → result ≡ model.calls_or_stops flat h }
 {

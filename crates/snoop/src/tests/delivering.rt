@@ -2,7 +2,7 @@
 //! next line, and harts 2, 3 and 0 wait to write it, in this order; hart 0 is the earliest.
 
 ghost use Rattle.std.specs.Prelude.{IfOk};
-ghost use Rattle.snoop.specs.Shows.{IsReady, kept};
+ghost use Rattle.snoop.specs.Shows.{IsTold, kept};
 
 use super::events::*;
 use super::*;
@@ -15,12 +15,12 @@ fn probe(origin: u8) -> Result<Message, Fail> {
 }
 
 /// A hart waits for the line behind the others.
-fn wait(bus: &mut Bus, hart: HartId, line: LineAddr) -> Result<(), Fail>
-    requires { IsReady (kept bus.old) }
-    ensures { IsReady (kept bus.new) }
+fn wait(rig: &mut Rig, hart: HartId, line: LineAddr) -> Result<(), Fail>
+    requires { IsTold rig.old.pool (kept rig.old.bus) }
+    ensures { IsTold rig.new.pool (kept rig.new.bus) }
 {
-    let asked = ask_for(bus, hart, line, Need::Write);
-    let outcome = order(bus, hart);
+    let asked = ask_for(rig, hart, line, Need::Write);
+    let outcome = order(rig, hart);
     if !asked || outcome != ordered(&[])? {
         return Err("the request is not in order".into());
     }
@@ -28,26 +28,26 @@ fn wait(bus: &mut Bus, hart: HartId, line: LineAddr) -> Result<(), Fail>
 }
 
 /// The chain, as the requests are in order and no message was delivered.
-fn chain(alloc: Global) -> Result<Bus, Fail>
-    ensures { IfOk result (λ bus. IsReady (kept bus)) }
+fn chain(alloc: Global) -> Result<Rig, Fail>
+    ensures { IfOk result (λ rig. IsTold rig.pool (kept rig.bus)) }
 {
-    let mut bus = made(alloc, Mode::Tlr, &[0, 1, 2, 3], false)?;
-    if get(&mut bus, hart(1)?, next_line(), Need::Write) != served(&[])? {
+    let mut rig = made(alloc, Mode::Tlr, &[0, 1, 2, 3], false)?;
+    if get(&mut rig, hart(1)?, next_line(), Need::Write) != served(&[])? {
         return Err("the section did not get its line".into());
     }
-    wait(&mut bus, hart(2)?, next_line())?;
-    wait(&mut bus, hart(3)?, next_line())?;
-    wait(&mut bus, hart(0)?, next_line())?;
-    Ok(bus)
+    wait(&mut rig, hart(2)?, next_line())?;
+    wait(&mut rig, hart(3)?, next_line())?;
+    wait(&mut rig, hart(0)?, next_line())?;
+    Ok(rig)
 }
 
 /// These harts take one message each, in this order, of which none has a loser.
-fn take(bus: &mut Bus, harts: &[u8]) -> Result<(), Fail>
-    requires { IsReady (kept bus.old) }
-    ensures { IsReady (kept bus.new) }
+fn take(rig: &mut Rig, harts: &[u8]) -> Result<(), Fail>
+    requires { IsTold rig.old.pool (kept rig.old.bus) }
+    ensures { IsTold rig.new.pool (kept rig.new.bus) }
 {
     for number in harts {
-        if deliver(bus, hart(*number)?) != delivered(&[])? {
+        if deliver(rig, hart(*number)?) != delivered(&[])? {
             return Err("a message with a loser, or none".into());
         }
     }
@@ -55,45 +55,45 @@ fn take(bus: &mut Bus, harts: &[u8]) -> Result<(), Fail>
 }
 
 /// The chain after these harts took one message each, in this order.
-fn chain_after(alloc: Global, harts: &[u8]) -> Result<Bus, Fail>
-    ensures { IfOk result (λ bus. IsReady (kept bus)) }
+fn chain_after(alloc: Global, harts: &[u8]) -> Result<Rig, Fail>
+    ensures { IfOk result (λ rig. IsTold rig.pool (kept rig.bus)) }
 {
-    let mut bus = chain(alloc)?;
-    take(&mut bus, harts)?;
-    Ok(bus)
+    let mut rig = chain(alloc)?;
+    take(&mut rig, harts)?;
+    Ok(rig)
 }
 
 /// The chain as the probe of hart 0 alone was not taken by hart 1. The probes of harts 2 and 3 came first, and cost
 /// hart 1 nothing.
-fn chain_before_the_last_probe(alloc: Global) -> Result<Bus, Fail>
-    ensures { IfOk result (λ bus. IsReady (kept bus)) }
+fn chain_before_the_last_probe(alloc: Global) -> Result<Rig, Fail>
+    ensures { IfOk result (λ rig. IsTold rig.pool (kept rig.bus)) }
 {
     chain_after(alloc, &[0, 3, 3, 2, 2, 2, 1, 1])
 }
 
 /// The same, and then hart 1 commits.
-fn chain_after_the_commit(alloc: Global) -> Result<Bus, Fail>
-    ensures { IfOk result (λ bus. IsReady (kept bus)) }
+fn chain_after_the_commit(alloc: Global) -> Result<Rig, Fail>
+    ensures { IfOk result (λ rig. IsTold rig.pool (kept rig.bus)) }
 {
-    let mut bus = chain_before_the_last_probe(alloc)?;
-    end_section(&mut bus, hart(1)?);
-    Ok(bus)
+    let mut rig = chain_before_the_last_probe(alloc)?;
+    end_section(&mut rig, hart(1)?);
+    Ok(rig)
 }
 
 /// The four oldest messages of a hart.
-fn mail_of(bus: &mut Bus, of: HartId) -> [Option<Message>; 4] {
+fn mail_of(rig: &mut Rig, of: HartId) -> [Option<Message>; 4] {
     [
-        message(bus, of),
-        message(bus, of),
-        message(bus, of),
-        message(bus, of),
+        message(rig, of),
+        message(rig, of),
+        message(rig, of),
+        message(rig, of),
     ]
 }
 
 /// What lies in the mailbox of a hart of the chain after these harts took one message each.
 fn mail_after(alloc: Global, harts: &[u8], of: u8) -> Result<[Option<Message>; 4], Fail> {
-    let mut bus = chain_after(alloc, harts)?;
-    Ok(mail_of(&mut bus, hart(of)?))
+    let mut rig = chain_after(alloc, harts)?;
+    Ok(mail_of(&mut rig, hart(of)?))
 }
 
 #[test]
@@ -129,67 +129,67 @@ fn probes_go_up_the_chain(rt: HostRuntime) -> Result<(), Fail> {
 #[test]
 fn a_chain_of_four_loses_to_its_earliest(rt: HostRuntime) -> Result<(), Fail> {
     let (one, two) = (hart(1)?, hart(2)?);
-    let mut bus = chain_before_the_last_probe(rt.alloc())?;
-    assert!(rt; is_marked(&bus, one));
+    let mut rig = chain_before_the_last_probe(rt.alloc())?;
+    assert!(rt; is_marked(&rig, one));
     assert_eq!(rt;
-        serve(&mut bus, two),
+        serve(&mut rig, two),
         Some(Outcome::Blocked {
             why: Why::Retained,
             by: one
         })
     );
-    assert_eq!(rt; deliver(&mut bus, one), delivered(&[(1, 0)])?);
-    assert!(rt; !is_marked(&bus, one));
-    assert_eq!(rt; deliver(&mut bus, one), Some(Outcome::Idle));
+    assert_eq!(rt; deliver(&mut rig, one), delivered(&[(1, 0)])?);
+    assert!(rt; !is_marked(&rig, one));
+    assert_eq!(rt; deliver(&mut rig, one), Some(Outcome::Idle));
     // each of the next two was told of hart 0, and loses as the next head is faced
-    assert_eq!(rt; serve(&mut bus, two), served(&[(2, 0)])?);
-    assert_eq!(rt; serve(&mut bus, hart(3)?), served(&[(3, 0)])?);
-    assert_eq!(rt; serve(&mut bus, hart(0)?), served(&[])?);
-    assert!(rt; is_marked(&bus, hart(0)?));
+    assert_eq!(rt; serve(&mut rig, two), served(&[(2, 0)])?);
+    assert_eq!(rt; serve(&mut rig, hart(3)?), served(&[(3, 0)])?);
+    assert_eq!(rt; serve(&mut rig, hart(0)?), served(&[])?);
+    assert!(rt; is_marked(&rig, hart(0)?));
     Ok(())
 }
 
 #[test]
 fn a_probe_that_comes_after_the_commit_costs_nobody(rt: HostRuntime) -> Result<(), Fail> {
-    let mut bus = chain_after_the_commit(rt.alloc())?;
-    assert_eq!(rt; deliver(&mut bus, hart(1)?), delivered(&[])?);
-    assert_eq!(rt; serve(&mut bus, hart(2)?), served(&[(2, 0)])?);
+    let mut rig = chain_after_the_commit(rt.alloc())?;
+    assert_eq!(rt; deliver(&mut rig, hart(1)?), delivered(&[])?);
+    assert_eq!(rt; serve(&mut rig, hart(2)?), served(&[(2, 0)])?);
     Ok(())
 }
 
 #[test]
 fn a_probe_goes_as_its_origin_is_served(rt: HostRuntime) -> Result<(), Fail> {
-    let mut bus = chain_after_the_commit(rt.alloc())?;
-    assert_eq!(rt; serve(&mut bus, hart(2)?), served(&[(2, 0)])?);
-    assert_eq!(rt; serve(&mut bus, hart(3)?), served(&[(3, 0)])?);
-    assert_eq!(rt; serve(&mut bus, hart(0)?), served(&[])?);
-    assert_eq!(rt; deliver(&mut bus, hart(1)?), Some(Outcome::Idle));
+    let mut rig = chain_after_the_commit(rt.alloc())?;
+    assert_eq!(rt; serve(&mut rig, hart(2)?), served(&[(2, 0)])?);
+    assert_eq!(rt; serve(&mut rig, hart(3)?), served(&[(3, 0)])?);
+    assert_eq!(rt; serve(&mut rig, hart(0)?), served(&[])?);
+    assert_eq!(rt; deliver(&mut rig, hart(1)?), Some(Outcome::Idle));
     Ok(())
 }
 
 #[test]
 fn a_late_probe_costs_the_next_hart_its_section(rt: HostRuntime) -> Result<(), Fail> {
     let two = hart(2)?;
-    let mut bus = chain_after(rt.alloc(), &[0, 3, 3])?;
-    end_section(&mut bus, hart(1)?);
+    let mut rig = chain_after(rt.alloc(), &[0, 3, 3])?;
+    end_section(&mut rig, hart(1)?);
     // hart 2 was told of nobody yet, and defers hart 3
-    assert_eq!(rt; serve(&mut bus, two), served(&[])?);
-    assert_eq!(rt; deliver(&mut bus, two), delivered(&[])?);
-    assert_eq!(rt; deliver(&mut bus, two), delivered(&[(2, 0)])?);
-    assert_eq!(rt; serve(&mut bus, hart(3)?), served(&[(3, 0)])?);
+    assert_eq!(rt; serve(&mut rig, two), served(&[])?);
+    assert_eq!(rt; deliver(&mut rig, two), delivered(&[])?);
+    assert_eq!(rt; deliver(&mut rig, two), delivered(&[(2, 0)])?);
+    assert_eq!(rt; serve(&mut rig, hart(3)?), served(&[(3, 0)])?);
     Ok(())
 }
 
 /// What lies in the mailbox of a hart as hart 1, which was told of hart 0, waits for the line behind these and
 /// has taken its marker.
 fn answer(alloc: Global, before: &[u8], of: u8) -> Result<[Option<Message>; 4], Fail> {
-    let mut bus = made(alloc, Mode::Tlr, &[], true)?;
+    let mut rig = made(alloc, Mode::Tlr, &[], true)?;
     for number in before {
-        wait(&mut bus, hart(*number)?, line())?;
+        wait(&mut rig, hart(*number)?, line())?;
     }
-    wait(&mut bus, hart(1)?, line())?;
-    take(&mut bus, &[1])?;
-    Ok(mail_of(&mut bus, hart(of)?))
+    wait(&mut rig, hart(1)?, line())?;
+    take(&mut rig, &[1])?;
+    Ok(mail_of(&mut rig, hart(of)?))
 }
 
 #[test]

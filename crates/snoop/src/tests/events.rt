@@ -2,7 +2,7 @@
 
 ghost use Rattle.std.specs.Prelude.{◌≡◌, None};
 ghost use Rattle.snoop.specs.Agent.{agent_at, with_agent};
-ghost use Rattle.snoop.specs.Shows.{IsReady, kept};
+ghost use Rattle.snoop.specs.Shows.{IsTold, kept};
 
 use super::*;
 use cache_sets::Letter;
@@ -74,69 +74,69 @@ pub(super) fn delivered(pairs: &[(u8, u8)]) -> Result<Option<Outcome>, Fail> {
 }
 
 /// A hart asks for a line, where it may.
-pub(super) fn ask_for(bus: &mut Bus, hart: HartId, line: LineAddr, need: Need) -> bool
-    requires { IsReady (kept bus.old) }
-    ensures { IsReady (kept bus.new) }
+pub(super) fn ask_for(rig: &mut Rig, hart: HartId, line: LineAddr, need: Need) -> bool
+    requires { IsTold rig.old.pool (kept rig.old.bus) }
+    ensures { IsTold rig.new.pool (kept rig.new.bus) }
 {
-    if usize::from(hart.number) >= bus.agents.len() || bus.order.of(hart).is_some() {
+    if usize::from(hart.number) >= rig.bus.agents.len() || rig.bus.order.of(hart).is_some() {
         return false;
     }
-    if !bus.hierarchy.has_in_memory(line) || !has_room(bus, hart, line) {
+    if !rig.bus.hierarchy.has_in_memory(line) || !has_room(rig, hart, line) {
         return false;
     }
-    let stamp = bus.agent(hart).attempt();
+    let stamp = rig.bus.agent(hart).attempt();
     let request = Request {
         hart,
         line,
         need,
         stamp,
     };
-    raise(&mut bus.agents, request);
+    raise(&mut rig.bus.agents, request);
     true
 }
 
 /// What Serve says, under the policy of the mode.
-pub(super) fn serve(bus: &mut Bus, hart: HartId) -> Option<Outcome>
-    requires { IsReady (kept bus.old) }
-    ensures { IsReady (kept bus.new) }
+pub(super) fn serve(rig: &mut Rig, hart: HartId) -> Option<Outcome>
+    requires { IsTold rig.old.pool (kept rig.old.bus) }
+    ensures { IsTold rig.new.pool (kept rig.new.bus) }
 {
-    if usize::from(hart.number) >= bus.agents.len() {
+    if usize::from(hart.number) >= rig.bus.agents.len() {
         return None;
     }
-    match bus.mode {
-        Mode::Plain => Some(bus.serve(hart, &SlePolicy)),
-        Mode::Sle => Some(bus.serve(hart, &SlePolicy)),
-        Mode::Tlr => Some(bus.serve(hart, &TlrPolicy)),
+    match rig.bus.mode {
+        Mode::Plain => Some(rig.bus.serve(&mut rig.pool, hart, &SlePolicy)),
+        Mode::Sle => Some(rig.bus.serve(&mut rig.pool, hart, &SlePolicy)),
+        Mode::Tlr => Some(rig.bus.serve(&mut rig.pool, hart, &TlrPolicy)),
     }
 }
 
 /// What Deliver says.
-pub(super) fn deliver(bus: &mut Bus, hart: HartId) -> Option<Outcome>
-    requires { IsReady (kept bus.old) }
-    ensures { IsReady (kept bus.new) }
+pub(super) fn deliver(rig: &mut Rig, hart: HartId) -> Option<Outcome>
+    requires { IsTold rig.old.pool (kept rig.old.bus) }
+    ensures { IsTold rig.new.pool (kept rig.new.bus) }
 {
-    if usize::from(hart.number) >= bus.agents.len() {
+    if usize::from(hart.number) >= rig.bus.agents.len() {
         return None;
     }
-    Some(bus.deliver(hart))
+    Some(rig.bus.deliver(hart))
 }
 
 /// A hart's request for a line is raised and ordered, and what Serve says of it then.
-pub(super) fn get(bus: &mut Bus, hart: HartId, line: LineAddr, need: Need) -> Option<Outcome>
-    requires { IsReady (kept bus.old) }
-    ensures { IsReady (kept bus.new) }
+pub(super) fn get(rig: &mut Rig, hart: HartId, line: LineAddr, need: Need) -> Option<Outcome>
+    requires { IsTold rig.old.pool (kept rig.old.bus) }
+    ensures { IsTold rig.new.pool (kept rig.new.bus) }
 {
-    ask_for(bus, hart, line, need);
-    order(bus, hart);
-    serve(bus, hart)
+    ask_for(rig, hart, line, need);
+    order(rig, hart);
+    serve(rig, hart)
 }
 
 /// A hart holds no line any more.
-pub(super) fn give_up(bus: &mut Bus, hart: HartId)
-    requires { IsReady (kept bus.old) }
-    ensures { IsReady (kept bus.new) }
+pub(super) fn give_up(rig: &mut Rig, hart: HartId)
+    requires { IsTold rig.old.pool (kept rig.old.bus) }
+    ensures { IsTold rig.new.pool (kept rig.new.bus) }
 {
-    hold_nothing(&mut bus.agents, hart);
+    hold_nothing(&mut rig.bus.agents, hart);
 }
 
 /// The same, of its agent.
@@ -150,31 +150,32 @@ fn hold_nothing(agents: &mut Vec<Agent>, hart: HartId)
 }
 
 /// A hart's section ends, and leaves no bit.
-pub(super) fn end_section(bus: &mut Bus, hart: HartId)
-    requires { IsReady (kept bus.old) }
-    ensures { IsReady (kept bus.new) }
+pub(super) fn end_section(rig: &mut Rig, hart: HartId)
+    requires { IsTold rig.old.pool (kept rig.old.bus) }
+    ensures { IsTold rig.new.pool (kept rig.new.bus) }
 {
-    if usize::from(hart.number) < bus.hierarchy.harts() {
-        bus.hierarchy.clear(hart);
+    if usize::from(hart.number) < rig.bus.hierarchy.harts() {
+        rig.bus.hierarchy.clear(hart);
     }
 }
 
 /// What a hart has of a line.
-pub(super) fn letter(bus: &Bus, hart: HartId, line: LineAddr) -> Letter {
-    if usize::from(hart.number) < bus.hierarchy.harts() {
-        bus.hierarchy.cache(hart).letter(line)
+pub(super) fn letter(rig: &Rig, hart: HartId, line: LineAddr) -> Letter {
+    if usize::from(hart.number) < rig.bus.hierarchy.harts() {
+        rig.bus.hierarchy.cache(hart).letter(line)
     } else {
         Letter::I
     }
 }
 
 /// The byte at an address that caches and main memory tell, and main memory's.
-pub(super) fn bytes(bus: &Bus, address: u32) -> (Option<u8>, Option<u8>)
-    requires { IsReady (kept bus.now) }
+pub(super) fn bytes(rig: &Rig, address: u32) -> (Option<u8>, Option<u8>)
+    requires { IsTold rig.now.pool (kept rig.now.bus) }
 {
-    let main = bus
+    let main = rig
+        .bus
         .hierarchy
         .has_in_memory(line_of(address))
-        .then(|| bus.hierarchy.main_byte(address));
-    (bus.hierarchy.byte(address), main)
+        .then(|| rig.bus.hierarchy.main_byte(address));
+    (rig.bus.byte(&rig.pool, address), main)
 }

@@ -4,9 +4,9 @@ use super::*;
 use crate::asked::Asked;
 
 /// What a hart has asked, or nothing where it is not there.
-fn asked(bus: &Bus, hart: HartId) -> Option<Asked> {
-    if usize::from(hart.number) < bus.harts() {
-        Some(bus.request(hart))
+fn asked(rig: &Rig, hart: HartId) -> Option<Asked> {
+    if usize::from(hart.number) < rig.bus.harts() {
+        Some(rig.bus.request(hart))
     } else {
         None
     }
@@ -19,11 +19,11 @@ fn a_first_bus_has_the_image_and_no_request(rt: HostRuntime) -> Result<(), Fail>
             harts,
             ..Config::usual()
         };
-        let bus = first_bus(rt.alloc(), &config)?;
-        assert_eq!(rt; bus.harts(), usize::from(harts));
+        let rig = first_rig(rt.alloc(), &config)?;
+        assert_eq!(rt; rig.bus.harts(), usize::from(harts));
         for number in 0..harts {
             assert_eq!(rt;
-                asked(&bus, hart(number)?),
+                asked(&rig, hart(number)?),
                 Some(Asked::Nothing),
                 "hart {number}"
             );
@@ -35,7 +35,7 @@ fn a_first_bus_has_the_image_and_no_request(rt: HostRuntime) -> Result<(), Fail>
             (0x10054, Some(0x73)),
             (0x10058, Some(0)),
         ] {
-            assert_eq!(rt; bus.byte(address), byte, "at {address:x}");
+            assert_eq!(rt; rig.bus.byte(&rig.pool, address), byte, "at {address:x}");
         }
     }
     Ok(())

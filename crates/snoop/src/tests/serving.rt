@@ -1,7 +1,7 @@
 //! Requests that are served, or that something is in the way of.
 
 ghost use Rattle.std.specs.Prelude.{IfOk};
-ghost use Rattle.snoop.specs.Shows.{IsReady, kept};
+ghost use Rattle.snoop.specs.Shows.{IsTold, kept};
 
 use super::events::*;
 use super::*;
@@ -14,25 +14,25 @@ fn blocked(why: Why, by: u8) -> Result<Option<Outcome>, Fail> {
 }
 
 /// The letters of two harts' copies of the line.
-fn letters(bus: &Bus) -> Result<(Letter, Letter), Fail> {
-    Ok((letter(bus, hart(0)?, line()), letter(bus, hart(1)?, line())))
+fn letters(rig: &Rig) -> Result<(Letter, Letter), Fail> {
+    Ok((letter(rig, hart(0)?, line()), letter(rig, hart(1)?, line())))
 }
 
 /// A hart without a section gets the line and does its step, so that it holds the line no more.
-fn get_and_step(bus: &mut Bus, hart: HartId, need: Need) -> Option<Outcome>
-    requires { IsReady (kept bus.old) }
-    ensures { IsReady (kept bus.new) }
+fn get_and_step(rig: &mut Rig, hart: HartId, need: Need) -> Option<Outcome>
+    requires { IsTold rig.old.pool (kept rig.old.bus) }
+    ensures { IsTold rig.new.pool (kept rig.new.bus) }
 {
-    let outcome = get(bus, hart, line(), need);
-    give_up(bus, hart);
+    let outcome = get(rig, hart, line(), need);
+    give_up(rig, hart);
     outcome
 }
 
 #[test]
 fn two_harts_read_and_one_writes(rt: HostRuntime) -> Result<(), Fail> {
     let (zero, one) = (hart(0)?, hart(1)?);
-    let mut bus = made(rt.alloc(), Mode::Plain, &[], false)?;
-    assert_eq!(rt; letters(&bus)?, (Letter::I, Letter::I));
+    let mut rig = made(rt.alloc(), Mode::Plain, &[], false)?;
+    assert_eq!(rt; letters(&rig)?, (Letter::I, Letter::I));
     // who asks, for what, and the letters of both then
     for (who, need, wanted) in [
         (zero, Need::Read, (Letter::E, Letter::I)),
@@ -41,12 +41,12 @@ fn two_harts_read_and_one_writes(rt: HostRuntime) -> Result<(), Fail> {
         (zero, Need::Read, (Letter::S, Letter::O)),
         (zero, Need::Write, (Letter::M, Letter::I)),
     ] {
-        assert_eq!(rt; get_and_step(&mut bus, who, need), served(&[])?);
-        assert_eq!(rt; letters(&bus)?, wanted, "{who:?} {need:?}");
+        assert_eq!(rt; get_and_step(&mut rig, who, need), served(&[])?);
+        assert_eq!(rt; letters(&rig)?, wanted, "{who:?} {need:?}");
         // nothing was stored, so main memory tells what the copies do
-        assert_eq!(rt; bytes(&bus, 0x10001), (Some(0x45), Some(0x45)));
+        assert_eq!(rt; bytes(&rig, 0x10001), (Some(0x45), Some(0x45)));
     }
-    assert_eq!(rt; bytes(&bus, 0xffff), (None, None));
+    assert_eq!(rt; bytes(&rig, 0xffff), (None, None));
     Ok(())
 }
 
@@ -54,58 +54,58 @@ fn two_harts_read_and_one_writes(rt: HostRuntime) -> Result<(), Fail> {
 fn the_first_thing_in_the_way_is_told(rt: HostRuntime) -> Result<(), Fail> {
     let (one, two, three) = (hart(1)?, hart(2)?, hart(3)?);
     // hart 0 has read the line in its section, and hart 3 holds it; hart 2 comes to write it, and hart 1 behind
-    let mut bus = made(rt.alloc(), Mode::Tlr, &[0], false)?;
-    assert_eq!(rt; get(&mut bus, three, line(), Need::Read), served(&[])?);
-    assert!(rt; ask_for(&mut bus, two, line(), Need::Write));
-    assert_eq!(rt; order(&mut bus, two), ordered(&[])?);
-    assert!(rt; ask_for(&mut bus, one, line(), Need::Read));
-    assert_eq!(rt; order(&mut bus, one), ordered(&[])?);
+    let mut rig = made(rt.alloc(), Mode::Tlr, &[0], false)?;
+    assert_eq!(rt; get(&mut rig, three, line(), Need::Read), served(&[])?);
+    assert!(rt; ask_for(&mut rig, two, line(), Need::Write));
+    assert_eq!(rt; order(&mut rig, two), ordered(&[])?);
+    assert!(rt; ask_for(&mut rig, one, line(), Need::Read));
+    assert_eq!(rt; order(&mut rig, one), ordered(&[])?);
     // the head's hart is told though the line is retained and held
-    assert_eq!(rt; serve(&mut bus, one), blocked(Why::Behind, 2)?);
+    assert_eq!(rt; serve(&mut rig, one), blocked(Why::Behind, 2)?);
     // the section's hart is told though the line is held
-    assert_eq!(rt; serve(&mut bus, two), blocked(Why::Retained, 0)?);
-    end_section(&mut bus, hart(0)?);
-    assert_eq!(rt; serve(&mut bus, two), blocked(Why::Locked, 3)?);
-    assert_eq!(rt; letter(&bus, two, line()), Letter::I);
-    give_up(&mut bus, three);
-    assert_eq!(rt; serve(&mut bus, two), served(&[])?);
-    assert_eq!(rt; letter(&bus, two, line()), Letter::M);
-    assert_eq!(rt; serve(&mut bus, two), Some(Outcome::Idle));
+    assert_eq!(rt; serve(&mut rig, two), blocked(Why::Retained, 0)?);
+    end_section(&mut rig, hart(0)?);
+    assert_eq!(rt; serve(&mut rig, two), blocked(Why::Locked, 3)?);
+    assert_eq!(rt; letter(&rig, two, line()), Letter::I);
+    give_up(&mut rig, three);
+    assert_eq!(rt; serve(&mut rig, two), served(&[])?);
+    assert_eq!(rt; letter(&rig, two, line()), Letter::M);
+    assert_eq!(rt; serve(&mut rig, two), Some(Outcome::Idle));
     // hart 2 has no section, so it holds the line now
-    assert_eq!(rt; serve(&mut bus, one), blocked(Why::Locked, 2)?);
-    give_up(&mut bus, two);
-    assert_eq!(rt; serve(&mut bus, one), served(&[])?);
+    assert_eq!(rt; serve(&mut rig, one), blocked(Why::Locked, 2)?);
+    give_up(&mut rig, two);
+    assert_eq!(rt; serve(&mut rig, one), served(&[])?);
     Ok(())
 }
 
 #[test]
 fn the_least_hart_that_retains_is_told(rt: HostRuntime) -> Result<(), Fail> {
     let three = hart(3)?;
-    let mut bus = made(rt.alloc(), Mode::Tlr, &[0, 1, 2], false)?;
-    assert!(rt; ask_for(&mut bus, three, line(), Need::Write));
-    assert_eq!(rt; order(&mut bus, three), ordered(&[])?);
-    assert_eq!(rt; serve(&mut bus, three), blocked(Why::Retained, 0)?);
-    end_section(&mut bus, hart(1)?);
-    assert_eq!(rt; serve(&mut bus, three), blocked(Why::Retained, 0)?);
-    end_section(&mut bus, hart(0)?);
-    assert_eq!(rt; serve(&mut bus, three), blocked(Why::Retained, 2)?);
-    end_section(&mut bus, hart(2)?);
-    assert_eq!(rt; serve(&mut bus, three), served(&[])?);
+    let mut rig = made(rt.alloc(), Mode::Tlr, &[0, 1, 2], false)?;
+    assert!(rt; ask_for(&mut rig, three, line(), Need::Write));
+    assert_eq!(rt; order(&mut rig, three), ordered(&[])?);
+    assert_eq!(rt; serve(&mut rig, three), blocked(Why::Retained, 0)?);
+    end_section(&mut rig, hart(1)?);
+    assert_eq!(rt; serve(&mut rig, three), blocked(Why::Retained, 0)?);
+    end_section(&mut rig, hart(0)?);
+    assert_eq!(rt; serve(&mut rig, three), blocked(Why::Retained, 2)?);
+    end_section(&mut rig, hart(2)?);
+    assert_eq!(rt; serve(&mut rig, three), served(&[])?);
     Ok(())
 }
 
 /// Hart 0 gets the next line in its section, with this need; and then what Order and Serve say of a request of
 /// hart 1, which has none, to read it.
 fn after_section(alloc: Global, need: Need) -> Result<(Option<Outcome>, Option<Outcome>), Fail> {
-    let mut bus = made(alloc, Mode::Sle, &[0], false)?;
-    if get(&mut bus, hart(0)?, next_line(), need) != served(&[])? {
+    let mut rig = made(alloc, Mode::Sle, &[0], false)?;
+    if get(&mut rig, hart(0)?, next_line(), need) != served(&[])? {
         return Err("the section did not get its line".into());
     }
-    if !ask_for(&mut bus, hart(1)?, next_line(), Need::Read) {
+    if !ask_for(&mut rig, hart(1)?, next_line(), Need::Read) {
         return Err("no second request".into());
     }
-    let faced = order(&mut bus, hart(1)?);
-    Ok((faced, serve(&mut bus, hart(1)?)))
+    let faced = order(&mut rig, hart(1)?);
+    Ok((faced, serve(&mut rig, hart(1)?)))
 }
 
 #[test]
@@ -119,18 +119,18 @@ fn a_section_gets_a_bit_and_holds_no_line(rt: HostRuntime) -> Result<(), Fail> {
 }
 
 /// Harts 0 and 1 have sections, and hart 0 has read the next line. Hart 1 comes to write it, and what Order says.
-fn met(alloc: Global, mode: Mode) -> Result<(Bus, Option<Outcome>), Fail>
-    ensures { IfOk result (λ met. IsReady (kept met.0)) }
+fn met(alloc: Global, mode: Mode) -> Result<(Rig, Option<Outcome>), Fail>
+    ensures { IfOk result (λ met. IsTold met.0.pool (kept met.0.bus)) }
 {
-    let mut bus = made(alloc, mode, &[0, 1], false)?;
-    if get(&mut bus, hart(0)?, next_line(), Need::Read) != served(&[])? {
+    let mut rig = made(alloc, mode, &[0, 1], false)?;
+    if get(&mut rig, hart(0)?, next_line(), Need::Read) != served(&[])? {
         return Err("the section did not get its line".into());
     }
-    if !ask_for(&mut bus, hart(1)?, next_line(), Need::Write) {
+    if !ask_for(&mut rig, hart(1)?, next_line(), Need::Write) {
         return Err("no second request".into());
     }
-    let outcome = order(&mut bus, hart(1)?);
-    Ok((bus, outcome))
+    let outcome = order(&mut rig, hart(1)?);
+    Ok((rig, outcome))
 }
 
 #[test]
@@ -139,37 +139,37 @@ fn a_chain_of_two_waits_in_lock_removal(rt: HostRuntime) -> Result<(), Fail> {
     let (_, outcome) = met(rt.alloc(), Mode::Sle)?;
     assert_eq!(rt; outcome, ordered(&[(0, 1)])?);
 
-    let (mut bus, outcome) = met(rt.alloc(), Mode::Tlr)?;
+    let (mut rig, outcome) = met(rt.alloc(), Mode::Tlr)?;
     assert_eq!(rt; outcome, ordered(&[])?);
-    assert_eq!(rt; letter(&bus, zero, next_line()), Letter::E);
-    assert_eq!(rt; serve(&mut bus, one), blocked(Why::Retained, 0)?);
+    assert_eq!(rt; letter(&rig, zero, next_line()), Letter::E);
+    assert_eq!(rt; serve(&mut rig, one), blocked(Why::Retained, 0)?);
     // its own request goes in front, and is served
-    assert!(rt; ask_for(&mut bus, zero, next_line(), Need::Write));
-    assert_eq!(rt; order(&mut bus, zero), ordered(&[])?);
-    assert_eq!(rt; serve(&mut bus, one), blocked(Why::Behind, 0)?);
-    assert_eq!(rt; serve(&mut bus, zero), served(&[])?);
-    assert_eq!(rt; serve(&mut bus, one), blocked(Why::Retained, 0)?);
+    assert!(rt; ask_for(&mut rig, zero, next_line(), Need::Write));
+    assert_eq!(rt; order(&mut rig, zero), ordered(&[])?);
+    assert_eq!(rt; serve(&mut rig, one), blocked(Why::Behind, 0)?);
+    assert_eq!(rt; serve(&mut rig, zero), served(&[])?);
+    assert_eq!(rt; serve(&mut rig, one), blocked(Why::Retained, 0)?);
     // the section commits
-    end_section(&mut bus, zero);
-    assert_eq!(rt; serve(&mut bus, one), served(&[])?);
-    assert_eq!(rt; letter(&bus, zero, next_line()), Letter::I);
-    assert_eq!(rt; letter(&bus, one, next_line()), Letter::M);
+    end_section(&mut rig, zero);
+    assert_eq!(rt; serve(&mut rig, one), served(&[])?);
+    assert_eq!(rt; letter(&rig, zero, next_line()), Letter::I);
+    assert_eq!(rt; letter(&rig, one, next_line()), Letter::M);
     Ok(())
 }
 
 #[test]
 fn an_event_that_has_nothing_to_do_is_idle(rt: HostRuntime) -> Result<(), Fail> {
     let zero = hart(0)?;
-    let mut bus = made(rt.alloc(), Mode::Tlr, &[], false)?;
-    assert_eq!(rt; order(&mut bus, zero), Some(Outcome::Idle));
-    assert_eq!(rt; serve(&mut bus, zero), Some(Outcome::Idle));
-    assert_eq!(rt; deliver(&mut bus, zero), Some(Outcome::Idle));
+    let mut rig = made(rt.alloc(), Mode::Tlr, &[], false)?;
+    assert_eq!(rt; order(&mut rig, zero), Some(Outcome::Idle));
+    assert_eq!(rt; serve(&mut rig, zero), Some(Outcome::Idle));
+    assert_eq!(rt; deliver(&mut rig, zero), Some(Outcome::Idle));
     // a raised request is nothing to serve, and an ordered one nothing to order
-    assert!(rt; ask_for(&mut bus, zero, line(), Need::Read));
-    assert_eq!(rt; serve(&mut bus, zero), Some(Outcome::Idle));
-    assert_eq!(rt; order(&mut bus, zero), ordered(&[])?);
-    assert_eq!(rt; order(&mut bus, zero), Some(Outcome::Idle));
-    assert_eq!(rt; serve(&mut bus, zero), served(&[])?);
-    assert_eq!(rt; serve(&mut bus, zero), Some(Outcome::Idle));
+    assert!(rt; ask_for(&mut rig, zero, line(), Need::Read));
+    assert_eq!(rt; serve(&mut rig, zero), Some(Outcome::Idle));
+    assert_eq!(rt; order(&mut rig, zero), ordered(&[])?);
+    assert_eq!(rt; order(&mut rig, zero), Some(Outcome::Idle));
+    assert_eq!(rt; serve(&mut rig, zero), served(&[])?);
+    assert_eq!(rt; serve(&mut rig, zero), Some(Outcome::Idle));
     Ok(())
 }

@@ -1,16 +1,16 @@
 //! A line that was written reaches main memory as it leaves the cache.
 
 ghost use Rattle.std.specs.Prelude.{◌≡◌, ◌<◌, length, true};
-ghost use Rattle.cache_sets.specs.Cache.{letter_of};
-ghost use Rattle.coherence.specs.Caches.{cache_at};
+ghost use Rattle.residency.specs.Cache.{letter_of};
+ghost use Rattle.coherence.specs.Lent.{slotted_at};
 ghost use Rattle.moesi.specs.Letters.{may_write};
 ghost use Rattle.snoop.specs.Asking.{HasNoRequest};
-ghost use Rattle.snoop.specs.Shows.{IsReady, kept};
+ghost use Rattle.snoop.specs.Shows.{IsTold, kept};
 
 use super::events::*;
 use super::*;
 use crate::asked::Asked;
-use cache_sets::Letter;
+use cache_sets::{Letter, Sets};
 
 /// Writes a byte of a line.
 fn write(bytes: &mut [u8; 64], at: u8, byte: u8)
@@ -20,46 +20,46 @@ fn write(bytes: &mut [u8; 64], at: u8, byte: u8)
 }
 
 /// Puts a byte into the copy of a line that the hart may write, as a store does: the line is touched and modified.
-fn put(bus: &mut Bus, hart: HartId, line: LineAddr, at: u8, byte: u8)
-    requires hart_exists { hart.number < length (kept bus.old).copies.caches }
-    requires ready { IsReady (kept bus.old) }
-    requires no_request { HasNoRequest (kept bus.old) hart.number }
+fn put(rig: &mut Rig, hart: HartId, line: LineAddr, at: u8, byte: u8)
+    requires hart_exists { hart.number < length (kept rig.old.bus).copies.caches }
+    requires told { IsTold rig.old.pool (kept rig.old.bus) }
+    requires no_request { HasNoRequest (kept rig.old.bus) hart.number }
     requires may { may_write
-        (letter_of (cache_at (kept bus.old).copies.caches hart.number).residency line.number) ≡ true }
+        (letter_of (slotted_at (kept rig.old.bus).copies.caches hart.number).residency line.number) ≡ true }
     requires within { at < 64 }
-    ensures { IsReady (kept bus.new) }
+    ensures { IsTold rig.new.pool (kept rig.new.bus) }
 {
-    let cache = bus.sets_mut(hart);
+    let cache = rig.bus.sets_mut(hart);
     cache.touch(line);
     cache.set_letter(line, Letter::M);
-    write(cache.bytes_mut(line), at, byte);
+    write(Sets::bytes_mut(&mut rig.pool, cache, line), at, byte);
 }
 
 /// Whether a hart has asked for nothing.
-fn has_no_request(bus: &Bus, hart: HartId) -> bool
-    requires { hart.number < length (kept bus.now).agents }
-    ensures { result ≡ true → HasNoRequest (kept bus.now) hart.number }
+fn has_no_request(rig: &Rig, hart: HartId) -> bool
+    requires { hart.number < length (kept rig.now.bus).agents }
+    ensures { result ≡ true → HasNoRequest (kept rig.now.bus) hart.number }
 {
-    match bus.request(hart) {
+    match rig.bus.request(hart) {
         Asked::Nothing => true,
         Asked::Raised { .. } | Asked::Placed { .. } => false,
     }
 }
 
 /// Stores a byte, where the hart has asked for nothing and may write the line, and tells whether it did.
-fn store(bus: &mut Bus, hart: HartId, address: u32, byte: u8) -> bool
-    requires { IsReady (kept bus.old) }
-    ensures { IsReady (kept bus.new) }
+fn store(rig: &mut Rig, hart: HartId, address: u32, byte: u8) -> bool
+    requires { IsTold rig.old.pool (kept rig.old.bus) }
+    ensures { IsTold rig.new.pool (kept rig.new.bus) }
 {
     let line = line_of(address);
-    if usize::from(hart.number) >= bus.harts() || !has_no_request(bus, hart) {
+    if usize::from(hart.number) >= rig.bus.harts() || !has_no_request(rig, hart) {
         return false;
     }
-    match bus.sets(hart).letter(line) {
+    match rig.bus.sets(hart).letter(line) {
         Letter::M | Letter::E => (),
         Letter::O | Letter::S | Letter::I => return false,
     }
-    put(bus, hart, line, (address % 64) as u8, byte);
+    put(rig, hart, line, (address % 64) as u8, byte);
     true
 }
 
@@ -74,25 +74,25 @@ fn a_store_reaches_main_memory_as_its_line_leaves(rt: HostRuntime) -> Result<(),
         ways: 1,
         ..Config::usual()
     };
-    let mut bus = first_bus(rt.alloc(), &config)?;
+    let mut rig = first_rig(rt.alloc(), &config)?;
     // not before the line is there
-    assert!(rt; !store(&mut bus, zero, address, 0x11));
-    assert_eq!(rt; get(&mut bus, zero, line(), Need::Write), served(&[])?);
-    give_up(&mut bus, zero);
-    assert_eq!(rt; bytes(&bus, address), (Some(0x45), Some(0x45)));
+    assert!(rt; !store(&mut rig, zero, address, 0x11));
+    assert_eq!(rt; get(&mut rig, zero, line(), Need::Write), served(&[])?);
+    give_up(&mut rig, zero);
+    assert_eq!(rt; bytes(&rig, address), (Some(0x45), Some(0x45)));
     // the copy has the byte, and main memory is behind it
-    assert!(rt; store(&mut bus, zero, address, 0x11));
-    assert_eq!(rt; bytes(&bus, address), (Some(0x11), Some(0x45)));
-    assert_eq!(rt; bytes(&bus, address + 1), (Some(0x4c), Some(0x4c)));
+    assert!(rt; store(&mut rig, zero, address, 0x11));
+    assert_eq!(rt; bytes(&rig, address), (Some(0x11), Some(0x45)));
+    assert_eq!(rt; bytes(&rig, address + 1), (Some(0x4c), Some(0x4c)));
     // the only way is for the other line then
-    assert_eq!(rt; get(&mut bus, zero, next_line(), Need::Read), served(&[])?);
-    give_up(&mut bus, zero);
-    assert_eq!(rt; letter(&bus, zero, line()), Letter::I);
-    assert_eq!(rt; bytes(&bus, address), (Some(0x11), Some(0x11)));
-    assert_eq!(rt; bytes(&bus, address + 1), (Some(0x4c), Some(0x4c)));
+    assert_eq!(rt; get(&mut rig, zero, next_line(), Need::Read), served(&[])?);
+    give_up(&mut rig, zero);
+    assert_eq!(rt; letter(&rig, zero, line()), Letter::I);
+    assert_eq!(rt; bytes(&rig, address), (Some(0x11), Some(0x11)));
+    assert_eq!(rt; bytes(&rig, address + 1), (Some(0x4c), Some(0x4c)));
     // and it comes back as it was written
-    assert_eq!(rt; get(&mut bus, zero, line(), Need::Read), served(&[])?);
-    assert_eq!(rt; letter(&bus, zero, line()), Letter::E);
-    assert_eq!(rt; bytes(&bus, address), (Some(0x11), Some(0x11)));
+    assert_eq!(rt; get(&mut rig, zero, line(), Need::Read), served(&[])?);
+    assert_eq!(rt; letter(&rig, zero, line()), Letter::E);
+    assert_eq!(rt; bytes(&rig, address), (Some(0x11), Some(0x11)));
     Ok(())
 }

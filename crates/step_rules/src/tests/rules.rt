@@ -1,6 +1,3 @@
-ghost use Rattle.std.specs.Prelude.{◌<◌, length};
-ghost use Rattle.snoop.specs.Shows.{kept};
-
 use super::*;
 use crate::armed::complete_rule;
 use crate::in_section::mark_rule;
@@ -56,9 +53,7 @@ fn one(letter: Letter, bit: Option<Need>) -> [Line; 1] {
 }
 
 /// The rule of a swap outside of a section, or nothing where its address is no multiple of 4.
-fn swap_rule(bus: &Bus, address: u32, new: u32, may_elide: bool) -> Option<PlainRule>
-    requires { 0 < length (kept bus.now).copies.caches }
-{
+fn swap_rule(harts: &Harts, address: u32, new: u32, may_elide: bool) -> Option<PlainRule> {
     if address % 4 != 0 {
         return None;
     }
@@ -68,13 +63,11 @@ fn swap_rule(bus: &Bus, address: u32, new: u32, may_elide: bool) -> Option<Plain
         address,
         source: new,
     };
-    Some(plain_rule(bus, HART, &action, may_elide))
+    Some(plain_rule(&harts.pool, &harts.bus, HART, &action, may_elide))
 }
 
 /// The rule of a store of a word, likewise.
-fn store_rule(bus: &Bus, address: u32) -> Option<PlainRule>
-    requires { 0 < length (kept bus.now).copies.caches }
-{
+fn store_rule(harts: &Harts, address: u32) -> Option<PlainRule> {
     if address % 4 != 0 {
         return None;
     }
@@ -83,13 +76,11 @@ fn store_rule(bus: &Bus, address: u32) -> Option<PlainRule>
         len: 4,
         value: 0,
     };
-    Some(plain_rule(bus, HART, &action, true))
+    Some(plain_rule(&harts.pool, &harts.bus, HART, &action, true))
 }
 
 /// The rule of a load of a word, likewise.
-fn load_rule(bus: &Bus, address: u32) -> Option<PlainRule>
-    requires { 0 < length (kept bus.now).copies.caches }
-{
+fn load_rule(harts: &Harts, address: u32) -> Option<PlainRule> {
     if address % 4 != 0 {
         return None;
     }
@@ -98,18 +89,16 @@ fn load_rule(bus: &Bus, address: u32) -> Option<PlainRule>
         rd: X5,
         address,
     };
-    Some(plain_rule(bus, HART, &action, true))
+    Some(plain_rule(&harts.pool, &harts.bus, HART, &action, true))
 }
 
 /// The rule of an LR, likewise.
-fn reserve_rule(bus: &Bus, address: u32, may_elide: bool) -> Option<PlainRule>
-    requires { 0 < length (kept bus.now).copies.caches }
-{
+fn reserve_rule(harts: &Harts, address: u32, may_elide: bool) -> Option<PlainRule> {
     if address % 4 != 0 {
         return None;
     }
     let action = Action::LoadReserved { rd: X5, address };
-    Some(plain_rule(bus, HART, &action, may_elide))
+    Some(plain_rule(&harts.pool, &harts.bus, HART, &action, may_elide))
 }
 
 #[test]
@@ -119,7 +108,7 @@ fn a_swap_begins_a_section_where_it_changes_its_word(rt: HostRuntime) -> Result<
         old: 5,
         new: 6,
     };
-    let bus = bus(rt.alloc(), &one(Letter::E, None))?;
+    let harts = two_harts(rt.alloc(), &one(Letter::E, None))?;
     for (address, new, may_elide, rule) in [
         (WORD, 6, true, PlainRule::Begins { swap: began }),
         (WORD, 5, true, runs(WORD, Need::Write)),
@@ -128,7 +117,7 @@ fn a_swap_begins_a_section_where_it_changes_its_word(rt: HostRuntime) -> Result<
         (WORD + 64, 6, false, misses(WORD + 64, Need::Write)),
     ] {
         assert_eq!(rt;
-            swap_rule(&bus, address, new, may_elide),
+            swap_rule(&harts, address, new, may_elide),
             Some(rule),
             "{new} at {address:x}"
         );
@@ -138,20 +127,20 @@ fn a_swap_begins_a_section_where_it_changes_its_word(rt: HostRuntime) -> Result<
 
 #[test]
 fn an_instruction_runs_where_the_letter_permits_it(rt: HostRuntime) -> Result<(), Fail> {
-    let bus = bus(rt.alloc(), &one(Letter::S, None))?;
-    assert_eq!(rt; load_rule(&bus, WORD), Some(runs(WORD, Need::Read)));
+    let harts = two_harts(rt.alloc(), &one(Letter::S, None))?;
+    assert_eq!(rt; load_rule(&harts, WORD), Some(runs(WORD, Need::Read)));
     assert_eq!(rt;
-        load_rule(&bus, WORD + 64),
+        load_rule(&harts, WORD + 64),
         Some(misses(WORD + 64, Need::Read))
     );
-    assert_eq!(rt; store_rule(&bus, WORD), Some(misses(WORD, Need::Write)));
+    assert_eq!(rt; store_rule(&harts, WORD), Some(misses(WORD, Need::Write)));
     assert_eq!(rt;
-        swap_rule(&bus, WORD, 5, true),
+        swap_rule(&harts, WORD, 5, true),
         Some(misses(WORD, Need::Write))
     );
     let put = Action::Put { rd: X5, value: 7 };
     assert_eq!(rt;
-        plain_rule(&bus, HART, &put, true),
+        plain_rule(&harts.pool, &harts.bus, HART, &put, true),
         PlainRule::Runs { touch: None }
     );
     Ok(())
@@ -159,7 +148,7 @@ fn an_instruction_runs_where_the_letter_permits_it(rt: HostRuntime) -> Result<()
 
 #[test]
 fn no_section_begins_where_another_hart_waits_to_write(rt: HostRuntime) -> Result<(), Fail> {
-    let cache = cache(rt.alloc(), &one(Letter::E, None))?;
+    let cache = cache_of(rt.alloc(), &one(Letter::E, None))?;
     let written = Some(touch(WORD, Need::Write));
     let swap = |new| Swap {
         word: WORD,
@@ -167,11 +156,11 @@ fn no_section_begins_where_another_hart_waits_to_write(rt: HostRuntime) -> Resul
         new,
     };
     assert_eq!(rt;
-        begin_rule(&cache, true, swap(6), written),
+        begin_rule(&cache.sets, true, swap(6), written),
         misses(WORD, Need::Read)
     );
     assert_eq!(rt;
-        begin_rule(&cache, true, swap(5), written),
+        begin_rule(&cache.sets, true, swap(5), written),
         runs(WORD, Need::Write)
     );
     Ok(())
@@ -180,7 +169,7 @@ fn no_section_begins_where_another_hart_waits_to_write(rt: HostRuntime) -> Resul
 #[test]
 fn a_hart_arms_at_an_lr_whose_line_it_may_read(rt: HostRuntime) -> Result<(), Fail> {
     let arms = PlainRule::Arms { word: WORD, old: 5 };
-    let bus = bus(rt.alloc(), &one(Letter::S, None))?;
+    let harts = two_harts(rt.alloc(), &one(Letter::S, None))?;
     for (address, may_elide, rule) in [
         (WORD, true, arms),
         (WORD, false, runs(WORD, Need::Read)),
@@ -188,7 +177,7 @@ fn a_hart_arms_at_an_lr_whose_line_it_may_read(rt: HostRuntime) -> Result<(), Fa
         (WORD + 64, false, misses(WORD + 64, Need::Read)),
     ] {
         assert_eq!(rt;
-            reserve_rule(&bus, address, may_elide),
+            reserve_rule(&harts, address, may_elide),
             Some(rule),
             "LR of {address:x}"
         );
@@ -198,24 +187,27 @@ fn a_hart_arms_at_an_lr_whose_line_it_may_read(rt: HostRuntime) -> Result<(), Fa
 
 #[test]
 fn no_hart_arms_where_another_hart_waits_to_write(rt: HostRuntime) -> Result<(), Fail> {
-    let cache = cache(rt.alloc(), &one(Letter::E, None))?;
+    let cache = cache_of(rt.alloc(), &one(Letter::E, None))?;
     let read = Some(touch(WORD, Need::Read));
-    assert_eq!(rt; arm_rule(&cache, true, WORD, read), runs(WORD, Need::Read));
     assert_eq!(rt;
-        arm_rule(&cache, false, WORD, read),
+        arm_rule(&cache.pool, &cache.sets, true, WORD, read),
+        runs(WORD, Need::Read)
+    );
+    assert_eq!(rt;
+        arm_rule(&cache.pool, &cache.sets, false, WORD, read),
         PlainRule::Arms { word: WORD, old: 5 }
     );
     Ok(())
 }
 
 /// The rule of an action in an armed section that has run so many instructions, and whose word held 5.
-fn armed(bus: &Bus, action: Action, count: u32, long: u32) -> ArmedRule {
+fn armed(harts: &Harts, action: Action, count: u32, long: u32) -> ArmedRule {
     let progress = Progress {
         count,
         word: WORD,
         old: 5,
     };
-    armed_rule(bus, HART, &action, progress, long)
+    armed_rule(&harts.bus, HART, &action, progress, long)
 }
 
 /// The SC of the lock word that stores this is elided.
@@ -231,7 +223,7 @@ fn elides(new: u32) -> ArmedRule {
 
 #[test]
 fn an_armed_section_ends_by_what_is_not_private(rt: HostRuntime) -> Result<(), Fail> {
-    let bus = bus(rt.alloc(), &one(Letter::E, Some(Need::Read)))?;
+    let harts = two_harts(rt.alloc(), &one(Letter::E, Some(Need::Read)))?;
     let branch = Action::Go { target: WORD };
     for (number, (action, count, long, rule)) in [
         (branch, 1, 100, ArmedRule::Continues),
@@ -255,7 +247,11 @@ fn an_armed_section_ends_by_what_is_not_private(rt: HostRuntime) -> Result<(), F
     .iter()
     .enumerate()
     {
-        assert_eq!(rt; armed(&bus, *action, *count, *long), *rule, "row {number}");
+        assert_eq!(rt;
+            armed(&harts, *action, *count, *long),
+            *rule,
+            "row {number}"
+        );
     }
     Ok(())
 }
@@ -272,15 +268,13 @@ fn no_sc_is_elided_where_another_hart_waits_to_write(rt: HostRuntime) {
 }
 
 /// The rule of an action in a section that has run so many instructions, and whose lock word held 0.
-fn in_section(bus: &Bus, action: Action, count: u32) -> SectionRule
-    requires { 0 < length (kept bus.now).copies.caches }
-{
+fn in_section(harts: &Harts, action: Action, count: u32) -> SectionRule {
     let progress = Progress {
         count,
         word: WORD,
         old: 0,
     };
-    section_rule(bus, HART, &action, progress, &config())
+    section_rule(&harts.bus, HART, &action, progress, &config())
 }
 
 /// A full set: one line that the section has read, and one that it has written.
@@ -301,7 +295,7 @@ fn full() -> [Line; 2] {
 
 #[test]
 fn a_section_ends_by_the_first_rule_that_holds(rt: HostRuntime) -> Result<(), Fail> {
-    let bus = bus(rt.alloc(), &full())?;
+    let harts = two_harts(rt.alloc(), &full())?;
     let ends = |cause| SectionRule::RollsBack { cause };
     let call = Action::Answer { value: 0 };
     let trap = Action::Trap { cause: 3 };
@@ -325,14 +319,14 @@ fn a_section_ends_by_the_first_rule_that_holds(rt: HostRuntime) -> Result<(), Fa
     .iter()
     .enumerate()
     {
-        assert_eq!(rt; in_section(&bus, *action, *count), *rule, "row {number}");
+        assert_eq!(rt; in_section(&harts, *action, *count), *rule, "row {number}");
     }
     Ok(())
 }
 
 #[test]
 fn a_new_bit_needs_its_letter(rt: HostRuntime) -> Result<(), Fail> {
-    let shared = bus(rt.alloc(), &one(Letter::S, None))?;
+    let shared = two_harts(rt.alloc(), &one(Letter::S, None))?;
     assert_eq!(rt;
         in_section(&shared, load_word(WORD), 2),
         buffers(WORD, Need::Read)
@@ -345,7 +339,7 @@ fn a_new_bit_needs_its_letter(rt: HostRuntime) -> Result<(), Fail> {
         in_section(&shared, load_word(WORD + 64), 2),
         section_misses(WORD + 64, Need::Read)
     );
-    let alone = bus(rt.alloc(), &one(Letter::E, Some(Need::Read)))?;
+    let alone = two_harts(rt.alloc(), &one(Letter::E, Some(Need::Read)))?;
     assert_eq!(rt;
         in_section(&alone, store(WORD + 4, 1), 2),
         buffers(WORD, Need::Write)
@@ -355,11 +349,11 @@ fn a_new_bit_needs_its_letter(rt: HostRuntime) -> Result<(), Fail> {
 
 #[test]
 fn no_new_bit_comes_where_another_hart_waits(rt: HostRuntime) -> Result<(), Fail> {
-    let cache = cache(rt.alloc(), &one(Letter::E, None))?;
+    let cache = cache_of(rt.alloc(), &one(Letter::E, None))?;
     for need in [Need::Read, Need::Write] {
-        let rule = mark_rule(&cache, true, touch(WORD, need), 1);
+        let rule = mark_rule(&cache.sets, true, touch(WORD, need), 1);
         assert_eq!(rt; rule, section_misses(WORD, need));
-        let rule = mark_rule(&cache, false, touch(WORD, need), 1);
+        let rule = mark_rule(&cache.sets, false, touch(WORD, need), 1);
         assert_eq!(rt; rule, buffers(WORD, need));
     }
     Ok(())

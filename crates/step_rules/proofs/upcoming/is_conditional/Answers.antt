@@ -1,7 +1,7 @@
 -- whether an exchange is by an SC
 use Rattle.std.proofs.Common.{◌∙◌}
 use Rattle.rv_flat.specs.Memory.{byte_in}
-use Rattle.step_rules.proofs.NextAction.{exchanges_by_sc}
+use Rattle.step_rules.proofs.Laws.NextAction.{exchanges_by_sc}
 use Rattle.step_rules.proofs.upcoming.is_conditional.Goals as goal
 
 pub returns : goal.returns

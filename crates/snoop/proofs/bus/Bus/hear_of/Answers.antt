@@ -5,6 +5,7 @@ use Rattle.el_model.specs.Deliver.{nobody, one_lost, told_of}
 use Rattle.el_model.specs.State.{with_hart}
 use Rattle.snoop.specs.Shows.{IsReady, Shows, kept}
 use Rattle.snoop.proofs.Hears.{heard_ready, heard_shows, lost_ready, lost_shows, one_loser}
+use Rattle.snoop.proofs.Lent.{clears_one}
 use Rattle.snoop.proofs.LosersBelow.{nobody_lost}
 use Rattle.snoop.proofs.bus.Bus.hear_of.Goals as goal
 
@@ -17,6 +18,14 @@ pub returns-then-loses_to_origin-clause-shows : goal.returns-then-loses_to_origi
 returns-then-loses_to_origin-clause-shows c = λ state shows.
     lost_shows (kept c.args.self.now) (kept c.lose_to.new.self) state c.args.hart.number c.args.origin.number (option_map numbered c.args.request)
     shows c.requires.hart_exists (sym (c.loses_to_origin.ensures state shows) ∙ c.if-loses_to_origin.true) c.lose_to.ensures
+
+pub returns-then-loses_to_origin-clause-memory_stays : goal.returns-then-loses_to_origin-clause-memory_stays
+returns-then-loses_to_origin-clause-memory_stays c =
+    (clears_one c.args.hart.number (kept c.args.self.now).copies (kept c.lose_to.new.self).copies c.lose_to.ensures.copies).lines
+
+pub returns-then-loses_to_origin-clause-told : goal.returns-then-loses_to_origin-clause-told
+returns-then-loses_to_origin-clause-told c =
+    (clears_one c.args.hart.number (kept c.args.self.now).copies (kept c.lose_to.new.self).copies c.lose_to.ensures.copies).stays.told
 
 pub returns-then-loses_to_origin-clause-losers : goal.returns-then-loses_to_origin-clause-losers
 returns-then-loses_to_origin-clause-losers c = λ state shows.

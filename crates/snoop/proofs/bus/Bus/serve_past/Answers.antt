@@ -2,7 +2,7 @@
 use Rattle.std.proofs.Common.{◌∙◌, ap, sym}
 use Rattle.bus_order.specs.Order.{numbered}
 use Rattle.el_base.specs.declared.outcomes.Outcome.TheVariants.{Blocked}
-use Rattle.el_base.proofs.HartIds.{hart_id-of_hart}
+use Rattle.el_base.proofs.Laws.HartIds.{hart_id-of_hart}
 use Rattle.el_model.specs.Serve as serving
 use Rattle.snoop.specs.Obstacles.{numbered_obstacle}
 use Rattle.snoop.proofs.bus.Bus.serve_past.Goals as goal

@@ -1,6 +1,6 @@
--- the bus is ready for each message
+-- the pool and the caches tell one thing for each message
 use Rattle.snoop.proofs.tests.delivering.take.Given as goal
-use Rattle.snoop.specs.Shows.{IsReady, kept}
+use Rattle.snoop.specs.Shows.{IsTold, kept}
 
 abbrev pub invariant-loop-number : goal.invariant-loop-number
-invariant-loop-number l = IsReady (kept l.bus)
+invariant-loop-number l = IsTold l.rig.pool (kept l.rig.bus)

@@ -3,7 +3,10 @@ use Rattle.snoop.proofs.Ready.{ready_agent}
 use Rattle.snoop.proofs.tests.events.give_up.Goals as goal
 use Rattle.snoop.specs.Shows.{kept}
 
-pub returns : goal.returns
-returns c =
-    rw c.hold_nothing.ensures
-    (ready_agent (kept c.args.bus.now) c.args.hart.number _ c.requires (λ request is. is) (c.requires.few_armed c.args.hart.number))
+pub invariant_of-rig : goal.invariant_of-rig
+invariant_of-rig c = record {
+  ready =
+      rw c.hold_nothing.ensures
+      (ready_agent (kept c.args.rig.now.bus) c.args.hart.number _ c.args.rig.now.ready (λ request is. is)
+      (c.args.rig.now.ready.few_armed c.args.hart.number));
+}

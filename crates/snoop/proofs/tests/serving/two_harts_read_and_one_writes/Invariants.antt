@@ -1,6 +1,6 @@
--- the bus is ready for each event
+-- the pool and the caches tell one thing for each event
 use Rattle.snoop.proofs.tests.serving.two_harts_read_and_one_writes.Given as goal
-use Rattle.snoop.specs.Shows.{IsReady, kept}
+use Rattle.snoop.specs.Shows.{IsTold, kept}
 
 abbrev pub invariant-loop-who : goal.invariant-loop-who
-invariant-loop-who g l = IsReady (kept l.bus)
+invariant-loop-who g l = IsTold l.rig.pool (kept l.rig.bus)

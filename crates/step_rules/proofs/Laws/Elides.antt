@@ -5,9 +5,9 @@ use Rattle.elf_image.specs.Program.{code_word}
 use Rattle.el_model.specs.Plain.{may_elide, plain_rule, reserve_rule, swap_rule, touch_rule}
 use Rattle.el_model.specs.State.{ModelState, hart_of}
 use Rattle.el_model.specs.Upcoming.{Swap, is_swap_op, next_reserved, next_swap, next_touch}
-use Rattle.rv_alu.proofs.Footprints.{fits}
+use Rattle.rv_alu.proofs.Laws.Footprints.{fits}
 use Rattle.rv_alu.specs.Action.{action_at, insn_action_of}
-use Rattle.coherence.proofs.LineLaws.{none_is, some_is}
+use Rattle.coherence.proofs.Laws.LineLaws.{none_is, some_is}
 use Rattle.rv_alu.specs.Footprint.{IsInPlace}
 use Rattle.rv_alu.specs.Loaded.{loaded}
 use Rattle.rv_alu.specs.declared.action.Action.{Action}
@@ -18,7 +18,7 @@ use Rattle.rv_flat.specs.FlatState.{FlatState, room_of, span_of, view_of}
 use Rattle.rv_flat.specs.Memory.{byte_in}
 use Rattle.rv_word.specs.Decoding.{decoded}
 use Rattle.rv_word.specs.declared.insn.Insn.{Insn}
-use Rattle.step_rules.proofs.NextAction.{next_reserved as reserved_next, next_swap as swap_next}
+use Rattle.step_rules.proofs.Laws.NextAction.{next_reserved as reserved_next, next_swap as swap_next}
 use Rattle.step_rules.specs.Actions.{IsNext, reserved_by, swap_by, swap_over}
 use Rattle.step_rules.specs.Rules.{MayElide, acquiring_rule}
 use Rattle.step_rules.specs.declared.upcoming.Exchange as exchanges

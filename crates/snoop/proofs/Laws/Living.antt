@@ -1,10 +1,10 @@
 -- who has a live section: what the bus keeps of it tells what the definition says
 use Rattle.std.proofs.Common.{◌≡◌, ◌∙◌, ℕ, ◌≤◌, ◌==◌, ◌&&◌, not, Bool, true, false, List, None, is_some, refl, ap, sym, arith}
 use Rattle.std.proofs.lemmas.Bool.Decides.{nat_tests}
-use Rattle.bus_order.proofs.LookUps.{number_of_test}
-use Rattle.cache_sets.proofs.MarkLemmas.{has_marks-cleared}
-use Rattle.cache_sets.specs.Cache.{cleared, has_marks}
-use Rattle.cache_sets.specs.Residency.{Way}
+use Rattle.bus_order.proofs.Laws.LookUps.{number_of_test}
+use Rattle.residency.proofs.Laws.MarkLemmas.{has_marks-cleared}
+use Rattle.residency.specs.Cache.{cleared, has_marks}
+use Rattle.residency.specs.Residency.{Way}
 use Rattle.el_model.specs.Plain.{armed_count}
 use Rattle.el_model.specs.State.{Hart, ModelState, hart_of, is_live, new_hart}
 use Rattle.snoop.specs.Agent.{agent_at}

@@ -4,48 +4,50 @@ use Rattle.std.specs.Prelude.{slice_set}
 use Rattle.std.proofs.lemmas.Bool.{cases_eq}
 use Rattle.std.proofs.lemmas.List.{get_or-set_other, get_or-set_same, length-set}
 use Rattle.bus_order.specs.Order.{Request, request_of}
-use Rattle.cache_sets.specs.Cache.{room_of, touched}
+use Rattle.residency.specs.Cache.{room_of, touched}
 use Rattle.cache_sets.specs.Cached.{Cached}
+use Rattle.cache_sets.specs.Slotted.{IsLent, Slotted, lent}
 use Rattle.cache_sets.specs.Calls.{IsLettered, IsTouched}
-use Rattle.cache_sets.specs.WellFormed.{IsWellFormed}
-use Rattle.cache_sets.proofs.WellFormedLemmas.{well_formed-lettered, well_formed-touched}
-use Rattle.coherence.specs.Caches.{cache_at, no_cache}
-use Rattle.coherence.specs.GivenBack.{IsStoredIn, bytes_with}
-use Rattle.coherence.specs.Served.{has_room}
-use Rattle.coherence.proofs.GivenBackLaws.{tells_stored}
-use Rattle.coherence.proofs.LineLaws.{none_is}
+use Rattle.residency.specs.WellFormed.{IsWellFormed}
+use Rattle.residency.proofs.Laws.WellFormedLemmas.{well_formed-lettered, well_formed-touched}
+use Rattle.coherence.specs.Caches.{AreCoherent}
+use Rattle.coherence.specs.GivenBack.{copies_with}
+use Rattle.coherence.specs.Lent.{LeavesOwner, no_slotted, slotted_at}
+use Rattle.coherence.specs.Served.{TellsOf}
+use Rattle.coherence.proofs.Laws.Offered.{caches_back, lent_back}
+use Rattle.coherence.proofs.Laws.LineLaws.{none_is}
 use Rattle.el_model.specs.Plain.{armed_count}
 use Rattle.el_model.specs.State.{Hart, ModelState, armed_of, hart_of}
-use Rattle.el_model.proofs.Harts.{hart_of-with_hart_other, hart_of-with_hart_same}
+use Rattle.el_model.proofs.Laws.Harts.{hart_of-with_hart_other, hart_of-with_hart_same}
+use Rattle.line_pool.specs.Pooled.{Pooled}
 use Rattle.moesi.specs.declared.letter.Letter.TheVariants.{M}
 use Rattle.rv_flat.specs.FlatState.{FlatState}
-use Rattle.snoop.proofs.Living.{TellsSection, tells}
+use Rattle.snoop.proofs.Laws.Living.{TellsSection, tells}
 use Rattle.snoop.specs.Agent.{agent_at, agent_of}
 use Rattle.snoop.specs.Asking.{HasNoRequest}
 use Rattle.snoop.specs.Returned.{IsReturned, IsReturnedAs, returned, state_with}
-use Rattle.snoop.specs.Shows.{CanBeServed, IsReady, Kept, Shows, lives}
+use Rattle.snoop.specs.Shows.{CanBeServed, IsReady, Kept, Shows, Tells, has_room_in, lent_copies, lives}
 
 -- the caches after one was given back
-returned_same : (bus : Kept) (h : ℕ) (cache : Cached) → h < length bus.copies.caches → cache_at (returned bus h cache).copies.caches h ≡ cache
-returned_same bus h cache inside = get_or-set_same bus.copies.caches h cache no_cache inside
+returned_same : (bus : Kept) (h : ℕ) (cache : Slotted) → h < length bus.copies.caches → slotted_at (returned bus h cache).copies.caches h ≡ cache
+returned_same bus h cache inside = get_or-set_same bus.copies.caches h cache no_slotted inside
 
-returned_other : (bus : Kept) (h g : ℕ) (cache : Cached) → g ≢ h →
-    cache_at (returned bus h cache).copies.caches g ≡ cache_at bus.copies.caches g
-returned_other bus h g cache other = get_or-set_other bus.copies.caches h g cache no_cache other
+returned_other : (bus : Kept) (h g : ℕ) (cache : Slotted) → g ≢ h →
+    slotted_at (returned bus h cache).copies.caches g ≡ slotted_at bus.copies.caches g
+returned_other bus h g cache other = get_or-set_other bus.copies.caches h g cache no_slotted other
 
-count_returned : (bus : Kept) (h : ℕ) (cache : Cached) → length (returned bus h cache).copies.caches ≡ length bus.copies.caches
+count_returned : (bus : Kept) (h : ℕ) (cache : Slotted) → length (returned bus h cache).copies.caches ≡ length bus.copies.caches
 count_returned bus h cache = length-set bus.copies.caches h cache
 
-pub ready_returned : (bus : Kept) (h : ℕ) (cache : Cached) → h < length bus.copies.caches → IsReady bus → IsReturned bus h cache →
+pub ready_returned : (bus : Kept) (h : ℕ) (cache : Slotted) → h < length bus.copies.caches → IsReady bus → IsReturned bus h cache →
     IsReady (returned bus h cache)
 ready_returned bus h cache inside ready back = record {
-  coherent = back.coherent;
   few = ready.few;
   each = count_returned bus h cache ∙ ready.each;
   well_formed = λ g below. elim (cases_eq g h) [
     | inl own ↦
         subst (λ c. IsWellFormed c.ways c.residency)
-        (sym (ap (cache_at (returned bus h cache).copies.caches) own ∙ returned_same bus h cache inside)) back.well_formed
+        (sym (ap (slotted_at (returned bus h cache).copies.caches) own ∙ returned_same bus h cache inside)) back.well_formed
     | inr other ↦
         subst (λ c. IsWellFormed c.ways c.residency) (sym (returned_other bus h g cache other))
         (ready.well_formed g (omega (arith, below, count_returned bus h cache)))
@@ -67,18 +69,18 @@ ready_returned bus h cache inside ready back = record {
   few_armed = ready.few_armed;
 }
   where
-    still : (g : ℕ) (request : Request) → CanBeServed bus g request → has_room (returned bus h cache).copies g request.line ≡ true →
+    still : (g : ℕ) (request : Request) → CanBeServed bus g request → has_room_in (returned bus h cache).copies g request.line ≡ true →
         CanBeServed (returned bus h cache) g request
     still g request can room = record { own = can.own; hart_exists = can.hart_exists; in_memory = can.in_memory; room = room }
 
     own_room : (g : ℕ) (request : Request) → g ≡ h → room_of cache.ways cache.residency request.line ≡ true →
-        has_room (returned bus h cache).copies g request.line ≡ true
+        has_room_in (returned bus h cache).copies g request.line ≡ true
     own_room g request own room =
         ap (λ c. room_of c.ways c.residency request.line)
-        (ap (cache_at (returned bus h cache).copies.caches) own ∙ returned_same bus h cache inside) ∙ room
+        (ap (slotted_at (returned bus h cache).copies.caches) own ∙ returned_same bus h cache inside) ∙ room
 
-    other_room : (g : ℕ) (request : Request) → g ≢ h → has_room bus.copies g request.line ≡ true →
-        has_room (returned bus h cache).copies g request.line ≡ true
+    other_room : (g : ℕ) (request : Request) → g ≢ h → has_room_in bus.copies g request.line ≡ true →
+        has_room_in (returned bus h cache).copies g request.line ≡ true
     other_room g request other room = ap (λ c. room_of c.ways c.residency request.line) (returned_other bus h g cache other) ∙ room
 
 -- a line that was touched and got the letter M leaves its cache well formed
@@ -89,20 +91,27 @@ well_formed_by_calls old between new line well_formed touches letters =
     (well_formed-lettered old.ways (touched old.residency line) line M (λ same. cc)
     (well_formed-touched old.ways old.residency line well_formed))
 
--- a hart that waits for nothing gives back a cache in which one line was written
-pub stored_returned : (bus : Kept) (h line : ℕ) (cache : Cached) (bytes : List ℕ) → IsReady bus → HasNoRequest bus h →
-    IsStoredIn (cache_at bus.copies.caches h) cache line bytes → IsWellFormed cache.ways cache.residency → IsReturned bus h cache
-stored_returned bus h line cache bytes ready no_request stores well_formed = record {
-  coherent = record {
-    bytes = bytes_with ready.coherent.bytes line bytes;
-    tells = tells_stored bus.copies h line cache ready.coherent.bytes bytes ready.coherent.tells stores;
-  };
+-- a hart that waits for nothing gives back a cache
+pub unasked_returned : (bus : Kept) (h : ℕ) (cache : Slotted) → HasNoRequest bus h → IsWellFormed cache.ways cache.residency →
+    IsReturned bus h cache
+unasked_returned bus h cache no_request well_formed = record {
   well_formed = well_formed;
   raised = λ request is. none_is request (sym no_request.none_raised ∙ is);
   ordered = λ request is. none_is request (sym no_request.none_ordered ∙ is);
 }
 
-pub shows_returned : (bus : Kept) (state : ModelState) (h : ℕ) (cache : Cached) (hart : Hart) (committed : FlatState) →
+-- what a pool and the caches tell after a hart's cache was changed in it, which left those of the other harts
+pub told_returned : (old new : Pooled) (bus : Kept) (h : ℕ) (cache : Slotted) (bytes told : ℕ → List ℕ) → Tells old bus bytes →
+    h < length bus.copies.caches → cache.owner ≡ (slotted_at bus.copies.caches h).owner → IsLent new cache →
+    ((g : ℕ) → g ≢ h → g < length bus.copies.caches → LeavesOwner g old new) →
+    TellsOf (copies_with (lent_copies old bus.copies) h (lent new cache)) told → Tells new (returned bus h cache) told
+told_returned old new bus h cache bytes told tells inside owner kept leaves is = record {
+  lent = lent_back old new bus.copies.caches h cache tells.lent leaves (owner ∙ tells.lent.owned h inside) kept;
+  told = subst (λ caches. AreCoherent told bus.copies.first bus.copies.lines caches)
+      (sym (caches_back old new bus.copies.caches h cache tells.lent leaves)) is;
+}
+
+pub shows_returned : (bus : Kept) (state : ModelState) (h : ℕ) (cache : Slotted) (hart : Hart) (committed : FlatState) →
     h < length bus.copies.caches → Shows bus state → IsReturnedAs bus state h cache hart committed →
     Shows (returned bus h cache) (state_with state h hart committed)
 shows_returned bus state h cache hart committed inside shows back = record {
@@ -126,14 +135,13 @@ shows_returned bus state h cache hart committed inside shows back = record {
   arms = λ g. (all_told g).arms;
   order = shows.order;
   memory = record { first = back.memory.first; lines = back.memory.lines };
-  bytes = back.bytes;
 }
   where
     same_harts : length (slice_set state.harts h hart) ≡ length state.harts
     same_harts = length-set state.harts h hart
 
-    own_cache : (g : ℕ) → g ≡ h → cache_at (returned bus h cache).copies.caches g ≡ cache
-    own_cache g own = ap (cache_at (returned bus h cache).copies.caches) own ∙ returned_same bus h cache inside
+    own_cache : (g : ℕ) → g ≡ h → slotted_at (returned bus h cache).copies.caches g ≡ cache
+    own_cache g own = ap (slotted_at (returned bus h cache).copies.caches) own ∙ returned_same bus h cache inside
 
     own_hart : (g : ℕ) → g ≡ h → hart_of (state_with state h hart committed) g ≡ hart
     own_hart g own =

@@ -1,6 +1,6 @@
 -- caches and main memory tell one thing
 use Rattle.coherence.specs.Served.{IsCoherent, shown}
-use Rattle.snoop.proofs.tests.hierarchy.Given as goal
+use Rattle.snoop.proofs.tests.read_by.Given as goal
 
 abbrev pub invariant-loop-reader : goal.invariant-loop-reader
-invariant-loop-reader l = IsCoherent (shown l.hierarchy)
+invariant-loop-reader l = IsCoherent (shown l.memory.pool l.memory.hierarchy)

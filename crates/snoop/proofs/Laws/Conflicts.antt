@@ -2,14 +2,14 @@
 use Rattle.std.proofs.Common.{◌≡◌, ◌∙◌, ℕ, ◌==◌, ◌&&◌, Bool, true, false, not, Option, Some, None, is_some, refl, ap}
 use Rattle.bus_order.specs.Order.{Request}
 use Rattle.cache_sets.specs.Bits.{bits_of, has_need}
-use Rattle.cache_sets.specs.Cache.{bit_in}
-use Rattle.cache_sets.specs.Residency.{Way}
-use Rattle.coherence.specs.Caches.{cache_at}
+use Rattle.residency.specs.Cache.{bit_in}
+use Rattle.residency.specs.Residency.{Way}
+use Rattle.coherence.specs.Lent.{slotted_at}
 use Rattle.el_base.specs.declared.outcomes.Need.{Need}
 use Rattle.el_base.specs.declared.outcomes.Need.TheVariants.{Read, Write}
 use Rattle.el_model.specs.Conflicts.{conflicts, meets_bit}
 use Rattle.el_model.specs.State.{Hart, ModelState, hart_of}
-use Rattle.snoop.proofs.Living.{lives_shown}
+use Rattle.snoop.proofs.Laws.Living.{lives_shown}
 use Rattle.snoop.specs.Meets.{meets_in}
 use Rattle.snoop.specs.Shows.{Kept, Shows, lives_at}
 
@@ -46,7 +46,7 @@ and_twice false b c = refl
 
 -- the test that the bus makes is the definition's
 pub conflicts_shown : (bus : Kept) (state : ModelState) (request : Request) (h : ℕ) → Shows bus state →
-    (not (request.hart == h) && (lives_at bus h && meets_in (cache_at bus.copies.caches h).residency request.line request.need))
+    (not (request.hart == h) && (lives_at bus h && meets_in (slotted_at bus.copies.caches h).residency request.line request.need))
     ≡ conflicts request h (hart_of state h)
 conflicts_shown bus state request h shows =
     ap (λ cache. not (request.hart == h) && (lives_at bus h && meets_in cache request.line request.need)) (shows.caches h)

@@ -1,1 +1,1 @@
-pub mod Harts
+pub mod Laws

@@ -24,10 +24,10 @@ pub record HasOwn (own : Own) (hart : Hart) : Type 0 where
   pub fallback : own.fallback ≡ hart.fallback
   pub tries : own.tries ≡ hart.tries
 
--- before its first event, with a view and with room for stores to so many lines
-abbrev pub new_own : HartView → ℕ → Own
-new_own view lines = record {
-  section = idle_state view (record { limit = lines; entries = [] });
+-- before its first event, with a view and with room for stores to so many lines, whose slots are those of this owner
+abbrev pub new_own : HartView → ℕ → ℕ → Own
+new_own view lines owner = record {
+  section = idle_state view (record { limit = lines; owner = owner; entries = [] });
   last_lr = None;
   predictor = unseen;
   fallback = false;

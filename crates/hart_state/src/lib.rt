@@ -4,7 +4,7 @@
 //! It stands on `section_ctl` and `pair_table`, on the actions and swaps of `step_rules`, and on the words of
 //! `el_model`. Contracts see a [`HartState`] as an `Own` (`specs/Own.antt`), and each call as one equation on it
 //! (`specs/Deeds.antt`). That an `Own` which is the definition's before such a deed is the definition's after it
-//! stands as a lemma of each deed in `proofs/Harts.antt`. Only [`HartState::make`] takes memory.
+//! stands as a lemma of each deed in `proofs/Laws/Harts.antt`. Only [`HartState::make`] takes memory.
 //!
 //! The ideas are those of R. Rajwar and J. R. Goodman, 'Speculative Lock Elision', MICRO 2001, and
 //! 'Transactional Lock-Free Execution of Lock-Based Programs', ASPLOS 2002; where a doc comment names no

@@ -2,25 +2,32 @@ ghost use Rattle.std.specs.Prelude.{◌≡◌, ◌≤◌, ◌<◌, ◌+◌, ◌-
 ghost use Rattle.std.specs.Prelude.{None, Some, is_some};
 ghost use Rattle.std.specs.Option.{option_map};
 ghost use Rattle.std.specs.Borrow.{sem};
-ghost use Rattle.cache_sets.specs.Cache.{write_bits_of};
+ghost use Rattle.cache_sets.specs.Slotted as caches;
+ghost use Rattle.residency.specs.Cache.{write_bits_of};
 ghost use Rattle.el_model.specs.Losses.{one_more_lost};
 ghost use Rattle.el_model.specs.Plain as plain;
 ghost use Rattle.el_model.specs.State.{Hart, ModelState};
 ghost use Rattle.el_model.specs.Upcoming.{Swap as Exchanged, next_exchange, touch_of};
+ghost use Rattle.line_pool.specs.Others.{LeavesOthers};
+ghost use Rattle.line_pool.specs.Pooled.{Pooled};
 ghost use Rattle.reg_mark.specs.Marks.{committed_of};
 ghost use Rattle.rv_alu.specs.Footprint.{footprint};
 ghost use Rattle.rv_alu.specs.declared.view.HartStatus.TheVariants.{Running};
 ghost use Rattle.rv_flat.specs.FlatState.{view_of};
 ghost use Rattle.section_ctl.specs.Calls.{HasCommitted, HasContinued, HasReleased, HasRun, IsCoveredIn, MayBuffer};
 ghost use Rattle.section_ctl.specs.Calls.{MayContinue, has_written, run_of};
+ghost use Rattle.section_ctl.specs.Lent.{LeavesBeside, LendsBoth};
 ghost use Rattle.section_ctl.specs.PrivateRuns.{ArmsRun, BeginsRun, CommitsRun, ContinuesRun, ElidesRun, GoesOnRun};
 ghost use Rattle.section_ctl.specs.PrivateRuns.{LetsGoRun};
+ghost use Rattle.section_ctl.specs.State.{hold_in};
 ghost use Rattle.section_view.specs.KeptRun.{HoldsMarked};
 ghost use Rattle.section_view.specs.Release.{IsReleaseAction};
 ghost use Rattle.step_rules.specs.Actions.{IsNext, numbered_swap};
+ghost use Rattle.write_hold.specs.Slotted as holds;
 
 use cache_sets::Sets;
 use el_base::{Cause, Config, LineAddr, Mode, NoMemory};
+use line_pool::Pool;
 use pair_table::{PairTable, Verdict};
 use rv_alu::{Action, HartView};
 use rv_word::Reg;
@@ -87,12 +94,17 @@ impl HartState {
     ghost use Rattle.hart_state.specs.Lending.{LendsOwnView};
 
     /// A hart before its first event, with a view: no section, nothing learnt, nothing lost. It has room for the
-    /// stores that a section of the configuration may make.
-    pub fn make(alloc: Global, config: &Config, view: HartView) -> Result<HartState, NoMemory>
-        ensures { IfOk result (λ own. own ≡ new_own view config.now.lines) }
+    /// stores that a section of the configuration may make, whose slots are those of this owner of a pool.
+    pub fn make(
+        alloc: Global,
+        config: &Config,
+        owner: u16,
+        view: HartView,
+    ) -> Result<HartState, NoMemory>
+        ensures { IfOk result (λ own. own ≡ new_own view config.now.lines owner) }
     {
         Ok(HartState {
-            section: Section::make(alloc, config, view)?,
+            section: Section::make(alloc, config, owner, view)?,
             last_lr: None,
             predictor: PairTable::new(),
             fallback: false,
@@ -169,7 +181,8 @@ impl HartState {
 
     /// Whether the live section has written a line: its lock word's, or one that it holds.
     pub fn wrote(&self, line: LineAddr) -> bool
-        ensures { result ≡ has_written self.now.section.live self.now.section.hold.entries line.number }
+        ensures { (pool : Pooled) →
+            result ≡ has_written self.now.section.live (hold_in pool self.now.section).entries line.number }
     {
         self.section.wrote(line)
     }
@@ -271,56 +284,73 @@ impl HartState {
     }
 
     /// Runs an action in the live or the armed section, as `Section::spec_action` does.
-    pub fn buffer(&mut self, sets: &mut Sets, action: Action)
+    pub fn buffer(&mut self, pool: &mut Pool, sets: &mut Sets, action: Action)
         requires either { (is_some self.old.section.live || is_some self.old.section.armed) ≡ true }
+        requires lent { LendsBoth pool.old sets.old self.old.section.hold }
         requires buffered { IfSome self.old.section.live (λ section.
-            MayBuffer self.old.section section sets.old action) }
+            MayBuffer pool.old self.old.section section (caches.lent pool.old sets.old) action) }
         requires counted { IfSome self.old.section.live (λ section. section.count + 1 < 4294967296) }
         requires quiet { IfSome self.old.section.armed (λ reserved. MayContinue reserved action) }
-        requires marked { HoldsMarked sets.old.residency self.old.section.hold.entries }
+        requires marked { HoldsMarked sets.old.residency (hold_in pool.old self.old.section).entries }
         requires few { write_bits_of sets.old.residency ≤ self.old.section.hold.limit }
         ensures own { self.new ≡ buffered_own self.new.section self.old }
         ensures ran { IfSome self.old.section.live (λ section.
-            HasRun self.old.section self.new.section section (run_of self.old.section section sets.old action)) }
+            HasRun pool.old pool.new self.old.section self.new.section section
+            (run_of pool.old self.old.section section (caches.lent pool.old sets.old) action)) }
         ensures continued { IfSome self.old.section.armed (λ reserved.
             HasContinued self.old.section self.new.section reserved action) }
-        ensures cache { IsCoveredIn sets.old sets.new (touch_of (footprint action)) }
-        ensures marked { HoldsMarked sets.new.residency self.new.section.hold.entries }
+        ensures cache { IsCoveredIn (caches.lent pool.old sets.old) (caches.lent pool.new sets.new)
+            (touch_of (footprint action)) }
+        ensures marked { HoldsMarked sets.new.residency (hold_in pool.new self.new.section).entries }
         ensures shows { IfSome self.old.section.live (λ section.
-            GoesOnRun self.old.section self.new.section section sets.old action) }
+            GoesOnRun pool.old pool.new self.old.section self.new.section section
+            (caches.lent pool.old sets.old) action) }
         ensures shows_armed { IfSome self.old.section.armed (λ reserved.
             ContinuesRun self.old.section self.new.section reserved action) }
+        ensures lent { LendsBoth pool.new sets.new self.new.section.hold }
+        ensures owners { (self.new.section.hold.owner ≡ self.old.section.hold.owner) × (sets.new.owner ≡ sets.old.owner) }
+        ensures beside { LeavesBeside sets.old.owner self.old.section.hold.owner pool.old pool.new }
+        ensures armed_pool { IsSome self.old.section.armed → pool.new ≡ pool.old }
     {
-        self.section.spec_action(sets, action);
+        self.section.spec_action(pool, sets, action);
     }
 
     /// Runs the release and commits, as `Section::commit_action` does. The tries begin anew, and the place
     /// of the acquire is trusted more.
-    pub fn commit(&mut self, sets: &mut Sets, action: Action)
+    pub fn commit(&mut self, pool: &mut Pool, sets: &mut Sets, action: Action)
         requires live { IsSome self.old.section.live }
+        requires lent { LendsBoth pool.old sets.old self.old.section.hold }
         requires release { IfSome self.old.section.live (λ section. IsReleaseAction section.word section.old action) }
-        requires marked { HoldsMarked sets.old.residency self.old.section.hold.entries }
+        requires marked { HoldsMarked sets.old.residency (hold_in pool.old self.old.section).entries }
         ensures own { self.new ≡ committed_own self.new.section self.old }
         ensures released { IfSome self.old.section.live (λ section.
-            HasReleased self.old.section self.new.section section action) }
-        ensures cache { HasCommitted sets.old sets.new self.old.section.hold.entries }
+            HasReleased pool.old self.old.section self.new.section section action) }
+        ensures cache { HasCommitted (caches.lent pool.old sets.old) (caches.lent pool.new sets.new)
+            (hold_in pool.old self.old.section).entries }
         ensures shows { IfSome self.old.section.live (λ section.
-            CommitsRun self.old.section self.new.section section sets.old sets.new action) }
+            CommitsRun pool.old self.old.section self.new.section section
+            (caches.lent pool.old sets.old) (caches.lent pool.new sets.new) action) }
+        ensures lent { LendsBoth pool.new sets.new self.new.section.hold }
+        ensures owners { (self.new.section.hold.owner ≡ self.old.section.hold.owner) × (sets.new.owner ≡ sets.old.owner) }
+        ensures beside { LeavesBeside sets.old.owner self.old.section.hold.owner pool.old pool.new }
     {
         let acquire = self.committed().pc;
-        self.section.commit_action(sets, action);
+        self.section.commit_action(pool, sets, action);
         self.tries = 0;
         self.predictor.settle(acquire, Verdict::Up);
     }
 
     /// The hart rolls its section back: it is back at the checkpoint, takes the lock of the next candidate,
     /// and trusts the place of the acquire less where the cause lies with the section itself. A section is live.
-    pub fn roll_back(&mut self, cause: Cause)
-        requires { IsSome self.old.section.live }
-        ensures { self.new ≡ rolled_back_own cause self.old }
+    pub fn roll_back(&mut self, pool: &mut Pool, cause: Cause)
+        requires live { IsSome self.old.section.live }
+        requires lent { holds.IsLent pool.old self.old.section.hold }
+        ensures own { self.new ≡ rolled_back_own cause self.old }
+        ensures lent { holds.IsLent pool.new self.new.section.hold }
+        ensures others { LeavesOthers self.old.section.hold.owner pool.old pool.new }
     {
         let acquire = self.committed().pc;
-        self.section.roll_back();
+        self.section.roll_back(pool);
         self.tries = 0;
         self.fallback = true;
         match cause {
@@ -333,11 +363,14 @@ impl HartState {
 
     /// The section is lost by a conflict: the hart is back at the checkpoint. Without stamps one more try is
     /// counted, and the fourth in a row sets the fallback flag. A section is live.
-    pub fn lose(&mut self, mode: Mode)
-        requires { IsSome self.old.section.live }
-        ensures { self.new ≡ lost_own mode self.old }
+    pub fn lose(&mut self, pool: &mut Pool, mode: Mode)
+        requires live { IsSome self.old.section.live }
+        requires lent { holds.IsLent pool.old self.old.section.hold }
+        ensures own { self.new ≡ lost_own mode self.old }
+        ensures lent { holds.IsLent pool.new self.new.section.hold }
+        ensures others { LeavesOthers self.old.section.hold.owner pool.old pool.new }
     {
-        self.section.roll_back();
+        self.section.roll_back(pool);
         match mode {
             Mode::Tlr => (),
             Mode::Plain | Mode::Sle => self.count_loss(),

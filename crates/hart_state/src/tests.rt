@@ -1,10 +1,12 @@
 //! Harts whose sections are lost and rolled back, and whose watches are settled, worked by hand.
 
-ghost use Rattle.std.specs.Prelude.{◌≡◌, ◌<◌, ◌-◌, ◌^◌, IfOk, IfSome, None};
+ghost use Rattle.std.specs.Prelude.{◌≡◌, ◌<◌, ◌-◌, ◌^◌, IfOk, IsSome, None};
 ghost use Rattle.rv_alu.specs.declared.view.HartStatus.TheVariants.{Running};
+ghost use Rattle.write_hold.specs.Slotted.{IsLent};
 
 use super::*;
 use el_base::{Cause, Config, Mode};
+use line_pool::Pool;
 use rv_alu::{Action, HartStatus, HartView, Regs};
 use rv_word::{AmoOp, Reg};
 use std::alloc::Global;
@@ -43,14 +45,24 @@ fn view(pc: u32) -> HartView
     }
 }
 
+/// A hart, and the pool that lends what it holds.
+#[derive(Drop)]
+struct Hart {
+    pool: Pool,
+    state: HartState,
+    ghost lent: { IsLent pool state.section.hold },
+}
+
 /// A hart before its first event, at a place in the program.
-fn hart_at(alloc: Global, pc: u32) -> Result<HartState, Fail>
-    ensures idle { IfOk result (λ own. own.section.live ≡ None) }
-    ensures unarmed { IfOk result (λ own. own.section.armed ≡ None) }
-    ensures running { IfOk result (λ own. own.section.marks.present.status ≡ Running) }
-    ensures unwatched { IfOk result (λ own. own.predictor.watch ≡ None) }
+fn hart_at(alloc: Global, pc: u32) -> Result<Hart, Fail>
+    ensures idle { IfOk result (λ hart. hart.state.section.live ≡ None) }
+    ensures unarmed { IfOk result (λ hart. hart.state.section.armed ≡ None) }
+    ensures running { IfOk result (λ hart. hart.state.section.marks.present.status ≡ Running) }
+    ensures unwatched { IfOk result (λ hart. hart.state.predictor.watch ≡ None) }
 {
-    Ok(HartState::make(alloc, &Config::usual(), view(pc))?)
+    let state = HartState::make(alloc, &Config::usual(), 0, view(pc))?;
+    let pool = Pool::make(alloc, &[16])?;
+    Ok(Hart { pool, state })
 }
 
 /// The register that a swap puts its word into.
@@ -79,16 +91,16 @@ fn store(address: u32, value: u32) -> Action {
 }
 
 /// A section begins at a word, and is lost.
-fn lose(hart: &mut HartState, mode: Mode) -> Result<(), Fail>
-    requires idle { hart.old.section.live ≡ None }
-    requires unarmed { hart.old.section.armed ≡ None }
-    requires running { hart.old.section.marks.present.status ≡ Running }
-    ensures idle { hart.new.section.live ≡ None }
-    ensures unarmed { hart.new.section.armed ≡ None }
-    ensures running { hart.new.section.marks.present.status ≡ Running }
+fn lose(hart: &mut Hart, mode: Mode) -> Result<(), Fail>
+    requires idle { hart.old.state.section.live ≡ None }
+    requires unarmed { hart.old.state.section.armed ≡ None }
+    requires running { hart.old.state.section.marks.present.status ≡ Running }
+    ensures idle { hart.new.state.section.live ≡ None }
+    ensures unarmed { hart.new.state.section.armed ≡ None }
+    ensures running { hart.new.state.section.marks.present.status ≡ Running }
 {
-    hart.begin(ACQUIRE, found()?);
-    hart.lose(mode);
+    hart.state.begin(ACQUIRE, found()?);
+    hart.state.lose(&mut hart.pool, mode);
     Ok(())
 }
 
@@ -103,35 +115,44 @@ fn the_fourth_loss_in_a_row_takes_the_lock_where_attempts_have_no_stamps(
         let [first, second, third, fourth] = elides;
         let mut hart = hart_at(rt.alloc(), HERE)?;
         lose(&mut hart, mode)?;
-        assert_eq!(rt; hart.may_elide(mode), first, "{mode:?}");
+        assert_eq!(rt; hart.state.may_elide(mode), first, "{mode:?}");
         lose(&mut hart, mode)?;
-        assert_eq!(rt; hart.may_elide(mode), second, "{mode:?}");
+        assert_eq!(rt; hart.state.may_elide(mode), second, "{mode:?}");
         lose(&mut hart, mode)?;
-        assert_eq!(rt; hart.may_elide(mode), third, "{mode:?}");
+        assert_eq!(rt; hart.state.may_elide(mode), third, "{mode:?}");
         lose(&mut hart, mode)?;
-        assert_eq!(rt; hart.may_elide(mode), fourth, "{mode:?}");
+        assert_eq!(rt; hart.state.may_elide(mode), fourth, "{mode:?}");
     }
     Ok(())
 }
 
 /// A candidate at a place runs, which finds 7 in a word and stores 8 there.
-fn run_candidate(hart: &mut HartState, pc: u32, word: u32) -> Result<(), Fail>
-    ensures { hart.new.section ≡ hart.old.section }
+fn run_candidate(hart: &mut Hart, pc: u32, word: u32) -> Result<(), Fail>
+    ensures { hart.new.state.section ≡ hart.old.state.section }
 {
     let (action, swap) = swap_of(word, 7, 8)?;
-    hart.has_run(&Config::usual(), pc, &action, Some(swap), false);
+    hart.state
+        .has_run(&Config::usual(), pc, &action, Some(swap), false);
     Ok(())
 }
 
-/// A section begins at the hart's place, and is rolled back.
-fn roll_back(hart: &mut HartState, found: Reg, cause: Cause)
-    requires idle { hart.old.section.live ≡ None }
-    requires unarmed { hart.old.section.armed ≡ None }
-    requires running { hart.old.section.marks.present.status ≡ Running }
-    ensures { hart.new.section.live ≡ None }
+/// A live section is rolled back.
+fn leave(hart: &mut Hart, cause: Cause)
+    requires { IsSome hart.old.state.section.live }
+    ensures { hart.new.state.section.live ≡ None }
 {
-    hart.begin(ACQUIRE, found);
-    hart.roll_back(cause);
+    hart.state.roll_back(&mut hart.pool, cause);
+}
+
+/// A section begins at the hart's place, and is rolled back.
+fn roll_back(hart: &mut Hart, found: Reg, cause: Cause)
+    requires idle { hart.old.state.section.live ≡ None }
+    requires unarmed { hart.old.state.section.armed ≡ None }
+    requires running { hart.old.state.section.marks.present.status ≡ Running }
+    ensures { hart.new.state.section.live ≡ None }
+{
+    hart.state.begin(ACQUIRE, found);
+    leave(hart, cause);
 }
 
 #[test]
@@ -146,14 +167,14 @@ fn a_rollback_takes_the_next_lock_and_blames_the_section_alone(
         (Cause::Mixed, false),
     ] {
         let mut hart = hart_at(rt.alloc(), HERE)?;
-        hart.begin(ACQUIRE, found()?);
-        assert_eq!(rt; hart.shown().regs.get(found()?), 7);
-        assert_eq!(rt; *hart.committed(), view(HERE));
-        hart.roll_back(cause);
-        assert_eq!(rt; *hart.shown(), view(HERE), "{cause:?}");
-        assert_eq!(rt; hart.may_elide(Mode::Sle), false, "{cause:?}");
+        hart.state.begin(ACQUIRE, found()?);
+        assert_eq!(rt; hart.state.shown().regs.get(found()?), 7);
+        assert_eq!(rt; *hart.state.committed(), view(HERE));
+        leave(&mut hart, cause);
+        assert_eq!(rt; *hart.state.shown(), view(HERE), "{cause:?}");
+        assert_eq!(rt; hart.state.may_elide(Mode::Sle), false, "{cause:?}");
         run_candidate(&mut hart, THERE, WORD)?;
-        assert_eq!(rt; hart.may_elide(Mode::Sle), trusted, "{cause:?}");
+        assert_eq!(rt; hart.state.may_elide(Mode::Sle), trusted, "{cause:?}");
     }
     Ok(())
 }
@@ -174,11 +195,11 @@ fn a_watch_is_settled_by_what_comes_after_it(rt: HostRuntime) -> Result<(), Fail
         };
         let mut hart = hart_at(rt.alloc(), HERE)?;
         run_candidate(&mut hart, HERE, WORD)?;
-        hart.has_run(&config, THERE, &action, None, false);
-        assert_eq!(rt; hart.may_elide(Mode::Tlr), trusted, "{action:?}");
+        hart.state.has_run(&config, THERE, &action, None, false);
+        assert_eq!(rt; hart.state.may_elide(Mode::Tlr), trusted, "{action:?}");
         roll_back(&mut hart, found()?, Cause::Long);
         run_candidate(&mut hart, THERE, WORD)?;
-        assert_eq!(rt; hart.may_elide(Mode::Tlr), still, "{action:?}");
+        assert_eq!(rt; hart.state.may_elide(Mode::Tlr), still, "{action:?}");
     }
     Ok(())
 }
@@ -191,12 +212,23 @@ fn a_candidate_is_watched_where_no_watch_stood(rt: HostRuntime) -> Result<(), Fa
             let mut hart = hart_at(rt.alloc(), pc)?;
             run_candidate(&mut hart, HERE, WORD)?;
             run_candidate(&mut hart, THERE, second)?;
-            hart.has_run(&Config::usual(), 0x10020, &store(OTHER, 9), None, false);
-            hart.has_run(&Config::usual(), 0x10024, &store(WORD, 9), None, false);
-            assert_eq!(rt; hart.may_elide(Mode::Sle), trusted, "{second:x} {pc:x}");
+            hart.state
+                .has_run(&Config::usual(), 0x10020, &store(OTHER, 9), None, false);
+            hart.state
+                .has_run(&Config::usual(), 0x10024, &store(WORD, 9), None, false);
+            assert_eq!(rt;
+                hart.state.may_elide(Mode::Sle),
+                trusted,
+                "{second:x} {pc:x}"
+            );
         }
     }
     Ok(())
+}
+
+/// An instruction runs at the second place.
+fn run_there(hart: &mut Hart, config: &Config, action: &Action, swap: Option<Swap>) {
+    hart.state.has_run(config, THERE, action, swap, false);
 }
 
 #[test]
@@ -215,13 +247,13 @@ fn a_candidate_ends_the_fallback_where_locks_are_elided(rt: HostRuntime) -> Resu
         let mut hart = hart_at(rt.alloc(), HERE)?;
         roll_back(&mut hart, found()?, Cause::Room);
         match new {
-            None => hart.has_run(&config, THERE, &NOTHING, None, false),
+            None => run_there(&mut hart, &config, &NOTHING, None),
             Some(new) => {
                 let (action, swap) = swap_of(WORD, 7, new)?;
-                hart.has_run(&config, THERE, &action, Some(swap), false);
+                run_there(&mut hart, &config, &action, Some(swap));
             }
         }
-        assert_eq!(rt; hart.may_elide(Mode::Sle), ends, "{mode:?} {new:?}");
+        assert_eq!(rt; hart.state.may_elide(Mode::Sle), ends, "{mode:?} {new:?}");
     }
     Ok(())
 }
@@ -243,16 +275,18 @@ fn conditional() -> Result<Action, Fail> {
 }
 
 /// An SC runs at a place, and then a store of a value that the SC did not find.
-fn run_conditional(hart: &mut HartState, pc: u32) -> Result<(), Fail> {
+fn run_conditional(hart: &mut Hart, pc: u32) -> Result<(), Fail> {
     let config = Config::usual();
-    hart.has_run(&config, pc, &conditional()?, Some(ACQUIRE), false);
-    hart.has_run(&config, 0x10020, &store(WORD, 9), None, false);
+    hart.state
+        .has_run(&config, pc, &conditional()?, Some(ACQUIRE), false);
+    hart.state
+        .has_run(&config, 0x10020, &store(WORD, 9), None, false);
     Ok(())
 }
 
 /// How far each of the two places is trusted.
-fn trust(hart: &HartState) -> (u8, u8) {
-    let predictor = hart.predictor();
+fn trust(hart: &Hart) -> (u8, u8) {
+    let predictor = hart.state.predictor();
     (predictor.confidence(HERE), predictor.confidence(THERE))
 }
 
@@ -261,12 +295,13 @@ fn an_acquire_by_an_sc_is_watched_from_the_last_lr(rt: HostRuntime) -> Result<()
     for (reserved, trusted) in [(None, (2, 2)), (Some(HERE), (1, 2)), (Some(THERE), (2, 1))] {
         let mut hart = hart_at(rt.alloc(), HERE)?;
         if let Some(pc) = reserved {
-            hart.has_run(&Config::usual(), pc, &reserve()?, None, true);
+            hart.state
+                .has_run(&Config::usual(), pc, &reserve()?, None, true);
         }
-        assert_eq!(rt; hart.last_lr(), reserved);
+        assert_eq!(rt; hart.state.last_lr(), reserved);
         run_conditional(&mut hart, THERE)?;
         assert_eq!(rt; trust(&hart), trusted, "{reserved:?}");
-        assert_eq!(rt; hart.last_lr(), reserved);
+        assert_eq!(rt; hart.state.last_lr(), reserved);
     }
     Ok(())
 }
@@ -274,12 +309,12 @@ fn an_acquire_by_an_sc_is_watched_from_the_last_lr(rt: HostRuntime) -> Result<()
 #[test]
 fn an_lr_that_is_let_go_is_the_last_one(rt: HostRuntime) -> Result<(), Fail> {
     let mut hart = hart_at(rt.alloc(), HERE)?;
-    hart.arm(WORD, 7, found()?);
-    assert_eq!(rt; hart.last_lr(), None);
-    hart.let_go();
-    assert_eq!(rt; hart.last_lr(), Some(HERE));
-    assert_eq!(rt; hart.committed().pc, 0x10004);
-    assert_eq!(rt; hart.shown().regs.get(found()?), 7);
+    hart.state.arm(WORD, 7, found()?);
+    assert_eq!(rt; hart.state.last_lr(), None);
+    hart.state.let_go();
+    assert_eq!(rt; hart.state.last_lr(), Some(HERE));
+    assert_eq!(rt; hart.state.committed().pc, 0x10004);
+    assert_eq!(rt; hart.state.shown().regs.get(found()?), 7);
     run_conditional(&mut hart, THERE)?;
     assert_eq!(rt; trust(&hart), (1, 2));
     Ok(())
@@ -288,12 +323,12 @@ fn an_lr_that_is_let_go_is_the_last_one(rt: HostRuntime) -> Result<(), Fail> {
 #[test]
 fn a_section_that_an_sc_begins_blames_its_lr(rt: HostRuntime) -> Result<(), Fail> {
     let mut hart = hart_at(rt.alloc(), HERE)?;
-    hart.arm(WORD, 7, found()?);
-    hart.begin_armed(8, found()?);
-    assert_eq!(rt; hart.shown().regs.get(found()?), 0);
-    hart.roll_back(Cause::Long);
-    assert_eq!(rt; *hart.shown(), view(HERE));
-    assert_eq!(rt; hart.last_lr(), None);
+    hart.state.arm(WORD, 7, found()?);
+    hart.state.begin_armed(8, found()?);
+    assert_eq!(rt; hart.state.shown().regs.get(found()?), 0);
+    leave(&mut hart, Cause::Long);
+    assert_eq!(rt; *hart.state.shown(), view(HERE));
+    assert_eq!(rt; hart.state.last_lr(), None);
     assert_eq!(rt; trust(&hart), (1, 2));
     Ok(())
 }

@@ -1,5 +1,5 @@
 -- a section arms, goes on, and becomes a live one; its private run is kept
-use Rattle.std.proofs.Common.{◌≡◌, ◌∙◌, ◌<◌, ◌+◌, ℕ, true, false, List, [], None, Some, ap, refl, subst, sym}
+use Rattle.std.proofs.Common.{◌≡◌, ◌∙◌, ◌<◌, ◌+◌, ℕ, true, false, [], map, None, Some, ap, refl, subst, sym}
 use Rattle.core_step.specs.Port.{stored}
 use Rattle.el_model.specs.State.{Armed}
 use Rattle.rv_alu.specs.Execution.{number_of, perform, put_of, release_of, view_after}
@@ -9,13 +9,14 @@ use Rattle.rv_alu.specs.declared.action.Action.TheVariants as actions
 use Rattle.rv_alu.specs.declared.view.HartStatus.TheVariants.{Running}
 use Rattle.rv_alu.specs.declared.view.HartView.{HartView}
 use Rattle.rv_word.specs.declared.reg.Reg.{Reg}
-use Rattle.section_ctl.proofs.Begins.{goes_on_running, loaded_stored}
+use Rattle.section_ctl.proofs.Laws.Begins.{goes_on_running, loaded_stored}
 use Rattle.section_ctl.specs.Calls.{HasContinued, armed_state, elided_state, ends_section, is_quiet_action}
 use Rattle.section_ctl.specs.PrivateRuns.{ArmsRun, ContinuesRun, ElidesRun}
-use Rattle.section_ctl.specs.State.{Reserved, SectionState}
-use Rattle.section_view.proofs.Arming.{armed_elides, armed_goes, arms}
+use Rattle.section_ctl.specs.State.{Reserved, SectionState, hold_in}
+use Rattle.section_view.proofs.Laws.Arming.{armed_elides, armed_goes, arms}
 use Rattle.section_view.specs.ArmedLaws.{elided, reserved_view}
 use Rattle.section_view.specs.KeptRun.{KeepsArmed, KeepsRun}
+use Rattle.write_hold.specs.Slotted.{lent_entry}
 
 -- the view after an LR
 pub armed_view : (rd : Reg) (word old : ℕ) (view after : HartView) → old < 4294967296 →
@@ -78,9 +79,9 @@ elides_run before after reserved new rd empty is committed h cache found address
     let it = armed_elides committed h cache reserved.armed reserved.old before.marks.present
     (record { word = reserved.armed.word; old = found; new = new }) rd address source kept.run kept.keeps next refl acts in
     let present = ap (λ state. state.marks.present) is in
-    let nothing = ap (λ state. state.hold.entries) is ∙ empty in
     record {
       same = it.found;
-      keeps = subst (KeepsRun committed h section after.marks.present) (sym nothing)
+      keeps = λ pool. subst (KeepsRun committed h section after.marks.present)
+          (sym (ap (λ state. (hold_in pool state).entries) is ∙ ap (map (lent_entry pool)) empty))
           (subst (λ view. KeepsRun committed h section view []) (sym present) it.keeps);
     }

@@ -1,9 +1,8 @@
+pub mod Laws
 mod PortBytes
 mod Room
 mod Runs
-pub mod Begins
 mod Drained
 mod Released
-pub mod Shows
-pub mod Arming
+mod Arming
 mod AnyRoom

@@ -11,7 +11,7 @@ use Rattle.el_base.specs.declared.line.TheConstants.{LINE_BYTES}
 use Rattle.rv_alu.specs.Footprint.{IsSize}
 use Rattle.rv_alu.specs.Loaded.{loaded}
 use Rattle.section_ctl.specs.Shown.{port_byte}
-use Rattle.section_view.proofs.Bytes.{stored_inside, stored_outside}
+use Rattle.section_view.proofs.Laws.Bytes.{stored_inside, stored_outside}
 use Rattle.section_view.specs.KeptRun.{held_over}
 use Rattle.section_view.specs.Laws.{AreLowBytes}
 use Rattle.write_hold.specs.Calls.{IsPut}

@@ -1,16 +1,17 @@
 -- the view after a release
 use Rattle.std.proofs.Common.{◌≡◌, ℕ, ◌<◌, List, Option, Some, option_map, refl, ap, sym, subst, ◌∙◌}
 use Rattle.el_model.specs.State.{Section}
+use Rattle.line_pool.specs.Pooled.{Pooled}
 use Rattle.reg_mark.specs.Marks.{unmarked}
 use Rattle.rv_alu.specs.Execution.{loads, number_of, perform, put_of, release_of, view_after}
 use Rattle.rv_alu.specs.declared.action.Action.{Action}
 use Rattle.rv_word.specs.declared.insn.Insn.{Insn}
 use Rattle.rv_word.specs.declared.insn.Insn.TheVariants as insns
-use Rattle.section_ctl.proofs.Begins.{loaded_stored}
+use Rattle.section_ctl.proofs.Laws.Begins.{loaded_stored}
 use Rattle.section_view.specs.KeptRun.{held_over, section_byte}
 use Rattle.section_ctl.specs.Calls.{HasReleased, HasReleasedBy}
 use Rattle.section_ctl.specs.Releases.{IsReleaseInsn, release_of_insn}
-use Rattle.section_ctl.specs.State.{SectionState}
+use Rattle.section_ctl.specs.State.{SectionState, hold_in}
 use Rattle.section_view.specs.Release.{BySwap, ByStore, IsReleaseAction, released_view}
 use Rattle.write_hold.specs.Held.{Entry}
 
@@ -24,9 +25,9 @@ finds_new action word old new hold under small (BySwap rd is) =
     (ap Some (sym (loaded_stored (held_over hold under) word new small)))
 
 -- the view after a release, by its instruction
-pub released_by : (before after : SectionState) (section : Section) (insn : Option Insn) → IsReleaseInsn insn → section.new < 4294967296 →
-    HasReleased before after section (release_of_insn insn section.word section.old) → HasReleasedBy before after section insn
-released_by before after section insn is small released = record {
+pub released_by : (pool : Pooled) (before after : SectionState) (section : Section) (insn : Option Insn) → IsReleaseInsn insn → section.new < 4294967296 →
+    HasReleased pool before after section (release_of_insn insn section.word section.old) → HasReleasedBy before after section insn
+released_by pool before after section insn is small released = record {
   marks = released.marks (λ at. 0) ∙ ap unmarked (by insn is);
   hold = released.hold;
   live = released.live;
@@ -34,7 +35,7 @@ released_by before after section insn is small released = record {
 }
   where
     byte : ℕ → ℕ
-    byte = section_byte before.hold.entries section.word section.new (λ at. 0)
+    byte = section_byte (hold_in pool before).entries section.word section.new (λ at. 0)
 
     by : (i : Option Insn) → IsReleaseInsn i →
         view_after (perform (release_of_insn i section.word section.old) before.marks.present byte) before.marks.present
@@ -42,7 +43,7 @@ released_by before after section insn is small released = record {
     by (Some (insns.Store width rs1 rs2 offset)) is = refl
     by (Some (insns.Amo op rd rs1 rs2 aq rl)) is =
         ap (λ value. release_of (put_of before.marks.present rd.number value))
-        (loaded_stored (held_over before.hold.entries (λ at. 0)) section.word section.new small)
+        (loaded_stored (held_over (hold_in pool before).entries (λ at. 0)) section.word section.new small)
     by _ is = absurd is
 
 -- such an action is a release

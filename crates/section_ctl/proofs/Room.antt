@@ -6,8 +6,8 @@ use Rattle.std.proofs.lemmas.Bool.{cases_eq}
 use Rattle.std.proofs.lemmas.Bool.Decides.{nat_tests}
 use Rattle.std.proofs.lemmas.List.Sums.{sum_by-cons}
 use Rattle.std.proofs.lemmas.Grind.{common_steps}
-use Rattle.cache_sets.specs.Cache.{bit_in, set_number, set_of, write_bit, write_bits_of}
-use Rattle.cache_sets.specs.Residency.{Way, way_in}
+use Rattle.residency.specs.Cache.{bit_in, set_number, set_of, write_bit, write_bits_of}
+use Rattle.residency.specs.Residency.{Way, way_in}
 use Rattle.el_base.specs.declared.outcomes.Need.TheVariants.{Write}
 use Rattle.section_view.specs.KeptRun.{HoldsMarked}
 use Rattle.write_hold.specs.Calls.{IsHold}

@@ -1,30 +1,36 @@
 -- an action of a section that ran over its port
-use Rattle.std.proofs.Common.{◌≡◌, ℕ, ◌+◌, ◌<◌, ◌≤◌, Bool, List, Option, None, Some, refl, ap, sym, subst, ◌∙◌, arith}
-use Rattle.std.specs.Prelude.{MatchOption}
+use Rattle.std.proofs.Common.{◌≡◌, ℕ, ◌+◌, ◌<◌, ◌≤◌, Bool, if◌then◌else◌, List, Option, None, Some, refl, ap, sym, subst, ◌∙◌, arith}
 use Rattle.std.specs.Option.{unwrap_or}
 use Rattle.std.proofs.lemmas.Bool.Decides.{nat_tests}
-use Rattle.cache_sets.specs.Cache.{write_bits_of}
+use Rattle.residency.specs.Cache.{marked, touched, write_bits_of}
 use Rattle.cache_sets.specs.Cached.{Cached, cached_byte}
-use Rattle.cache_sets.specs.Residency.{Way}
+use Rattle.cache_sets.specs.Calls.{IsTouched}
+use Rattle.cache_sets.specs.Slotted as caches
+use Rattle.line_pool.specs.Others.{LeavesOthers}
+use Rattle.line_pool.specs.Pooled.{Pooled}
+use Rattle.line_pool.proofs.Laws.OtherLaws.{leaves-same}
+use Rattle.residency.specs.Residency.{Way}
 use Rattle.core_step.specs.Port.{stored}
 use Rattle.core_step.specs.Run.{ended_by, ended_of, lacking, store_when, view_when}
 use Rattle.core_step.specs.declared.ended.Ended.{Ended}
 use Rattle.el_base.specs.declared.outcomes.Need.{Need}
-use Rattle.el_model.specs.Upcoming.{touch_of}
+use Rattle.el_model.specs.Upcoming.{Touch, touch_of}
 use Rattle.run_laws.specs.PrivateRun.{HasItsBit}
 use Rattle.rv_alu.specs.Execution.{Execution, Goes, Stops, Store, store_in, view_after}
 use Rattle.rv_alu.specs.declared.footprint.Access.{Access}
 use Rattle.rv_alu.specs.declared.footprint.Access.TheVariants as accesses
 use Rattle.rv_alu.specs.declared.view.HartView.{HartView}
 use Rattle.section_ctl.proofs.Room.{room_for_written}
-use Rattle.section_ctl.specs.Calls.{IsPutInto}
+use Rattle.section_ctl.specs.Calls.{IsCoveredIn}
+use Rattle.section_ctl.specs.Lent.{LendsBoth, MayPut}
 use Rattle.section_ctl.specs.Shown.{IsTouchedLine, permits_one, port_byte}
-use Rattle.section_view.proofs.Bytes.{stored_inside, stored_outside}
-use Rattle.section_view.proofs.ShownBytes.{Inside, Outside, in_word}
+use Rattle.section_view.proofs.Laws.Bytes.{stored_inside, stored_outside}
+use Rattle.section_view.proofs.Laws.ShownBytes.{Inside, Outside, in_word}
 use Rattle.section_view.specs.KeptRun.{HoldsMarked, held_over, section_byte}
 use Rattle.section_view.specs.Laws.{HoldsAfter}
 use Rattle.write_hold.specs.Calls.{IsHold}
 use Rattle.write_hold.specs.Held.{Entry, Held, held}
+use Rattle.write_hold.specs.Slotted as holds
 
 -- what a port shows is what the section shows, since no byte of the lock word is held
 byte_shown : (entries : List Entry) (word new : ℕ) (cache : Cached) → ((address : ℕ) → word ≤ address → address < word + 4 → held entries address ≡ None) →
@@ -73,19 +79,40 @@ module _ (result : Ended) (permits : ℕ → Need → Bool) (access : Access) (e
       by (Stops status) = refl
       by (Goes new store append) = refl
 
--- what the hold ends as, by what the port told of it
-held_after : (store : Option Store) (Same Named : Type 0) (old new last : Held) →
-    MatchOption store Same (λ s. Named × IsPutInto old new s.address s.len s.value) → (Same → Named × (new ≡ old)) → (Named → last ≡ new) →
-    HoldsAfter store old last
-held_after None Same Named old new last told same ends = ap (λ hold. hold.entries) (ends (same told).0 ∙ (same told).1)
-held_after (Some store) Same Named old new last told same ends = subst (HoldsAfter (Some store) old) (sym (ends told.0)) told.1
+-- what an action leaves of the hold, and of the pool that lends it
+pub record RanInPool (cache : caches.Slotted) (old new : Pooled) (before after : holds.Slotted) (store : Option Store) : Type 0 where
+  pub held : HoldsAfter store (holds.lent old before) (holds.lent new after)
+  pub limit : after.limit ≡ before.limit
+  pub lent : LendsBoth new cache after
+  pub owner : after.owner ≡ before.owner
+  pub others : LeavesOthers before.owner old new
 
-pub held_ran : (result : Ended) (permits : ℕ → Need → Bool) (access : Access) (execution : Execution) → result ≡ ended_of (lacking permits access) execution →
-    lacking permits access ≡ None → (Same Named : Type 0) (old new last : Held) →
-    MatchOption (store_when result execution) Same (λ s. Named × IsPutInto old new s.address s.len s.value) → (Same → Named × (new ≡ old)) →
-    (Named → last ≡ new) → HoldsAfter (store_in execution) old last
-held_ran result permits access execution is nothing Same Named old new last told same ends =
-    held_after (store_in execution) Same Named old new last
-    (subst (λ store. MatchOption store Same (λ s. Named × IsPutInto old new s.address s.len s.value))
-    (store_ran result permits access execution is nothing) told)
-    same ends
+module _ (cache : caches.Slotted) (old new : Pooled) (before after : holds.Slotted) where
+  ran_by : (store : Option Store) → MayPut cache old new before after store → LendsBoth old cache before → RanInPool cache old new before after store
+  ran_by None same owes =
+      subst (λ pool. RanInPool cache old pool before after None) (sym same.0)
+      (subst (λ hold. RanInPool cache old old before hold None) (sym same.1) (record {
+        held = refl;
+        limit = refl;
+        lent = owes;
+        owner = refl;
+        others = leaves-same before.owner old;
+      }))
+  ran_by (Some store) put owes = record { held = put.put; limit = put.put.put.limit; lent = put.lent; owner = put.owner; others = put.others }
+
+  pub ran_in_pool : (result : Ended) (permits : ℕ → Need → Bool) (access : Access) (execution : Execution) →
+      result ≡ ended_of (lacking permits access) execution → lacking permits access ≡ None →
+      MayPut cache old new before after (store_when result execution) → LendsBoth old cache before →
+      RanInPool cache old new before after (store_in execution)
+  ran_in_pool result permits access execution is nothing put owes =
+      ran_by (store_in execution) (subst (MayPut cache old new before after) (store_ran result permits access execution is nothing) put) owes
+
+-- a line that has its bit was touched
+pub covered_touch : (old new : Cached) (touch : Touch) → HasItsBit old.residency (Some touch) → IsTouched old new touch.line →
+    IsCoveredIn old new (Some touch)
+covered_touch old new touch bit touches = record {
+  ways = touches.ways;
+  residency = touches.residency
+      ∙ sym (ap (λ b. touched (if b then old.residency else marked old.residency touch.line touch.need) touch.line) bit);
+  copies = touches.copies;
+}

@@ -1,12 +1,13 @@
 -- what each call of a section makes of it, and of its hart's cache
 use Rattle.std.specs.Prelude.{ℕ, ◌≡◌, ◌+◌, ◌<◌, Bool, true, false, if◌then◌else◌, List, [], length, slice_index, Option, None, Some, option_map}
-use Rattle.cache_sets.specs.Cache.{committed, write_bit}
+use Rattle.residency.specs.Cache.{committed, write_bit}
 use Rattle.cache_sets.specs.Cached.{Cached, Copy, bytes_of, cached_byte, copy_in}
 use Rattle.core_step.specs.Run.{IsAligned}
 use Rattle.el_base.specs.declared.line.TheConstants.{LINE_BYTES}
 use Rattle.el_model.specs.InSection.{covered}
 use Rattle.el_model.specs.State.{Section}
 use Rattle.el_model.specs.Upcoming.{Touch, overlaps, touch_of}
+use Rattle.line_pool.specs.Pooled.{Pooled}
 use Rattle.moesi.specs.declared.letter.Letter.TheVariants.{M}
 use Rattle.reg_mark.specs.Marks.{back_of, kept_of, unmarked}
 use Rattle.run_laws.specs.PrivateRun.{HasItsBit}
@@ -16,19 +17,20 @@ use Rattle.rv_alu.specs.declared.action.Action.{Action}
 use Rattle.rv_alu.specs.declared.action.Action.TheVariants as actions
 use Rattle.rv_alu.specs.declared.view.HartView.{HartView}
 use Rattle.rv_word.specs.declared.insn.Insn.{Insn}
-use Rattle.section_ctl.specs.State.{Reserved, SectionState}
+use Rattle.section_ctl.specs.State.{Reserved, SectionState, hold_in}
 use Rattle.section_view.specs.ArmedLaws.{elided, reserved_view}
 use Rattle.section_view.specs.KeptRun.{is_written, section_byte}
 use Rattle.section_view.specs.Release.{released_view}
 use Rattle.section_view.specs.Laws.{HoldsAfter, IsHeldStore}
 use Rattle.write_hold.specs.Held.{Entry, Held, holds, seen_at}
+use Rattle.write_hold.specs.Slotted.{Slotted}
 
 -- the low bytes of a value were stored into a hold
 abbrev pub IsPutInto : Held → Held → ℕ → ℕ → ℕ → Type 0
 IsPutInto old new address len value = IsHeldStore (record { address = address; len = len; value = value }) old new
 
 -- there is no section, and the hart has this view
-abbrev pub idle_state : HartView → Held → SectionState
+abbrev pub idle_state : HartView → Slotted → SectionState
 idle_state view hold = record { marks = unmarked view; hold = hold; live = None; armed = None }
 
 -- a section has begun: its acquire has put the old value into a register, and is the first of its instructions
@@ -81,22 +83,22 @@ ends_section (actions.Append address len) = true
 ends_section _ = false
 
 -- what an action of a section does, over the bytes that the section shows
-abbrev pub run_of : SectionState → Section → Cached → Action → Execution
-run_of state section cache action =
-    perform action state.marks.present (section_byte state.hold.entries section.word section.new (cached_byte cache))
+abbrev pub run_of : Pooled → SectionState → Section → Cached → Action → Execution
+run_of pool state section cache action =
+    perform action state.marks.present (section_byte (hold_in pool state).entries section.word section.new (cached_byte cache))
 
 -- an action that a section may run privately: it neither calls nor stops its hart, stores to no byte of the lock word, and what it
 -- touches has its bit
-pub record MayBuffer (state : SectionState) (section : Section) (cache : Cached) (action : Action) : Type 0 where
+pub record MayBuffer (pool : Pooled) (state : SectionState) (section : Section) (cache : Cached) (action : Action) : Type 0 where
   pub goes_on : ends_section action ≡ false
   pub aligned : IsAligned action
-  pub unmixed : overlaps section.word (store_in (run_of state section cache action)) ≡ false
+  pub unmixed : overlaps section.word (store_in (run_of pool state section cache action)) ≡ false
   pub bit : HasItsBit cache.residency (touch_of (footprint action))
 
 -- it ran: the view is the one after it, its store is held, and the checkpoint stays
-pub record HasRun (old new : SectionState) (section : Section) (execution : Execution) : Type 0 where
+pub record HasRun (before after : Pooled) (old new : SectionState) (section : Section) (execution : Execution) : Type 0 where
   pub marks : new.marks ≡ record old.marks { present = view_after execution old.marks.present }
-  pub hold : HoldsAfter (store_in execution) old.hold new.hold
+  pub hold : HoldsAfter (store_in execution) (hold_in before old) (hold_in after new)
   pub limit : new.hold.limit ≡ old.hold.limit
   pub live : new.live ≡ Some (record section { count = section.count + 1 })
   pub armed : new.armed ≡ None
@@ -128,9 +130,10 @@ pub record IsCoveredIn (old new : Cached) (touch : Option Touch) : Type 0 where
   pub copies : (line : ℕ) → copy_in new line ≡ copy_in old line
 
 -- the release ran: the view is the one after it, whatever lies under the hold; no checkpoint stands, and nothing is held
-pub record HasReleased (old new : SectionState) (section : Section) (action : Action) : Type 0 where
+pub record HasReleased (pool : Pooled) (old new : SectionState) (section : Section) (action : Action) : Type 0 where
   pub marks : (under : ℕ → ℕ) → new.marks ≡
-      unmarked (view_after (perform action old.marks.present (section_byte old.hold.entries section.word section.new under)) old.marks.present)
+      unmarked (view_after (perform action old.marks.present (section_byte (hold_in pool old).entries section.word section.new under))
+      old.marks.present)
   pub hold : new.hold ≡ record old.hold { entries = [] }
   pub live : new.live ≡ None
   pub armed : new.armed ≡ None

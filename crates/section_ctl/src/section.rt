@@ -1,8 +1,11 @@
 ghost use Rattle.std.specs.Prelude.{◌≡◌, ◌≤◌, ◌<◌, ◌+◌, ◌%◌, [], IfOk, IfSome, IsSome, ℕ};
 ghost use Rattle.std.specs.Prelude.{◌||◌, None, Some, is_some, option_map, true};
 ghost use Rattle.std.specs.Borrow.{sem};
-ghost use Rattle.cache_sets.specs.Cache.{write_bits_of};
+ghost use Rattle.cache_sets.specs.Slotted as caches;
+ghost use Rattle.residency.specs.Cache.{write_bits_of};
 ghost use Rattle.el_model.specs.Upcoming.{touch_of};
+ghost use Rattle.line_pool.specs.Others.{LeavesOthers};
+ghost use Rattle.line_pool.specs.Pooled.{Pooled};
 ghost use Rattle.reg_mark.specs.Marks.{committed_of, marks_unreserved};
 ghost use Rattle.rv_alu.specs.Action.{action_at};
 ghost use Rattle.rv_alu.specs.Execution.{loads};
@@ -13,6 +16,7 @@ ghost use Rattle.section_ctl.specs.Releases.{IsReleaseInsn, release_of_insn};
 ghost use Rattle.section_ctl.specs.State.{reserved_of, section_of};
 ghost use Rattle.section_view.specs.KeptRun.{HoldsMarked};
 ghost use Rattle.section_view.specs.Release.{IsReleaseAction};
+ghost use Rattle.write_hold.specs.Slotted as holds;
 
 use crate::armed::{Armed, Reserved};
 use crate::drain::commit_into;
@@ -21,6 +25,7 @@ use crate::private::Private;
 use crate::run::{run_over, touch};
 use cache_sets::Sets;
 use el_base::{Config, LineAddr, NoMemory, line_of};
+use line_pool::Pool;
 use reg_mark::Marked;
 use rv_alu::{Action, HartView, Span};
 use rv_word::{AmoOp, Insn, Reg, decode};
@@ -67,6 +72,7 @@ impl Section {
       run_of,
     };
     ghost use Rattle.section_ctl.specs.Lending.{LendsView};
+    ghost use Rattle.section_ctl.specs.Lent.{LeavesBeside, LendsBoth};
     ghost use Rattle.section_ctl.specs.PrivateRuns.{
       ArmsRun,
       BeginsRun,
@@ -77,17 +83,22 @@ impl Section {
       GoesOnRun,
       LetsGoRun,
     };
-    ghost use Rattle.section_ctl.specs.State.{armed_of};
+    ghost use Rattle.section_ctl.specs.State.{armed_of, hold_in};
 
     /// A hart's view without a section, with room for the stores that a section of the
-    /// configuration may make.
-    pub fn make(alloc: Global, config: &Config, view: HartView) -> Result<Section, NoMemory>
-        ensures { IfOk result
-            (λ section. section ≡ idle_state view (record { limit = config.now.lines; entries = [] })) }
+    /// configuration may make, whose slots are those of this owner of a pool.
+    pub fn make(
+        alloc: Global,
+        config: &Config,
+        owner: u16,
+        view: HartView,
+    ) -> Result<Section, NoMemory>
+        ensures { IfOk result (λ section.
+            section ≡ idle_state view (record { limit = config.now.lines; owner = owner; entries = [] })) }
     {
         Ok(Section {
             marks: Marked::new(view),
-            hold: Hold::make(alloc, config)?,
+            hold: Hold::make(alloc, config, owner)?,
             private: Private::Nothing,
         })
     }
@@ -148,7 +159,7 @@ impl Section {
     }
 
     /// What the live section has stored; nothing where none is live.
-    #[tactic(auto, using(crate::proofs::Begins::nothing_held))]
+    #[tactic(auto, using(crate::proofs::Laws::Begins::nothing_held))]
     pub fn hold(&self) -> &Hold
         ensures exact { result.now ≡ self.now.hold }
         ensures nothing { self.now.live ≡ None → result.now.entries ≡ [] }
@@ -159,7 +170,8 @@ impl Section {
     /// Whether the live section has written a line: its lock word's, or one that is held. At its commit
     /// the other harts lose their reservations of words on these lines.
     pub fn wrote(&self, line: LineAddr) -> bool
-        ensures { result ≡ has_written self.now.live self.now.hold.entries line.number }
+        ensures { (pool : Pooled) →
+            result ≡ has_written self.now.live (hold_in pool self.now).entries line.number }
     {
         match self.private {
             Private::Live(live) => line.number == line_of(live.word).number || self.hold.has(line),
@@ -254,40 +266,61 @@ impl Section {
     /// neither calls nor stops its hart, stores to no byte of the lock word, and what it touches has its bit in
     /// the hart's cache; each held line has the write bit there, and no more lines have it than a section
     /// may write. In an armed one the action is quiet: it touches no memory, is no SC, and neither calls nor stops its
-    /// hart.
-    pub fn spec_action(&mut self, sets: &mut Sets, action: Action)
+    /// hart. One pool lends the section and the cache, and leaves what other owners have of it.
+    pub fn spec_action(&mut self, pool: &mut Pool, sets: &mut Sets, action: Action)
         requires either { (is_some self.old.live || is_some self.old.armed) ≡ true }
-        requires buffered { IfSome self.old.live (λ section. MayBuffer self.old section sets.old action) }
+        requires lent { LendsBoth pool.old sets.old self.old.hold }
+        requires buffered { IfSome self.old.live (λ section.
+            MayBuffer pool.old self.old section (caches.lent pool.old sets.old) action) }
         requires counted { IfSome self.old.live (λ section. section.count + 1 < 4294967296) }
         requires quiet { IfSome self.old.armed (λ reserved. MayContinue reserved action) }
-        requires marked { HoldsMarked sets.old.residency self.old.hold.entries }
+        requires marked { HoldsMarked sets.old.residency (hold_in pool.old self.old).entries }
         requires few { write_bits_of sets.old.residency ≤ self.old.hold.limit }
-        ensures ran { IfSome self.old.live (λ section.
-            HasRun self.old self.new section (run_of self.old section sets.old action)) }
+        ensures ran { IfSome self.old.live (λ section. HasRun pool.old pool.new self.old self.new section
+            (run_of pool.old self.old section (caches.lent pool.old sets.old) action)) }
         ensures continued { IfSome self.old.armed (λ reserved. HasContinued self.old self.new reserved action) }
-        ensures cache { IsCoveredIn sets.old sets.new (touch_of (footprint action)) }
-        ensures marked { HoldsMarked sets.new.residency self.new.hold.entries }
-        ensures shows { IfSome self.old.live (λ section. GoesOnRun self.old self.new section sets.old action) }
+        ensures cache { IsCoveredIn (caches.lent pool.old sets.old) (caches.lent pool.new sets.new)
+            (touch_of (footprint action)) }
+        ensures marked { HoldsMarked sets.new.residency (hold_in pool.new self.new).entries }
+        ensures shows { IfSome self.old.live (λ section. GoesOnRun pool.old pool.new self.old self.new section
+            (caches.lent pool.old sets.old) action) }
         ensures shows_armed { IfSome self.old.armed (λ reserved. ContinuesRun self.old self.new reserved action) }
+        ensures lent { LendsBoth pool.new sets.new self.new.hold }
+        ensures owners { (self.new.hold.owner ≡ self.old.hold.owner) × (sets.new.owner ≡ sets.old.owner) }
+        ensures beside { LeavesBeside sets.old.owner self.old.hold.owner pool.old pool.new }
+        ensures armed_pool { IsSome self.old.armed → pool.new ≡ pool.old }
     {
         match self.private {
-            Private::Live(live) => self.run_live(live, sets, action),
+            Private::Live(live) => self.run_live(pool, live, sets, action),
             Private::Armed(reserved) => self.run_armed(reserved, action),
             Private::Nothing => unreachable!(),
         }
     }
 
     /// Runs an action in the live section.
-    fn run_live(&mut self, live: Live, sets: &mut Sets, action: Action)
+    fn run_live(&mut self, pool: &mut Pool, live: Live, sets: &mut Sets, action: Action)
         requires is { self.old.live ≡ Some (section_of live) }
-        requires buffered { MayBuffer self.old (section_of live) sets.old action }
+        requires lent { LendsBoth pool.old sets.old self.old.hold }
+        requires buffered { MayBuffer pool.old self.old (section_of live) (caches.lent pool.old sets.old) action }
         requires counted { live.count + 1 < 4294967296 }
-        requires marked { HoldsMarked sets.old.residency self.old.hold.entries }
+        requires marked { HoldsMarked sets.old.residency (hold_in pool.old self.old).entries }
         requires few { write_bits_of sets.old.residency ≤ self.old.hold.limit }
-        ensures ran { HasRun self.old self.new (section_of live) (run_of self.old (section_of live) sets.old action) }
-        ensures cache { IsCoveredIn sets.old sets.new (touch_of (footprint action)) }
+        ensures ran { HasRun pool.old pool.new self.old self.new (section_of live)
+            (run_of pool.old self.old (section_of live) (caches.lent pool.old sets.old) action) }
+        ensures cache { IsCoveredIn (caches.lent pool.old sets.old) (caches.lent pool.new sets.new)
+            (touch_of (footprint action)) }
+        ensures lent { LendsBoth pool.new sets.new self.new.hold }
+        ensures owners { (self.new.hold.owner ≡ self.old.hold.owner) × (sets.new.owner ≡ sets.old.owner) }
+        ensures others { LeavesOthers self.old.hold.owner pool.old pool.new }
     {
-        run_over(&mut self.hold, &mut self.marks.present, sets, live, action);
+        run_over(
+            pool,
+            &mut self.hold,
+            &mut self.marks.present,
+            sets,
+            live,
+            action,
+        );
         touch(sets, action);
         self.private = Private::Live(Live {
             count: live.count + 1,
@@ -311,42 +344,54 @@ impl Section {
 
     /// Runs the instruction of a word in the live or the armed section, whose action is as [`Section::spec_action`]
     /// asks. Such an action does not depend on the room of the output.
-    pub fn spec_insn(&mut self, sets: &mut Sets, word: u32, span: Span)
+    pub fn spec_insn(&mut self, pool: &mut Pool, sets: &mut Sets, word: u32, span: Span)
         requires either { (is_some self.old.live || is_some self.old.armed) ≡ true }
-        requires buffered { IfSome self.old.live (λ section.
-            MayBuffer self.old section sets.old (action_at (Some word) self.old.marks.present span 0)) }
+        requires lent { LendsBoth pool.old sets.old self.old.hold }
+        requires buffered { IfSome self.old.live (λ section. MayBuffer pool.old self.old section
+            (caches.lent pool.old sets.old) (action_at (Some word) self.old.marks.present span 0)) }
         requires counted { IfSome self.old.live (λ section. section.count + 1 < 4294967296) }
         requires quiet { IfSome self.old.armed (λ reserved.
             MayContinue reserved (action_at (Some word) self.old.marks.present span 0)) }
-        requires marked { HoldsMarked sets.old.residency self.old.hold.entries }
+        requires marked { HoldsMarked sets.old.residency (hold_in pool.old self.old).entries }
         requires few { write_bits_of sets.old.residency ≤ self.old.hold.limit }
-        ensures ran { (room : ℕ) → IfSome self.old.live (λ section. HasRun self.old self.new section
-            (run_of self.old section sets.old (action_at (Some word) self.old.marks.present span room))) }
+        ensures ran { (room : ℕ) → IfSome self.old.live (λ section. HasRun pool.old pool.new self.old self.new section
+            (run_of pool.old self.old section (caches.lent pool.old sets.old)
+            (action_at (Some word) self.old.marks.present span room))) }
         ensures continued { (room : ℕ) → IfSome self.old.armed (λ reserved.
             HasContinued self.old self.new reserved (action_at (Some word) self.old.marks.present span room)) }
-        ensures cache { IsCoveredIn sets.old sets.new
+        ensures cache { IsCoveredIn (caches.lent pool.old sets.old) (caches.lent pool.new sets.new)
             (touch_of (footprint (action_at (Some word) self.old.marks.present span 0))) }
-        ensures marked { HoldsMarked sets.new.residency self.new.hold.entries }
-        ensures shows { (room : ℕ) → IfSome self.old.live (λ section.
-            GoesOnRun self.old self.new section sets.old (action_at (Some word) self.old.marks.present span room)) }
+        ensures marked { HoldsMarked sets.new.residency (hold_in pool.new self.new).entries }
+        ensures shows { (room : ℕ) → IfSome self.old.live (λ section. GoesOnRun pool.old pool.new self.old self.new section
+            (caches.lent pool.old sets.old) (action_at (Some word) self.old.marks.present span room)) }
         ensures shows_armed { (room : ℕ) → IfSome self.old.armed (λ reserved.
             ContinuesRun self.old self.new reserved (action_at (Some word) self.old.marks.present span room)) }
+        ensures lent { LendsBoth pool.new sets.new self.new.hold }
+        ensures owners { (self.new.hold.owner ≡ self.old.hold.owner) × (sets.new.owner ≡ sets.old.owner) }
+        ensures beside { LeavesBeside sets.old.owner self.old.hold.owner pool.old pool.new }
+        ensures armed_pool { IsSome self.old.armed → pool.new ≡ pool.old }
     {
         let action = Action::at(Some(word), &self.marks.present, span, 0);
-        self.spec_action(sets, action);
+        self.spec_action(pool, sets, action);
     }
 
     /// Runs the release, an action that stores the old value in the lock word, and commits: what is held
     /// is put into the cache, whose written lines become modified, and no section is live. Each held line
-    /// has the write bit in the hart's cache.
-    pub fn commit_action(&mut self, sets: &mut Sets, action: Action)
+    /// has the write bit in the hart's cache. One pool lends the section and the cache, and leaves what other owners
+    /// have of it.
+    pub fn commit_action(&mut self, pool: &mut Pool, sets: &mut Sets, action: Action)
         requires live { IsSome self.old.live }
+        requires lent { LendsBoth pool.old sets.old self.old.hold }
         requires release { IfSome self.old.live (λ section. IsReleaseAction section.word section.old action) }
-        requires marked { HoldsMarked sets.old.residency self.old.hold.entries }
-        ensures released { IfSome self.old.live (λ section. HasReleased self.old self.new section action) }
-        ensures cache { HasCommitted sets.old sets.new self.old.hold.entries }
-        ensures shows { IfSome self.old.live (λ section.
-            CommitsRun self.old self.new section sets.old sets.new action) }
+        requires marked { HoldsMarked sets.old.residency (hold_in pool.old self.old).entries }
+        ensures released { IfSome self.old.live (λ section. HasReleased pool.old self.old self.new section action) }
+        ensures cache { HasCommitted (caches.lent pool.old sets.old) (caches.lent pool.new sets.new)
+            (hold_in pool.old self.old).entries }
+        ensures shows { IfSome self.old.live (λ section. CommitsRun pool.old self.old self.new section
+            (caches.lent pool.old sets.old) (caches.lent pool.new sets.new) action) }
+        ensures lent { LendsBoth pool.new sets.new self.new.hold }
+        ensures owners { (self.new.hold.owner ≡ self.old.hold.owner) × (sets.new.owner ≡ sets.old.owner) }
+        ensures beside { LeavesBeside sets.old.owner self.old.hold.owner pool.old pool.new }
     {
         let Private::Live(live) = self.private else {
             unreachable!()
@@ -354,33 +399,42 @@ impl Section {
         let found = found_by(action, live.new);
         action.perform(&mut self.marks.present, found);
         self.marks.keep();
-        commit_into(&mut self.hold, sets);
+        commit_into(pool, &mut self.hold, sets);
         self.private = Private::Nothing;
     }
 
     /// Runs the release, the instruction of a word that stores or swaps the old value into the lock word,
     /// and commits, as [`Section::commit_action`] does.
-    pub fn commit(&mut self, sets: &mut Sets, code: u32)
+    pub fn commit(&mut self, pool: &mut Pool, sets: &mut Sets, code: u32)
         requires live { IsSome self.old.live }
+        requires lent { LendsBoth pool.old sets.old self.old.hold }
         requires release { IsReleaseInsn (decoded code) }
-        requires marked { HoldsMarked sets.old.residency self.old.hold.entries }
+        requires marked { HoldsMarked sets.old.residency (hold_in pool.old self.old).entries }
         ensures released { IfSome self.old.live (λ section. HasReleasedBy self.old self.new section (decoded code)) }
-        ensures cache { HasCommitted sets.old sets.new self.old.hold.entries }
-        ensures shows { IfSome self.old.live (λ section. CommitsCode self.old self.new section sets.old sets.new code) }
+        ensures cache { HasCommitted (caches.lent pool.old sets.old) (caches.lent pool.new sets.new)
+            (hold_in pool.old self.old).entries }
+        ensures shows { IfSome self.old.live (λ section. CommitsCode pool.old self.old self.new section
+            (caches.lent pool.old sets.old) (caches.lent pool.new sets.new) code) }
+        ensures lent { LendsBoth pool.new sets.new self.new.hold }
+        ensures owners { (self.new.hold.owner ≡ self.old.hold.owner) × (sets.new.owner ≡ sets.old.owner) }
+        ensures beside { LeavesBeside sets.old.owner self.old.hold.owner pool.old pool.new }
     {
         let Private::Live(live) = self.private else {
             unreachable!()
         };
-        self.commit_action(sets, release_by(code, live));
+        self.commit_action(pool, sets, release_by(code, live));
     }
 
     /// Goes back to the checkpoint, and forgets what the section stored. A section is live.
-    pub fn roll_back(&mut self)
-        requires { IsSome self.old.live }
-        ensures { self.new ≡ rolled_back_state self.old }
+    pub fn roll_back(&mut self, pool: &mut Pool)
+        requires live { IsSome self.old.live }
+        requires lent { holds.IsLent pool.old self.old.hold }
+        ensures exact { self.new ≡ rolled_back_state self.old }
+        ensures lent { holds.IsLent pool.new self.new.hold }
+        ensures others { LeavesOthers self.old.hold.owner pool.old pool.new }
     {
         self.marks.back();
-        self.hold.forget();
+        self.hold.forget(pool);
         self.private = Private::Nothing;
     }
 }

@@ -1,19 +1,21 @@
 //! A few sections, worked by hand. The lock word is at 0x10040, in line 0x401; a cache has each line of a section
 //! with at each place the number of the place.
 
-ghost use Rattle.cache_sets.specs.Cache.{write_bit};
-ghost use Rattle.cache_sets.specs.Residency.{Way};
+ghost use Rattle.residency.specs.Cache.{write_bit};
 ghost use Rattle.el_base.specs.declared.outcomes.Need.TheVariants.{Read};
 ghost use Rattle.el_model.specs.InSection.{is_covered};
 ghost use Rattle.rv_alu.specs.Footprint.{IsSize};
-ghost use Rattle.std.specs.Prelude.{◌≡◌, ◌≤◌, ◌+◌, ◌⊎◌, IfOk, IsSome, List, true};
+ghost use Rattle.std.specs.Prelude.{◌≡◌, ◌≤◌, ◌+◌, ◌⊎◌, [], IfOk, None, true};
 ghost use Rattle.rv_alu.specs.declared.view.HartStatus.TheVariants.{Running};
+ghost use Rattle.section_ctl.specs.Lent.{LendsBoth};
 ghost use Rattle.section_view.specs.KeptRun.{HoldsMarked};
+ghost use Rattle.write_hold.specs.Slotted as holds;
 
 use super::*;
 use bitflags::Flags;
 use cache_sets::{Bits, Letter, Sets};
 use el_base::{Config, LineAddr, Need, line_of};
+use line_pool::Pool;
 use rv_alu::{Action, HartStatus, HartView, Regs, Span};
 use rv_word::{Insn, Reg, decode};
 use std::alloc::Global;
@@ -27,7 +29,7 @@ const FREE: u32 = 0x1111_1111;
 const TAKEN: u32 = 0x2222_2222;
 
 /// A running hart with a reservation.
-fn hart(reserved: Option<u32>) -> HartView
+fn view(reserved: Option<u32>) -> HartView
     ensures { result.status ≡ Running }
 {
     HartView {
@@ -38,22 +40,91 @@ fn hart(reserved: Option<u32>) -> HartView
     }
 }
 
-/// A section of at most two written lines.
-fn begun(alloc: Global, view: HartView) -> Result<Section, Fail>
+/// A cache, and the pool that lends it and a hold of two lines, of which none is held.
+#[derive(Drop)]
+struct Cache {
+    pool: Pool,
+    sets: Sets,
+    ghost lent: { LendsBoth pool sets (record { limit = 2; owner = 1; entries = [] }) },
+}
+
+/// A hart: a section of at most two written lines, which each have the write bit in its cache, and the pool that lends
+/// both.
+#[derive(Drop)]
+struct Hart {
+    pool: Pool,
+    sets: Sets,
+    section: Section,
+    ghost lent: { LendsBoth pool sets section.hold },
+    ghost marked: { HoldsMarked sets.residency (holds.lent pool section.hold).entries },
+    ghost limit: { section.hold.limit ≡ 2 },
+}
+
+/// A cache with some lines, which each have at each place the number of the place, and a bit.
+fn cache_with(alloc: Global, lines: &[(u32, Need)]) -> Result<Cache, Fail> {
+    let mut cache = empty(alloc)?;
+    let mut bytes = [0; 64];
+    for place in 0..64 {
+        bytes[place as usize] = place;
+    }
+    for (address, need) in lines {
+        put_line(&mut cache, line_of(*address), *need, &bytes);
+    }
+    Ok(cache)
+}
+
+/// A cache without lines.
+fn empty(alloc: Global) -> Result<Cache, Fail> {
+    let config = Config::usual();
+    let sets = Sets::make(alloc, &config, 0)?;
+    let pool = Pool::make(alloc, &[64, 2])?;
+    Ok(Cache { pool, sets })
+}
+
+/// Puts a line with a bit into a cache.
+fn put_line(cache: &mut Cache, line: LineAddr, need: Need, bytes: &[u8; 64]) {
+    if !cache.sets.has(line) && cache.sets.room(line) {
+        let _gone = cache.sets.fill(&mut cache.pool, line, Letter::E, bytes);
+    }
+    if cache.sets.has(line) {
+        cache.sets.set_bit(line, need);
+    }
+}
+
+/// A hart with a view and such a cache, without a section.
+fn idle(alloc: Global, view: HartView, lines: &[(u32, Need)]) -> Result<Hart, Fail>
     requires { view.status ≡ Running }
-    ensures limit { IfOk result (λ section. section.hold.limit ≡ 2) }
-    ensures marked { (cache : List (List Way)) → IfOk result (λ section. HoldsMarked cache section.hold.entries) }
+    ensures running { IfOk result (λ hart. hart.section.marks.present.status ≡ Running) }
+    ensures none { IfOk result (λ hart. (hart.section.live ≡ None) × (hart.section.armed ≡ None)) }
 {
     let config = Config {
         lines: 2,
         ..Config::usual()
     };
-    let mut section = Section::make(alloc, &config, view)?;
+    let Cache { pool, sets } = cache_with(alloc, lines)?;
+    let section = Section::make(alloc, &config, 1, view)?;
+    Ok(Hart {
+        pool,
+        sets,
+        section,
+    })
+}
+
+/// A hart that has begun a section.
+fn begun(alloc: Global, reserved: Option<u32>, lines: &[(u32, Need)]) -> Result<Hart, Fail> {
+    let mut hart = idle(alloc, view(reserved), lines)?;
     let Some(rd) = Reg::new(5) else {
         return Err("no register".into());
     };
-    section.begin(LOCK, FREE, TAKEN, rd);
-    Ok(section)
+    hart.section.begin(LOCK, FREE, TAKEN, rd);
+    Ok(hart)
+}
+
+/// A hart that has armed at an LR of the lock word into a register, with the reservation of it.
+fn armed(alloc: Global, rd: Reg, lines: &[(u32, Need)]) -> Result<Hart, Fail> {
+    let mut hart = idle(alloc, view(None), lines)?;
+    hart.section.arm(LOCK, FREE, rd);
+    Ok(hart)
 }
 
 /// Whether a store may have so many bytes.
@@ -85,22 +156,11 @@ fn is_touched(sets: &Sets, line: LineAddr) -> bool
 }
 
 /// Stores the low bytes of a value in a live section, whose cache has the write bit on their line.
-fn store(
-    section: &mut Section,
-    sets: &mut Sets,
-    address: u32,
-    len: u32,
-    value: u32,
-) -> Result<(), Fail>
-    requires limit { section.old.hold.limit ≡ 2 }
-    requires marked { HoldsMarked sets.old.residency section.old.hold.entries }
-    ensures limit { section.new.hold.limit ≡ 2 }
-    ensures marked { HoldsMarked sets.new.residency section.new.hold.entries }
-{
-    let Some(live) = section.live() else {
+fn store(hart: &mut Hart, address: u32, len: u32, value: u32) -> Result<(), Fail> {
+    let Some(live) = hart.section.live() else {
         return Err("no section is live".into());
     };
-    if live.count > 1000 || live.word != LOCK || sets.write_bits() > 2 {
+    if live.count > 1000 || live.word != LOCK || hart.sets.write_bits() > 2 {
         return Err("no more room".into());
     }
     if !is_size(len) || !is_beside_lock(address) {
@@ -109,7 +169,7 @@ fn store(
     if address % len != 0 {
         return Err("not aligned".into());
     }
-    if !is_written(sets, line_of(address)) {
+    if !is_written(&hart.sets, line_of(address)) {
         return Err("no write bit".into());
     }
     let action = Action::Store {
@@ -117,45 +177,42 @@ fn store(
         len,
         value,
     };
-    section.spec_action(sets, action);
+    hart.section
+        .spec_action(&mut hart.pool, &mut hart.sets, action);
     Ok(())
 }
 
 /// Loads a word, in a live section whose cache has a bit on its line, into x6.
-fn load(section: &mut Section, sets: &mut Sets, address: u32) -> Result<u32, Fail>
-    requires limit { section.old.hold.limit ≡ 2 }
-    requires marked { HoldsMarked sets.old.residency section.old.hold.entries }
-    ensures limit { section.new.hold.limit ≡ 2 }
-    ensures marked { HoldsMarked sets.new.residency section.new.hold.entries }
-{
+fn load(hart: &mut Hart, address: u32) -> Result<u32, Fail> {
     let Some(rd) = Reg::new(6) else {
         return Err("no register".into());
     };
-    let Some(live) = section.live() else {
+    let Some(live) = hart.section.live() else {
         return Err("no section is live".into());
     };
-    if live.count > 1000 || sets.write_bits() > 2 {
+    if live.count > 1000 || hart.sets.write_bits() > 2 {
         return Err("no more room".into());
     }
     if address % 4 != 0 {
         return Err("not aligned".into());
     }
-    if !is_touched(sets, line_of(address)) {
+    if !is_touched(&hart.sets, line_of(address)) {
         return Err("no bit".into());
     }
-    section.spec_action(sets, Action::LoadReserved { rd, address });
-    Ok(section.shown().regs.get(rd))
+    hart.section.spec_action(
+        &mut hart.pool,
+        &mut hart.sets,
+        Action::LoadReserved { rd, address },
+    );
+    Ok(hart.section.shown().regs.get(rd))
 }
 
 /// Runs the instruction of a word, if it computes from a register and a number.
-fn compute(section: &mut Section, sets: &mut Sets, code: u32) -> Result<(), Fail>
-    requires limit { section.old.hold.limit ≡ 2 }
-    requires marked { HoldsMarked sets.old.residency section.old.hold.entries }
-{
-    let Some(live) = section.live() else {
+fn compute(hart: &mut Hart, code: u32) -> Result<(), Fail> {
+    let Some(live) = hart.section.live() else {
         return Err("no section is live".into());
     };
-    if live.count > 1000 || sets.write_bits() > 2 {
+    if live.count > 1000 || hart.sets.write_bits() > 2 {
         return Err("no more room".into());
     }
     let Some(Insn::OpImm { .. }) = decode(code) else {
@@ -165,97 +222,70 @@ fn compute(section: &mut Section, sets: &mut Sets, code: u32) -> Result<(), Fail
         base: 0x10000,
         end: 0x10100,
     };
-    section.spec_insn(sets, code, span);
+    hart.section
+        .spec_insn(&mut hart.pool, &mut hart.sets, code, span);
     Ok(())
 }
 
 /// Commits by the instruction of a word, if it stores or is atomic.
-fn commit(section: &mut Section, sets: &mut Sets, code: u32) -> Result<(), Fail>
-    requires { HoldsMarked sets.old.residency section.old.hold.entries }
-{
-    if section.live().is_none() {
+fn commit(hart: &mut Hart, code: u32) -> Result<(), Fail> {
+    if hart.section.live().is_none() {
         return Err("no section is live".into());
     }
     match decode(code) {
         Some(Insn::Store { .. }) => {
-            section.commit(sets, code);
+            hart.section.commit(&mut hart.pool, &mut hart.sets, code);
             Ok(())
         }
         Some(Insn::Amo { .. }) => {
-            section.commit(sets, code);
+            hart.section.commit(&mut hart.pool, &mut hart.sets, code);
             Ok(())
         }
         _ => Err("no release".into()),
     }
 }
 
-/// A cache with some lines, which each have at each place the number of the place, and a bit.
-fn cache(alloc: Global, lines: &[(u32, Need)]) -> Result<Sets, Fail> {
-    let config = Config::usual();
-    let mut sets = Sets::make(alloc, &config)?;
-    let mut bytes = [0; 64];
-    for place in 0..64 {
-        bytes[place as usize] = place;
-    }
-    for (address, need) in lines {
-        let line = line_of(*address);
-        if !sets.has(line) && sets.room(line) {
-            let _gone = sets.fill(line, Letter::E, &bytes);
-        }
-        if sets.has(line) {
-            sets.set_bit(line, *need);
-        }
-    }
-    Ok(sets)
-}
-
-/// A section that has armed at an LR of the lock word into a register, with the reservation of it.
-fn armed(alloc: Global, rd: Reg) -> Result<Section, Fail>
-    ensures limit { IfOk result (λ section. section.hold.limit ≡ 2) }
-    ensures marked { (cache : List (List Way)) → IfOk result (λ section. HoldsMarked cache section.hold.entries) }
-{
-    let config = Config {
-        lines: 2,
-        ..Config::usual()
-    };
-    let mut section = Section::make(alloc, &config, hart(None))?;
-    section.arm(LOCK, FREE, rd);
-    Ok(section)
-}
-
-/// Puts a value into a register, in an armed section.
-fn put(section: &mut Section, sets: &mut Sets, rd: Reg, value: u32) -> Result<(), Fail>
-    requires limit { section.old.hold.limit ≡ 2 }
-    requires marked { HoldsMarked sets.old.residency section.old.hold.entries }
-    ensures limit { section.new.hold.limit ≡ 2 }
-    ensures marked { HoldsMarked sets.new.residency section.new.hold.entries }
-{
-    let Some(armed) = section.armed() else {
+/// Puts a value into a register, in an armed hart.section.
+fn put(hart: &mut Hart, rd: Reg, value: u32) -> Result<(), Fail> {
+    let Some(armed) = hart.section.armed() else {
         return Err("no section is armed".into());
     };
-    if armed.count > 1000 || sets.write_bits() > 2 {
+    if armed.count > 1000 || hart.sets.write_bits() > 2 {
         return Err("no more room".into());
     }
-    section.spec_action(sets, Action::Put { rd, value });
+    hart.section
+        .spec_action(&mut hart.pool, &mut hart.sets, Action::Put { rd, value });
     Ok(())
 }
 
 /// Elides the SC of an armed section, which would store TAKEN.
-fn elide(section: &mut Section, rd: Reg) -> Result<(), Fail>
-    ensures limit { section.new.hold ≡ section.old.hold }
-{
-    if section.armed().is_none() {
+fn elide(hart: &mut Hart, rd: Reg) -> Result<(), Fail> {
+    if hart.section.armed().is_none() {
         return Err("no section is armed".into());
     }
-    section.begin_armed(TAKEN, rd);
+    hart.section.begin_armed(TAKEN, rd);
     Ok(())
 }
 
+/// Lets an armed section go.
+fn let_go(hart: &mut Hart) {
+    if hart.section.armed().is_some() {
+        hart.section.let_go();
+    }
+}
+
+/// Rolls a live section back.
+fn roll_back(hart: &mut Hart) {
+    if hart.section.live().is_some() {
+        hart.section.roll_back(&mut hart.pool);
+    }
+}
+
 /// The bytes of a line of a cache.
-fn bytes_at(sets: &Sets, address: u32) -> Option<[u8; 64]> {
+fn bytes_at(hart: &Hart, address: u32) -> Option<[u8; 64]> {
     let line = line_of(address);
-    if sets.has(line) {
-        Some(*sets.bytes(line))
+    if hart.sets.has(line) {
+        Some(*hart.sets.bytes(&hart.pool, line))
     } else {
         None
     }
@@ -275,36 +305,38 @@ fn an_acquire_and_a_release_alone_leave_memory_as_it_was(rt: HostRuntime) -> Res
         return Err("no register".into());
     };
     for (code, found) in [(STORE_WORD, 0), (SWAP, TAKEN)] {
-        let mut section = begun(rt.alloc(), hart(None))?;
-        let mut sets = cache(rt.alloc(), &[(LOCK, Need::Read)])?;
-        let before = bytes_at(&sets, LOCK);
-        assert_eq!(rt; section.shown().pc, 0x10004);
-        assert_eq!(rt; section.shown().regs.get(acquired), FREE);
-        assert_eq!(rt; section.committed().pc, 0x10000);
-        assert!(rt; section.wrote(line_of(LOCK + 60)));
-        assert!(rt; !section.wrote(line_of(LOCK + 64)));
-        commit(&mut section, &mut sets, code)?;
-        assert_eq!(rt; section.shown().pc, 0x10008);
-        assert_eq!(rt; section.committed().pc, 0x10008);
-        assert_eq!(rt; section.shown().regs.get(released), found);
-        assert_eq!(rt; section.live(), None);
-        assert_eq!(rt; bytes_at(&sets, LOCK), before);
-        assert_eq!(rt; sets.letter(line_of(LOCK)), Letter::E);
-        assert!(rt; !sets.marked());
+        let mut hart = begun(rt.alloc(), None, &[(LOCK, Need::Read)])?;
+        let before = bytes_at(&hart, LOCK);
+        assert_eq!(rt; hart.section.shown().pc, 0x10004);
+        assert_eq!(rt; hart.section.shown().regs.get(acquired), FREE);
+        assert_eq!(rt; hart.section.committed().pc, 0x10000);
+        assert!(rt; hart.section.wrote(line_of(LOCK + 60)));
+        assert!(rt; !hart.section.wrote(line_of(LOCK + 64)));
+        commit(&mut hart, code)?;
+        assert_eq!(rt; hart.section.shown().pc, 0x10008);
+        assert_eq!(rt; hart.section.committed().pc, 0x10008);
+        assert_eq!(rt; hart.section.shown().regs.get(released), found);
+        assert_eq!(rt; hart.section.live(), None);
+        assert_eq!(rt; bytes_at(&hart, LOCK), before);
+        assert_eq!(rt; hart.sets.letter(line_of(LOCK)), Letter::E);
+        assert!(rt; !hart.sets.marked());
     }
     Ok(())
 }
 
 #[test]
 fn a_load_sees_what_was_stored_over_the_bytes_under_it(rt: HostRuntime) -> Result<(), Fail> {
-    let mut section = begun(rt.alloc(), hart(None))?;
-    let mut sets = cache(rt.alloc(), &[(LOCK, Need::Read), (0x10080, Need::Write)])?;
-    assert_eq!(rt; load(&mut section, &mut sets, LOCK)?, TAKEN);
-    assert_eq!(rt; load(&mut section, &mut sets, LOCK + 4)?, 0x0706_0504);
-    store(&mut section, &mut sets, 0x10086, 2, 0xffff_bbaa)?;
-    assert_eq!(rt; load(&mut section, &mut sets, 0x10084)?, 0xbbaa_0504);
-    assert_eq!(rt; load(&mut section, &mut sets, 0x10088)?, 0x0b0a_0908);
-    match section.live() {
+    let mut hart = begun(
+        rt.alloc(),
+        None,
+        &[(LOCK, Need::Read), (0x10080, Need::Write)],
+    )?;
+    assert_eq!(rt; load(&mut hart, LOCK)?, TAKEN);
+    assert_eq!(rt; load(&mut hart, LOCK + 4)?, 0x0706_0504);
+    store(&mut hart, 0x10086, 2, 0xffff_bbaa)?;
+    assert_eq!(rt; load(&mut hart, 0x10084)?, 0xbbaa_0504);
+    assert_eq!(rt; load(&mut hart, 0x10088)?, 0x0b0a_0908);
+    match hart.section.live() {
         Some(live) => assert_eq!(rt; live.count, 6),
         None => return Err("no section is live".into()),
     }
@@ -316,13 +348,12 @@ fn an_instruction_of_a_word_runs_on_the_live_view(rt: HostRuntime) -> Result<(),
     let Some(sum) = Reg::new(6) else {
         return Err("no register".into());
     };
-    let mut section = begun(rt.alloc(), hart(None))?;
-    let mut sets = cache(rt.alloc(), &[(LOCK, Need::Read)])?;
-    compute(&mut section, &mut sets, ADD_ONE)?;
-    assert_eq!(rt; section.shown().regs.get(sum), FREE + 1);
-    assert_eq!(rt; section.shown().pc, 0x10008);
-    assert_eq!(rt; section.committed().pc, 0x10000);
-    match section.live() {
+    let mut hart = begun(rt.alloc(), None, &[(LOCK, Need::Read)])?;
+    compute(&mut hart, ADD_ONE)?;
+    assert_eq!(rt; hart.section.shown().regs.get(sum), FREE + 1);
+    assert_eq!(rt; hart.section.shown().pc, 0x10008);
+    assert_eq!(rt; hart.section.committed().pc, 0x10000);
+    match hart.section.live() {
         Some(live) => assert_eq!(rt; live.count, 2),
         None => return Err("no section is live".into()),
     }
@@ -331,16 +362,19 @@ fn an_instruction_of_a_word_runs_on_the_live_view(rt: HostRuntime) -> Result<(),
 
 #[test]
 fn the_last_of_two_stores_to_a_word_is_committed(rt: HostRuntime) -> Result<(), Fail> {
-    let mut section = begun(rt.alloc(), hart(None))?;
-    let mut sets = cache(rt.alloc(), &[(LOCK, Need::Read), (0x10080, Need::Write)])?;
-    store(&mut section, &mut sets, 0x10088, 4, 0x1111_1111)?;
-    store(&mut section, &mut sets, 0x10088, 4, 0x4433_2211)?;
-    match bytes_at(&sets, 0x10080) {
+    let mut hart = begun(
+        rt.alloc(),
+        None,
+        &[(LOCK, Need::Read), (0x10080, Need::Write)],
+    )?;
+    store(&mut hart, 0x10088, 4, 0x1111_1111)?;
+    store(&mut hart, 0x10088, 4, 0x4433_2211)?;
+    match bytes_at(&hart, 0x10080) {
         Some(bytes) => assert_eq!(rt; bytes[8], 8),
         None => return Err("no such line".into()),
     }
-    commit(&mut section, &mut sets, STORE_WORD)?;
-    match bytes_at(&sets, 0x10080) {
+    commit(&mut hart, STORE_WORD)?;
+    match bytes_at(&hart, 0x10080) {
         Some(bytes) => {
             for (place, byte) in [
                 (7, 7),
@@ -355,9 +389,9 @@ fn the_last_of_two_stores_to_a_word_is_committed(rt: HostRuntime) -> Result<(), 
         }
         None => return Err("no such line".into()),
     }
-    assert_eq!(rt; sets.letter(line_of(0x10080)), Letter::M);
-    assert_eq!(rt; sets.letter(line_of(LOCK)), Letter::E);
-    assert_eq!(rt; section.hold().first(), None);
+    assert_eq!(rt; hart.sets.letter(line_of(0x10080)), Letter::M);
+    assert_eq!(rt; hart.sets.letter(line_of(LOCK)), Letter::E);
+    assert_eq!(rt; hart.section.hold().first(), None);
     Ok(())
 }
 
@@ -365,39 +399,40 @@ fn the_last_of_two_stores_to_a_word_is_committed(rt: HostRuntime) -> Result<(), 
 fn a_byte_a_half_and_a_word_over_one_another_are_gone_after_a_rollback(
     rt: HostRuntime,
 ) -> Result<(), Fail> {
-    let mut section = begun(rt.alloc(), hart(None))?;
-    let mut sets = cache(rt.alloc(), &[(LOCK, Need::Read), (0x10080, Need::Write)])?;
+    let mut hart = begun(
+        rt.alloc(),
+        None,
+        &[(LOCK, Need::Read), (0x10080, Need::Write)],
+    )?;
     for (address, len, word) in [
         (0x10082, 2, 0x2211_0100),
         (0x10083, 1, 0x1111_0100),
         (0x10080, 4, 0x4433_2211),
         (0x10080, 1, 0x4433_2211),
     ] {
-        store(&mut section, &mut sets, address, len, 0x4433_2211)?;
-        assert_eq!(rt; load(&mut section, &mut sets, 0x10080)?, word, "{address}");
+        store(&mut hart, address, len, 0x4433_2211)?;
+        assert_eq!(rt; load(&mut hart, 0x10080)?, word, "{address}");
     }
-    if section.live().is_some() {
-        section.roll_back();
-    }
-    assert_eq!(rt; section.live(), None);
-    assert_eq!(rt; section.shown().pc, 0x10000);
-    assert_eq!(rt; section.hold().len(), 0);
+    roll_back(&mut hart);
+    assert_eq!(rt; hart.section.live(), None);
+    assert_eq!(rt; hart.section.shown().pc, 0x10000);
+    assert_eq!(rt; hart.section.hold().len(), 0);
     Ok(())
 }
 
 #[test]
 fn the_last_line_that_may_be_written_is_held(rt: HostRuntime) -> Result<(), Fail> {
-    let mut section = begun(rt.alloc(), hart(None))?;
-    let mut sets = cache(
+    let mut hart = begun(
         rt.alloc(),
+        None,
         &[(0x10080, Need::Write), (0x100c0, Need::Write)],
     )?;
     for (address, held) in [(0x10080, 1), (0x100fc, 2), (0x10084, 2)] {
-        store(&mut section, &mut sets, address, 4, 0x5555_5555)?;
-        assert_eq!(rt; section.hold().len(), held, "{address}");
+        store(&mut hart, address, 4, 0x5555_5555)?;
+        assert_eq!(rt; hart.section.hold().len(), held, "{address}");
     }
-    assert!(rt; section.wrote(line_of(0x100c0)));
-    assert_eq!(rt; load(&mut section, &mut sets, 0x100fc)?, 0x5555_5555);
+    assert!(rt; hart.section.wrote(line_of(0x100c0)));
+    assert_eq!(rt; load(&mut hart, 0x100fc)?, 0x5555_5555);
     Ok(())
 }
 
@@ -405,12 +440,11 @@ fn the_last_line_that_may_be_written_is_held(rt: HostRuntime) -> Result<(), Fail
 fn a_checkpoint_loses_its_reservation_and_the_live_view_keeps_its_own(
     rt: HostRuntime,
 ) -> Result<(), Fail> {
-    let mut section = begun(rt.alloc(), hart(Some(0x10088)))?;
-    let mut sets = cache(rt.alloc(), &[(0x10080, Need::Read)])?;
-    let _word = load(&mut section, &mut sets, 0x1008c)?;
-    section.unreserve(line_of(0x10080));
-    assert_eq!(rt; section.committed().reserved, None);
-    assert_eq!(rt; section.shown().reserved, Some(0x1008c));
+    let mut hart = begun(rt.alloc(), Some(0x10088), &[(0x10080, Need::Read)])?;
+    let _word = load(&mut hart, 0x1008c)?;
+    hart.section.unreserve(line_of(0x10080));
+    assert_eq!(rt; hart.section.committed().reserved, None);
+    assert_eq!(rt; hart.section.shown().reserved, Some(0x1008c));
     Ok(())
 }
 
@@ -419,25 +453,24 @@ fn an_armed_section_becomes_a_live_one_and_commits(rt: HostRuntime) -> Result<()
     let (Some(found), Some(failed), Some(other)) = (Reg::new(5), Reg::new(6), Reg::new(8)) else {
         return Err("no register".into());
     };
-    let mut section = armed(rt.alloc(), found)?;
-    let mut sets = cache(rt.alloc(), &[(LOCK, Need::Read)])?;
-    let before = bytes_at(&sets, LOCK);
-    assert_eq!(rt; section.shown().reserved, Some(LOCK));
-    put(&mut section, &mut sets, other, 7)?;
-    put(&mut section, &mut sets, other, 9)?;
+    let mut hart = armed(rt.alloc(), found, &[(LOCK, Need::Read)])?;
+    let before = bytes_at(&hart, LOCK);
+    assert_eq!(rt; hart.section.shown().reserved, Some(LOCK));
+    put(&mut hart, other, 7)?;
+    put(&mut hart, other, 9)?;
     assert_eq!(rt;
-        section.armed(),
+        hart.section.armed(),
         Some(Armed {
             count: 3,
             word: LOCK
         })
     );
-    assert_eq!(rt; section.live(), None);
-    assert!(rt; !section.wrote(line_of(LOCK)));
-    elide(&mut section, failed)?;
-    assert_eq!(rt; section.armed(), None);
+    assert_eq!(rt; hart.section.live(), None);
+    assert!(rt; !hart.section.wrote(line_of(LOCK)));
+    elide(&mut hart, failed)?;
+    assert_eq!(rt; hart.section.armed(), None);
     assert_eq!(rt;
-        section.live(),
+        hart.section.live(),
         Some(Live {
             count: 4,
             word: LOCK,
@@ -445,14 +478,14 @@ fn an_armed_section_becomes_a_live_one_and_commits(rt: HostRuntime) -> Result<()
             new: TAKEN
         })
     );
-    assert_eq!(rt; section.shown().reserved, None);
-    assert_eq!(rt; section.shown().regs.get(failed), 0);
-    assert_eq!(rt; section.shown().regs.get(other), 9);
-    assert_eq!(rt; section.committed().pc, 0x10000);
-    commit(&mut section, &mut sets, STORE_WORD)?;
-    assert_eq!(rt; section.committed().pc, 0x10014);
-    assert_eq!(rt; section.live(), None);
-    assert_eq!(rt; bytes_at(&sets, LOCK), before);
+    assert_eq!(rt; hart.section.shown().reserved, None);
+    assert_eq!(rt; hart.section.shown().regs.get(failed), 0);
+    assert_eq!(rt; hart.section.shown().regs.get(other), 9);
+    assert_eq!(rt; hart.section.committed().pc, 0x10000);
+    commit(&mut hart, STORE_WORD)?;
+    assert_eq!(rt; hart.section.committed().pc, 0x10014);
+    assert_eq!(rt; hart.section.live(), None);
+    assert_eq!(rt; bytes_at(&hart, LOCK), before);
     Ok(())
 }
 
@@ -461,18 +494,15 @@ fn an_armed_section_that_is_let_go_keeps_its_view(rt: HostRuntime) -> Result<(),
     let (Some(found), Some(other)) = (Reg::new(5), Reg::new(8)) else {
         return Err("no register".into());
     };
-    let mut section = armed(rt.alloc(), found)?;
-    let mut sets = cache(rt.alloc(), &[(LOCK, Need::Read)])?;
-    put(&mut section, &mut sets, other, 7)?;
-    assert_eq!(rt; section.committed().pc, 0x10000);
-    if section.armed().is_some() {
-        section.let_go();
-    }
-    assert_eq!(rt; section.armed(), None);
-    assert_eq!(rt; section.committed().pc, 0x10008);
-    assert_eq!(rt; section.committed().reserved, Some(LOCK));
-    assert_eq!(rt; section.committed().regs.get(found), FREE);
-    assert_eq!(rt; section.committed().regs.get(other), 7);
+    let mut hart = armed(rt.alloc(), found, &[(LOCK, Need::Read)])?;
+    put(&mut hart, other, 7)?;
+    assert_eq!(rt; hart.section.committed().pc, 0x10000);
+    let_go(&mut hart);
+    assert_eq!(rt; hart.section.armed(), None);
+    assert_eq!(rt; hart.section.committed().pc, 0x10008);
+    assert_eq!(rt; hart.section.committed().reserved, Some(LOCK));
+    assert_eq!(rt; hart.section.committed().regs.get(found), FREE);
+    assert_eq!(rt; hart.section.committed().regs.get(other), 7);
     Ok(())
 }
 
@@ -484,11 +514,10 @@ fn a_register_that_is_written_over_after_its_lr_does_not_change_the_old_value(
         return Err("no register".into());
     };
     for value in [0, TAKEN] {
-        let mut section = armed(rt.alloc(), found)?;
-        let mut sets = cache(rt.alloc(), &[(LOCK, Need::Read)])?;
-        put(&mut section, &mut sets, found, value)?;
-        elide(&mut section, found)?;
-        match section.live() {
+        let mut hart = armed(rt.alloc(), found, &[(LOCK, Need::Read)])?;
+        put(&mut hart, found, value)?;
+        elide(&mut hart, found)?;
+        match hart.section.live() {
             Some(live) => assert_eq!(rt; live.old, FREE),
             None => return Err("no section is live".into()),
         }

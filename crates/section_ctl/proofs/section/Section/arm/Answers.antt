@@ -1,9 +1,8 @@
 -- a section arms
-use Rattle.std.proofs.Common.{◌≡◌, ◌∙◌, None, Some, ap, arith, refl, subst, sym}
+use Rattle.std.proofs.Common.{◌∙◌, None, Some, ap, arith, refl, subst, sym}
 use Rattle.std.specs.Prelude.{IsSome}
-use Rattle.rv_alu.specs.declared.view.HartView.{HartView}
 use Rattle.section_ctl.proofs.Arming.{armed_view, arms_run}
-use Rattle.section_ctl.proofs.Begins.{nothing_held}
+use Rattle.section_ctl.proofs.Laws.Begins.{nothing_held}
 use Rattle.section_ctl.specs.Calls.{armed_state}
 use Rattle.section_view.specs.ArmedLaws.{reserved_view}
 use Rattle.section_ctl.proofs.section.Section.arm.Goals as goal

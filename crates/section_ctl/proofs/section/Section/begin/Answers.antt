@@ -2,8 +2,8 @@
 use Rattle.std.proofs.Common.{◌∙◌, ap, refl, sym, subst}
 use Rattle.std.specs.Prelude.{IsSome, None, Some}
 use Rattle.rv_alu.specs.Execution.{put_of, release_of}
-use Rattle.section_ctl.proofs.Begins.{begun_view, held_none, nothing_held}
-use Rattle.section_ctl.proofs.Shows.{begins_run}
+use Rattle.section_ctl.proofs.Laws.Begins.{begun_view, held_none, nothing_held}
+use Rattle.section_ctl.proofs.Laws.Shows.{begins_run}
 use Rattle.section_ctl.specs.Calls.{begun_state}
 use Rattle.section_ctl.proofs.section.Section.begin.Goals as goal
 
@@ -18,7 +18,7 @@ invariant_of-self c =
       running = ap (λ v. v.status) view ∙ ap (λ m. m.present.status) c.mark.ensures ∙ ap (λ state. state.marks.present.status) c.self.view_is
           ∙ c.requires.running;
       aligned = c.requires.aligned;
-      free = λ address low high. held_none c.self.inside.hold.entries empty address;
+      free = λ pool address low high. held_none c.self.inside.hold.entries empty pool address;
     }
 
 pub returns-clause-begun : goal.returns-clause-begun

@@ -2,8 +2,8 @@
 use Rattle.std.proofs.Common.{◌≡◌, ◌∙◌, ◌+◌, None, Some, ap, subst, sym}
 use Rattle.rv_alu.specs.Execution.{put_of, release_of}
 use Rattle.section_ctl.proofs.Arming.{elided_view, elides_run}
-use Rattle.section_ctl.proofs.Begins.{held_none}
-use Rattle.section_ctl.proofs.Shows.{at_some}
+use Rattle.section_ctl.proofs.Laws.Begins.{held_none}
+use Rattle.section_ctl.proofs.Laws.Shows.{at_some}
 use Rattle.section_ctl.specs.Calls.{elided_state}
 use Rattle.section_ctl.specs.PrivateRuns.{ElidesRun}
 use Rattle.section_ctl.specs.State.{IsArmed, Stands, armed_in, reserved_of, shown_state}
@@ -46,7 +46,7 @@ invariant_of-self c =
       mark = was.mark;
       running = ap (λ v. v.status) (view c) ∙ was.running;
       aligned = was.aligned;
-      free = λ address low high. held_none c.self.inside.hold.entries was.empty address;
+      free = λ pool address low high. held_none c.self.inside.hold.entries was.empty pool address;
     }
 
 pub returns-clause-begun : goal.returns-clause-begun

@@ -1,8 +1,9 @@
 -- a section commits by the instruction of its release
 use Rattle.std.proofs.Common.{◌≡◌, ◌<◌, ◌∙◌, Some, ap, rules, subst, sym}
+use Rattle.cache_sets.specs.Slotted as caches
 use Rattle.rv_word.specs.Decoding.{decoded}
 use Rattle.section_ctl.proofs.Released.{released_by, releases_by}
-use Rattle.section_ctl.proofs.Shows.{at_some, commits_code, of_some}
+use Rattle.section_ctl.proofs.Laws.Shows.{at_some, commits_code, of_some}
 use Rattle.section_ctl.specs.Calls.{HasReleased, HasReleasedBy}
 use Rattle.section_ctl.specs.PrivateRuns.{CommitsCode}
 use Rattle.section_ctl.specs.State.{live_in, section_of}
@@ -25,8 +26,8 @@ by_code c =
     let old = c.args.self.now in
     let new = c.commit_action.new.self in
     let small : c.in-Live.live.new < 4294967296 = search rules in
-    let released = of_some old.live section (λ section. HasReleased old new section c.release_by.result) (live c) c.commit_action.ensures.released in
-    released_by old new section (decoded c.args.code) c.requires.release small (subst (HasReleased old new section) c.release_by.ensures released)
+    let released = of_some old.live section (λ section. HasReleased c.args.pool.now old new section c.release_by.result) (live c) c.commit_action.ensures.released in
+    released_by c.args.pool.now old new section (decoded c.args.code) c.requires.release small (subst (HasReleased c.args.pool.now old new section) c.release_by.ensures released)
 
 pub returns-clause-released : goal.returns-clause-released
 returns-clause-released c =
@@ -38,7 +39,9 @@ returns-clause-shows c =
     let section = section_of c.in-Live.live in
     let old = c.args.self.now in
     let new = c.commit_action.new.self in
-    let sets = c.commit_action.new.sets in
+    let pool = c.args.pool.now in
+    let cache = caches.lent pool c.args.sets.now in
+    let filled = caches.lent c.commit_action.new.pool c.commit_action.new.sets in
     let small : c.in-Live.live.new < 4294967296 = search rules in
-    at_some old.live section (λ section. CommitsCode old new section c.args.sets.now sets c.args.code) (live c)
-    (commits_code old new section c.args.sets.now sets c.args.code (by_code c) small c.commit_action.ensures.cache)
+    at_some old.live section (λ section. CommitsCode pool old new section cache filled c.args.code) (live c)
+    (commits_code pool old new section cache filled c.args.code (by_code c) small c.commit_action.ensures.cache)

@@ -1,7 +1,7 @@
 -- an armed section goes on
-use Rattle.std.proofs.Common.{◌∙◌, ap, arith, refl, subst}
+use Rattle.std.proofs.Common.{◌∙◌, ap, arith}
 use Rattle.section_ctl.proofs.Arming.{quiet_continues}
-use Rattle.section_ctl.proofs.Begins.{is_armed}
+use Rattle.section_ctl.proofs.Laws.Begins.{is_armed}
 use Rattle.section_ctl.specs.State.{reserved_of}
 use Rattle.section_ctl.proofs.section.Section.run_armed.Goals as goal
 

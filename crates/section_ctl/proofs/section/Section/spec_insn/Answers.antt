@@ -1,10 +1,11 @@
 -- an instruction of a section, whatever the room of the output
-use Rattle.std.proofs.Common.{◌≡◌, ◌∙◌, ◌||◌, false, true, ap, sym, subst}
-use Rattle.std.specs.Prelude.{IfSome, Some, is_some, ℕ}
+use Rattle.std.proofs.Common.{◌≡◌, ◌∙◌, false, ap, sym, subst}
+use Rattle.std.specs.Prelude.{IfSome, Some, ℕ}
+use Rattle.cache_sets.specs.Slotted as caches
 use Rattle.rv_alu.specs.Action.{action_at}
 use Rattle.section_ctl.proofs.AnyRoom.{any_room}
 use Rattle.section_ctl.proofs.Arming.{quiet_goes}
-use Rattle.section_ctl.proofs.Shows.{of_either}
+use Rattle.section_ctl.proofs.Laws.Shows.{of_either}
 use Rattle.section_ctl.specs.Calls.{HasContinued, HasRun, ends_section, run_of}
 use Rattle.section_ctl.specs.PrivateRuns.{ContinuesRun, GoesOnRun}
 use Rattle.section_ctl.proofs.section.Section.spec_insn.Goals as goal
@@ -22,7 +23,11 @@ same c room =
 pub returns-clause-ran : goal.returns-clause-ran
 returns-clause-ran c room =
     let old = c.args.self.now in
-    subst (λ action. IfSome old.live (λ section. HasRun old c.spec_action.new.self section (run_of old section c.args.sets.now action))) (same c room)
+    let pool = c.args.pool.now in
+    let cache = caches.lent pool c.args.sets.now in
+    let next = c.spec_action.new.pool in
+    subst (λ action. IfSome old.live (λ section. HasRun pool next old c.spec_action.new.self section (run_of pool old section cache action)))
+    (same c room)
     c.spec_action.ensures.ran
 
 pub returns-clause-continued : goal.returns-clause-continued
@@ -34,7 +39,10 @@ returns-clause-continued c room =
 pub returns-clause-shows : goal.returns-clause-shows
 returns-clause-shows c room =
     let old = c.args.self.now in
-    subst (λ action. IfSome old.live (λ section. GoesOnRun old c.spec_action.new.self section c.args.sets.now action)) (same c room)
+    let pool = c.args.pool.now in
+    let cache = caches.lent pool c.args.sets.now in
+    let next = c.spec_action.new.pool in
+    subst (λ action. IfSome old.live (λ section. GoesOnRun pool next old c.spec_action.new.self section cache action)) (same c room)
     c.spec_action.ensures.shows
 
 pub returns-clause-shows_armed : goal.returns-clause-shows_armed

@@ -1,5 +1,5 @@
 -- a section begins, and stays live
-use Rattle.std.proofs.Common.{◌≡◌, ℕ, ◌+◌, ◌-◌, ◌*◌, ◌/◌, ◌%◌, ◌<◌, ◌≤◌, false, List, [], length, ◌⊎◌, inl, inr, Option, None, Some}
+use Rattle.std.proofs.Common.{◌≡◌, ℕ, ◌+◌, ◌-◌, ◌*◌, ◌/◌, ◌%◌, ◌<◌, ◌≤◌, false, List, [], length, map, ◌⊎◌, inl, inr, Option, None, Some}
 use Rattle.std.proofs.Common.{ap, sym, subst, ◌∙◌, arith}
 use Rattle.std.proofs.lemmas.Bool.{cases_lt}
 use Rattle.std.proofs.lemmas.Bool.Decides.{nat_tests}
@@ -8,6 +8,7 @@ use Rattle.el_base.specs.Line.{line_number}
 use Rattle.el_base.specs.declared.line.TheConstants.{LINE_BYTES}
 use Rattle.el_model.specs.State.{Section}
 use Rattle.el_model.specs.Upcoming.{overlaps}
+use Rattle.line_pool.specs.Pooled.{Pooled}
 use Rattle.reg_mark.specs.declared.marked.Marked.{Marked}
 use Rattle.rv_alu.specs.Execution.{Store, number_of, perform, put_of, release_of, store_in, view_after}
 use Rattle.rv_alu.specs.Loaded.{loaded}
@@ -17,14 +18,16 @@ use Rattle.rv_alu.specs.declared.view.HartStatus.TheVariants.{Running}
 use Rattle.rv_alu.specs.declared.view.HartView.{HartView}
 use Rattle.rv_word.specs.declared.insn.AmoOp.TheVariants as amos
 use Rattle.rv_word.specs.declared.reg.Reg.{Reg}
+use Rattle.section_ctl.proofs.Laws.AnyPool.{unheld_alike}
 use Rattle.section_ctl.specs.Calls.{ends_section}
 use Rattle.section_ctl.specs.State.{IsArmed, IsLive, Reserved, Stands, armed_in, live_in, reserved_of, section_of}
 use Rattle.section_ctl.specs.declared.private.Private.{Private}
 use Rattle.section_ctl.specs.declared.private.Private.TheVariants as privates
-use Rattle.section_view.proofs.Bytes.{stored_inside}
+use Rattle.section_view.proofs.Laws.Bytes.{stored_inside}
 use Rattle.section_view.specs.Laws.{HoldsAfter}
-use Rattle.write_hold.proofs.LookUps.{laid_above, laid_below}
-use Rattle.write_hold.specs.Held.{Entry, Held, held, laid}
+use Rattle.write_hold.proofs.Laws.LookUps.{laid_above, laid_below}
+use Rattle.write_hold.specs.Held.{Held, held, laid}
+use Rattle.write_hold.specs.Slotted.{Place, Slotted, lent, lent_entry}
 
 -- a word that was stored is loaded
 pub loaded_stored : (byte : ℕ → ℕ) (word value : ℕ) → value < 4294967296 → loaded (stored byte word 4 value) word 4 ≡ value
@@ -59,26 +62,26 @@ begun_view rd word old new view after small told =
     told byte (ap Some (sym found)) ∙ ap (λ value. release_of (put_of view rd.number value)) found
 
 -- nothing is held where no section is live
-pub nothing_held : (marks : Marked) (hold : Held) (private : Private) → Stands marks hold private → live_in private ≡ None → hold.entries ≡ []
+pub nothing_held : (marks : Marked) (hold : Slotted) (private : Private) → Stands marks hold private → live_in private ≡ None → hold.entries ≡ []
 nothing_held marks hold privates.Nothing stands none = stands.empty
 nothing_held marks hold (privates.Armed reserved) stands none = stands.empty
 nothing_held marks hold (privates.Live live) stands none = absurd cc
 
 -- a section that is shown is there
-pub is_live : (marks : Marked) (hold : Held) (private : Private) (section : Section) → Stands marks hold private →
+pub is_live : (marks : Marked) (hold : Slotted) (private : Private) (section : Section) → Stands marks hold private →
     live_in private ≡ Some section → IsLive marks hold section
 is_live marks hold privates.Nothing section stands is = absurd cc
 is_live marks hold (privates.Armed reserved) section stands is = absurd cc
 is_live marks hold (privates.Live live) section stands is = let same : section_of live ≡ section = cc in subst (IsLive marks hold) same stands
 
-pub is_armed : (marks : Marked) (hold : Held) (private : Private) (reserved : Reserved) → Stands marks hold private →
+pub is_armed : (marks : Marked) (hold : Slotted) (private : Private) (reserved : Reserved) → Stands marks hold private →
     armed_in private ≡ Some reserved → IsArmed marks hold reserved
 is_armed marks hold privates.Nothing reserved stands is = absurd cc
 is_armed marks hold (privates.Armed there) reserved stands is = let same : reserved_of there ≡ reserved = cc in subst (IsArmed marks hold) same stands
 is_armed marks hold (privates.Live live) reserved stands is = absurd cc
 
-pub held_none : (entries : List Entry) → entries ≡ [] → (address : ℕ) → held entries address ≡ None
-held_none entries none address = ap (λ l. held l address) none
+pub held_none : (entries : List Place) → entries ≡ [] → (pool : Pooled) (address : ℕ) → held (map (lent_entry pool) entries) address ≡ None
+held_none entries none pool address = ap (λ places. held (map (lent_entry pool) places) address) none
 
 -- a byte that was not held, and was not stored, is not held
 kept_free : (store : Option Store) (word : ℕ) (old new : Held) → overlaps word store ≡ false → HoldsAfter store old new →
@@ -99,14 +102,16 @@ kept_free (Some store) word old new apart after free address low high =
         laid_above store.address after.bytes address (held old.entries address) (grind (arith, nat_tests)) ∙ free address low high
 
 -- a live section stays live over an action that is buffered
-pub stays_live : (marks : Marked) (hold after : Held) (section : Section) (count : ℕ) (action : Action) (byte : ℕ → ℕ) (view : HartView) →
+pub stays_live : (old new : Pooled) (marks : Marked) (hold after : Slotted) (section : Section) (count : ℕ) (action : Action) (byte : ℕ → ℕ) (view : HartView) →
     IsLive marks hold section →
     ends_section action ≡ false → overlaps section.word (store_in (perform action marks.present byte)) ≡ false →
-    view ≡ view_after (perform action marks.present byte) marks.present → HoldsAfter (store_in (perform action marks.present byte)) hold after →
+    view ≡ view_after (perform action marks.present byte) marks.present → HoldsAfter (store_in (perform action marks.present byte)) (lent old hold) (lent new after) →
     IsLive (record { present = view; mark = marks.mark }) after (record section { count = count })
-stays_live marks hold after section count action byte view live goes apart is held = record {
+stays_live old new marks hold after section count action byte view live goes apart is held = record {
   mark = live.mark;
   running = ap (λ v. v.status) is ∙ goes_on_running action marks.present byte goes live.running;
   aligned = live.aligned;
-  free = kept_free (store_in (perform action marks.present byte)) section.word hold after apart held live.free;
+  free = λ pool address low high. unheld_alike new pool after address
+      (kept_free (store_in (perform action marks.present byte)) section.word (lent old hold) (lent new after) apart held (live.free old)
+      address low high);
 }

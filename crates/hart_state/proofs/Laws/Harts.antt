@@ -5,7 +5,7 @@ use Rattle.el_base.specs.declared.config.Mode.{Mode}
 use Rattle.el_base.specs.declared.config.Mode.TheVariants.{Plain, Sle, Tlr}
 use Rattle.el_base.specs.declared.outcomes.Cause.{Cause}
 use Rattle.el_base.specs.declared.outcomes.Need.{Need}
-use Rattle.el_model.proofs.Losing.{beaten_stands}
+use Rattle.el_model.proofs.Laws.Losing.{beaten_stands}
 use Rattle.el_model.specs.Armed.{continued_hart, let_go_hart}
 use Rattle.el_model.specs.InSection.{buffered_hart, committed_hart}
 use Rattle.el_model.specs.Losses.{Standing, lost_in, restored, standing_of}
@@ -28,8 +28,8 @@ use Rattle.section_view.specs.ArmedLaws.{elided}
 use Rattle.stamp.specs.Stamps.{Stamp}
 
 -- a hart before its first event
-pub new_is : (view : HartView) (lines sets : ℕ) → HasOwn (new_own view lines) (new_hart sets)
-new_is view lines sets = record { section = refl; armed = refl; last_lr = refl; predictor = refl; fallback = refl; tries = refl }
+pub new_is : (view : HartView) (lines owner sets : ℕ) → HasOwn (new_own view lines owner) (new_hart sets)
+new_is view lines owner sets = record { section = refl; armed = refl; last_lr = refl; predictor = refl; fallback = refl; tries = refl }
 
 -- it elides where the definition's hart does
 pub may_elide_is : (mode : Mode) (own : Own) (hart : Hart) → HasOwn own hart →

@@ -2,22 +2,23 @@
 use Rattle.std.proofs.Common.{◌≡◌, ◌∙◌, ℕ, ◌<◌, ◌%◌, true, length, None, Some, is_some, refl, ap, sym, subst, arith}
 use Rattle.std.specs.Prelude.{slice_set}
 use Rattle.std.proofs.lemmas.List.{get_or-set_other, get_or-set_same, length-set}
-use Rattle.cache_sets.specs.Cache.{is_resident}
-use Rattle.cache_sets.specs.Cached.{Cached}
-use Rattle.coherence.specs.Caches.{cache_at}
+use Rattle.residency.specs.Cache.{is_resident}
+use Rattle.cache_sets.specs.Slotted.{Slotted}
+use Rattle.coherence.specs.Lent.{slotted_at}
 use Rattle.el_base.specs.Line.{line_number}
 use Rattle.el_base.specs.declared.hart_id.HartId.{HartId}
 use Rattle.el_base.specs.declared.outcomes.Outcome.TheVariants as outcomes
-use Rattle.el_model.proofs.Harts.{hart_of-with_hart_same}
+use Rattle.el_model.proofs.Laws.Harts.{hart_of-with_hart_same}
 use Rattle.el_model.specs.Plain.{Arms, arming_hart, by_plain_rule, plain_rule}
 use Rattle.el_model.specs.State.{Hart, ModelState, hart_of, with_hart}
+use Rattle.engine.proofs.Framed.{beside_same, told_copies, told_same}
 use Rattle.engine.proofs.Misses.{freed_here}
 use Rattle.engine.proofs.Others.{IsSeenAs, seen_same}
 use Rattle.engine.proofs.Outsiders.{step_is}
 use Rattle.engine.proofs.StandsOutside.{action_is, has_own, idle, inside, is_own, runs, runs_there, view_is}
-use Rattle.engine.proofs.Stepped.{HasSameCopies, HasStepped, IsBetween, IsNoted, after_turn, freed_between, marked_copies, marked_formed, noted_between}
+use Rattle.engine.proofs.Stepped.{HasStepped, IsBetween, IsCacheOf, IsNoted, after_turn, freed_between, marked_cache, marked_formed, noted_between}
 use Rattle.engine.proofs.Stepped.{ready_between, shows_between, stays_in_place}
-use Rattle.engine.specs.Acting.{ActsOutside, cache_in, next_action}
+use Rattle.engine.specs.Acting.{ActsOutside, next_action, sets_in}
 use Rattle.engine.specs.Beginning.{IsReadMarked}
 use Rattle.engine.specs.Parts.{IsIn, IsOfHart, KeepsSectionOf, Parts, own_at}
 use Rattle.hart_state.specs.Deeds.{armed_own}
@@ -27,10 +28,10 @@ use Rattle.rv_alu.specs.declared.action.Action.TheVariants as actions
 use Rattle.rv_flat.specs.FlatState.{no_hart, view_of}
 use Rattle.rv_flat.specs.Memory.{byte_in}
 use Rattle.rv_word.specs.declared.reg.Reg.{Reg}
-use Rattle.section_view.proofs.Arming.{arms}
+use Rattle.section_view.proofs.Laws.Arming.{arms}
 use Rattle.section_view.specs.ArmedLaws.{reserved_view}
 use Rattle.section_view.specs.KeptRun.{KeepsArmed}
-use Rattle.snoop.proofs.Living.{lives_armed}
+use Rattle.snoop.proofs.Laws.Living.{lives_armed}
 use Rattle.snoop.specs.Returned.{returned}
 use Rattle.snoop.specs.Shows.{IsReady, Kept}
 
@@ -59,24 +60,24 @@ module _ (old : Parts) (bus : Kept) (hart : HartId) (from : ModelState) (acts : 
   inside_bus = subst (λ n. h < n) (sym noted_armed.shows.cache_each) noted_armed.there
 
   -- the line is there, as it was
-  pub still_there : is_resident (cache_in old h).residency (line_number word) ≡ true →
-      is_resident (cache_at bus.copies.caches h).residency (line_number word) ≡ true
+  pub still_there : is_resident (sets_in old h).residency (line_number word) ≡ true →
+      is_resident (slotted_at bus.copies.caches h).residency (line_number word) ≡ true
   still_there there =
       subst (λ cache. is_resident cache (line_number word) ≡ true)
       (acts.may.is_in.shows.caches h ∙ ap (λ k. k.cache) (freed_here from h (inside old h from acts))
       ∙ sym (noted_armed.shows.caches h ∙ ap (λ k. k.cache) noted_armed.here))
       there
 
-  module _ (cache : Cached) (marks : IsReadMarked (cache_at bus.copies.caches h) cache (line_number word)) where
-    copies : HasSameCopies bus h cache (now_of from h word)
-    copies =
-        marked_copies bus h (line_number word) cache from _ (noted_of from h word) (now_of from h word) noted_armed marks refl
+  module _ (cache : Slotted) (marks : IsReadMarked (slotted_at bus.copies.caches h) cache (line_number word)) where
+    is_cache : IsCacheOf bus h cache (now_of from h word)
+    is_cache =
+        marked_cache bus h (line_number word) cache from _ (noted_of from h word) (now_of from h word) noted_armed marks refl
         (ap is_some acts.no_section) (omega arith)
 
     pub armed_ready : IsReady (returned bus h cache)
     armed_ready =
-        ready_between bus from _ h cache (noted_of from h word) (now_of from h word) inside_bus noted.ready noted_armed refl refl acts.may.free
-        (marked_formed bus h (line_number word) cache inside_bus noted.ready marks) copies
+        ready_between bus from _ h cache (noted_of from h word) inside_bus noted.ready noted_armed refl refl acts.may.free
+        (marked_formed bus h (line_number word) cache inside_bus noted.ready marks)
 
     abbrev state : ModelState
     state = with_hart from h (now_of from h word)
@@ -86,7 +87,7 @@ module _ (old : Parts) (bus : Kept) (hart : HartId) (from : ModelState) (acts : 
       abbrev own : Own
       own = armed_own word found rd.number (own_at old.harts h)
 
-      own_now : IsOfHart state h own
+      own_now : IsOfHart old.pool state h own
       own_now =
           let here = hart_of-with_hart_same from h (now_of from h word) (inside old h from acts) in
           let has = has_own old h from acts in
@@ -101,7 +102,7 @@ module _ (old : Parts) (bus : Kept) (hart : HartId) (from : ModelState) (acts : 
           record {
             part = subst (HasOwn own) (sym here) part;
             view = view_is old h from acts;
-            section = subst (λ live. KeepsSectionOf state h live own.section) (sym (ap (λ k. k.section) here ∙ acts.no_section)) tt;
+            section = subst (λ live. KeepsSectionOf old.pool state h live own.section) (sym (ap (λ k. k.section) here ∙ acts.no_section)) tt;
             armed =
                 subst (λ view. KeepsArmed from.committed h (record { count = 1; word = word }) found (reserved_view view rd.number word found))
                 (sym (view_is old h from acts))
@@ -114,19 +115,24 @@ module _ (old : Parts) (bus : Kept) (hart : HartId) (from : ModelState) (acts : 
               counted = omega arith;
             };
             limit = (is_own old h from acts).limit;
+            owner = (is_own old h from acts).owner;
+            lent = (is_own old h from acts).lent;
           }
 
       stepped : HasStepped old (record old { bus = returned bus h cache; harts = slice_set old.harts h own }) h state
       stepped =
-          let none = new_own no_hart 0 in
+          let none = new_own no_hart 0 0 in
           record {
             config = refl;
             span = refl;
             code = refl;
             output = refl;
-            shows = shows_between bus from _ h cache (noted_of from h word) (now_of from h word) inside_bus noted_armed refl refl copies;
+            shows = shows_between bus from _ h cache (noted_of from h word) (now_of from h word) inside_bus noted_armed refl refl is_cache;
+            told =
+                told_same old.pool bus h cache _ (told_copies old.pool old.bus bus _ noted.copies acts.may.is_in.told) inside_bus marks.keeps;
+            beside = beside_same h old.pool;
             each = length-set old.harts h own;
-            own = subst (IsOfHart state h) (sym (get_or-set_same old.harts h own none acts.may.exists)) own_now;
+            own = subst (IsOfHart old.pool state h) (sym (get_or-set_same old.harts h own none acts.may.exists)) own_now;
             others = λ g other exists. subst (λ o. IsSeenAs (own_at old.harts g) o (view_of from.committed g))
                 (sym (get_or-set_other old.harts h g own none other))
                 (seen_same (own_at old.harts g) (view_of from.committed g) (acts.may.is_in.harts g exists).view);

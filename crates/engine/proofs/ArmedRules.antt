@@ -12,8 +12,8 @@ use Rattle.engine.specs.Acting.{ActsArmed}
 use Rattle.engine.specs.Armed.{ArmedSomewhere, FollowsArmed, FollowsArmedSomewhere}
 use Rattle.engine.specs.Parts.{Parts}
 use Rattle.engine.specs.Turns.{TakesTurn}
-use Rattle.run_laws.proofs.Tests.{first_of_both, second_of_both}
-use Rattle.section_laws.proofs.ArmedBits.{completing}
+use Rattle.run_laws.proofs.Laws.Tests.{first_of_both, second_of_both}
+use Rattle.section_laws.proofs.Laws.ArmedBits.{completing}
 
 -- what the rule says, the turn is
 pub turn_is : (state : ModelState) (h : ℕ) (armed : Armed) (rule : ArmedRule) → armed_rule state h armed ≡ rule →

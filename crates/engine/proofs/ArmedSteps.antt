@@ -1,36 +1,40 @@
 -- the parts after an armed section has gone on, and after it was let go
 use Rattle.std.proofs.Common.{◌≡◌, ◌≢◌, ◌∙◌, ℕ, suc, ◌+◌, ◌≤◌, ◌<◌, true, false, length, None, Some, is_some, refl, ap, sym, subst, arith}
-use Rattle.std.specs.Prelude.{◌==◌, IsSome, not, option_map, slice_set}
+use Rattle.std.specs.Prelude.{◌==◌, IfSome, IsSome, not, option_map, slice_set}
 use Rattle.std.proofs.lemmas.Bool.Decides.{nat_tests}
 use Rattle.std.proofs.lemmas.List.{get_or-set_other, get_or-set_same, length-set}
-use Rattle.cache_sets.proofs.MarkLemmas.{has_marks-cleared}
-use Rattle.cache_sets.proofs.WellFormedLemmas.{well_formed-cleared}
-use Rattle.cache_sets.specs.Cache.{cleared}
-use Rattle.cache_sets.specs.Cached.{Cached, copy_in}
-use Rattle.cache_sets.specs.Calls.{IsCleared}
-use Rattle.cache_sets.specs.WellFormed.{IsWellFormed}
+use Rattle.residency.proofs.Laws.MarkLemmas.{has_marks-cleared}
+use Rattle.residency.proofs.Laws.WellFormedLemmas.{well_formed-cleared}
+use Rattle.residency.specs.Cache.{cleared}
+use Rattle.cache_sets.specs.Slotted.{Slotted}
+use Rattle.coherence.specs.Beginning.{line_of}
+use Rattle.residency.specs.WellFormed.{IsWellFormed}
 use Rattle.el_base.specs.declared.hart_id.HartId.{HartId}
-use Rattle.el_model.proofs.Harts.{hart_of-with_hart_same}
+use Rattle.el_model.proofs.Laws.Harts.{hart_of-with_hart_same}
 use Rattle.el_model.specs.Armed.{ArmedRule, Continues, LetsGo, armed_turn, by_armed_rule, continued_hart, let_go_hart}
+use Rattle.el_model.specs.InSection.{covered}
 use Rattle.el_model.specs.Plain.{armed_count}
 use Rattle.el_model.specs.State.{Armed, Hart, ModelState, hart_of, with_hart}
 use Rattle.engine.proofs.ArmedRules.{continues_at, turn_is}
-use Rattle.coherence.proofs.LineLaws.{some_is}
 use Rattle.engine.proofs.Buffered.{committed_beside}
-use Rattle.engine.proofs.Buffers.{inside_caches}
+use Rattle.engine.proofs.LentThere.{inside_caches, still_beside}
+use Rattle.engine.proofs.Framed.{IsClearedThere, beside_same, told_copies, told_moved, told_same}
 use Rattle.engine.proofs.KeptPrivate.{keeps_private}
+use Rattle.engine.proofs.PrivateCalls.{untouched}
 use Rattle.engine.proofs.Others.{IsSeenAs, seen_same}
-use Rattle.engine.proofs.Stepped.{HasSameCopies, HasStepped, IsBetween, IsNoted, StaysInPlace, after_turn, armed_turn_is, freed_between, noted_between}
-use Rattle.engine.proofs.Stepped.{ready_between, returned_between, runs, shows_committed, stays_in_place}
-use Rattle.engine.specs.Acting.{MayAct, cache_in, next_action}
+use Rattle.engine.proofs.Stepped.{HasStepped, IsBetween, IsCacheOf, IsNoted, StaysInPlace, after_turn, armed_turn_is, freed_between, noted_between}
+use Rattle.engine.proofs.Stepped.{ready_between, returned_between, runs, shows_committed, stays_in_place, told_committed}
+use Rattle.engine.specs.Acting.{MayAct, next_action, sets_in}
 use Rattle.engine.specs.Armed.{FollowsArmed}
+use Rattle.engine.specs.Private.{RanOver, kept_of}
 use Rattle.engine.specs.Parts.{IsIn, IsOfHart, KeepsReserved, KeepsSectionOf, Parts, StandsAs, own_at, present_at}
 use Rattle.engine.proofs.KeptLive.{same_action}
 use Rattle.hart_state.specs.Deeds.{buffered_own, let_go_own}
 use Rattle.hart_state.specs.Own.{HasOwn, Own, new_own}
+use Rattle.line_pool.specs.Pooled.{Pooled}
 use Rattle.reg_mark.specs.Marks.{committed_of}
-use Rattle.run_laws.proofs.ButAView.{armed_runs_keep_all_but_a_view}
-use Rattle.run_laws.proofs.Growing.{continued_run}
+use Rattle.run_laws.proofs.Laws.ButAView.{armed_runs_keep_all_but_a_view}
+use Rattle.run_laws.proofs.Laws.Growing.{continued_run}
 use Rattle.run_laws.specs.PrivateRun.{KeepsAllButAView}
 use Rattle.rv_alu.specs.Execution.{perform, view_after}
 use Rattle.rv_alu.specs.declared.action.Action.{Action}
@@ -39,12 +43,12 @@ use Rattle.rv_flat.specs.Run.{alone}
 use Rattle.rv_flat.specs.Step.{action_of}
 use Rattle.section_ctl.specs.Calls.{HasContinued}
 use Rattle.section_ctl.specs.State.{Reserved, SectionState}
-use Rattle.section_view.proofs.Arming.{armed_goes}
+use Rattle.section_view.proofs.Laws.Arming.{armed_goes}
 use Rattle.section_view.specs.KeptRun.{KeepsArmed}
-use Rattle.snoop.proofs.Living.{lives_armed, lives_unarmed}
+use Rattle.snoop.proofs.Laws.Living.{lives_armed, lives_unarmed}
 use Rattle.snoop.specs.Agent.{agent_of}
 use Rattle.snoop.specs.Returned.{returned}
-use Rattle.snoop.specs.Shows.{IsReady, Kept, Shows}
+use Rattle.snoop.specs.Shows.{IsReady, Kept, Shows, Tells}
 
 -- the parts are in the state after a hart with an armed section has stepped, where it is this one
 pub stepped_armed : (old new : Parts) (hart : HartId) (from : ModelState) (armed : Armed) (rule : ArmedRule) (state : ModelState) →
@@ -61,14 +65,8 @@ others_kept : (old : Parts) (h : ℕ) (from : ModelState) (own : Own) (committed
     ((g : ℕ) → g ≢ h → view_of committed g ≡ view_of from.committed g) → (g : ℕ) → g ≢ h → g < length old.harts →
     IsSeenAs (own_at old.harts g) (own_at (slice_set old.harts h own) g) (view_of committed g)
 others_kept old h from own committed may same g other exists =
-    subst (λ o. IsSeenAs (own_at old.harts g) o (view_of committed g)) (sym (get_or-set_other old.harts h g own (new_own no_hart 0) other))
+    subst (λ o. IsSeenAs (own_at old.harts g) o (view_of committed g)) (sym (get_or-set_other old.harts h g own (new_own no_hart 0 0) other))
     (seen_same (own_at old.harts g) (view_of committed g) ((may.is_in.harts g exists).view ∙ sym (same g other)))
-
--- a cache that nothing has changed is given back
-pub record IsSameCache (old new : Cached) : Type 0 where
-  pub ways : new.ways ≡ old.ways
-  pub residency : new.residency ≡ old.residency
-  pub copies : (line : ℕ) → copy_in new line ≡ copy_in old line
 
 not_zero : (n : ℕ) → 1 ≤ n → true ≡ not (n == 0)
 not_zero n some =
@@ -85,9 +83,15 @@ unfolding by_armed_rule
 by_continues from h armed = refl
 
 module _ (old : Parts) (hart : HartId) (armed : Armed) (from : ModelState) (follows : FollowsArmed old hart.number armed Continues from)
-    (cache : Cached) (same : IsSameCache (cache_in old hart.number) cache) where
+    (action : Action) (is : action ≡ next_action old hart.number) (pool : Pooled) (cache : Slotted) (section : SectionState)
+    (over : RanOver old.pool pool (sets_in old hart.number) cache (kept_of old hart.number) section action) where
   abbrev h : ℕ
   h = hart.number
+
+  -- nothing has changed in the cache
+  same_residency : cache.residency ≡ (sets_in old h).residency
+  same_residency =
+      over.covers.residency ∙ ap (covered (sets_in old h).residency) (untouched old h armed from follows action is)
 
   some_count : 1 ≤ armed.count
   some_count = (keeps_private old h from armed follows.acts).short.some
@@ -95,30 +99,34 @@ module _ (old : Parts) (hart : HartId) (armed : Armed) (from : ModelState) (foll
   count_there : armed_count (hart_of from h).armed ≡ armed.count
   count_there = ap armed_count follows.acts.armed_is
 
-  same_copies : HasSameCopies old.bus h cache (held_nothing from h)
-  same_copies = record {
-    ways = same.ways;
-    residency = sym (same.residency ∙ (keeps_private old h from armed follows.acts).cache);
+  is_cache : IsCacheOf old.bus h cache (held_nothing from h)
+  is_cache = record {
+    ways = over.covers.ways;
+    residency = sym (same_residency ∙ (keeps_private old h from armed follows.acts).cache);
     live =
         ap is_some follows.acts.no_section
         ∙ sym (lives_armed cache.residency (armed_count (hart_of from h).armed) (omega (arith, some_count, count_there)));
-    copies = same.copies;
   }
 
-  pub given_back : IsBetween (returned old.bus h cache) from (with_hart from h (held_nothing from h)) h (held_nothing from h)
+  given_back : IsBetween (returned old.bus h cache) from (with_hart from h (held_nothing from h)) h (held_nothing from h)
   given_back =
       returned_between old.bus from _ h cache (held_nothing from h) (held_nothing from h) (inside_caches old h from follows.acts.may)
-      (freed_between old h from follows.acts.may) refl refl same_copies
+      (freed_between old h from follows.acts.may) refl refl is_cache
 
   pub continued_ready : IsReady (returned old.bus h cache)
   continued_ready =
       let may = follows.acts.may in
       let formed = may.ready.well_formed h (inside_caches old h from may) in
-      ready_between old.bus from _ h cache (held_nothing from h) (held_nothing from h) (inside_caches old h from may) may.ready
-      (freed_between old h from may) refl refl may.free
-      (subst (λ ways. IsWellFormed ways cache.residency) (sym same.ways)
-      (subst (IsWellFormed (cache_in old h).ways) (sym same.residency) formed))
-      same_copies
+      ready_between old.bus from _ h cache (held_nothing from h) (inside_caches old h from may) may.ready (freed_between old h from may) refl refl
+      may.free
+      (subst (λ ways. IsWellFormed ways cache.residency) (sym over.covers.ways)
+      (subst (IsWellFormed (sets_in old h).ways) (sym same_residency) formed))
+
+  continued_told : Tells pool (returned old.bus h cache) (line_of from.committed)
+  continued_told =
+      let may = follows.acts.may in
+      told_moved old.pool pool old.bus h cache _ may.is_in.told (inside_caches old h from may) over.still.cache_owner over.still.both.cache_lent
+      (still_beside old h from pool cache section.hold may over.still) over.covers.copies
 
   abbrev now : Hart
   now = continued_hart armed (hart_of from h)
@@ -126,11 +134,17 @@ module _ (old : Parts) (hart : HartId) (armed : Armed) (from : ModelState) (foll
   abbrev state : ModelState
   state = with_hart from h now
 
-  module _ (bus : Kept) (noted : IsNoted (returned old.bus h cache) bus h (armed.count + 1)) (section : SectionState) (action : Action)
-      (is : action ≡ next_action old h) (kept : Reserved) (kept_is : (own_at old.harts h).section.armed ≡ Some kept)
-      (ran : HasContinued (own_at old.harts h).section section kept action) where
+  module _ (bus : Kept) (noted : IsNoted (returned old.bus h cache) bus h (armed.count + 1)) where
     abbrev own : Own
     own = buffered_own section (own_at old.harts h)
+
+    abbrev kept : Reserved
+    kept = record { armed = armed; old = (keeps_private old h from armed follows.acts).old }
+
+    ran : HasContinued (kept_of old h) section kept action
+    ran =
+        subst (λ r. IfSome r (λ reserved. HasContinued (kept_of old h) section reserved action))
+        (keeps_private old h from armed follows.acts).is over.continued
 
     noted_now : Shows bus state
     noted_now =
@@ -141,10 +155,7 @@ module _ (old : Parts) (hart : HartId) (armed : Armed) (from : ModelState) (foll
         one_more : suc armed.count ≡ armed.count + 1
         one_more = omega arith
 
-    reserved_is : kept ≡ record { armed = armed; old = (keeps_private old h from armed follows.acts).old }
-    reserved_is = some_is kept _ (sym kept_is ∙ (keeps_private old h from armed follows.acts).is)
-
-    own_now : IsOfHart state h own
+    own_now : IsOfHart pool state h own
     own_now =
         let k = keeps_private old h from armed follows.acts in
         let was = follows.acts.may.is_in.harts h follows.acts.may.exists in
@@ -152,7 +163,7 @@ module _ (old : Parts) (hart : HartId) (armed : Armed) (from : ModelState) (foll
         let view = present_at old.harts h in
         let more : Reserved = record { armed = record armed { count = armed.count + 1 }; old = k.old } in
         let armed_then : section.armed ≡ Some more =
-        ran.armed ∙ ap {A = Reserved} (λ r. Some (record r { armed = record r.armed { count = r.armed.count + 1 } })) reserved_is in
+        ran.armed in
         let present : section.marks.present ≡ view_after (perform (action_of from.committed view) view (λ a. 0)) view =
         ap (λ marks. marks.present) (ran.marks (λ a. 0))
         ∙ ap (λ a. view_after (perform a view (λ b. 0)) view) (is ∙ same_action old h from follows.acts.may) in
@@ -185,7 +196,7 @@ module _ (old : Parts) (hart : HartId) (armed : Armed) (from : ModelState) (foll
         record {
           part = subst (HasOwn own) (sym here) part;
           view = ap committed_of (ran.marks (λ a. 0)) ∙ committed_beside _ _ _ k.stands.mark ∙ was.view;
-          section = subst (λ live. KeepsSectionOf state h live section) (sym (ap (λ hart. hart.section) here ∙ follows.acts.no_section)) tt;
+          section = subst (λ live. KeepsSectionOf pool state h live section) (sym (ap (λ hart. hart.section) here ∙ follows.acts.no_section)) tt;
           armed = subst (λ r. KeepsReserved from.committed h r section.marks.present) (sym armed_then) keeps;
           stands =
               subst (λ live. StandsAs section.marks section.hold live section.armed) (sym ran.live)
@@ -198,10 +209,12 @@ module _ (old : Parts) (hart : HartId) (armed : Armed) (from : ModelState) (foll
                 counted = omega (arith, few);
               }));
           limit = ap (λ hold. hold.limit) ran.hold ∙ was.limit;
+          owner = over.still.hold_owner ∙ was.owner;
+          lent = over.still.both.hold_lent;
         }
 
     pub continued_in :
-        IsIn (record old { bus = bus; harts = slice_set old.harts h own }) (armed_turn from h armed).state
+        IsIn (record old { pool = pool; bus = bus; harts = slice_set old.harts h own }) (armed_turn from h armed).state
     continued_in =
         let may = follows.acts.may in
         stepped_armed old _ hart from armed Continues state follows (by_continues from h armed) (stays_in_place from.committed)
@@ -211,8 +224,10 @@ module _ (old : Parts) (hart : HartId) (armed : Armed) (from : ModelState) (foll
           code = refl;
           output = refl;
           shows = noted_now;
+          told = told_copies pool (returned old.bus h cache) bus _ noted.copies continued_told;
+          beside = still_beside old h from pool cache section.hold may over.still;
           each = length-set old.harts h own;
-          own = subst (IsOfHart state h) (sym (get_or-set_same old.harts h own (new_own no_hart 0) may.exists)) own_now;
+          own = subst (IsOfHart pool state h) (sym (get_or-set_same old.harts h own (new_own no_hart 0 0) may.exists)) own_now;
           others = others_kept old h from own from.committed may (λ g other. refl);
         })
 
@@ -231,7 +246,7 @@ unfolding by_armed_rule
 by_lets_go from h armed = refl
 
 module _ (old : Parts) (hart : HartId) (armed : Armed) (from : ModelState) (follows : FollowsArmed old hart.number armed LetsGo from)
-    (cache : Cached) (clears : IsCleared (cache_in old hart.number) cache) where
+    (cache : Slotted) (clears : IsClearedThere (sets_in old hart.number) cache) where
   abbrev g : ℕ
   g = hart.number
 
@@ -241,29 +256,26 @@ module _ (old : Parts) (hart : HartId) (armed : Armed) (from : ModelState) (foll
       let same : armed_count (hart_of from g).armed ≡ armed.count = ap armed_count follows.acts.armed_is in
       omega (arith, some, same)
 
-  unmarked_copies : HasSameCopies old.bus g cache (unmarked_of from g)
-  unmarked_copies = record {
+  unmarked_cache : IsCacheOf old.bus g cache (unmarked_of from g)
+  unmarked_cache = record {
     ways = clears.ways;
     residency = ap (λ c. cleared c) (sym (keeps_private old g from armed follows.acts).cache) ∙ sym clears.residency;
     live = ap is_some follows.acts.no_section ∙ sym (lives_armed cache.residency (armed_count (hart_of from g).armed) armed_there);
-    copies = clears.copies;
   }
 
   pub unmarked_back : IsBetween (returned old.bus g cache) from (with_hart from g (unmarked_of from g)) g (unmarked_of from g)
   unmarked_back =
       returned_between old.bus from _ g cache (held_nothing from g) (unmarked_of from g) (inside_caches old g from follows.acts.may)
-      (freed_between old g from follows.acts.may) refl refl unmarked_copies
+      (freed_between old g from follows.acts.may) refl refl unmarked_cache
 
   pub unmarked_ready : IsReady (returned old.bus g cache)
   unmarked_ready =
       let may = follows.acts.may in
       let inside = inside_caches old g from may in
-      let formed = well_formed-cleared (cache_in old g).ways (cache_in old g).residency (may.ready.well_formed g inside) in
-      ready_between old.bus from _ g cache (held_nothing from g) (unmarked_of from g) inside may.ready (freed_between old g from may) refl refl
-      may.free
+      let formed = well_formed-cleared (sets_in old g).ways (sets_in old g).residency (may.ready.well_formed g inside) in
+      ready_between old.bus from _ g cache (held_nothing from g) inside may.ready (freed_between old g from may) refl refl may.free
       (subst (λ ways. IsWellFormed ways cache.residency) (sym clears.ways)
-      (subst (IsWellFormed (cache_in old g).ways) (sym clears.residency) formed))
-      unmarked_copies
+      (subst (IsWellFormed (sets_in old g).ways) (sym clears.residency) formed))
 
   keeps_rest : KeepsAllButAView g from.committed (alone from.committed g armed.count)
   keeps_rest = armed_runs_keep_all_but_a_view from.committed g _ armed (keeps_private old g from armed follows.acts).run
@@ -280,7 +292,7 @@ module _ (old : Parts) (hart : HartId) (armed : Armed) (from : ModelState) (foll
         (ap is_some follows.acts.no_section
         ∙ sym (lives_unarmed (cleared (hart_of from g).cache) 0 refl ∙ has_marks-cleared (hart_of from g).cache))).shows
 
-    freed_now : IsOfHart (state_freed from g armed) g freed_own_now
+    freed_now : IsOfHart old.pool (state_freed from g armed) g freed_own_now
     freed_now =
         let k = keeps_private old g from armed follows.acts in
         let own = own_at old.harts g in
@@ -298,11 +310,13 @@ module _ (old : Parts) (hart : HartId) (armed : Armed) (from : ModelState) (foll
           part = subst (HasOwn freed_own_now) (sym here) part;
           view = k.keeps.view;
           section =
-              subst (λ live. KeepsSectionOf (state_freed from g armed) g live freed_own_now.section)
+              subst (λ live. KeepsSectionOf old.pool (state_freed from g armed) g live freed_own_now.section)
               (sym (ap (λ hart. hart.section) here ∙ follows.acts.no_section)) tt;
           armed = tt;
           stands = record { unmarked = refl; empty = k.stands.empty };
           limit = was.limit;
+          owner = was.owner;
+          lent = was.lent;
         }
 
     pub let_go_in :
@@ -323,8 +337,15 @@ module _ (old : Parts) (hart : HartId) (armed : Armed) (from : ModelState) (foll
           code = refl;
           output = refl;
           shows = freed_shows;
+          told =
+              told_committed old.pool bus from.committed (alone from.committed g armed.count)
+              (record { base = keeps_rest.rest.base; bytes = keeps_rest.rest.bytes })
+              (told_copies old.pool (returned old.bus g cache) bus _ noted.copies
+              (told_same old.pool old.bus g cache _ may.is_in.told (inside_caches old g from may) clears.keeps));
+          beside = beside_same g old.pool;
           each = length-set old.harts g freed_own_now;
           own =
-              subst (IsOfHart (state_freed from g armed) g) (sym (get_or-set_same old.harts g freed_own_now (new_own no_hart 0) may.exists)) freed_now;
+              subst (IsOfHart old.pool (state_freed from g armed) g)
+              (sym (get_or-set_same old.harts g freed_own_now (new_own no_hart 0 0) may.exists)) freed_now;
           others = others_kept old g from freed_own_now (alone from.committed g armed.count) may keeps_rest.others;
         })

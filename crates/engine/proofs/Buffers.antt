@@ -1,17 +1,18 @@
 -- an instruction of a section may be buffered
-use Rattle.std.proofs.Common.{◌≡◌, ◌∙◌, ℕ, ◌+◌, ◌%◌, ◌<◌, length, slice_index, ◌≤◌, ◌++◌, [], ◌∷◌, Bool, true}
+use Rattle.std.proofs.Common.{◌≡◌, ◌∙◌, ℕ, ◌+◌, ◌%◌, ◌<◌, slice_index, ◌≤◌, ◌++◌, [], ◌∷◌, Bool, true}
 use Rattle.std.proofs.Common.{false, List, Option, Some, None, is_some, not, ◌||◌, inl, inr, refl, ap, sym, subst, arith}
-use Rattle.cache_sets.proofs.MarkLemmas.{write_bits_of-touched}
-use Rattle.cache_sets.specs.Cache.{bit_in, has_bit, is_resident, way_of, write_bits_of}
+use Rattle.residency.proofs.Laws.MarkLemmas.{write_bits_of-touched}
+use Rattle.residency.specs.Cache.{bit_in, has_bit, is_resident, way_of, write_bits_of}
 use Rattle.cache_sets.specs.Cached.{Cached, cached_byte, copy_in}
-use Rattle.cache_sets.specs.Residency.{Way}
-use Rattle.cache_sets.specs.WellFormed.{IsWellFormed}
-use Rattle.cached_step.proofs.CachedBytes.{same_bytes}
-use Rattle.core_step.proofs.Runs.{aligned_at}
-use Rattle.el_base.proofs.Ranges.{at_most, ranges}
+use Rattle.cache_sets.specs.Slotted.{Slotted, lent}
+use Rattle.residency.specs.Residency.{Way}
+use Rattle.residency.specs.WellFormed.{IsWellFormed}
+use Rattle.cached_step.proofs.Laws.CachedBytes.{same_bytes}
+use Rattle.core_step.proofs.Laws.Runs.{aligned_at}
+use Rattle.el_base.proofs.Laws.Ranges.{at_most, ranges}
 use Rattle.el_base.specs.Line.{line_number}
 use Rattle.el_model.specs.Deed.{MayBuffer}
-use Rattle.el_model.proofs.Harts.{hart_of-with_hart_same}
+use Rattle.el_model.proofs.Laws.Harts.{hart_of-with_hart_same}
 use Rattle.el_model.specs.InSection.{Buffers, buffered_hart, by_section_rule, covered, section_rule, section_turn, shown_in}
 use Rattle.el_model.specs.Next as next_events
 use Rattle.el_model.specs.State.{ModelState, Section, begin, cache_of, hart_of, section_of, with_hart}
@@ -19,37 +20,40 @@ use Rattle.el_base.specs.declared.hart_id.HartId.{HartId}
 use Rattle.el_base.specs.declared.line.TheConstants.{LINE_BYTES}
 use Rattle.el_base.specs.declared.outcomes.Need.TheVariants.{Read, Write}
 use Rattle.el_base.specs.declared.outcomes.Outcome.TheVariants.{Buffered}
-use Rattle.coherence.proofs.Fetched.{copy_resident}
-use Rattle.coherence.proofs.Owners.{copy_is}
+use Rattle.coherence.proofs.Laws.Fetched.{copy_resident}
+use Rattle.coherence.proofs.Laws.Owners.{copy_is}
 use Rattle.el_model.specs.Upcoming.{Touch, overlaps}
 use Rattle.engine.proofs.Covering.{IsThere, bits_with, covered_there, formed_with, has_its_bit, permitted_there}
 use Rattle.engine.proofs.InsideRules.{says}
 use Rattle.engine.proofs.Misses as misses
 use Rattle.engine.proofs.Reaching.{config_of}
 use Rattle.engine.proofs.Stepped.{step_of, turn_is}
-use Rattle.engine.proofs.KeptLive.{HasBytesOf, KeepsLive, keeps_live, kept_of, next_inside, same_action}
-use Rattle.engine.specs.Acting.{ActsInside, MayAct, cache_in, next_action}
+use Rattle.engine.proofs.KeptLive.{HasBytesOf, KeepsLive, keeps_live, next_inside, same_action}
+use Rattle.engine.specs.Private.{kept_of}
+use Rattle.engine.specs.Acting.{ActsInside, cache_in, next_action, sets_in}
 use Rattle.engine.specs.Covered.{HasItsBitNow, with_its_bit}
 use Rattle.engine.specs.Inside.{FollowsRule}
 use Rattle.engine.specs.Parts.{Parts}
-use Rattle.run_laws.proofs.Bits.{run_kept}
+use Rattle.run_laws.proofs.Laws.Bits.{run_kept}
 use Rattle.run_laws.specs.PrivateRun.{HasItsBit, IsCoveredRun, IsCoveredStep}
 use Rattle.rv_alu.specs.Execution.{perform, store_in}
 use Rattle.rv_alu.specs.declared.action.Action.{Action}
 use Rattle.rv_alu.specs.declared.action.Action.TheVariants as actions
 use Rattle.rv_flat.specs.FlatState.{FlatState}
 use Rattle.rv_flat.specs.Laws.{touched_by}
-use Rattle.run_laws.proofs.Reached.{state_after-last}
-use Rattle.section_laws.proofs.Bounds.{written_lines_are_few}
-use Rattle.section_ctl.proofs.Shows.{agrees}
+use Rattle.run_laws.proofs.Laws.Reached.{state_after-last}
+use Rattle.section_laws.proofs.Laws.Bounds.{written_lines_are_few}
+use Rattle.engine.proofs.LentThere.{inside_caches}
+use Rattle.section_ctl.proofs.Laws.Shows.{agrees}
 use Rattle.section_ctl.specs.Calls as calls
 use Rattle.section_ctl.specs.Calls.{ends_section, run_of}
 use Rattle.section_ctl.specs.PrivateRuns.{HasCoveredBytes, IsKept}
-use Rattle.section_view.proofs.ShownBytes.{do_as_shown}
+use Rattle.section_ctl.specs.State.{hold_in}
+use Rattle.section_view.proofs.Laws.ShownBytes.{do_as_shown}
 use Rattle.section_view.specs.KeptRun.{HoldsMarked, section_byte, section_execution}
 use Rattle.section_view.specs.Laws.{AgreeBeside}
-use Rattle.step_laws.proofs.Short.{sections_are_short}
-use Rattle.step_rules.proofs.NextAction as next
+use Rattle.step_laws.proofs.Laws.Short.{sections_are_short}
+use Rattle.step_rules.proofs.Laws.NextAction as next
 use Rattle.step_rules.specs.Actions.{is_call_or_stop}
 
 -- what is touched is in the hart's cache
@@ -66,14 +70,15 @@ is_there from h section (Some touch) may = elim may.coverable [
 ]
 
 -- what is kept, over a cache in which it has its bit
-pub record CanBuffer (parts : Parts) (h : ℕ) (from : ModelState) (section : Section) (touch : Option Touch) (cache : Cached) : Type 0 where
+pub record CanBuffer (parts : Parts) (h : ℕ) (from : ModelState) (section : Section) (touch : Option Touch) (cache : Slotted) : Type 0 where
   pub kept : KeepsLive parts h from section
   pub may : MayBuffer from h section touch
   pub residency : cache.residency ≡ with_its_bit (cache_of from h) touch
   pub step : IsCoveredStep (shown_in from h section) h section.word cache.residency
-  pub is_kept : IsKept from.committed h (kept_of parts h) section cache
-  pub marked : HoldsMarked cache.residency (kept_of parts h).hold.entries
-  pub agree : AgreeBeside from.committed section.word (touched_by from.committed (kept_of parts h).marks.present) (cached_byte cache)
+  pub is_kept : IsKept parts.pool from.committed h (kept_of parts h) section (lent parts.pool cache)
+  pub marked : HoldsMarked cache.residency (hold_in parts.pool (kept_of parts h)).entries
+  pub agree : AgreeBeside from.committed section.word (touched_by from.committed (kept_of parts h).marks.present)
+      (cached_byte (lent parts.pool cache))
 
 same_resident : (old new : Cached) (line : ℕ) → copy_in new line ≡ copy_in old line → is_resident new.residency line ≡ true →
     is_resident old.residency line ≡ true
@@ -95,8 +100,8 @@ resident_with_any cache line bit = by (way_of cache line) bit
 covered_memory : (flat : FlatState) (cache : Cached) → HasBytesOf flat cache → HasCoveredBytes flat cache
 covered_memory flat cache bytes address low bit = bytes address low (resident_with_any cache.residency (line_number address) bit)
 
-pub can_buffer : (parts : Parts) (h : ℕ) (from : ModelState) (section : Section) (touch : Option Touch) (cache : Cached) →
-    FollowsRule parts h from section (Buffers touch) → HasItsBitNow (cache_in parts h) cache touch → CanBuffer parts h from section touch cache
+pub can_buffer : (parts : Parts) (h : ℕ) (from : ModelState) (section : Section) (touch : Option Touch) (cache : Slotted) →
+    FollowsRule parts h from section (Buffers touch) → HasItsBitNow (sets_in parts h) cache touch → CanBuffer parts h from section touch cache
 can_buffer parts h from section touch cache follows now =
     let kept = keeps_live parts h from section follows.inside in
     let may : MayBuffer from h section touch = says parts h from section (Buffers touch) follows in
@@ -109,11 +114,13 @@ can_buffer parts h from section touch cache follows now =
       unmixed = may.goes.mixes;
       bit = subst (HasItsBit cache.residency) (sym may.touches) has;
     } in
-    let is_kept : IsKept from.committed h (kept_of parts h) section cache = record {
+    let is_kept : IsKept parts.pool from.committed h (kept_of parts h) section (lent parts.pool cache) = record {
       run = subst (λ c. IsCoveredRun from.committed h c section) (sym residency)
           (run_kept from.committed h old (with_its_bit old touch) section (bits_with old touch) kept.run);
       keeps = kept.keeps;
-      bytes = covered_memory from.committed cache (same_memory from.committed (cache_in parts h) cache now.copies kept.bytes);
+      bytes =
+          covered_memory from.committed (lent parts.pool cache)
+          (same_memory from.committed (cache_in parts h) (lent parts.pool cache) (now.keeps.copies parts.pool) kept.bytes);
     } in
     record {
       kept = kept;
@@ -121,19 +128,20 @@ can_buffer parts h from section touch cache follows now =
       residency = residency;
       step = step;
       is_kept = is_kept;
-      marked = subst (λ c. HoldsMarked c (kept_of parts h).hold.entries) (sym residency)
+      marked = subst (λ c. HoldsMarked c (hold_in parts.pool (kept_of parts h)).entries) (sym residency)
           (λ line held. bits_with old touch line Write (kept.marked line held));
-      agree = agrees from.committed h (kept_of parts h) section cache is_kept step;
+      agree = agrees parts.pool from.committed h (kept_of parts h) section (lent parts.pool cache) is_kept step;
     }
 
 -- what its action does over that cache is what comes next in the section
-pub does_as_shown : (parts : Parts) (h : ℕ) (from : ModelState) (section : Section) (touch : Option Touch) (cache : Cached) (action : Action) →
+pub does_as_shown : (parts : Parts) (h : ℕ) (from : ModelState) (section : Section) (touch : Option Touch) (cache : Slotted) (action : Action) →
     ActsInside parts h from section → CanBuffer parts h from section touch cache → action ≡ next_action parts h →
-    run_of (kept_of parts h) section cache action
-    ≡ section_execution from.committed section (kept_of parts h).marks.present (kept_of parts h).hold.entries (cached_byte cache)
+    run_of parts.pool (kept_of parts h) section (lent parts.pool cache) action
+    ≡ section_execution from.committed section (kept_of parts h).marks.present (hold_in parts.pool (kept_of parts h)).entries
+    (cached_byte (lent parts.pool cache))
 does_as_shown parts h from section touch cache action inside can is =
     let kept = kept_of parts h in
-    ap (λ a. perform a kept.marks.present (section_byte kept.hold.entries section.word section.new (cached_byte cache)))
+    ap (λ a. perform a kept.marks.present (section_byte (hold_in parts.pool kept).entries section.word section.new (cached_byte (lent parts.pool cache))))
     (is ∙ same_action parts h from inside.may)
 
 ends_is : (action : Action) → ends_section action ≡ is_call_or_stop action
@@ -143,9 +151,9 @@ ends_is (actions.Answer value) = refl
 ends_is (actions.Append address len) = refl
 ends_is _ = refl
 
-pub may_run : (parts : Parts) (h : ℕ) (from : ModelState) (section : Section) (touch : Option Touch) (cache : Cached) (action : Action) →
+pub may_run : (parts : Parts) (h : ℕ) (from : ModelState) (section : Section) (touch : Option Touch) (cache : Slotted) (action : Action) →
     ActsInside parts h from section → CanBuffer parts h from section touch cache → action ≡ next_action parts h →
-    calls.MayBuffer (kept_of parts h) section cache action
+    calls.MayBuffer parts.pool (kept_of parts h) section (lent parts.pool cache) action
 may_run parts h from section touch cache action inside can is =
     let kept = kept_of parts h in
     let comes = next_inside parts h from section action inside is in
@@ -155,7 +163,8 @@ may_run parts h from section touch cache action inside can is =
       unmixed =
           ap (λ execution. overlaps section.word (store_in execution))
           (does_as_shown parts h from section touch cache action inside can is
-          ∙ do_as_shown from.committed h cache.residency section kept.marks.present kept.hold.entries (cached_byte cache) can.is_kept.run
+          ∙ do_as_shown from.committed h cache.residency section kept.marks.present (hold_in parts.pool kept).entries
+          (cached_byte (lent parts.pool cache)) can.is_kept.run
           can.is_kept.keeps can.agree)
           ∙ can.step.unmixed;
       bit = subst (HasItsBit cache.residency) (sym (next.next_touch action (shown_in from h section) h comes)) can.step.bit;
@@ -170,9 +179,6 @@ is_counted parts h from section inside =
     let short = sections_are_short reached.program reached.config reached.events h section reached.in_range live in
     let most = at_most 2 65536 reached.config.long (ranges reached.config reached.in_range).long in
     omega (arith, short.no_more, most)
-
-pub inside_caches : (parts : Parts) (h : ℕ) (from : ModelState) → MayAct parts h from → h < length parts.bus.copies.caches
-inside_caches parts h from may = omega (arith, may.exists, may.is_in.one_each, may.is_in.shows.cache_each)
 
 by_rule : (from : ModelState) (h : ℕ) (section : Section) (touch : Option Touch) → by_section_rule from h section (Buffers touch) ≡
     record { state = with_hart from h (buffered_hart section touch (hart_of from h)); outcome = Buffered }
@@ -194,18 +200,18 @@ cache_then parts hart from section touch follows =
     (misses.is_there parts from hart.number follows.inside.may))
 
 -- no more lines are written than configured, as the step shows
-pub are_few : (parts : Parts) (hart : HartId) (from : ModelState) (section : Section) (touch : Option Touch) (cache : Cached) →
-    FollowsRule parts hart.number from section (Buffers touch) → HasItsBitNow (cache_in parts hart.number) cache touch →
+pub are_few : (parts : Parts) (hart : HartId) (from : ModelState) (section : Section) (touch : Option Touch) (cache : Slotted) →
+    FollowsRule parts hart.number from section (Buffers touch) → HasItsBitNow (sets_in parts hart.number) cache touch →
     write_bits_of cache.residency ≤ (kept_of parts hart.number).hold.limit
 are_few parts hart from section touch cache follows now =
     let h = hart.number in
     let may = follows.inside.may in
     let kept = keeps_live parts h from section follows.inside in
     let residency = now.residency ∙ ap (λ c. with_its_bit c touch) kept.cache in
-    let formed = subst (IsWellFormed (cache_in parts h).ways) kept.cache (may.ready.well_formed h (inside_caches parts h from may)) in
+    let formed = subst (IsWellFormed (sets_in parts h).ways) kept.cache (may.ready.well_formed h (inside_caches parts h from may)) in
     let after = few_after parts hart from section follows.inside in
     let there = cache_then parts hart from section touch follows in
-    let same = few_touched (cache_in parts h).ways (cache_of from h) touch formed in
+    let same = few_touched (sets_in parts h).ways (cache_of from h) touch formed in
     let limit = (may.is_in.harts h may.exists).limit in
     let config = ap (λ config. config.lines) (config_of from may.reached) in
     omega (arith, ap write_bits_of residency, same, ap write_bits_of there, after, limit, config)

@@ -1,7 +1,7 @@
 -- what the rule of a step outside of a section tells of its action
 use Rattle.std.proofs.Common.{◌≡◌, ◌∙◌, ℕ, Bool, true, false, Option, Some, None, ap, sym}
 use Rattle.std.specs.Prelude.{if◌then◌else◌}
-use Rattle.cache_sets.specs.Cache.{is_resident}
+use Rattle.residency.specs.Cache.{is_resident}
 use Rattle.cached_step.specs.CacheRun.{permitted}
 use Rattle.core_step.specs.Run.{lacking}
 use Rattle.el_base.specs.Line.{line_number}
@@ -10,20 +10,20 @@ use Rattle.el_model.specs.Conflicts.{is_wanted_to_write}
 use Rattle.el_model.specs.Plain.{Arms, Begins, Misses, Runs, elidable_reserve, elidable_swap, may_elide, plain_rule}
 use Rattle.el_model.specs.State.{ModelState, cache_of, hart_of}
 use Rattle.el_model.specs.Upcoming.{Swap, Touch, next_reserved, next_swap, next_touch, touch_of}
-use Rattle.coherence.proofs.LineLaws.{none_is}
+use Rattle.coherence.proofs.Laws.LineLaws.{none_is}
 use Rattle.engine.proofs.Misses.{freed_here}
 use Rattle.engine.proofs.PlainRules.{ArmsAt, BeginsAt, TouchesLine, TouchesWord, arms_word, begins_swap, lacks_none, misses_touch, runs_touch, same_touch}
 use Rattle.engine.proofs.PlainRules.{swapping_rule, swapping_same}
 use Rattle.engine.proofs.StandsOutside.{action_is, inside}
-use Rattle.engine.proofs.Swaps.{IsReserveOf, reserve_action, touches_word}
+use Rattle.engine.proofs.Laws.Swaps.{IsReserveOf, reserve_action, touches_word}
 use Rattle.engine.specs.Acting.{ActsOutside, cache_in, next_action}
 use Rattle.engine.specs.Parts.{Parts}
 use Rattle.rv_alu.specs.Footprint.{footprint}
 use Rattle.rv_alu.specs.declared.action.Action.{Action}
 use Rattle.rv_flat.specs.FlatState.{view_of}
 use Rattle.rv_flat.specs.Memory.{byte_in}
-use Rattle.step_rules.proofs.Begins.{readable_there}
-use Rattle.step_rules.proofs.NextAction.{next_reserved as reserve_next, next_swap as swap_next, next_touch as touch_next}
+use Rattle.step_rules.proofs.Laws.Begins.{readable_there}
+use Rattle.step_rules.proofs.Laws.NextAction.{next_reserved as reserve_next, next_swap as swap_next, next_touch as touch_next}
 use Rattle.step_rules.specs.Actions.{IsNext}
 use Rattle.step_rules.specs.Rules.{touching_rule}
 

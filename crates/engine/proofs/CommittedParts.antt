@@ -6,15 +6,19 @@ use Rattle.std.specs.Option.{option_map_or}
 use Rattle.std.proofs.lemmas.Bool.{eq-eqb}
 use Rattle.std.proofs.lemmas.Grind.{same_number_lists}
 use Rattle.std.proofs.lemmas.List.{get_or-set_other, get_or-set_same, length-drop, length-set, length-take-le}
-use Rattle.bus_order.specs.Order.{Request, request_of}
-use Rattle.cache_sets.proofs.MarkLemmas.{has_marks-committed}
-use Rattle.cache_sets.proofs.WellFormedLemmas.{well_formed-committed}
-use Rattle.cache_sets.specs.Cache.{bit_in, committed, has_marks, letter_in, letter_of, way_of, write_bit}
+use Rattle.bus_order.specs.Order.{request_of}
+use Rattle.residency.proofs.Laws.MarkLemmas.{has_marks-committed}
+use Rattle.residency.proofs.Laws.WellFormedLemmas.{well_formed-committed}
+use Rattle.residency.specs.Cache.{bit_in, committed, has_marks, letter_in, letter_of, way_of, write_bit}
 use Rattle.cache_sets.specs.Cached.{Cached, Copy, bytes_of, copy_in}
-use Rattle.cache_sets.specs.Residency.{Way}
-use Rattle.cache_sets.specs.WellFormed.{IsWellFormed}
-use Rattle.coherence.proofs.GivenBackLaws.{copy_tells, kept_bytes, tells_after, writable_there}
-use Rattle.coherence.proofs.Owners.{copy_is}
+use Rattle.cache_sets.specs.Slotted.{Slotted, lent}
+use Rattle.residency.specs.Residency.{Way}
+use Rattle.residency.specs.WellFormed.{IsWellFormed}
+use Rattle.cached_step.specs.Memory.{IsPlaced}
+use Rattle.coherence.proofs.Laws.GivenBackLaws.{copy_tells, kept_bytes, tells_after, writable_there}
+use Rattle.coherence.proofs.Laws.Offered.{lent_at}
+use Rattle.coherence.proofs.Laws.Owners.{copy_is}
+use Rattle.coherence.specs.Lent.{slotted_at}
 use Rattle.coherence.specs.Beginning.{line_of}
 use Rattle.coherence.specs.Caches.{behind_of, cache_at, copies_of}
 use Rattle.coherence.specs.GivenBack.{copies_with, IsCopyBack, Stored, TellsAfter, bytes_back}
@@ -25,31 +29,35 @@ use Rattle.el_base.specs.declared.hart_id.HartId.{HartId}
 use Rattle.el_base.specs.declared.line.TheConstants.{LINE_BYTES}
 use Rattle.el_base.specs.declared.outcomes.Need.TheVariants.{Write}
 use Rattle.el_base.specs.declared.outcomes.Outcome.TheVariants.{Committed}
-use Rattle.el_model.proofs.Harts.{hart_of-with_hart_same}
+use Rattle.el_model.proofs.Laws.Harts.{hart_of-with_hart_same}
 use Rattle.el_model.specs.Attempts.{close_attempt}
 use Rattle.el_model.specs.Deed.{MayCommit}
 use Rattle.el_model.specs.InSection.{Commits, by_section_rule, committed_hart, section_rule, section_turn, shown_in}
 use Rattle.el_model.specs.Plain.{armed_count}
 use Rattle.el_model.specs.State.{Hart, ModelState, Section, armed_of, cache_of, hart_of, section_of, with_hart}
-use Rattle.el_base.proofs.Ranges.{at_most, ranges}
-use Rattle.step_laws.proofs.Short.{sections_are_short}
+use Rattle.el_base.proofs.Laws.Ranges.{at_most, ranges}
+use Rattle.step_laws.proofs.Laws.Short.{sections_are_short}
+use Rattle.engine.proofs.Framed.{tells_memory, told_back, told_copies}
+use Rattle.engine.proofs.LentThere.{inside_caches, lent_there, still_beside}
 use Rattle.engine.proofs.InsideRules.{says}
-use Rattle.engine.proofs.KeptLive.{keeps_live, kept_of, next_inside, same_action}
+use Rattle.engine.proofs.KeptLive.{keeps_live, next_inside, same_action}
+use Rattle.engine.specs.Private.{CommitsOver, MayTakeEffect, kept_of}
 use Rattle.engine.proofs.Misses.{freed_here, is_there}
 use Rattle.engine.proofs.Others.{IsSeenAs, seen_same, seen_unreserved}
 use Rattle.engine.proofs.RolledBack.{between, has_cache}
 use Rattle.engine.proofs.Stepped.{HasStepped, IsBetween, StaysInPlace, after_step}
 use Rattle.engine.proofs.Steps.{asks_nothing}
-use Rattle.engine.specs.Acting.{MayAct, freed, next_action}
+use Rattle.engine.specs.Acting.{MayAct, cache_in, freed, next_action, sets_in}
 use Rattle.engine.specs.Inside.{FollowsRule}
-use Rattle.engine.specs.Parts.{IsIn, IsOfHart, KeepsReserved, KeepsSectionOf, Parts, StandsAs, own_at}
+use Rattle.engine.specs.Parts.{IsIn, IsOfHart, KeepsReserved, KeepsSectionOf, Parts, StandsAs, hold_owner, own_at}
 use Rattle.engine.specs.Reached.{IsReached}
 use Rattle.engine.specs.Unreserved.{AreUnreserved, line_among, unreserved_beside, unreserved_line, written_by}
-use Rattle.hart_state.proofs.Harts.{committed_is}
+use Rattle.hart_state.proofs.Laws.Harts.{committed_is}
 use Rattle.hart_state.specs.Deeds.{committed_own, unreserved_own}
 use Rattle.hart_state.specs.Own.{HasOwn, Own, new_own}
 use Rattle.moesi.specs.Letters.{may_write}
 use Rattle.moesi.specs.declared.letter.Letter.TheVariants.{M}
+use Rattle.line_pool.specs.Pooled.{Pooled}
 use Rattle.reg_mark.specs.Marks.{committed_of}
 use Rattle.rv_alu.specs.Execution.{perform, view_after}
 use Rattle.rv_alu.specs.Reservations.{reserved_off}
@@ -59,20 +67,21 @@ use Rattle.rv_flat.specs.FlatState.{FlatState, no_hart, view_of}
 use Rattle.rv_flat.specs.Memory.{AreBytes}
 use Rattle.rv_flat.specs.Run.{alone}
 use Rattle.section_ctl.specs.Calls.{HasCommitted, HasReleased, committed_copy, has_written}
-use Rattle.section_ctl.specs.State.{SectionState}
-use Rattle.section_laws.proofs.Coherence.{written_lines_may_be_written}
+use Rattle.section_ctl.specs.Lent.{LeavesBeside, LendsBoth}
+use Rattle.section_ctl.specs.State.{SectionState, hold_in}
+use Rattle.section_laws.proofs.Laws.Coherence.{written_lines_may_be_written}
 use Rattle.section_laws.specs.Coherence.{IsOwned}
-use Rattle.section_view.proofs.Committing.{commits}
-use Rattle.section_view.proofs.OfProgram.{committed_is as of_program}
-use Rattle.section_view.proofs.Releasing.{release_actions}
+use Rattle.section_view.proofs.Laws.Committing.{commits}
+use Rattle.section_view.proofs.Laws.OfProgram.{committed_is as of_program}
+use Rattle.section_view.proofs.Laws.Releasing.{release_actions}
 use Rattle.section_view.specs.KeptRun.{HoldsMarked, is_written, section_byte, section_execution}
 use Rattle.section_view.specs.Release.{HasEffect, IsLineFrom, IsReleaseAction, reserved_beside, unreserved_on}
-use Rattle.snoop.proofs.Living.{lives_unarmed}
-use Rattle.snoop.proofs.Returning.{ready_returned, shows_returned}
+use Rattle.snoop.proofs.Laws.Living.{lives_unarmed}
+use Rattle.snoop.proofs.Laws.Returning.{ready_returned, shows_returned, unasked_returned}
 use Rattle.snoop.specs.Agent.{agent_of}
 use Rattle.snoop.specs.Asking.{HasNoRequest}
 use Rattle.snoop.specs.Returned.{returned}
-use Rattle.snoop.specs.Shows.{IsReady, Kept, LiesWhere, Shows}
+use Rattle.snoop.specs.Shows.{Holding, IsReady, Kept, Shows, Tells, lent_copies}
 use Rattle.write_hold.specs.Held.{Entry, holds, seen_at}
 
 -- what is committed then, and the hart
@@ -117,12 +126,12 @@ bytes_are from reached =
     ((of_program reached.program reached.config reached.events).bytes reached.bytes)
 
 pub effect : (parts : Parts) (h : ℕ) (from : ModelState) (section : Section) (action : Action) (after : SectionState) →
-    FollowsRule parts h from section Commits → action ≡ next_action parts h → HasReleased (kept_of parts h) after section action →
-    HasEffect from.committed (done_of from h section) h section.word after.marks.present (kept_of parts h).hold.entries
+    FollowsRule parts h from section Commits → action ≡ next_action parts h → HasReleased parts.pool (kept_of parts h) after section action →
+    HasEffect from.committed (done_of from h section) h section.word after.marks.present (hold_in parts.pool (kept_of parts h)).entries
 effect parts h from section action after follows is released =
     let kept = keeps_live parts h from section follows.inside in
     let view = (kept_of parts h).marks.present in
-    let hold = (kept_of parts h).hold.entries in
+    let hold = (hold_in parts.pool (kept_of parts h)).entries in
     let under : ℕ → ℕ = λ a. 0 in
     let may : MayCommit from h section = says parts h from section Commits follows in
     let view_is : after.marks.present ≡ view_after (section_execution from.committed section view hold under) view =
@@ -144,7 +153,7 @@ owned from h line reached bit =
 
 -- the cache of a hart before and after, the bytes of memory before and after, and what is held
 module _ (copies : Copies) (h : ℕ) (cache : Cached) (old done : FlatState) (word : ℕ) (view : HartView) (hold : List Entry)
-    (tells : TellsOf copies (line_of old)) (lies : LiesWhere copies old) (effects : HasEffect old done h word view hold)
+    (tells : TellsOf copies (line_of old)) (lies : IsPlaced copies old) (effects : HasEffect old done h word view hold)
     (commits_in : HasCommitted (cache_at copies.caches h) cache hold) (marked : HoldsMarked (cache_at copies.caches h).residency hold)
     (owns : (line : ℕ) → write_bit (cache_at copies.caches h).residency line ≡ true → may_write (letter_of
     (cache_at copies.caches h).residency line) ≡ true) where
@@ -185,7 +194,7 @@ module _ (copies : Copies) (h : ℕ) (cache : Cached) (old done : FlatState) (wo
   whole line there =
       length-take-le 64 (drop ((line - done.base / LINE_BYTES) * 64) done.bytes)
       (let left = length-drop ((line - done.base / LINE_BYTES) * 64) done.bytes in
-      omega (arith, left, lies.first, lies.lines, effects.base, effects.size, there.from, there.below))
+      omega (arith, left, lies.first, lies.size, effects.base, effects.size, there.from, there.below))
 
   held_line : (line : ℕ) → HasLine copies line → holds hold line ≡ true → line_of done line ≡ bytes_of cache line
   held_line line there is =
@@ -213,7 +222,7 @@ module _ (copies : Copies) (h : ℕ) (cache : Cached) (old done : FlatState) (wo
       ∙ kept_bytes (line_of old line) (copies_of copies.caches line) (behind_of copies.first copies.lines line) h (copy_in before line)
       (tells.each line there) refl)
 
-  pub tells_then : TellsOf (copies_with copies h cache) (line_of done)
+  tells_then : TellsOf (copies_with copies h cache) (line_of done)
   tells_then = tells_after copies h cache (line_of old) (line_of done) tells
       (record { given_back = record { each = λ line. back line (holds hold line) refl }; exact = λ line there. exact line (holds hold line) there refl })
 
@@ -254,20 +263,25 @@ seen_beside lines own = seen_by lines (committed_of own.section.marks).reserved 
 
 -- the hart's cache as its section commits, and what the bus shows then
 pub record CommitsAt (parts : Parts) (bus : Kept) (h : ℕ) (from : ModelState) (section : Section) (action : Action) (after : SectionState)
-    (cache : Cached) : Type 0 where
+    (pool : Pooled) (cache : Slotted) : Type 0 where
   pub follows : FollowsRule parts h from section Commits
   pub next : action ≡ next_action parts h
   pub closed : Shows bus (with_hart (freed from h) h (close_attempt (hart_of (freed from h) h)))
-  pub released : HasReleased (kept_of parts h) after section action
-  pub committed : HasCommitted (cache_at bus.copies.caches h) cache (kept_of parts h).hold.entries
+  pub copies : bus.copies ≡ parts.bus.copies
+  pub over : CommitsOver parts.pool pool (sets_in parts h) cache (kept_of parts h) after action
 
-module _ (parts : Parts) (bus : Kept) (h : ℕ) (from : ModelState) (section : Section) (action : Action) (after : SectionState) (cache : Cached)
-    (at : CommitsAt parts bus h from section action after cache) where
+module _ (parts : Parts) (bus : Kept) (h : ℕ) (from : ModelState) (section : Section) (action : Action) (after : SectionState) (pool : Pooled)
+    (cache : Slotted) (at : CommitsAt parts bus h from section action after pool cache) where
   abbrev may : MayAct parts h from
   may = at.follows.inside.may
 
-  effects : HasEffect from.committed (done_of from h section) h section.word after.marks.present (kept_of parts h).hold.entries
-  effects = effect parts h from section action after at.follows at.next at.released
+  released : HasReleased parts.pool (kept_of parts h) after section action
+  released =
+      subst (λ live. IfSome live (λ s. HasReleased parts.pool (kept_of parts h) after s action))
+      (keeps_live parts h from section at.follows.inside).live at.over.released
+
+  effects : HasEffect from.committed (done_of from h section) h section.word after.marks.present (hold_in parts.pool (kept_of parts h)).entries
+  effects = effect parts h from section action after at.follows at.next released
 
   abbrev mid : ModelState
   mid = with_hart (freed from h) h (close_attempt (hart_of (freed from h) h))
@@ -278,20 +292,44 @@ module _ (parts : Parts) (bus : Kept) (h : ℕ) (from : ModelState) (section : S
   inside : h < length bus.copies.caches
   inside = has_cache parts bus h from may at.closed
 
-  residency : (cache_at bus.copies.caches h).residency ≡ cache_of from h
+  residency : (slotted_at bus.copies.caches h).residency ≡ cache_of from h
   residency = stands_between.shows.caches h ∙ ap (λ hart. hart.cache) stands_between.here
 
   unarmed_there : armed_of from h ≡ None
   unarmed_there = (keeps_live parts h from section at.follows.inside).unarmed_there
 
-  tells_now : TellsOf (copies_with bus.copies h cache) (line_of (done_of from h section))
+  abbrev all : Copies
+  all = lent_copies parts.pool parts.bus.copies
+
+  here : cache_at all.caches h ≡ cache_in parts h
+  here = lent_at parts.pool parts.bus.copies.caches h
+
+  there : (cache_at all.caches h).residency ≡ cache_of from h
+  there = ap (λ (c : Cached). c.residency) here ∙ (keeps_live parts h from section at.follows.inside).cache
+
+  tells_now : TellsOf (copies_with all h (lent pool cache)) (line_of (done_of from h section))
   tells_now =
-      tells_then bus.copies h cache from.committed (done_of from h section) section.word after.marks.present (kept_of parts h).hold.entries
-      stands_between.shows.bytes stands_between.shows.memory effects at.committed
-      (subst (λ c. HoldsMarked c (kept_of parts h).hold.entries) (sym residency) (keeps_live parts h from section at.follows.inside).marked)
+      tells_then all h (lent pool cache) from.committed (done_of from h section) section.word after.marks.present
+      (hold_in parts.pool (kept_of parts h)).entries may.is_in.told.told
+      (tells_memory parts (freed from h) may.is_in).placed effects
+      (subst (λ c. HasCommitted c (lent pool cache) (hold_in parts.pool (kept_of parts h)).entries) (sym here) at.over.committed)
+      (subst (λ c. HoldsMarked c (hold_in parts.pool (kept_of parts h)).entries) (sym there)
+      (keeps_live parts h from section at.follows.inside).marked)
       (λ line bit.
-      subst (λ c. may_write (letter_of c line) ≡ true) (sym residency)
-      (owned from h line may.reached (subst (λ c. write_bit c line ≡ true) residency bit)))
+      subst (λ c. may_write (letter_of c line) ≡ true) (sym there)
+      (owned from h line may.reached (subst (λ c. write_bit c line ≡ true) there bit)))
+
+  beside : LeavesBeside h (hold_owner h) parts.pool pool
+  beside = still_beside parts h from pool cache after.hold may at.over.still
+
+  told_then : Tells pool (returned bus h cache) (line_of (done_of from h section))
+  told_then =
+      told_copies pool (returned parts.bus h cache) (returned bus h cache) _ (ap (λ (c : Holding). record c { caches = slice_set c.caches h cache }) at.copies)
+      (told_back parts.pool pool parts.bus h cache _ _ may.is_in.told (inside_caches parts h from may) at.over.still.cache_owner
+      at.over.still.both.cache_lent beside tells_now)
+
+  same_sets : slotted_at bus.copies.caches h ≡ sets_in parts h
+  same_sets = ap (λ (c : Holding). slotted_at c.caches h) at.copies
 
   pub shows_then : Shows (returned bus h cache) (state_then from h section)
   shows_then =
@@ -299,26 +337,21 @@ module _ (parts : Parts) (bus : Kept) (h : ℕ) (from : ModelState) (section : S
       (shows_returned bus mid h cache (hart_then from h) (done_of from h section) inside stands_between.shows
       (record {
         agent = agent_then from h unarmed_there ∙ ap agent_of (sym stands_between.here);
-        ways = at.committed.ways;
-        residency = ap (λ c. committed c) (sym residency) ∙ sym at.committed.residency;
+        ways = at.over.committed.ways ∙ sym (ap (λ (c : Slotted). c.ways) same_sets);
+        residency = ap (λ c. committed c) (sym (keeps_live parts h from section at.follows.inside).cache) ∙ sym at.over.committed.residency;
         live =
-            sym (lives_unarmed cache.residency 0 refl ∙ ap has_marks at.committed.residency
-            ∙ has_marks-committed (cache_at bus.copies.caches h).residency);
+            sym (lives_unarmed cache.residency 0 refl ∙ ap has_marks at.over.committed.residency
+            ∙ has_marks-committed (sets_in parts h).residency);
         armed = sym (ap (λ hart. is_some hart.armed) stands_between.here ∙ ap is_some unarmed_there);
         memory = record {
           first = stands_between.shows.memory.first ∙ sym effects.base;
           lines = stands_between.shows.memory.lines ∙ sym effects.size;
         };
-        bytes = tells_now;
       }))
 
   -- the bus is ready again
   waits_not : HasNoRequest parts.bus h
   waits_not = asks_nothing parts from h may
-
-  none_is : {X : Type 0} (found : Option Request) (request : Request) → found ≡ None → found ≡ Some request → X
-  none_is None request first second = absurd (cc)
-  none_is (Some other) request first second = absurd (cc)
 
   free_then : HasNoRequest bus h
   free_then = record {
@@ -333,18 +366,13 @@ module _ (parts : Parts) (bus : Kept) (h : ℕ) (from : ModelState) (section : S
   pub ready_then : IsReady bus → IsReady (returned bus h cache)
   ready_then ready =
       ready_returned bus h cache inside ready
-      (record {
-        coherent = record { bytes = _; tells = tells_now };
-        well_formed =
-            subst (λ ways. IsWellFormed ways cache.residency) (sym at.committed.ways)
-            (subst (IsWellFormed (cache_at bus.copies.caches h).ways) (sym at.committed.residency)
-            (well_formed-committed (cache_at bus.copies.caches h).ways (cache_at bus.copies.caches h).residency (ready.well_formed h inside)));
-        raised = λ request asks. none_is _ request free_then.none_raised asks;
-        ordered = λ request asks. none_is _ request free_then.none_ordered asks;
-      })
+      (unasked_returned bus h cache free_then
+      (subst (λ ways. IsWellFormed ways cache.residency) (sym at.over.committed.ways)
+      (subst (IsWellFormed (sets_in parts h).ways) (sym at.over.committed.residency)
+      (well_formed-committed (sets_in parts h).ways (sets_in parts h).residency (may.ready.well_formed h (inside_caches parts h from may))))))
 
   -- what the hart keeps then
-  own_then : IsOfHart (state_then from h section) h (committed_own after (own_at parts.harts h))
+  own_then : IsOfHart pool (state_then from h section) h (committed_own after (own_at parts.harts h))
   own_then =
       let own = own_at parts.harts h in
       let was = may.is_in.harts h may.exists in
@@ -363,35 +391,38 @@ module _ (parts : Parts) (bus : Kept) (h : ℕ) (from : ModelState) (section : S
       record {
         part = subst (HasOwn (committed_own after own)) (sym here)
             (subst (λ pc. HasOwn (committed_own after own) (committed_hart pc (hart_of from h))) (ap (λ view. view.pc) was.view)
-            (committed_is after own (hart_of from h) part at.released.live at.released.armed));
-        view = ap committed_of (at.released.marks under) ∙ sym (ap (λ marks. marks.present) (at.released.marks under)) ∙ sym effects.own;
-        section = subst (λ live. KeepsSectionOf (state_then from h section) h live after) (sym (ap (λ hart. hart.section) here)) tt;
-        armed = subst (λ armed. KeepsReserved (done_of from h section) h armed after.marks.present) (sym at.released.armed) tt;
-        stands = subst (λ l. StandsAs after.marks after.hold l after.armed) (sym at.released.live)
-            (subst (StandsAs after.marks after.hold None) (sym at.released.armed)
-            (record { unmarked = ap (λ marks. marks.mark) (at.released.marks under); empty = ap (λ hold. hold.entries) at.released.hold }));
-        limit = ap (λ hold. hold.limit) at.released.hold ∙ was.limit;
+            (committed_is after own (hart_of from h) part released.live released.armed));
+        view = ap committed_of (released.marks under) ∙ sym (ap (λ marks. marks.present) (released.marks under)) ∙ sym effects.own;
+        section = subst (λ live. KeepsSectionOf pool (state_then from h section) h live after) (sym (ap (λ hart. hart.section) here)) tt;
+        armed = subst (λ armed. KeepsReserved (done_of from h section) h armed after.marks.present) (sym released.armed) tt;
+        stands = subst (λ l. StandsAs after.marks after.hold l after.armed) (sym released.live)
+            (subst (StandsAs after.marks after.hold None) (sym released.armed)
+            (record { unmarked = ap (λ marks. marks.mark) (released.marks under); empty = ap (λ hold. hold.entries) released.hold }));
+        limit = ap (λ hold. hold.limit) released.hold ∙ was.limit;
+        owner = at.over.still.hold_owner ∙ was.owner;
+        lent = at.over.still.both.hold_lent;
       }
 
   -- and the others
   others_then : (g : ℕ) (own : Own) → g ≢ h → g < length parts.harts →
-      own ≡ unreserved_beside (is_written section.word (kept_of parts h).hold.entries) (own_at parts.harts g) →
+      own ≡ unreserved_beside (is_written section.word (hold_in parts.pool (kept_of parts h)).entries) (own_at parts.harts g) →
       IsSeenAs (own_at parts.harts g) own (view_of (done_of from h section) g)
   others_then g own other exists is =
+      let lines = is_written section.word (hold_in parts.pool (kept_of parts h)).entries in
       subst (λ o. IsSeenAs (own_at parts.harts g) o (view_of (done_of from h section) g)) (sym is)
-      (subst (IsSeenAs (own_at parts.harts g) (unreserved_beside (is_written section.word (kept_of parts h).hold.entries) (own_at parts.harts g)))
+      (subst (IsSeenAs (own_at parts.harts g) (unreserved_beside lines (own_at parts.harts g)))
       (sym (effects.others g other))
-      (subst (λ view. IsSeenAs (own_at parts.harts g) (unreserved_beside (is_written section.word (kept_of parts h).hold.entries) (own_at parts.harts g))
-      (unreserved_on (is_written section.word (kept_of parts h).hold.entries) view))
+      (subst (λ view. IsSeenAs (own_at parts.harts g) (unreserved_beside lines (own_at parts.harts g))
+      (unreserved_on lines view))
       (may.is_in.harts g exists).view
-      (seen_beside (is_written section.word (kept_of parts h).hold.entries) (own_at parts.harts g))))
+      (seen_beside lines (own_at parts.harts g))))
 
   -- so the parts are in the state after it
-  pub stepped : (unreserved : List Own) (own : Own) → AreUnreserved h (written_by (own_at parts.harts h)) parts.harts unreserved →
+  pub stepped : (unreserved : List Own) (own : Own) → AreUnreserved h (written_by parts.pool (own_at parts.harts h)) parts.harts unreserved →
       own ≡ committed_own after (own_at parts.harts h) →
-      HasStepped parts (record parts { bus = returned bus h cache; harts = slice_set unreserved h own }) h (state_then from h section)
+      HasStepped parts (record parts { pool = pool; bus = returned bus h cache; harts = slice_set unreserved h own }) h (state_then from h section)
   stepped unreserved own lost is =
-      let none = new_own no_hart 0 in
+      let none = new_own no_hart 0 0 in
       let live = (keeps_live parts h from section at.follows.inside).live in
       record {
         config = refl;
@@ -399,68 +430,79 @@ module _ (parts : Parts) (bus : Kept) (h : ℕ) (from : ModelState) (section : S
         code = refl;
         output = refl;
         shows = shows_then;
+        told = told_then;
+        beside = beside;
         each = length-set unreserved h own ∙ lost.count;
-        own = subst (IsOfHart (state_then from h section) h)
+        own = subst (IsOfHart pool (state_then from h section) h)
             (sym (get_or-set_same unreserved h own none (subst (λ n. h < n) (sym lost.count) may.exists) ∙ is)) own_then;
         others = λ g other exists. subst (λ o. IsSeenAs (own_at parts.harts g) o (view_of (done_of from h section) g))
             (sym (get_or-set_other unreserved h g own none other))
             (others_then g (own_at unreserved g) other exists
             (lost.others g other exists
-            ∙ ap (λ l. unreserved_beside (λ line. has_written l (kept_of parts h).hold.entries line) (own_at parts.harts g)) live));
+            ∙ ap (λ l. unreserved_beside (λ line. has_written l (hold_in parts.pool (kept_of parts h)).entries line) (own_at parts.harts g)) live));
       }
 
   pub stays : StaysInPlace from.committed (done_of from h section)
   stays = record { base = effects.base; size = effects.size; code = effects.code; harts = effects.harts; output = effects.output }
 
 pub commits_in : (parts : Parts) (bus : Kept) (hart : HartId) (from : ModelState) (section : Section) (action : Action) (after : SectionState)
-    (cache : Cached) (unreserved : List Own) (own : Own) → CommitsAt parts bus hart.number from section action after cache →
-    AreUnreserved hart.number (written_by (own_at parts.harts hart.number)) parts.harts unreserved →
+    (pool : Pooled) (cache : Slotted) (unreserved : List Own) (own : Own) → CommitsAt parts bus hart.number from section action after pool cache →
+    AreUnreserved hart.number (written_by parts.pool (own_at parts.harts hart.number)) parts.harts unreserved →
     own ≡ committed_own after (own_at parts.harts hart.number) →
-    IsIn (record parts { bus = returned bus hart.number cache; harts = slice_set unreserved hart.number own })
+    IsIn (record parts { pool = pool; bus = returned bus hart.number cache; harts = slice_set unreserved hart.number own })
     (section_turn from hart.number section).state
-commits_in parts bus hart from section action after cache unreserved own at lost is =
+commits_in parts bus hart from section action after pool cache unreserved own at lost is =
     let h = hart.number in
-    let new = record parts { bus = returned bus h cache; harts = slice_set unreserved h own } in
+    let new = record parts { pool = pool; bus = returned bus h cache; harts = slice_set unreserved h own } in
     let turn = ap (λ t. t.state) (commits_turn from h section at.follows.rule_is) ∙ by_rule from h section in
     after_step parts new hart from section at.follows.inside
-    (subst (λ s. StaysInPlace from.committed s.committed) (sym turn) (stays parts bus h from section action after cache at))
-    (subst (HasStepped parts new h) (sym turn) (stepped parts bus h from section action after cache at unreserved own lost is))
+    (subst (λ s. StaysInPlace from.committed s.committed) (sym turn) (stays parts bus h from section action after pool cache at))
+    (subst (HasStepped parts new h) (sym turn) (stepped parts bus h from section action after pool cache at unreserved own lost is))
 
--- what is owed before the section commits
-pub marked_then : (parts : Parts) (bus : Kept) (h : ℕ) (from : ModelState) (section : Section) (own : Own) (sets : Cached) →
-    FollowsRule parts h from section Commits → Shows bus (with_hart (freed from h) h (close_attempt (hart_of (freed from h) h))) →
-    own ≡ own_at parts.harts h → sets ≡ cache_at bus.copies.caches h → HoldsMarked sets.residency own.section.hold.entries
-marked_then parts bus h from section own sets follows closed own_is sets_are =
-    let is = between parts bus h from follows.inside.may closed in
-    let same = ap (λ c. c.residency) sets_are ∙ is.shows.caches h ∙ ap (λ hart. hart.cache) is.here in
-    subst (λ o. HoldsMarked sets.residency o.section.hold.entries) (sym own_is)
-    (subst (λ c. HoldsMarked c (kept_of parts h).hold.entries) (sym same) (keeps_live parts h from section follows.inside).marked)
+-- what is owed before the section commits, in parts of which the bus and the other harts have changed, and no copy
+pub record IsBeforeCommit (parts mid : Parts) (h : ℕ) : Type 0 where
+  pub pool : mid.pool ≡ parts.pool
+  pub copies : mid.bus.copies ≡ parts.bus.copies
+  pub count : length mid.harts ≡ length parts.harts
+  pub own : own_at mid.harts h ≡ own_at parts.harts h
 
-pub release_then : (parts : Parts) (h : ℕ) (from : ModelState) (section : Section) (own : Own) (action : Action) →
-    FollowsRule parts h from section Commits → action ≡ next_action parts h → own ≡ own_at parts.harts h →
-    IfSome own.section.live (λ s. IsReleaseAction s.word s.old action)
-release_then parts h from section own action follows next own_is =
-    subst (λ live. IfSome live (λ s. IsReleaseAction s.word s.old action))
-    (sym (ap (λ o. o.section.live) own_is ∙ (keeps_live parts h from section follows.inside).live))
-    (releases parts h from section action follows next)
+-- what holds of a pool, a cache and what a hart keeps, holds of them in such parts
+of_those : (parts mid : Parts) (h : ℕ) → IsBeforeCommit parts mid h → (P : Pooled → Slotted → Own → Type 0) →
+    P parts.pool (sets_in parts h) (own_at parts.harts h) → P mid.pool (sets_in mid h) (own_at mid.harts h)
+of_those parts mid h before P holds =
+    subst (λ own. P mid.pool (sets_in mid h) own) (sym before.own)
+    (subst (λ (copies : Holding). P mid.pool (slotted_at copies.caches h) (own_at parts.harts h)) (sym before.copies)
+    (subst (λ pool. P pool (sets_in parts h) (own_at parts.harts h)) (sym before.pool) holds))
 
-pub commits_at : (parts : Parts) (bus : Kept) (h : ℕ) (from : ModelState) (section : Section) (action : Action) (own after : Own) (sets cache : Cached) →
-    FollowsRule parts h from section Commits → action ≡ next_action parts h →
-    Shows bus (with_hart (freed from h) h (close_attempt (hart_of (freed from h) h))) → own ≡ own_at parts.harts h →
-    sets ≡ cache_at bus.copies.caches h → IfSome own.section.live (λ s. HasReleased own.section after.section s action) →
-    HasCommitted sets cache own.section.hold.entries → CommitsAt parts bus h from section action after.section cache
-commits_at parts bus h from section action own after sets cache follows next closed own_is sets_are released commits = record {
-  follows = follows;
-  next = next;
-  closed = closed;
-  released =
-      subst (λ live. IfSome live (λ s. HasReleased (kept_of parts h) after.section s action))
-      (keeps_live parts h from section follows.inside).live
-      (subst (λ o. IfSome o.section.live (λ s. HasReleased o.section after.section s action)) own_is released);
-  committed =
-      subst (λ c. HasCommitted c cache (kept_of parts h).hold.entries) sets_are
-      (subst (λ o. HasCommitted sets cache o.section.hold.entries) own_is commits);
-}
+pub may_take_effect : (parts mid : Parts) (h : ℕ) (from : ModelState) (section : Section) (action : Action) →
+    FollowsRule parts h from section Commits → action ≡ next_action parts h → IsBeforeCommit parts mid h → MayTakeEffect mid h action
+may_take_effect parts mid h from section action follows next before =
+    let may = follows.inside.may in
+    let kept = keeps_live parts h from section follows.inside in
+    let lends = lent_there parts h from may in
+    record {
+      there = record {
+        hart_exists = subst (λ n. h < n) (sym before.count) lends.hart_exists;
+        cache_exists = subst (λ (copies : Holding). h < length copies.caches) (sym before.copies) lends.cache_exists;
+        both = of_those parts mid h before (λ pool sets own. LendsBoth pool sets own.section.hold) lends.both;
+      };
+      live = of_those parts mid h before (λ pool sets own. IsSome own.section.live) (subst IsSome (sym kept.live) refl);
+      release =
+          of_those parts mid h before (λ pool sets own. IfSome own.section.live (λ s. IsReleaseAction s.word s.old action))
+          (subst (λ live. IfSome live (λ s. IsReleaseAction s.word s.old action)) (sym kept.live)
+          (releases parts h from section action follows next));
+      marked =
+          of_those parts mid h before (λ pool sets own. HoldsMarked sets.residency (hold_in pool own.section).entries)
+          (subst (λ c. HoldsMarked c (hold_in parts.pool (kept_of parts h)).entries) (sym kept.cache) kept.marked);
+    }
+
+pub commits_over : (parts mid : Parts) (h : ℕ) (pool : Pooled) (cache : Slotted) (after : SectionState) (action : Action) →
+    IsBeforeCommit parts mid h → CommitsOver mid.pool pool (sets_in mid h) cache (kept_of mid h) after action →
+    CommitsOver parts.pool pool (sets_in parts h) cache (kept_of parts h) after action
+commits_over parts mid h pool cache after action before over =
+    of_those mid parts h
+    (record { pool = sym before.pool; copies = sym before.copies; count = sym before.count; own = sym before.own })
+    (λ p sets own. CommitsOver p pool sets cache own.section after action) over
 
 -- how many instructions it has with its release
 few : (from : ModelState) (h : ℕ) (section : Section) (reached : IsReached from) → section_of from h ≡ Some section →

@@ -1,18 +1,18 @@
 -- a cache as it gets the bit of what is touched
 use Rattle.std.proofs.Common.{◌≡◌, ℕ, ◌||◌, Bool, true, false, List, Option, Some, None, is_some, refl, ap, if◌then◌else◌}
-use Rattle.cache_sets.proofs.MarkLemmas.{has_marks-bit}
-use Rattle.cache_sets.proofs.WellFormedLemmas.{well_formed-marked, well_formed-touched}
-use Rattle.cache_sets.specs.Cache.{bit_in, has_marks, is_resident, letter_in, letter_of, marked, read_bit, touched, way_of, write_bit}
-use Rattle.cache_sets.specs.Residency.{Way}
-use Rattle.cache_sets.specs.WellFormed.{IsWellFormed}
+use Rattle.residency.proofs.Laws.MarkLemmas.{has_marks-bit}
+use Rattle.residency.proofs.Laws.WellFormedLemmas.{well_formed-marked, well_formed-touched}
+use Rattle.residency.specs.Cache.{bit_in, has_marks, is_resident, letter_in, letter_of, marked, read_bit, touched, way_of, write_bit}
+use Rattle.residency.specs.Residency.{Way}
+use Rattle.residency.specs.WellFormed.{IsWellFormed}
 use Rattle.el_base.specs.declared.outcomes.Need.{Need}
 use Rattle.el_base.specs.declared.outcomes.Need.TheVariants.{Read, Write}
-use Rattle.el_model.proofs.Tests.{by_test}
+use Rattle.el_model.proofs.Laws.Tests.{by_test}
 use Rattle.el_model.specs.InSection.{covered, is_covered}
 use Rattle.el_model.specs.Upcoming.{Touch}
 use Rattle.engine.specs.Covered.{with_its_bit}
 use Rattle.moesi.specs.Letters.{may_of}
-use Rattle.run_laws.proofs.Bits.{KeepsBits, bits_covered, bits_marked, bits_touched, marked_has_bit, same_bits}
+use Rattle.run_laws.proofs.Laws.Bits.{KeepsBits, bits_covered, bits_marked, bits_touched, marked_has_bit, same_bits}
 use Rattle.run_laws.specs.PrivateRun.{HasItsBit}
 use Rattle.section_view.specs.KeptRun.{HoldsMarked}
 use Rattle.write_hold.specs.Held.{Entry}

@@ -1,8 +1,8 @@
 -- a hart with a live section that misses a line
 use Rattle.std.proofs.Common.{◌≡◌, ◌∙◌, ℕ, refl, ap, sym, subst, arith}
-use Rattle.cache_sets.specs.Cache.{room_of}
-use Rattle.cached_step.proofs.Told.{touched_there}
-use Rattle.el_base.proofs.Lines.{line_addr-of_line}
+use Rattle.residency.specs.Cache.{room_of}
+use Rattle.cached_step.proofs.Laws.Told.{touched_there}
+use Rattle.el_base.proofs.Laws.Lines.{line_addr-of_line}
 use Rattle.el_base.specs.declared.line.LineAddr.{LineAddr}
 use Rattle.el_base.specs.declared.outcomes.Need.{Need}
 use Rattle.el_base.specs.declared.outcomes.Outcome.TheVariants as outcomes
@@ -10,17 +10,19 @@ use Rattle.el_model.specs.Deed.{HasRoom}
 use Rattle.el_model.specs.InSection.{Misses, by_section_rule, section_rule, section_turn, shown_in}
 use Rattle.el_model.specs.Plain.{missed}
 use Rattle.el_model.specs.State.{ModelState, Section}
-use Rattle.engine.proofs.Buffers.{inside_caches}
+use Rattle.engine.proofs.Framed.{tells_memory}
+use Rattle.engine.proofs.LentThere.{inside_caches}
 use Rattle.engine.proofs.InsideRules.{says}
 use Rattle.engine.proofs.KeptLive.{keeps_live, next_inside}
-use Rattle.engine.specs.Acting.{cache_in, next_action}
+use Rattle.engine.specs.Acting.{cache_in, freed, next_action}
 use Rattle.engine.specs.Inside.{FollowsRule}
 use Rattle.engine.specs.Missing.{MayMiss}
 use Rattle.engine.specs.Parts.{Parts, room_in}
 use Rattle.rv_alu.specs.Footprint.{IsInPlace}
 use Rattle.rv_alu.specs.declared.action.Action.{Action}
 use Rattle.snoop.specs.Asking.{HasNoRequest}
-use Rattle.step_rules.proofs.NextAction as next
+use Rattle.snoop.specs.Shows.{lent_copies}
+use Rattle.step_rules.proofs.Laws.NextAction as next
 
 by_rule : (from : ModelState) (h : ℕ) (section : Section) (line : ℕ) (need : Need) →
     by_section_rule from h section (Misses line need) ≡ missed from h line need
@@ -52,8 +54,8 @@ may_miss parts h from section line need action follows free is place =
       may = may;
       free = free;
       in_memory =
-          touched_there parts.bus.copies from.committed (room_in parts) action (record { line = line; need = need })
-          (record { first = shows.memory.first; size = shows.memory.lines })
+          touched_there (lent_copies parts.pool parts.bus.copies) from.committed (room_in parts) action (record { line = line; need = need })
+          (tells_memory parts (freed from h) may.is_in).placed
           (subst (λ span. IsInPlace span (room_in parts) action) may.is_in.span place)
           (next.next_touch action (shown_in from h section) h (next_inside parts h from section action follows.inside is) ∙ room.wants.touches);
       room =

@@ -1,11 +1,11 @@
 -- what the rule of a hart with a live section says
 use Rattle.std.proofs.Common.{◌≡◌, ◌∙◌, ℕ, Bool, true, false, Option, Some, None, not, refl, ap, subst, ◌==◌, ◌||◌, if◌then◌else◌, inl, inr}
-use Rattle.cache_sets.specs.Cache.{letter_of, room_of, write_bits_of}
+use Rattle.residency.specs.Cache.{letter_of, room_of, write_bits_of}
 use Rattle.el_base.specs.declared.outcomes.Cause.TheVariants.{Room, Lines, Long, Call, Mixed}
 use Rattle.el_base.specs.declared.outcomes.Need.{Need}
 use Rattle.el_base.specs.declared.outcomes.Need.TheVariants.{Read, Write}
-use Rattle.el_model.proofs.Harts.{with_hart_kept}
-use Rattle.el_model.proofs.Tests.{by_test}
+use Rattle.el_model.proofs.Laws.Harts.{with_hart_kept}
+use Rattle.el_model.proofs.Laws.Tests.{by_test}
 use Rattle.el_model.specs.Conflicts.{is_wanted}
 use Rattle.el_model.specs.Deed as deeds
 use Rattle.el_model.specs.Deed.{GoesFurther, GoesOn, HasRoom, IsInside, IsShort, MayCommit, MustRollBack, WantsBit, is_refused}

@@ -1,6 +1,6 @@
 -- what a hart keeps of its armed section, and what comes next in it
 use Rattle.std.proofs.Common.{◌≡◌, ◌∙◌, ℕ, ◌<◌, ◌≤◌, true, length, None, Some, refl, ap, sym, subst, arith}
-use Rattle.cache_sets.specs.Cache.{is_resident, read_bit, write_bit}
+use Rattle.residency.specs.Cache.{is_resident, read_bit, write_bit}
 use Rattle.el_base.specs.Line.{line_number}
 use Rattle.el_base.specs.declared.outcomes.Need.TheVariants.{Read}
 use Rattle.el_model.specs.Armed.{shown_armed}
@@ -13,8 +13,8 @@ use Rattle.engine.proofs.Reserved.{kept_as}
 use Rattle.engine.specs.Acting.{ActsArmed, cache_in, freed, next_action}
 use Rattle.engine.specs.Parts.{IsOfHart, KeepsReserved, Parts, StandsAs, own_at, present_at}
 use Rattle.hart_state.specs.Own.{HasOwn}
-use Rattle.run_laws.proofs.ButAView.{armed_runs_keep_all_but_a_view}
-use Rattle.run_laws.proofs.Tests.{or_left}
+use Rattle.run_laws.proofs.Laws.ButAView.{armed_runs_keep_all_but_a_view}
+use Rattle.run_laws.proofs.Laws.Tests.{or_left}
 use Rattle.run_laws.specs.PrivateRun.{IsArmedRun}
 use Rattle.rv_alu.specs.Loaded.{loaded}
 use Rattle.rv_alu.specs.declared.action.Action.{Action}
@@ -23,10 +23,10 @@ use Rattle.rv_flat.specs.Memory.{byte_in}
 use Rattle.rv_flat.specs.Step.{action_of}
 use Rattle.section_ctl.specs.State.{IsArmed}
 use Rattle.section_laws.specs.EachHart.{IsShortArmed}
-use Rattle.section_view.proofs.Shapes.{armed_comes_to}
+use Rattle.section_view.proofs.Laws.Shapes.{armed_comes_to}
 use Rattle.section_view.specs.KeptRun.{KeepsArmed}
 use Rattle.section_view.specs.Laws.{ComesTo}
-use Rattle.step_rules.proofs.Elides.{reserve_from}
+use Rattle.step_rules.proofs.Laws.Elides.{reserve_from}
 use Rattle.step_rules.specs.Actions.{IsNext}
 use Rattle.step_rules.specs.Rules.{IsOnLine}
 
@@ -48,7 +48,7 @@ pub keeps_private : (parts : Parts) (h : ℕ) (from : ModelState) (armed : Armed
 keeps_private parts h from armed acts =
     let may = acts.may in
     let own = own_at parts.harts h in
-    let was : IsOfHart (freed from h) h own = may.is_in.harts h may.exists in
+    let was : IsOfHart parts.pool (freed from h) h own = may.is_in.harts h may.exists in
     let below = is_there parts from h may in
     let here = freed_here from h below in
     let freed_part : HasOwn own (record (hart_of from h) { held = None }) = subst (HasOwn own) here was.part in

@@ -12,7 +12,7 @@ use Rattle.hart_state.specs.Deeds.{unreserved_own}
 use Rattle.hart_state.specs.Own.{Own}
 use Rattle.reg_mark.specs.Marks.{unmarked, views_unreserved}
 use Rattle.reg_mark.specs.declared.marked.Marked.{Marked}
-use Rattle.rv_alu.proofs.Executions.{store_ends_reservation}
+use Rattle.rv_alu.proofs.Laws.Executions.{store_ends_reservation}
 use Rattle.rv_alu.specs.Execution.{Store, append_in, perform, store_in, view_after}
 use Rattle.rv_alu.specs.Footprint.{IsInPlace, footprint}
 use Rattle.rv_alu.specs.Reservations.{reserved_off, unreserved}

@@ -1,26 +1,29 @@
-pub mod Standing
-pub mod Misses
-pub mod Reaching
-pub mod BusEvents
-pub mod Places
-pub mod Steps
-pub mod MainMemory
+pub mod Laws
+mod Framed
+mod RestoredHarts
+mod LostReservations
+mod Quotas
+mod Standing
+mod Misses
+mod LentThere
+mod Reaching
+mod Steps
+mod MainMemory
 mod Stopping
 mod Bytes
 mod Seen
 mod Others
 mod Stepped
 mod RolledBack
-pub mod PlainRules
-pub mod StandsOutside
-pub mod Swaps
-pub mod LeftBehind
-pub mod RanAction
-pub mod Outsiders
-pub mod AfterRan
-pub mod Chosen
-pub mod RunsNext
-pub mod AfterBegan
+mod PlainRules
+mod StandsOutside
+mod LeftBehind
+mod RanAction
+mod Outsiders
+mod AfterRan
+mod Chosen
+mod RunsNext
+mod AfterBegan
 mod InsideRules
 mod KeptLive
 mod CommittedParts

@@ -2,8 +2,8 @@
 use Rattle.std.proofs.Common.{◌≡◌, ◌∙◌, ℕ, ◌<◌, None, length, refl, ap, subst, arith}
 use Rattle.std.proofs.lemmas.List.{set-set}
 use Rattle.el_base.specs.declared.outcomes.Need.{Need}
-use Rattle.el_model.proofs.Harts.{hart_of-with_hart_same, with_hart_kept}
-use Rattle.el_model.proofs.Keeps.{keeps_with_hart}
+use Rattle.el_model.proofs.Laws.Harts.{hart_of-with_hart_same, with_hart_kept}
+use Rattle.el_model.proofs.Laws.Keeps.{keeps_with_hart}
 use Rattle.el_model.specs.Plain.{missed, missed_hart}
 use Rattle.el_model.specs.State.{Hart, ModelState, hart_of, with_hart}
 use Rattle.engine.proofs.Standing.{IsSameHart, with_bus}
@@ -58,13 +58,14 @@ missed_is state h line need below =
     ∙ freed_then state h (missed_hart h line need (hart_of state h))
 
 pub after_missed : (old : Parts) (bus : Kept) (state : ModelState) (h line : ℕ) (need : Need) → MayAct old h state →
+    bus.copies ≡ old.bus.copies →
     ((from : ModelState) → Shows old.bus from → Shows bus (with_hart from h (missed_hart h line need (hart_of from h)))) →
     IsIn (record old { bus = bus }) (missed state h line need).state
-after_missed old bus state h line need may shows =
+after_missed old bus state h line need may copies shows =
     let from = freed state h in
     let hart = missed_hart h line need (hart_of from h) in
     subst (IsIn (record old { bus = bus })) (missed_is state h line need (is_there old state h may))
     (with_bus old bus from (with_hart from h hart) may.is_in (keeps_with_hart from h hart)
     (same_each from h hart
     (record { section = refl; armed = refl; last_lr = refl; cache = refl; predictor = refl; fallback = refl; tries = refl }))
-    (shows from may.is_in.shows))
+    copies (shows from may.is_in.shows))

@@ -3,7 +3,7 @@ use Rattle.std.proofs.Common.{◌≡◌, ◌≢◌, ◌∙◌, ℕ, ◌<◌, len
 use Rattle.std.specs.Prelude.{IsSome, option_map}
 use Rattle.el_base.specs.declared.events.Event.{Event}
 use Rattle.el_base.specs.declared.events.Kind.TheVariants as kinds
-use Rattle.el_model.proofs.Harts.{hart_of-with_hart_other}
+use Rattle.el_model.proofs.Laws.Harts.{hart_of-with_hart_other}
 use Rattle.el_model.specs.Next.{next}
 use Rattle.el_model.specs.State.{Hart, ModelState, Section, armed_of, cache_of, hart_of, section_of}
 use Rattle.engine.proofs.Reaching.{other_step_beside, runs_armed, survives_event}
@@ -12,19 +12,20 @@ use Rattle.engine.specs.Parts.{IsIn, IsOfHart, KeepsReserved, KeepsSection, Keep
 use Rattle.engine.specs.Reached.{IsReached}
 use Rattle.hart_state.specs.Deeds.{unreserved_own}
 use Rattle.hart_state.specs.Own.{HasOwn, Own}
-use Rattle.reg_mark.proofs.Views.{committed_unreserved}
+use Rattle.line_pool.specs.Pooled.{Pooled}
+use Rattle.reg_mark.proofs.Laws.Views.{committed_unreserved}
 use Rattle.reg_mark.specs.Marks.{committed_of, views_unreserved}
 use Rattle.reg_mark.specs.declared.marked.Marked.{Marked}
 use Rattle.rv_alu.specs.Reservations.{unreserved}
 use Rattle.rv_alu.specs.declared.view.HartView.{HartView}
 use Rattle.rv_flat.specs.FlatState.{FlatState, view_of}
-use Rattle.section_ctl.specs.State.{Reserved}
-use Rattle.section_view.proofs.Surviving.{kept_armed_survive, kept_survive, marks_stay}
+use Rattle.section_ctl.specs.State.{Reserved, hold_in}
+use Rattle.section_view.proofs.Laws.Surviving.{kept_armed_survive, kept_survive, marks_stay}
 use Rattle.section_view.specs.KeptRun.{HoldsMarked, KeepsArmed, KeepsRun}
-use Rattle.step_laws.proofs.Frames.{steps_keep_others}
+use Rattle.step_laws.proofs.Laws.Frames.{steps_keep_others}
 use Rattle.step_laws.specs.Frames.{LeavesOthers}
 use Rattle.step_laws.specs.Survivors.{Survives}
-use Rattle.write_hold.specs.Held.{Held}
+use Rattle.write_hold.specs.Slotted.{IsLent, Slotted, lent}
 
 -- the views of a hart, of which at most the committed one has changed: no checkpoint stands as before, or one stands as before, and the
 -- present view beside it has stayed
@@ -40,22 +41,23 @@ pub record IsSeenAs (old new : Own) (committed : HartView) : Type 0 where
   pub view : committed_of new.section.marks ≡ committed
 
 -- where a section survives, the same present view and the same hold keep it
-keeps_section : (state new : ModelState) (g : ℕ) (section : Section) (old own : Own) → Survives state new g section →
-    KeepsSection state g section old.section → KeepsPresent old.section.marks own.section.marks → own.section.hold ≡ old.section.hold →
-    IsSome old.section.marks.mark → KeepsSection new g section own.section
-keeps_section state new g section old own survives keeps marks hold marked =
-    let bits = marks_stay (cache_of state g) (cache_of new g) old.section.hold.entries survives.keeps.bits.written keeps.marked in
+keeps_section : (pool : Pooled) (state new : ModelState) (g : ℕ) (section : Section) (old own : Own) → Survives state new g section →
+    KeepsSection pool state g section old.section → KeepsPresent old.section.marks own.section.marks → own.section.hold ≡ old.section.hold →
+    IsSome old.section.marks.mark → KeepsSection pool new g section own.section
+keeps_section pool state new g section old own survives keeps marks hold marked =
+    let held = hold_in pool old.section in
+    let bits = marks_stay (cache_of state g) (cache_of new g) held.entries survives.keeps.bits.written keeps.marked in
     record {
       run =
-          subst (λ present. KeepsRun new.committed g section present own.section.hold.entries) (sym (marks.present marked))
-          (subst (λ held. KeepsRun new.committed g section old.section.marks.present held.entries) (sym hold)
-          (kept_survive g (cache_of state g) section state.committed new.committed old.section.marks.present old.section.hold.entries
+          subst (λ present. KeepsRun new.committed g section present (hold_in pool own.section).entries) (sym (marks.present marked))
+          (subst (λ h. KeepsRun new.committed g section old.section.marks.present (lent pool h).entries) (sym hold)
+          (kept_survive g (cache_of state g) section state.committed new.committed old.section.marks.present held.entries
           survives.covered survives.change keeps.marked keeps.run));
-      marked = subst (λ held. HoldsMarked (cache_of new g) held.entries) (sym hold) bits;
+      marked = subst (λ h. HoldsMarked (cache_of new g) (lent pool h).entries) (sym hold) bits;
     }
 
 -- what stood keeps standing
-stands_still : (live : Option Section) (reserved : Option Reserved) (hold : Held) (old new : Marked) → KeepsPresent old new →
+stands_still : (live : Option Section) (reserved : Option Reserved) (hold : Slotted) (old new : Marked) → KeepsPresent old new →
     StandsAs old hold live reserved → StandsAs new hold live reserved
 stands_still None None hold old new marks stands = record { unmarked = marks.unmarked stands.unmarked; empty = stands.empty }
 stands_still None (Some reserved) hold old new marks stands = record {
@@ -85,28 +87,28 @@ has_still old own before after view same seen has = subst (HasOwn own) (sym same
 }))
 
 -- a checkpoint stands by a section, live or armed
-marked_live : (reserved : Option Reserved) (section : Section) (hold : Held) (marks : Marked) → StandsAs marks hold (Some section) reserved →
+marked_live : (reserved : Option Reserved) (section : Section) (hold : Slotted) (marks : Marked) → StandsAs marks hold (Some section) reserved →
     IsSome marks.mark
 marked_live None section hold marks stands = stands.mark
 marked_live (Some reserved) section hold marks stands = absurd stands
 
-marked_armed : (live : Option Section) (reserved : Reserved) (hold : Held) (marks : Marked) → StandsAs marks hold live (Some reserved) →
+marked_armed : (live : Option Section) (reserved : Reserved) (hold : Slotted) (marks : Marked) → StandsAs marks hold live (Some reserved) →
     IsSome marks.mark
 marked_armed None reserved hold marks stands = stands.mark
 marked_armed (Some section) reserved hold marks stands = absurd stands
 
 -- by whether a section is live
-kept_by : (live : Option Section) (from before new : ModelState) (g : ℕ) (old own : Own) →
-    ((section : Section) → live ≡ Some section → Survives from new g section) → KeepsSectionOf before g live old.section →
+kept_by : (pool : Pooled) (live : Option Section) (from before new : ModelState) (g : ℕ) (old own : Own) →
+    ((section : Section) → live ≡ Some section → Survives from new g section) → KeepsSectionOf pool before g live old.section →
     before.committed ≡ from.committed → cache_of before g ≡ cache_of from g →
     StandsAs old.section.marks old.section.hold live old.section.armed →
-    IsSeenAs old own (view_of new.committed g) → KeepsSectionOf new g live own.section
-kept_by None from before new g old own survives keeps committed cache stands seen = tt
-kept_by (Some section) from before new g old own survives keeps committed cache stands seen =
-    keeps_section from new g section old own (survives section refl)
+    IsSeenAs old own (view_of new.committed g) → KeepsSectionOf pool new g live own.section
+kept_by pool None from before new g old own survives keeps committed cache stands seen = tt
+kept_by pool (Some section) from before new g old own survives keeps committed cache stands seen =
+    keeps_section pool from new g section old own (survives section refl)
     (record {
-      run = subst (λ memory. KeepsRun memory g section old.section.marks.present old.section.hold.entries) committed keeps.run;
-      marked = subst (λ c. HoldsMarked c old.section.hold.entries) cache keeps.marked;
+      run = subst (λ memory. KeepsRun memory g section old.section.marks.present (hold_in pool old.section).entries) committed keeps.run;
+      marked = subst (λ c. HoldsMarked c (hold_in pool old.section).entries) cache keeps.marked;
     })
     seen.marks (ap (λ o. o.section.hold) seen.rest) (marked_live old.section.armed section old.section.hold old.section.marks stands)
 
@@ -124,17 +126,19 @@ reserved_by (Some reserved) from new g old own survive keeps stands marks =
 -- after a step of one hart, what another keeps is what it kept, but that its committed view is that of the state after it
 pub others_stay : (parts : Parts) (from : ModelState) (event : Event) (g : ℕ) (own : Own) → IsReached from →
     IsIn parts (freed from event.hart.number) → event.kind ≡ kinds.Step → g ≢ event.hart.number → g < length parts.harts →
-    IsSeenAs (own_at parts.harts g) own (view_of (next from event).state.committed g) → IsOfHart (next from event).state g own
+    IsSeenAs (own_at parts.harts g) own (view_of (next from event).state.committed g) → IsOfHart parts.pool (next from event).state g own
 others_stay parts from event g own reached is step other exists seen = record {
   part = has_still old own (hart_of before g) (hart_of new g) _ (same ∙ sym was_same) seen was.part;
   view = seen.view;
-  section = subst (λ live. KeepsSectionOf new g live own.section) (sym (ap (λ hart. hart.section) (same ∙ sym was_same)))
-      (kept_by (section_of before g) from before new g old own survive was.section refl (ap (λ hart. hart.cache) was_same) live_stands seen);
+  section = subst (λ live. KeepsSectionOf parts.pool new g live own.section) (sym (ap (λ hart. hart.section) (same ∙ sym was_same)))
+      (kept_by parts.pool (section_of before g) from before new g old own survive was.section refl (ap (λ hart. hart.cache) was_same) live_stands seen);
   armed = subst (λ o. KeepsReserved new.committed g o.section.armed own.section.marks.present) (sym seen.rest)
       (reserved_by old.section.armed from new.committed g old own armed_survive was.armed was.stands seen.marks);
   stands = subst (λ o. StandsAs own.section.marks o.section.hold o.section.live o.section.armed) (sym seen.rest)
       (stands_still old.section.live old.section.armed old.section.hold old.section.marks own.section.marks seen.marks was.stands);
   limit = ap (λ o. o.section.hold.limit) seen.rest ∙ was.limit ∙ ap (λ config. config.lines) (sym left.config);
+  owner = ap (λ o. o.section.hold.owner) seen.rest ∙ was.owner;
+  lent = subst (λ o. IsLent parts.pool o.section.hold) (sym seen.rest) was.lent;
 }
   where
     new : ModelState
@@ -146,7 +150,7 @@ others_stay parts from event g own reached is step other exists seen = record {
     old : Own
     old = own_at parts.harts g
 
-    was : IsOfHart before g old
+    was : IsOfHart parts.pool before g old
     was = is.harts g exists
 
     left : LeavesOthers from new event.hart.number

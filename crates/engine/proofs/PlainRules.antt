@@ -1,9 +1,9 @@
 -- the rule of a step outside of a section, by what it touches and by the swap or the LR that it is
 use Rattle.std.proofs.Common.{◌≡◌, ◌∙◌, ℕ, ◌<◌, Bool, true, false, List, length, Option, Some, None, refl, ap, sym, subst}
 use Rattle.std.specs.Prelude.{◌&&◌, if◌then◌else◌, not}
-use Rattle.cache_sets.specs.Cache.{letter_of}
+use Rattle.residency.specs.Cache.{letter_of}
 use Rattle.cache_sets.specs.Cached.{Cached}
-use Rattle.cache_sets.specs.Residency.{Way}
+use Rattle.residency.specs.Residency.{Way}
 use Rattle.cached_step.specs.CacheRun.{permitted}
 use Rattle.core_step.specs.Run.{lacking}
 use Rattle.el_base.specs.Line.{line_number}
@@ -21,7 +21,7 @@ use Rattle.moesi.specs.Letters.{may_of, may_read}
 use Rattle.rv_alu.specs.declared.footprint.Access.{Access}
 use Rattle.rv_alu.specs.declared.footprint.Access.TheVariants as accesses
 use Rattle.rv_flat.specs.FlatState.{view_of}
-use Rattle.step_rules.proofs.Begins.{touching_same}
+use Rattle.step_rules.proofs.Laws.Begins.{touching_same}
 use Rattle.step_rules.specs.Rules.{touching_rule}
 
 -- the same by a cache, and by which lines another hart waits to write

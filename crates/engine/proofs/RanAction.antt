@@ -1,49 +1,53 @@
 -- what an action leaves that ran in the cache of its hart, from a state in which the hart acts outside of a section
 use Rattle.std.proofs.Common.{◌≡◌, ◌∙◌, ℕ, Bool, true, Option, Some, None, is_some, refl, ap, sym, subst}
 use Rattle.std.specs.Prelude.{◌&&◌, ◌==◌}
-use Rattle.cache_sets.specs.Cache.{is_resident}
-use Rattle.cache_sets.specs.Cached.{Cached, cached_byte}
-use Rattle.cached_step.proofs.CachedBytes.{same_bytes}
-use Rattle.cached_step.proofs.Rooms.{stays_in_form}
-use Rattle.cached_step.proofs.Told.{performs_flat, tells_memory_after}
+use Rattle.residency.specs.Cache.{is_resident}
+use Rattle.cache_sets.specs.Cached.{Cached, bytes_of, cached_byte}
+use Rattle.cache_sets.specs.Slotted.{Slotted, lent}
+use Rattle.cached_step.proofs.Laws.CachedBytes.{same_bytes}
+use Rattle.cached_step.proofs.Laws.Rooms.{stays_in_form}
+use Rattle.cached_step.proofs.Laws.Told.{performs_flat, tells_memory_after}
 use Rattle.coherence.specs.Beginning.{line_of}
-use Rattle.step_rules.proofs.Begins.{readable_there}
+use Rattle.step_rules.proofs.Laws.Begins.{readable_there}
 use Rattle.cached_step.specs.CacheRun.{HasRun, permitted}
-use Rattle.coherence.proofs.Fetched.{copy_resident}
-use Rattle.coherence.proofs.GivenBackLaws.{copy_tells}
-use Rattle.coherence.proofs.Owners.{copy_is}
+use Rattle.coherence.proofs.Laws.Fetched.{copy_resident}
+use Rattle.coherence.proofs.Laws.GivenBackLaws.{copy_tells}
+use Rattle.coherence.proofs.Laws.Owners.{copy_is}
 use Rattle.coherence.specs.GivenBack.{copies_with}
 use Rattle.coherence.specs.Served.{TellsOf}
-use Rattle.core_step.proofs.Runs.{is_permitted}
+use Rattle.core_step.proofs.Laws.Runs.{is_permitted}
 use Rattle.core_step.specs.Run.{lacking}
 use Rattle.el_base.specs.Line.{line_number}
 use Rattle.el_base.specs.declared.outcomes.Need.TheVariants.{Read}
 use Rattle.el_model.specs.Plain.{acquire_pc, after_candidate, after_touch, armed_count, candidate_of, last_reserve, ran_hart, watched}
 use Rattle.el_model.specs.State.{Hart, ModelState, hart_of}
 use Rattle.el_model.specs.Upcoming.{Swap, touch_of}
+use Rattle.coherence.proofs.Laws.Offered.{leaves_owner}
+use Rattle.engine.proofs.Framed.{told_back}
 use Rattle.engine.proofs.LeftBehind.{TellsPiece}
 use Rattle.engine.proofs.Misses.{freed_here, freed_then}
-use Rattle.engine.proofs.StandsOutside.{action_is, has_cache, in_memory, inside, none_armed, none_marked, runs_there, tells_memory, view_is}
-use Rattle.engine.specs.Acting.{ActsOutside, cache_in, freed, next_action}
+use Rattle.engine.proofs.StandsOutside.{action_is, has_cache, in_memory, inside, lent_here, none_armed, none_marked, runs_there, tells_there, view_is}
+use Rattle.engine.specs.Acting.{ActsOutside, cache_in, freed, next_action, sets_in}
 use Rattle.engine.specs.Effect.{CanAppend}
-use Rattle.engine.specs.Outside.{execution_in}
-use Rattle.engine.specs.Parts.{Parts, present_at, room_in}
+use Rattle.engine.specs.Outside.{HasRunOver, execution_in}
+use Rattle.engine.specs.Parts.{Parts, hold_owner, present_at, room_in}
 use Rattle.hart_state.specs.Deeds.{candidate_own, own_acquire_pc, ran_own}
 use Rattle.hart_state.specs.Own.{Own}
+use Rattle.line_pool.specs.Pooled.{Pooled}
+use Rattle.section_ctl.specs.Lent.{LeavesBeside}
 use Rattle.rv_alu.specs.Execution.{perform, store_in}
 use Rattle.rv_alu.specs.Footprint.{IsInPlace, footprint}
 use Rattle.rv_alu.specs.declared.action.Action.{Action}
 use Rattle.rv_alu.specs.declared.action.Action.TheVariants as actions
 use Rattle.rv_alu.specs.declared.span.Span.{Span}
-use Rattle.rv_flat.proofs.StepLaws.{keeps_shape, running}
+use Rattle.rv_flat.proofs.Laws.StepLaws.{keeps_shape, running}
 use Rattle.rv_flat.specs.FlatState.{room_of, span_of, view_of}
 use Rattle.rv_flat.specs.Step.{action_of, applied, execution_of, flat}
-use Rattle.snoop.proofs.Returning.{ready_returned, shows_returned}
+use Rattle.snoop.proofs.Laws.Returning.{ready_returned, shows_returned, unasked_returned}
 use Rattle.snoop.specs.Agent.{agent_of}
 use Rattle.snoop.specs.Asking.{HasNoRequest}
 use Rattle.snoop.specs.Returned.{IsReturnedAs, returned, state_with}
-use Rattle.snoop.specs.Shows.{IsReady, Shows}
-use Rattle.coherence.proofs.LineLaws.{none_is}
+use Rattle.snoop.specs.Shows.{IsReady, Shows, Tells, lent_copies}
 
 -- what a candidate leaves of a hart, and learning of what the hart keeps
 candidate_agent : (pc : Option ℕ) (had : Bool) (swap : Option Swap) (hart : Hart) → agent_of (after_candidate pc had swap hart) ≡ agent_of hart
@@ -91,8 +95,11 @@ seen_hart state h action =
 
 module _ (parts : Parts) (h : ℕ) (state : ModelState) (action : Action) (acts : ActsOutside parts h state)
     (is : action ≡ next_action parts h) (place : IsInPlace parts.span (room_in parts) action)
-    (none : lacking (permitted (cache_in parts h)) (footprint action) ≡ None) (cache : Cached)
-    (run : HasRun (cache_in parts h) cache action (store_in (execution_in parts h action))) where
+    (none : lacking (permitted (cache_in parts h)) (footprint action) ≡ None) (pool : Pooled) (cache : Slotted)
+    (over : HasRunOver parts h action pool cache) where
+  abbrev after : Cached
+  after = lent pool cache
+
   -- over the cache it does what it does over plain memory
   pub same_execution : execution_in parts h action ≡ execution_of state.committed (view_of state.committed h)
   same_execution =
@@ -101,22 +108,37 @@ module _ (parts : Parts) (h : ℕ) (state : ModelState) (action : Action) (acts 
       let same : action ≡ action_of state.committed view = is ∙ action_is parts h state acts in
       ap (λ v. perform action v bytes) (view_is parts h state acts)
       ∙ ap (λ a. perform a view bytes) same
-      ∙ performs_flat parts.bus.copies state.committed h view (tells_memory parts h state acts)
+      ∙ subst (λ c. perform (action_of state.committed view) view (cached_byte c) ≡ execution_of state.committed view)
+      (lent_here parts h state acts)
+      (performs_flat (lent_copies parts.pool parts.bus.copies) state.committed h view (tells_there parts h state acts)
       (subst (IsInPlace (span_of state.committed) (room_of state.committed)) same (in_memory parts h state acts action place))
-      (subst (λ a. lacking (permitted (cache_in parts h)) (footprint a) ≡ None) same none)
+      (subst (λ c. lacking (permitted c) (footprint (action_of state.committed view)) ≡ None) (sym (lent_here parts h state acts))
+      (subst (λ a. lacking (permitted (cache_in parts h)) (footprint a) ≡ None) same none)))
 
   -- caches and main memory tell the bytes after it
-  pub tells_after : TellsOf (copies_with parts.bus.copies h cache) (line_of (flat state.committed h))
+  tells_after : TellsOf (copies_with (lent_copies parts.pool parts.bus.copies) h after) (line_of (flat state.committed h))
   tells_after =
       let view = present_at parts.harts h in
-      let after =
-      tells_memory_after parts.bus.copies state.committed h (room_of state.committed) cache action view (cached_byte (cache_in parts h))
-      (tells_memory parts h state acts) (in_memory parts h state acts action place) run in
-      subst (λ s. TellsOf (copies_with parts.bus.copies h cache) (line_of s))
+      let copies = lent_copies parts.pool parts.bus.copies in
+      let told =
+      tells_memory_after copies state.committed h (room_of state.committed) after action view (cached_byte (cache_in parts h))
+      (tells_there parts h state acts) (in_memory parts h state acts action place)
+      (subst (λ c. HasRun c after action (store_in (execution_in parts h action))) (sym (lent_here parts h state acts)) over.has_run) in
+      subst (λ s. TellsOf (copies_with copies h after) (line_of s))
       (ap (λ v. applied state.committed h v (execution_in parts h action)) (view_is parts h state acts)
       ∙ ap (applied state.committed h (view_of state.committed h)) same_execution
       ∙ sym (running state.committed h (runs_there parts h state acts)))
-      after.bytes
+      told.bytes
+
+  -- the pool leaves what it has of all others
+  pub leaves : LeavesBeside h (hold_owner h) parts.pool pool
+  leaves owner apart other =
+      leaves_owner (sets_in parts h).owner owner parts.pool pool over.others
+      (λ same. apart (same ∙ acts.may.is_in.told.lent.owned h (has_cache parts h state acts)))
+
+  pub ran_told : Tells pool (returned parts.bus h cache) (line_of (flat state.committed h))
+  ran_told =
+      told_back parts.pool pool parts.bus h cache _ _ acts.may.is_in.told (has_cache parts h state acts) over.owner over.kept leaves tells_after
 
   agent_stays : agent_of (hart_ran state h action) ≡ agent_of (hart_of (freed state h) h)
   agent_stays =
@@ -130,7 +152,7 @@ module _ (parts : Parts) (h : ℕ) (state : ModelState) (action : Action) (acts 
       (seen_hart state h action)
       ∙ ap (λ c. after_touch c (touch_of (footprint action)))
       (sym (acts.may.is_in.shows.caches h ∙ ap (λ hart. hart.cache) (freed_here state h (inside parts h state acts))))
-      ∙ sym run.residency
+      ∙ sym over.has_run.residency
 
   pub section_none : (hart_ran state h action).section ≡ None
   section_none =
@@ -148,19 +170,18 @@ module _ (parts : Parts) (h : ℕ) (state : ModelState) (action : Action) (acts 
       let keeps = keeps_shape state.committed h in
       record {
         agent = agent_stays;
-        ways = run.ways;
+        ways = over.has_run.ways;
         residency = cache_is;
         live =
             ap is_some section_none
             ∙ sym (ap (λ marks. marks && (armed_count (hart_ran state h action).armed == 0))
-            ((stays_in_form (cache_in parts h) cache action _ (acts.may.ready.well_formed h (has_cache parts h state acts)) run).marks
+            ((stays_in_form (cache_in parts h) after action _ (acts.may.ready.well_formed h (has_cache parts h state acts)) over.has_run).marks
             ∙ none_marked parts h state acts));
         armed = ap is_some armed_none ∙ sym (ap is_some (none_armed parts h state acts));
         memory = record {
           first = acts.may.is_in.shows.memory.first ∙ sym keeps.base;
           lines = acts.may.is_in.shows.memory.lines ∙ sym keeps.length_of_bytes;
         };
-        bytes = tells_after;
       }
 
   pub ran_shows : Shows (returned parts.bus h cache) (state_ran state h action)
@@ -173,12 +194,8 @@ module _ (parts : Parts) (h : ℕ) (state : ModelState) (action : Action) (acts 
   pub ran_ready : HasNoRequest parts.bus h → IsReady (returned parts.bus h cache)
   ran_ready none_asked =
       ready_returned parts.bus h cache (has_cache parts h state acts) acts.may.ready
-      (record {
-        coherent = record { bytes = line_of (flat state.committed h); tells = tells_after };
-        well_formed = (stays_in_form (cache_in parts h) cache action _ (acts.may.ready.well_formed h (has_cache parts h state acts)) run).well_formed;
-        raised = λ request found. none_is request (sym none_asked.none_raised ∙ found);
-        ordered = λ request found. none_is request (sym none_asked.none_ordered ∙ found);
-      })
+      (unasked_returned parts.bus h cache none_asked
+      (stays_in_form (cache_in parts h) after action _ (acts.may.ready.well_formed h (has_cache parts h state acts)) over.has_run).well_formed)
 
 -- the bytes that an action appends are there, and are those of memory
 append_there : (parts : Parts) (h address len : ℕ) → lacking (permitted (cache_in parts h)) (footprint (actions.Append address len)) ≡ None →
@@ -213,7 +230,10 @@ pub tells_piece : (parts : Parts) (h : ℕ) (state : ModelState) (action : Actio
     HasRun (cache_in parts h) cache action (store_in (execution_in parts h action)) → TellsPiece cache state.committed action
 tells_piece parts h state (actions.Append address len) cache acts none run =
     same_bytes (cache_in parts h) cache (line_number address) (run.copies (line_number address))
-    ∙ copy_tells parts.bus.copies h (line_number address) (line_of state.committed) acts.may.is_in.shows.bytes (append_there parts h address len none)
+    ∙ subst (λ c. bytes_of c (line_number address) ≡ line_of state.committed (line_number address)) (lent_here parts h state acts)
+    (copy_tells (lent_copies parts.pool parts.bus.copies) h (line_number address) (line_of state.committed) acts.may.is_in.told.told
+    (subst (λ (c : Cached). is_resident c.residency (line_number address) ≡ true) (sym (lent_here parts h state acts))
+    (append_there parts h address len none)))
 tells_piece parts h state (actions.Trap cause) cache acts none run = tt
 tells_piece parts h state (actions.Exit code) cache acts none run = tt
 tells_piece parts h state (actions.Put rd value) cache acts none run = tt

@@ -3,8 +3,8 @@ use Rattle.std.proofs.Common.{◌≡◌, ◌≢◌, ◌∙◌, ℕ, ◌<◌, [],
 use Rattle.std.proofs.lemmas.List.{length-append}
 use Rattle.el_base.specs.declared.config.Config.{Config}
 use Rattle.el_base.specs.declared.events.Event.{Event}
-use Rattle.el_model.proofs.Folds.{state_after-append}
-use Rattle.el_model.proofs.FromStart.{kept_after, next_config}
+use Rattle.el_model.proofs.Laws.Folds.{state_after-append}
+use Rattle.el_model.proofs.Laws.FromStart.{kept_after, next_config}
 use Rattle.el_base.specs.Winners.{winner_over}
 use Rattle.el_model.specs.Losses.{HartsAreNumbered}
 use Rattle.el_base.specs.declared.events.Kind.TheVariants as kinds
@@ -12,15 +12,15 @@ use Rattle.el_model.specs.Next.{after, next}
 use Rattle.el_model.specs.State.{Armed, ModelState, Section, armed_of, begin, cache_of, is_live, section_of}
 use Rattle.elf_image.specs.Program.{Program}
 use Rattle.engine.specs.Reached.{IsReached}
-use Rattle.run_laws.proofs.Reachable.{armed_sections_run_covered, other_harts_change_nothing_covered}
+use Rattle.run_laws.proofs.Laws.Reachable.{armed_sections_run_covered, other_harts_change_nothing_covered}
 use Rattle.run_laws.specs.PrivateRun.{IsArmedRun, IsChangeBeside}
-use Rattle.section_laws.proofs.ArmedCounts.{armed_sections_are_short}
-use Rattle.section_laws.proofs.Numbered.{requests_are_numbered}
+use Rattle.section_laws.proofs.Laws.ArmedCounts.{armed_sections_are_short}
+use Rattle.section_laws.proofs.Laws.Numbered.{requests_are_numbered}
 use Rattle.section_laws.specs.EachHart.{IsShortArmed}
-use Rattle.step_laws.proofs.Frames.{steps_keep_others}
-use Rattle.step_laws.proofs.LettingGo.{bus_events_let_harts_go}
-use Rattle.step_laws.proofs.Losing.{only_live_sections_lose}
-use Rattle.step_laws.proofs.Survivors.{survivors_keep_what_they_show}
+use Rattle.step_laws.proofs.Laws.Frames.{steps_keep_others}
+use Rattle.step_laws.proofs.Laws.LettingGo.{bus_events_let_harts_go}
+use Rattle.step_laws.proofs.Laws.Losing.{only_live_sections_lose}
+use Rattle.step_laws.proofs.Laws.Survivors.{survivors_keep_what_they_show}
 use Rattle.step_laws.specs.Losing.{LosesItsSection}
 use Rattle.step_laws.specs.LettingGo.{LetsHartsGo, freed_of_outcome}
 use Rattle.step_laws.specs.Survivors.{IsNoStepOf, Survives}

@@ -3,44 +3,48 @@ use Rattle.std.proofs.Common.{◌≡◌, ◌∙◌, ℕ, ◌<◌, ◌≤◌, len
 use Rattle.std.specs.Prelude.{slice_set}
 use Rattle.std.below.core.specs.declared.int.u64.TheConstants.{MAX}
 use Rattle.std.proofs.lemmas.List.{get_or-set_other, get_or-set_same, length-set}
-use Rattle.cache_sets.proofs.MarkLemmas.{has_marks-cleared}
-use Rattle.cache_sets.proofs.WellFormedLemmas.{well_formed-cleared}
-use Rattle.cache_sets.specs.Cache.{cleared, has_marks}
-use Rattle.cache_sets.specs.Cached.{Cached}
-use Rattle.cache_sets.specs.Calls.{IsCleared}
-use Rattle.cache_sets.specs.WellFormed.{IsWellFormed}
-use Rattle.coherence.specs.Caches.{cache_at}
-use Rattle.el_base.proofs.Ranges.{at_most, ranges}
+use Rattle.residency.proofs.Laws.MarkLemmas.{has_marks-cleared}
+use Rattle.residency.proofs.Laws.WellFormedLemmas.{well_formed-cleared}
+use Rattle.residency.specs.Cache.{cleared, has_marks}
+use Rattle.cache_sets.specs.Slotted.{Slotted}
+use Rattle.residency.specs.WellFormed.{IsWellFormed}
+use Rattle.coherence.proofs.Laws.Offered.{leaves_owner}
+use Rattle.coherence.specs.Lent.{slotted_at}
+use Rattle.el_base.proofs.Laws.Ranges.{at_most, ranges}
 use Rattle.el_base.specs.declared.config.TheConstants.{MAX_STEPS}
 use Rattle.el_base.specs.declared.hart_id.HartId.{HartId}
 use Rattle.el_base.specs.declared.outcomes.Cause.{Cause}
-use Rattle.el_base.specs.declared.outcomes.Cause.TheVariants.{Room}
 use Rattle.el_base.specs.declared.outcomes.Outcome.TheVariants.{RolledBack}
-use Rattle.el_model.proofs.Harts.{hart_of-with_hart_same}
+use Rattle.el_model.proofs.Laws.Harts.{hart_of-with_hart_same}
 use Rattle.el_model.specs.Attempts.{close_attempt}
 use Rattle.el_model.specs.InSection.{RollsBack, by_section_rule, section_rule, section_turn}
 use Rattle.el_model.specs.Plain.{armed_count}
 use Rattle.el_model.specs.RollBack.{rolled_back}
 use Rattle.el_model.specs.State.{Hart, ModelState, Section, armed_of, hart_of, with_hart}
+use Rattle.engine.proofs.Framed.{IsClearedThere, told_copies, told_left, told_same}
 use Rattle.engine.proofs.KeptLive.{keeps_live}
 use Rattle.engine.proofs.Misses.{freed_here, freed_then, is_there}
 use Rattle.engine.proofs.Others.{IsSeenAs, seen_same}
-use Rattle.engine.proofs.Stepped.{HasSameCopies, HasStepped, IsBetween, after_step, StaysInPlace, ready_between, set_twice}
+use Rattle.engine.proofs.Stepped.{HasStepped, IsBetween, IsCacheOf, after_step, StaysInPlace, ready_between, set_twice}
 use Rattle.engine.proofs.Stepped.{shows_between, stays_in_place}
 use Rattle.engine.specs.Acting.{MayAct, freed}
 use Rattle.engine.specs.Inside.{FollowsRule}
+use Rattle.engine.specs.Lent.{KeepsCopies}
 use Rattle.engine.specs.Parts.{IsIn, IsOfHart, KeepsSectionOf, Parts, own_at}
 use Rattle.engine.specs.Reached.{IsReached}
-use Rattle.hart_state.proofs.Harts.{rolled_back_is}
+use Rattle.hart_state.proofs.Laws.Harts.{rolled_back_is}
 use Rattle.hart_state.specs.Deeds.{rolled_back_own}
-use Rattle.hart_state.specs.Own.{HasOwn, committed_pc, new_own}
+use Rattle.hart_state.specs.Own.{HasOwn, Own, committed_pc, new_own}
+use Rattle.line_pool.specs.Others.{LeavesOthers}
+use Rattle.line_pool.specs.Pooled.{Pooled}
 use Rattle.rv_flat.specs.FlatState.{no_hart, view_of}
-use Rattle.snoop.proofs.Living.{lives_unarmed}
+use Rattle.snoop.proofs.Laws.Living.{lives_unarmed}
 use Rattle.snoop.specs.Agent.{agent_at, agent_of}
 use Rattle.snoop.specs.Returned.{returned}
 use Rattle.snoop.specs.Shows.{IsReady, Kept, Shows}
-use Rattle.step_laws.proofs.Clocks.{clocks_are_few}
+use Rattle.step_laws.proofs.Laws.Clocks.{clocks_are_few}
 use Rattle.step_laws.specs.Clocks.{AreClocksUpTo}
+use Rattle.write_hold.specs.Slotted.{IsLent}
 
 -- the hart then
 abbrev hart_then : ModelState → ℕ → Cause → Hart
@@ -104,27 +108,28 @@ agent_then : (from : ModelState) (h : ℕ) (cause : Cause) → armed_of from h �
 agent_then from h cause none =
     ap (λ armed. record (agent_of (close_attempt (record (hart_of from h) { held = None }))) { armed = armed_count armed }) (sym none)
 
-has_cleared : (bus : Kept) (h : ℕ) (from between : ModelState) (cause : Cause) (cache : Cached) →
+has_cleared : (bus : Kept) (h : ℕ) (from between : ModelState) (cause : Cause) (cache : Slotted) →
     IsBetween bus from between h (close_attempt (record (hart_of from h) { held = None })) →
-    IsCleared (cache_at bus.copies.caches h) cache → HasSameCopies bus h cache (hart_then from h cause)
+    IsClearedThere (slotted_at bus.copies.caches h) cache → IsCacheOf bus h cache (hart_then from h cause)
 has_cleared bus h from between cause cache is clears = record {
   ways = clears.ways;
   residency = ap (λ c. cleared c) (sym (is.shows.caches h ∙ ap (λ hart. hart.cache) is.here)) ∙ sym clears.residency;
   live =
-      sym (lives_unarmed cache.residency 0 refl ∙ ap has_marks clears.residency ∙ has_marks-cleared (cache_at bus.copies.caches h).residency);
-  copies = clears.copies;
+      sym (lives_unarmed cache.residency 0 refl ∙ ap has_marks clears.residency ∙ has_marks-cleared (slotted_at bus.copies.caches h).residency);
 }
 
 -- the parts then
-abbrev parts_then : Parts → Kept → ℕ → Cached → Cause → Parts
-parts_then old bus h cache cause = record old {
+abbrev parts_then : Parts → Pooled → Kept → ℕ → Slotted → Cause → Parts
+parts_then old pool bus h cache cause = record old {
+  pool = pool;
   bus = returned bus h cache;
   harts = slice_set old.harts h (rolled_back_own cause (own_at old.harts h));
 }
 
-own_then : (old : Parts) (from : ModelState) (h : ℕ) (cause : Cause) → MayAct old h from →
-    IsOfHart (with_hart from h (hart_then from h cause)) h (rolled_back_own cause (own_at old.harts h))
-own_then old from h cause may =
+own_then : (old : Parts) (pool : Pooled) (from : ModelState) (h : ℕ) (cause : Cause) → MayAct old h from →
+    IsLent pool (rolled_back_own cause (own_at old.harts h)).section.hold →
+    IsOfHart pool (with_hart from h (hart_then from h cause)) h (rolled_back_own cause (own_at old.harts h))
+own_then old pool from h cause may lent =
     let own = own_at old.harts h in
     let was = may.is_in.harts h may.exists in
     let below = is_there old from h may in
@@ -136,28 +141,43 @@ own_then old from h cause may =
           (subst (λ p. HasOwn (rolled_back_own cause own) (rolled_back cause p (record (hart_of from h) { held = None }))) pc
           (rolled_back_is cause own (record (hart_of from h) { held = None }) part));
       view = was.view;
-      section = subst (λ live. KeepsSectionOf (with_hart from h (hart_then from h cause)) h live (rolled_back_own cause own).section)
+      section = subst (λ live. KeepsSectionOf pool (with_hart from h (hart_then from h cause)) h live (rolled_back_own cause own).section)
           (sym (ap (λ hart. hart.section) here)) tt;
       armed = tt;
       stands = record { unmarked = refl; empty = refl };
       limit = was.limit;
+      owner = was.owner;
+      lent = lent;
     }
 
-rolls_stepped : (old : Parts) (bus : Kept) (from : ModelState) (h : ℕ) (cache : Cached) (cause : Cause) → MayAct old h from →
+-- what becomes of the pool: the hart's stores are given up, and all else is left
+pub record GivesUpHold (old new : Pooled) (before after : Own) : Type 0 where
+  pub lent : IsLent new after.section.hold
+  pub others : LeavesOthers before.section.hold.owner old new
+
+rolls_stepped : (old : Parts) (pool : Pooled) (bus : Kept) (from : ModelState) (h : ℕ) (cache : Slotted) (cause : Cause) → MayAct old h from →
+    bus.copies ≡ old.bus.copies → h < length bus.copies.caches → KeepsCopies (slotted_at bus.copies.caches h) cache →
+    GivesUpHold old.pool pool (own_at old.harts h) (rolled_back_own cause (own_at old.harts h)) →
     Shows (returned bus h cache) (with_hart from h (hart_then from h cause)) →
-    HasStepped old (parts_then old bus h cache cause) h (with_hart from h (hart_then from h cause))
-rolls_stepped old bus from h cache cause may shows =
+    HasStepped old (parts_then old pool bus h cache cause) h (with_hart from h (hart_then from h cause))
+rolls_stepped old pool bus from h cache cause may copies inside keeps gives shows =
     let own = rolled_back_own cause (own_at old.harts h) in
-    let none = new_own no_hart 0 in
+    let none = new_own no_hart 0 0 in
     record {
       config = refl;
       span = refl;
       code = refl;
       output = refl;
       shows = shows;
+      told =
+          told_left old.pool pool (returned bus h cache) _
+          (λ owner less. leaves_owner _ owner old.pool pool gives.others (λ same. absurd (omega (arith, same, less, (may.is_in.harts h may.exists).owner))))
+          (told_same old.pool bus h cache _ (told_copies old.pool old.bus bus _ copies may.is_in.told) inside keeps);
+      beside = λ owner apart other.
+          leaves_owner _ owner old.pool pool gives.others (λ same. other (same ∙ (may.is_in.harts h may.exists).owner));
       each = length-set old.harts h own;
-      own = subst (IsOfHart (with_hart from h (hart_then from h cause)) h) (sym (get_or-set_same old.harts h own none may.exists))
-          (own_then old from h cause may);
+      own = subst (IsOfHart pool (with_hart from h (hart_then from h cause)) h) (sym (get_or-set_same old.harts h own none may.exists))
+          (own_then old pool from h cause may gives.lent);
       others = λ g other exists. subst (λ o. IsSeenAs (own_at old.harts g) o (view_of from.committed g))
           (sym (get_or-set_other old.harts h g own none other))
           (seen_same (own_at old.harts g) (view_of from.committed g) (may.is_in.harts g exists).view);
@@ -177,24 +197,24 @@ pub has_cache : (parts : Parts) (bus : Kept) (h : ℕ) (from : ModelState) → M
 has_cache parts bus h from may shows =
     inside_bus parts bus h from _ _ may (between parts bus h from may shows) (count_between from h _)
 
-pub rolled_ready : (parts : Parts) (bus : Kept) (h : ℕ) (from : ModelState) (cache : Cached) → MayAct parts h from → IsReady bus →
-    Shows bus (with_hart (freed from h) h (close_attempt (hart_of (freed from h) h))) → IsCleared (cache_at bus.copies.caches h) cache →
+pub rolled_ready : (parts : Parts) (bus : Kept) (h : ℕ) (from : ModelState) (cache : Slotted) → MayAct parts h from → IsReady bus →
+    Shows bus (with_hart (freed from h) h (close_attempt (hart_of (freed from h) h))) → IsClearedThere (slotted_at bus.copies.caches h) cache →
     IsReady (returned bus h cache)
 rolled_ready parts bus h from cache may ready shows clears =
     let is = between parts bus h from may shows in
     let inside = has_cache parts bus h from may shows in
-    let formed = well_formed-cleared (cache_at bus.copies.caches h).ways (cache_at bus.copies.caches h).residency (ready.well_formed h inside) in
-    ready_between bus from _ h cache _ (hart_then from h Room) inside ready is refl refl may.free
+    let formed = well_formed-cleared (slotted_at bus.copies.caches h).ways (slotted_at bus.copies.caches h).residency (ready.well_formed h inside) in
+    ready_between bus from _ h cache _ inside ready is refl refl may.free
     (subst (λ ways. IsWellFormed ways cache.residency) (sym clears.ways)
-    (subst (IsWellFormed (cache_at bus.copies.caches h).ways) (sym clears.residency) formed))
-    (has_cleared bus h from _ Room cache is clears)
+    (subst (IsWellFormed (slotted_at bus.copies.caches h).ways) (sym clears.residency) formed))
 
-pub rolled_in : (old : Parts) (bus : Kept) (hart : HartId) (from : ModelState) (section : Section) (cache : Cached) (cause : Cause) →
+pub rolled_in : (old : Parts) (pool : Pooled) (bus : Kept) (hart : HartId) (from : ModelState) (section : Section) (cache : Slotted) (cause : Cause) →
     FollowsRule old hart.number from section (RollsBack cause) →
     Shows bus (with_hart (freed from hart.number) hart.number (close_attempt (hart_of (freed from hart.number) hart.number))) →
-    IsCleared (cache_at bus.copies.caches hart.number) cache →
-    IsIn (parts_then old bus hart.number cache cause) (section_turn from hart.number section).state
-rolled_in old bus hart from section cache cause follows shows clears =
+    bus.copies ≡ old.bus.copies → IsClearedThere (slotted_at bus.copies.caches hart.number) cache →
+    GivesUpHold old.pool pool (own_at old.harts hart.number) (rolled_back_own cause (own_at old.harts hart.number)) →
+    IsIn (parts_then old pool bus hart.number cache cause) (section_turn from hart.number section).state
+rolled_in old pool bus hart from section cache cause follows shows copies clears gives =
     let h = hart.number in
     let may = follows.inside.may in
     let is = between old bus h from may shows in
@@ -202,6 +222,7 @@ rolled_in old bus hart from section cache cause follows shows clears =
     let none = (keeps_live old h from section follows.inside).unarmed_there in
     let shown = shows_between bus from _ h cache _ (hart_then from h cause) (has_cache old bus h from may shows) is
     (agent_then from h cause none) (sym (ap is_some none)) (has_cleared bus h from _ cause cache is clears) in
-    after_step old (parts_then old bus h cache cause) hart from section follows.inside
+    after_step old (parts_then old pool bus h cache cause) hart from section follows.inside
     (subst (λ t. StaysInPlace from.committed t.state.committed) (sym turn) (stays_in_place from.committed))
-    (subst (λ t. HasStepped old (parts_then old bus h cache cause) h t.state) (sym turn) (rolls_stepped old bus from h cache cause may shown))
+    (subst (λ t. HasStepped old (parts_then old pool bus h cache cause) h t.state) (sym turn)
+    (rolls_stepped old pool bus from h cache cause may copies (has_cache old bus h from may shows) clears.keeps gives shown))

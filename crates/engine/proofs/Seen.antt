@@ -4,15 +4,17 @@ use Rattle.std.specs.List.{range_with_len}
 use Rattle.std.specs.Prelude.{option_map}
 use Rattle.std.proofs.lemmas.List.{ext_get_or, get_or-map, get_or-replicate, length-map, length-replicate}
 use Rattle.std.proofs.lemmas.List.FromFn.{get_or-map-range_with_len, length-map-range_with_len}
+use Rattle.coherence.specs.Beginning.{bytes_at_first}
 use Rattle.el_base.specs.declared.config.Config.{Config}
 use Rattle.el_model.specs.Next.{all_stopped, is_over, shown_of, view_in, view_outside}
 use Rattle.el_model.specs.State.{ModelState, Section, armed_of, begin, hart_of, new_hart, section_of}
 use Rattle.elf_image.specs.Program.{Program}
 use Rattle.engine.specs.Acting.{next_action}
-use Rattle.engine.specs.Parts.{IsIn, IsOfHart, KeepsReserved, KeepsSectionOf, Parts, StandsAs, own_at, room_in}
+use Rattle.engine.specs.Parts.{IsIn, IsOfHart, KeepsReserved, KeepsSectionOf, Parts, StandsAs, hold_owner, own_at, room_in}
 use Rattle.engine.specs.Views.{committed_views, first_own}
-use Rattle.hart_state.proofs.Harts.{new_is}
+use Rattle.hart_state.proofs.Laws.Harts.{new_is}
 use Rattle.hart_state.specs.Own.{HasOwn, Own, new_own}
+use Rattle.line_pool.specs.Pooled.{Pooled}
 use Rattle.reg_mark.specs.Marks.{checkpoint_or, committed_of}
 use Rattle.rv_alu.specs.Footprint.{IsInPlace}
 use Rattle.rv_alu.specs.declared.action.Action.{Action}
@@ -21,7 +23,8 @@ use Rattle.rv_alu.specs.declared.view.HartView.{HartView}
 use Rattle.rv_flat.specs.FlatState.{first_view, no_hart, output_limit, room_of, span_of, start, view_of}
 use Rattle.rv_flat.specs.Step.{action_of}
 use Rattle.section_ctl.specs.State.{Reserved, SectionState}
-use Rattle.snoop.specs.Shows.{Shows}
+use Rattle.snoop.specs.Shows.{Shows, Tells}
+use Rattle.write_hold.specs.Slotted.{IsLent}
 
 -- the committed views are the state's
 pub views_are : (parts : Parts) (state : ModelState) → IsIn parts state → committed_views parts.harts ≡ state.committed.harts
@@ -31,7 +34,7 @@ views_are parts state is =
     ext_get_or no_hart (committed_views parts.harts) state.committed.harts (same ∙ is.view_each)
     (λ h below.
     let inside : h < length parts.harts = subst (λ n. h < n) same below in
-    get_or-map view parts.harts h (new_own no_hart 0) no_hart inside ∙ (is.harts h inside).view)
+    get_or-map view parts.harts h (new_own no_hart 0 0) no_hart inside ∙ (is.harts h inside).view)
 
 pub over_is : (parts : Parts) (state : ModelState) → IsIn parts state → all_stopped (committed_views parts.harts) ≡ is_over state
 unfolding is_over
@@ -46,19 +49,19 @@ sees_outside state h None kept is keeps stands view =
     sym (ap (λ mark. checkpoint_or mark kept.marks.present) stands.unmarked) ∙ view ∙ ap (view_outside state h) is
 sees_outside state h (Some reserved) kept is keeps stands view = keeps.view ∙ ap (view_outside state h) is
 
-sees : (state : ModelState) (h : ℕ) (live : Option Section) (kept : SectionState) → option_map (λ r. r.armed) kept.armed ≡ armed_of state h →
-    KeepsSectionOf state h live kept → KeepsReserved state.committed h kept.armed kept.marks.present →
+sees : (pool : Pooled) (state : ModelState) (h : ℕ) (live : Option Section) (kept : SectionState) → option_map (λ r. r.armed) kept.armed ≡ armed_of state h →
+    KeepsSectionOf pool state h live kept → KeepsReserved state.committed h kept.armed kept.marks.present →
     StandsAs kept.marks kept.hold live kept.armed → committed_of kept.marks ≡ view_of state.committed h →
     kept.marks.present ≡ view_in state h live
-sees state h None kept is keeps armed stands view = sees_outside state h kept.armed kept is armed stands view
-sees state h (Some section) kept is keeps armed stands view = keeps.run.view
+sees pool state h None kept is keeps armed stands view = sees_outside state h kept.armed kept is armed stands view
+sees pool state h (Some section) kept is keeps armed stands view = keeps.run.view
 
 pub sees_shown : (parts : Parts) (state : ModelState) (h : ℕ) → IsIn parts state → h < length parts.harts →
     (own_at parts.harts h).section.marks.present ≡ shown_of state h
 sees_shown parts state h is below =
     let hart = is.harts h below in
     let kept = (own_at parts.harts h).section in
-    sees state h (section_of state h) kept hart.part.armed hart.section hart.armed
+    sees parts.pool state h (section_of state h) kept hart.part.armed hart.section hart.armed
     (subst (λ live. StandsAs kept.marks kept.hold live kept.armed) hart.part.section hart.stands) hart.view
 
 -- what a hart comes to next is what the view that it sees comes to
@@ -88,45 +91,51 @@ holds_nothing parts state h is below none =
     let kept = (own_at parts.harts h).section in nothing_held kept.live kept.armed kept (is.harts h below).stands none
 
 -- a hart before its first event
-first_hart : (program : Program) (config : Config) (h : ℕ) → h < program.harts → IsOfHart (begin program config) h (first_own program config h)
+first_hart : (program : Program) (config : Config) (pool : Pooled) (h : ℕ) → h < program.harts →
+    IsLent pool (first_own program config h).section.hold → IsOfHart pool (begin program config) h (first_own program config h)
 unfolding begin start
-first_hart program config h below =
+first_hart program config pool h below lent =
     let view : view_of (start program) h ≡ first_view program h =
     get_or-map-range_with_len (first_view program) 0 program.harts h h no_hart below (zero-add h) in
     let hart : hart_of (begin program config) h ≡ new_hart config.sets =
     get_or-replicate program.harts h (new_hart config.sets) (new_hart 0) below in
     record {
-      part = subst (λ k. HasOwn (first_own program config h) k) (sym hart) (new_is (first_view program h) config.lines config.sets);
+      part = subst (λ k. HasOwn (first_own program config h) k) (sym hart) (new_is (first_view program h) config.lines (hold_owner h) config.sets);
       view = sym view;
       section =
-          subst (λ live. KeepsSectionOf (begin program config) h live (first_own program config h).section)
+          subst (λ live. KeepsSectionOf pool (begin program config) h live (first_own program config h).section)
           (sym (ap (λ k. k.section) hart)) tt;
       armed = tt;
       stands = record { unmarked = refl; empty = refl };
       limit = refl;
+      owner = refl;
+      lent = lent;
     }
 
 -- the parts are in the first state
 pub first_in : (program : Program) (config : Config) (parts : Parts) → parts.config ≡ config →
     parts.span ≡ record { base = program.base; end = program.base + length program.bytes } → Shows parts.bus (begin program config) →
+    Tells parts.pool parts.bus (bytes_at_first program) →
+    ((h : ℕ) → h < program.harts → IsLent parts.pool (first_own program config h).section.hold) →
     parts.harts ≡ map (first_own program config) (range_with_len 0 program.harts) → parts.code ≡ program.code → parts.output ≡ [] →
     IsIn parts (begin program config)
 unfolding begin start
-first_in program config parts config_is span_is shows harts_are code_is none =
+first_in program config parts config_is span_is shows told lent harts_are code_is none =
     let count : length parts.harts ≡ program.harts =
     ap length harts_are ∙ length-map-range_with_len (first_own program config) 0 program.harts in
     record {
       config = config_is;
       span = span_is;
       shows = shows;
+      told = told;
       one_each = count ∙ sym (length-replicate program.harts (new_hart config.sets));
       view_each = count ∙ sym (length-map-range_with_len (first_view program) 0 program.harts);
       harts = λ h below.
           let inside : h < program.harts = subst (λ n. h < n) count below in
-          subst (IsOfHart (begin program config) h)
+          subst (IsOfHart parts.pool (begin program config) h)
           (sym (ap (λ harts. own_at harts h) harts_are
-          ∙ get_or-map-range_with_len (first_own program config) 0 program.harts h h (new_own no_hart 0) inside (zero-add h)))
-          (first_hart program config h inside);
+          ∙ get_or-map-range_with_len (first_own program config) 0 program.harts h h (new_own no_hart 0 0) inside (zero-add h)))
+          (first_hart program config parts.pool h inside (lent h inside));
       code = code_is;
       output = none;
     }

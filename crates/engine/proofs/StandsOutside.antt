@@ -1,22 +1,25 @@
 -- what holds where a hart acts outside of a section
 use Rattle.std.proofs.Common.{◌≡◌, ◌∙◌, ℕ, ◌-◌, ◌<◌, ◌≤◌, Bool, true, false, length, Option, Some, None, is_some, refl, ap, sym, subst, arith}
 use Rattle.std.specs.Prelude.{◌&&◌, ◌==◌}
-use Rattle.cache_sets.specs.Cache.{has_marks}
-use Rattle.coherence.specs.Served.{HasLine, has_room}
-use Rattle.cached_step.proofs.Rooms.{room_without_marks}
-use Rattle.cached_step.proofs.Told.{touched_there}
+use Rattle.residency.specs.Cache.{has_marks}
+use Rattle.cache_sets.specs.Slotted.{IsLent}
+use Rattle.cached_step.proofs.Laws.Rooms.{room_without_marks}
+use Rattle.cached_step.proofs.Laws.Told.{touched_there}
 use Rattle.cached_step.specs.Memory.{TellsMemory}
-use Rattle.el_base.proofs.Ranges.{at_least, ranges}
+use Rattle.coherence.proofs.Laws.Offered.{lent_at}
+use Rattle.coherence.specs.Caches.{cache_at}
+use Rattle.el_base.proofs.Laws.Ranges.{at_least, ranges}
 use Rattle.el_base.specs.declared.config.Mode.{Mode}
 use Rattle.el_model.specs.Plain.{armed_count, may_elide}
 use Rattle.el_model.specs.State.{Armed, ModelState, armed_of, cache_of, hart_of, section_of}
 use Rattle.el_model.specs.Upcoming.{Touch, touch_of}
 use Rattle.elf_image.specs.Program.{code_word}
+use Rattle.engine.proofs.Framed.{tells_memory}
 use Rattle.engine.proofs.Misses.{freed_here, is_there}
 use Rattle.engine.proofs.PlainRules.{TouchesLine}
 use Rattle.engine.proofs.Reaching.{config_of}
 use Rattle.engine.proofs.Reserved.{none_reserved}
-use Rattle.engine.specs.Acting.{ActsOutside, cache_in, freed, next_action}
+use Rattle.engine.specs.Acting.{ActsOutside, cache_in, freed, next_action, sets_in}
 use Rattle.engine.specs.Parts.{IsOfHart, Parts, StandsAs, committed_at, own_at, present_at, room_in}
 use Rattle.hart_state.specs.Own.{HasOwn, committed_pc}
 use Rattle.reg_mark.specs.Marks.{checkpoint_or}
@@ -27,6 +30,7 @@ use Rattle.rv_alu.specs.declared.view.HartStatus.TheVariants.{Running}
 use Rattle.rv_flat.specs.FlatState.{output_limit, room_of, span_of, status_of, view_of}
 use Rattle.rv_flat.specs.Step.{action_of}
 use Rattle.section_ctl.specs.State.{IsIdle}
+use Rattle.snoop.specs.Shows.{LiesIn, has_room_in, lent_copies}
 use Rattle.step_rules.specs.Rules.{IsOnLine}
 
 -- a cache has no bits where its hart has neither section
@@ -47,7 +51,7 @@ module _ (parts : Parts) (h : ℕ) (state : ModelState) (acts : ActsOutside part
   pub inside : h < length state.harts
   inside = is_there parts state h acts.may
 
-  pub is_own : IsOfHart (freed state h) h (own_at parts.harts h)
+  pub is_own : IsOfHart parts.pool (freed state h) h (own_at parts.harts h)
   is_own = acts.may.is_in.harts h acts.may.exists
 
   -- what it keeps is that of the hart in the first state too
@@ -124,14 +128,18 @@ module _ (parts : Parts) (h : ℕ) (state : ModelState) (acts : ActsOutside part
       ∙ ap (λ config. config.ways) (config_of state acts.may.reached)))
       (at_least 1 8 acts.may.reached.config.ways (ranges acts.may.reached.config acts.may.reached.in_range).ways)
 
-  pub has_room_for : (line : ℕ) → has_room parts.bus.copies h line ≡ true
+  pub has_room_for : (line : ℕ) → has_room_in parts.bus.copies h line ≡ true
   has_room_for line = room_without_marks (cache_in parts h).ways (cache_in parts h).residency line some_ways none_marked
 
-  pub tells_memory : TellsMemory parts.bus.copies state.committed
-  tells_memory = record {
-    placed = record { first = acts.may.is_in.shows.memory.first; size = acts.may.is_in.shows.memory.lines };
-    bytes = acts.may.is_in.shows.bytes;
-  }
+  pub tells_there : TellsMemory (lent_copies parts.pool parts.bus.copies) state.committed
+  tells_there = tells_memory parts (freed state h) acts.may.is_in
+
+  -- the cache with its bytes is the one that caches and main memory tell with
+  pub lent_here : cache_at (lent_copies parts.pool parts.bus.copies).caches h ≡ cache_in parts h
+  lent_here = lent_at parts.pool parts.bus.copies.caches h
+
+  pub lends : IsLent parts.pool (sets_in parts h)
+  lends = acts.may.is_in.told.lent.each h has_cache
 
   pub in_memory : (action : Action) → IsInPlace parts.span (room_in parts) action →
       IsInPlace (span_of state.committed) (room_of state.committed) action
@@ -141,11 +149,11 @@ module _ (parts : Parts) (h : ℕ) (state : ModelState) (acts : ActsOutside part
 
   -- what an action touches is there
   pub line_there : (action : Action) (line : ℕ) → IsInPlace parts.span (room_in parts) action → TouchesLine (touch_of (footprint action)) line →
-      HasLine parts.bus.copies line
+      LiesIn parts.bus.copies line
   line_there action line place touches =
-      of_touch (HasLine parts.bus.copies) (touch_of (footprint action)) line
+      of_touch (LiesIn parts.bus.copies) (touch_of (footprint action)) line
       (λ touch found.
-      touched_there parts.bus.copies state.committed (room_of state.committed) action touch tells_memory.placed
+      touched_there (lent_copies parts.pool parts.bus.copies) state.committed (room_of state.committed) action touch tells_there.placed
       (in_memory action place) found)
       touches
 

@@ -4,38 +4,42 @@ use Rattle.std.specs.Prelude.{◌==◌, not, slice_set}
 use Rattle.std.proofs.lemmas.Bool.{cases_eq}
 use Rattle.std.proofs.lemmas.List.{length-set, set-set}
 use Rattle.bus_order.specs.Order.{Request, request_of}
-use Rattle.cache_sets.proofs.WellFormedLemmas.{well_formed-marked, well_formed-touched}
-use Rattle.cache_sets.specs.Cache.{marked, touched}
-use Rattle.cache_sets.specs.Cached.{Cached, copy_in}
-use Rattle.cache_sets.specs.WellFormed.{IsWellFormed}
-use Rattle.coherence.proofs.GivenBackLaws.{tells_same_copies}
-use Rattle.coherence.specs.Caches.{cache_at}
+use Rattle.residency.proofs.Laws.WellFormedLemmas.{well_formed-marked, well_formed-touched}
+use Rattle.residency.specs.Cache.{marked, touched}
+use Rattle.cache_sets.specs.Slotted.{Slotted}
+use Rattle.residency.specs.WellFormed.{IsWellFormed}
+use Rattle.coherence.specs.Beginning.{line_of}
+use Rattle.coherence.specs.Lent.{slotted_at}
 use Rattle.el_base.specs.declared.events.Event.{Event}
 use Rattle.el_base.specs.declared.events.Kind.TheVariants as kinds
 use Rattle.el_base.specs.declared.hart_id.HartId.{HartId}
 use Rattle.el_base.specs.declared.outcomes.Need.TheVariants.{Read}
-use Rattle.el_model.proofs.Harts.{hart_of-with_hart_same}
+use Rattle.el_model.proofs.Laws.Harts.{hart_of-with_hart_same}
 use Rattle.el_model.specs.Armed.{armed_turn}
 use Rattle.el_model.specs.InSection.{section_turn}
 use Rattle.el_model.specs.Next.{going_turn, next, outside_turn, stalled, status_turn, step_turn}
 use Rattle.el_model.specs.Plain.{armed_count}
 use Rattle.el_model.specs.State.{Armed, Hart, ModelState, Section, Turn, armed_of, has_request, hart_of, ordered_of, raised_of, section_of, with_hart}
+use Rattle.engine.proofs.Framed.{hold_beside, own_left}
 use Rattle.engine.proofs.Misses.{freed_each, freed_here, freed_then, is_there}
+use Rattle.engine.proofs.LentThere.{few_harts}
 use Rattle.engine.proofs.Others.{IsSeenAs, others_stay}
 use Rattle.engine.specs.Acting.{ActsArmed, ActsInside, MayAct, freed}
 use Rattle.engine.specs.Beginning.{IsReadMarked}
-use Rattle.engine.specs.Parts.{IsIn, IsOfHart, Parts, own_at}
+use Rattle.engine.specs.Parts.{IsIn, IsOfHart, Parts, hold_owner, own_at}
 use Rattle.hart_state.specs.Own.{Own}
+use Rattle.line_pool.specs.Pooled.{Pooled}
 use Rattle.rv_alu.specs.declared.view.HartStatus.TheVariants.{Running}
 use Rattle.rv_flat.specs.FlatState.{FlatState, span_of, status_of, view_of}
-use Rattle.snoop.proofs.Living.{lives_armed}
-use Rattle.snoop.proofs.Returning.{ready_returned, shows_returned}
-use Rattle.snoop.specs.Agent.{agent_at, agent_noted, agent_of}
+use Rattle.section_ctl.specs.Lent.{LeavesBeside}
+use Rattle.snoop.proofs.Laws.Living.{lives_armed}
+use Rattle.snoop.proofs.Laws.Returning.{ready_returned, shows_returned, unasked_returned}
+use Rattle.snoop.specs.Agent.{agent_noted, agent_of}
 use Rattle.snoop.specs.Asking.{HasNoRequest}
 use Rattle.snoop.specs.LettingGo.{IsNotedAs, KeepsBytes}
 use Rattle.snoop.specs.Returned.{returned}
-use Rattle.snoop.specs.Shows.{IsReady, Kept, Shows, lives}
-use Rattle.step_laws.proofs.Frames.{steps_keep_others}
+use Rattle.snoop.specs.Shows.{IsReady, Kept, Shows, Tells, lives}
+use Rattle.step_laws.proofs.Laws.Frames.{steps_keep_others}
 use Rattle.step_laws.specs.Frames.{LeavesOthers}
 
 -- the step of a hart
@@ -89,16 +93,18 @@ pub record StaysInPlace (old new : FlatState) : Type 0 where
 pub stays_in_place : (flat : FlatState) → StaysInPlace flat flat
 stays_in_place flat = record { base = refl; size = refl; code = refl; harts = refl; output = refl }
 
--- what the parts of a hart that has stepped are in a state: the bus shows it, the hart keeps what is its own, and the others what they
--- kept, but for their committed views
+-- what the parts of a hart that has stepped are in a state: the bus shows it, with its bytes, the hart keeps what is its own, and the
+-- others what they kept, but for their committed views, and their slots of the pool
 pub record HasStepped (old new : Parts) (h : ℕ) (state : ModelState) : Type 0 where
   pub config : new.config ≡ old.config
   pub span : new.span ≡ old.span
   pub code : new.code ≡ old.code
   pub output : new.output ≡ old.output
   pub shows : Shows new.bus state
+  pub told : Tells new.pool new.bus (line_of state.committed)
+  pub beside : LeavesBeside h (hold_owner h) old.pool new.pool
   pub each : length new.harts ≡ length old.harts
-  pub own : IsOfHart state h (own_at new.harts h)
+  pub own : IsOfHart new.pool state h (own_at new.harts h)
   pub others : (g : ℕ) → g ≢ h → g < length old.harts →
       IsSeenAs (own_at old.harts g) (own_at new.harts g) (view_of state.committed g)
 
@@ -118,13 +124,16 @@ stepped_in old new hart from may stays stepped =
       config = stepped.config ∙ may.is_in.config ∙ sym left.config;
       span = stepped.span ∙ may.is_in.span ∙ same_span from.committed state.committed stays;
       shows = stepped.shows;
+      told = stepped.told;
       one_each = stepped.each ∙ freed_each old from hart.number may ∙ sym left.count;
       view_each = stepped.each ∙ may.is_in.view_each ∙ sym stays.harts;
       harts = λ g below. elim (cases_eq g hart.number) [
-        | inl own ↦ subst (λ k. IsOfHart state k (own_at new.harts k)) (sym own) stepped.own
+        | inl own ↦ subst (λ k. IsOfHart new.pool state k (own_at new.harts k)) (sym own) stepped.own
         | inr other ↦
             let exists : g < length old.harts = subst (λ n. g < n) stepped.each below in
-            others_stay old from (step_of hart) g (own_at new.harts g) may.reached may.is_in refl other exists (stepped.others g other exists)
+            own_left old.pool new.pool state g (own_at new.harts g)
+            (hold_beside hart.number g old.pool new.pool stepped.beside (few_harts old hart.number from may) other)
+            (others_stay old from (step_of hart) g (own_at new.harts g) may.reached may.is_in refl other exists (stepped.others g other exists))
       ];
       code = stepped.code ∙ may.is_in.code ∙ sym stays.code;
       output = stepped.output ∙ may.is_in.output ∙ sym stays.output;
@@ -200,15 +209,14 @@ became old bus from between h hart now is shows =
       same = refl;
     }
 
--- a cache of the same copies is given back
-pub record HasSameCopies (bus : Kept) (h : ℕ) (cache : Cached) (now : Hart) : Type 0 where
-  pub ways : cache.ways ≡ (cache_at bus.copies.caches h).ways
+-- a cache that is given back is that of what its hart has become
+pub record IsCacheOf (bus : Kept) (h : ℕ) (cache : Slotted) (now : Hart) : Type 0 where
+  pub ways : cache.ways ≡ (slotted_at bus.copies.caches h).ways
   pub residency : now.cache ≡ cache.residency
   pub live : is_some now.section ≡ lives cache.residency (armed_count now.armed)
-  pub copies : (line : ℕ) → copy_in cache line ≡ copy_in (cache_at bus.copies.caches h) line
 
-pub shows_between : (bus : Kept) (from between : ModelState) (h : ℕ) (cache : Cached) (hart now : Hart) → h < length bus.copies.caches →
-    IsBetween bus from between h hart → agent_of now ≡ agent_of hart → is_some now.armed ≡ is_some hart.armed → HasSameCopies bus h cache now →
+pub shows_between : (bus : Kept) (from between : ModelState) (h : ℕ) (cache : Slotted) (hart now : Hart) → h < length bus.copies.caches →
+    IsBetween bus from between h hart → agent_of now ≡ agent_of hart → is_some now.armed ≡ is_some hart.armed → IsCacheOf bus h cache now →
     Shows (returned bus h cache) (with_hart from h now)
 shows_between bus from between h cache hart now inside is agent armed same =
     subst (Shows (returned bus h cache)) (is.becomes now)
@@ -220,7 +228,6 @@ shows_between bus from between h cache hart now inside is agent armed same =
       live = same.live;
       armed = armed ∙ sym (ap (λ k. is_some k.armed) is.here);
       memory = is.shows.memory;
-      bytes = tells_same_copies bus.copies h cache _ is.shows.bytes same.copies;
     }))
 
 -- what is committed has changed, and memory is as it was
@@ -237,12 +244,16 @@ shows_committed bus state committed keeps shows = record {
   arms = shows.arms;
   order = shows.order;
   memory = record { first = shows.memory.first ∙ sym keeps.base; lines = shows.memory.lines ∙ ap length (sym keeps.bytes) };
-  bytes = rw (keeps.base, keeps.bytes) shows.bytes;
 }
 
+-- and what was told is told
+pub told_committed : (pool : Pooled) (bus : Kept) (old new : FlatState) → KeepsBytes old new → Tells pool bus (line_of old) →
+    Tells pool bus (line_of new)
+told_committed pool bus old new keeps told = rw (keeps.base, keeps.bytes) told
+
 -- the same as a state between
-pub returned_between : (bus : Kept) (from between : ModelState) (h : ℕ) (cache : Cached) (hart now : Hart) → h < length bus.copies.caches →
-    IsBetween bus from between h hart → agent_of now ≡ agent_of hart → is_some now.armed ≡ is_some hart.armed → HasSameCopies bus h cache now →
+pub returned_between : (bus : Kept) (from between : ModelState) (h : ℕ) (cache : Slotted) (hart now : Hart) → h < length bus.copies.caches →
+    IsBetween bus from between h hart → agent_of now ≡ agent_of hart → is_some now.armed ≡ is_some hart.armed → IsCacheOf bus h cache now →
     IsBetween (returned bus h cache) from (with_hart from h now) h now
 returned_between bus from between h cache hart now inside is agent armed same =
     became bus (returned bus h cache) from between h hart now is (shows_between bus from between h cache hart now inside is agent armed same)
@@ -250,6 +261,7 @@ returned_between bus from between h cache hart now inside is agent armed same =
 -- a hart's count was noted at the bus
 pub record IsNoted (old bus : Kept) (h count : ℕ) : Type 0 where
   pub ready : IsReady bus
+  pub copies : bus.copies ≡ old.copies
   pub shows : (state : ModelState) (now : Hart) → Shows old state → IsNotedAs state h count now → Shows bus (with_hart state h now)
 
 -- as the hart has become another
@@ -274,10 +286,6 @@ none_of None None free = (refl, refl)
 none_of None (Some request) free = absurd (cc)
 none_of (Some request) ordered free = absurd (cc)
 
-none_is : {X : Type 0} (found : Option Request) (request : Request) → found ≡ None → found ≡ Some request → X
-none_is None request first second = absurd (cc)
-none_is (Some other) request first second = absurd (cc)
-
 pub free_between : (bus : Kept) (from between : ModelState) (h : ℕ) (hart : Hart) → IsBetween bus from between h hart →
     hart.raised ≡ raised_of from h → between.order ≡ from.order → has_request from h ≡ false → HasNoRequest bus h
 free_between bus from between h hart is raised order free =
@@ -287,37 +295,30 @@ free_between bus from between h hart is raised order free =
       none_ordered = ap (λ requests. request_of requests h) (is.shows.order ∙ order) ∙ none.1;
     }
 
--- so the bus is ready with any cache that tells the bytes
-pub ready_between : (bus : Kept) (from between : ModelState) (h : ℕ) (cache : Cached) (hart now : Hart) → h < length bus.copies.caches →
+-- so the bus is ready with any well-formed cache
+pub ready_between : (bus : Kept) (from between : ModelState) (h : ℕ) (cache : Slotted) (hart : Hart) → h < length bus.copies.caches →
     IsReady bus → IsBetween bus from between h hart → hart.raised ≡ raised_of from h → between.order ≡ from.order → has_request from h ≡ false →
-    IsWellFormed cache.ways cache.residency → HasSameCopies bus h cache now → IsReady (returned bus h cache)
-ready_between bus from between h cache hart now inside ready is raised order free formed same =
-    let none = free_between bus from between h hart is raised order free in
+    IsWellFormed cache.ways cache.residency → IsReady (returned bus h cache)
+ready_between bus from between h cache hart inside ready is raised order free formed =
     ready_returned bus h cache inside ready
-    (record {
-      coherent = record { bytes = _; tells = tells_same_copies bus.copies h cache _ is.shows.bytes same.copies };
-      well_formed = formed;
-      raised = λ request asks. none_is (agent_at bus.agents h).raised request none.none_raised asks;
-      ordered = λ request asks. none_is (request_of bus.order h) request none.none_ordered asks;
-    })
+    (unasked_returned bus h cache (free_between bus from between h hart is raised order free) formed)
 
 -- a line got the read bit in the cache of a hart, and became the most recent one, as the hart became another
-pub marked_copies : (bus : Kept) (h line : ℕ) (cache : Cached) (from between : ModelState) (hart now : Hart) → IsBetween bus from between h hart →
-    IsReadMarked (cache_at bus.copies.caches h) cache line → now.cache ≡ touched (marked hart.cache line Read) line →
-    is_some now.section ≡ false → 1 ≤ armed_count now.armed → HasSameCopies bus h cache now
-marked_copies bus h line cache from between hart now is marks same none some =
+pub marked_cache : (bus : Kept) (h line : ℕ) (cache : Slotted) (from between : ModelState) (hart now : Hart) → IsBetween bus from between h hart →
+    IsReadMarked (slotted_at bus.copies.caches h) cache line → now.cache ≡ touched (marked hart.cache line Read) line →
+    is_some now.section ≡ false → 1 ≤ armed_count now.armed → IsCacheOf bus h cache now
+marked_cache bus h line cache from between hart now is marks same none some =
     let residency = same ∙ ap (λ c. touched (marked c line Read) line) (sym (is.shows.caches h ∙ ap (λ k. k.cache) is.here)) ∙ sym marks.residency in
     record {
       ways = marks.ways;
       residency = residency;
       live = none ∙ sym (lives_armed cache.residency (armed_count now.armed) some);
-      copies = marks.copies;
     }
 
-pub marked_formed : (bus : Kept) (h line : ℕ) (cache : Cached) → h < length bus.copies.caches → IsReady bus →
-    IsReadMarked (cache_at bus.copies.caches h) cache line → IsWellFormed cache.ways cache.residency
+pub marked_formed : (bus : Kept) (h line : ℕ) (cache : Slotted) → h < length bus.copies.caches → IsReady bus →
+    IsReadMarked (slotted_at bus.copies.caches h) cache line → IsWellFormed cache.ways cache.residency
 marked_formed bus h line cache inside ready marks =
-    let was = cache_at bus.copies.caches h in
+    let was = slotted_at bus.copies.caches h in
     subst (λ ways. IsWellFormed ways cache.residency) (sym marks.ways)
     (subst (IsWellFormed was.ways) (sym marks.residency)
     (well_formed-touched was.ways (marked was.residency line Read) line

@@ -3,13 +3,13 @@ use Rattle.std.proofs.Common.{◌≡◌, ◌≢◌, ◌∙◌, ℕ, ◌≤◌, �
 use Rattle.std.specs.Prelude.{◌||◌, if◌then◌else◌, option_map}
 use Rattle.bus_order.specs.Order.{Request, request_of}
 use Rattle.el_base.specs.declared.outcomes.Outcome.TheVariants.{Idle, Stalled}
-use Rattle.el_model.proofs.Harts.{with_hart_kept}
-use Rattle.el_model.proofs.Keeps.{keeps_with_hart}
+use Rattle.el_model.proofs.Laws.Harts.{with_hart_kept}
+use Rattle.el_model.proofs.Laws.Keeps.{keeps_with_hart}
 use Rattle.el_model.specs.Next.{going_turn, stalled, status_turn, step_turn}
 use Rattle.el_model.specs.State.{Armed, ModelState, Section, armed_of, has_request, hart_of, idle, ordered_of, raised_of, section_of}
 use Rattle.elf_image.specs.Limits.{end_limit}
 use Rattle.engine.proofs.Misses.{same_each}
-use Rattle.engine.proofs.Places.{span_small}
+use Rattle.engine.proofs.Laws.Places.{span_small}
 use Rattle.engine.proofs.Standing.{with_bus}
 use Rattle.engine.specs.Acting.{ActsArmed, ActsInside, ActsOutside, MayAct, MayActSomewhere, freed}
 use Rattle.engine.specs.Parts.{IsIn, Parts, committed_at, own_at}
@@ -84,14 +84,15 @@ going_on parts state h below is running free =
 
 -- a hart that has given up what it held may act
 pub may_act : (parts : Parts) (bus : Kept) (state : ModelState) (h : ℕ) → IsReached state → IsIn parts state → h < length parts.harts →
-    (committed_at parts.harts h).status ≡ Running → has_request state h ≡ false → IsReady bus → Shows bus (freed state h) →
+    (committed_at parts.harts h).status ≡ Running → has_request state h ≡ false → IsReady bus → bus.copies ≡ parts.bus.copies →
+    Shows bus (freed state h) →
     MayAct (record parts { bus = bus }) h state
-may_act parts bus state h reached is exists running free ready shows = record {
+may_act parts bus state h reached is exists running free ready copies shows = record {
   reached = reached;
   is_in =
       with_bus parts bus state (freed state h) is (keeps_with_hart state h (record (hart_of state h) { held = None }))
       (same_each state h (record (hart_of state h) { held = None })
-      (record { section = refl; armed = refl; last_lr = refl; cache = refl; predictor = refl; fallback = refl; tries = refl })) shows;
+      (record { section = refl; armed = refl; last_lr = refl; cache = refl; predictor = refl; fallback = refl; tries = refl })) copies shows;
   ready = ready;
   exists = exists;
   low = subst (λ span. span.end ≤ end_limit) (sym is.span) (span_small state reached);
@@ -101,11 +102,12 @@ may_act parts bus state h reached is exists running free ready shows = record {
 
 pub may_act_somewhere : (parts : Parts) (bus : Kept) (h : ℕ) → Stands parts → h < length parts.harts →
     (committed_at parts.harts h).status ≡ Running → ((state : ModelState) → Shows parts.bus state → has_request state h ≡ false) →
-    IsReady bus → ((state : ModelState) → Shows parts.bus state → Shows bus (freed state h)) → MayActSomewhere (record parts { bus = bus }) h
-may_act_somewhere parts bus h stands exists running free ready shows = record {
+    IsReady bus → bus.copies ≡ parts.bus.copies → ((state : ModelState) → Shows parts.bus state → Shows bus (freed state h)) →
+    MayActSomewhere (record parts { bus = bus }) h
+may_act_somewhere parts bus h stands exists running free ready copies shows = record {
   from = stands.state;
   may =
-      may_act parts bus stands.state h stands.reached stands.is_in exists running (free stands.state stands.is_in.shows) ready
+      may_act parts bus stands.state h stands.reached stands.is_in exists running (free stands.state stands.is_in.shows) ready copies
       (shows stands.state stands.is_in.shows);
 }
 

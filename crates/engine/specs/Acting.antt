@@ -1,7 +1,8 @@
 -- a hart that acts: it runs, waits for nothing, and holds nothing any more
 use Rattle.std.specs.Prelude.{ℕ, ◌≡◌, ◌<◌, ◌≤◌, false, None, Some, length}
 use Rattle.cache_sets.specs.Cached.{Cached}
-use Rattle.coherence.specs.Caches.{cache_at}
+use Rattle.cache_sets.specs.Slotted.{Slotted, lent}
+use Rattle.coherence.specs.Lent.{slotted_at}
 use Rattle.el_model.specs.State.{Armed, ModelState, Section, armed_of, has_request, hart_of, section_of, with_hart}
 use Rattle.elf_image.specs.Limits.{end_limit}
 use Rattle.elf_image.specs.Program.{code_word}
@@ -46,8 +47,12 @@ pub record ActsInside (parts : Parts) (h : ℕ) (state : ModelState) (section : 
   pub may : MayAct parts h state
   pub live : section_of state h ≡ Some section
 
+-- a hart's cache, and the same with the bytes of its lines
+abbrev pub sets_in : Parts → ℕ → Slotted
+sets_in parts h = slotted_at parts.bus.copies.caches h
+
 abbrev pub cache_in : Parts → ℕ → Cached
-cache_in parts h = cache_at parts.bus.copies.caches h
+cache_in parts h = lent parts.pool (sets_in parts h)
 
 -- the action that a hart comes to next, as it sees itself
 abbrev pub next_action : Parts → ℕ → Action

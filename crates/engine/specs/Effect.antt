@@ -1,6 +1,6 @@
 -- what an action that ran leaves to be done: others' reservations, and the output
 use Rattle.std.specs.Prelude.{ℕ, ◌≡◌, ◌≤◌, ◌+◌, ◌%◌, true, List, [], map, Option, None, Some}
-use Rattle.cache_sets.specs.Cache.{is_resident}
+use Rattle.residency.specs.Cache.{is_resident}
 use Rattle.cache_sets.specs.Cached.{Cached, bytes_of}
 use Rattle.el_base.specs.Line.{line_number}
 use Rattle.el_base.specs.declared.line.TheConstants.{LINE_BYTES}

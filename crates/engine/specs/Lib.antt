@@ -1,4 +1,5 @@
 pub mod Parts
+pub mod Lent
 pub mod Reached
 pub mod Acting
 pub mod Missing
@@ -10,6 +11,7 @@ pub mod Effect
 pub mod Beginning
 pub mod Unreserved
 pub mod Covered
+pub mod Private
 pub mod MainMemory
 pub mod Turns
 pub mod Armed

@@ -1,8 +1,8 @@
 -- what an event makes of main memory
 use Rattle.std.specs.Prelude.{ℕ, ◌-◌, ◌/◌, List, Option, None, Some, option_map, if◌then◌else◌, slice_set}
 use Rattle.bus_order.specs.Order.{Request}
-use Rattle.cache_sets.specs.Cache.{evicted_by, is_resident, letter_of}
-use Rattle.cache_sets.specs.Residency.{Way}
+use Rattle.residency.specs.Cache.{evicted_by, is_resident, letter_of}
+use Rattle.residency.specs.Residency.{Way}
 use Rattle.coherence.specs.Beginning.{line_of}
 use Rattle.el_base.specs.declared.events.Event.{Event}
 use Rattle.el_base.specs.declared.events.Kind.{Kind}

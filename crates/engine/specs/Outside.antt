@@ -1,12 +1,15 @@
 -- a hart that acts outside of a section, and what its action makes of the parts where it runs
 use Rattle.std.specs.Prelude.{ℕ, ◌≡◌, slice_set}
-use Rattle.cache_sets.specs.Cached.{Cached, cached_byte}
+use Rattle.cache_sets.specs.Cached.{cached_byte}
+use Rattle.cache_sets.specs.Slotted.{IsLent, Slotted, lent}
 use Rattle.cached_step.specs.CacheRun.{HasRun}
 use Rattle.el_model.specs.Plain.{PlainRule, plain_rule}
 use Rattle.el_model.specs.State.{ModelState}
-use Rattle.engine.specs.Acting.{ActsOutside, cache_in}
+use Rattle.engine.specs.Acting.{ActsOutside, cache_in, sets_in}
 use Rattle.engine.specs.Parts.{Parts, own_at, present_at}
 use Rattle.hart_state.specs.Lending.{with_view}
+use Rattle.line_pool.specs.Others.{LeavesOthers}
+use Rattle.line_pool.specs.Pooled.{Pooled}
 use Rattle.rv_alu.specs.Execution.{Execution, perform, store_in, view_after}
 use Rattle.rv_alu.specs.Loaded.{loaded}
 use Rattle.rv_alu.specs.declared.action.Action.{Action}
@@ -31,13 +34,22 @@ FindsWord parts h word old =
 abbrev pub execution_in : Parts → ℕ → Action → Execution
 execution_in parts h action = perform action (present_at parts.harts h) (cached_byte (cache_in parts h))
 
+-- an action ran over a hart's cache, in the pool of then: it lends that cache still, and leaves the slots of all others
+pub record HasRunOver (parts : Parts) (h : ℕ) (action : Action) (pool : Pooled) (cache : Slotted) : Type 0 where
+  pub has_run : HasRun (cache_in parts h) (lent pool cache) action (store_in (execution_in parts h action))
+  pub kept : IsLent pool cache
+  pub others : LeavesOthers (sets_in parts h).owner parts.pool pool
+  pub owner : cache.owner ≡ (sets_in parts h).owner
+
 -- it ran: the hart has its new view, and its cache is what the action has made of it
 pub record RanIn (old new : Parts) (h : ℕ) (action : Action) : Type 0 where
-  pub cache : Cached
-  pub has_run : HasRun (cache_in old h) cache action (store_in (execution_in old h action))
+  pub pool : Pooled
+  pub cache : Slotted
+  pub over : HasRunOver old h action pool cache
   pub new_is :
       new
       ≡ record old {
+        pool = pool;
         bus = returned old.bus h cache;
         harts =
             slice_set old.harts h

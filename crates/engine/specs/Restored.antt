@@ -1,9 +1,18 @@
 -- the harts after an event of the bus: some have lost their sections, and some were let go
 use Rattle.std.specs.Prelude.{ℕ, ◌≡◌, ◌≤◌, ◌<◌, ◌==◌, List, Option, None, Some, length, if◌then◌else◌}
+use Rattle.el_base.specs.Freed.{count_in}
+use Rattle.el_base.specs.Winners.{winner_over}
 use Rattle.el_base.specs.declared.config.Mode.{Mode}
+use Rattle.el_base.specs.declared.outcomes.Outcome.{Outcome}
 use Rattle.engine.specs.Parts.{own_at}
 use Rattle.hart_state.specs.Deeds.{let_go_own, lost_own}
 use Rattle.hart_state.specs.Own.{Own}
+use Rattle.step_laws.specs.LettingGo.{freed_of_outcome}
+
+-- an outcome names no hart that has lost its section, and none that was let go
+pub record TellsOfNobody (outcome : Outcome) : Type 0 where
+  pub none_lost : (g : ℕ) → winner_over outcome g ≡ None
+  pub none_freed : (g : ℕ) → count_in (freed_of_outcome outcome) g ≡ 0
 
 -- a hart of which so many instructions take effect: it is let go, where there are any
 abbrev pub freed_own : ℕ → Own → Own

@@ -4,12 +4,14 @@ use Rattle.el_base.specs.Line.{line_number}
 use Rattle.engine.specs.Parts.{own_at}
 use Rattle.hart_state.specs.Deeds.{unreserved_own}
 use Rattle.hart_state.specs.Own.{Own}
+use Rattle.line_pool.specs.Pooled.{Pooled}
 use Rattle.reg_mark.specs.Marks.{committed_of}
 use Rattle.section_ctl.specs.Calls.{has_written}
+use Rattle.section_ctl.specs.State.{hold_in}
 
 -- the lines that a hart's live section has written
-abbrev pub written_by : Own → ℕ → Bool
-written_by own line = has_written own.section.live own.section.hold.entries line
+abbrev pub written_by : Pooled → Own → ℕ → Bool
+written_by pool own line = has_written own.section.live (hold_in pool own.section).entries line
 
 -- the line of a reserved word, where it is one of these
 abbrev pub line_among : (ℕ → Bool) → Option ℕ → Option ℕ

@@ -1,5 +1,6 @@
 -- what a machine shows of its harts
 use Rattle.std.specs.Prelude.{ℕ, List, map}
+use Rattle.engine.specs.Parts.{hold_owner}
 use Rattle.hart_state.specs.Own.{Own, new_own}
 use Rattle.elf_image.specs.Program.{Program}
 use Rattle.el_base.specs.declared.config.Config.{Config}
@@ -13,4 +14,4 @@ committed_views harts = map (λ own. committed_of own.section.marks) harts
 
 -- what a hart keeps before its first event
 abbrev pub first_own : Program → Config → ℕ → Own
-first_own program config h = new_own (first_view program h) config.lines
+first_own program config h = new_own (first_view program h) config.lines (hold_owner h)

@@ -56,7 +56,10 @@ impl Engine {
         ensures { (from : ModelState) → ActsArmed (parts self.now) hart.number from (armed_of armed) →
             result ≡ loaded (byte_in from.committed.base from.committed.bytes) armed.word 4 }
     {
-        word_in(self.bus.sets(hart).bytes(line_of(armed.word)), armed.word)
+        word_in(
+            self.bus.sets(hart).bytes(&self.pool, line_of(armed.word)),
+            armed.word,
+        )
     }
 
     /// The acquire of the armed section is elided by the store conditional that comes next, and a live section begins: the
@@ -88,7 +91,7 @@ impl Engine {
         ensures { TakesTurn (FollowsArmed (parts self.old) hart.number (armed_of armed) Continues)
             (λ from. armed_turn from hart.number (armed_of armed)) (parts self.old) (parts self.new) result }
     {
-        self.harts[usize::from(hart.number)].buffer(self.bus.sets_mut(hart), action);
+        self.run_privately(hart, action);
         self.bus.note_armed(hart, one_more(armed));
         Outcome::Buffered
     }

@@ -47,6 +47,6 @@ impl Engine {
             TellsOld result from.committed }
     {
         let may_elide = self.harts[usize::from(hart.number)].may_elide(self.config.mode);
-        plain_rule(&self.bus, hart, &action, may_elide)
+        plain_rule(&self.pool, &self.bus, hart, &action, may_elide)
     }
 }

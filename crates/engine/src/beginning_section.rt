@@ -1,12 +1,12 @@
 //! A section that begins.
 
 ghost use Rattle.std.specs.Prelude.{◌≡◌, ◌<◌, ◌%◌, None, length, slice_set, true};
-ghost use Rattle.cache_sets.specs.Cache.{is_resident};
+ghost use Rattle.residency.specs.Cache.{is_resident};
 ghost use Rattle.el_base.specs.Line.{line_number};
 ghost use Rattle.el_base.specs.declared.outcomes.Outcome.TheVariants.{Began};
 ghost use Rattle.el_model.specs.Plain.{Begins, by_plain_rule};
 ghost use Rattle.el_model.specs.State.{ModelState};
-ghost use Rattle.engine.specs.Acting.{ActsOutside, cache_in, next_action};
+ghost use Rattle.engine.specs.Acting.{ActsOutside, next_action, sets_in};
 ghost use Rattle.engine.specs.Beginning.{BeganIn, HasMarked};
 ghost use Rattle.engine.specs.Outside.{IsItsRule, OutsideSomewhere};
 ghost use Rattle.engine.specs.Parts.{IsIn, own_at, parts, present_at, room_in};
@@ -55,7 +55,7 @@ impl Engine {
         requires no_armed { (own_at (parts self.old).harts hart.number).section.armed ≡ None }
         requires running { (present_at (parts self.old).harts hart.number).status ≡ Running }
         requires aligned { swap.word % 4 ≡ 0 }
-        requires resident { is_resident (cache_in (parts self.old) hart.number).residency (line_number swap.word)
+        requires resident { is_resident (sets_in (parts self.old) hart.number).residency (line_number swap.word)
             ≡ true }
         ensures { BeganIn (parts self.old) (parts self.new) hart.number (numbered_swap swap) rd.number }
     {
@@ -66,7 +66,7 @@ impl Engine {
     /// A line gets the read bit in a hart's cache, and becomes the most recent one of its set.
     pub(crate) fn mark_read(&mut self, hart: HartId, line: LineAddr)
         requires cache_exists { hart.number < length (parts self.old).bus.copies.caches }
-        requires resident { is_resident (cache_in (parts self.old) hart.number).residency line.number ≡ true }
+        requires resident { is_resident (sets_in (parts self.old) hart.number).residency line.number ≡ true }
         ensures { HasMarked (parts self.old) (parts self.new) hart.number line.number }
     {
         let sets = self.bus.sets_mut(hart);

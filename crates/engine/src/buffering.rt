@@ -1,15 +1,16 @@
-//! Instructions of a live section.
+//! Instructions of a section that run privately.
 
-ghost use Rattle.std.specs.Prelude.{◌≡◌, Some, true};
+ghost use Rattle.std.specs.Prelude.{◌≡◌, ◌<◌, Some, length, true};
 ghost use Rattle.std.specs.Option.{option_map};
-ghost use Rattle.cache_sets.specs.Cache.{is_resident};
+ghost use Rattle.residency.specs.Cache.{is_resident};
 ghost use Rattle.el_base.specs.declared.outcomes.Outcome.TheVariants.{Buffered};
 ghost use Rattle.el_model.specs.InSection.{Buffers, section_turn};
 ghost use Rattle.el_model.specs.State.{ModelState, Section};
-ghost use Rattle.engine.specs.Acting.{next_action};
+ghost use Rattle.engine.specs.Acting.{next_action, sets_in};
 ghost use Rattle.engine.specs.Covered.{HasItsBitNow, IsTouchedThere};
 ghost use Rattle.engine.specs.Inside.{FollowsRule, FollowsSomewhere};
 ghost use Rattle.engine.specs.Parts.{IsIn, parts};
+ghost use Rattle.engine.specs.Private.{HasCovered, MayRunPrivately, RanPrivately};
 ghost use Rattle.snoop.specs.Shows.{IsReady};
 ghost use Rattle.step_rules.specs.Actions.{numbered_touch};
 
@@ -31,10 +32,30 @@ impl Engine {
         ensures outcome { result ≡ Buffered }
         ensures memory_stays { (parts self.new).bus.copies.lines ≡ (parts self.old).bus.copies.lines }
     {
-        let sets = self.bus.sets_mut(hart);
-        cover(sets, touch);
-        self.harts[usize::from(hart.number)].buffer(sets, action);
+        self.cover(hart, touch);
+        self.run_privately(hart, action);
         Outcome::Buffered
+    }
+
+    /// A line that is touched gets the bit of its need in a hart's cache, where it has it not.
+    fn cover(&mut self, hart: HartId, touch: Option<Touch>)
+        requires cache_exists { hart.number < length (parts self.old).bus.copies.caches }
+        requires there { IsTouchedThere (sets_in (parts self.old) hart.number) (option_map numbered_touch touch) }
+        ensures { HasCovered (parts self.old) (parts self.new) hart.number (option_map numbered_touch touch) }
+    {
+        cover(self.bus.sets_mut(hart), touch);
+    }
+
+    /// An action runs in a hart's live or armed section: what it stores is held.
+    pub(crate) fn run_privately(&mut self, hart: HartId, action: Action)
+        requires may { MayRunPrivately (parts self.old) hart.number action }
+        ensures { RanPrivately (parts self.old) (parts self.new) hart.number action }
+    {
+        self.harts[usize::from(hart.number)].buffer(
+            &mut self.pool,
+            self.bus.sets_mut(hart),
+            action,
+        );
     }
 }
 

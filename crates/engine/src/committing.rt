@@ -7,6 +7,7 @@ ghost use Rattle.el_model.specs.State.{ModelState, Section};
 ghost use Rattle.engine.specs.Acting.{next_action};
 ghost use Rattle.engine.specs.Inside.{FollowsRule, FollowsSomewhere};
 ghost use Rattle.engine.specs.Parts.{IsIn, own_at, parts};
+ghost use Rattle.engine.specs.Private.{CommitsIn, MayTakeEffect};
 ghost use Rattle.snoop.specs.Shows.{IsReady};
 
 use crate::engine::Engine;
@@ -32,8 +33,20 @@ impl Engine {
         let count = self.count_with_release(hart);
         unreserve_others(&mut self.harts, hart);
         self.bus.close_attempt(hart);
-        self.harts[usize::from(hart.number)].commit(self.bus.sets_mut(hart), action);
+        self.commit_in_cache(hart, action);
         Outcome::Committed { count }
+    }
+
+    /// What a hart's live section has stored goes into its cache, whose lines lose their bits.
+    fn commit_in_cache(&mut self, hart: HartId, action: Action)
+        requires may { MayTakeEffect (parts self.old) hart.number action }
+        ensures { CommitsIn (parts self.old) (parts self.new) hart.number action }
+    {
+        self.harts[usize::from(hart.number)].commit(
+            &mut self.pool,
+            self.bus.sets_mut(hart),
+            action,
+        );
     }
 
     /// How many instructions a hart's live section has with its release.

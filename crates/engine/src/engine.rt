@@ -27,10 +27,11 @@ ghost use Rattle.rv_flat.specs.Step.{action_of};
 ghost use Rattle.snoop.specs.Asking.{asking, numbered_asked};
 ghost use Rattle.snoop.specs.Shows.{kept};
 
-use crate::beginning::{first_harts, memory_of};
+use crate::beginning::{first_harts, first_pool, memory_of};
 use el_base::{Config, HartId, NoMemory};
 use elf_image::{Code, Image};
 use hart_state::HartState;
+use line_pool::Pool;
 use rv_alu::{Action, HartStatus, HartView, Span};
 use rv_flat::Output;
 use section_ctl::Section;
@@ -42,6 +43,8 @@ use std::alloc::Global;
 pub struct Engine {
     pub(crate) config: Config,
     pub(crate) span: Span,
+    /// The bytes of all lines of caches and of buffered stores.
+    pub(crate) pool: Pool,
     pub(crate) bus: Bus,
     pub(crate) harts: Vec<HartState>,
     pub(crate) code: Code,
@@ -59,6 +62,7 @@ impl Engine {
         Ok(Engine {
             config: *config,
             span: memory_of(image),
+            pool: first_pool(alloc, config)?,
             bus: Bus::make(alloc, image, config)?,
             harts: first_harts(alloc, image, config)?,
             code: image.code().share()?,
@@ -117,7 +121,7 @@ impl Engine {
         ensures armed { (state : ModelState) → IsIn (parts self.now) state →
             option_map (λ reserved. reserved.armed) result.now.armed ≡ armed_of state hart.number }
         ensures keeps { (state : ModelState) → IsIn (parts self.now) state →
-            KeepsSectionOf state hart.number (section_of state hart.number) result.now }
+            KeepsSectionOf (parts self.now).pool state hart.number (section_of state hart.number) result.now }
         ensures keeps_armed { (state : ModelState) → IsIn (parts self.now) state →
             KeepsReserved state.committed hart.number result.now.armed result.now.marks.present }
         ensures nothing { (state : ModelState) → IsIn (parts self.now) state →
@@ -147,7 +151,7 @@ impl Engine {
         ensures committed { (state : ModelState) → IsIn (parts self.now) state →
             IfSome result (λ byte. byte ≡ byte_in state.committed.base state.committed.bytes address) }
     {
-        self.bus.byte(address)
+        self.bus.byte(&self.pool, address)
     }
 
     /// What the program has written.
@@ -159,7 +163,7 @@ impl Engine {
     }
 
     /// What a hart has asked of the bus.
-    #[tactic(auto, using(crate::proofs::BusEvents::hart_exists))]
+    #[tactic(auto, using(crate::proofs::Laws::BusEvents::hart_exists))]
     pub fn request(&self, hart: HartId) -> Asked
         requires hart_exists { hart.number < length (parts self.now).harts }
         requires stands { Stands (parts self.now) }
@@ -174,6 +178,13 @@ impl Engine {
         ensures { kept result.now ≡ (parts self.now).bus }
     {
         &self.bus
+    }
+
+    /// The pool in whose slots the lines of all caches and all buffered stores lie.
+    pub fn pool(&self) -> &Pool
+        ensures { result.now ≡ (parts self.now).pool }
+    {
+        &self.pool
     }
 
     /// The action that a hart comes to next, as it sees itself.

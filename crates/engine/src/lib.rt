@@ -1,7 +1,7 @@
-//! The parts of a machine that its events change: the bus with main memory and the caches, what each hart keeps beside
-//! it, what instructions are fetched from, and the output.
+//! The parts of a machine that its events change: the pool of all lines, the bus with main memory and the caches, what
+//! each hart keeps beside it, what instructions are fetched from, and the output.
 //!
-//! It stands on `snoop` (the bus), `hart_state` (a hart's section, predictor and tries), `step_rules` (which rule a
+//! It stands on `line_pool` (the pool), `snoop` (the bus), `hart_state` (a hart's section, predictor and tries), `step_rules` (which rule a
 //! step follows), `cached_step` (one instruction over a hart's cache), `rv_flat` (a hart's first view, the output), and
 //! on the definition of `el_model` with its laws. The parts have no state of their own in contracts: each event makes
 //! them be in the state that the definition gives, whatever state they are in before, with the definition's outcome

@@ -33,7 +33,7 @@ impl Engine {
         ensures shows { (state : ModelState) → Shows (parts self.old).bus state → Shows (parts self.new).bus
             (with_hart state hart.number (missed_hart hart.number line.number need (hart_of state hart.number))) }
         ensures rest_stays { parts self.new ≡ record (parts self.old) { bus = (parts self.new).bus } }
-        ensures memory_stays { (parts self.new).bus.copies.lines ≡ (parts self.old).bus.copies.lines }
+        ensures copies_stay { (parts self.new).bus.copies ≡ (parts self.old).bus.copies }
     {
         self.bus.raise(hart, line, need);
     }

@@ -1,31 +1,36 @@
 //! Events of the bus.
 
 ghost use Rattle.std.specs.Prelude.{◌≡◌, ◌≢◌, ◌<◌, length};
+ghost use Rattle.coherence.specs.Beginning.{line_of};
+ghost use Rattle.coherence.specs.Lent.{LeavesHolds};
 ghost use Rattle.el_base.specs.declared.events.Kind.TheVariants.{Step};
 ghost use Rattle.el_model.specs.Next.{next};
 ghost use Rattle.el_model.specs.State.{ModelState};
 ghost use Rattle.engine.specs.MainMemory.{lines_from};
 ghost use Rattle.engine.specs.Parts.{IsIn, parts};
 ghost use Rattle.engine.specs.Reached.{IsReached, Stands};
-ghost use Rattle.snoop.specs.Shows.{IsReady, Shows};
-ghost use Rattle.step_laws.specs.LettingGo.{freed_of_outcome};
+ghost use Rattle.snoop.specs.Shows.{IsReady, Shows, Tells};
 
 use crate::engine::Engine;
-use crate::losing::restore_all;
+use crate::losing::restore_by;
 use crate::mode_policy::ModePolicy;
-use el_base::{Event, Freed, Kind, Outcome};
+use el_base::{Event, Kind, Outcome};
 
 impl Engine {
     /// An event at the bus, by its kind. What the harts keep beside it has not changed.
-    #[tactic(auto, unfolding(el_model::specs::Next::next), using(crate::proofs::BusEvents::hart_exists, crate::proofs::BusEvents::mode_wins))]
+    #[tactic(auto, unfolding(el_model::specs::Next::next), using(crate::proofs::Laws::BusEvents::hart_exists, crate::proofs::Laws::BusEvents::mode_wins))]
     fn pass_to_bus(&mut self, event: Event) -> Outcome
         requires hart_exists { event.hart.number < length (parts self.old).harts }
         requires stands { Stands (parts self.old) }
         requires no_step { event.kind ≢ Step }
         ensures ready { IsReady (parts self.new).bus }
-        ensures rest_stays { parts self.new ≡ record (parts self.old) { bus = (parts self.new).bus } }
+        ensures rest_stays { parts self.new ≡
+            record (parts self.old) { pool = (parts self.new).pool; bus = (parts self.new).bus } }
         ensures shows { (state : ModelState) → IsReached state → IsIn (parts self.old) state →
             Shows (parts self.new).bus (next state event).state }
+        ensures told { (state : ModelState) → IsReached state → IsIn (parts self.old) state →
+            Tells (parts self.new).pool (parts self.new).bus (line_of (next state event).state.committed) }
+        ensures holds { LeavesHolds (parts self.old).pool (parts self.new).pool }
         ensures outcome { (state : ModelState) → IsIn (parts self.old) state → result ≡ (next state event).outcome }
         ensures memory { (state : ModelState) → IsIn (parts self.old) state →
             (parts self.new).bus.copies.lines ≡ lines_from state event (parts self.old).bus.copies.lines }
@@ -35,7 +40,7 @@ impl Engine {
         };
         match event.kind {
             Kind::Order => self.bus.order(event.hart, &policy),
-            Kind::Serve => self.bus.serve(event.hart, &policy),
+            Kind::Serve => self.bus.serve(&mut self.pool, event.hart, &policy),
             Kind::Deliver => self.bus.deliver(event.hart),
             Kind::Step => unreachable!(),
         }
@@ -58,22 +63,7 @@ impl Engine {
             (parts self.new).bus.copies.lines ≡ lines_from state event (parts self.old).bus.copies.lines }
     {
         let outcome = self.pass_to_bus(event);
-        restore_all(
-            &mut self.harts,
-            self.config.mode,
-            outcome.losers(),
-            freed_by(outcome),
-        );
+        restore_by(&mut self.pool, &mut self.harts, self.config.mode, outcome);
         outcome
-    }
-}
-
-/// The harts that an event of another hart let go, by its outcome.
-fn freed_by(outcome: Outcome) -> Freed
-    ensures { result ≡ freed_of_outcome outcome }
-{
-    match outcome {
-        Outcome::Ordered { freed, .. } | Outcome::Served { freed, .. } => freed,
-        _ => Freed::none(),
     }
 }

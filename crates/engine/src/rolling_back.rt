@@ -25,7 +25,7 @@ impl Engine {
     {
         self.bus.close_attempt(hart);
         self.bus.sets_mut(hart).clear_bits();
-        self.harts[usize::from(hart.number)].roll_back(cause);
+        self.harts[usize::from(hart.number)].roll_back(&mut self.pool, cause);
         Outcome::RolledBack { cause }
     }
 }

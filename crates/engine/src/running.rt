@@ -2,13 +2,14 @@
 
 ghost use Rattle.std.specs.Prelude.{◌≡◌, ◌<◌, None, length, slice_set};
 ghost use Rattle.std.specs.Option.{option_map};
+ghost use Rattle.cache_sets.specs.Slotted.{IsLent};
 ghost use Rattle.cached_step.specs.CacheRun.{permitted};
 ghost use Rattle.core_step.specs.Run.{IsAligned, lacking};
 ghost use Rattle.el_base.specs.declared.outcomes.Outcome.TheVariants.{Ran};
 ghost use Rattle.el_model.specs.Plain.{Runs, by_plain_rule};
 ghost use Rattle.el_model.specs.State.{ModelState};
 ghost use Rattle.el_model.specs.Upcoming.{next_exchange, touch_of};
-ghost use Rattle.engine.specs.Acting.{ActsOutside, cache_in, next_action};
+ghost use Rattle.engine.specs.Acting.{ActsOutside, cache_in, next_action, sets_in};
 ghost use Rattle.engine.specs.Outside.{IsItsRule, OutsideSomewhere, RanIn};
 ghost use Rattle.engine.specs.Parts.{IsIn, own_at, parts, present_at, room_in};
 ghost use Rattle.hart_state.specs.Deeds.{ran_own};
@@ -61,7 +62,9 @@ impl Engine {
             Some(exchange) => Some(Swap {
                 word: exchange.word,
                 old: word_in(
-                    self.bus.sets(hart).bytes(line_of(exchange.word)),
+                    self.bus
+                        .sets(hart)
+                        .bytes(&self.pool, line_of(exchange.word)),
                     exchange.word,
                 ),
                 new: exchange.new,
@@ -96,9 +99,11 @@ impl Engine {
         requires running { (present_at (parts self.old).harts hart.number).status ≡ Running }
         requires aligned { IsAligned action }
         requires permitted { lacking (permitted (cache_in (parts self.old) hart.number)) (footprint action) ≡ None }
+        requires lent { IsLent (parts self.old).pool (sets_in (parts self.old) hart.number) }
         ensures { RanIn (parts self.old) (parts self.new) hart.number action }
     {
         step_in_cache(
+            &mut self.pool,
             self.bus.sets_mut(hart),
             self.harts[usize::from(hart.number)].view_mut(),
             action,

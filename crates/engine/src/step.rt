@@ -82,7 +82,7 @@ impl Engine {
     }
 
     /// Whether a hart waits for a request of its own.
-    #[tactic(auto, using(crate::proofs::BusEvents::hart_exists))]
+    #[tactic(auto, using(crate::proofs::Laws::BusEvents::hart_exists))]
     fn waits(&self, hart: HartId) -> bool
         requires hart_exists { hart.number < length (parts self.now).harts }
         requires stands { Stands (parts self.now) }
@@ -97,7 +97,7 @@ impl Engine {
 
     /// A step of a hart that waits for nothing: it gives up the line that it holds, if it holds one, and does what
     /// comes next.
-    #[tactic(auto, using(crate::proofs::BusEvents::hart_exists))]
+    #[tactic(auto, using(crate::proofs::Laws::BusEvents::hart_exists))]
     fn give_up_and_act(&mut self, hart: HartId) -> Outcome
         requires hart_exists { hart.number < length (parts self.old).harts }
         requires stands { Stands (parts self.old) }

@@ -1,16 +1,16 @@
 -- the action is a load reserved, whose line is there, and the parts are in the state after it
 use Rattle.std.proofs.Common.{◌≡◌, ◌∙◌, ◌<◌, length, ap, arith, subst, sym, true}
 use Rattle.std.proofs.lemmas.List.{get_or_read}
-use Rattle.cache_sets.specs.Cache.{is_resident}
-use Rattle.coherence.specs.Caches.{cache_at}
-use Rattle.core_step.proofs.Runs.{aligned}
+use Rattle.residency.specs.Cache.{is_resident}
+use Rattle.coherence.specs.Lent.{slotted_at}
+use Rattle.core_step.proofs.Laws.Runs.{aligned}
 use Rattle.core_step.specs.Run.{IsAligned}
 use Rattle.el_model.specs.Plain.{Arms, by_plain_rule}
 use Rattle.engine.proofs.AfterArmed.{armed_in, armed_ready, arms_outcome, inside_bus, still_there}
 use Rattle.engine.proofs.Chosen.{reserved_there, reserves_next}
 use Rattle.engine.proofs.StandsOutside.{no_armed, no_live, runs}
 use Rattle.engine.proofs.Stepped.{IsNoted, set_in}
-use Rattle.engine.proofs.Swaps.{reserve_aligned, same_reserve}
+use Rattle.engine.proofs.Laws.Swaps.{reserve_aligned, same_reserve}
 use Rattle.engine.proofs.engine.Engine.arm.Goals as goal
 use Rattle.engine.specs.Beginning.{IsReadMarked}
 use Rattle.engine.specs.Parts.{IsIn, own_at, parts}
@@ -23,17 +23,17 @@ use Rattle.snoop.specs.Shows.{IsReady, kept}
 pub mark_read-requires-clause-cache_exists : goal.mark_read-requires-clause-cache_exists
 mark_read-requires-clause-cache_exists c =
     inside_bus (parts c.args.self.now) (kept c.note_armed.new.self) c.args.hart c.requires.some.from c.requires.some.acts c.args.word
-    (record { ready = c.note_armed.ensures.ready; shows = c.note_armed.ensures.shows })
+    (record { ready = c.note_armed.ensures.ready; copies = c.note_armed.ensures.copies_stay; shows = c.note_armed.ensures.shows })
 
 pub mark_read-requires-clause-resident : goal.mark_read-requires-clause-resident
 mark_read-requires-clause-resident c =
     let old = parts c.args.self.now in
     let from = c.requires.some.from in
     let acts = c.requires.some.acts in
-    subst (λ line. is_resident (cache_at (kept c.note_armed.new.self).copies.caches c.args.hart.number).residency line ≡ true)
+    subst (λ line. is_resident (slotted_at (kept c.note_armed.new.self).copies.caches c.args.hart.number).residency line ≡ true)
     (sym c.line_of.ensures)
     (still_there old (kept c.note_armed.new.self) c.args.hart from acts c.args.word
-    (record { ready = c.note_armed.ensures.ready; shows = c.note_armed.ensures.shows })
+    (record { ready = c.note_armed.ensures.ready; copies = c.note_armed.ensures.copies_stay; shows = c.note_armed.ensures.shows })
     (reserved_there old c.args.hart.number from c.args.action acts c.requires.action c.args.word (c.requires.arms from acts)))
 
 -- what the hart keeps is as it was
@@ -42,7 +42,7 @@ kept_own c =
     let mid = parts c.mark_read.new.self in
     let same = ap (λ p. p.harts) c.mark_read.ensures.new_is in
     let inside : c.from.result < length mid.harts = omega (arith, c.from.ensures, ap length same, c.requires.some.acts.may.exists) in
-    get_or_read _ _ _ inside c.index_mut.ensures.value (new_own no_hart 0) ∙ ap (own_at mid.harts) c.from.ensures
+    get_or_read _ _ _ inside c.index_mut.ensures.value (new_own no_hart 0 0) ∙ ap (own_at mid.harts) c.from.ensures
     ∙ ap (λ harts. own_at harts c.args.hart.number) same
 
 pub arm-requires-clause-none : goal.arm-requires-clause-none
@@ -79,12 +79,13 @@ returns c =
     let h = c.args.hart.number in
     let bus = kept c.note_armed.new.self in
     let cache = c.mark_read.ensures.cache in
-    let noted : IsNoted old.bus bus h 1 = record { ready = c.note_armed.ensures.ready; shows = c.note_armed.ensures.shows } in
-    let marks = subst (λ line. IsReadMarked (cache_at bus.copies.caches h) cache line) c.line_of.ensures c.mark_read.ensures.marked in
+    let noted : IsNoted old.bus bus h 1 =
+    record { ready = c.note_armed.ensures.ready; copies = c.note_armed.ensures.copies_stay; shows = c.note_armed.ensures.shows } in
+    let marks = subst (λ line. IsReadMarked (slotted_at bus.copies.caches h) cache line) c.line_of.ensures c.mark_read.ensures.marked in
     let same = ap (λ p. p.harts) c.mark_read.ensures.new_is in
     let inside : c.from.result < length (parts c.mark_read.new.self).harts =
     omega (arith, c.from.ensures, ap length same, c.requires.some.acts.may.exists) in
-    let kept_is = get_or_read _ _ _ inside c.index_mut.ensures.value (new_own no_hart 0)
+    let kept_is = get_or_read _ _ _ inside c.index_mut.ensures.value (new_own no_hart 0 0)
     ∙ ap (own_at (parts c.mark_read.new.self).harts) c.from.ensures ∙ ap (λ harts. own_at harts h) same in
     let own : Own = armed_own c.args.word c.args.old c.in-LoadReserved.rd.number (own_at old.harts h) in
     let new_is = set_in old (parts c.mark_read.new.self) (returned bus h cache) h c.from.result c.arm.new.self own c.mark_read.ensures.new_is
@@ -102,5 +103,5 @@ returns c =
           rule (c.requires.found from acts)
           (reserve_aligned c.args.action c.args.word of (subst IsAligned (sym c.requires.action) (aligned _ _ _ _))));
       outcome = λ from acts. arms_outcome from h c.args.word;
-      memory_stays = ap (λ p. p.bus.copies.lines) c.mark_read.ensures.new_is ∙ c.note_armed.ensures.memory_stays;
+      memory_stays = ap (λ p. p.bus.copies.lines) c.mark_read.ensures.new_is ∙ ap (λ copies. copies.lines) c.note_armed.ensures.copies_stay;
     }

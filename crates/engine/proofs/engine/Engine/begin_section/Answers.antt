@@ -1,16 +1,23 @@
 -- the acquire is a swap, whose line is there
 use Rattle.std.proofs.Common.{◌∙◌, sym, subst}
-use Rattle.core_step.proofs.Runs.{aligned}
+use Rattle.core_step.proofs.Laws.Runs.{aligned}
 use Rattle.core_step.specs.Run.{IsAligned}
 use Rattle.engine.proofs.AfterBegan.{after_began, ready_began}
 use Rattle.engine.proofs.Chosen.{lock_there, next, swap_found}
-use Rattle.engine.proofs.Swaps.{swap_action, word_aligned}
+use Rattle.engine.proofs.StandsOutside.{no_armed, runs}
+use Rattle.engine.proofs.Laws.Swaps.{swap_action, word_aligned}
 use Rattle.engine.proofs.engine.Engine.begin_section.Goals as goal
 use Rattle.engine.specs.Parts.{parts}
 use Rattle.rv_flat.specs.Memory.{byte_in}
 use Rattle.snoop.specs.Shows.{kept}
-use Rattle.step_rules.proofs.NextAction.{next_swap as swap_next}
+use Rattle.step_rules.proofs.Laws.NextAction.{next_swap as swap_next}
 use Rattle.step_rules.specs.Actions.{numbered_swap}
+
+pub enter-requires-clause-no_armed : goal.enter-requires-clause-no_armed
+enter-requires-clause-no_armed c = no_armed (parts c.args.self.now) c.args.hart.number c.requires.some.from c.requires.some.acts
+
+pub enter-requires-clause-running : goal.enter-requires-clause-running
+enter-requires-clause-running c = runs (parts c.args.self.now) c.args.hart.number c.requires.some.from c.requires.some.acts
 
 pub enter-requires-clause-aligned : goal.enter-requires-clause-aligned
 enter-requires-clause-aligned c =
@@ -63,4 +70,5 @@ returns-clause-state c from acts =
     ∙ swap_found now h from c.args.action acts c.requires.action swap found))
     (subst IsAligned (sym c.requires.action) (aligned _ _ _ _)) in
     after_began now (parts c.enter.new.self) (kept c.open_attempt.new.self) c.args.hart from acts swap c.in-Amo.op c.in-Amo.rd c.in-Amo.address
-    c.in-Amo.source (sym c.in-Amo.is ∙ c.requires.action) found even c.enter.ensures c.open_attempt.ensures.shows
+    c.in-Amo.source (sym c.in-Amo.is ∙ c.requires.action) found even c.enter.ensures c.open_attempt.ensures.copies_stay
+    c.open_attempt.ensures.shows

@@ -1,7 +1,7 @@
 -- the acquire of an armed section is elided: the action is a store conditional, and the parts are in the state after it
 use Rattle.std.proofs.Common.{◌≡◌, ◌∙◌, ◌<◌, length, ap, arith, subst, sym, true}
 use Rattle.std.proofs.lemmas.List.{get_or_read}
-use Rattle.cache_sets.specs.Cache.{is_resident}
+use Rattle.residency.specs.Cache.{is_resident}
 use Rattle.el_model.specs.Armed.{armed_turn}
 use Rattle.engine.proofs.ArmedRules.{elides_outcome}
 use Rattle.engine.proofs.Eliding.{agent_there, conditional_there, elided_in, marked_for, marked_ready, waits_not}
@@ -9,7 +9,7 @@ use Rattle.engine.proofs.KeptPrivate.{keeps_private, word_line_there}
 use Rattle.engine.proofs.PrivateCalls.{armed_some, of_armed}
 use Rattle.engine.proofs.Stepped.{IsNoted, put_in}
 use Rattle.engine.proofs.engine.Engine.elide.Goals as goal
-use Rattle.engine.specs.Acting.{cache_in}
+use Rattle.engine.specs.Acting.{sets_in}
 use Rattle.engine.specs.Beginning.{IsReadMarked}
 use Rattle.engine.specs.Parts.{IsIn, own_at, parts}
 use Rattle.hart_state.specs.Deeds.{elided_own}
@@ -22,7 +22,7 @@ use Rattle.step_rules.specs.Actions.{numbered_swap}
 
 pub mark_read-requires-clause-resident : goal.mark_read-requires-clause-resident
 mark_read-requires-clause-resident c =
-    subst (λ line. is_resident (cache_in (parts c.args.self.now) c.args.hart.number).residency line ≡ true) (sym c.line_of.ensures)
+    subst (λ line. is_resident (sets_in (parts c.args.self.now) c.args.hart.number).residency line ≡ true) (sym c.line_of.ensures)
     (word_line_there (parts c.args.self.now) c.args.hart.number c.requires.follows.from (armed_of c.args.armed) c.requires.follows.follows.acts)
 
 pub note_armed-requires-clause-ready : goal.note_armed-requires-clause-ready
@@ -33,7 +33,7 @@ note_armed-requires-clause-ready c =
     subst IsReady (sym (ap (λ p. p.bus) c.mark_read.ensures.new_is))
     (marked_ready old c.args.hart (armed_of c.args.armed) (numbered_swap c.args.swap) c.requires.follows.from c.requires.follows.follows cache
     (marked_for old c.args.hart (armed_of c.args.armed) (numbered_swap c.args.swap) c.requires.follows.from c.requires.follows.follows cache
-    (subst (λ line. IsReadMarked (cache_in old h) cache line) c.line_of.ensures c.mark_read.ensures.marked)))
+    (subst (λ line. IsReadMarked (sets_in old h) cache line) c.line_of.ensures c.mark_read.ensures.marked)))
 
 pub begin_armed-requires : goal.begin_armed-requires
 begin_armed-requires c =
@@ -43,7 +43,7 @@ begin_armed-requires c =
     let same = ap (λ p. p.harts) c.mark_read.ensures.new_is in
     let inside : c.from.result < length mid.harts =
     omega (arith, c.from.ensures, ap length same, c.requires.follows.follows.acts.may.exists) in
-    let own_is = get_or_read _ _ _ inside c.index_mut.ensures.value (new_own no_hart 0) ∙ ap (own_at mid.harts) c.from.ensures
+    let own_is = get_or_read _ _ _ inside c.index_mut.ensures.value (new_own no_hart 0 0) ∙ ap (own_at mid.harts) c.from.ensures
     ∙ ap (λ harts. own_at harts h) same in
     armed_some old h (armed_of c.args.armed) c.requires.follows.from c.requires.follows.follows.acts c.index_mut.result.now own_is
 
@@ -54,9 +54,9 @@ open_attempt-requires-clause-hart_exists c =
     let cache = c.mark_read.ensures.cache in
     agent_there old c.args.hart (armed_of c.args.armed) (numbered_swap c.args.swap) c.requires.follows.from c.requires.follows.follows cache
     (marked_for old c.args.hart (armed_of c.args.armed) (numbered_swap c.args.swap) c.requires.follows.from c.requires.follows.follows cache
-    (subst (λ line. IsReadMarked (cache_in old h) cache line) c.line_of.ensures c.mark_read.ensures.marked)) (kept c.note_armed.new.self)
+    (subst (λ line. IsReadMarked (sets_in old h) cache line) c.line_of.ensures c.mark_read.ensures.marked)) (kept c.note_armed.new.self)
     (subst (λ bus. IsNoted bus (kept c.note_armed.new.self) h 0) (ap (λ p. p.bus) c.mark_read.ensures.new_is)
-    (record { ready = c.note_armed.ensures.ready; shows = c.note_armed.ensures.shows }))
+    (record { ready = c.note_armed.ensures.ready; copies = c.note_armed.ensures.copies_stay; shows = c.note_armed.ensures.shows }))
 
 pub open_attempt-requires-clause-no_request : goal.open_attempt-requires-clause-no_request
 open_attempt-requires-clause-no_request c =
@@ -65,9 +65,9 @@ open_attempt-requires-clause-no_request c =
     let cache = c.mark_read.ensures.cache in
     waits_not old c.args.hart (armed_of c.args.armed) (numbered_swap c.args.swap) c.requires.follows.from c.requires.follows.follows cache
     (marked_for old c.args.hart (armed_of c.args.armed) (numbered_swap c.args.swap) c.requires.follows.from c.requires.follows.follows cache
-    (subst (λ line. IsReadMarked (cache_in old h) cache line) c.line_of.ensures c.mark_read.ensures.marked)) (kept c.note_armed.new.self)
+    (subst (λ line. IsReadMarked (sets_in old h) cache line) c.line_of.ensures c.mark_read.ensures.marked)) (kept c.note_armed.new.self)
     (subst (λ bus. IsNoted bus (kept c.note_armed.new.self) h 0) (ap (λ p. p.bus) c.mark_read.ensures.new_is)
-    (record { ready = c.note_armed.ensures.ready; shows = c.note_armed.ensures.shows }))
+    (record { ready = c.note_armed.ensures.ready; copies = c.note_armed.ensures.copies_stay; shows = c.note_armed.ensures.shows }))
 
 pub unreachable-requires : goal.unreachable-requires
 unreachable-requires c =
@@ -85,13 +85,13 @@ returns c =
     let cache = c.mark_read.ensures.cache in
     let bus = kept c.open_attempt.new.self in
     let marks = marked_for old c.args.hart armed swap c.requires.follows.from c.requires.follows.follows cache
-    (subst (λ line. IsReadMarked (cache_in old h) cache line) c.line_of.ensures c.mark_read.ensures.marked) in
+    (subst (λ line. IsReadMarked (sets_in old h) cache line) c.line_of.ensures c.mark_read.ensures.marked) in
     let noted = subst (λ b. IsNoted b (kept c.note_armed.new.self) h 0) (ap (λ p. p.bus) c.mark_read.ensures.new_is)
-    (record { ready = c.note_armed.ensures.ready; shows = c.note_armed.ensures.shows }) in
+    (record { ready = c.note_armed.ensures.ready; copies = c.note_armed.ensures.copies_stay; shows = c.note_armed.ensures.shows }) in
     let same = ap (λ p. p.harts) c.mark_read.ensures.new_is in
     let inside : c.from.result < length mid.harts =
     omega (arith, c.from.ensures, ap length same, c.requires.follows.follows.acts.may.exists) in
-    let own_is = get_or_read _ _ _ inside c.index_mut.ensures.value (new_own no_hart 0) ∙ ap (own_at mid.harts) c.from.ensures
+    let own_is = get_or_read _ _ _ inside c.index_mut.ensures.value (new_own no_hart 0 0) ∙ ap (own_at mid.harts) c.from.ensures
     ∙ ap (λ harts. own_at harts h) same in
     record {
       ready = c.open_attempt.ensures.ready;
@@ -105,10 +105,12 @@ returns c =
           (elided_own reserved c.args.swap.new c.in-StoreConditional.rd.number (own_at old.harts h)) c.mark_read.ensures.new_is c.from.ensures
           (began ∙ ap (elided_own reserved c.args.swap.new c.in-StoreConditional.rd.number) own_is) in
           subst (λ p. IsIn p (armed_turn from h armed).state) (sym new_is)
-          (elided_in old c.args.hart armed swap from follows cache marks (kept c.note_armed.new.self) noted bus c.open_attempt.ensures.shows
+          (elided_in old c.args.hart armed swap from follows cache marks (kept c.note_armed.new.self) noted bus c.open_attempt.ensures.copies_stay
+          c.open_attempt.ensures.shows
           c.in-StoreConditional.rd c.in-StoreConditional.address c.in-StoreConditional.value
           (sym c.in-StoreConditional.is ∙ c.requires.action) reserved k.is);
       outcome = λ from follows. elides_outcome from h armed swap follows.rule_is;
       memory_stays =
-          c.open_attempt.ensures.memory_stays ∙ c.note_armed.ensures.memory_stays ∙ ap (λ p. p.bus.copies.lines) c.mark_read.ensures.new_is;
+          ap (λ copies. copies.lines) (c.open_attempt.ensures.copies_stay ∙ c.note_armed.ensures.copies_stay)
+          ∙ ap (λ p. p.bus.copies.lines) c.mark_read.ensures.new_is;
     }

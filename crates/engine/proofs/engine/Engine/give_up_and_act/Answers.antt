@@ -8,7 +8,7 @@ use Rattle.snoop.specs.Shows.{kept}
 pub act-requires : goal.act-requires
 act-requires c =
     may_act_somewhere (parts c.args.self.now) (kept c.give_up.new.self) c.args.hart.number c.requires.stands c.requires.hart_exists
-    c.requires.running c.requires.free c.give_up.ensures.ready c.give_up.ensures.shows
+    c.requires.running c.requires.free c.give_up.ensures.ready c.give_up.ensures.copies_stay c.give_up.ensures.shows
 
 pub returns-clause-state : goal.returns-clause-state
 returns-clause-state c state reached is =
@@ -18,7 +18,7 @@ returns-clause-state c state reached is =
     (sym (going_on old state c.args.hart.number c.requires.hart_exists is c.requires.running free))
     (c.act.ensures.state state
     (may_act old (kept c.give_up.new.self) state c.args.hart.number reached is c.requires.hart_exists c.requires.running free
-    c.give_up.ensures.ready (c.give_up.ensures.shows state is.shows)))
+    c.give_up.ensures.ready c.give_up.ensures.copies_stay (c.give_up.ensures.shows state is.shows)))
 
 pub returns-clause-outcome : goal.returns-clause-outcome
 returns-clause-outcome c state reached is =
@@ -26,5 +26,5 @@ returns-clause-outcome c state reached is =
     let free = c.requires.free state is.shows in
     c.act.ensures.outcome state
     (may_act old (kept c.give_up.new.self) state c.args.hart.number reached is c.requires.hart_exists c.requires.running free
-    c.give_up.ensures.ready (c.give_up.ensures.shows state is.shows))
+    c.give_up.ensures.ready c.give_up.ensures.copies_stay (c.give_up.ensures.shows state is.shows))
     ∙ ap (λ turn. turn.outcome) (sym (going_on old state c.args.hart.number c.requires.hart_exists is c.requires.running free))

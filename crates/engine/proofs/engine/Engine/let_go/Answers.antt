@@ -2,8 +2,8 @@
 use Rattle.std.proofs.Common.{◌∙◌, ◌<◌, length, ap, arith, subst, sym}
 use Rattle.std.specs.Prelude.{slice_set}
 use Rattle.std.proofs.lemmas.List.{get_or_read}
-use Rattle.cache_sets.specs.Calls.{IsCleared}
 use Rattle.el_model.specs.Armed.{armed_turn}
+use Rattle.engine.proofs.Framed.{IsClearedThere, cleared_there}
 use Rattle.engine.proofs.ArmedRules.{lets_go_outcome}
 use Rattle.engine.proofs.ArmedSteps.{let_go_in, unmarked_ready}
 use Rattle.engine.proofs.engine.Engine.let_go.Goals as goal
@@ -17,7 +17,8 @@ use Rattle.snoop.specs.Shows.{kept}
 pub note_armed-requires-clause-ready : goal.note_armed-requires-clause-ready
 note_armed-requires-clause-ready c =
     unmarked_ready (parts c.args.self.now) c.args.hart (armed_of c.args.armed) c.requires.follows.from c.requires.follows.follows c.clear_bits.new.self
-    (subst (λ lent. IsCleared lent c.clear_bits.new.self) c.sets_mut.ensures.value c.clear_bits.ensures)
+    (subst (λ sets. IsClearedThere sets c.clear_bits.new.self) c.sets_mut.ensures.value
+    (cleared_there c.sets_mut.result.now c.clear_bits.new.self c.clear_bits.ensures.cleared c.clear_bits.ensures.lent c.clear_bits.ensures.owner))
 
 pub returns : goal.returns
 returns c =
@@ -25,9 +26,11 @@ returns c =
     let h = c.args.hart.number in
     let armed = armed_of c.args.armed in
     let bus = kept c.note_armed.new.self in
-    let clears = subst (λ lent. IsCleared lent c.clear_bits.new.self) c.sets_mut.ensures.value c.clear_bits.ensures in
+    let clears = subst (λ sets. IsClearedThere sets c.clear_bits.new.self) c.sets_mut.ensures.value
+    (cleared_there c.sets_mut.result.now c.clear_bits.new.self c.clear_bits.ensures.cleared c.clear_bits.ensures.lent
+    c.clear_bits.ensures.owner) in
     let inside : c.from.result < length old.harts = omega (arith, c.from.ensures, c.requires.follows.follows.acts.may.exists) in
-    let kept_is = get_or_read _ _ _ inside c.index_mut.ensures.value (new_own no_hart 0) ∙ ap (own_at old.harts) c.from.ensures in
+    let kept_is = get_or_read _ _ _ inside c.index_mut.ensures.value (new_own no_hart 0 0) ∙ ap (own_at old.harts) c.from.ensures in
     let harts = ap (λ i. slice_set old.harts i c.let_go.new.self) c.from.ensures
     ∙ ap (slice_set old.harts h) (c.let_go.ensures.own ∙ ap let_go_own kept_is) in
     record {
@@ -35,7 +38,7 @@ returns c =
       state = λ from follows.
           subst (λ list. IsIn (record old { bus = bus; harts = list }) (armed_turn from h armed).state) (sym harts)
           (let_go_in old c.args.hart armed from follows c.clear_bits.new.self clears bus
-          (record { ready = c.note_armed.ensures.ready; shows = c.note_armed.ensures.shows }));
+          (record { ready = c.note_armed.ensures.ready; copies = c.note_armed.ensures.copies_stay; shows = c.note_armed.ensures.shows }));
       outcome = λ from follows. lets_go_outcome from h armed follows.rule_is;
-      memory_stays = c.note_armed.ensures.memory_stays;
+      memory_stays = ap (λ copies. copies.lines) c.note_armed.ensures.copies_stay;
     }

@@ -8,4 +8,5 @@ use Rattle.engine.specs.Parts.{IsIn, parts}
 pub returns-clause-state : goal.returns-clause-state
 returns-clause-state c state may =
     subst (λ new. IsIn new (missed state c.args.hart.number c.args.line.number c.args.need).state) (sym c.ask.ensures.rest_stays)
-    (after_missed (parts c.args.self.now) (parts c.ask.new.self).bus state c.args.hart.number c.args.line.number c.args.need may c.ask.ensures.shows)
+    (after_missed (parts c.args.self.now) (parts c.ask.new.self).bus state c.args.hart.number c.args.line.number c.args.need may
+    c.ask.ensures.copies_stay c.ask.ensures.shows)

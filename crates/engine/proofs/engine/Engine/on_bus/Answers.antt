@@ -1,31 +1,35 @@
 -- the losers had sections and the freed were armed, and the parts are those after the event
 use Rattle.std.proofs.Common.{◌∙◌, ◌≤◌, ap, refl, subst, sym}
 use Rattle.el_base.specs.Freed.{count_in}
-use Rattle.el_base.specs.Losers.{beaten_by}
 use Rattle.el_base.specs.Winners.{winner_over}
-use Rattle.engine.proofs.BusEvents.{after_bus, had_section, was_armed}
+use Rattle.engine.proofs.Laws.BusEvents.{after_bus, had_section, holds_lent, was_armed}
 use Rattle.engine.proofs.engine.Engine.on_bus.Goals as goal
 use Rattle.engine.specs.Parts.{parts}
 use Rattle.step_laws.specs.LettingGo.{freed_of_outcome}
 
-pub restore_all-requires-clause-live : goal.restore_all-requires-clause-live
-restore_all-requires-clause-live c g winner inside named =
+pub restore_by-requires-clause-live : goal.restore_by-requires-clause-live
+restore_by-requires-clause-live c g winner inside named =
     had_section (parts c.args.self.now) (parts c.pass_to_bus-outcome.new.self) c.requires.stands c.args.event g winner
     c.pass_to_bus-outcome.ensures.rest_stays inside
     (ap (λ outcome. winner_over outcome g) (sym (c.pass_to_bus-outcome.ensures.outcome c.requires.stands.state c.requires.stands.is_in))
-    ∙ sym (c.losers.ensures g) ∙ named)
+    ∙ named)
 
-pub restore_all-requires-clause-armed : goal.restore_all-requires-clause-armed
-restore_all-requires-clause-armed c g inside some =
+pub restore_by-requires-clause-armed : goal.restore_by-requires-clause-armed
+restore_by-requires-clause-armed c g inside some =
     was_armed (parts c.args.self.now) (parts c.pass_to_bus-outcome.new.self) c.requires.stands c.args.event g c.requires.no_step
     c.pass_to_bus-outcome.ensures.rest_stays inside
     (subst (λ freed. 1 ≤ count_in freed g)
-    (c.freed_by.ensures
-    ∙ ap freed_of_outcome (c.pass_to_bus-outcome.ensures.outcome c.requires.stands.state c.requires.stands.is_in)) some)
+    (ap freed_of_outcome (c.pass_to_bus-outcome.ensures.outcome c.requires.stands.state c.requires.stands.is_in)) some)
 
 pub returns-clause-state : goal.returns-clause-state
 returns-clause-state c state reached is =
-    after_bus (parts c.args.self.now) (parts c.pass_to_bus-outcome.new.self) _ state c.args.event (beaten_by c.losers.result) c.freed_by.result
-    c.requires.no_step reached is c.pass_to_bus-outcome.ensures.rest_stays refl (c.pass_to_bus-outcome.ensures.shows state reached is)
-    (λ g. ap (λ outcome. winner_over outcome g) (sym (c.pass_to_bus-outcome.ensures.outcome state is)) ∙ sym (c.losers.ensures g))
-    (c.freed_by.ensures ∙ ap freed_of_outcome (c.pass_to_bus-outcome.ensures.outcome state is)) c.restore_all.ensures
+    after_bus (parts c.args.self.now) (parts c.pass_to_bus-outcome.new.self) _ state c.args.event
+    (winner_over c.pass_to_bus-outcome.result) (freed_of_outcome c.pass_to_bus-outcome.result) c.requires.no_step reached is c.pass_to_bus-outcome.ensures.rest_stays refl (c.pass_to_bus-outcome.ensures.shows state reached is)
+    (c.pass_to_bus-outcome.ensures.told state reached is) c.pass_to_bus-outcome.ensures.holds c.restore_by.ensures.lent c.restore_by.ensures.kept
+    (λ g. ap (λ outcome. winner_over outcome g) (sym (c.pass_to_bus-outcome.ensures.outcome state is)))
+    (ap freed_of_outcome (c.pass_to_bus-outcome.ensures.outcome state is)) c.restore_by.ensures.restored
+
+pub restore_by-requires-clause-lent : goal.restore_by-requires-clause-lent
+restore_by-requires-clause-lent c =
+    holds_lent (parts c.args.self.now) (parts c.pass_to_bus-outcome.new.self) c.requires.stands c.pass_to_bus-outcome.ensures.rest_stays
+    c.pass_to_bus-outcome.ensures.holds

@@ -1,18 +1,21 @@
 -- a hart rolls its section back: the bus is ready again, and the parts are in the state after it
-use Rattle.std.proofs.Common.{◌∙◌, ◌<◌, length, ap, arith, subst, sym}
+use Rattle.std.proofs.Common.{◌≡◌, ◌∙◌, ◌<◌, length, ap, arith, subst, sym}
 use Rattle.std.specs.Prelude.{slice_set}
 use Rattle.std.proofs.lemmas.List.{get_or_read}
-use Rattle.cache_sets.specs.Calls.{IsCleared}
+use Rattle.coherence.specs.Lent.{slotted_at}
 use Rattle.el_model.specs.InSection.{section_turn}
+use Rattle.engine.proofs.Framed.{IsClearedThere, cleared_there}
 use Rattle.engine.proofs.RolledBack.{clock_small, has_cache, rolled_in, rolled_ready, seen_small}
 use Rattle.engine.proofs.engine.Engine.roll_back.Goals as goal
 use Rattle.engine.specs.Acting.{freed}
 use Rattle.engine.specs.Parts.{IsIn, own_at, parts}
 use Rattle.hart_state.specs.Deeds.{rolled_back_own}
-use Rattle.hart_state.specs.Own.{new_own}
+use Rattle.hart_state.specs.Own.{Own, new_own}
+use Rattle.line_pool.specs.Others.{LeavesOthers}
 use Rattle.rv_flat.specs.FlatState.{no_hart}
 use Rattle.snoop.specs.Returned.{returned}
 use Rattle.snoop.specs.Shows.{kept}
+use Rattle.write_hold.specs.Slotted.{IsLent}
 
 pub close_attempt-requires-clause-clock_below_the_last : goal.close_attempt-requires-clause-clock_below_the_last
 close_attempt-requires-clause-clock_below_the_last c =
@@ -28,12 +31,30 @@ sets_mut-requires c =
     has_cache (parts c.args.self.now) (kept c.close_attempt.new.self) c.args.hart.number c.requires.from may
     (c.close_attempt.ensures.shows (freed c.requires.from c.args.hart.number) may.is_in.shows)
 
+-- what the hart keeps
+own_is : (c : goal.After-roll_back-arg-1) → c.index_mut.result.now ≡ own_at (parts c.args.self.now).harts c.args.hart.number
+own_is c =
+    let old = parts c.args.self.now in
+    let inside : c.from.result < length old.harts = omega (arith, c.from.ensures, c.requires.follows.inside.may.exists) in
+    get_or_read _ _ _ inside c.index_mut.ensures.value (new_own no_hart 0 0) ∙ ap (own_at old.harts) c.from.ensures
+
+pub roll_back-requires-clause-lent : goal.roll_back-requires-clause-lent
+roll_back-requires-clause-lent c =
+    let may = c.requires.follows.inside.may in
+    subst (λ (own : Own). IsLent c.args.self.now.pool own.section.hold) (sym (own_is c)) (may.is_in.harts c.args.hart.number may.exists).lent
+
+-- the cache has no bits
+clears : (c : goal.After-self-2-1) →
+    IsClearedThere (slotted_at (kept c.close_attempt.new.self).copies.caches c.args.hart.number) c.clear_bits.new.self
+clears c =
+    subst (λ cache. IsClearedThere cache c.clear_bits.new.self) c.sets_mut.ensures.value
+    (cleared_there c.sets_mut.result.now c.clear_bits.new.self c.clear_bits.ensures.cleared c.clear_bits.ensures.lent c.clear_bits.ensures.owner)
+
 pub returns-clause-ready : goal.returns-clause-ready
 returns-clause-ready c =
     let may = c.requires.follows.inside.may in
     rolled_ready (parts c.args.self.now) (kept c.close_attempt.new.self) c.args.hart.number c.requires.from c.clear_bits.new.self may
-    c.close_attempt.ensures.ready (c.close_attempt.ensures.shows (freed c.requires.from c.args.hart.number) may.is_in.shows)
-    (subst (λ cache. IsCleared cache c.clear_bits.new.self) c.sets_mut.ensures.value c.clear_bits.ensures)
+    c.close_attempt.ensures.ready (c.close_attempt.ensures.shows (freed c.requires.from c.args.hart.number) may.is_in.shows) (clears c)
 
 pub returns-clause-state : goal.returns-clause-state
 returns-clause-state c from section follows =
@@ -41,12 +62,15 @@ returns-clause-state c from section follows =
     let h = c.args.hart.number in
     let bus = kept c.close_attempt.new.self in
     let cache = c.clear_bits.new.self in
+    let pool = c.roll_back.new.pool in
     let inside : c.from.result < length old.harts = omega (arith, c.from.ensures, follows.inside.may.exists) in
-    let own = c.roll_back.ensures
-    ∙ ap (rolled_back_own c.args.cause)
-    (get_or_read _ _ _ inside c.index_mut.ensures.value (new_own no_hart 0) ∙ ap (own_at old.harts) c.from.ensures) in
-    let harts = ap (λ i. slice_set old.harts i c.roll_back.new.self) c.from.ensures ∙ ap (slice_set old.harts h) own in
-    subst (λ list. IsIn (record old { bus = returned bus h cache; harts = list }) (section_turn from h section).state) (sym harts)
-    (rolled_in old bus c.args.hart from section cache c.args.cause follows
-    (c.close_attempt.ensures.shows (freed from h) follows.inside.may.is_in.shows)
-    (subst (λ lent. IsCleared lent cache) c.sets_mut.ensures.value c.clear_bits.ensures))
+    let own_is = get_or_read _ _ _ inside c.index_mut.ensures.value (new_own no_hart 0 0) ∙ ap (own_at old.harts) c.from.ensures in
+    let own_then = c.roll_back.ensures.own ∙ ap (rolled_back_own c.args.cause) own_is in
+    let harts = ap (λ i. slice_set old.harts i c.roll_back.new.self) c.from.ensures ∙ ap (slice_set old.harts h) own_then in
+    subst (λ list. IsIn (record old { pool = pool; bus = returned bus h cache; harts = list }) (section_turn from h section).state) (sym harts)
+    (rolled_in old pool bus c.args.hart from section cache c.args.cause follows
+    (c.close_attempt.ensures.shows (freed from h) follows.inside.may.is_in.shows) c.close_attempt.ensures.copies_stay (clears c)
+    (record {
+      lent = subst (λ (own : Own). IsLent pool own.section.hold) own_then c.roll_back.ensures.lent;
+      others = subst (λ (own : Own). LeavesOthers own.section.hold.owner old.pool pool) own_is c.roll_back.ensures.others;
+    }))

@@ -1,13 +1,14 @@
 -- what each call leaves, and the state after them
 use Rattle.std.proofs.Common.{◌≡◌, ◌∙◌, None, ap, sym, subst}
+use Rattle.cache_sets.specs.Slotted.{IsLent}
 use Rattle.cached_step.specs.CacheRun.{permitted}
-use Rattle.core_step.proofs.Runs.{aligned}
+use Rattle.core_step.proofs.Laws.Runs.{aligned}
 use Rattle.core_step.specs.Run.{IsAligned, lacking}
 use Rattle.engine.proofs.Chosen.{lacks_nothing}
-use Rattle.engine.proofs.RunsNext.{after_ran, learnt_section, may_append, ready_ran}
-use Rattle.engine.proofs.StandsOutside.{no_armed, runs}
+use Rattle.engine.proofs.RunsNext.{after_ran, learnt_section, lent_mid, may_append, ready_ran}
+use Rattle.engine.proofs.StandsOutside.{lends, no_armed, runs}
 use Rattle.engine.proofs.engine.Engine.run_next.Goals as goal
-use Rattle.engine.specs.Acting.{cache_in}
+use Rattle.engine.specs.Acting.{cache_in, sets_in}
 use Rattle.engine.specs.Outside.{RanIn}
 use Rattle.engine.specs.Parts.{own_at, parts, present_at}
 use Rattle.rv_alu.specs.Footprint.{footprint}
@@ -72,3 +73,16 @@ returns-clause-state c from acts =
     after_ran old mid (parts c.take_effect.new.self) c.args.hart from c.args.action acts
     (subst (λ p. RanIn p mid h c.args.action) (c.learn.ensures from acts) c.run_in_cache.ensures) c.requires.action c.requires.in_place
     (lacks_nothing old h from c.args.action acts c.requires.action _ (c.requires.runs from acts)) (c.requires.runs from acts) c.take_effect.ensures
+
+pub run_in_cache-requires-clause-lent : goal.run_in_cache-requires-clause-lent
+run_in_cache-requires-clause-lent c =
+    let acts = c.requires.some.acts in
+    subst (λ p. IsLent p.pool (sets_in p c.args.hart.number)) (sym (c.learn.ensures c.requires.some.from acts))
+    (lends (parts c.args.self.now) c.args.hart.number c.requires.some.from acts)
+
+pub take_effect-requires-clause-lent : goal.take_effect-requires-clause-lent
+take_effect-requires-clause-lent c =
+    let acts = c.requires.some.acts in
+    lent_mid (parts c.args.self.now) (parts c.run_in_cache.new.self) c.args.hart.number c.requires.some.from c.args.action acts
+    (subst (λ p. RanIn p (parts c.run_in_cache.new.self) c.args.hart.number c.args.action) (c.learn.ensures c.requires.some.from acts)
+    c.run_in_cache.ensures)

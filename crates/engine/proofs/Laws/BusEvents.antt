@@ -2,41 +2,48 @@
 use Rattle.std.proofs.Common.{◌≡◌, ◌≢◌, ◌∙◌, ℕ, zero, suc, ◌+◌, ◌≤◌, ◌<◌, false, List, Option, Some, None, is_some, length, refl, ap, sym, subst, arith}
 use Rattle.std.specs.Prelude.{◌==◌, IsSome, if◌then◌else◌, option_map, slice_index}
 use Rattle.std.proofs.lemmas.Bool.Decides.{nat_tests}
-use Rattle.cache_sets.specs.Residency.{Way}
+use Rattle.residency.specs.Residency.{Way}
 use Rattle.el_base.specs.Freed.{count_in}
 use Rattle.el_base.specs.declared.events.Event.{Event}
 use Rattle.el_base.specs.declared.events.Kind.TheVariants as kinds
 use Rattle.el_base.specs.declared.freed.Freed.{Freed}
-use Rattle.el_model.proofs.Restoring.{losers_restored}
+use Rattle.el_model.proofs.Laws.Restoring.{losers_restored}
 use Rattle.el_base.specs.Winners.{winner_over}
 use Rattle.el_model.specs.Losses.{restored, standing_of}
 use Rattle.el_model.specs.Next.{kind_turn, next}
 use Rattle.el_model.specs.Order.{order_turn}
 use Rattle.el_model.specs.Serve.{serve_turn}
 use Rattle.el_model.specs.State.{ModelState, Section, Turn, armed_of, cache_of, hart_of, section_of}
+use Rattle.coherence.proofs.Laws.Offered.{leaves_owner-then}
+use Rattle.coherence.specs.Beginning.{line_of}
+use Rattle.coherence.specs.Lent.{LeavesHolds, LeavesOwner}
+use Rattle.engine.proofs.Framed.{hold_lent, own_left, told_left}
 use Rattle.engine.proofs.Reaching.{lets_go, loses, numbered, runs_armed, survives_event}
 use Rattle.engine.proofs.Reserved.{kept_as, unarmed, unlive}
-use Rattle.engine.specs.Parts.{IsIn, IsOfHart, KeepsReserved, KeepsSection, KeepsSectionOf, Parts, StandsAs, own_at}
+use Rattle.engine.specs.Parts.{IsIn, IsOfHart, KeepsReserved, KeepsSection, KeepsSectionOf, Parts, StandsAs, hold_owner, own_at}
+use Rattle.engine.specs.Lent.{LeavesKept, LendsHolds}
 use Rattle.engine.specs.Reached.{IsReached, Stands}
 use Rattle.engine.specs.Restored.{AreRestored, freed_own, own_after}
-use Rattle.hart_state.proofs.Harts.{lost_is}
+use Rattle.hart_state.proofs.Laws.Harts.{lost_is}
 use Rattle.hart_state.specs.Deeds.{let_go_own, lost_own}
 use Rattle.hart_state.specs.Own.{Own}
+use Rattle.line_pool.specs.Pooled.{Pooled}
 use Rattle.policy.specs.Winners.{wins_of}
 use Rattle.run_laws.specs.PrivateRun.{IsChangeBeside, KeepsAllButViews}
 use Rattle.rv_alu.specs.declared.view.HartView.{HartView}
 use Rattle.rv_flat.specs.FlatState.{FlatState, span_of, view_of}
 use Rattle.rv_flat.specs.Run.{alone}
-use Rattle.section_ctl.specs.State.{Reserved, SectionState}
-use Rattle.section_view.proofs.Surviving.{kept_armed_survive, kept_survive, marks_stay}
+use Rattle.section_ctl.specs.State.{Reserved, SectionState, hold_in}
+use Rattle.section_view.proofs.Laws.Surviving.{kept_armed_survive, kept_survive, marks_stay}
 use Rattle.section_view.specs.KeptRun.{KeepsArmed}
 use Rattle.snoop.specs.LettingGo.{KeepsBytes}
-use Rattle.snoop.specs.Shows.{Kept, Shows}
+use Rattle.snoop.specs.Shows.{Kept, Shows, Tells}
 use Rattle.stamp.specs.Stamps as stamps
-use Rattle.step_laws.proofs.Frames.{bus_events_keep}
+use Rattle.step_laws.proofs.Laws.Frames.{bus_events_keep}
 use Rattle.step_laws.specs.Frames.{LeavesPredictors}
 use Rattle.step_laws.specs.LettingGo.{LetsHartsGo, freed_of_outcome}
 use Rattle.step_laws.specs.Survivors.{Survives}
+use Rattle.write_hold.specs.Slotted.{IsLent}
 
 -- an event that is no step leaves the bytes of memory
 pub bytes_kept : (state : ModelState) (event : Event) → IsReached state → event.kind ≢ kinds.Step →
@@ -61,13 +68,13 @@ unfolding next
 serve_is state event is = ap (kind_turn state event.hart.number) is
 
 -- a section that survives is still kept
-pub kept_survives : (state new : ModelState) (g : ℕ) (section : Section) (kept : SectionState) → Survives state new g section →
-    KeepsSection state g section kept → KeepsSection new g section kept
-kept_survives state new g section kept survives keeps = record {
+pub kept_survives : (pool : Pooled) (state new : ModelState) (g : ℕ) (section : Section) (kept : SectionState) → Survives state new g section →
+    KeepsSection pool state g section kept → KeepsSection pool new g section kept
+kept_survives pool state new g section kept survives keeps = record {
   run =
-      kept_survive g (cache_of state g) section state.committed new.committed kept.marks.present kept.hold.entries survives.covered
+      kept_survive g (cache_of state g) section state.committed new.committed kept.marks.present (hold_in pool kept).entries survives.covered
       survives.change keeps.marked keeps.run;
-  marked = marks_stay (cache_of state g) (cache_of new g) kept.hold.entries survives.keeps.bits.written keeps.marked;
+  marked = marks_stay (cache_of state g) (cache_of new g) (hold_in pool kept).entries survives.keeps.bits.written keeps.marked;
 }
 
 -- where memory and a hart's view stay, what is committed has changed beside the hart alone
@@ -91,8 +98,8 @@ armed_goes_on state new g (Some reserved) present reached is change keeps =
     kept_armed_survive g (cache_of state g) reserved.armed state.committed new.committed reserved.old present
     (runs_armed state g reserved.armed reached (sym is)) change keeps
 
-module _ (state : ModelState) (event : Event) (g : ℕ) (own : Own) (reached : IsReached state) (bus : event.kind ≢ kinds.Step)
-    (below : g < length state.harts) (is : IsOfHart state g own) where
+module _ (pool : Pooled) (state : ModelState) (event : Event) (g : ℕ) (own : Own) (reached : IsReached state) (bus : event.kind ≢ kinds.Step)
+    (below : g < length state.harts) (is : IsOfHart pool state g own) where
   abbrev new : ModelState
   new = (next state event).state
 
@@ -115,15 +122,15 @@ module _ (state : ModelState) (event : Event) (g : ℕ) (own : Own) (reached : I
   limit_is = is.limit ∙ ap (λ config. config.lines) (sym keeps.config)
 
   -- a section that the hart has not lost goes on, if it has one
-  goes_on : (live : Option Section) → section_of state g ≡ live → section_of new g ≡ live → KeepsSectionOf state g live own.section →
-      KeepsSectionOf new g live own.section
+  goes_on : (live : Option Section) → section_of state g ≡ live → section_of new g ≡ live → KeepsSectionOf pool state g live own.section →
+      KeepsSectionOf pool new g live own.section
   goes_on None was now kept = tt
   goes_on (Some section) was now kept =
-      kept_survives state new g section own.section
+      kept_survives pool state new g section own.section
       (survives_event state event g section reached (λ step. absurd (bus step)) was (ap is_some now)) kept
 
   -- a hart that nothing ends for
-  stays : winner_over (next state event).outcome g ≡ None → count_in freed g ≡ 0 → IsOfHart new g own
+  stays : winner_over (next state event).outcome g ≡ None → count_in freed g ≡ 0 → IsOfHart pool new g own
   stays named none =
       let standing = stands_as None named in
       let same = ap (λ s. s.section) standing in
@@ -137,16 +144,18 @@ module _ (state : ModelState) (event : Event) (g : ℕ) (own : Own) (reached : I
           tries = is.part.tries ∙ sym (ap (λ s. s.tries) standing);
         };
         view = is.view ∙ sym (goes.stays_view g none);
-        section = subst (λ live. KeepsSectionOf new g live own.section) (sym same) (goes_on (section_of state g) refl same is.section);
+        section = subst (λ live. KeepsSectionOf pool new g live own.section) (sym same) (goes_on (section_of state g) refl same is.section);
         armed =
             armed_goes_on state new g own.section.armed own.section.marks.present reached is.part.armed
             (beside state.committed new.committed g (cache_of state g) goes.memory (goes.stays_view g none)) is.armed;
         stands = is.stands;
         limit = limit_is;
+        owner = is.owner;
+        lent = is.lent;
       }
 
   -- one that is let go
-  is_let_go : winner_over (next state event).outcome g ≡ None → 1 ≤ count_in freed g → IsOfHart new g (let_go_own own)
+  is_let_go : winner_over (next state event).outcome g ≡ None → 1 ≤ count_in freed g → IsOfHart pool new g (let_go_own own)
   is_let_go named some =
       let gone = goes.lets_go g some in
       let standing = stands_as None named in
@@ -169,13 +178,15 @@ module _ (state : ModelState) (event : Event) (g : ℕ) (own : Own) (reached : I
         };
         view = keeps_it.view ∙ ap (λ n. view_of (alone state.committed g n) g) gone.count_is ∙ sym gone.view;
         section =
-            subst (λ live. KeepsSectionOf new g live (let_go_own own).section) (sym (same ∙ sym is.part.section ∙ none)) tt;
+            subst (λ live. KeepsSectionOf pool new g live (let_go_own own).section) (sym (same ∙ sym is.part.section ∙ none)) tt;
         armed = tt;
         stands = record {
           unmarked = refl;
           empty = (subst (λ live. StandsAs own.section.marks own.section.hold live (Some reserved)) none stood).empty;
         };
         limit = limit_is;
+        owner = is.owner;
+        lent = is.lent;
       }
 
   -- a loser had a live section, so it was not armed, and none of its instructions takes effect
@@ -196,9 +207,10 @@ module _ (state : ModelState) (event : Event) (g : ℕ) (own : Own) (reached : I
           let wrong = sym (not_armed section live) ∙ gone.was in
           absurd (cc)
 
-  -- one that has lost
-  has_lost : (winner : ℕ) → winner_over (next state event).outcome g ≡ Some winner → IsOfHart new g (lost_own state.config.mode own)
-  has_lost winner named =
+  -- one that has lost, whose stores are given up
+  has_lost : (left : Pooled) (winner : ℕ) → winner_over (next state event).outcome g ≡ Some winner →
+      IsLent left (lost_own state.config.mode own).section.hold → IsOfHart left new g (lost_own state.config.mode own)
+  has_lost left winner named lent =
       let lost = loses state event g winner reached named in
       let none = none_freed lost.section lost.live in
       record {
@@ -206,31 +218,38 @@ module _ (state : ModelState) (event : Event) (g : ℕ) (own : Own) (reached : I
             lost_is state.config.mode own (hart_of state g) (hart_of new g) is.part (stands_as (Some winner) named) (keeps.predictors g)
             (goes.stays_armed g none ∙ not_armed lost.section lost.live) (goes.stays_last g none);
         view = is.view ∙ sym (goes.stays_view g none);
-        section = subst (λ live. KeepsSectionOf new g live (lost_own state.config.mode own).section) (sym lost.over) tt;
+        section = subst (λ live. KeepsSectionOf left new g live (lost_own state.config.mode own).section) (sym lost.over) tt;
         armed = tt;
         stands = record { unmarked = refl; empty = refl };
         limit = limit_is;
+        owner = is.owner;
+        lent = lent;
       }
 
-  -- so is each hart what the event leaves to it
-  pub hart_after : (winner : Option ℕ) → winner_over (next state event).outcome g ≡ winner →
-      IsOfHart new g (own_after state.config.mode winner (count_in freed g) own)
-  hart_after (Some winner) named = has_lost winner named
-  hart_after None named = by (count_in freed g) refl
+  -- so is each hart what the event leaves to it, in a pool that has changed for those that lost alone
+  pub hart_after : (left : Pooled) (winner : Option ℕ) → winner_over (next state event).outcome g ≡ winner →
+      (winner ≡ None → LeavesOwner (hold_owner g) pool left) →
+      IsLent left (own_after state.config.mode winner (count_in freed g) own).section.hold →
+      IsOfHart left new g (own_after state.config.mode winner (count_in freed g) own)
+  hart_after left (Some winner) named leaves lent = has_lost left winner named lent
+  hart_after left None named leaves lent =
+      own_left pool left new g (freed_own (count_in freed g) own) (leaves refl) (by (count_in freed g) refl)
     where
-      by : (n : ℕ) → count_in freed g ≡ n → IsOfHart new g (freed_own n own)
+      by : (n : ℕ) → count_in freed g ≡ n → IsOfHart pool new g (freed_own n own)
       by zero none = stays named none
       by (suc n) some =
           let apart : (suc n == 0) ≡ false = grind (arith, nat_tests) in
-          subst (λ none. IsOfHart new g (if none then own else let_go_own own)) (sym apart) (is_let_go named (omega (arith, some)))
+          subst (λ none. IsOfHart pool new g (if none then own else let_go_own own)) (sym apart) (is_let_go named (omega (arith, some)))
 
 -- all parts
 pub after_bus : (old mid new : Parts) (state : ModelState) (event : Event) (winner : ℕ → Option ℕ) (freed : Freed) → event.kind ≢ kinds.Step →
-    IsReached state → IsIn old state → mid ≡ record old { bus = mid.bus } → new ≡ record mid { harts = new.harts } →
-    Shows mid.bus (next state event).state → ((g : ℕ) → winner_over (next state event).outcome g ≡ winner g) →
+    IsReached state → IsIn old state → mid ≡ record old { pool = mid.pool; bus = mid.bus } →
+    new ≡ record mid { pool = new.pool; harts = new.harts } → Shows mid.bus (next state event).state →
+    Tells mid.pool mid.bus (line_of (next state event).state.committed) → LeavesHolds old.pool mid.pool → LendsHolds new.pool new.harts →
+    LeavesKept winner mid.pool new.pool → ((g : ℕ) → winner_over (next state event).outcome g ≡ winner g) →
     freed ≡ freed_of_outcome (next state event).outcome →
     AreRestored mid.config.mode winner (λ g. count_in freed g) mid.harts new.harts → IsIn new (next state event).state
-after_bus old mid new state event winner freed bus reached is mid_is new_is shows named freed_is restored_mid =
+after_bus old mid new state event winner freed bus reached is mid_is new_is shows told holds lent kept named freed_is restored_mid =
     let restored = subst (λ p. AreRestored p.config.mode winner (λ g. count_in freed g) p.harts new.harts) mid_is restored_mid in
     let keeps = bus_events_keep state event bus in
     let memory = (lets_go state event reached bus).memory in
@@ -239,14 +258,21 @@ after_bus old mid new state event winner freed bus reached is mid_is new_is show
       config = config ∙ is.config ∙ sym keeps.config;
       span = ap (λ p. p.span) new_is ∙ ap (λ p. p.span) mid_is ∙ is.span ∙ same_span state.committed (next state event).state.committed memory;
       shows = subst (λ b. Shows b (next state event).state) (sym (ap (λ p. p.bus) new_is)) shows;
+      told =
+          subst (λ b. Tells new.pool b (line_of (next state event).state.committed)) (sym (ap (λ p. p.bus) new_is))
+          (told_left mid.pool new.pool mid.bus _ kept.caches told);
       one_each = restored.number ∙ is.one_each ∙ sym keeps.count;
       view_each = restored.number ∙ is.view_each ∙ sym memory.harts;
       harts = λ g below.
           let inside : g < length old.harts = subst (λ n. g < n) restored.number below in
-          subst (IsOfHart (next state event).state g)
-          (sym (restored.each g inside ∙ ap (λ c. own_after c.mode (winner g) (count_in freed g) (own_at old.harts g)) is.config
-          ∙ ap (λ f. own_after state.config.mode (winner g) (count_in f g) (own_at old.harts g)) freed_is))
-          (hart_after state event g (own_at old.harts g) reached bus (subst (λ n. g < n) is.one_each inside) (is.harts g inside) (winner g) (named g));
+          let left =
+          restored.each g inside ∙ ap (λ c. own_after c.mode (winner g) (count_in freed g) (own_at old.harts g)) is.config
+          ∙ ap (λ f. own_after state.config.mode (winner g) (count_in f g) (own_at old.harts g)) freed_is in
+          subst (IsOfHart new.pool (next state event).state g) (sym left)
+          (hart_after old.pool state event g (own_at old.harts g) reached bus (subst (λ n. g < n) is.one_each inside) (is.harts g inside) new.pool
+          (winner g) (named g)
+          (λ none. leaves_owner-then (hold_owner g) old.pool mid.pool new.pool (holds (hold_owner g) (omega arith)) (kept.holds g none))
+          (subst (λ (own : Own). IsLent new.pool own.section.hold) left (lent g below).lent));
       code = ap (λ p. p.code) new_is ∙ ap (λ p. p.code) mid_is ∙ is.code ∙ sym memory.code;
       output = ap (λ p. p.output) new_is ∙ ap (λ p. p.output) mid_is ∙ is.output ∙ sym memory.output;
     }
@@ -257,7 +283,7 @@ after_bus old mid new state event winner freed bus reached is mid_is new_is show
         ∙ ap (λ n. record { base = new.base; end = new.base + n }) (sym (ap length keeps.bytes))
 
 -- a loser has a live section
-pub had_section : (old mid : Parts) (stands : Stands old) (event : Event) (g winner : ℕ) → mid ≡ record old { bus = mid.bus } →
+pub had_section : (old mid : Parts) (stands : Stands old) (event : Event) (g winner : ℕ) → mid ≡ record old { pool = mid.pool; bus = mid.bus } →
     g < length mid.harts → winner_over (next stands.state event).outcome g ≡ Some winner → IsSome (own_at mid.harts g).section.live
 had_section old mid stands event g winner mid_is inside named =
     let harts = ap (λ p. p.harts) mid_is in
@@ -267,8 +293,9 @@ had_section old mid stands event g winner mid_is inside named =
     subst IsSome (sym live) refl
 
 -- and one that is let go an armed one
-pub was_armed : (old mid : Parts) (stands : Stands old) (event : Event) (g : ℕ) → event.kind ≢ kinds.Step → mid ≡ record old { bus = mid.bus } →
-    g < length mid.harts → 1 ≤ count_in (freed_of_outcome (next stands.state event).outcome) g → IsSome (own_at mid.harts g).section.armed
+pub was_armed : (old mid : Parts) (stands : Stands old) (event : Event) (g : ℕ) → event.kind ≢ kinds.Step →
+    mid ≡ record old { pool = mid.pool; bus = mid.bus } → g < length mid.harts →
+    1 ≤ count_in (freed_of_outcome (next stands.state event).outcome) g → IsSome (own_at mid.harts g).section.armed
 was_armed old mid stands event g bus mid_is inside some =
     let harts = ap (λ p. p.harts) mid_is in
     let gone = (lets_go stands.state event stands.reached bus).lets_go g some in
@@ -276,6 +303,20 @@ was_armed old mid stands event g bus mid_is inside some =
     kept_as (own_at old.harts g).section.armed gone.armed
     ((stands.is_in.harts g (subst (λ h. g < length h) harts inside)).part.armed ∙ gone.was) in
     subst IsSome (sym (ap (λ h. (own_at h g).section.armed) harts ∙ kept.is)) refl
+
+-- the pool lends the holds of all harts still
+pub holds_lent : (old mid : Parts) (stands : Stands old) → mid ≡ record old { pool = mid.pool; bus = mid.bus } → LeavesHolds old.pool mid.pool →
+    LendsHolds mid.pool mid.harts
+holds_lent old mid stands mid_is leaves =
+    subst (LendsHolds mid.pool) (sym (ap (λ p. p.harts) mid_is))
+    (λ g inside.
+    let own = stands.is_in.harts g inside in
+    record {
+      owner = own.owner;
+      lent =
+          hold_lent old.pool mid.pool (own_at old.harts g).section.hold
+          (leaves (own_at old.harts g).section.hold.owner (omega (arith, own.owner))) own.lent;
+    })
 
 -- each hart has its agent at the bus
 pub agent_each : (parts : Parts) → Stands parts → length parts.bus.agents ≡ length parts.harts

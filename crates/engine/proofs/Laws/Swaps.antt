@@ -1,12 +1,12 @@
 -- an action that is a swap, a store conditional that succeeds, or a load reserved
 use Rattle.std.proofs.Common.{◌≡◌, ◌∙◌, ℕ, ◌%◌, ◌≤◌, Bool, true, false, Option, Some, None, refl, ap, sym, subst}
 use Rattle.std.specs.Prelude.{if◌then◌else◌}
-use Rattle.cache_sets.specs.Cache.{is_resident}
+use Rattle.residency.specs.Cache.{is_resident}
 use Rattle.cache_sets.specs.Cached.{Cached}
 use Rattle.cached_step.specs.CacheRun.{permitted}
-use Rattle.coherence.proofs.GivenBackLaws.{writable_there}
-use Rattle.coherence.proofs.LineLaws.{none_is, some_is}
-use Rattle.core_step.proofs.Runs.{is_permitted}
+use Rattle.coherence.proofs.Laws.GivenBackLaws.{writable_there}
+use Rattle.coherence.proofs.Laws.LineLaws.{none_is, some_is}
+use Rattle.core_step.proofs.Laws.Runs.{is_permitted}
 use Rattle.core_step.specs.Run.{IsAligned, lacking}
 use Rattle.el_base.specs.Line.{line_number}
 use Rattle.el_base.specs.declared.outcomes.Need.TheVariants.{Write}

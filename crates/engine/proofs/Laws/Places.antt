@@ -3,13 +3,13 @@ use Rattle.std.proofs.Common.{◌∙◌, ℕ, ◌+◌, ◌≤◌, List, [], ◌�
 use Rattle.chronicle.specs.Serial.{serial}
 use Rattle.el_base.specs.declared.config.Config.{Config}
 use Rattle.el_base.specs.declared.events.Event.{Event}
-use Rattle.el_model.proofs.Folds.{serial_run}
+use Rattle.el_model.proofs.Laws.Folds.{serial_run}
 use Rattle.el_model.specs.Next.{after, entries_from}
 use Rattle.el_model.specs.State.{ModelState, begin}
 use Rattle.elf_image.specs.Limits.{end_limit}
 use Rattle.elf_image.specs.Program.{Program}
 use Rattle.engine.specs.Reached.{IsReached}
-use Rattle.rv_flat.proofs.StepLaws.{keeps_shape}
+use Rattle.rv_flat.proofs.Laws.StepLaws.{keeps_shape}
 use Rattle.rv_flat.specs.FlatState.{FlatState, span_of, start}
 use Rattle.rv_flat.specs.Laws.{KeepsShape}
 use Rattle.rv_flat.specs.Run.{run}

@@ -1,0 +1,4 @@
+-- the laws that are offered to the crates above; every other file here is private
+pub mod BusEvents
+pub mod Places
+pub mod Swaps

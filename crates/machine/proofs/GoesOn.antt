@@ -11,18 +11,18 @@ use Rattle.el_base.specs.declared.config.Config.{Config}
 use Rattle.el_base.specs.declared.entries.Entry.{Entry}
 use Rattle.el_base.specs.declared.events.Event.{Event}
 use Rattle.el_base.specs.declared.outcomes.Outcome.{Outcome}
-use Rattle.el_model.proofs.Folds.{entries_from-append, outcomes-entries_from, serial_run}
+use Rattle.el_model.proofs.Laws.Folds.{entries_from-append, outcomes-entries_from, serial_run}
 use Rattle.el_model.specs.Next.{entries_from, next}
 use Rattle.el_model.specs.State.{ModelState, begin}
 use Rattle.elf_image.specs.Program.{IsProgram, Program}
-use Rattle.engine.proofs.Places.{keeps_place}
+use Rattle.engine.proofs.Laws.Places.{keeps_place}
 use Rattle.engine.specs.MainMemory.{lines_from}
 use Rattle.engine.specs.Parts.{IsIn, Parts}
 use Rattle.engine.specs.Reached as engine
 use Rattle.engine.specs.Reached.{IsReached}
-use Rattle.machine.proofs.Continued.{state_of_continued}
+use Rattle.machine.proofs.Laws.Continued.{state_of_continued}
 use Rattle.machine.proofs.MainLines.{first_lines, more_lines}
-use Rattle.machine.proofs.Recording.{outcomes_can_be_recorded}
+use Rattle.machine.proofs.Laws.Recording.{outcomes_can_be_recorded}
 use Rattle.machine.specs.MainMemory.{main_lines}
 use Rattle.machine.specs.Recording.{CanBeRecorded}
 use Rattle.machine.specs.Stands.{IsGiven, Stands}

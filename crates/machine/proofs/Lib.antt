@@ -1,4 +1,4 @@
-pub mod Continued
+pub mod Laws
 mod Openings
 mod GoesOn
 mod Promised
@@ -6,4 +6,3 @@ mod InSections
 mod There
 mod Readiness
 mod MainLines
-pub mod Recording

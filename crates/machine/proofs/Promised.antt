@@ -8,18 +8,18 @@ use Rattle.el_base.specs.declared.outcomes.Outcome.{Outcome}
 use Rattle.el_base.specs.Winners.{winner_over}
 use Rattle.el_model.specs.Next.{next}
 use Rattle.engine.specs.Parts.{Parts}
-use Rattle.machine.proofs.Continued.{state_of_continued}
+use Rattle.machine.proofs.Laws.Continued.{state_of_continued}
 use Rattle.machine.specs.Promises.{Change, EndsAreNamed, EndsIt, HeadOfLeastIsServed, KeepsPromises, OthersAreUntouched, ReleasesTakeEffect, change}
 use Rattle.machine.specs.Stands.{IsGiven, Stands}
 use Rattle.machine.specs.Story.{Story, continued, state_of}
-use Rattle.progress_laws.proofs.LineOfLeast.{line_of_least_stamp_moves_on}
-use Rattle.removal_laws.proofs.Beating.{losers_lose_to_earlier}
-use Rattle.removal_laws.proofs.Clocks.{stamps_are_kept}
-use Rattle.removal_laws.proofs.Promises.{least_stamp_never_loses}
-use Rattle.section_laws.proofs.Bits.{some_same}
-use Rattle.run_laws.proofs.Releasing.{releases_commit}
-use Rattle.step_laws.proofs.Losing.{what_ends_a_section}
-use Rattle.step_laws.proofs.Survivors.{survivors_keep_what_they_show}
+use Rattle.progress_laws.proofs.Laws.LineOfLeast.{line_of_least_stamp_moves_on}
+use Rattle.removal_laws.proofs.Laws.Beating.{losers_lose_to_earlier}
+use Rattle.removal_laws.proofs.Laws.Clocks.{stamps_are_kept}
+use Rattle.removal_laws.proofs.Laws.Promises.{least_stamp_never_loses}
+use Rattle.section_laws.proofs.Laws.Bits.{some_same}
+use Rattle.run_laws.proofs.Laws.Releasing.{releases_commit}
+use Rattle.step_laws.proofs.Laws.Losing.{what_ends_a_section}
+use Rattle.step_laws.proofs.Laws.Survivors.{survivors_keep_what_they_show}
 use Rattle.step_laws.specs.Losing.{EndsItself, IsBeaten}
 
 -- an event made where a story has come to, as the definition makes it

@@ -7,13 +7,13 @@ use Rattle.std.proofs.lemmas.List.{at_drop_more, drop_all}
 use Rattle.std.proofs.lemmas.List.Folds.{find-append}
 use Rattle.bus_order.specs.Order.{Request}
 use Rattle.chronicle.specs.Chronicle.{events}
-use Rattle.el_base.proofs.HartIds.{hart_id-of_hart}
+use Rattle.el_base.proofs.Laws.HartIds.{hart_id-of_hart}
 use Rattle.el_base.specs.Config.{IsInRange}
 use Rattle.el_base.specs.declared.events.Event.{Event}
 use Rattle.el_base.specs.declared.events.Kind.{Kind}
 use Rattle.el_base.specs.declared.events.Kind.TheVariants.{Step, Order, Serve, Deliver}
 use Rattle.el_base.specs.declared.hart_id.HartId.{HartId}
-use Rattle.el_model.proofs.Deeds.{step_deed}
+use Rattle.el_model.proofs.Laws.Deeds.{step_deed}
 use Rattle.el_model.specs.Deliver.{deliver_next, deliver_turn}
 use Rattle.el_model.specs.Next.{is_over, next, status_turn, step_turn}
 use Rattle.el_model.specs.Order.{order_raised, order_turn}
@@ -21,15 +21,15 @@ use Rattle.el_model.specs.Serve.{Blocks, Free, Obstacle, obstacle_to, serve_orde
 use Rattle.el_model.specs.State.{ModelState, count_up, has_request, hart_of, ordered_of, raised_of}
 use Rattle.machine.proofs.GoesOn.{start_harts}
 use Rattle.machine.specs.Story.{Story, state_of}
-use Rattle.engine.proofs.Places.{keeps_place}
+use Rattle.engine.proofs.Laws.Places.{keeps_place}
 use Rattle.mail.specs.Mailbox.{Message}
-use Rattle.progress_laws.proofs.EveryMode.{no_state_is_stuck}
-use Rattle.progress_laws.proofs.GettingOn.{always_orderly, deed_gets_on}
+use Rattle.progress_laws.proofs.Laws.EveryMode.{no_state_is_stuck}
+use Rattle.progress_laws.proofs.Laws.GettingOn.{always_orderly, deed_gets_on}
 use Rattle.progress_laws.specs.Ready.{events_of, gets_on, is_progress, ready_event}
 use Rattle.rv_alu.specs.declared.view.HartStatus.{HartStatus}
 use Rattle.rv_alu.specs.declared.view.HartStatus.TheVariants.{Exited, Running, Trapped}
 use Rattle.rv_flat.specs.FlatState.{status_of}
-use Rattle.section_laws.proofs.Lengths.{AsMany}
+use Rattle.section_laws.proofs.Laws.Lengths.{AsMany}
 use Rattle.snoop.specs.Readiness.{is_delivered, is_served}
 
 -- a hart's event of a kind

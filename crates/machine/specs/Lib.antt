@@ -1,3 +1,4 @@
+pub mod Lending
 pub mod MainMemory
 pub mod Opening
 pub mod Promises

@@ -32,6 +32,9 @@ ghost use Rattle.elf_image.specs.Program.{IsProgram};
 ghost use Rattle.engine.specs.Parts.{parts};
 ghost use Rattle.engine.specs.Reached.{Begins};
 ghost use Rattle.hart_state.specs.Own.{HasOwn};
+ghost use Rattle.coherence.specs.Beginning.{line_of};
+ghost use Rattle.line_pool.specs.Pooled.{Pooled};
+ghost use Rattle.machine.specs.Lending.{LendsSection, LendsState, TellsRun, TellsRunSomewhere};
 ghost use Rattle.machine.specs.MainMemory.{main_lines};
 ghost use Rattle.machine.specs.Promises.{
   EndsAreNamed,
@@ -40,7 +43,6 @@ ghost use Rattle.machine.specs.Promises.{
   LosesToLess,
   OthersAreUntouched,
   ReleasesTakeEffect,
-  ShowsStoresOverMemory,
   StampsStay,
   change,
 };
@@ -55,17 +57,19 @@ ghost use Rattle.rv_flat.specs.Step.{action_of};
 ghost use Rattle.run_laws.specs.PrivateRun.{IsArmedRun, IsCoveredRun};
 ghost use Rattle.section_ctl.specs.State as sections;
 ghost use Rattle.section_laws.specs.EachHart.{IsShortArmed};
-ghost use Rattle.section_view.specs.KeptRun.{HoldsMarked, KeepsArmed, KeepsRun};
+ghost use Rattle.section_view.specs.KeptRun.{HoldsMarked, KeepsArmed};
 ghost use Rattle.snoop.specs.Asking.{asking, numbered_asked};
-ghost use Rattle.snoop.specs.Shows.{IsReady, Shows, kept};
+ghost use Rattle.snoop.specs.Shows.{IsReady, Shows, Tells, kept};
 ghost use Rattle.step_laws.specs.Counts.{IsSectionShort};
 
 use crate::fault::MakeFault;
+use crate::lent::Lent;
 use chronicle::History;
 use el_base::{Chronicled, Config, Entry, Event, HartId, Outcome};
 use elf_image::Image;
 use engine::Engine;
 use hart_state::HartState;
+use line_pool::Pool;
 use rv_alu::{Action, HartView};
 use section_ctl::{Armed, Live, Section};
 use snoop::{Asked, Bus};
@@ -255,8 +259,8 @@ impl Machine {
     /// A hart's section with its views and its buffered stores, which are none where no section is live. Where one is,
     /// its view is what its private run has come to, its buffered stores over committed memory, with the acquire's new
     /// value in the lock word, are what the section shows of memory, and each line that it stored to has the write bit.
-    /// Where the hart is armed, its view is what its private run has come to, and the value that is kept is that of its
-    /// word.
+    /// Their bytes are those that [`Machine::lent`] lends with it. Where the hart is armed, its view is what its private
+    /// run has come to, and the value that is kept is that of its word.
     pub fn section_state(&self, hart: HartId) -> &Section
         requires { hart.number < self.now.config.harts }
         ensures live { result.now.live ≡ section_of (state_of self.now) hart.number }
@@ -265,11 +269,9 @@ impl Machine {
         ensures keeps_armed { (reserved : sections.Reserved) → result.now.armed ≡ Some reserved →
             KeepsArmed (committed self.now) hart.number reserved.armed reserved.old result.now.marks.present }
         ensures run { (section : model.Section) → result.now.live ≡ Some section →
-            KeepsRun (committed self.now) hart.number section result.now.marks.present result.now.hold.entries }
-        ensures shows { (section : model.Section) → result.now.live ≡ Some section →
-            ShowsStoresOverMemory (state_of self.now) hart.number section result.now.hold.entries }
-        ensures marked { (section : model.Section) → result.now.live ≡ Some section →
-            HoldsMarked (cache_of (state_of self.now) hart.number) result.now.hold.entries }
+            TellsRunSomewhere (state_of self.now) (committed self.now) hart.number section result.now }
+        ensures marked { (section : model.Section) (pool : Pooled) → result.now.live ≡ Some section →
+            HoldsMarked (cache_of (state_of self.now) hart.number) (sections.hold_in pool result.now).entries }
         ensures nothing { result.now.live ≡ None → result.now.hold.entries ≡ [] }
         ensures view { committed_of result.now.marks ≡ view_of (committed self.now) hart.number }
         ensures shown { result.now.marks.present ≡ shown_of (state_of self.now) hart.number }
@@ -313,6 +315,33 @@ impl Machine {
         ensures memory { (kept result.now).copies.lines ≡ main_lines self.now }
     {
         self.engine.bus()
+    }
+
+    /// The pool in whose slots the copies of all caches and the buffered stores of all sections have their bytes. Each
+    /// hart's cache is owner h of it, and its buffered stores are owner 8 + h; as many slots are out of each as it has
+    /// lines.
+    pub fn pool(&self) -> &Pool
+        ensures { LendsState result.now (state_of self.now) }
+    {
+        self.engine.pool()
+    }
+
+    /// The pool, the bus and a hart's section together, so that the bytes of a copy or of a buffered store may be read.
+    /// Copies and main memory tell the committed bytes of each line, and the stores are those of the section.
+    pub fn lent(&self, hart: HartId) -> Lent<'_>
+        requires { hart.number < self.now.config.harts }
+        ensures ready { IsReady (kept result.bus.now) }
+        ensures shows { Shows (kept result.bus.now) (state_of self.now) }
+        ensures told { Tells result.pool.now (kept result.bus.now) (line_of (committed self.now)) }
+        ensures section { LendsSection result.pool.now (state_of self.now) hart.number result.section.now }
+        ensures run { (section : model.Section) → result.section.now.live ≡ Some section →
+            TellsRun result.pool.now (state_of self.now) (committed self.now) hart.number section result.section.now }
+    {
+        Lent {
+            pool: self.engine.pool(),
+            bus: self.engine.bus(),
+            section: self.engine.section_state(hart),
+        }
     }
 
     /// The committed byte at an address, or none outside memory.

@@ -167,11 +167,12 @@ fn letter(rt: &impl Abort, machine: &Machine, hart: HartId, line: LineAddr) -> L
     bus.sets(hart).letter(line)
 }
 
-/// The byte at an address in main memory, or none outside memory.
-fn main_byte(machine: &Machine, address: u32) -> Option<u8> {
-    let bus = machine.bus();
-    match bus.byte(address) {
-        Some(_) => Some(bus.main_byte(address)),
+/// The byte at an address in main memory, or none outside memory. The hart is one of the machine's.
+fn main_byte(rt: &impl Abort, machine: &Machine, hart: HartId, address: u32) -> Option<u8> {
+    assert!(rt; hart.number < machine.config().harts);
+    let lent = machine.lent(hart);
+    match lent.bus.byte(lent.pool, address) {
+        Some(_) => Some(lent.bus.main_byte(address)),
         None => None,
     }
 }
@@ -304,7 +305,7 @@ fn a_written_line_is_written_back(rt: HostRuntime) -> Result<(), Fail> {
     play(&rt, &mut machine, &stored)?;
     assert_eq!(rt; letter(&rt, &machine, only, line), Letter::M);
     assert_eq!(rt; machine.byte(0x1_1000), Some(5));
-    assert_eq!(rt; main_byte(&machine, 0x1_1000), Some(0));
+    assert_eq!(rt; main_byte(&rt, &machine, only, 0x1_1000), Some(0));
     let gone = [
         (Kind::Step, 0, 1, next),
         (Kind::Order, 0, 1, ordered()),
@@ -313,22 +314,33 @@ fn a_written_line_is_written_back(rt: HostRuntime) -> Result<(), Fail> {
     play(&rt, &mut machine, &gone)?;
     assert_eq!(rt; letter(&rt, &machine, only, line), Letter::I);
     assert_eq!(rt; machine.byte(0x1_1000), Some(5));
-    assert_eq!(rt; main_byte(&machine, 0x1_1000), Some(5));
+    assert_eq!(rt; main_byte(&rt, &machine, only, 0x1_1000), Some(5));
     Ok(())
 }
 
 /// The byte that is buffered at the start of a line, where the line is the first of a hart's buffered stores.
 fn buffered(rt: &impl Abort, machine: &Machine, hart: HartId, line: LineAddr) -> u32 {
     assert!(rt; hart.number < machine.config().harts);
-    let hold = machine.section_state(hart).hold();
+    let lent = machine.lent(hart);
+    let hold = lent.section.hold();
     assert_eq!(rt; hold.first(), Some(line));
-    hold.read_over(line, &[0; 64], 0)
+    hold.read_over(lent.pool, line, &[0; 64], 0)
 }
 
 /// How many lines a hart's section has stored to.
 fn held(rt: &impl Abort, machine: &Machine, hart: HartId) -> usize {
     assert!(rt; hart.number < machine.config().harts);
     machine.section_state(hart).hold().len()
+}
+
+/// How many slots of the pool are out for a hart's cache, and for its buffered stores.
+fn outs(rt: &impl Abort, machine: &Machine, hart: HartId) -> (u16, u16) {
+    let pool = machine.pool();
+    assert_eq!(rt; pool.owners(), 16);
+    (
+        pool.out(u16::from(hart.number)),
+        pool.out(8 + u16::from(hart.number)),
+    )
 }
 
 /// A hart's live section.
@@ -388,6 +400,48 @@ fn a_section_stores_at_its_release(rt: HostRuntime) -> Result<(), Fail> {
     assert_eq!(rt; machine.byte(0x1_1040), Some(5));
     assert_eq!(rt; section(&rt, &machine, only), None);
     assert_eq!(rt; held(&rt, &machine, only), 0);
+    Ok(())
+}
+
+/// A slot is out for each line of a cache, here those of the lock and of the word behind it, and one for each line that
+/// a section has stored to, until its release.
+#[test]
+fn a_slot_is_out_for_each_line_that_is_held(rt: HostRuntime) -> Result<(), Fail> {
+    let only = hart(0)?;
+    let config = Config {
+        mode: Mode::Sle,
+        ..plain(1, 20)
+    };
+    let mut machine = machine(&rt, rt.alloc(), &LOCKS, config)?;
+    let locks = Outcome::Missed {
+        line: line_of(0x1_1000),
+        need: Need::Read,
+    };
+    let writes = Outcome::Missed {
+        line: line_of(0x1_1040),
+        need: Need::Write,
+    };
+    assert_eq!(rt; outs(&rt, &machine, only), (0, 0));
+    let begins = [
+        (Kind::Step, 0, 2, Outcome::Ran),
+        (Kind::Step, 0, 1, locks),
+        (Kind::Order, 0, 1, ordered()),
+        (Kind::Serve, 0, 1, served()),
+        (Kind::Step, 0, 1, Outcome::Began),
+        (Kind::Step, 0, 1, writes),
+    ];
+    play(&rt, &mut machine, &begins)?;
+    assert_eq!(rt; outs(&rt, &machine, only), (1, 0));
+    let stores = [
+        (Kind::Order, 0, 1, ordered()),
+        (Kind::Serve, 0, 1, served()),
+        (Kind::Step, 0, 1, Outcome::Buffered),
+    ];
+    play(&rt, &mut machine, &stores)?;
+    assert_eq!(rt; outs(&rt, &machine, only), (2, 1));
+    let commits = [(Kind::Step, 0, 1, Outcome::Committed { count: 3 })];
+    play(&rt, &mut machine, &commits)?;
+    assert_eq!(rt; outs(&rt, &machine, only), (2, 0));
     Ok(())
 }
 

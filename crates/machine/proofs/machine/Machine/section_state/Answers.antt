@@ -1,7 +1,7 @@
 -- the section that the parts keep
 use Rattle.std.proofs.Common.{◌∙◌, ap, sym}
 use Rattle.machine.proofs.GoesOn.{hart_there, now_in, reached_committed}
-use Rattle.machine.proofs.InSections.{keeps_armed, keeps_run, kept_of, shows_stores}
+use Rattle.machine.proofs.InSections.{keeps_armed, kept_of, lent_here, marked_anywhere, tells_run}
 use Rattle.machine.proofs.machine.Machine.section_state.Goals as goal
 use Rattle.machine.specs.Story.{state_of}
 use Rattle.rv_flat.specs.FlatState.{view_of}
@@ -24,21 +24,21 @@ pub returns-clause-run : goal.returns-clause-run
 returns-clause-run c section live =
     let state = state_of c.args.self.now in
     let is_in = now_in _ _ _ _ c.self.invariant c.self.view_is in
-    keeps_run _ _ _ _ _ section _ c.self.invariant c.self.view_is (c.section_state.ensures.keeps state is_in)
-    (sym (c.section_state.ensures.live state is_in) ∙ live)
-
-pub returns-clause-shows : goal.returns-clause-shows
-returns-clause-shows c section live =
-    let state = state_of c.args.self.now in
-    let is_in = now_in _ _ _ _ c.self.invariant c.self.view_is in
-    shows_stores _ _ _ _ _ section _ c.self.invariant c.self.view_is (c.section_state.ensures.keeps state is_in)
-    (sym (c.section_state.ensures.live state is_in) ∙ live)
+    record {
+      pool = _;
+      lent =
+          (lent_here _ state _ _ is_in (hart_there _ _ _ _ _ c.self.invariant c.self.view_is c.requires) c.section_state.ensures.exact).lent;
+      tells =
+          tells_run _ _ _ _ _ _ section _ c.self.invariant c.self.view_is (c.section_state.ensures.keeps state is_in)
+          (sym (c.section_state.ensures.live state is_in) ∙ live);
+    }
 
 pub returns-clause-marked : goal.returns-clause-marked
-returns-clause-marked c section live =
+returns-clause-marked c section pool live =
     let state = state_of c.args.self.now in
     let is_in = now_in _ _ _ _ c.self.invariant c.self.view_is in
-    (kept_of state _ section _ (c.section_state.ensures.keeps state is_in) (sym (c.section_state.ensures.live state is_in) ∙ live)).marked
+    marked_anywhere _ pool _ c.section_state.result.now
+    (kept_of _ state _ section _ (c.section_state.ensures.keeps state is_in) (sym (c.section_state.ensures.live state is_in) ∙ live)).marked
 
 pub returns-clause-nothing : goal.returns-clause-nothing
 returns-clause-nothing c = c.section_state.ensures.nothing (state_of c.args.self.now) (now_in _ _ _ _ c.self.invariant c.self.view_is)

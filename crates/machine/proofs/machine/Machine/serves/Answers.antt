@@ -1,6 +1,6 @@
 -- what the bus tells of the state
 use Rattle.std.proofs.Common.{◌∙◌, ◌<◌, length, subst, sym}
-use Rattle.engine.proofs.BusEvents.{hart_exists}
+use Rattle.engine.proofs.Laws.BusEvents.{hart_exists}
 use Rattle.machine.proofs.GoesOn.{hart_there, now_in, parts_stand}
 use Rattle.machine.proofs.Readiness.{serve_goes}
 use Rattle.machine.proofs.machine.Machine.serves.Goals as goal

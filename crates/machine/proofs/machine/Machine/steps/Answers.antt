@@ -1,6 +1,6 @@
 -- a step is progress where its hart runs and waits for nothing
 use Rattle.std.proofs.Common.{◌∙◌, sym}
-use Rattle.progress_laws.proofs.Cases.{true_false}
+use Rattle.progress_laws.proofs.Laws.Cases.{true_false}
 use Rattle.machine.proofs.Readiness.{step_goes, step_rests}
 use Rattle.machine.proofs.machine.Machine.steps.Goals as goal
 use Rattle.machine.specs.Story.{state_of}

@@ -5,14 +5,14 @@ use Rattle.std.specs.Prelude.{All, IfSome}
 use Rattle.std.proofs.lemmas.Bool.{cases_lt}
 use Rattle.std.proofs.lemmas.Bool.Decides.{nat_tests}
 use Rattle.std.proofs.lemmas.List.Elements.{All-cons, All-nil}
-use Rattle.bus_order.proofs.Orders.{one_each_removed}
-use Rattle.bus_order.proofs.Queues.{request_of_first_of}
+use Rattle.bus_order.proofs.Laws.Orders.{one_each_removed}
+use Rattle.bus_order.proofs.Laws.Queues.{request_of_first_of}
 use Rattle.bus_order.specs.Order.{IsOneEach, Request}
 use Rattle.defer_list.specs.HartSet.{has}
-use Rattle.el_base.proofs.HartIds.{hart_id-number}
-use Rattle.el_base.proofs.MadeLosers.{count_in-beyond, count_in-freed_of, named_by_map, none_in_no_one}
+use Rattle.el_base.proofs.Laws.HartIds.{hart_id-number}
+use Rattle.el_base.proofs.Laws.MadeLosers.{count_in-beyond, count_in-freed_of, named_by_map, none_in_no_one}
 use Rattle.el_base.specs.Config.{IsInRange}
-use Rattle.cache_sets.specs.Cache.{has_bit}
+use Rattle.residency.specs.Cache.{has_bit}
 use Rattle.el_base.specs.Freed.{count_in, no_one_freed}
 use Rattle.el_base.specs.Losers.{beaten_by, losers_of}
 use Rattle.el_base.specs.Winners.{winner_over}
@@ -26,12 +26,12 @@ use Rattle.el_base.specs.declared.losers.Losers.{Losers}
 use Rattle.el_base.specs.declared.outcomes.Outcome.{Outcome}
 use Rattle.el_base.specs.declared.outcomes.Why.{Why}
 use Rattle.el_base.specs.declared.outcomes.Why.TheVariants.{Behind, Retained, Locked}
-use Rattle.el_model.proofs.Deeds.{step_deed}
-use Rattle.el_model.proofs.Folds.{state_after-append}
-use Rattle.el_model.proofs.FromStart.{kept_after, next_config}
-use Rattle.el_model.proofs.Harts.{hart_of-past}
-use Rattle.el_model.proofs.Keeps.{keeps_before_face, keeps_served}
-use Rattle.el_model.proofs.Tests.{by_test}
+use Rattle.el_model.proofs.Laws.Deeds.{step_deed}
+use Rattle.el_model.proofs.Laws.Folds.{state_after-append}
+use Rattle.el_model.proofs.Laws.FromStart.{kept_after, next_config}
+use Rattle.el_model.proofs.Laws.Harts.{hart_of-past}
+use Rattle.el_model.proofs.Laws.Keeps.{keeps_before_face, keeps_served}
+use Rattle.el_model.proofs.Laws.Tests.{by_test}
 use Rattle.el_model.specs.Conflicts.{conflicts, first_such, holder_of, is_write, retainer_of, stamp_in, told_winner, wins_over}
 use Rattle.el_model.specs.Deed.{Arms, Begins, Buffers, Commits, Continues, Deed, DoesWhere, Elides, LetsGo, Misses, Rests, RollsBack, Runs, Waits}
 use Rattle.el_model.specs.Deed.{outcome_of}
@@ -51,18 +51,18 @@ use Rattle.el_model.specs.State.{ordered_of, ordered_on, raised_of, section_of}
 use Rattle.elf_image.specs.Program.{Program}
 use Rattle.machine.specs.Recording.{AreAmong, AreFreedAmong, CanBeRecorded, OutcomesCanBeRecorded}
 use Rattle.mail.specs.Mailbox.{Marker, Message, Probe}
-use Rattle.section_laws.proofs.ArmedCounts.{armed_sections_are_short}
-use Rattle.section_laws.proofs.Bits.{second_of_both, some_same}
-use Rattle.removal_laws.proofs.Delivering.{own_line}
-use Rattle.removal_laws.proofs.Facing.{least_passes}
-use Rattle.section_laws.proofs.Bounds.{Bounded, always_bounded}
-use Rattle.section_laws.proofs.Numbered.{harts_in_range, next_count, one_ordered_request_each, raised_exists}
-use Rattle.section_laws.proofs.OrderedHarts.{AreBelow, below_kept}
-use Rattle.section_laws.proofs.SectionSteps.{live_exists}
+use Rattle.section_laws.proofs.Laws.ArmedCounts.{armed_sections_are_short}
+use Rattle.section_laws.proofs.Laws.Bits.{second_of_both, some_same}
+use Rattle.removal_laws.proofs.Laws.Delivering.{own_line}
+use Rattle.removal_laws.proofs.Laws.Facing.{least_passes}
+use Rattle.section_laws.proofs.Laws.Bounds.{Bounded, always_bounded}
+use Rattle.section_laws.proofs.Laws.Numbered.{harts_in_range, next_count, one_ordered_request_each, raised_exists}
+use Rattle.section_laws.proofs.Laws.OrderedHarts.{AreBelow, below_kept}
+use Rattle.section_laws.proofs.Laws.SectionSteps.{live_exists}
 use Rattle.section_laws.specs.EachHart.{IsShortArmed}
 use Rattle.stamp.specs.Stamps.{Stamp, is_before}
-use Rattle.step_laws.proofs.Losing.{only_live_sections_lose}
-use Rattle.step_laws.proofs.Short.{sections_are_short}
+use Rattle.step_laws.proofs.Laws.Losing.{only_live_sections_lose}
+use Rattle.step_laws.proofs.Laws.Short.{sections_are_short}
 use Rattle.step_laws.specs.Counts.{IsSectionShort}
 
 -- a number that may be there is below a limit

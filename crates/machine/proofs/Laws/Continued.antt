@@ -3,7 +3,7 @@ use Rattle.std.proofs.Common.{◌≡◌, ◌-◌, length, length-append, arith, 
 use Rattle.std.proofs.lemmas.List.{map-append}
 use Rattle.chronicle.specs.Chronicle.{events}
 use Rattle.el_base.specs.declared.events.Event.{Event}
-use Rattle.el_model.proofs.Folds.{entries_from-append, events-entries_from, length-entries_from, state_after-append}
+use Rattle.el_model.proofs.Laws.Folds.{entries_from-append, events-entries_from, length-entries_from, state_after-append}
 use Rattle.el_model.specs.Next.{after, entries_from, state_after}
 use Rattle.el_model.specs.State.{begin}
 use Rattle.machine.specs.Story.{Story, continued, left_of, state_of}

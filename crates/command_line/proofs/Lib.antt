@@ -1,19 +1,19 @@
-pub mod Agreeing
-pub mod Building
-pub mod Bytes
-pub mod Defaults
-pub mod Digits
-pub mod Ending
-pub mod Flags
-pub mod Looks
-pub mod Names
-pub mod Options
-pub mod Positionals
-pub mod Rows
-pub mod Rules
-pub mod Simple
-pub mod Taken
-pub mod Uses
-pub mod Waiting
-pub mod Walking
-pub mod Worked
+mod Agreeing
+mod Building
+mod Bytes
+mod Defaults
+mod Digits
+mod Ending
+mod Flags
+mod Looks
+mod Names
+mod Options
+mod Positionals
+mod Rows
+mod Rules
+mod Simple
+mod Taken
+mod Uses
+mod Waiting
+mod Walking
+mod Worked

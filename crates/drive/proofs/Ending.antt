@@ -7,7 +7,7 @@ use Rattle.std.specs.Prelude.{IsTrue}
 use mathlib.Core.List.{IsPrefix}
 use mathlib.Core.Logic.{dite}
 use native.Mathlib.Decide.{ℕ_discrete, dec_le}
-use Rattle.bus_lock.proofs.Beginnings.{prefix_length, prefix_onward, prefix_self}
+use Rattle.bus_lock.proofs.Laws.Beginnings.{prefix_length, prefix_onward, prefix_self}
 use Rattle.chronicle.specs.Chronicle.{events}
 use Rattle.drive.proofs.Turning.{before_on, made_on}
 use Rattle.drive.specs.Drivers.{MakesTurns}
@@ -17,7 +17,7 @@ use Rattle.el_base.specs.declared.entries.Entry.{Entry}
 use Rattle.el_base.specs.declared.events.Event.{Event}
 use Rattle.el_model.specs.Next.{is_over, state_after}
 use Rattle.elf_image.specs.Program.{Program}
-use Rattle.machine.proofs.Continued.{state_of_continued}
+use Rattle.machine.proofs.Laws.Continued.{state_of_continued}
 use Rattle.machine.specs.Opening.{opening_of}
 use Rattle.machine.specs.Story.{Story, continued, left_of, state_of}
 

@@ -9,7 +9,7 @@ use Rattle.drive.specs.Drivers.{MakesRoundRobin}
 use Rattle.el_base.specs.declared.events.Event.{Event}
 use Rattle.drive.specs.RoundRobin.{IsEventAt}
 use Rattle.el_model.specs.Next.{is_over, state_after}
-use Rattle.machine.proofs.Continued.{continued_more, left_of_continued, nothing_more, state_of_continued}
+use Rattle.machine.proofs.Laws.Continued.{continued_more, left_of_continued, nothing_more, state_of_continued}
 use Rattle.machine.specs.Story.{Story, continued, left_of, state_of}
 
 -- so many events of a round robin were made, and it may still go on

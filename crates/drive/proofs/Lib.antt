@@ -1,4 +1,4 @@
-pub mod Steps
+pub mod Laws
 mod GoingRound
 mod Recordings
 mod SameOutcomes

@@ -6,13 +6,13 @@ use Rattle.std.proofs.lemmas.List.{same_lists}
 use Rattle.std.proofs.lemmas.Option.{slice_get-get_or, slice_get_read}
 use Rattle.std.proofs.Math.Seq.{take-length}
 use Rattle.std.specs.Prelude.{slice_get}
-use Rattle.drive.proofs.Steps.{one_followed}
+use Rattle.drive.proofs.Laws.Steps.{one_followed}
 use Rattle.drive.specs.Recording.{IsFirstDifference}
 use Rattle.el_base.specs.declared.events.Event.{Event}
 use Rattle.el_base.specs.declared.outcomes.Outcome.{Outcome}
 use Rattle.el_model.specs.Next.{next, outcomes_from, state_after}
 use Rattle.el_model.specs.State.{ModelState}
-use Rattle.machine.proofs.Continued.{nothing_more, state_of_continued}
+use Rattle.machine.proofs.Laws.Continued.{nothing_more, state_of_continued}
 use Rattle.machine.specs.Story.{Story, continued, state_of}
 
 same_Some : {X : Type 0} {x y : X} → Some x ≡ Some y → x ≡ y

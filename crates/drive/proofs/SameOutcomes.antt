@@ -1,9 +1,9 @@
 -- outcomes that compare as equal are the same
 use Rattle.std.proofs.Common.{◌≡◌, ◌∙◌, true, refl, ap, sym, arith}
 use Rattle.std.specs.Cmp.Lexicographic.{same_text}
-use Rattle.el_base.proofs.HartIds.{same_hart}
-use Rattle.el_base.proofs.Lines.{same_line}
-use Rattle.el_base.proofs.SameLosers.{same_freed, same_losers}
+use Rattle.el_base.proofs.Laws.HartIds.{same_hart}
+use Rattle.el_base.proofs.Laws.Lines.{same_line}
+use Rattle.el_base.proofs.Laws.SameLosers.{same_freed, same_losers}
 use Rattle.el_base.specs.Losers.{decoded_winner}
 use Rattle.el_base.specs.NibblePairs.{nibble_in}
 use Rattle.el_base.specs.contracts.freed.FreedPartialEq.TheImpl as of_freed

@@ -14,7 +14,7 @@ use Rattle.el_base.specs.Kinds.{kind_number}
 use Rattle.el_base.specs.declared.entries.Entry.{Entry}
 use Rattle.el_base.specs.declared.events.Event.{Event}
 use Rattle.el_model.specs.Next.{entries_from, is_over}
-use Rattle.machine.proofs.Continued.{continued_more}
+use Rattle.machine.proofs.Laws.Continued.{continued_more}
 use Rattle.machine.specs.Story.{Story, continued, state_of}
 
 own_event : (hart : ℕ) (event : Event) → event.hart.number ≡ hart → of_hart hart (event ∷ []) ≡ event ∷ []

@@ -8,14 +8,14 @@
 #![tactic(auto)]
 
 mod following;
-mod laws;
 mod round;
 mod rounds;
+mod theorems;
 mod threads;
 
 pub use following::{follow, follow_recorded};
-pub use laws::one_round_robin;
 pub use rounds::round_robin;
+pub use theorems::one_round_robin;
 pub use threads::by_threads;
 
 #[cfg(test)]

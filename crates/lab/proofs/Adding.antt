@@ -1,7 +1,7 @@
 -- a number that is added to that of an acquire
 use Rattle.std.proofs.Common.{◌≡◌, ◌∙◌, ℕ, ◌+◌, ◌<◌, Bool, true, false, cond, List, Some, length, take, get_or, refl, ap, subst, sym, add-zero, unwrap_or}
 use Rattle.std.specs.HashMap.{HashMap, get}
-use Rattle.chronicle.proofs.Tallies.{plus_small}
+use Rattle.chronicle.proofs.Laws.Tallies.{plus_small}
 use Rattle.chronicle.specs.Tally.{IsTallyOf, nothing, plus}
 use Rattle.chronicle.specs.declared.tally.Tally.{Tally}
 use Rattle.lab.proofs.Classes.{acquire_is}

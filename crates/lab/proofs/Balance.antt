@@ -7,10 +7,10 @@ use Rattle.el_base.specs.declared.entries.Entry.{Entry}
 use Rattle.el_base.specs.declared.events.Event.{Event}
 use Rattle.el_base.specs.declared.outcomes.Outcome.{Outcome}
 use Rattle.elf_image.specs.Program.{Program}
-use Rattle.el_model.proofs.Folds.{entries_from-append, state_after-append}
+use Rattle.el_model.proofs.Laws.Folds.{entries_from-append, state_after-append}
 use Rattle.el_model.specs.Next.{after, entries_from, next}
 use Rattle.el_model.specs.State.{begin, is_live}
-use Rattle.section_laws.proofs.Accounts.{begun_sections_are_accounted_for}
+use Rattle.section_laws.proofs.Laws.Accounts.{begun_sections_are_accounted_for}
 use Rattle.section_laws.specs.Sections.{begins, commits, count_of, is_began, is_committed, is_rolled_back, loses, rolls_back}
 
 abbrev pub one : Bool → ℕ

@@ -16,8 +16,8 @@ use Rattle.el_base.specs.declared.outcomes.Cause.TheVariants.{Room, Lines, Long,
 use Rattle.el_base.specs.declared.outcomes.Outcome.{Outcome}
 use Rattle.el_base.specs.declared.outcomes.Outcome.TheVariants as outcomes
 use Rattle.elf_image.specs.Program.{Program}
-use Rattle.el_model.proofs.AllHarts.{all_first}
-use Rattle.el_model.proofs.Folds.{entries_from-append, state_after-append}
+use Rattle.el_model.proofs.Laws.AllHarts.{all_first}
+use Rattle.el_model.proofs.Laws.Folds.{entries_from-append, state_after-append}
 use Rattle.el_model.specs.Next.{after, entries_from, next}
 use Rattle.el_model.specs.State.{ModelState, Section, begin, is_live, new_hart, section_of}
 use Rattle.lab.proofs.Balance.{Balanced, balanced, one}

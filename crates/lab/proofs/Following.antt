@@ -6,7 +6,7 @@ use Rattle.std.proofs.lemmas.List.{length-take-le, take_more}
 use Rattle.el_base.specs.Winners.{winner_over}
 use Rattle.el_base.specs.declared.events.Event.{Event}
 use Rattle.el_base.specs.declared.outcomes.Outcome.{Outcome}
-use Rattle.el_model.proofs.Folds.{length-entries_from}
+use Rattle.el_model.proofs.Laws.Folds.{length-entries_from}
 use Rattle.el_model.specs.Next.{entries_from, next, state_after}
 use Rattle.el_model.specs.State.{ModelState, is_live}
 use Rattle.lab.proofs.Growing.{tries_from-push}
@@ -15,7 +15,7 @@ use Rattle.lab.proofs.Noting.{map_same}
 use Rattle.lab.specs.Tries.{AreLive, Moment, begun_in, ended_by, first_end, lost_end, moment_of, noted, own_end, ran_in, tries_from}
 use Rattle.lab.specs.declared.tries.Ended.TheVariants.{Live}
 use Rattle.lab.specs.declared.tries.Try.{Try}
-use Rattle.machine.proofs.Continued.{continued_more, left_of_continued, state_of_continued}
+use Rattle.machine.proofs.Laws.Continued.{continued_more, left_of_continued, state_of_continued}
 use Rattle.machine.specs.Promises.{EndsAreNamed, EndsIt, change}
 use Rattle.machine.specs.Story.{Story, continued, left_of, state_of}
 

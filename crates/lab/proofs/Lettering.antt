@@ -5,7 +5,7 @@ use Rattle.std.proofs.lemmas.List.{get_or-set_other, length-map}
 use Rattle.std.specs.List.{position}
 use Rattle.bus_order.specs.Order.{Request, numbered}
 use Rattle.bus_order.specs.declared.request.Request as requests
-use Rattle.el_base.proofs.ListLaws.{prefix_of_map}
+use Rattle.el_base.proofs.Laws.ListLaws.{prefix_of_map}
 use Rattle.lab.proofs.Tracking.{equal_or}
 use Rattle.moesi.specs.declared.letter.Letter.{Letter}
 use Rattle.moesi.specs.declared.letter.Letter.TheVariants.{I}

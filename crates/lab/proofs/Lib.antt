@@ -1,19 +1,19 @@
-pub mod Ends
-pub mod Growing
-pub mod Living
-pub mod Tracking
-pub mod Noting
-pub mod Balance
-pub mod Counting
-pub mod Following
-pub mod Rows
-pub mod Classes
-pub mod Lettering
-pub mod Telling
-pub mod Swapping
-pub mod Putting
-pub mod Adding
-pub mod Lining
-pub mod Waiting
-pub mod Parting
-pub mod Firsting
+mod Ends
+mod Growing
+mod Living
+mod Tracking
+mod Noting
+mod Balance
+mod Counting
+mod Following
+mod Rows
+mod Classes
+mod Lettering
+mod Telling
+mod Swapping
+mod Putting
+mod Adding
+mod Lining
+mod Waiting
+mod Parting
+mod Firsting

@@ -2,8 +2,8 @@
 use Rattle.std.proofs.Common.{◌≡◌, ◌∙◌, ℕ, zero, suc, ◌+◌, ◌<◌, ◌≤◌, ◌==◌, ◌||◌, nat_eq, Bool, true, false, cond, List, [], ◌∷◌, ◌++◌, Option, Some, None, length, take, get_or, refl, ap, subst, sym, arith, append-nil, append_assoc, eq-eqb}
 use Rattle.std.specs.Prelude.{filter_map}
 use Rattle.std.specs.Cmp.{IsEquivalence}
-use Rattle.cache_sets.specs.Cached.{Cached}
-use Rattle.coherence.specs.Caches.{cache_at}
+use Rattle.cache_sets.specs.Slotted.{Slotted}
+use Rattle.coherence.specs.Lent.{slotted_at}
 use Rattle.std.specs.HashSet.{HashSet, contains}
 use Rattle.std.specs.List.{IsDistinct, flat_map, list_any, range_with_len}
 use Rattle.std.specs.Option.{option_map}
@@ -13,8 +13,8 @@ use Rattle.std.proofs.lemmas.List.{take_all, take_more}
 use Rattle.std.proofs.lemmas.List.Elements.{filter_map-append}
 use Rattle.std.proofs.lemmas.List.Folds.{list_any-append, list_any_more}
 use Rattle.std.proofs.lemmas.Map.Keys.{IsDistinct-push}
-use Rattle.el_base.proofs.HartIds.{hart_id-of_hart}
-use Rattle.el_base.proofs.Lines.{line_addr-of_line}
+use Rattle.el_base.proofs.Laws.HartIds.{hart_id-of_hart}
+use Rattle.el_base.proofs.Laws.Lines.{line_addr-of_line}
 use Rattle.el_base.specs.HartId.{hart_id}
 use Rattle.el_base.specs.LineAddr.{line_addr}
 use Rattle.el_base.specs.declared.events.Event.{Event}
@@ -26,7 +26,7 @@ use Rattle.el_base.specs.declared.losers.Losers.{Losers}
 use Rattle.el_base.specs.declared.freed.Freed.{Freed}
 use Rattle.el_base.specs.declared.outcomes.Outcome.{Outcome}
 use Rattle.el_base.specs.declared.outcomes.Outcome.TheVariants as outcomes
-use Rattle.el_model.proofs.Coming.{by_their_rules}
+use Rattle.el_model.proofs.Laws.Coming.{by_their_rules}
 use Rattle.el_model.specs.Next.{next}
 use Rattle.el_model.specs.State.{ModelState, cache_of, ordered_of}
 use Rattle.engine.specs.MainMemory.{back_by, back_for, if_dirty, leaving_line, line_written_back}
@@ -38,7 +38,7 @@ use Rattle.lab.specs.Lines.{Asking, asked_in, back_facts, facts_by, facts_in, if
 use Rattle.lab.specs.Tries.{line_waited_for}
 use Rattle.lab.specs.declared.lines.Fact.{Fact}
 use Rattle.lab.specs.declared.lines.LineFact.TheVariants.{Lost, Owner}
-use Rattle.machine.proofs.Continued.{state_of_continued}
+use Rattle.machine.proofs.Laws.Continued.{state_of_continued}
 use Rattle.machine.specs.Story.{Story, continued, state_of}
 use Rattle.snoop.specs.Shows.{Kept, Shows}
 
@@ -265,14 +265,14 @@ lines_told before after event outcome place asked old later goes told at was is 
     (λ losers freed served. was (served_is_serve (state_of before) event losers freed served)))
 
 -- what would leave a hart's cache, as the machine shows it
-pub leaving_told : (bus : Kept) (state : ModelState) (sets : Cached) (h line : ℕ) → Shows bus state →
-    sets ≡ cache_at bus.copies.caches h → h < length bus.agents →
+pub leaving_told : (bus : Kept) (state : ModelState) (sets : Slotted) (h line : ℕ) → Shows bus state →
+    sets ≡ slotted_at bus.copies.caches h → h < length bus.agents →
     if_dirty sets.residency (leaving_line sets.ways sets.residency line)
     ≡ if_dirty (cache_of state h) (leaving_line state.config.ways (cache_of state h) line)
 leaving_told bus state sets h line shows is below =
     let there : h < length state.harts = subst (λ n. h < n) shows.agent_each below in
-    ap (λ (c : Cached). if_dirty c.residency (leaving_line c.ways c.residency line)) is
-    ∙ ap (λ w. if_dirty (cache_at bus.copies.caches h).residency (leaving_line w (cache_at bus.copies.caches h).residency line)) (shows.ways h there)
+    ap (λ (c : Slotted). if_dirty c.residency (leaving_line c.ways c.residency line)) is
+    ∙ ap (λ w. if_dirty (slotted_at bus.copies.caches h).residency (leaving_line w (slotted_at bus.copies.caches h).residency line)) (shows.ways h there)
     ∙ ap (λ r. if_dirty r (leaving_line state.config.ways r line)) (shows.caches h)
 
 -- where nothing was served, nothing is written back

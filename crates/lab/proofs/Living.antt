@@ -7,7 +7,7 @@ use Rattle.el_base.specs.declared.events.Event.{Event}
 use Rattle.el_base.specs.declared.hart_id.HartId.{HartId}
 use Rattle.el_base.specs.declared.outcomes.Outcome.{Outcome}
 use Rattle.el_base.specs.declared.outcomes.Outcome.TheVariants as outcomes
-use Rattle.el_model.proofs.Coming.{by_their_rules}
+use Rattle.el_model.proofs.Laws.Coming.{by_their_rules}
 use Rattle.el_model.specs.Armed.{Elides}
 use Rattle.el_model.specs.Causes.{GoesArmed, GoesOutside}
 use Rattle.el_model.specs.Next.{next}

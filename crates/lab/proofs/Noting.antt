@@ -3,8 +3,8 @@ use Rattle.std.proofs.Common.{◌≡◌, ◌∙◌, ℕ, ◌+◌, ◌<◌, ◌==
 use Rattle.std.specs.Option.{option_map}
 use Rattle.std.proofs.lemmas.Bool.Decides.{nat_tests}
 use Rattle.std.proofs.lemmas.List.{append-nil}
-use Rattle.el_base.proofs.HartIds.{hart_id-of_hart}
-use Rattle.el_base.proofs.Lines.{line_addr-of_line}
+use Rattle.el_base.proofs.Laws.HartIds.{hart_id-of_hart}
+use Rattle.el_base.proofs.Laws.Lines.{line_addr-of_line}
 use Rattle.el_base.specs.HartId.{hart_id}
 use Rattle.el_base.specs.LineAddr.{line_addr}
 use Rattle.el_base.specs.Winners.{winner_over}

@@ -2,7 +2,7 @@
 use Rattle.std.proofs.Common.{◌≡◌, ◌∙◌, ℕ, ◌+◌, ◌<◌, List, [], ◌∷◌, ◌++◌, length, take, get_or, refl, ap, sym}
 use Rattle.std.proofs.lemmas.List.{take_more}
 use Rattle.std.proofs.lemmas.List.Sums.{sum_by_push}
-use Rattle.chronicle.proofs.Tallies.{none_small, plus_small, sum_fits}
+use Rattle.chronicle.proofs.Laws.Tallies.{none_small, plus_small, sum_fits}
 use Rattle.chronicle.specs.Tally.{nothing, plus}
 use Rattle.lab.specs.Locks.{of_acquire, tally_at}
 use Rattle.lab.specs.declared.tries.Acquire.{Acquire}

@@ -8,13 +8,13 @@ use Rattle.el_base.specs.declared.hart_id.HartId.{HartId}
 use Rattle.el_base.specs.declared.outcomes.Outcome.{Outcome}
 use Rattle.el_base.specs.declared.outcomes.Outcome.TheVariants as outcomes
 use Rattle.el_base.specs.declared.config.Config.{Config}
-use Rattle.el_model.proofs.Coming.{by_their_rules}
-use Rattle.el_model.proofs.FromStart.{kept_after, next_config}
+use Rattle.el_model.proofs.Laws.Coming.{by_their_rules}
+use Rattle.el_model.proofs.Laws.FromStart.{kept_after, next_config}
 use Rattle.el_model.specs.Next.{next, shown_of, view_in, view_outside}
 use Rattle.el_model.specs.State.{ModelState, armed_of, begin, hart_of, section_of}
 use Rattle.el_model.specs.Upcoming as model
-use Rattle.engine.proofs.Places.{keeps_place}
-use Rattle.engine.proofs.Swaps.{swap_action}
+use Rattle.engine.proofs.Laws.Places.{keeps_place}
+use Rattle.engine.proofs.Laws.Swaps.{swap_action}
 use Rattle.hart_state.specs.Own.{HasOwn, Own}
 use Rattle.lab.specs.Swaps.{as_plain, first_no, if_ran, next_plain, swaps_in, why_not}
 use Rattle.lab.specs.declared.swaps.NotElided.{NotElided}
@@ -28,7 +28,7 @@ use Rattle.rv_alu.specs.declared.span.Span.{Span}
 use Rattle.rv_flat.specs.FlatState.{FlatState, start, view_of}
 use Rattle.rv_flat.specs.Memory.{byte_in}
 use Rattle.rv_flat.specs.Step.{action_of}
-use Rattle.step_rules.proofs.NextAction.{next_swap}
+use Rattle.step_rules.proofs.Laws.NextAction.{next_swap}
 use Rattle.step_rules.specs.Actions.{IsNext, swap_over}
 use Rattle.step_rules.specs.declared.upcoming.Exchange.{Exchange}
 

@@ -2,11 +2,11 @@
 use Rattle.std.proofs.Common.{◌≡◌, ◌∙◌, ℕ, ◌+◌, ◌<◌, List, [], ◌∷◌, ◌++◌, length, take, get_or, ap, sym, arith, add-zero, append_assoc, length-append}
 use Rattle.std.proofs.lemmas.List.{append-nil, take_more}
 use Rattle.el_base.specs.declared.events.Event.{Event}
-use Rattle.el_model.proofs.Folds.{length-entries_from}
+use Rattle.el_model.proofs.Laws.Folds.{length-entries_from}
 use Rattle.el_model.specs.Next.{entries_from, next, state_after}
 use Rattle.el_model.specs.State.{ModelState}
 use Rattle.lab.specs.Told.{told_from}
-use Rattle.machine.proofs.Continued.{state_of_continued}
+use Rattle.machine.proofs.Laws.Continued.{state_of_continued}
 use Rattle.machine.specs.Story.{Story, continued, state_of}
 
 module _ {X : Type 0} (tells : ModelState → ℕ → Event → List X) where

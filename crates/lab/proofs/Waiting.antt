@@ -5,7 +5,7 @@ use Rattle.std.proofs.lemmas.Bool.Decides.{nat_tests}
 use Rattle.std.proofs.Math.Nat.{le_of_lt}
 use Rattle.std.proofs.lemmas.List.{length-take-le, take_all, take_more}
 use Rattle.std.proofs.lemmas.List.Folds.{list_any-append}
-use Rattle.el_base.proofs.FreedOrder.{order_below-more}
+use Rattle.el_base.proofs.Laws.FreedOrder.{order_below-more}
 use Rattle.el_base.specs.Freed.{count_in, order_below, order_of}
 use Rattle.el_base.specs.declared.entries.Entry.{Entry}
 use Rattle.el_base.specs.declared.freed.Freed.{Freed}

@@ -3,7 +3,7 @@ use Rattle.std.specs.Prelude.{ℕ, zero, suc, Bool, true, false, List, [], ◌�
 use Rattle.std.specs.List.{flat_map, range_with_len}
 use Rattle.std.specs.Option.{option_map}
 use Rattle.bus_order.specs.Order.{Request}
-use Rattle.cache_sets.specs.Cache.{letter_of}
+use Rattle.residency.specs.Cache.{letter_of}
 use Rattle.el_base.specs.HartId.{hart_id}
 use Rattle.el_base.specs.LineAddr.{line_addr}
 use Rattle.el_base.specs.Losers.{beaten_by}

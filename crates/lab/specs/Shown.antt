@@ -5,7 +5,7 @@ use Rattle.std.specs.Option.{option_map}
 use Rattle.bus_order.specs.Order as order
 use Rattle.bus_order.specs.Order.{Request}
 use Rattle.bus_order.specs.declared.request.Request as requests
-use Rattle.cache_sets.specs.Cache.{letter_of}
+use Rattle.residency.specs.Cache.{letter_of}
 use Rattle.el_base.specs.declared.events.Kind.{Kind}
 use Rattle.el_base.specs.declared.events.Kind.TheVariants as kinds
 use Rattle.el_model.specs.Next.{shown_of}

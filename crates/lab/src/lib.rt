@@ -8,7 +8,6 @@
 #![tactic(auto)]
 
 mod follow;
-mod laws;
 mod line_rows;
 mod lines;
 mod lock_rows;
@@ -16,11 +15,11 @@ mod locks;
 mod releases;
 mod showing;
 mod swaps;
+mod theorems;
 mod tries;
 mod waits;
 
 pub use follow::{Watched, watch};
-pub use laws::{parts_sum_to_all, rows_sum_to_the_report, sections_are_those_of_the_report};
 pub use line_rows::{LineCount, LineCounts, line_counts, lines_of};
 pub use lines::{Fact, LineFact};
 pub use lock_rows::{AcquireCounts, Tallies, losses_to, lost_instr, plain_swaps, tally_acquires};
@@ -28,6 +27,7 @@ pub use locks::acquires_of;
 pub use releases::{Parted, part_releases};
 pub use showing::{Letters, Shown, Sight, What, show};
 pub use swaps::{NotElided, PlainSwap};
+pub use theorems::{parts_sum_to_all, rows_sum_to_the_report, sections_are_those_of_the_report};
 pub use timetable::{Times, tabulate};
 pub use tries::{Acquire, Ended, Tries, Try};
 pub use waits::{Wait, wait_of};

@@ -4,7 +4,7 @@ ghost use Rattle.std.specs.Prelude.{◌≡◌, ◌<◌, ◌≤◌, ◌∷◌, �
 ghost use Rattle.std.specs.List.{position};
 ghost use Rattle.std.specs.Option.{option_map};
 ghost use Rattle.bus_order.specs.Order as order;
-ghost use Rattle.cache_sets.specs.Cache.{letter_of};
+ghost use Rattle.residency.specs.Cache.{letter_of};
 ghost use Rattle.el_model.specs.Next.{next};
 ghost use Rattle.el_model.specs.State.{cache_of, hart_of, ordered_of, raised_of};
 ghost use Rattle.lab.specs.Shown.{AreLetters, IsSightOf, Tells, about_of};

@@ -1,1 +1,1 @@
-pub mod Barring
+mod Barring

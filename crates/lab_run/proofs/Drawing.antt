@@ -8,7 +8,7 @@ use Rattle.std.specs.Prelude.{slice_get, IsTrue}
 use Rattle.el_base.specs.declared.events.Event.{Event}
 use Rattle.el_model.specs.Next.{is_over, state_after}
 use Rattle.lab_run.specs.Drawn.{MakesDrawn}
-use Rattle.machine.proofs.Continued.{continued_more, left_of_continued, nothing_more, state_of_continued}
+use Rattle.machine.proofs.Laws.Continued.{continued_more, left_of_continued, nothing_more, state_of_continued}
 use Rattle.machine.specs.Story.{Story, continued, left_of, state_of}
 use Rattle.schedule.specs.Drawn.{IsDrawnAt}
 

@@ -7,7 +7,7 @@ use Rattle.el_base.specs.declared.events.Event.{Event}
 use Rattle.el_base.specs.declared.events.Kind.{Kind}
 use Rattle.el_base.specs.declared.events.Kind.TheVariants.{Step, Order, Serve, Deliver}
 use Rattle.el_base.specs.Kinds.{kind_number}
-use Rattle.el_base.proofs.HartIds.{same_hart}
+use Rattle.el_base.proofs.Laws.HartIds.{same_hart}
 use Rattle.el_model.specs.Next.{is_over, state_after}
 use Rattle.el_model.specs.State.{ModelState}
 use Rattle.lab_run.specs.Drawn.{AreDrawn}

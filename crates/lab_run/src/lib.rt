@@ -8,12 +8,12 @@
 #![tactic(auto)]
 
 mod drawn;
-mod laws;
 mod listed;
+mod theorems;
 
 pub use drawn::run_drawn;
-pub use laws::one_run_of_a_seed;
 pub use listed::run_listed;
+pub use theorems::one_run_of_a_seed;
 
 #[cfg(test)]
 mod tests;

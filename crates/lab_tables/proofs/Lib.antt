@@ -1,3 +1,3 @@
-pub mod Pushing
-pub mod LockRowing
-pub mod LineRowing
+mod Pushing
+mod LockRowing
+mod LineRowing

@@ -4,7 +4,7 @@ use Rattle.std.specs.Prelude.{count_by, filter, slice_get}
 use Rattle.std.specs.Global.{Vec}
 use Rattle.std.proofs.lemmas.List.{map-append, take_all, take_more}
 use Rattle.std.proofs.lemmas.List.Sums.{sum_by-cons}
-use Rattle.el_base.proofs.HartIds.{same_hart}
+use Rattle.el_base.proofs.Laws.HartIds.{same_hart}
 use Rattle.el_base.specs.declared.hart_id.HartId.{HartId}
 use Rattle.el_base.specs.declared.line.LineAddr.{LineAddr}
 use Rattle.lab.specs.LineRows.{AreCountsOf, counts_on, is_counted, is_on}

@@ -2,7 +2,7 @@
 use Rattle.std.proofs.Common.{◌≡◌, ◌∙◌, ℕ, zero, suc, ◌+◌, List, [], ◌∷◌, ◌++◌, ap, sym, arith, append-nil, append_assoc}
 use Rattle.std.specs.List.{flat_map, range_with_len}
 use Rattle.std.proofs.lemmas.Grind.{flat_map-append}
-use Rattle.el_base.proofs.HartIds.{hart_id-of_hart}
+use Rattle.el_base.proofs.Laws.HartIds.{hart_id-of_hart}
 use Rattle.el_base.specs.HartId.{hart_id}
 use Rattle.el_base.specs.declared.hart_id.HartId.{HartId}
 

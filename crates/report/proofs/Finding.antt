@@ -6,7 +6,7 @@ use Rattle.report.proofs.Putting.{put_stopped, put_then_all, put_then_part, same
 use Rattle.report.specs.Line.{number_line}
 use Rattle.report.specs.PlaceText.{found_text}
 use Rattle.report.specs.Puts.{PutAll, PutPart, SinkState}
-use Rattle.step_back.proofs.Places.{last_place, next_place, places_split, places_to}
+use Rattle.step_back.proofs.Laws.Places.{last_place, next_place, places_split, places_to}
 use Rattle.step_back.specs.Standing.{HasNoNext, IsNext, Standing, comes_to}
 
 module _ (standing : Standing) (hart pc : ℕ) where

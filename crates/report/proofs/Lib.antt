@@ -1,6 +1,6 @@
 mod Counted
 mod EachHart
 mod Losing
-pub mod Putting
+mod Putting
 mod Reporting
 mod Finding

@@ -94,9 +94,11 @@ fn count_losses(tallies: &mut Tallies, outcome: Outcome)
     ensures { (hart : ℕ) → hart < 8 →
         tally_at tallies.new hart ≡ with_loss (tally_at tallies.old hart) (has_lost hart outcome) }
 {
-    let losers = outcome.losers();
-    if losers != Losers::none() {
-        count_losers(tallies, losers);
+    match outcome {
+        Outcome::Ordered { losers, .. }
+        | Outcome::Served { losers, .. }
+        | Outcome::Delivered { losers } => count_losers(tallies, losers),
+        _ => (),
     }
 }
 

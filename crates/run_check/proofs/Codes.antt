@@ -6,8 +6,8 @@ use Rattle.std.specs.Prelude.{replicate}
 use Rattle.std.proofs.lemmas.Bool.Decides.{nat_tests}
 use Rattle.std.proofs.lemmas.List.{append-nil, length-append, length-replicate, replicate-append-replicate, take_all}
 use Rattle.std.proofs.lemmas.List.Concat.{flat_map-append}
-use Rattle.el_base.proofs.FreedOrder.{length-order_below-more}
-use Rattle.el_base.proofs.HartIds.{hart_id-of_hart}
+use Rattle.el_base.proofs.Laws.FreedOrder.{length-order_below-more}
+use Rattle.el_base.proofs.Laws.HartIds.{hart_id-of_hart}
 use Rattle.el_base.specs.Freed.{order_below, order_of}
 use Rattle.el_base.specs.declared.freed.Freed.{Freed}
 use Rattle.el_base.specs.declared.hart_id.HartId.{HartId}

@@ -1,7 +1,7 @@
 -- The items that are read of a file.
 use Rattle.std.proofs.Common.{◌≡◌, ℕ, ◌<◌, ◌^◌, List, sym, ap, subst, ◌∙◌}
-use Rattle.el_base.proofs.HartIds.{same_hart, hart_id-number}
-use Rattle.el_base.proofs.Lines.{same_line, line_addr-number}
+use Rattle.el_base.proofs.Laws.HartIds.{same_hart, hart_id-number}
+use Rattle.el_base.proofs.Laws.Lines.{same_line, line_addr-number}
 use Rattle.el_base.specs.HartId.{hart_id}
 use Rattle.el_base.specs.LineAddr.{line_addr}
 use Rattle.el_base.specs.declared.hart_id.HartId.{HartId}

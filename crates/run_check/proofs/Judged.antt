@@ -8,8 +8,8 @@ use Rattle.std.proofs.lemmas.Bool.Decides.{nat_tests}
 use Rattle.std.proofs.lemmas.List.{append-nil, drop_all, get_or_past, length-take-le, length-drop}
 use Rattle.std.proofs.lemmas.List.FromFn.{fill_by_all, get_or-map-range_with_len, length-map-range_with_len}
 use Rattle.byteorder.specs.Endian.{little_bytes}
-use Rattle.el_base.proofs.HartIds.{hart_id-number}
-use Rattle.el_base.proofs.Lines.{line_addr-number}
+use Rattle.el_base.proofs.Laws.HartIds.{hart_id-number}
+use Rattle.el_base.proofs.Laws.Lines.{line_addr-number}
 use Rattle.el_base.specs.Firsts.{first_of}
 use Rattle.rv_flat.specs.FlatState.{no_hart, output_limit}
 use Rattle.run_check.specs.declared.content.Patch.{Patch}

@@ -1,16 +1,16 @@
-pub mod CertificateRules
-pub mod Codes
-pub mod FieldFaults
-pub mod FirstBelow
-pub mod Gathering
-pub mod Items
-pub mod Judged
-pub mod Pieces
-pub mod ReachedStates
-pub mod Registers
-pub mod RulesSame
-pub mod Runs
-pub mod Spelled
-pub mod Verdicts
-pub mod Walk
-pub mod WrittenHolds
+pub mod Laws
+mod CertificateRules
+mod Codes
+mod FieldFaults
+mod FirstBelow
+mod Gathering
+mod Items
+mod Judged
+mod Pieces
+mod Registers
+mod RulesSame
+mod Runs
+mod Spelled
+mod Verdicts
+mod Walk
+mod WrittenHolds

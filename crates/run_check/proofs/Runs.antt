@@ -12,7 +12,7 @@ use Rattle.std.proofs.lemmas.List.FromFn.{length-map-range_with_len}
 use Rattle.rv_flat.specs.FlatState.{FlatState, first_view, no_hart, start}
 use Rattle.rv_flat.specs.Run.{alone, run}
 use Rattle.rv_flat.specs.Step.{flat}
-use Rattle.rv_flat.proofs.StepLaws.{alone_sum, keeps_shape, run_append}
+use Rattle.rv_flat.proofs.Laws.StepLaws.{alone_sum, keeps_shape, run_append}
 use Rattle.el_base.specs.HartId.{hart_id}
 use Rattle.run_check.specs.Content.{steps_in, written_out}
 use Rattle.run_check.specs.Rules.{steps_before}

@@ -9,7 +9,7 @@ use Rattle.std.proofs.lemmas.Bool.Decides.{nat_tests}
 use Rattle.std.proofs.lemmas.List.{append-nil, get_or-drop, get_or-take}
 use Rattle.std.specs.Prelude.{All}
 use Rattle.chronicle.specs.Serial.{serial}
-use Rattle.el_base.proofs.Lines.{line_addr-number}
+use Rattle.el_base.proofs.Laws.Lines.{line_addr-number}
 use Rattle.el_base.specs.declared.entries.Entry.{Entry}
 use Rattle.elf_image.specs.Program.{IsProgram, Program}
 use Rattle.rv_flat.specs.FlatState.{FlatState, start}

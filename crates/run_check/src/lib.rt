@@ -14,10 +14,10 @@ mod content;
 mod fault;
 mod fields;
 mod judging;
-mod laws;
 mod reached;
 mod reading;
 mod stretches;
+mod theorems;
 mod verdict;
 mod writing;
 
@@ -26,9 +26,11 @@ pub use checking::check;
 pub use content::{Certificate, Patch, Stretch};
 pub use fault::{CertFault, FaultKind, fault_name};
 pub use judging::MAX_FILE_BYTES;
-pub use laws::{grammar, one_verdict, reached_states_can_be_certified, written_certificates_hold};
 pub use reached::Reached;
 pub use reading::read_certificate;
+pub use theorems::{
+    grammar, one_verdict, reached_states_can_be_certified, written_certificates_hold,
+};
 pub use verdict::{Difference, Verdict, difference_name};
 pub use writing::write_certificate;
 

@@ -5,7 +5,7 @@ use Rattle.std.proofs.lemmas.Bool.{cases_lt}
 use Rattle.std.proofs.lemmas.List.{get_or-replicate, length-replicate}
 use Rattle.std.proofs.lemmas.List.Elements.{All-append, All-cons, All-get_or, All-nil, All-replicate}
 use Rattle.chronicle.specs.Serial.{serial, taking_effect}
-use Rattle.el_base.proofs.FreedOrder.{order_below-more}
+use Rattle.el_base.proofs.Laws.FreedOrder.{order_below-more}
 use Rattle.el_base.specs.Freed.{count_in, order_below, order_of}
 use Rattle.el_base.specs.declared.entries.Entry.{Entry}
 use Rattle.el_base.specs.declared.freed.Freed.{Freed}

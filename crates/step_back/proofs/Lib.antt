@@ -1,6 +1,5 @@
-pub mod Tracks
-pub mod Serials
-pub mod Freed
-pub mod Existing
-pub mod Replayed
-pub mod Places
+pub mod Laws
+mod Tracks
+mod Serials
+mod Freed
+mod Replayed

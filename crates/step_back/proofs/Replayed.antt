@@ -4,7 +4,7 @@ use Rattle.chronicle.specs.Serial.{serial}
 use Rattle.el_base.specs.declared.config.Config.{Config}
 use Rattle.el_base.specs.declared.entries.Entry.{Entry}
 use Rattle.el_base.specs.declared.events.Event.{Event}
-use Rattle.el_model.proofs.Folds.{serial_run}
+use Rattle.el_model.proofs.Laws.Folds.{serial_run}
 use Rattle.el_model.specs.Next.{after, entries_from, next}
 use Rattle.el_model.specs.State.{ModelState, begin}
 use Rattle.elf_image.specs.Program.{Program}

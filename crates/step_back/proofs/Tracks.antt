@@ -3,7 +3,7 @@ use Rattle.std.proofs.Common.{◌≡◌, ℕ, List, [], ◌∷◌, ◌++◌, len
 use Rattle.std.proofs.lemmas.List.{length-map, map-append}
 use Rattle.std.proofs.lemmas.List.FromFn.{length-map-range_with_len}
 use Rattle.elf_image.specs.Program.{Program}
-use Rattle.rv_flat.proofs.StepLaws.{keeps_shape, run_append}
+use Rattle.rv_flat.proofs.Laws.StepLaws.{keeps_shape, run_append}
 use Rattle.rv_flat.specs.declared.change.Change.{Change}
 use Rattle.rv_flat.specs.Change.{IsLeftBy}
 use Rattle.rv_flat.specs.FlatState.{FlatState, first_view, start}

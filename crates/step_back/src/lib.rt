@@ -10,12 +10,12 @@
 
 mod copies;
 mod effect;
-mod laws;
 mod making;
+mod theorems;
 mod timeline;
 mod trail;
 
-pub use laws::shows_what_a_machine_has_committed;
+pub use theorems::shows_what_a_machine_has_committed;
 pub use timeline::Timeline;
 
 #[cfg(test)]

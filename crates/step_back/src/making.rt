@@ -18,7 +18,7 @@ use trace_file::Trace;
 impl Timeline {
     /// The run of a program that a trace tells of, before its first event. It takes all memory, of which a
     /// machine that follows the trace is given back.
-    #[tactic(auto, using(crate::proofs::Existing::run_exists))]
+    #[tactic(auto, using(crate::proofs::Laws::Existing::run_exists))]
     pub fn make(alloc: Global, image: Image, trace: &Trace) -> Result<Timeline, NoMemory>
         requires in_range { IsInRange trace.now.config }
         requires one_hart_each { image.harts ≡ trace.now.config.harts }

@@ -4,21 +4,21 @@ use Rattle.std.specs.Prelude.{All}
 use Rattle.std.proofs.lemmas.List.{length-map}
 use Rattle.chronicle.specs.Chronicle.{Chronicle, events}
 use Rattle.chronicle.specs.Serial.{serial}
-use Rattle.el_base.proofs.Ranges.{at_most, ranges}
+use Rattle.el_base.proofs.Laws.Ranges.{at_most, ranges}
 use Rattle.el_base.specs.Config.{IsInRange}
 use Rattle.el_base.specs.declared.entries.Entry.{Entry}
 use Rattle.el_base.specs.declared.events.Event.{Event}
-use Rattle.el_model.proofs.Folds.{events-entries_from, outcomes-entries_from}
+use Rattle.el_model.proofs.Laws.Folds.{events-entries_from, outcomes-entries_from}
 use Rattle.el_model.specs.Next.{entries_from}
 use Rattle.el_model.specs.State.{begin}
 use Rattle.elf_image.specs.Program.{Program}
 use Rattle.machine.specs.Recording.{CanBeRecorded}
 use Rattle.machine.specs.Story.{IsOneRun, Story, committed, history_of, memory_of}
-use Rattle.run_check.proofs.ReachedStates.{reached_is_state}
+use Rattle.run_check.proofs.Laws.ReachedStates.{reached_is_state}
 use Rattle.run_check.specs.Certified.{IsHistoryOf, IsStateOf}
 use Rattle.rv_flat.specs.FlatState.{span_of}
-use Rattle.section_laws.proofs.SerialLength.{serial_order_is_no_longer}
-use Rattle.step_back.proofs.Existing.{serial_exists}
+use Rattle.section_laws.proofs.Laws.SerialLength.{serial_order_is_no_longer}
+use Rattle.step_back.proofs.Laws.Existing.{serial_exists}
 use Rattle.trace_file.specs.Spelling.{outcomes}
 
 -- entries are told apart by their events and outcomes

@@ -1,15 +1,15 @@
-pub mod Answering
-pub mod Certifying
-pub mod Differences
-pub mod Failing
-pub mod Files
-pub mod Putting
-pub mod Recording
-pub mod Refusing
-pub mod Repeating
-pub mod Running
-pub mod Succeeding
-pub mod Timelines
-pub mod TraceLengths
-pub mod Worked
-pub mod Writing
+pub mod Laws
+mod Answering
+mod Certifying
+mod Differences
+mod Failing
+mod Files
+mod Putting
+mod Refusing
+mod Repeating
+mod Running
+mod Succeeding
+mod Timelines
+mod TraceLengths
+mod Worked
+mod Writing

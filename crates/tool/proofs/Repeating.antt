@@ -10,26 +10,26 @@ use Rattle.std.proofs.lemmas.Bool.Decides.{nat_tests}
 use Rattle.chronicle.specs.Chronicle.{events}
 use Rattle.command_line.specs.Settings.{config_of}
 use Rattle.command_line.specs.Words.{ReplayJob, RunJob}
-use Rattle.el_base.proofs.Ranges.{ranges, at_least, at_most}
+use Rattle.el_base.proofs.Laws.Ranges.{ranges, at_least, at_most}
 use Rattle.el_base.specs.Config.{IsInRange}
 use Rattle.el_base.specs.declared.events.Event.{Event}
 use Rattle.el_base.specs.declared.outcomes.Outcome.{Outcome}
 use Rattle.el_base.specs.declared.config.Config.{Config}
 use Rattle.drive.specs.RoundRobin.{IsRoundRobin, IsEventAt}
 use Rattle.el_model.specs.Next.{entries_from, next}
-use Rattle.el_model.proofs.Folds.{length-entries_from, outcomes-entries_from}
+use Rattle.el_model.proofs.Laws.Folds.{length-entries_from, outcomes-entries_from}
 use Rattle.el_model.specs.State.{ModelState, begin}
 use Rattle.elf_image.specs.Limits.{file_limit}
 use Rattle.elf_image.specs.Loaded.{program_of}
 use Rattle.elf_image.specs.Program.{Program}
-use Rattle.machine.proofs.Continued.{continued_twice, left_of_continued, nothing_more}
-use Rattle.machine.proofs.Recording.{outcomes_can_be_recorded}
+use Rattle.machine.proofs.Laws.Continued.{continued_twice, left_of_continued, nothing_more}
+use Rattle.machine.proofs.Laws.Recording.{outcomes_can_be_recorded}
 use Rattle.machine.specs.Recording.{CanBeRecorded}
 use Rattle.machine.specs.Story.{Story, committed, continued, left_of, state_of}
 use Rattle.trace_file.specs.Faults.{config_at, trace_fault}
 use Rattle.trace_file.specs.Outcomes.{most_committed}
 use Rattle.trace_file.specs.Spelling.{AreRecorded, IsTrace, outcomes, spelling}
-use Rattle.trace_file.proofs.Spelled.{no_fault, one_spelling}
+use Rattle.trace_file.proofs.Laws.Spelled.{no_fault, one_spelling}
 use Rattle.report.specs.Text.{report_of}
 use Rattle.tool.specs.declared.refusal.Refusal.{Refusal}
 use Rattle.tool.specs.declared.status.Status.TheVariants.{Differs, Done, HartFailed, StepLimit}
@@ -39,7 +39,7 @@ use Rattle.tool.specs.Answer.{Answer, Besides, WrittenFile, certified_by, ended,
 use Rattle.tool.specs.Jobs.{DriversMade, FollowAnswer, IsReplayed, MakesRun, RanAnswer, ReplayAnswer, RunAnswer, UnlessRefused, besides_replay, besides_run, first_story}
 use Rattle.tool.specs.Laws.{SaysTheSame}
 use Rattle.tool.proofs.Files.{loaded_harts, spelled_harts}
-use Rattle.tool.proofs.Recording.{are_recordable}
+use Rattle.tool.proofs.Laws.Recording.{are_recordable}
 use Rattle.tool.proofs.TraceLengths.{length-spelling}
 use Rattle.tool.specs.Refusals.{config_refusal, image_refusal, replay_refusal, run_refusal, size_refusal, trace_limit, trace_refusal}
 

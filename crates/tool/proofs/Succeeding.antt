@@ -6,7 +6,7 @@ use Rattle.chronicle.specs.Serial.{serial}
 use Rattle.elf_image.specs.Program.{Program}
 use Rattle.elf_image.specs.Loaded.{program_of}
 use Rattle.machine.specs.Story.{Story, committed}
-use Rattle.rv_flat.proofs.StepLaws.{keeps_shape}
+use Rattle.rv_flat.proofs.Laws.StepLaws.{keeps_shape}
 use Rattle.rv_flat.specs.FlatState.{FlatState, first_view, no_hart, start, view_of}
 use Rattle.rv_flat.specs.Run.{run}
 use Rattle.rv_flat.specs.Step.{flat}

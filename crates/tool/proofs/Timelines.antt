@@ -1,6 +1,6 @@
 -- What `look` and `find` answer, from what was found in files.
 use Rattle.std.proofs.Common.{◌≡◌, ◌∙◌, ℕ, ◌-◌, ◌<◌, ◌≤◌, ◌^◌, List, [], ◌∷◌, length, Option, None, refl, ap, subst, sym, arith}
-use Rattle.el_base.proofs.Ranges.{at_most, ranges}
+use Rattle.el_base.proofs.Laws.Ranges.{at_most, ranges}
 use Rattle.el_base.specs.declared.config.Config.{Config}
 use Rattle.el_base.specs.declared.events.Event.{Event}
 use Rattle.el_base.specs.declared.outcomes.Outcome.{Outcome}
@@ -9,11 +9,11 @@ use Rattle.el_io.specs.Shelf.{Contents, Holds}
 use Rattle.elf_image.specs.Limits.{file_limit}
 use Rattle.elf_image.specs.Loaded.{program_of}
 use Rattle.elf_image.specs.Program.{Program}
-use Rattle.el_model.proofs.Folds.{length-entries_from}
+use Rattle.el_model.proofs.Laws.Folds.{length-entries_from}
 use Rattle.el_model.specs.Next.{entries_from}
 use Rattle.el_model.specs.State.{begin}
 use Rattle.machine.specs.Story.{continued}
-use Rattle.trace_file.proofs.OutcomeLaws.{number_again}
+use Rattle.trace_file.proofs.Laws.OutcomeLaws.{number_again}
 use Rattle.elf_image.specs.Faults.{fault}
 use Rattle.step_back.specs.Standing.{Standing}
 use Rattle.trace_file.specs.Faults.{config_at}

@@ -14,15 +14,15 @@ mod difference;
 mod doing;
 mod ended;
 mod ending;
-mod laws;
 mod looking;
 mod made;
 mod refusal;
 mod status;
 mod stop;
 mod telling;
+mod theorems;
 mod top_call;
 
-pub use laws::replay_repeats_run;
 pub use status::Status;
+pub use theorems::replay_repeats_run;
 pub use top_call::tool;

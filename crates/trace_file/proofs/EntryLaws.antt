@@ -22,7 +22,7 @@ use Rattle.el_base.specs.declared.outcomes.Outcome.{Outcome}
 use Rattle.el_base.specs.declared.outcomes.Outcome.TheVariants.{Idle, Stalled, Missed, Ran, Began, Buffered, Committed, RolledBack, Ordered, Served, Blocked, Delivered, Armed, LetGo}
 use Rattle.el_base.specs.declared.outcomes.Cause.{Cause}
 use Rattle.el_base.specs.declared.outcomes.Cause.TheVariants.{Room, Lines, Long, Call, Mixed}
-use Rattle.el_base.proofs.HartIds.{hart_id-number, hart_id-of_hart}
+use Rattle.el_base.proofs.Laws.HartIds.{hart_id-number, hart_id-of_hart}
 use Rattle.trace_file.specs.FaultKinds.{fault_of}
 use Rattle.trace_file.specs.declared.fault.FaultKind.TheVariants.{Tail}
 use Rattle.trace_file.specs.Faults.{entries_fault, entry_fault, field_fault, fields_fault}
@@ -34,7 +34,7 @@ use Rattle.trace_file.proofs.EventBytes.{kind_again, kind_back}
 use Rattle.trace_file.proofs.FieldRows.{Fill, both_none, field_passes, filled, first_known, joined}
 use Rattle.trace_file.proofs.Heads.{IsBytes, bytes_behind, cell, if_none, or_none}
 use Rattle.trace_file.proofs.Nibbles.{freed_pass, losers_pass}
-use Rattle.trace_file.proofs.OutcomeLaws.{number_again, outcome_back, outcome_spelled, why_small}
+use Rattle.trace_file.proofs.Laws.OutcomeLaws.{number_again, outcome_back, outcome_spelled, why_small}
 
 -- ---- events
 

@@ -11,7 +11,7 @@ use Rattle.el_base.specs.Config.{allows, within}
 use Rattle.el_base.specs.declared.config.ConfigFault.TheVariants.{Harts, Sets, Ways, Lines, Long, Steps}
 use Rattle.el_base.specs.declared.hart_id.TheConstants.{MAX_HARTS}
 use Rattle.el_base.specs.Firsts.{first_of, some_if}
-use Rattle.el_base.proofs.Ranges.{Ranges, in_range, at_most}
+use Rattle.el_base.proofs.Laws.Ranges.{Ranges, in_range, at_most}
 use Rattle.el_base.specs.declared.config.Config.{Config}
 use Rattle.el_base.specs.declared.events.Event.{Event}
 use Rattle.el_base.specs.declared.outcomes.Outcome.{Outcome}

@@ -1,11 +1,10 @@
-pub mod EntryBytes
-pub mod EntryLaws
-pub mod EventBytes
-pub mod FieldRows
-pub mod Heads
-pub mod Judged
-pub mod Nibbles
-pub mod OutcomeLaws
-pub mod Spelled
-pub mod Walk
-pub mod Worked
+pub mod Laws
+mod EntryBytes
+mod EntryLaws
+mod EventBytes
+mod FieldRows
+mod Heads
+mod Judged
+mod Nibbles
+mod Walk
+mod Worked

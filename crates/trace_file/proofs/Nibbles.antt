@@ -10,8 +10,8 @@ use Rattle.el_base.specs.NibblePairs.{nibble_in, nibble_in-pairs_of, pair_of, pa
 use Rattle.el_base.specs.Nibbles.{nibble_of}
 use Rattle.el_base.specs.declared.freed.Freed.{Freed}
 use Rattle.el_base.specs.declared.losers.Losers.{Losers}
-use Rattle.el_base.proofs.MadeLosers.{beaten_by-beyond, beaten_by-losers_of, count_in-beyond, count_in-freed_of, named_by_map, winner_below}
-use Rattle.el_base.proofs.SameLosers.{same_freed, same_losers}
+use Rattle.el_base.proofs.Laws.MadeLosers.{beaten_by-beyond, beaten_by-losers_of, count_in-beyond, count_in-freed_of, named_by_map, winner_below}
+use Rattle.el_base.proofs.Laws.SameLosers.{same_freed, same_losers}
 use Rattle.trace_file.specs.Fields.{all_below, are_nibbles, is_nibble, most_for}
 use Rattle.trace_file.specs.Outcomes.{AreFreedBelow, AreLosersBelow, freed_bytes, losers_bytes}
 use Rattle.trace_file.specs.Reading.{freed_in, losers_in}

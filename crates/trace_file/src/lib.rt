@@ -14,18 +14,18 @@ mod entries;
 mod fault;
 mod fields;
 mod head;
-mod laws;
 mod outcome_bytes;
 mod outcome_fields;
 mod reading;
+mod theorems;
 mod writing;
 
 pub use content::{Events, Trace};
 pub use fault::{FaultKind, TraceFault, fault_name};
 pub use head::MAX_FILE_BYTES;
-pub use laws::grammar;
 pub use outcome_bytes::{SpelledOutcome, outcome_spelling};
 pub use reading::read_trace;
+pub use theorems::grammar;
 pub use writing::write_trace;
 
 #[cfg(test)]

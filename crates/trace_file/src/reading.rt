@@ -196,7 +196,7 @@ fn contents_of(alloc: Global, file: &[u8], head: Head) -> Result<Trace, NoMemory
 
 /// The trace that the file spells, in either version, or its first fault. It takes no memory before the whole
 /// file was found to be a trace, and then one place an event, and one an outcome where the file tells outcomes.
-#[tactic(auto, using(crate::proofs::Spelled::faultless_again))]
+#[tactic(auto, using(crate::proofs::Laws::Spelled::faultless_again))]
 pub fn read_trace(alloc: Global, file: &[u8]) -> Result<Trace, TraceFault>
     ensures accepted { IfOk result (λ trace. IsTrace trace.config trace.events (listed trace.recorded)
         × (file.now ≡ spelling trace.config trace.events (listed trace.recorded))) }

@@ -1,4 +1,4 @@
-use Rattle.drive.proofs.Steps.{one_followed, one_left}
+use Rattle.drive.proofs.Laws.Steps.{one_followed, one_left}
 use Rattle.drive.proofs.following.follow.Goals as goal
 
 pub make-requires-clause-step_left : goal.make-requires-clause-step_left

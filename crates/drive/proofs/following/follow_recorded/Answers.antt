@@ -1,6 +1,6 @@
 use Rattle.std.proofs.Common.{arith}
 use Rattle.drive.proofs.Recordings.{all_agree, first_differs, followed, none_compared, one_compared}
-use Rattle.drive.proofs.Steps.{one_left}
+use Rattle.drive.proofs.Laws.Steps.{one_left}
 use Rattle.drive.proofs.following.follow_recorded.Goals as goal
 
 pub loop-place-init : goal.loop-place-init

@@ -1,7 +1,7 @@
 -- a line was written back
 use Rattle.std.proofs.Common.{◌∙◌, ◌++◌, ◌∷◌, [], Some, ap, sym}
 use Rattle.std.specs.Option.{option_map}
-use Rattle.el_base.proofs.Lines.{line_addr-of_line}
+use Rattle.el_base.proofs.Laws.Lines.{line_addr-of_line}
 use Rattle.lab.proofs.lines.note_back.Goals as goal
 use Rattle.lab.specs.Lines.{back_facts, if_served}
 use Rattle.lab.specs.declared.lines.LineFact.TheVariants.{WroteBack}

@@ -1,7 +1,7 @@
 -- a serve
 use Rattle.std.proofs.Common.{◌∙◌, ◌++◌, ◌∷◌, [], Some, append_assoc, ap, sym}
 use Rattle.std.specs.Option.{option_map}
-use Rattle.el_base.proofs.Lines.{line_addr-of_line}
+use Rattle.el_base.proofs.Laws.Lines.{line_addr-of_line}
 use Rattle.lab.proofs.lines.note_serve.Goals as goal
 use Rattle.lab.specs.Asked.{numbered_asking}
 use Rattle.lab.specs.Lines.{owner_facts, owner_in, served_facts}

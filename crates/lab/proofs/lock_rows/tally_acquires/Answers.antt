@@ -1,6 +1,6 @@
 -- the rows of more and more sections
 use Rattle.std.proofs.Common.{◌∙◌, ap, arith}
-use Rattle.chronicle.proofs.Tallies.{none_small, sum_fits}
+use Rattle.chronicle.proofs.Laws.Tallies.{none_small, sum_fits}
 use Rattle.chronicle.specs.Tally.{plus}
 use Rattle.lab.proofs.Adding.{row_put, row_small}
 use Rattle.lab.proofs.Rows.{no_row}

@@ -1,6 +1,6 @@
 -- one hart more, which is there or not
 use Rattle.std.proofs.Common.{◌∙◌, ◌+◌, ◌≤◌, ℕ, ap, arith, length, subst, sym}
-use Rattle.cache_sets.specs.Cache.{letter_of}
+use Rattle.residency.specs.Cache.{letter_of}
 use Rattle.el_model.specs.State.{cache_of}
 use Rattle.lab.proofs.Lettering.{AreBelow, letter_passed, letter_put}
 use Rattle.lab.proofs.showing.letters_of.Goals as goal

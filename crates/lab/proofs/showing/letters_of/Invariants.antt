@@ -1,5 +1,5 @@
 use Rattle.std.proofs.Common.{◌≡◌, ℕ, ◌<◌, length, slice_index_or}
-use Rattle.cache_sets.specs.Cache.{letter_of}
+use Rattle.residency.specs.Cache.{letter_of}
 use Rattle.el_model.specs.State.{cache_of}
 use Rattle.lab.proofs.showing.letters_of.Given as goal
 use Rattle.machine.specs.Story.{state_of}

@@ -1,7 +1,7 @@
 -- the swap that comes next
 use Rattle.std.proofs.Common.{◌∙◌, ap, length, subst, sym}
 use Rattle.std.specs.Option.{option_map}
-use Rattle.core_step.proofs.Runs.{aligned}
+use Rattle.core_step.proofs.Laws.Runs.{aligned}
 use Rattle.core_step.specs.Run.{IsAligned}
 use Rattle.lab.proofs.Swapping.{next_is, place_is, plain_is, shown_is}
 use Rattle.lab.proofs.swaps.next_swap.Goals as goal

@@ -1,4 +1,4 @@
-use Rattle.drive.proofs.Steps.{one_followed, one_left}
+use Rattle.drive.proofs.Laws.Steps.{one_followed, one_left}
 use Rattle.lab_tool.proofs.shows.put_events.Goals as goal
 
 pub make-requires-clause-step_left : goal.make-requires-clause-step_left

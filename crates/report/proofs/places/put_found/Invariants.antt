@@ -3,7 +3,7 @@ use Rattle.std.proofs.Common.{◌≡◌, ◌≤◌, ◌-◌, length}
 use Rattle.std.specs.List.{flat_map}
 use Rattle.report.specs.Line.{number_line}
 use Rattle.report.specs.Puts.{PutAll}
-use Rattle.step_back.proofs.Places.{places_to}
+use Rattle.step_back.proofs.Laws.Places.{places_to}
 use Rattle.report.proofs.places.put_found.Given as goal
 
 abbrev pub invariant-loop-hart : goal.invariant-loop-hart

@@ -1,5 +1,5 @@
 use Rattle.std.proofs.Common.{◌≤◌, ap, arith}
-use Rattle.el_base.proofs.Ranges.{at_most, ranges}
+use Rattle.el_base.proofs.Laws.Ranges.{at_most, ranges}
 use Rattle.el_base.specs.declared.config.Config.{Config}
 use Rattle.machine.specs.Story.{committed}
 use Rattle.report.proofs.EachHart.{each_done, each_failed, each_more}

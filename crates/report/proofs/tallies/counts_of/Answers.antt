@@ -1,6 +1,6 @@
 use Rattle.std.proofs.Common.{◌≡◌, ℕ, ◌+◌, refl, sym, ap, ◌∙◌, subst, take, arith}
 use Rattle.std.proofs.lemmas.Option.{get_or_from_slice_get, slice_get_within}
-use Rattle.chronicle.proofs.Tallies.{no_tally, none_small, plus_small, tally_more}
+use Rattle.chronicle.proofs.Laws.Tallies.{no_tally, none_small, plus_small, tally_more}
 use Rattle.chronicle.specs.Tally.{nothing, of_entry, plus, tally_of, IsTallyOf}
 use Rattle.report.proofs.Counted.{first_tallies, serial_more, tally_has_room}
 use Rattle.report.specs.Counting.{HasRoom}

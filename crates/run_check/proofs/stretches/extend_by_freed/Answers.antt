@@ -1,7 +1,7 @@
 use Rattle.std.proofs.Common.{◌≡◌, ◌++◌, ℕ, List, length, ◌+◌, arith, sym, ap, ◌∙◌, append_assoc, append-nil}
 use Rattle.std.specs.Prelude.{replicate}
 use Rattle.std.proofs.lemmas.List.{length-append}
-use Rattle.el_base.proofs.FreedOrder.{length-order_below-more, order_below-more}
+use Rattle.el_base.proofs.Laws.FreedOrder.{length-order_below-more, order_below-more}
 use Rattle.el_base.specs.Freed.{count_in, order_below}
 use Rattle.run_check.specs.Certified.{with_pending}
 use Rattle.run_check.specs.Content.{written_out}

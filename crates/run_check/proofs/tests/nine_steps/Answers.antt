@@ -9,7 +9,7 @@ use Rattle.rv_flat.specs.FlatState.{FlatState}
 use Rattle.rv_flat.specs.Run.{run}
 use Rattle.std.specs.Prelude.{replicate}
 use Rattle.run_check.specs.Certified.{IsHistoryOf}
-use Rattle.run_check.proofs.ReachedStates.{reached_is_state}
+use Rattle.run_check.proofs.Laws.ReachedStates.{reached_is_state}
 use Rattle.run_check.proofs.Runs.{start_harts}
 use Rattle.run_check.proofs.tests.nine_steps.Goals as goal
 

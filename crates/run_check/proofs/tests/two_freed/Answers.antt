@@ -14,7 +14,7 @@ use Rattle.elf_image.specs.Program.{Program}
 use Rattle.rv_flat.specs.FlatState.{FlatState}
 use Rattle.rv_flat.specs.Run.{run}
 use Rattle.run_check.specs.Certified.{IsHistoryOf}
-use Rattle.run_check.proofs.ReachedStates.{reached_is_state}
+use Rattle.run_check.proofs.Laws.ReachedStates.{reached_is_state}
 use Rattle.run_check.proofs.Runs.{start_harts}
 use Rattle.run_check.proofs.tests.two_freed.Goals as goal
 

@@ -1,5 +1,5 @@
 use Rattle.std.proofs.Common.{◌≡◌, ℕ, Bool, List, None, get_or, subst, sym, true}
-use Rattle.el_base.proofs.Ranges.{in_range}
+use Rattle.el_base.proofs.Laws.Ranges.{in_range}
 use Rattle.el_base.specs.Config.{allows}
 use Rattle.el_base.specs.declared.config.ConfigFault.TheVariants.{Harts, Sets, Ways, Lines, Long, Steps}
 use Rattle.trace_file.proofs.Heads.{byte_passed, number_passed}

@@ -1,7 +1,7 @@
 use Rattle.std.proofs.Common.{sym, ◌∙◌, arith}
 use Rattle.trace_file.specs.Spelling.{listed}
 use Rattle.trace_file.proofs.Judged.{is_whole}
-use Rattle.trace_file.proofs.Spelled.{faultless_again, read_again}
+use Rattle.trace_file.proofs.Laws.Spelled.{faultless_again, read_again}
 use Rattle.trace_file.proofs.reading.read_trace.Goals as goal
 
 pub returns-clause-accepted : goal.returns-clause-accepted

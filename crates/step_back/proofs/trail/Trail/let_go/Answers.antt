@@ -1,6 +1,6 @@
 -- one hart more
 use Rattle.std.proofs.Common.{◌≡◌, ◌++◌, ◌∙◌, List, ℕ, append_assoc, ap, arith, length, length-append, replicate, sym}
-use Rattle.el_base.proofs.FreedOrder.{order_below-more}
+use Rattle.el_base.proofs.Laws.FreedOrder.{order_below-more}
 use Rattle.el_base.specs.Freed.{count_in, order_below, order_of}
 use Rattle.step_back.proofs.Freed.{LetsGo, lets_go}
 use Rattle.step_back.specs.Track.{Track}

@@ -1,7 +1,7 @@
 use Rattle.run_check.proofs.Judged.{faultless}
 use Rattle.run_check.proofs.Spelled.{one_spelling, spelled}
 use Rattle.run_check.specs.Faults.{content_of}
-use Rattle.run_check.proofs.laws.grammar.Goals as goal
+use Rattle.run_check.proofs.theorems.grammar.Goals as goal
 
 pub returns-clause-one_spelling : goal.returns-clause-one_spelling
 returns-clause-one_spelling c = one_spelling

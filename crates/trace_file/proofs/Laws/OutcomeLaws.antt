@@ -17,8 +17,8 @@ use Rattle.el_base.specs.declared.outcomes.Outcome.{Outcome}
 use Rattle.el_base.specs.declared.outcomes.Outcome.TheVariants.{Idle, Stalled, Missed, Ran, Began, Buffered, Committed, RolledBack, Ordered, Served, Blocked, Delivered, Armed, LetGo}
 use Rattle.el_base.specs.declared.outcomes.Why.{Why}
 use Rattle.el_base.specs.declared.outcomes.Why.TheVariants.{Behind, Retained, Locked}
-use Rattle.el_base.proofs.HartIds.{hart_id-number, hart_id-of_hart}
-use Rattle.el_base.proofs.Lines.{line_addr-number, line_addr-of_line}
+use Rattle.el_base.proofs.Laws.HartIds.{hart_id-number, hart_id-of_hart}
+use Rattle.el_base.proofs.Laws.Lines.{line_addr-number, line_addr-of_line}
 use Rattle.trace_file.specs.Faults.{fields_fault}
 use Rattle.trace_file.specs.Fields.{Field, are_nibbles, byte_field, fields_of, freed_field, is_blocking, is_cause, is_line, losers_field, number_field, widths}
 use Rattle.trace_file.specs.Outcomes.{IsRecordable, blocking_byte, cause_code, freed_bytes, losers_bytes, most_committed, most_let_go, outcome_spelling, why_code}

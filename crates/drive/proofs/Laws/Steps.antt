@@ -3,7 +3,7 @@ use Rattle.std.proofs.Common.{◌≡◌, ℕ, ◌+◌, ◌<◌, List, [], ◌∷
 use Rattle.std.proofs.Math.Nat.{le_of_lt}
 use Rattle.std.proofs.lemmas.List.{length-take-le, take_more}
 use Rattle.el_base.specs.declared.events.Event.{Event}
-use Rattle.machine.proofs.Continued.{continued_more, left_of_continued}
+use Rattle.machine.proofs.Laws.Continued.{continued_more, left_of_continued}
 use Rattle.machine.specs.Story.{Story, continued, left_of}
 
 -- the next of a list of events

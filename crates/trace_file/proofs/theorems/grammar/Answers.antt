@@ -1,8 +1,8 @@
 use Rattle.trace_file.specs.Faults.{config_at}
 use Rattle.trace_file.specs.Reading.{events_at, recorded_at}
 use Rattle.trace_file.proofs.Judged.{faultless}
-use Rattle.trace_file.proofs.Spelled.{no_fault, one_spelling}
-use Rattle.trace_file.proofs.laws.grammar.Goals as goal
+use Rattle.trace_file.proofs.Laws.Spelled.{no_fault, one_spelling}
+use Rattle.trace_file.proofs.theorems.grammar.Goals as goal
 
 pub returns-clause-one_spelling : goal.returns-clause-one_spelling
 returns-clause-one_spelling c = one_spelling

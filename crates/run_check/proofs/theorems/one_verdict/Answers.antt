@@ -1,5 +1,5 @@
 use Rattle.run_check.proofs.Verdicts.{holds_or_differs, one_first}
-use Rattle.run_check.proofs.laws.one_verdict.Goals as goal
+use Rattle.run_check.proofs.theorems.one_verdict.Goals as goal
 
 pub returns-clause-holds_or_differs : goal.returns-clause-holds_or_differs
 returns-clause-holds_or_differs c = holds_or_differs

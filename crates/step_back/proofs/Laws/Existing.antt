@@ -10,11 +10,11 @@ use Rattle.el_base.specs.declared.entries.Entry.{Entry}
 use Rattle.el_base.specs.declared.events.Event.{Event}
 use Rattle.el_base.specs.declared.outcomes.Outcome.{Outcome}
 use Rattle.el_base.specs.declared.outcomes.Outcome.TheVariants.{Ran, Committed, Ordered, Served, LetGo}
-use Rattle.el_model.proofs.Folds.{events-entries_from, outcomes-entries_from}
+use Rattle.el_model.proofs.Laws.Folds.{events-entries_from, outcomes-entries_from}
 use Rattle.el_model.specs.Next.{entries_from}
 use Rattle.el_model.specs.State.{begin}
 use Rattle.elf_image.specs.Program.{Program}
-use Rattle.machine.proofs.Recording.{outcomes_can_be_recorded}
+use Rattle.machine.proofs.Laws.Recording.{outcomes_can_be_recorded}
 use Rattle.machine.specs.Recording.{CanBeRecorded}
 use Rattle.step_back.proofs.Freed.{order_exists}
 use Rattle.trace_file.specs.Spelling.{outcomes}

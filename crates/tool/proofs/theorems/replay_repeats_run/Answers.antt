@@ -1,7 +1,7 @@
 use Rattle.std.proofs.Common.{List, ℕ, ap, subst, sym, ◌∙◌}
 use Rattle.tool.specs.Jobs.{ReplayAnswer, RunAnswer, besides_replay}
 use Rattle.tool.proofs.Repeating.{repeats}
-use Rattle.tool.proofs.laws.replay_repeats_run.Goals as goal
+use Rattle.tool.proofs.theorems.replay_repeats_run.Goals as goal
 
 pub returns : goal.returns
 returns c = λ job again name before after ran replayed run named written image trace times same replay.

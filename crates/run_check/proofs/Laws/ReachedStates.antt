@@ -8,7 +8,7 @@ use Rattle.elf_image.specs.Program.{Program, code_word}
 use Rattle.rv_alu.specs.Action.{action_at, action_of, insn_action_of}
 use Rattle.rv_alu.specs.Execution.{Append, append_in, executed, perform, view_after}
 use Rattle.rv_alu.specs.Footprint.{IsInPlace}
-use Rattle.rv_alu.proofs.Footprints.{fits}
+use Rattle.rv_alu.proofs.Laws.Footprints.{fits}
 use Rattle.rv_alu.specs.declared.action.Action.{Action}
 use Rattle.rv_alu.specs.declared.action.Action.TheVariants as actions
 use Rattle.rv_alu.specs.declared.footprint.Access.{Access}
@@ -24,7 +24,7 @@ use Rattle.rv_flat.specs.Laws.{footprint_of, seen_after}
 use Rattle.rv_flat.specs.Memory.{byte_in, piece_of}
 use Rattle.rv_flat.specs.Run.{run}
 use Rattle.rv_flat.specs.Step.{appended_by, execution_of, flat}
-use Rattle.rv_flat.proofs.StepLaws.{keeps_others, keeps_shape, own_view, running, still}
+use Rattle.rv_flat.proofs.Laws.StepLaws.{keeps_others, keeps_shape, own_view, running, still}
 use Rattle.run_check.specs.Certified.{IsStateOf, StandsAtTrap}
 use Rattle.run_check.proofs.Runs.{reached_base, reached_harts, reached_size}
 

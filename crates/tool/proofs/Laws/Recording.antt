@@ -2,7 +2,7 @@
 use Rattle.std.proofs.Common.{◌≡◌, ◌≤◌, ℕ, List, sym, subst, arith}
 use Rattle.std.specs.Prelude.{All}
 use Rattle.chronicle.specs.Chronicle.{Chronicle}
-use Rattle.el_base.proofs.Ranges.{at_most, ranges}
+use Rattle.el_base.proofs.Laws.Ranges.{at_most, ranges}
 use Rattle.el_base.specs.Config.{IsInRange}
 use Rattle.el_base.specs.declared.config.Config.{Config}
 use Rattle.el_base.specs.declared.outcomes.Outcome.{Outcome}

@@ -16,7 +16,7 @@ use Rattle.el_base.specs.declared.config.ConfigFault.TheVariants.{Harts, Sets, W
 use Rattle.el_base.specs.declared.config.TheConstants.{MAX_STEPS}
 use Rattle.el_base.specs.declared.hart_id.TheConstants.{MAX_HARTS}
 use Rattle.el_base.specs.Firsts.{some_if}
-use Rattle.el_base.proofs.Ranges.{Ranges, ranges, at_most}
+use Rattle.el_base.proofs.Laws.Ranges.{Ranges, ranges, at_most}
 use Rattle.el_base.specs.declared.events.Event.{Event}
 use Rattle.el_base.specs.declared.config.Config.{Config}
 use Rattle.el_base.specs.declared.config.Mode.{Mode}

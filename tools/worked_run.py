@@ -2,9 +2,11 @@
 """Makes a proof file of computed_runs from a run of the machine that another program has computed.
 
     tools/worked_run.py RUN.json 'What the run shows.' >crates/computed_runs/proofs/Runs/NAME.antt
+    tools/worked_run.py --check
 
 The file states that the definition gives the run's outcomes and its last state, and proves it by computation.
-A line `pub mod NAME` in crates/computed_runs/proofs/Runs.antt makes the check read it. RUN.json has
+A line `pub mod NAME` in crates/computed_runs/proofs/Runs.antt makes the check read it. With --check each file there is
+compared with what its run of crates/worked_runs/data makes, but for layout and imports. RUN.json has
 
     config  harts, mode (Plain, Sle, Tlr), sets, ways, lines, long
     memory  base and length, in bytes; all bytes are 0 at first
@@ -14,7 +16,10 @@ A line `pub mod NAME` in crates/computed_runs/proofs/Runs.antt makes the check r
 """
 import json
 import pathlib
+import re
 import sys
+
+CRATES = pathlib.Path(__file__).resolve().parent.parent / "crates"
 
 USES = """use Rattle.std.proofs.Common.{◌≡◌, ℕ, true, false, List, [], ◌∷◌, Some, None, replicate, refl}
 use Rattle.el_base.specs.HartId.{hart_id}
@@ -205,11 +210,36 @@ def proof_file(title, run):
     return "\n".join(parts)
 
 
+def bare(text):
+    """A proof file's text without its imports and its layout."""
+    return " ".join(" ".join(line for line in text.splitlines() if not line.startswith("use ")).split())
+
+
+def check():
+    """Compares each proof file with what its run makes. Tells how many agree, and names those that do not."""
+    agree, differ = 0, []
+    for file in sorted((CRATES / "computed_runs/proofs/Runs").glob("*.antt")):
+        text = file.read_text()
+        name = "-".join(re.findall("[A-Z][a-z]+|[0-9]+", file.stem)).lower()
+        run = json.loads((CRATES / f"worked_runs/data/{name}.json").read_text())
+        if bare(text) == bare(proof_file(text.splitlines()[0].removeprefix("-- "), run)):
+            agree += 1
+        else:
+            differ.append(file.stem)
+    for name in differ:
+        print(f"computed_runs: {name} is not what its run makes")
+    print(f"computed_runs: {agree} passed, {len(differ)} failed")
+    return 1 if differ or not agree else 0
+
+
 def main():
+    if sys.argv[1:] == ["--check"]:
+        return check()
     run = json.loads(pathlib.Path(sys.argv[1]).read_text())
     title = sys.argv[2] if len(sys.argv) > 2 else "A run of the machine."
     print(proof_file(title, run))
+    return 0
 
 
 if __name__ == "__main__":
-    main()
+    sys.exit(main())

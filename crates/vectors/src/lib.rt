@@ -19,6 +19,8 @@ mod refusals;
 #[cfg(test)]
 mod runs;
 #[cfg(test)]
+mod spelled;
+#[cfg(test)]
 mod support;
 #[cfg(test)]
 mod timelines;

@@ -16,12 +16,15 @@ def seconds(part, count):
 
 
 def nanoseconds(part):
-    return (seconds(part, CALLS) - seconds(part, 0)) / CALLS * 1e9
+    calls = CALLS // 20 if part == "drain" else CALLS
+    return (seconds(part, calls) - seconds(part, 0)) / calls * 1e9
 
 
 has, room = nanoseconds("has"), nanoseconds("room")
 print(f"letter {nanoseconds('letter'):.1f} ns, touch {nanoseconds('touch') - has:.1f} ns,"
       f" fill {nanoseconds('fill') - room:.1f} ns")
+print(f"store into a hold {nanoseconds('store'):.1f} ns, read over it {nanoseconds('load'):.1f} ns,"
+      f" store into 16 lines and drain them {nanoseconds('drain'):.0f} ns")
 on_memory, over_port = {}, {}
 for insn in ("addi", "lw", "sw", "add", "mul", "div"):
     on_memory[insn], over_port[insn] = nanoseconds(f"flat-{insn}"), nanoseconds(f"port-{insn}")

@@ -6,6 +6,7 @@
 #![tactic(auto)]
 
 mod caches;
+mod holds;
 mod one_line;
 mod part;
 mod steps;
@@ -62,6 +63,9 @@ fn calls(alloc: Global, part: Part, count: u32) -> Result<u32, AllocError> {
         Part::Touch => caches::touch(alloc, count),
         Part::Room => caches::room(alloc, count),
         Part::Fill => caches::fill(alloc, count),
+        Part::Store => holds::store(alloc, count),
+        Part::Load => holds::load(alloc, count),
+        Part::Drain => holds::drain(alloc, count),
         Part::Flat(insn) => steps::flat(alloc, insn, count),
         Part::Port(insn) => steps::port(alloc, insn, count),
     }

@@ -37,7 +37,7 @@ impl Port for OneLine {
                             + 256 * u32::from(self.bytes[place + 3])))
     }
 
-    #[tactic(auto, using(core_step::proofs::Lines::none_stored, core_step::proofs::Lines::one_more_stored))]
+    #[tactic(auto, using(core_step::proofs::Laws::Lines::none_stored, core_step::proofs::Laws::Lines::one_more_stored))]
     fn store(&mut self, address: u32, len: u32, value: u32) {
         let place = (address % LINE_BYTES) as usize;
         for n in 0..len {
@@ -47,7 +47,7 @@ impl Port for OneLine {
 }
 
 /// A byte of a number, the lowest at place 0.
-#[tactic(auto, using(core_step::proofs::Cuts::byte_shift))]
+#[tactic(auto, using(core_step::proofs::Laws::Cuts::byte_shift))]
 fn byte_of(value: u32, place: u32) -> u8
     requires { place < 4 }
     ensures { result ≡ byte_of value place }

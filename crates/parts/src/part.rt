@@ -30,6 +30,12 @@ pub enum Part {
     Room,
     /// `Room`, and then a fill of the line, for which another leaves.
     Fill,
+    /// A word is stored into a write hold.
+    Store,
+    /// A word is read over what a write hold has of its line.
+    Load,
+    /// A word of each of 16 lines is stored into a write hold, and each line is drained.
+    Drain,
     /// A step on plain shared memory.
     Flat(Insn),
     /// The same instruction over a port: the word at the pc, and the instruction.
@@ -38,12 +44,15 @@ pub enum Part {
 
 impl Part {
     /// All parts.
-    pub const ALL: [Part; 17] = [
+    pub const ALL: [Part; 20] = [
         Part::Has,
         Part::Letter,
         Part::Touch,
         Part::Room,
         Part::Fill,
+        Part::Store,
+        Part::Load,
+        Part::Drain,
         Part::Flat(Insn::Addi),
         Part::Port(Insn::Addi),
         Part::Flat(Insn::Add),
@@ -66,6 +75,9 @@ impl Part {
             Part::Touch => "touch",
             Part::Room => "room",
             Part::Fill => "fill",
+            Part::Store => "store",
+            Part::Load => "load",
+            Part::Drain => "drain",
             Part::Flat(Insn::Addi) => "flat-addi",
             Part::Port(Insn::Addi) => "port-addi",
             Part::Flat(Insn::Add) => "flat-add",

@@ -5,12 +5,13 @@ use crate::field::{element, list, member, text, truth, word};
 use bitflags::Flags;
 use cache_sets::{Bits, Sets};
 use el_base::{HartId, LINE_BYTES, LineAddr, line_of};
+use line_pool::Pool;
 use machine::Machine;
 use moesi::Letter;
 use serde_json::Value;
 
 /// Whether the cache of a hart has each line of a run's memory with the letter and the bits that are told of it,
-/// and no line that is not told of. The order of the lines of a set shows in what it evicts.
+/// no line that is not told of, and a slot of the pool for each. The order of the lines of a set shows in what it evicts.
 pub fn cache_agrees(
     machine: &Machine,
     hart: HartId,
@@ -30,7 +31,20 @@ pub fn cache_agrees(
             return Ok(false);
         }
     }
-    Ok(true)
+    as_many_are_out(machine.pool(), hart, told)
+}
+
+/// Whether as many slots of the pool are out for a hart's cache as it is told to have lines.
+fn as_many_are_out(pool: &Pool, hart: HartId, told: &Value) -> Result<bool, Difference> {
+    let owner = u16::from(hart.number);
+    if usize::from(owner) >= pool.owners() {
+        return Err(Difference::Form);
+    }
+    let mut lines: usize = 0;
+    for set in list(told)? {
+        lines = lines.saturating_add(list(set)?.len());
+    }
+    Ok(usize::from(pool.out(owner)) == lines)
 }
 
 /// Whether a cache has a line as it is told of: a list of sets, each a list of its lines.

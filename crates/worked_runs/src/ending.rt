@@ -5,6 +5,7 @@ use crate::difference::Difference;
 use crate::field::{byte, element, is_null, list, member, word};
 use crate::requests::request_agrees;
 use el_base::HartId;
+use line_pool::Pool;
 use machine::Machine;
 use rv_alu::HartView;
 use rv_word::Reg;
@@ -48,6 +49,7 @@ fn hart_agrees(
             && registers_agree(&view, list(member(told, "registers")?)?)?
             && (is_null(cache) || cache_agrees(machine, hart, run, cache)?)
             && section_agrees(machine.section(hart), told)?
+            && stores_agree(machine.pool(), hart, told)?
             && armed_agrees(machine.armed(hart), told)?
             && request_agrees(machine.request(hart), hart, end, told)?,
     )
@@ -59,6 +61,18 @@ fn section_agrees(live: Option<Live>, told: &Value) -> Result<bool, Difference> 
         Some(told) if is_null(told) => Ok(live == None),
         Some(told) => Ok(live == Some(section(told)?)),
         None => Ok(true),
+    }
+}
+
+/// Whether no slot of the pool is out for the stores of a hart that is told to have no live section.
+fn stores_agree(pool: &Pool, hart: HartId, told: &Value) -> Result<bool, Difference> {
+    let owner = 8 + u16::from(hart.number);
+    if usize::from(owner) >= pool.owners() {
+        return Err(Difference::Form);
+    }
+    match told.get("section") {
+        Some(told) if is_null(told) => Ok(pool.out(owner) == 0),
+        _ => Ok(true),
     }
 }
 

@@ -1,3 +1,4 @@
 -- the laws that are offered to the crates above; every other file here is private
 pub mod Existing
 pub mod Places
+pub mod Recording

@@ -1,4 +1,3 @@
-pub mod Laws
 mod Answering
 mod Certifying
 mod Differences

@@ -39,7 +39,7 @@ use Rattle.tool.specs.Answer.{Answer, Besides, WrittenFile, certified_by, ended,
 use Rattle.tool.specs.Jobs.{DriversMade, FollowAnswer, IsReplayed, MakesRun, RanAnswer, ReplayAnswer, RunAnswer, UnlessRefused, besides_replay, besides_run, first_story}
 use Rattle.tool.specs.Laws.{SaysTheSame}
 use Rattle.tool.proofs.Files.{loaded_harts, spelled_harts}
-use Rattle.tool.proofs.Laws.Recording.{are_recordable}
+use Rattle.step_back.proofs.Laws.Recording.{are_recordable}
 use Rattle.tool.proofs.TraceLengths.{length-spelling}
 use Rattle.tool.specs.Refusals.{config_refusal, image_refusal, replay_refusal, run_refusal, size_refusal, trace_limit, trace_refusal}
 

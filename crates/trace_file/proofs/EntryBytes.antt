@@ -1,11 +1,11 @@
 -- One more entry of a history as bytes.
-use Rattle.std.proofs.Common.{◌≡◌, ℕ, zero, suc, ◌+◌, List, [], ◌∷◌, ◌++◌, length, map, take, Some, refl, sym, ap, ◌∙◌, append_assoc, arith}
+use Rattle.std.proofs.Common.{◌≡◌, ◌≤◌, ℕ, zero, suc, ◌+◌, List, [], ◌∷◌, ◌++◌, length, take, Some, sym, ap, ◌∙◌, append_assoc, arith}
 use Rattle.std.specs.List.{slice_get}
 use Rattle.std.proofs.lemmas.List.{append-nil, length-append}
 use Rattle.chronicle.specs.Chronicle.{events}
 use Rattle.el_base.specs.declared.entries.Entry.{Entry}
 use Rattle.trace_file.specs.Outcomes.{outcome_spelling}
-use Rattle.trace_file.specs.Spelling.{entry_bytes, event_byte, outcomes, recorded_bytes}
+use Rattle.trace_file.specs.Spelling.{entry_bytes, outcomes, recorded_bytes}
 
 take_next : (entries : List Entry) (place : ℕ) (entry : Entry) → slice_get entries place ≡ Some entry →
     take (suc place) entries ≡ take place entries ++ entry ∷ []
@@ -42,19 +42,32 @@ longer entries place entry before after found is next =
     let parts = length-append (bytes_of (take place entries)) (entry_bytes entry.event entry.outcome) in
     omega (arith, is, next, more, parts)
 
-pub spelled_more : (front before pushed after spelled : List ℕ) (entries : List Entry) (place : ℕ) (entry : Entry) →
+shorter : (count : ℕ) (entries : List Entry) → length (bytes_of (take count entries)) ≤ length (bytes_of entries)
+shorter zero entries = omega arith
+shorter (suc count) [] = omega arith
+shorter (suc count) (first ∷ entries) =
+    let part = length-append (entry_bytes first.event first.outcome) (bytes_of (take count entries)) in
+    let whole = length-append (entry_bytes first.event first.outcome) (bytes_of entries) in
+    let rest = shorter count entries in
+    omega (arith, part, whole, rest)
+
+-- the bytes of all entries have room for those of the next one
+pub has_room : (entries : List Entry) (place : ℕ) (entry : Entry) → slice_get entries place ≡ Some entry →
+    length (bytes_of (take place entries)) + length (entry_bytes entry.event entry.outcome) ≤ length (bytes_of entries)
+has_room entries place entry found =
+    let more = ap length (one_more entries place entry found) in
+    let parts = length-append (bytes_of (take place entries)) (entry_bytes entry.event entry.outcome) in
+    let few = shorter (place + 1) entries in
+    omega (arith, more, parts, few)
+
+-- what stands before the entries, and the entries so far with the next one
+pub spelled_more : (front before after : List ℕ) (entries : List Entry) (place : ℕ) (entry : Entry) →
     slice_get entries place ≡ Some entry →
     before ≡ front ++ bytes_of (take place entries) →
-    pushed ≡ before ++ event_byte entry.event ∷ [] →
-    spelled ≡ outcome_spelling entry.outcome →
-    after ≡ pushed ++ spelled →
+    after ≡ before ++ entry_bytes entry.event entry.outcome →
     after ≡ front ++ bytes_of (take (place + 1) entries)
-spelled_more front before pushed after spelled entries place entry found so-far first second third =
-    let outcome = outcome_spelling entry.outcome in
-    third
-    ∙ ap (λ (l : List ℕ). pushed ++ l) second
-    ∙ ap (λ (l : List ℕ). l ++ outcome) first
-    ∙ append_assoc before (event_byte entry.event ∷ []) outcome
+spelled_more front before after entries place entry found so-far next =
+    next
     ∙ ap (λ (l : List ℕ). l ++ entry_bytes entry.event entry.outcome) so-far
     ∙ append_assoc front (bytes_of (take place entries)) (entry_bytes entry.event entry.outcome)
     ∙ ap (λ (l : List ℕ). front ++ l) (sym (one_more entries place entry found))

@@ -1,16 +1,16 @@
 //! From a history to bytes.
 
-ghost use Rattle.std.specs.Prelude.{◌≡◌, ◌≢◌, ◌+◌, ◌++◌, ◌<◌, ◌≤◌, ◌*◌, ◌∷◌, [], Err, Some, length, map, All, IfOk, IfSome, OnOk};
+ghost use Rattle.std.specs.Prelude.{◌≡◌, ◌≢◌, ◌+◌, ◌++◌, ◌<◌, ◌≤◌, ◌*◌, ◌∷◌, [], Err, Some, length, map, vec_capacity, All, IfOk, IfSome, OnOk};
 ghost use Rattle.chronicle.specs.Chronicle.{events};
 ghost use Rattle.el_base.specs.Config.{IsInRange};
 ghost use Rattle.el_io.specs.Shelf.{Holds, KeepsOthers, Records};
 ghost use Rattle.trace_file.specs.Outcomes.{IsRecordable, outcome_spelling};
-ghost use Rattle.trace_file.specs.Spelling.{event_byte, head, outcomes, recorded_bytes, spelling};
+ghost use Rattle.trace_file.specs.Spelling.{entry_bytes, event_byte, head, outcomes, recorded_bytes, spelling};
 
 use crate::head::{HEAD_BYTES, MAGIC, WITH_OUTCOMES};
 use crate::outcome_bytes;
 use chronicle::History;
-use el_base::{Chronicled, Config, Event, NoMemory, Outcome};
+use el_base::{Chronicled, Config, Entry, Event, NoMemory, Outcome};
 use el_io::{Call, Shelf, ShelfFault};
 use std::alloc::Global;
 
@@ -86,15 +86,39 @@ fn bare_code(outcome: Outcome) -> Option<u8>
     }
 }
 
-/// Puts the spelling of an outcome behind the bytes. That of most outcomes of a run is a code alone.
-fn put_outcome(bytes: &mut Vec<u8>, outcome: Outcome) -> Result<(), NoMemory>
-    ensures { OnOk result (bytes.new.items ≡ bytes.old.items ++ outcome_spelling outcome) }
+/// Puts bytes behind others, in room that is there.
+fn put_bytes(bytes: &mut Vec<u8>, more: &[u8])
+    requires room { length bytes.old.items + length more.now ≤ vec_capacity bytes.old }
+    ensures items { bytes.new.items ≡ bytes.old.items ++ more.now }
+    ensures capacity { vec_capacity bytes.old ≤ vec_capacity bytes.new }
+{
+    match bytes.extend_from_slice(more) {
+        Ok(()) => (),
+        Err(_) => unreachable!(),
+    }
+}
+
+/// Puts the spelling of an outcome behind the bytes, in room that is there. That of most outcomes of a run is a code
+/// alone.
+fn put_outcome(bytes: &mut Vec<u8>, outcome: Outcome)
+    requires room { length bytes.old.items + length (outcome_spelling outcome) ≤ vec_capacity bytes.old }
+    ensures items { bytes.new.items ≡ bytes.old.items ++ outcome_spelling outcome }
+    ensures capacity { vec_capacity bytes.old ≤ vec_capacity bytes.new }
 {
     match bare_code(outcome) {
-        Some(code) => bytes.push(code)?,
-        None => bytes.extend_from_slice(outcome_bytes::outcome_spelling(outcome).as_bytes())?,
+        Some(code) => bytes.push_reserved(code),
+        None => put_bytes(bytes, outcome_bytes::outcome_spelling(outcome).as_bytes()),
     }
-    Ok(())
+}
+
+/// Puts an event and the spelling of its outcome behind the bytes, in room that is there.
+fn put_entry(bytes: &mut Vec<u8>, entry: Entry)
+    requires room { length bytes.old.items + length (entry_bytes entry.event entry.outcome) ≤ vec_capacity bytes.old }
+    ensures items { bytes.new.items ≡ bytes.old.items ++ entry_bytes entry.event entry.outcome }
+    ensures capacity { vec_capacity bytes.old ≤ vec_capacity bytes.new }
+{
+    bytes.push_reserved(event_byte(entry.event));
+    put_outcome(bytes, entry.outcome);
 }
 
 /// How many bytes the entries of a history have.
@@ -117,11 +141,9 @@ fn spelled(alloc: Global, config: &Config, history: &History) -> Result<Vec<u8>,
 {
     let count = history.length();
     let mut bytes = Vec::with_capacity(alloc, HEAD_BYTES as usize + length_of(history))?;
-    bytes.extend_from_slice(&head_bytes(config, count))?;
+    put_bytes(&mut bytes, &head_bytes(config, count));
     for place in 0..count {
-        let entry = history.entry(place);
-        bytes.push(event_byte(entry.event))?;
-        put_outcome(&mut bytes, entry.outcome)?;
+        put_entry(&mut bytes, history.entry(place));
     }
     Ok(bytes)
 }

@@ -1,5 +1,5 @@
 -- the outcomes of a machine's history can be recorded
-use Rattle.tool.proofs.Laws.Recording.{recordable_history}
+use Rattle.step_back.proofs.Laws.Recording.{recordable_history}
 use Rattle.tool.proofs.telling.write_trace_to.Goals as goal
 
 pub write_trace-requires-clause-outcomes : goal.write_trace-requires-clause-outcomes

@@ -305,9 +305,9 @@ impl Machine {
         self.engine.request(hart)
     }
 
-    /// The bus, with main memory and the copies of its lines: it has a cache of each hart, main memory and the copies
-    /// tell one thing of each line, which is committed memory's, and each cache has the lines and the letters that the
-    /// definition's has.
+    /// The bus, with main memory: it has a cache of each hart, with the lines and the letters that the definition's has.
+    /// Main memory has the program's bytes, and over them each line that was written back. What the copies tell is said
+    /// by `lent`, since their bytes are in the pool.
     pub fn bus(&self) -> &Bus
         ensures harts { length (kept result.now).agents ≡ self.now.config.harts }
         ensures ready { IsReady (kept result.now) }

@@ -6,12 +6,16 @@ use el_base::{
 };
 use elf_image::{Image, load};
 use rv_alu::HartStatus;
+use rv_word::Reg;
 use section_ctl::Live;
 use std::alloc::Global;
 use std::process::Abort;
 use std::test::Fail;
 
 mod acquires;
+
+/// The lock's word.
+const LOCK: u32 = 0x1_1000;
 
 /// A program that prints 'A' and a newline, in one segment at 0x10000 that is the whole file.
 const FILE: [u8; 122] = [
@@ -99,18 +103,6 @@ fn machine(rt: &impl Abort, alloc: Global, file: &[u8], config: Config) -> Resul
     Ok(made(rt, alloc, file, config)?.map_err(|_| "no machine")?)
 }
 
-/// Makes an event of a kind.
-fn act(rt: &impl Abort, machine: &mut Machine, kind: Kind, hart: HartId) -> Outcome {
-    assert!(rt; machine.steps_left() >= 1);
-    assert!(rt; hart.number < machine.config().harts);
-    machine.step(Event { kind, hart })
-}
-
-fn status(rt: &impl Abort, machine: &Machine, hart: HartId) -> HartStatus {
-    assert!(rt; hart.number < machine.config().harts);
-    machine.hart(hart).status
-}
-
 /// The line of the two bytes that the program prints, and of the digits.
 fn printed() -> LineAddr {
     line_of(0x1_0040)
@@ -131,52 +123,6 @@ fn served() -> Outcome {
     }
 }
 
-/// A row of events: of a kind and a hart, so many, each with this outcome.
-type Row = (Kind, u8, u8, Outcome);
-
-/// Makes the events of some rows, and sees what comes of each and what the history says of it.
-fn play(rt: &impl Abort, machine: &mut Machine, rows: &[Row]) -> Result<(), Fail> {
-    for (kind, number, count, outcome) in rows {
-        let one = hart(*number)?;
-        for _ in 0..*count {
-            assert!(rt; !machine.over());
-            let made = machine.history().length();
-            assert_eq!(rt; act(rt, machine, *kind, one), *outcome);
-            let now = machine.history().length();
-            assert!(rt; made < now);
-            assert_eq!(rt; now - made, 1);
-            assert_eq!(rt;
-                machine.history().entry(made),
-                Entry {
-                    event: Event {
-                        kind: *kind,
-                        hart: one
-                    },
-                    outcome: *outcome,
-                }
-            );
-        }
-    }
-    Ok(())
-}
-
-/// What a hart's cache has of a line.
-fn letter(rt: &impl Abort, machine: &Machine, hart: HartId, line: LineAddr) -> Letter {
-    let bus = machine.bus();
-    assert!(rt; usize::from(hart.number) < bus.harts());
-    bus.sets(hart).letter(line)
-}
-
-/// The byte at an address in main memory, or none outside memory. The hart is one of the machine's.
-fn main_byte(rt: &impl Abort, machine: &Machine, hart: HartId, address: u32) -> Option<u8> {
-    assert!(rt; hart.number < machine.config().harts);
-    let lent = machine.lent(hart);
-    match lent.bus.byte(lent.pool, address) {
-        Some(_) => Some(lent.bus.main_byte(address)),
-        None => None,
-    }
-}
-
 fn missed() -> Outcome {
     Outcome::Missed {
         line: printed(),
@@ -184,141 +130,118 @@ fn missed() -> Outcome {
     }
 }
 
-/// The write call reads its bytes in the cache: the line has to come first, and the bus is idle before that.
-#[test]
-fn a_program_runs_to_its_end(rt: HostRuntime) -> Result<(), Fail> {
-    let only = hart(0)?;
-    let mut machine = machine(&rt, rt.alloc(), &FILE, plain(1, 20))?;
-    assert_eq!(rt; machine.config(), plain(1, 20));
-    let rows = [
-        (Kind::Order, 0, 1, Outcome::Idle),
-        (Kind::Serve, 0, 1, Outcome::Idle),
-        (Kind::Deliver, 0, 1, Outcome::Idle),
-        (Kind::Step, 0, 5, Outcome::Ran),
-        (Kind::Step, 0, 1, missed()),
-        (Kind::Step, 0, 1, Outcome::Stalled),
-        (Kind::Order, 0, 1, ordered()),
-        (Kind::Step, 0, 1, Outcome::Stalled),
-        (Kind::Serve, 0, 1, served()),
-        (Kind::Step, 0, 4, Outcome::Ran),
-    ];
-    assert_eq!(rt; status(&rt, &machine, only), HartStatus::Running);
-    play(&rt, &mut machine, &rows)?;
-    assert!(rt; machine.over());
-    assert_eq!(rt; machine.ready(), None);
-    assert_eq!(rt; act(&rt, &mut machine, Kind::Step, only), Outcome::Idle);
-    assert_eq!(rt; machine.steps_left(), 2);
-    assert_eq!(rt; machine.output(), b"A\n".as_slice());
-    assert_eq!(rt; status(&rt, &machine, only), HartStatus::Exited { code: 0 });
-    assert_eq!(rt; machine.history().serial_len(), 9);
-    Ok(())
-}
-
-/// Ten steps of a hart that waits, in each mode: five run, one misses, and the others stall.
-#[test]
-fn a_machine_has_so_many_steps(rt: HostRuntime) -> Result<(), Fail> {
-    for mode in [Mode::Plain, Mode::Sle, Mode::Tlr] {
-        let config = Config {
-            mode,
-            ..plain(1, 10)
-        };
-        let mut machine = machine(&rt, rt.alloc(), &FILE, config)?;
-        let rows = [
-            (Kind::Step, 0, 5, Outcome::Ran),
-            (Kind::Step, 0, 1, missed()),
-            (Kind::Step, 0, 4, Outcome::Stalled),
-        ];
-        play(&rt, &mut machine, &rows)?;
-        assert_eq!(rt; machine.steps_left(), 0);
+/// An access to the line of an address that finds no copy that permits it.
+fn wants(address: u32, need: Need) -> Outcome {
+    Outcome::Missed {
+        line: line_of(address),
+        need,
     }
-    Ok(())
 }
 
-/// Two harts ask for one line: the second waits behind the first, and then for the end of its hold.
-#[test]
-fn two_harts_share_a_line(rt: HostRuntime) -> Result<(), Fail> {
-    let (first, second) = (hart(0)?, hart(1)?);
-    let mut machine = machine(&rt, rt.alloc(), &FILE, plain(2, 30))?;
-    let behind = Outcome::Blocked {
-        why: Why::Behind,
-        by: first,
-    };
-    let locked = Outcome::Blocked {
-        why: Why::Locked,
-        by: first,
-    };
-    let asked = [
-        (Kind::Step, 0, 5, Outcome::Ran),
-        (Kind::Step, 0, 1, missed()),
-        (Kind::Step, 1, 5, Outcome::Ran),
-        (Kind::Step, 1, 1, missed()),
-        (Kind::Order, 0, 1, ordered()),
-        (Kind::Order, 1, 1, ordered()),
-        (Kind::Serve, 1, 1, behind),
-        (Kind::Serve, 0, 1, served()),
-    ];
-    play(&rt, &mut machine, &asked)?;
-    assert_eq!(rt; letter(&rt, &machine, first, printed()), Letter::E);
-    play(
-        &rt,
-        &mut machine,
-        &[
-            (Kind::Serve, 1, 1, locked),
-            (Kind::Step, 0, 1, Outcome::Ran),
-        ],
-    )?;
-    assert_eq!(rt; machine.output(), b"A\n".as_slice());
-    play(&rt, &mut machine, &[(Kind::Serve, 1, 1, served())])?;
-    assert_eq!(rt; letter(&rt, &machine, first, printed()), Letter::S);
-    assert_eq!(rt; letter(&rt, &machine, second, printed()), Letter::S);
-    play(&rt, &mut machine, &[(Kind::Step, 1, 1, Outcome::Ran)])?;
-    assert_eq!(rt; machine.output(), b"A\nA\n".as_slice());
-    Ok(())
+/// A part of a script: what is done to a machine, or seen of it.
+#[derive(Clone, Copy)]
+enum Act {
+    /// So many events of a kind and a hart, each with this outcome.
+    Make(Kind, u8, u8, Outcome),
+    /// A hart comes to a load of the lock, behind so many instructions, and its cache gets the line.
+    LoadLock(u8, u8),
+    /// What a hart, its section or its cache shows.
+    ExpectHart(u8, HartFact),
+    /// What the machine shows as a whole.
+    Expect(MachineFact),
 }
 
-/// With room for one line, a written line goes back to main memory as another line comes.
-#[test]
-fn a_written_line_is_written_back(rt: HostRuntime) -> Result<(), Fail> {
-    let only = hart(0)?;
-    let config = Config {
-        sets: 1,
-        ways: 1,
-        ..plain(1, 20)
-    };
-    let mut machine = machine(&rt, rt.alloc(), &STORES, config)?;
-    let line = line_of(0x1_1000);
-    let wants = Outcome::Missed {
-        line,
-        need: Need::Write,
-    };
-    let next = Outcome::Missed {
-        line: line_of(0x1_1040),
-        need: Need::Read,
-    };
-    let stored = [
-        (Kind::Step, 0, 2, Outcome::Ran),
-        (Kind::Step, 0, 1, wants),
-        (Kind::Order, 0, 1, ordered()),
-        (Kind::Serve, 0, 1, served()),
-        (Kind::Step, 0, 1, Outcome::Ran),
-    ];
-    play(&rt, &mut machine, &stored)?;
-    assert_eq!(rt; letter(&rt, &machine, only, line), Letter::M);
-    assert_eq!(rt; machine.byte(0x1_1000), Some(5));
-    assert_eq!(rt; main_byte(&rt, &machine, only, 0x1_1000), Some(0));
-    let gone = [
-        (Kind::Step, 0, 1, next),
-        (Kind::Order, 0, 1, ordered()),
-        (Kind::Serve, 0, 1, served()),
-    ];
-    play(&rt, &mut machine, &gone)?;
-    assert_eq!(rt; letter(&rt, &machine, only, line), Letter::I);
-    assert_eq!(rt; machine.byte(0x1_1000), Some(5));
-    assert_eq!(rt; main_byte(&rt, &machine, only, 0x1_1000), Some(5));
-    Ok(())
+/// What a hart shows.
+#[derive(Clone, Copy)]
+enum HartFact {
+    Status(HartStatus),
+    /// A register, as it is committed.
+    Register(u8, u32),
+    /// What its cache has of the line of an address.
+    Letter(u32, Letter),
+    Section(Option<Live>),
+    /// How many instructions its armed section has, which is none where it is not armed.
+    Armed(Option<u32>),
+    /// How many lines its section has stored to.
+    Held(usize),
+    /// The word that is buffered at the start of the line of an address, the first one that is buffered.
+    Buffered(u32, u32),
+    /// How many slots of the pool are out for its cache, and for its buffered stores.
+    Out(u16, u16),
+    /// The byte at an address in main memory.
+    MainByte(u32, u8),
 }
 
-/// The byte that is buffered at the start of a line, where the line is the first of a hart's buffered stores.
+/// What the machine shows.
+#[derive(Clone, Copy)]
+enum MachineFact {
+    Over(bool),
+    Ready(Option<Event>),
+    StepsLeft(u32),
+    /// How many bytes are written.
+    Written(usize),
+    /// How many instructions the history has.
+    Serial(u64),
+    /// The byte at an address that is committed.
+    Byte(u32, u8),
+}
+
+/// Makes an event, and sees what comes of it and what the history says of it.
+fn make(rt: &impl Abort, machine: &mut Machine, event: Event, outcome: Outcome) {
+    assert!(rt; machine.steps_left() >= 1);
+    assert!(rt; event.hart.number < machine.config().harts);
+    let made = machine.history().length();
+    assert_eq!(rt; machine.step(event), outcome);
+    let now = machine.history().length();
+    assert!(rt; made < now);
+    assert_eq!(rt; now - made, 1);
+    assert_eq!(rt; machine.history().entry(made), Entry { event, outcome });
+}
+
+/// Makes so many events that are alike.
+fn make_each(rt: &impl Abort, machine: &mut Machine, event: Event, count: u8, outcome: Outcome) {
+    for _ in 0..count {
+        make(rt, machine, event, outcome);
+    }
+}
+
+/// A hart comes to a load of the lock, behind so many instructions, and its cache gets the line.
+fn load_lock(rt: &impl Abort, machine: &mut Machine, hart: HartId, before: u8) {
+    for (kind, count, outcome) in [
+        (Kind::Step, before, Outcome::Ran),
+        (Kind::Step, 1, wants(LOCK, Need::Read)),
+        (Kind::Order, 1, ordered()),
+        (Kind::Serve, 1, served()),
+        (Kind::Step, 1, Outcome::Ran),
+    ] {
+        make_each(rt, machine, Event { kind, hart }, count, outcome);
+    }
+}
+
+fn register(rt: &impl Abort, machine: &Machine, hart: HartId, number: u8) -> Result<u32, Fail> {
+    let reg = Reg::new(number).ok_or("no register")?;
+    assert!(rt; hart.number < machine.config().harts);
+    Ok(machine.hart(hart).regs.get(reg))
+}
+
+fn letter(rt: &impl Abort, machine: &Machine, hart: HartId, line: LineAddr) -> Letter {
+    let bus = machine.bus();
+    assert!(rt; usize::from(hart.number) < bus.harts());
+    bus.sets(hart).letter(line)
+}
+
+/// How many instructions a hart's armed section has, each of which is one for the lock.
+fn armed_count(rt: &impl Abort, machine: &Machine, hart: HartId) -> Option<u32> {
+    assert!(rt; hart.number < machine.config().harts);
+    match machine.armed(hart) {
+        Some(Armed { count, word }) => {
+            assert_eq!(rt; word, LOCK);
+            Some(count)
+        }
+        None => None,
+    }
+}
+
 fn buffered(rt: &impl Abort, machine: &Machine, hart: HartId, line: LineAddr) -> u32 {
     assert!(rt; hart.number < machine.config().harts);
     let lent = machine.lent(hart);
@@ -327,13 +250,6 @@ fn buffered(rt: &impl Abort, machine: &Machine, hart: HartId, line: LineAddr) ->
     hold.read_over(lent.pool, line, &[0; 64], 0)
 }
 
-/// How many lines a hart's section has stored to.
-fn held(rt: &impl Abort, machine: &Machine, hart: HartId) -> usize {
-    assert!(rt; hart.number < machine.config().harts);
-    machine.section_state(hart).hold().len()
-}
-
-/// How many slots of the pool are out for a hart's cache, and for its buffered stores.
 fn outs(rt: &impl Abort, machine: &Machine, hart: HartId) -> (u16, u16) {
     let pool = machine.pool();
     assert_eq!(rt; pool.owners(), 16);
@@ -343,126 +259,281 @@ fn outs(rt: &impl Abort, machine: &Machine, hart: HartId) -> (u16, u16) {
     )
 }
 
-/// A hart's live section.
-fn section(rt: &impl Abort, machine: &Machine, hart: HartId) -> Option<Live> {
+/// The byte at an address in main memory, or none outside memory.
+fn main_byte(rt: &impl Abort, machine: &Machine, hart: HartId, address: u32) -> Option<u8> {
     assert!(rt; hart.number < machine.config().harts);
-    machine.section(hart)
+    let lent = machine.lent(hart);
+    match lent.bus.byte(lent.pool, address) {
+        Some(_) => Some(lent.bus.main_byte(address)),
+        None => None,
+    }
+}
+
+/// Sees that a hart shows this.
+fn expect_hart(
+    rt: &impl Abort,
+    machine: &Machine,
+    hart: HartId,
+    fact: &HartFact,
+) -> Result<(), Fail> {
+    assert!(rt; hart.number < machine.config().harts);
+    match fact {
+        HartFact::Status(status) => assert_eq!(rt; machine.hart(hart).status, *status),
+        HartFact::Register(number, value) => {
+            assert_eq!(rt; register(rt, machine, hart, *number)?, *value)
+        }
+        HartFact::Letter(address, had) => {
+            assert_eq!(rt; letter(rt, machine, hart, line_of(*address)), *had)
+        }
+        HartFact::Section(live) => assert_eq!(rt; machine.section(hart), *live),
+        HartFact::Armed(count) => assert_eq!(rt; armed_count(rt, machine, hart), *count),
+        HartFact::Held(lines) => assert_eq!(rt; machine.section_state(hart).hold().len(), *lines),
+        HartFact::Buffered(address, word) => {
+            assert_eq!(rt; buffered(rt, machine, hart, line_of(*address)), *word)
+        }
+        HartFact::Out(cache, hold) => assert_eq!(rt; outs(rt, machine, hart), (*cache, *hold)),
+        HartFact::MainByte(address, byte) => {
+            assert_eq!(rt; main_byte(rt, machine, hart, *address), Some(*byte))
+        }
+    }
+    Ok(())
+}
+
+/// Sees that the machine shows this.
+fn expect_machine(rt: &impl Abort, machine: &Machine, fact: &MachineFact) {
+    match fact {
+        MachineFact::Over(over) => assert_eq!(rt; machine.over(), *over),
+        MachineFact::Ready(event) => assert_eq!(rt; machine.ready(), *event),
+        MachineFact::StepsLeft(steps) => assert_eq!(rt; machine.steps_left(), *steps),
+        MachineFact::Written(count) => assert_eq!(rt; machine.output().len(), *count),
+        MachineFact::Serial(length) => assert_eq!(rt; machine.history().serial_len(), *length),
+        MachineFact::Byte(address, byte) => assert_eq!(rt; machine.byte(*address), Some(*byte)),
+    }
+}
+
+/// Plays a part of a script.
+fn play_part(rt: &impl Abort, machine: &mut Machine, part: &Act) -> Result<(), Fail> {
+    match part {
+        Act::Make(kind, number, count, outcome) => {
+            let event = Event {
+                kind: *kind,
+                hart: hart(*number)?,
+            };
+            make_each(rt, machine, event, *count, *outcome);
+        }
+        Act::LoadLock(number, before) => load_lock(rt, machine, hart(*number)?, *before),
+        Act::ExpectHart(number, fact) => expect_hart(rt, machine, hart(*number)?, fact)?,
+        Act::Expect(fact) => expect_machine(rt, machine, fact),
+    }
+    Ok(())
+}
+
+/// Plays a script over a machine of this configuration, which has written this at its end.
+fn play(
+    rt: &impl Abort,
+    alloc: Global,
+    file: &[u8],
+    config: Config,
+    script: &[Act],
+    output: &[u8],
+) -> Result<(), Fail> {
+    let mut machine = machine(rt, alloc, file, config)?;
+    assert_eq!(rt; machine.config(), config);
+    for part in script {
+        play_part(rt, &mut machine, part)?;
+    }
+    assert_eq!(rt; machine.output(), output);
+    Ok(())
+}
+
+/// The write call reads its bytes in the cache: the line has to come first, and the bus is idle before that.
+#[test]
+fn a_program_runs_to_its_end(rt: HostRuntime) -> Result<(), Fail> {
+    let script = [
+        Act::ExpectHart(0, HartFact::Status(HartStatus::Running)),
+        Act::Make(Kind::Order, 0, 1, Outcome::Idle),
+        Act::Make(Kind::Serve, 0, 1, Outcome::Idle),
+        Act::Make(Kind::Deliver, 0, 1, Outcome::Idle),
+        Act::Make(Kind::Step, 0, 5, Outcome::Ran),
+        Act::Make(Kind::Step, 0, 1, missed()),
+        Act::Make(Kind::Step, 0, 1, Outcome::Stalled),
+        Act::Make(Kind::Order, 0, 1, ordered()),
+        Act::Make(Kind::Step, 0, 1, Outcome::Stalled),
+        Act::Make(Kind::Serve, 0, 1, served()),
+        Act::Make(Kind::Step, 0, 3, Outcome::Ran),
+        Act::Expect(MachineFact::Over(false)),
+        Act::Make(Kind::Step, 0, 1, Outcome::Ran),
+        Act::Expect(MachineFact::Over(true)),
+        Act::Expect(MachineFact::Ready(None)),
+        Act::Make(Kind::Step, 0, 1, Outcome::Idle),
+        Act::Expect(MachineFact::StepsLeft(2)),
+        Act::ExpectHart(0, HartFact::Status(HartStatus::Exited { code: 0 })),
+        Act::Expect(MachineFact::Serial(9)),
+    ];
+    play(&rt, rt.alloc(), &FILE, plain(1, 20), &script, b"A\n")
+}
+
+/// Ten steps of a hart that waits, in each mode: five run, one misses, and the others stall.
+#[test]
+fn a_machine_has_so_many_steps(rt: HostRuntime) -> Result<(), Fail> {
+    let script = [
+        Act::Make(Kind::Step, 0, 5, Outcome::Ran),
+        Act::Make(Kind::Step, 0, 1, missed()),
+        Act::Make(Kind::Step, 0, 4, Outcome::Stalled),
+        Act::Expect(MachineFact::StepsLeft(0)),
+    ];
+    for mode in [Mode::Plain, Mode::Sle, Mode::Tlr] {
+        let config = Config {
+            mode,
+            ..plain(1, 10)
+        };
+        play(&rt, rt.alloc(), &FILE, config, &script, b"")?;
+    }
+    Ok(())
+}
+
+/// Two harts ask for one line: the second waits behind the first, and then for the end of its hold.
+#[test]
+fn two_harts_share_a_line(rt: HostRuntime) -> Result<(), Fail> {
+    let first = hart(0)?;
+    let behind = Outcome::Blocked {
+        why: Why::Behind,
+        by: first,
+    };
+    let locked = Outcome::Blocked {
+        why: Why::Locked,
+        by: first,
+    };
+    let script = [
+        Act::Make(Kind::Step, 0, 5, Outcome::Ran),
+        Act::Make(Kind::Step, 0, 1, missed()),
+        Act::Make(Kind::Step, 1, 5, Outcome::Ran),
+        Act::Make(Kind::Step, 1, 1, missed()),
+        Act::Make(Kind::Order, 0, 1, ordered()),
+        Act::Make(Kind::Order, 1, 1, ordered()),
+        Act::Make(Kind::Serve, 1, 1, behind),
+        Act::Make(Kind::Serve, 0, 1, served()),
+        Act::ExpectHart(0, HartFact::Letter(0x1_0040, Letter::E)),
+        Act::Make(Kind::Serve, 1, 1, locked),
+        Act::Make(Kind::Step, 0, 1, Outcome::Ran),
+        Act::Expect(MachineFact::Written(2)),
+        Act::Make(Kind::Serve, 1, 1, served()),
+        Act::ExpectHart(0, HartFact::Letter(0x1_0040, Letter::S)),
+        Act::ExpectHart(1, HartFact::Letter(0x1_0040, Letter::S)),
+        Act::Make(Kind::Step, 1, 1, Outcome::Ran),
+    ];
+    play(&rt, rt.alloc(), &FILE, plain(2, 30), &script, b"A\nA\n")
+}
+
+/// With room for one line, a written line goes back to main memory as another line comes.
+#[test]
+fn a_written_line_is_written_back(rt: HostRuntime) -> Result<(), Fail> {
+    let config = Config {
+        sets: 1,
+        ways: 1,
+        ..plain(1, 20)
+    };
+    let script = [
+        Act::Make(Kind::Step, 0, 2, Outcome::Ran),
+        Act::Make(Kind::Step, 0, 1, wants(0x1_1000, Need::Write)),
+        Act::Make(Kind::Order, 0, 1, ordered()),
+        Act::Make(Kind::Serve, 0, 1, served()),
+        Act::Make(Kind::Step, 0, 1, Outcome::Ran),
+        Act::ExpectHart(0, HartFact::Letter(0x1_1000, Letter::M)),
+        Act::Expect(MachineFact::Byte(0x1_1000, 5)),
+        Act::ExpectHart(0, HartFact::MainByte(0x1_1000, 0)),
+        Act::Make(Kind::Step, 0, 1, wants(0x1_1040, Need::Read)),
+        Act::Make(Kind::Order, 0, 1, ordered()),
+        Act::Make(Kind::Serve, 0, 1, served()),
+        Act::ExpectHart(0, HartFact::Letter(0x1_1000, Letter::I)),
+        Act::Expect(MachineFact::Byte(0x1_1000, 5)),
+        Act::ExpectHart(0, HartFact::MainByte(0x1_1000, 5)),
+    ];
+    play(&rt, rt.alloc(), &STORES, config, &script, b"")
+}
+
+/// A machine over the lock, with one hart that elides.
+fn eliding() -> Config {
+    Config {
+        mode: Mode::Sle,
+        ..plain(1, 20)
+    }
 }
 
 /// The swap of a lock begins a section, whose store waits in the section until the release commits it.
 #[test]
 fn a_section_stores_at_its_release(rt: HostRuntime) -> Result<(), Fail> {
-    let only = hart(0)?;
-    let config = Config {
-        mode: Mode::Sle,
-        ..plain(1, 20)
-    };
-    let mut machine = machine(&rt, rt.alloc(), &LOCKS, config)?;
-    let stored = line_of(0x1_1040);
-    let locks = Outcome::Missed {
-        line: line_of(0x1_1000),
-        need: Need::Read,
-    };
-    let writes = Outcome::Missed {
-        line: stored,
-        need: Need::Write,
-    };
-    let begins = [
-        (Kind::Step, 0, 2, Outcome::Ran),
-        (Kind::Step, 0, 1, locks),
-        (Kind::Order, 0, 1, ordered()),
-        (Kind::Serve, 0, 1, served()),
-        (Kind::Step, 0, 1, Outcome::Began),
-    ];
-    play(&rt, &mut machine, &begins)?;
     let live = Live {
         count: 1,
-        word: 0x1_1000,
+        word: LOCK,
         old: 0,
         new: 5,
     };
-    assert_eq!(rt; section(&rt, &machine, only), Some(live));
-    assert_eq!(rt; held(&rt, &machine, only), 0);
-    let stores = [
-        (Kind::Step, 0, 1, writes),
-        (Kind::Order, 0, 1, ordered()),
-        (Kind::Serve, 0, 1, served()),
-        (Kind::Step, 0, 1, Outcome::Buffered),
+    let script = [
+        Act::Make(Kind::Step, 0, 2, Outcome::Ran),
+        Act::Make(Kind::Step, 0, 1, wants(LOCK, Need::Read)),
+        Act::Make(Kind::Order, 0, 1, ordered()),
+        Act::Make(Kind::Serve, 0, 1, served()),
+        Act::Make(Kind::Step, 0, 1, Outcome::Began),
+        Act::ExpectHart(0, HartFact::Section(Some(live))),
+        Act::ExpectHart(0, HartFact::Held(0)),
+        Act::Make(Kind::Step, 0, 1, wants(0x1_1040, Need::Write)),
+        Act::Make(Kind::Order, 0, 1, ordered()),
+        Act::Make(Kind::Serve, 0, 1, served()),
+        Act::Make(Kind::Step, 0, 1, Outcome::Buffered),
+        Act::Expect(MachineFact::Byte(0x1_1040, 0)),
+        Act::ExpectHart(0, HartFact::Buffered(0x1_1040, 5)),
+        Act::Make(Kind::Step, 0, 1, Outcome::Committed { count: 3 }),
+        Act::Expect(MachineFact::Byte(0x1_1040, 5)),
+        Act::ExpectHart(0, HartFact::Section(None)),
+        Act::ExpectHart(0, HartFact::Held(0)),
     ];
-    play(&rt, &mut machine, &stores)?;
-    assert_eq!(rt; machine.byte(0x1_1040), Some(0));
-    assert_eq!(rt; buffered(&rt, &machine, only, stored), 5);
-    play(
-        &rt,
-        &mut machine,
-        &[(Kind::Step, 0, 1, Outcome::Committed { count: 3 })],
-    )?;
-    assert_eq!(rt; machine.byte(0x1_1040), Some(5));
-    assert_eq!(rt; section(&rt, &machine, only), None);
-    assert_eq!(rt; held(&rt, &machine, only), 0);
-    Ok(())
+    play(&rt, rt.alloc(), &LOCKS, eliding(), &script, b"")
 }
 
 /// A slot is out for each line of a cache, here those of the lock and of the word behind it, and one for each line that
 /// a section has stored to, until its release.
 #[test]
 fn a_slot_is_out_for_each_line_that_is_held(rt: HostRuntime) -> Result<(), Fail> {
-    let only = hart(0)?;
-    let config = Config {
-        mode: Mode::Sle,
-        ..plain(1, 20)
-    };
-    let mut machine = machine(&rt, rt.alloc(), &LOCKS, config)?;
-    let locks = Outcome::Missed {
-        line: line_of(0x1_1000),
-        need: Need::Read,
-    };
-    let writes = Outcome::Missed {
-        line: line_of(0x1_1040),
-        need: Need::Write,
-    };
-    assert_eq!(rt; outs(&rt, &machine, only), (0, 0));
-    let begins = [
-        (Kind::Step, 0, 2, Outcome::Ran),
-        (Kind::Step, 0, 1, locks),
-        (Kind::Order, 0, 1, ordered()),
-        (Kind::Serve, 0, 1, served()),
-        (Kind::Step, 0, 1, Outcome::Began),
-        (Kind::Step, 0, 1, writes),
+    let script = [
+        Act::ExpectHart(0, HartFact::Out(0, 0)),
+        Act::Make(Kind::Step, 0, 2, Outcome::Ran),
+        Act::Make(Kind::Step, 0, 1, wants(LOCK, Need::Read)),
+        Act::Make(Kind::Order, 0, 1, ordered()),
+        Act::Make(Kind::Serve, 0, 1, served()),
+        Act::Make(Kind::Step, 0, 1, Outcome::Began),
+        Act::Make(Kind::Step, 0, 1, wants(0x1_1040, Need::Write)),
+        Act::ExpectHart(0, HartFact::Out(1, 0)),
+        Act::Make(Kind::Order, 0, 1, ordered()),
+        Act::Make(Kind::Serve, 0, 1, served()),
+        Act::Make(Kind::Step, 0, 1, Outcome::Buffered),
+        Act::ExpectHart(0, HartFact::Out(2, 1)),
+        Act::Make(Kind::Step, 0, 1, Outcome::Committed { count: 3 }),
+        Act::ExpectHart(0, HartFact::Out(2, 0)),
     ];
-    play(&rt, &mut machine, &begins)?;
-    assert_eq!(rt; outs(&rt, &machine, only), (1, 0));
-    let stores = [
-        (Kind::Order, 0, 1, ordered()),
-        (Kind::Serve, 0, 1, served()),
-        (Kind::Step, 0, 1, Outcome::Buffered),
-    ];
-    play(&rt, &mut machine, &stores)?;
-    assert_eq!(rt; outs(&rt, &machine, only), (2, 1));
-    let commits = [(Kind::Step, 0, 1, Outcome::Committed { count: 3 })];
-    play(&rt, &mut machine, &commits)?;
-    assert_eq!(rt; outs(&rt, &machine, only), (2, 0));
-    Ok(())
+    play(&rt, rt.alloc(), &LOCKS, eliding(), &script, b"")
 }
 
 /// The harts' digits come in the order in which the harts were stepped.
 #[test]
 fn the_order_of_events_is_the_order_of_the_output(rt: HostRuntime) -> Result<(), Fail> {
-    for (order, output) in [([0, 1], b"01"), ([1, 0], b"10")] {
-        let mut machine = machine(&rt, rt.alloc(), &DIGITS, plain(2, 26))?;
-        for number in order {
-            let rows = [
-                (Kind::Step, number, 6, Outcome::Ran),
-                (Kind::Step, number, 1, missed()),
-                (Kind::Order, number, 1, ordered()),
-                (Kind::Serve, number, 1, served()),
-                (Kind::Step, number, 4, Outcome::Ran),
-            ];
-            play(&rt, &mut machine, &rows)?;
-        }
-        assert!(rt; machine.over());
-        assert_eq!(rt; machine.steps_left(), 0);
-        assert_eq!(rt; machine.output(), output.as_slice());
+    for (first, second, output) in [(0, 1, b"01".as_slice()), (1, 0, b"10".as_slice())] {
+        let script = [
+            Act::Make(Kind::Step, first, 6, Outcome::Ran),
+            Act::Make(Kind::Step, first, 1, missed()),
+            Act::Make(Kind::Order, first, 1, ordered()),
+            Act::Make(Kind::Serve, first, 1, served()),
+            Act::Make(Kind::Step, first, 4, Outcome::Ran),
+            Act::Expect(MachineFact::Over(false)),
+            Act::Make(Kind::Step, second, 6, Outcome::Ran),
+            Act::Make(Kind::Step, second, 1, missed()),
+            Act::Make(Kind::Order, second, 1, ordered()),
+            Act::Make(Kind::Serve, second, 1, served()),
+            Act::Make(Kind::Step, second, 4, Outcome::Ran),
+            Act::Expect(MachineFact::Over(true)),
+            Act::Expect(MachineFact::StepsLeft(0)),
+        ];
+        play(&rt, rt.alloc(), &DIGITS, plain(2, 26), &script, output)?;
     }
     Ok(())
 }

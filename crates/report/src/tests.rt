@@ -62,8 +62,14 @@ fn run_in(
     };
     assert!(rt; image.harts() == config.harts);
     let mut machine = Machine::make(alloc, image, config).map_err(|_| "no machine")?;
+    make_events(rt, &mut machine, events);
+    Ok(machine)
+}
+
+/// Makes these many events of each hart in turn.
+fn make_events(rt: &impl Abort, machine: &mut Machine, events: &[(u8, u32)]) {
     for (number, count) in events {
-        let hart = HartId::new(*number).ok_or("no such hart")?;
+        let hart = HartId::at(usize::from(*number % 8));
         for place in 0..*count {
             assert!(rt; machine.steps_left() >= 1);
             assert!(rt; hart.number < machine.config().harts);
@@ -71,7 +77,6 @@ fn run_in(
             let _ = machine.step(Event { kind, hart });
         }
     }
-    Ok(machine)
 }
 
 /// A sink that took the report of a machine.
@@ -81,6 +86,18 @@ fn told(alloc: Global, machine: &Machine) -> Result<SureSink, Fail> {
     Ok(sink)
 }
 
+/// A sink that took the report of a machine after these events.
+fn reported(
+    rt: &impl Abort,
+    alloc: Global,
+    mode: Mode,
+    file: &[u8],
+    events: &[(u8, u32)],
+) -> Result<SureSink, Fail> {
+    let machine = run_in(rt, alloc, mode, file, events)?;
+    told(alloc, &machine)
+}
+
 #[test]
 fn a_report_is_three_lines_for_one_hart(rt: HostRuntime) -> Result<(), Fail> {
     for (mode, name) in [
@@ -88,8 +105,7 @@ fn a_report_is_three_lines_for_one_hart(rt: HostRuntime) -> Result<(), Fail> {
         (Mode::Sle, "sle"),
         (Mode::Tlr, "tlr"),
     ] {
-        let machine = run_in(&rt, rt.alloc(), mode, &FILE, &[(0, 37)])?;
-        let sink = told(rt.alloc(), &machine)?;
+        let sink = reported(&rt, rt.alloc(), mode, &FILE, &[(0, 37)])?;
         let text = format!(in rt.alloc();
             "elide {name} harts 1 events 37\n\
             hart 0 ran 9 began 0 committed 0 instr 0 conflict 0 room 0 lines 0 long 0 call 0 mixed 0 \
@@ -131,8 +147,7 @@ fn a_line_ends_with_how_its_hart_stands(rt: HostRuntime) -> Result<(), Fail> {
     for (place, word, events, ran, end) in rows {
         let mut file = FILE;
         file[place..place + 4].copy_from_slice(&word);
-        let machine = run(&rt, rt.alloc(), &file, &[(0, events)])?;
-        let sink = told(rt.alloc(), &machine)?;
+        let sink = reported(&rt, rt.alloc(), Mode::Tlr, &file, &[(0, events)])?;
         let text = str::from_utf8(sink.taken()).map_err(|_| "no text")?;
         assert!(rt; text.contains(ran), "{text}");
         assert!(rt; text.ends_with(end), "{text}");
@@ -152,8 +167,7 @@ fn each_of_eight_harts_has_its_line(rt: HostRuntime) -> Result<(), Fail> {
         (6, 25),
         (7, 29),
     ];
-    let machine = run(&rt, rt.alloc(), &FILE, &events)?;
-    let sink = told(rt.alloc(), &machine)?;
+    let sink = reported(&rt, rt.alloc(), Mode::Tlr, &FILE, &events)?;
     let text = str::from_utf8(sink.taken()).map_err(|_| "no text")?;
     let mut lines = text.lines();
     assert_eq!(rt; lines.next(), Some("elide tlr harts 8 events 136"));
@@ -180,13 +194,18 @@ fn each_of_eight_harts_has_its_line(rt: HostRuntime) -> Result<(), Fail> {
     Ok(())
 }
 
+/// Whether a sink that takes a byte at a time is told what one that takes all at once is told.
+fn is_told_bit_by_bit(alloc: Global, machine: &Machine) -> Result<bool, Fail> {
+    let mut slow = MemSink::make(alloc, 2_000, 1, &[])?;
+    write_report(&mut slow, machine)?;
+    let whole = told(alloc, machine)?;
+    Ok(slow.taken() == whole.taken())
+}
+
 #[test]
 fn a_sink_is_given_the_rest_of_what_it_did_not_take(rt: HostRuntime) -> Result<(), Fail> {
     let machine = run(&rt, rt.alloc(), &FILE, &[(0, 37)])?;
-    let whole = told(rt.alloc(), &machine)?;
-    let mut slow = MemSink::make(rt.alloc(), 2_000, 1, &[])?;
-    write_report(&mut slow, &machine)?;
-    assert_eq!(rt; slow.taken(), whole.taken());
+    assert!(rt; is_told_bit_by_bit(rt.alloc(), &machine)?);
     Ok(())
 }
 
@@ -202,12 +221,15 @@ fn taken_until(alloc: Global, machine: &Machine, failing: u32) -> Result<MemSink
 #[test]
 fn a_sink_that_failed_has_the_beginning(rt: HostRuntime) -> Result<(), Fail> {
     let machine = run(&rt, rt.alloc(), &FILE, &[(0, 37)])?;
-    let none = taken_until(rt.alloc(), &machine, 1)?;
-    assert!(rt; none.taken().is_empty());
-    let word = taken_until(rt.alloc(), &machine, 2)?;
-    assert_eq!(rt; word.taken(), b"elide".as_slice());
-    let line = taken_until(rt.alloc(), &machine, 13)?;
-    assert_eq!(rt; line.taken(), b"elide tlr harts 1 events 37\n".as_slice());
+    let rows = [
+        (1, b"".as_slice()),
+        (2, b"elide"),
+        (13, b"elide tlr harts 1 events 37\n"),
+    ];
+    for (put, taken) in rows {
+        let sink = taken_until(rt.alloc(), &machine, put)?;
+        assert_eq!(rt; sink.taken(), taken);
+    }
     Ok(())
 }
 
@@ -352,11 +374,17 @@ fn one_loss(rt: &impl Abort, alloc: Global) -> Result<Times, Fail> {
     Ok(tabulate(&history))
 }
 
+/// What a run to its end took.
+fn run_times(rt: &impl Abort, alloc: Global) -> Result<Times, Fail> {
+    let machine = run(rt, alloc, &FILE, &[(0, 37)])?;
+    Ok(tabulate(machine.history()))
+}
+
 #[test]
 fn a_plain_run_has_two_lines_of_units(rt: HostRuntime) -> Result<(), Fail> {
-    let machine = run(&rt, rt.alloc(), &FILE, &[(0, 37)])?;
+    let times = run_times(&rt, rt.alloc())?;
     let mut sink = SureSink::make(rt.alloc(), 100)?;
-    write_times(&mut sink, &tabulate(machine.history()), 1)?;
+    write_times(&mut sink, &times, 1)?;
     let text = b"time 0 units 34 lost 0\ntime total 34\n";
     assert_eq!(rt; sink.taken(), text.as_slice());
     Ok(())

@@ -43,8 +43,10 @@ const HEADER: [u8; 88] = [
     0x00, 0x10, 0x00, 0x00, 0x73, 0x00, 0x00, 0x00,
 ];
 
-fn hart(number: u8) -> Result<HartId, Fail> {
-    Ok(HartId::new(number).ok_or("no such hart")?)
+/// The hart of a number, of which eight are the first again. It cannot fail, since each early return beside a bus costs
+/// its proof a path.
+fn hart(number: u8) -> HartId {
+    HartId::at(usize::from(number % 8))
 }
 
 /// The line that the harts ask for: the first one of memory.
@@ -118,7 +120,7 @@ fn read_by(alloc: Global, mode: Mode, readers: &[u8]) -> Result<Memory, Fail>
     let hierarchy = Hierarchy::make(alloc, &image, &config)?;
     let mut memory = Memory { hierarchy, pool };
     for reader in readers {
-        if !read_in_section(&mut memory, hart(*reader)?) {
+        if !read_in_section(&mut memory, hart(*reader)) {
             return Err("a line that is not there".into());
         }
     }
@@ -242,14 +244,26 @@ fn order(rig: &mut Rig, hart: HartId) -> Option<Outcome>
     }
 }
 
+/// Asks for the line for a hart, where it may, and tells what Order says then.
+fn asks(rig: &mut Rig, hart: HartId, need: Need) -> Option<Outcome>
+    requires { IsTold rig.old.pool (kept rig.old.bus) }
+    ensures { IsTold rig.new.pool (kept rig.new.bus) }
+{
+    if ask(rig, hart, need) {
+        order(rig, hart)
+    } else {
+        None
+    }
+}
+
 /// Whether a hart's cache has a bit.
 fn is_marked(rig: &Rig, hart: HartId) -> bool {
     usize::from(hart.number) < rig.bus.hierarchy.harts() && rig.bus.hierarchy.cache(hart).marked()
 }
 
 /// A marker that a hart sends.
-fn marker(from: u8) -> Result<Message, Fail> {
-    Ok(Message::Marker { from: hart(from)? })
+fn marker(from: u8) -> Message {
+    Message::Marker { from: hart(from) }
 }
 
 /// Takes the oldest message of a hart.

@@ -3,7 +3,7 @@ use crate::support::{
     BARE_TRACE, CERTIFICATE, HELLO, REPORT, TIMES, TRACE, USAGE, changed, strings,
 };
 use el_io::{MemShelf, MemSink, OpenGate};
-use std::alloc::Global;
+use std::alloc::{AllocError, Global};
 use std::sync::Wait;
 use std::test::Fail;
 use std::thread::Threads;
@@ -165,6 +165,39 @@ fn planned(failing: Failing, device: Device) -> [u32; 1] {
     }
 }
 
+/// The files, with calls that may fail.
+fn shelf(alloc: Global, failing: Failing) -> Result<MemShelf, Fail> {
+    let other_outcome = changed(alloc, &TRACE, 23, 0)?;
+    let other_view = changed(alloc, &CERTIFICATE, 11, 8)?;
+    let names = strings(alloc, &["a", "t", "b", "d", "c", "f", "w", "x"])?;
+    let contents = copies(
+        alloc,
+        &[
+            &HELLO,
+            &TRACE,
+            &BARE_TRACE,
+            &other_outcome,
+            &CERTIFICATE,
+            &other_view,
+            BEFORE,
+            BEFORE,
+        ],
+    )?;
+    if names.len() != contents.len() {
+        return Err("a file without a name".into());
+    }
+    let calls = planned(failing, Device::Shelf);
+    Ok(MemShelf::make(alloc, &names, &contents, &calls)?)
+}
+
+/// Copies of some contents.
+fn copies(alloc: Global, contents: &[&[u8]]) -> Result<Vec<Vec<u8>>, AllocError> {
+    contents
+        .iter()
+        .map(|bytes| Vec::from_slice(alloc, bytes))
+        .try_collect(alloc)
+}
+
 /// What is left of a command of which a call fails. Each put takes a byte.
 fn what_is_left<R: Threads + Wait + Sync>(
     rt: &R,
@@ -172,35 +205,25 @@ fn what_is_left<R: Threads + Wait + Sync>(
     words: &[&str],
     failing: Failing,
 ) -> Result<Left, Fail> {
-    let names = [
-        String::from_str(alloc, "a")?,
-        String::from_str(alloc, "t")?,
-        String::from_str(alloc, "b")?,
-        String::from_str(alloc, "d")?,
-        String::from_str(alloc, "c")?,
-        String::from_str(alloc, "f")?,
-        String::from_str(alloc, "w")?,
-        String::from_str(alloc, "x")?,
-    ];
-    let contents = [
-        Vec::from_slice(alloc, &HELLO)?,
-        Vec::from_slice(alloc, &TRACE)?,
-        Vec::from_slice(alloc, &BARE_TRACE)?,
-        changed(alloc, &TRACE, 23, 0)?,
-        Vec::from_slice(alloc, &CERTIFICATE)?,
-        changed(alloc, &CERTIFICATE, 11, 8)?,
-        Vec::from_slice(alloc, BEFORE)?,
-        Vec::from_slice(alloc, BEFORE)?,
-    ];
-    let calls = planned(failing, Device::Shelf);
-    let mut shelf = MemShelf::make(alloc, &names, &contents, &calls)?;
+    let words = strings(alloc, words)?;
     let mut out = MemSink::make(alloc, 256, 1, &planned(failing, Device::Out))?;
     let mut err = MemSink::make(alloc, 512, 1, &planned(failing, Device::Err))?;
-    let words = strings(alloc, words)?;
+    let mut shelf = shelf(alloc, failing)?;
     let gate = OpenGate::new();
     let status = tool(rt, alloc, &words, &mut shelf, &mut out, &mut err, &gate);
+    what_devices_have(alloc, status.number(), &shelf, &out, &err)
+}
+
+/// What the devices have behind a command that ended with a status.
+fn what_devices_have(
+    alloc: Global,
+    status: u8,
+    shelf: &MemShelf,
+    out: &MemSink,
+    err: &MemSink,
+) -> Result<Left, Fail> {
     Ok(Left {
-        status: status.number(),
+        status,
         out: Vec::from_slice(alloc, out.taken())?,
         err: Vec::from_slice(alloc, err.taken())?,
         trace: Vec::from_slice(alloc, shelf.contents("w"))?,

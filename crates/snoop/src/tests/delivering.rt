@@ -8,10 +8,10 @@ use super::events::*;
 use super::*;
 use el_base::Why;
 
-fn probe(origin: u8) -> Result<Message, Fail> {
-    Ok(Message::Probe {
-        origin: hart(origin)?,
-    })
+fn probe(origin: u8) -> Message {
+    Message::Probe {
+        origin: hart(origin),
+    }
 }
 
 /// A hart waits for the line behind the others.
@@ -21,7 +21,7 @@ fn wait(rig: &mut Rig, hart: HartId, line: LineAddr) -> Result<(), Fail>
 {
     let asked = ask_for(rig, hart, line, Need::Write);
     let outcome = order(rig, hart);
-    if !asked || outcome != ordered(&[])? {
+    if !asked || outcome != ordered(&[]) {
         return Err("the request is not in order".into());
     }
     Ok(())
@@ -32,12 +32,12 @@ fn chain(alloc: Global) -> Result<Rig, Fail>
     ensures { IfOk result (λ rig. IsTold rig.pool (kept rig.bus)) }
 {
     let mut rig = made(alloc, Mode::Tlr, &[0, 1, 2, 3], false)?;
-    if get(&mut rig, hart(1)?, next_line(), Need::Write) != served(&[])? {
+    if get(&mut rig, hart(1), next_line(), Need::Write) != served(&[]) {
         return Err("the section did not get its line".into());
     }
-    wait(&mut rig, hart(2)?, next_line())?;
-    wait(&mut rig, hart(3)?, next_line())?;
-    wait(&mut rig, hart(0)?, next_line())?;
+    wait(&mut rig, hart(2), next_line())?;
+    wait(&mut rig, hart(3), next_line())?;
+    wait(&mut rig, hart(0), next_line())?;
     Ok(rig)
 }
 
@@ -47,7 +47,7 @@ fn take(rig: &mut Rig, harts: &[u8]) -> Result<(), Fail>
     ensures { IsTold rig.new.pool (kept rig.new.bus) }
 {
     for number in harts {
-        if deliver(rig, hart(*number)?) != delivered(&[])? {
+        if deliver(rig, hart(*number)) != delivered(&[]) {
             return Err("a message with a loser, or none".into());
         }
     }
@@ -76,7 +76,7 @@ fn chain_after_the_commit(alloc: Global) -> Result<Rig, Fail>
     ensures { IfOk result (λ rig. IsTold rig.pool (kept rig.bus)) }
 {
     let mut rig = chain_before_the_last_probe(alloc)?;
-    end_section(&mut rig, hart(1)?);
+    end_section(&mut rig, hart(1));
     Ok(rig)
 }
 
@@ -93,13 +93,13 @@ fn mail_of(rig: &mut Rig, of: HartId) -> [Option<Message>; 4] {
 /// What lies in the mailbox of a hart of the chain after these harts took one message each.
 fn mail_after(alloc: Global, harts: &[u8], of: u8) -> Result<[Option<Message>; 4], Fail> {
     let mut rig = chain_after(alloc, harts)?;
-    Ok(mail_of(&mut rig, hart(of)?))
+    Ok(mail_of(&mut rig, hart(of)))
 }
 
 #[test]
 fn each_waiting_hart_has_a_marker_of_the_one_before_it(rt: HostRuntime) -> Result<(), Fail> {
     for (of, from) in [(2, 1), (3, 2), (0, 3)] {
-        let wanted = [Some(marker(from)?), None, None, None];
+        let wanted = [Some(marker(from)), None, None, None];
         assert_eq!(rt; mail_after(rt.alloc(), &[], of)?, wanted);
     }
     assert_eq!(rt; mail_after(rt.alloc(), &[], 1)?, [None; 4]);
@@ -108,19 +108,19 @@ fn each_waiting_hart_has_a_marker_of_the_one_before_it(rt: HostRuntime) -> Resul
 
 #[test]
 fn probes_go_up_the_chain(rt: HostRuntime) -> Result<(), Fail> {
-    let [after, two] = [Some(marker(2)?), Some(probe(0)?)];
+    let [after, two] = [Some(marker(2)), Some(probe(0))];
     assert_eq!(rt; mail_after(rt.alloc(), &[0], 3)?, [after, two, None, None]);
-    let [after, two] = [Some(marker(1)?), Some(probe(3)?)];
+    let [after, two] = [Some(marker(1)), Some(probe(3))];
     assert_eq!(rt;
         mail_after(rt.alloc(), &[0, 3], 2)?,
         [after, two, None, None]
     );
-    let three = Some(probe(0)?);
+    let three = Some(probe(0));
     assert_eq!(rt;
         mail_after(rt.alloc(), &[0, 3, 3], 2)?,
         [after, two, three, None]
     );
-    let all = [Some(probe(2)?), Some(probe(3)?), Some(probe(0)?), None];
+    let all = [Some(probe(2)), Some(probe(3)), Some(probe(0)), None];
     assert_eq!(rt; mail_after(rt.alloc(), &[0, 3, 3, 2, 2, 2], 1)?, all);
     assert_eq!(rt; mail_after(rt.alloc(), &[0, 3, 3, 2, 2, 2], 0)?, [None; 4]);
     Ok(())
@@ -128,7 +128,7 @@ fn probes_go_up_the_chain(rt: HostRuntime) -> Result<(), Fail> {
 
 #[test]
 fn a_chain_of_four_loses_to_its_earliest(rt: HostRuntime) -> Result<(), Fail> {
-    let (one, two) = (hart(1)?, hart(2)?);
+    let (one, two) = (hart(1), hart(2));
     let mut rig = chain_before_the_last_probe(rt.alloc())?;
     assert!(rt; is_marked(&rig, one));
     assert_eq!(rt;
@@ -138,45 +138,45 @@ fn a_chain_of_four_loses_to_its_earliest(rt: HostRuntime) -> Result<(), Fail> {
             by: one
         })
     );
-    assert_eq!(rt; deliver(&mut rig, one), delivered(&[(1, 0)])?);
+    assert_eq!(rt; deliver(&mut rig, one), delivered(&[(1, 0)]));
     assert!(rt; !is_marked(&rig, one));
     assert_eq!(rt; deliver(&mut rig, one), Some(Outcome::Idle));
     // each of the next two was told of hart 0, and loses as the next head is faced
-    assert_eq!(rt; serve(&mut rig, two), served(&[(2, 0)])?);
-    assert_eq!(rt; serve(&mut rig, hart(3)?), served(&[(3, 0)])?);
-    assert_eq!(rt; serve(&mut rig, hart(0)?), served(&[])?);
-    assert!(rt; is_marked(&rig, hart(0)?));
+    assert_eq!(rt; serve(&mut rig, two), served(&[(2, 0)]));
+    assert_eq!(rt; serve(&mut rig, hart(3)), served(&[(3, 0)]));
+    assert_eq!(rt; serve(&mut rig, hart(0)), served(&[]));
+    assert!(rt; is_marked(&rig, hart(0)));
     Ok(())
 }
 
 #[test]
 fn a_probe_that_comes_after_the_commit_costs_nobody(rt: HostRuntime) -> Result<(), Fail> {
     let mut rig = chain_after_the_commit(rt.alloc())?;
-    assert_eq!(rt; deliver(&mut rig, hart(1)?), delivered(&[])?);
-    assert_eq!(rt; serve(&mut rig, hart(2)?), served(&[(2, 0)])?);
+    assert_eq!(rt; deliver(&mut rig, hart(1)), delivered(&[]));
+    assert_eq!(rt; serve(&mut rig, hart(2)), served(&[(2, 0)]));
     Ok(())
 }
 
 #[test]
 fn a_probe_goes_as_its_origin_is_served(rt: HostRuntime) -> Result<(), Fail> {
     let mut rig = chain_after_the_commit(rt.alloc())?;
-    assert_eq!(rt; serve(&mut rig, hart(2)?), served(&[(2, 0)])?);
-    assert_eq!(rt; serve(&mut rig, hart(3)?), served(&[(3, 0)])?);
-    assert_eq!(rt; serve(&mut rig, hart(0)?), served(&[])?);
-    assert_eq!(rt; deliver(&mut rig, hart(1)?), Some(Outcome::Idle));
+    assert_eq!(rt; serve(&mut rig, hart(2)), served(&[(2, 0)]));
+    assert_eq!(rt; serve(&mut rig, hart(3)), served(&[(3, 0)]));
+    assert_eq!(rt; serve(&mut rig, hart(0)), served(&[]));
+    assert_eq!(rt; deliver(&mut rig, hart(1)), Some(Outcome::Idle));
     Ok(())
 }
 
 #[test]
 fn a_late_probe_costs_the_next_hart_its_section(rt: HostRuntime) -> Result<(), Fail> {
-    let two = hart(2)?;
+    let two = hart(2);
     let mut rig = chain_after(rt.alloc(), &[0, 3, 3])?;
-    end_section(&mut rig, hart(1)?);
+    end_section(&mut rig, hart(1));
     // hart 2 was told of nobody yet, and defers hart 3
-    assert_eq!(rt; serve(&mut rig, two), served(&[])?);
-    assert_eq!(rt; deliver(&mut rig, two), delivered(&[])?);
-    assert_eq!(rt; deliver(&mut rig, two), delivered(&[(2, 0)])?);
-    assert_eq!(rt; serve(&mut rig, hart(3)?), served(&[(3, 0)])?);
+    assert_eq!(rt; serve(&mut rig, two), served(&[]));
+    assert_eq!(rt; deliver(&mut rig, two), delivered(&[]));
+    assert_eq!(rt; deliver(&mut rig, two), delivered(&[(2, 0)]));
+    assert_eq!(rt; serve(&mut rig, hart(3)), served(&[(3, 0)]));
     Ok(())
 }
 
@@ -185,21 +185,21 @@ fn a_late_probe_costs_the_next_hart_its_section(rt: HostRuntime) -> Result<(), F
 fn answer(alloc: Global, before: &[u8], of: u8) -> Result<[Option<Message>; 4], Fail> {
     let mut rig = made(alloc, Mode::Tlr, &[], true)?;
     for number in before {
-        wait(&mut rig, hart(*number)?, line())?;
+        wait(&mut rig, hart(*number), line())?;
     }
-    wait(&mut rig, hart(1)?, line())?;
+    wait(&mut rig, hart(1), line())?;
     take(&mut rig, &[1])?;
-    Ok(mail_of(&mut rig, hart(of)?))
+    Ok(mail_of(&mut rig, hart(of)))
 }
 
 #[test]
 fn a_marker_is_answered_with_what_the_hart_was_told(rt: HostRuntime) -> Result<(), Fail> {
     // hart 0 is not told of itself
-    let own = Some(probe(1)?);
+    let own = Some(probe(1));
     assert_eq!(rt; answer(rt.alloc(), &[0], 0)?, [own, None, None, None]);
     // nor is anyone told of a hart that is not ordered on the line
     assert_eq!(rt; answer(rt.alloc(), &[2], 2)?, [own, None, None, None]);
-    let all = [Some(marker(0)?), own, Some(probe(0)?), None];
+    let all = [Some(marker(0)), own, Some(probe(0)), None];
     assert_eq!(rt; answer(rt.alloc(), &[0, 2], 2)?, all);
     Ok(())
 }

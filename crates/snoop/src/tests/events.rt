@@ -14,63 +14,56 @@ pub(super) fn next_line() -> LineAddr {
 }
 
 /// These losers, each with its winner.
-fn losers(pairs: &[(u8, u8)]) -> Result<Losers, Fail> {
+fn losers(pairs: &[(u8, u8)]) -> Losers {
     let mut losers = Losers::none();
     for (loser, winner) in pairs {
-        losers = losers.with(hart(*loser)?, hart(*winner)?);
+        losers = losers.with(hart(*loser), hart(*winner));
     }
-    Ok(losers)
+    losers
 }
 
-/// These freed harts, each with the number of its instructions.
-fn freed(counts: &[(u8, u8)]) -> Result<Freed, Fail> {
+/// These freed harts, each with the number of its instructions, which is from 1 to 15.
+fn freed(counts: &[(u8, u8)]) -> Freed {
     let mut freed = Freed::none();
     for (number, count) in counts {
-        if *count < 1 || *count > 15 {
-            return Err("no such number of instructions".into());
+        if (1..=15).contains(count) {
+            freed = freed.with(hart(*number), *count);
         }
-        freed = freed.with(hart(*number)?, *count);
     }
-    Ok(freed)
+    freed
 }
 
 /// What Order says where each of these losers is beaten by its winner, and these harts are let go.
-pub(super) fn ordered_and_freed(
-    pairs: &[(u8, u8)],
-    counts: &[(u8, u8)],
-) -> Result<Option<Outcome>, Fail> {
-    Ok(Some(Outcome::Ordered {
-        losers: losers(pairs)?,
-        freed: freed(counts)?,
-    }))
+pub(super) fn ordered_and_freed(pairs: &[(u8, u8)], counts: &[(u8, u8)]) -> Option<Outcome> {
+    Some(Outcome::Ordered {
+        losers: losers(pairs),
+        freed: freed(counts),
+    })
 }
 
 /// The same where nobody is let go.
-pub(super) fn ordered(pairs: &[(u8, u8)]) -> Result<Option<Outcome>, Fail> {
+pub(super) fn ordered(pairs: &[(u8, u8)]) -> Option<Outcome> {
     ordered_and_freed(pairs, &[])
 }
 
 /// What Serve says where each of these losers is beaten by its winner, and these harts are let go.
-pub(super) fn served_and_freed(
-    pairs: &[(u8, u8)],
-    counts: &[(u8, u8)],
-) -> Result<Option<Outcome>, Fail> {
-    Ok(Some(Outcome::Served {
-        losers: losers(pairs)?,
-        freed: freed(counts)?,
-    }))
+pub(super) fn served_and_freed(pairs: &[(u8, u8)], counts: &[(u8, u8)]) -> Option<Outcome> {
+    Some(Outcome::Served {
+        losers: losers(pairs),
+        freed: freed(counts),
+    })
 }
 
 /// The same where nobody is let go.
-pub(super) fn served(pairs: &[(u8, u8)]) -> Result<Option<Outcome>, Fail> {
+pub(super) fn served(pairs: &[(u8, u8)]) -> Option<Outcome> {
     served_and_freed(pairs, &[])
 }
 
 /// What Deliver says where each of these losers is beaten by its winner.
-pub(super) fn delivered(pairs: &[(u8, u8)]) -> Result<Option<Outcome>, Fail> {
-    Ok(Some(Outcome::Delivered {
-        losers: losers(pairs)?,
-    }))
+pub(super) fn delivered(pairs: &[(u8, u8)]) -> Option<Outcome> {
+    Some(Outcome::Delivered {
+        losers: losers(pairs),
+    })
 }
 
 /// A hart asks for a line, where it may.

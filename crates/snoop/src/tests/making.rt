@@ -23,7 +23,7 @@ fn a_first_bus_has_the_image_and_no_request(rt: HostRuntime) -> Result<(), Fail>
         assert_eq!(rt; rig.bus.harts(), usize::from(harts));
         for number in 0..harts {
             assert_eq!(rt;
-                asked(&rig, hart(number)?),
+                asked(&rig, hart(number)),
                 Some(Asked::Nothing),
                 "hart {number}"
             );

@@ -9,13 +9,13 @@ use cache_sets::Letter;
 use el_base::Why;
 
 /// What Serve says where a hart is in the way.
-fn blocked(why: Why, by: u8) -> Result<Option<Outcome>, Fail> {
-    Ok(Some(Outcome::Blocked { why, by: hart(by)? }))
+fn blocked(why: Why, by: u8) -> Option<Outcome> {
+    Some(Outcome::Blocked { why, by: hart(by) })
 }
 
 /// The letters of two harts' copies of the line.
-fn letters(rig: &Rig) -> Result<(Letter, Letter), Fail> {
-    Ok((letter(rig, hart(0)?, line()), letter(rig, hart(1)?, line())))
+fn letters(rig: &Rig) -> (Letter, Letter) {
+    (letter(rig, hart(0), line()), letter(rig, hart(1), line()))
 }
 
 /// A hart without a section gets the line and does its step, so that it holds the line no more.
@@ -30,9 +30,9 @@ fn get_and_step(rig: &mut Rig, hart: HartId, need: Need) -> Option<Outcome>
 
 #[test]
 fn two_harts_read_and_one_writes(rt: HostRuntime) -> Result<(), Fail> {
-    let (zero, one) = (hart(0)?, hart(1)?);
+    let (zero, one) = (hart(0), hart(1));
     let mut rig = made(rt.alloc(), Mode::Plain, &[], false)?;
-    assert_eq!(rt; letters(&rig)?, (Letter::I, Letter::I));
+    assert_eq!(rt; letters(&rig), (Letter::I, Letter::I));
     // who asks, for what, and the letters of both then
     for (who, need, wanted) in [
         (zero, Need::Read, (Letter::E, Letter::I)),
@@ -41,8 +41,8 @@ fn two_harts_read_and_one_writes(rt: HostRuntime) -> Result<(), Fail> {
         (zero, Need::Read, (Letter::S, Letter::O)),
         (zero, Need::Write, (Letter::M, Letter::I)),
     ] {
-        assert_eq!(rt; get_and_step(&mut rig, who, need), served(&[])?);
-        assert_eq!(rt; letters(&rig)?, wanted, "{who:?} {need:?}");
+        assert_eq!(rt; get_and_step(&mut rig, who, need), served(&[]));
+        assert_eq!(rt; letters(&rig), wanted, "{who:?} {need:?}");
         // nothing was stored, so main memory tells what the copies do
         assert_eq!(rt; bytes(&rig, 0x10001), (Some(0x45), Some(0x45)));
     }
@@ -52,45 +52,45 @@ fn two_harts_read_and_one_writes(rt: HostRuntime) -> Result<(), Fail> {
 
 #[test]
 fn the_first_thing_in_the_way_is_told(rt: HostRuntime) -> Result<(), Fail> {
-    let (one, two, three) = (hart(1)?, hart(2)?, hart(3)?);
+    let (one, two, three) = (hart(1), hart(2), hart(3));
     // hart 0 has read the line in its section, and hart 3 holds it; hart 2 comes to write it, and hart 1 behind
     let mut rig = made(rt.alloc(), Mode::Tlr, &[0], false)?;
-    assert_eq!(rt; get(&mut rig, three, line(), Need::Read), served(&[])?);
+    assert_eq!(rt; get(&mut rig, three, line(), Need::Read), served(&[]));
     assert!(rt; ask_for(&mut rig, two, line(), Need::Write));
-    assert_eq!(rt; order(&mut rig, two), ordered(&[])?);
+    assert_eq!(rt; order(&mut rig, two), ordered(&[]));
     assert!(rt; ask_for(&mut rig, one, line(), Need::Read));
-    assert_eq!(rt; order(&mut rig, one), ordered(&[])?);
+    assert_eq!(rt; order(&mut rig, one), ordered(&[]));
     // the head's hart is told though the line is retained and held
-    assert_eq!(rt; serve(&mut rig, one), blocked(Why::Behind, 2)?);
+    assert_eq!(rt; serve(&mut rig, one), blocked(Why::Behind, 2));
     // the section's hart is told though the line is held
-    assert_eq!(rt; serve(&mut rig, two), blocked(Why::Retained, 0)?);
-    end_section(&mut rig, hart(0)?);
-    assert_eq!(rt; serve(&mut rig, two), blocked(Why::Locked, 3)?);
+    assert_eq!(rt; serve(&mut rig, two), blocked(Why::Retained, 0));
+    end_section(&mut rig, hart(0));
+    assert_eq!(rt; serve(&mut rig, two), blocked(Why::Locked, 3));
     assert_eq!(rt; letter(&rig, two, line()), Letter::I);
     give_up(&mut rig, three);
-    assert_eq!(rt; serve(&mut rig, two), served(&[])?);
+    assert_eq!(rt; serve(&mut rig, two), served(&[]));
     assert_eq!(rt; letter(&rig, two, line()), Letter::M);
     assert_eq!(rt; serve(&mut rig, two), Some(Outcome::Idle));
     // hart 2 has no section, so it holds the line now
-    assert_eq!(rt; serve(&mut rig, one), blocked(Why::Locked, 2)?);
+    assert_eq!(rt; serve(&mut rig, one), blocked(Why::Locked, 2));
     give_up(&mut rig, two);
-    assert_eq!(rt; serve(&mut rig, one), served(&[])?);
+    assert_eq!(rt; serve(&mut rig, one), served(&[]));
     Ok(())
 }
 
 #[test]
 fn the_least_hart_that_retains_is_told(rt: HostRuntime) -> Result<(), Fail> {
-    let three = hart(3)?;
+    let three = hart(3);
     let mut rig = made(rt.alloc(), Mode::Tlr, &[0, 1, 2], false)?;
     assert!(rt; ask_for(&mut rig, three, line(), Need::Write));
-    assert_eq!(rt; order(&mut rig, three), ordered(&[])?);
-    assert_eq!(rt; serve(&mut rig, three), blocked(Why::Retained, 0)?);
-    end_section(&mut rig, hart(1)?);
-    assert_eq!(rt; serve(&mut rig, three), blocked(Why::Retained, 0)?);
-    end_section(&mut rig, hart(0)?);
-    assert_eq!(rt; serve(&mut rig, three), blocked(Why::Retained, 2)?);
-    end_section(&mut rig, hart(2)?);
-    assert_eq!(rt; serve(&mut rig, three), served(&[])?);
+    assert_eq!(rt; order(&mut rig, three), ordered(&[]));
+    assert_eq!(rt; serve(&mut rig, three), blocked(Why::Retained, 0));
+    end_section(&mut rig, hart(1));
+    assert_eq!(rt; serve(&mut rig, three), blocked(Why::Retained, 0));
+    end_section(&mut rig, hart(0));
+    assert_eq!(rt; serve(&mut rig, three), blocked(Why::Retained, 2));
+    end_section(&mut rig, hart(2));
+    assert_eq!(rt; serve(&mut rig, three), served(&[]));
     Ok(())
 }
 
@@ -98,22 +98,22 @@ fn the_least_hart_that_retains_is_told(rt: HostRuntime) -> Result<(), Fail> {
 /// hart 1, which has none, to read it.
 fn after_section(alloc: Global, need: Need) -> Result<(Option<Outcome>, Option<Outcome>), Fail> {
     let mut rig = made(alloc, Mode::Sle, &[0], false)?;
-    if get(&mut rig, hart(0)?, next_line(), need) != served(&[])? {
+    if get(&mut rig, hart(0), next_line(), need) != served(&[]) {
         return Err("the section did not get its line".into());
     }
-    if !ask_for(&mut rig, hart(1)?, next_line(), Need::Read) {
+    if !ask_for(&mut rig, hart(1), next_line(), Need::Read) {
         return Err("no second request".into());
     }
-    let faced = order(&mut rig, hart(1)?);
-    Ok((faced, serve(&mut rig, hart(1)?)))
+    let faced = order(&mut rig, hart(1));
+    Ok((faced, serve(&mut rig, hart(1))))
 }
 
 #[test]
 fn a_section_gets_a_bit_and_holds_no_line(rt: HostRuntime) -> Result<(), Fail> {
     // a read meets the write bit alone, and in elision it wins; the section holds no line, so nothing is in the way
-    let written = (ordered(&[(0, 1)])?, served(&[])?);
+    let written = (ordered(&[(0, 1)]), served(&[]));
     assert_eq!(rt; after_section(rt.alloc(), Need::Write)?, written);
-    let read = (ordered(&[])?, served(&[])?);
+    let read = (ordered(&[]), served(&[]));
     assert_eq!(rt; after_section(rt.alloc(), Need::Read)?, read);
     Ok(())
 }
@@ -122,36 +122,38 @@ fn a_section_gets_a_bit_and_holds_no_line(rt: HostRuntime) -> Result<(), Fail> {
 fn met(alloc: Global, mode: Mode) -> Result<(Rig, Option<Outcome>), Fail>
     ensures { IfOk result (λ met. IsTold met.0.pool (kept met.0.bus)) }
 {
+    let (zero, one) = (hart(0), hart(1));
+    let no_loser = served(&[]);
     let mut rig = made(alloc, mode, &[0, 1], false)?;
-    if get(&mut rig, hart(0)?, next_line(), Need::Read) != served(&[])? {
+    if get(&mut rig, zero, next_line(), Need::Read) != no_loser {
         return Err("the section did not get its line".into());
     }
-    if !ask_for(&mut rig, hart(1)?, next_line(), Need::Write) {
+    if !ask_for(&mut rig, one, next_line(), Need::Write) {
         return Err("no second request".into());
     }
-    let outcome = order(&mut rig, hart(1)?);
+    let outcome = order(&mut rig, one);
     Ok((rig, outcome))
 }
 
 #[test]
 fn a_chain_of_two_waits_in_lock_removal(rt: HostRuntime) -> Result<(), Fail> {
-    let (zero, one) = (hart(0)?, hart(1)?);
+    let (zero, one) = (hart(0), hart(1));
     let (_, outcome) = met(rt.alloc(), Mode::Sle)?;
-    assert_eq!(rt; outcome, ordered(&[(0, 1)])?);
+    assert_eq!(rt; outcome, ordered(&[(0, 1)]));
 
     let (mut rig, outcome) = met(rt.alloc(), Mode::Tlr)?;
-    assert_eq!(rt; outcome, ordered(&[])?);
+    assert_eq!(rt; outcome, ordered(&[]));
     assert_eq!(rt; letter(&rig, zero, next_line()), Letter::E);
-    assert_eq!(rt; serve(&mut rig, one), blocked(Why::Retained, 0)?);
+    assert_eq!(rt; serve(&mut rig, one), blocked(Why::Retained, 0));
     // its own request goes in front, and is served
     assert!(rt; ask_for(&mut rig, zero, next_line(), Need::Write));
-    assert_eq!(rt; order(&mut rig, zero), ordered(&[])?);
-    assert_eq!(rt; serve(&mut rig, one), blocked(Why::Behind, 0)?);
-    assert_eq!(rt; serve(&mut rig, zero), served(&[])?);
-    assert_eq!(rt; serve(&mut rig, one), blocked(Why::Retained, 0)?);
+    assert_eq!(rt; order(&mut rig, zero), ordered(&[]));
+    assert_eq!(rt; serve(&mut rig, one), blocked(Why::Behind, 0));
+    assert_eq!(rt; serve(&mut rig, zero), served(&[]));
+    assert_eq!(rt; serve(&mut rig, one), blocked(Why::Retained, 0));
     // the section commits
     end_section(&mut rig, zero);
-    assert_eq!(rt; serve(&mut rig, one), served(&[])?);
+    assert_eq!(rt; serve(&mut rig, one), served(&[]));
     assert_eq!(rt; letter(&rig, zero, next_line()), Letter::I);
     assert_eq!(rt; letter(&rig, one, next_line()), Letter::M);
     Ok(())
@@ -159,7 +161,7 @@ fn a_chain_of_two_waits_in_lock_removal(rt: HostRuntime) -> Result<(), Fail> {
 
 #[test]
 fn an_event_that_has_nothing_to_do_is_idle(rt: HostRuntime) -> Result<(), Fail> {
-    let zero = hart(0)?;
+    let zero = hart(0);
     let mut rig = made(rt.alloc(), Mode::Tlr, &[], false)?;
     assert_eq!(rt; order(&mut rig, zero), Some(Outcome::Idle));
     assert_eq!(rt; serve(&mut rig, zero), Some(Outcome::Idle));
@@ -167,9 +169,9 @@ fn an_event_that_has_nothing_to_do_is_idle(rt: HostRuntime) -> Result<(), Fail> 
     // a raised request is nothing to serve, and an ordered one nothing to order
     assert!(rt; ask_for(&mut rig, zero, line(), Need::Read));
     assert_eq!(rt; serve(&mut rig, zero), Some(Outcome::Idle));
-    assert_eq!(rt; order(&mut rig, zero), ordered(&[])?);
+    assert_eq!(rt; order(&mut rig, zero), ordered(&[]));
     assert_eq!(rt; order(&mut rig, zero), Some(Outcome::Idle));
-    assert_eq!(rt; serve(&mut rig, zero), served(&[])?);
+    assert_eq!(rt; serve(&mut rig, zero), served(&[]));
     assert_eq!(rt; serve(&mut rig, zero), Some(Outcome::Idle));
     Ok(())
 }

@@ -65,7 +65,7 @@ fn store(rig: &mut Rig, hart: HartId, address: u32, byte: u8) -> bool
 
 #[test]
 fn a_store_reaches_main_memory_as_its_line_leaves(rt: HostRuntime) -> Result<(), Fail> {
-    let zero = hart(0)?;
+    let zero = hart(0);
     let address = 0x10001;
     let config = Config {
         harts: 1,
@@ -77,7 +77,7 @@ fn a_store_reaches_main_memory_as_its_line_leaves(rt: HostRuntime) -> Result<(),
     let mut rig = first_rig(rt.alloc(), &config)?;
     // not before the line is there
     assert!(rt; !store(&mut rig, zero, address, 0x11));
-    assert_eq!(rt; get(&mut rig, zero, line(), Need::Write), served(&[])?);
+    assert_eq!(rt; get(&mut rig, zero, line(), Need::Write), served(&[]));
     give_up(&mut rig, zero);
     assert_eq!(rt; bytes(&rig, address), (Some(0x45), Some(0x45)));
     // the copy has the byte, and main memory is behind it
@@ -85,13 +85,13 @@ fn a_store_reaches_main_memory_as_its_line_leaves(rt: HostRuntime) -> Result<(),
     assert_eq!(rt; bytes(&rig, address), (Some(0x11), Some(0x45)));
     assert_eq!(rt; bytes(&rig, address + 1), (Some(0x4c), Some(0x4c)));
     // the only way is for the other line then
-    assert_eq!(rt; get(&mut rig, zero, next_line(), Need::Read), served(&[])?);
+    assert_eq!(rt; get(&mut rig, zero, next_line(), Need::Read), served(&[]));
     give_up(&mut rig, zero);
     assert_eq!(rt; letter(&rig, zero, line()), Letter::I);
     assert_eq!(rt; bytes(&rig, address), (Some(0x11), Some(0x11)));
     assert_eq!(rt; bytes(&rig, address + 1), (Some(0x4c), Some(0x4c)));
     // and it comes back as it was written
-    assert_eq!(rt; get(&mut rig, zero, line(), Need::Read), served(&[])?);
+    assert_eq!(rt; get(&mut rig, zero, line(), Need::Read), served(&[]));
     assert_eq!(rt; letter(&rig, zero, line()), Letter::E);
     assert_eq!(rt; bytes(&rig, address), (Some(0x11), Some(0x11)));
     Ok(())

@@ -27,7 +27,8 @@ pub between : (P : Slotted → Slotted → Type 0) (shown old new after : Slotte
 between P shown old new after is are holds = subst (λ a. P a after) is (subst (λ b. P shown b) (sym are) holds)
 
 module _ {ways owner marks writes : ℕ} {sets : List Set} {v : Slotted} {line number : ℕ} {old : Set} (new : Set)
-    (stands : Stands ways sets marks writes) (is : shown_cache ways owner (lines_of sets) ≡ v) (at : Reaches sets line number old) (room : HasRoom old new) where
+    (stands : Stands ways sets marks writes) (is : shown_cache ways owner (lines_of sets) ≡ v)
+    (at : Reaches sets line number old) (room : HasRoom old new) where
   abbrev cache : List (List code.Line)
   cache = lines_of sets
 

@@ -26,10 +26,12 @@ write-with_read bits = ap (λ n. eqb n 2) (and_or_apart 2 bits.0 1 refl)
 -- a way that got a bit shows it
 pub shown_marked : (need : Need) (way : code.Way) → shown_way (marked_way need way) ≡ with_bit need (shown_way way)
 shown_marked Read way =
-    ap (λ read. record { line = way.line.number; letter = way.letter; read = read; write = has_need Write (with_need Read way.bits) }) (has_need-with_need_same Read way.bits)
+    ap (λ read. record { line = way.line.number; letter = way.letter; read = read; write = has_need Write (with_need Read way.bits) })
+    (has_need-with_need_same Read way.bits)
     ∙ ap (λ write. record { line = way.line.number; letter = way.letter; read = true; write = write }) (write-with_read way.bits)
 shown_marked Write way =
-    ap (λ write. record { line = way.line.number; letter = way.letter; read = has_need Read (with_need Write way.bits); write = write }) (has_need-with_need_same Write way.bits)
+    ap (λ write. record { line = way.line.number; letter = way.letter; read = has_need Read (with_need Write way.bits); write = write })
+    (has_need-with_need_same Write way.bits)
     ∙ ap (λ read. record { line = way.line.number; letter = way.letter; read = read; write = true }) (read-with_write way.bits)
 
 -- bits that all have a name are what they show

@@ -163,7 +163,8 @@ module _ (ways marks writes : ℕ) (cache : List (List code.Line)) (sound : IsSo
   }
 
 -- the fields after a call that changed every set
-module _ {ways owner marks writes : ℕ} (sets : Vec Set Global) {slice : List Set} (new : List Set) {v : Slotted} (stands : Stands ways sets.items marks writes)
+module _ {ways owner marks writes : ℕ} (sets : Vec Set Global) {slice : List Set} (new : List Set) {v : Slotted}
+    (stands : Stands ways sets.items marks writes)
     (is : shown_cache ways owner (lines_of sets.items) ≡ v) (same : slice ≡ sets.items) where
   abbrev cache : List (List code.Line)
   cache = lines_of sets.items

@@ -204,6 +204,16 @@ fn tell_view(list: &mut List, before: &HartView, after: &HartView)
     ensures few { array_vec_len list.new ≤ array_vec_len list.old + 34 }
 {
     tell_registers(list, before, after);
+    tell_place(list, before, after);
+}
+
+/// Where a hart goes and whether it stops.
+fn tell_place(list: &mut List, before: &HartView, after: &HartView)
+    requires { array_vec_len list.old ≤ 39 }
+    ensures items { list.new.items ≡ list.old.items
+        ++ (items.pc_items before.now.pc after.now.pc ++ items.stop_items before.now.status after.now.status) }
+    ensures few { array_vec_len list.new ≤ array_vec_len list.old + 2 }
+{
     tell_pc(list, before.pc, after.pc);
     tell_stop(list, before.status, after.status);
 }

@@ -20,6 +20,3 @@ pub use command::{Command, FindCommand, LookCommand, MAX_TURNS, ReplayCommand, R
 pub use fault::WordsFault;
 pub use reading::read_words;
 pub use workload::Work;
-
-#[cfg(test)]
-mod tests;

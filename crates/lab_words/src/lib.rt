@@ -15,6 +15,3 @@ mod reading;
 pub use command::{Command, Layout, Range, RunCommand, Schedule, ShowCommand, Traced};
 pub use fault::WordsFault;
 pub use reading::read_words;
-
-#[cfg(test)]
-mod tests;

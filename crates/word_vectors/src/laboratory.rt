@@ -1,5 +1,7 @@
-use super::*;
 use el_base::{Config, MAX_STEPS, Mode};
+use lab_words::{
+    Command, Layout, Range, RunCommand, Schedule, ShowCommand, Traced, WordsFault, read_words,
+};
 use std::alloc::{AllocError, Global};
 use std::test::Fail;
 

@@ -1,4 +1,7 @@
-use super::*;
+use command_line::{
+    Command, FindCommand, LookCommand, MAX_TURNS, ReplayCommand, RunCommand, WordsFault, Work,
+    read_words,
+};
 use el_base::{Config, ConfigFault, Mode};
 use std::alloc::{AllocError, Global};
 use std::test::Fail;

@@ -25,6 +25,16 @@ def best(words, runs=5, statuses=(0,)):
     return least, run.stderr
 
 
+def by_turns(commands, runs=15, statuses=(0,)):
+    """The least processor seconds of each of some commands, which are run by turns, so that a slow while of the machine
+    falls on all of them; and what each last wrote to standard error."""
+    taken = [best(words, runs=1, statuses=statuses) for words in commands]
+    for _ in range(runs - 1):
+        again = [best(words, runs=1, statuses=statuses) for words in commands]
+        taken = [(min(before[0], now[0]), now[1]) for before, now in zip(taken, again)]
+    return taken
+
+
 def events(report):
     """How many events the run of a report had."""
     return int(report.split("events ")[1].split()[0])

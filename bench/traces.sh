@@ -1,7 +1,7 @@
 #!/bin/sh
 # Prints what traces and times cost, of a loop over a line a hart on 1 and 8 harts: a run of up to 16,777,216 events alone,
-# with its trace, and with its times; the replay of the trace, and its greatest memory. The best of five runs, in processor
-# seconds of the process itself.
+# with its trace, and with its times; the replay of the trace, and its greatest memory. The best of fifteen runs by turns, and
+# of five replays, in processor seconds of the process itself.
 set -eu
 cd "$(dirname "$0")/.."
 work=$(mktemp -d)
@@ -19,9 +19,8 @@ ENDS = (0, 3)
 work = sys.argv[1]
 for harts in (1, 8):
     words = [timing.ELIDE, "run", work + "/loop", "--harts", str(harts), "--steps", "16777216"]
-    alone, report = timing.best(words, statuses=ENDS)
-    traced, _ = timing.best([*words, "--trace", work + "/trace"], statuses=ENDS)
-    timed, _ = timing.best([*words, "--times"], statuses=ENDS)
+    (alone, report), (traced, _), (timed, _) = timing.by_turns(
+        [words, [*words, "--trace", work + "/trace"], [*words, "--times"]], statuses=ENDS)
     replayed, _ = timing.best([timing.ELIDE, "replay", work + "/loop", work + "/trace"], statuses=ENDS)
     memory = resource.getrusage(resource.RUSAGE_CHILDREN).ru_maxrss / 1024
     events = timing.events(report)

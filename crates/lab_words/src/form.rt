@@ -46,17 +46,19 @@ pub(crate) fn all_commands<'a>(alloc: Global) -> Result<Command<'a>, AllocError>
 }
 
 fn show<'a>(alloc: Global) -> Result<Command<'a>, AllocError> {
-    over_a_trace(alloc, "show", "A line for each event that did something")?
-        .arg(event(alloc, "from", "The first event [default: 0]"))?
-        .arg(event(
+    let args = vec![in alloc;
+        event(alloc, "from", "The first event [default: 0]"),
+        event(
             alloc,
             "to",
-            "The last event [default: the last of the trace]",
-        ))?
-        .arg(number(alloc, "hart", 0, 7, "The events of this hart alone").value_name("H"))?
-        .arg(at(alloc))?
-        .arg(flag(alloc, "all", "Events that did nothing, too"))?
-        .arg(flag(alloc, "json", "One object of JSON a line"))
+            "The last event [default: the last of the trace]"
+        ),
+        number(alloc, "hart", 0, 7, "The events of this hart alone").value_name("H"),
+        at(alloc),
+        flag(alloc, "all", "Events that did nothing, too"),
+        flag(alloc, "json", "One object of JSON a line"),
+    ]?;
+    over_a_trace(alloc, "show", "A line for each event that did something")?.args(args)
 }
 
 fn state<'a>(alloc: Global) -> Result<Command<'a>, AllocError> {
@@ -106,58 +108,60 @@ fn run<'a>(alloc: Global) -> Result<Command<'a>, AllocError> {
         .required(true);
     Command::new(alloc, "run")
         .about("Runs an image by another schedule than the round robin")
-        .arg(positional(alloc, "image", "IMAGE", "The image, an ELF file"))?
-        .arg(choice(
-            alloc,
-            "mode",
-            &MODES,
-            "How an acquire is treated [default: tlr]",
-        ))?
-        .arg(number(alloc, "harts", 1, 8, "Harts, 1 to 8 [default: 1]"))?
-        .arg(choice(alloc, "sets", &SETS, "Sets in each cache [default: 16]"))?
-        .arg(number(
-            alloc,
-            "ways",
-            1,
-            8,
-            "Lines in each set, 1 to 8 [default: 4]",
-        ))?
-        .arg(number(
-            alloc,
-            "lines",
-            1,
-            32,
-            "The most lines that a section may write [default: 16]",
-        ))?
-        .arg(number(
-            alloc,
-            "long",
-            2,
-            65_536,
-            "The most instructions of a section [default: 2000]",
-        ))?
-        .arg(number(
-            alloc,
-            "steps",
-            1,
-            16_777_216,
-            "The most events [default: 4000000]",
-        ))?
-        .arg(number(
-            alloc,
-            "random",
-            0,
-            u64::MAX,
-            "Draws the events from this number",
-        )
-        .value_name("SEED"))?
-        .arg(option(
-            alloc,
-            "order",
-            "Takes the events from this file: lines such as 'step 0'",
-        )
-        .value_name("FILE"))?
-        .arg(option(alloc, "trace", "Writes the trace to this file").value_name("FILE"))?
+        .args(vec![in alloc;
+            positional(alloc, "image", "IMAGE", "The image, an ELF file"),
+            choice(
+                alloc,
+                "mode",
+                &MODES,
+                "How an acquire is treated [default: tlr]"
+            ),
+            number(alloc, "harts", 1, 8, "Harts, 1 to 8 [default: 1]"),
+            choice(alloc, "sets", &SETS, "Sets in each cache [default: 16]"),
+            number(
+                alloc,
+                "ways",
+                1,
+                8,
+                "Lines in each set, 1 to 8 [default: 4]"
+            ),
+            number(
+                alloc,
+                "lines",
+                1,
+                32,
+                "The most lines that a section may write [default: 16]"
+            ),
+            number(
+                alloc,
+                "long",
+                2,
+                65_536,
+                "The most instructions of a section [default: 2000]"
+            ),
+            number(
+                alloc,
+                "steps",
+                1,
+                16_777_216,
+                "The most events [default: 4000000]"
+            ),
+            number(
+                alloc,
+                "random",
+                0,
+                u64::MAX,
+                "Draws the events from this number"
+            )
+            .value_name("SEED"),
+            option(
+                alloc,
+                "order",
+                "Takes the events from this file: lines such as 'step 0'"
+            )
+            .value_name("FILE"),
+            option(alloc, "trace", "Writes the trace to this file").value_name("FILE"),
+        ]?)?
         .group(schedule)
 }
 

@@ -31,6 +31,3 @@ pub use theorems::{parts_sum_to_all, rows_sum_to_the_report, sections_are_those_
 pub use timetable::{Times, tabulate};
 pub use tries::{Acquire, Ended, Tries, Try};
 pub use waits::{Wait, wait_of};
-
-#[cfg(test)]
-mod tests;

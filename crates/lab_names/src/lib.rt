@@ -8,6 +8,3 @@
 mod named;
 
 pub use named::{Named, Spot, spot_of};
-
-#[cfg(test)]
-mod tests;

@@ -28,6 +28,3 @@ pub use kinds::{KINDS, Kind};
 pub use page::{Run, write_page};
 pub use pieces::{Piece, section_pieces};
 pub use scale::Scale;
-
-#[cfg(test)]
-mod tests;

@@ -14,6 +14,3 @@ mod theorems;
 pub use drawn::run_drawn;
 pub use listed::run_listed;
 pub use theorems::one_run_of_a_seed;
-
-#[cfg(test)]
-mod tests;

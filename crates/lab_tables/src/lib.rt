@@ -21,6 +21,3 @@ pub use lines::{Beats, LineRow, line_rows};
 pub use locks::{LockKind, LockRow, PlainRuns, lock_rows};
 pub use tables::{write_lines, write_locks};
 pub use writing::write_table;
-
-#[cfg(test)]
-mod tests;

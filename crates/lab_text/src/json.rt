@@ -108,11 +108,13 @@ impl fmt::Display for Known {
     }
 }
 
-/// An item as an object, of which `is` says what it is.
+/// An item that writes itself as an object of JSON (RFC 8259), of which `is` says what it is:
+/// `{"is":"freed","hart":2,"count":5}`. By this project's profile.
 #[derive(Clone, Copy)]
-pub(crate) struct Member<'a> {
-    pub(crate) item: Item,
-    pub(crate) symbols: &'a Symbols,
+pub struct Member<'a> {
+    pub item: Item,
+    /// What addresses are shown with.
+    pub symbols: &'a Symbols,
 }
 
 impl fmt::Display for Member<'_> {

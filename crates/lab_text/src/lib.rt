@@ -22,10 +22,8 @@ mod words;
 pub use about::{did_something, is_about};
 pub use events::write_event;
 pub use items::{Item, Items};
-pub use json::write_event_json;
+pub use json::{Member, write_event_json};
 pub use names::Names;
+pub use phrases::Phrase;
 pub use state::write_state;
 pub use waits::write_wait;
-
-#[cfg(test)]
-mod tests;

@@ -10,11 +10,12 @@ use rv_text::abi_name;
 use rv_word::Reg;
 use std::fmt;
 
-/// An item in words.
+/// An item that writes itself in words: `hart 2 let go, 5 instructions`. By this project's profile.
 #[derive(Clone, Copy)]
-pub(crate) struct Phrase<'a> {
-    pub(crate) item: Item,
-    pub(crate) symbols: &'a Symbols,
+pub struct Phrase<'a> {
+    pub item: Item,
+    /// What addresses are shown with.
+    pub symbols: &'a Symbols,
 }
 
 impl fmt::Display for Phrase<'_> {

@@ -1,7 +1,7 @@
 #!/usr/bin/env python3
-"""Writes the runs of crates/vectors/src/spelled.rt, whose traces spell every outcome.
+"""Writes the runs of crates/elide/src/tests/spelled.rt, whose traces spell every outcome.
 
-    tools/spelled_rows.py >crates/vectors/src/spelled.rt
+    tools/spelled_rows.py >crates/elide/src/tests/spelled.rt
     tools/spelled_rows.py --check
 
 The runs are short ones of crates/worked_runs/data, worked by hand from the rules of docs/MODEL.md (tools/rule_rows.py). Here
@@ -94,7 +94,7 @@ def text():
     parts = ["""//! Traces that spell every outcome, over programs of a few instructions. `tools/spelled_rows.py` writes this file, from
 //! runs that were worked by hand.
 
-use crate::support::{answer, image_of};
+use crate::tests::support::{answer, image_of};
 use std::test::Fail;
 
 /// A program, and the trace of a run of it with what came of each event.
@@ -140,7 +140,7 @@ def main():
     if sys.argv[1:] != ["--check"]:
         print(text(), end="")
         return 0
-    agrees = (CRATES / "vectors/src/spelled.rt").read_text() == text()
+    agrees = (CRATES / "elide/src/tests/spelled.rt").read_text() == text()
     print(f"spelled_rows: {int(agrees)} passed, {int(not agrees)} failed")
     return 0 if agrees else 1
 

@@ -4,6 +4,9 @@
 //! call's status.
 #![tactic(auto)]
 
+#[cfg(test)]
+mod tests;
+
 use el_io::{FolderShelf, OpenGate, StreamSink};
 use std::process::ExitCode;
 use std::{env, io};

@@ -1,5 +1,5 @@
 //! What is refused, each with its one line.
-use crate::support::{BARE_TRACE, Ending, HELLO, TRACE, USAGE, answer, changed, resized};
+use crate::tests::support::{BARE_TRACE, Ending, HELLO, TRACE, USAGE, answer, changed, resized};
 use std::alloc::{AllocError, Global};
 use std::test::Fail;
 

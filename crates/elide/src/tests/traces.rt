@@ -1,5 +1,5 @@
 //! Traces that are written, and played again.
-use crate::support::{
+use crate::tests::support::{
     BARE_TRACE, HELLO, MISSED_ONE, REPORT, TIMES, TRACE, answer, changed, report_of,
 };
 use std::test::Fail;

@@ -1,5 +1,5 @@
 //! Runs that end by themselves, or at their last step.
-use crate::support::{
+use crate::tests::support::{
     Ending, HELLO, MISSED_ONE, REPORT, TOUCHED_NOTHING, answer, changed, image_of, report_of,
 };
 use std::test::Fail;

@@ -1,5 +1,5 @@
 //! An image as linkers make them: code and data in two segments, and headers that are passed over.
-use crate::support::{HELLO, MISSED_ONE, answer, report_of};
+use crate::tests::support::{HELLO, MISSED_ONE, answer, report_of};
 use std::alloc::{AllocError, Global};
 use std::test::Fail;
 

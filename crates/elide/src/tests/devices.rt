@@ -1,5 +1,5 @@
 //! Each call of a device fails in turn, in each command.
-use crate::support::{
+use crate::tests::support::{
     BARE_TRACE, CERTIFICATE, HELLO, REPORT, TIMES, TRACE, USAGE, changed, strings,
 };
 use el_io::{MemShelf, MemSink, OpenGate};

@@ -1,7 +1,7 @@
 //! Traces that spell every outcome, over programs of a few instructions. `tools/spelled_rows.py` writes this file, from
 //! runs that were worked by hand.
 
-use crate::support::{answer, image_of};
+use crate::tests::support::{answer, image_of};
 use std::test::Fail;
 
 /// A program, and the trace of a run of it with what came of each event.

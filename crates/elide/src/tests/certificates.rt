@@ -1,5 +1,5 @@
 //! Certificates of runs, and what is found of them.
-use crate::support::{CERTIFICATE, Ending, HELLO, REPORT, TRACE, answer, changed, resized};
+use crate::tests::support::{CERTIFICATE, Ending, HELLO, REPORT, TRACE, answer, changed, resized};
 use std::test::Fail;
 
 /// Whether the program ended with this status and put these bytes.

@@ -2,7 +2,7 @@
 //!
 //! The worked run is five steps of the image, the sixth at event 24 after its line came, and the last three. Its
 //! first instruction stands at 0x10054, and the exit leaves the pc as it is.
-use crate::support::{BARE_TRACE, HELLO, TRACE, USAGE, answer, changed, strings};
+use crate::tests::support::{BARE_TRACE, HELLO, TRACE, USAGE, answer, changed, strings};
 use el_io::{MemShelf, MemSink, OpenGate};
 use std::test::Fail;
 use tool::tool;

@@ -1,5 +1,5 @@
 //! Images that are generated: what they print, and that they are the same each time.
-use crate::support::{Ending, HELLO, answer};
+use crate::tests::support::{Ending, HELLO, answer};
 use std::alloc::Global;
 use std::sync::Wait;
 use std::test::Fail;

@@ -13,6 +13,3 @@ mod request;
 
 pub use order::Order;
 pub use request::Request;
-
-#[cfg(test)]
-mod tests;

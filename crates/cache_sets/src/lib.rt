@@ -19,6 +19,3 @@ pub use bits::Bits;
 pub use evicted::Evicted;
 pub use moesi::Letter;
 pub use sets::Sets;
-
-#[cfg(test)]
-mod tests;

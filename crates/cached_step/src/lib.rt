@@ -20,6 +20,3 @@ pub use theorems::{
     cached_bytes_equal_memory, caches_tell_memory_after, permitted_steps_are_flat,
     runs_keep_the_form, steps_show_their_rule, touched_lines_are_there, unmarked_caches_have_room,
 };
-
-#[cfg(test)]
-mod tests;

@@ -14,6 +14,3 @@ mod tally;
 
 pub use history::History;
 pub use tally::Tally;
-
-#[cfg(test)]
-mod tests;

@@ -21,6 +21,3 @@ mod keeping;
 mod others;
 
 pub use hierarchy::Hierarchy;
-
-#[cfg(test)]
-mod tests;

@@ -12,6 +12,3 @@ mod told;
 
 pub use el_base::HartId;
 pub use told::Told;
-
-#[cfg(test)]
-mod tests;

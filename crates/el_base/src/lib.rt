@@ -40,6 +40,3 @@ pub use losers::Losers;
 pub use no_memory::NoMemory;
 pub use outcomes::{Cause, Need, Outcome, Why};
 pub use stamped::Stamped;
-
-#[cfg(test)]
-mod tests;

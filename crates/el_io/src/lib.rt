@@ -37,6 +37,3 @@ pub use sink::{Failed, Sink, put_all};
 pub use stream_sink::StreamSink;
 pub use sure_shelf::SureShelf;
 pub use sure_sink::SureSink;
-
-#[cfg(test)]
-mod tests;

@@ -42,6 +42,3 @@ pub use limits::{
 };
 pub use loader::{ImageFault, load};
 pub use writer::write_image;
-
-#[cfg(test)]
-mod tests;

@@ -16,6 +16,3 @@ mod table;
 
 pub use entries::Symbol;
 pub use table::{Symbols, SymbolsFault, read_symbols};
-
-#[cfg(test)]
-mod tests;

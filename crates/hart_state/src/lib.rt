@@ -16,6 +16,3 @@ mod state;
 
 pub use reserves::is_load_reserved;
 pub use state::HartState;
-
-#[cfg(test)]
-mod tests;

@@ -11,6 +11,3 @@ mod lanes;
 mod line;
 
 pub use line::{merge, merged_word, same};
-
-#[cfg(test)]
-mod tests;

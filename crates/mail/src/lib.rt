@@ -12,6 +12,3 @@ mod message;
 
 pub use mail::Mail;
 pub use message::Message;
-
-#[cfg(test)]
-mod tests;

@@ -11,6 +11,3 @@ mod table;
 
 pub use letter::Letter;
 pub use table::{filled, is_dirty, may, on_read, on_write};
-
-#[cfg(test)]
-mod tests;

@@ -15,6 +15,3 @@ mod verdict;
 pub use seen::Seen;
 pub use table::PairTable;
 pub use verdict::Verdict;
-
-#[cfg(test)]
-mod tests;

@@ -17,6 +17,3 @@ pub use policy::Policy;
 pub use sle::SlePolicy;
 pub use stamp::Stamp;
 pub use tlr::TlrPolicy;
-
-#[cfg(test)]
-mod tests;

@@ -10,6 +10,3 @@
 mod marked;
 
 pub use marked::Marked;
-
-#[cfg(test)]
-mod tests;

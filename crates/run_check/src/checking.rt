@@ -18,7 +18,7 @@ use elf_image::Image;
 use rv_flat::{Flat, HartView};
 use std::alloc::Global;
 
-/// The steps of a stretch.
+/// Makes the steps of a stretch over plain memory, all of its hart, which memory has. By this project's profile.
 pub fn run_stretch(flat: &mut Flat, stretch: Stretch)
     requires { stretch.hart.number < length flat.old.harts }
     ensures ran { flat.new ≡ run flat.old (steps_in stretch) }

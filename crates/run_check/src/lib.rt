@@ -22,7 +22,7 @@ mod verdict;
 mod writing;
 
 pub use certifying::certify;
-pub use checking::check;
+pub use checking::{check, run_stretch};
 pub use content::{Certificate, Patch, Stretch};
 pub use fault::{CertFault, FaultKind, fault_name};
 pub use judging::MAX_FILE_BYTES;
@@ -33,6 +33,3 @@ pub use theorems::{
 };
 pub use verdict::{Difference, Verdict, difference_name};
 pub use writing::write_certificate;
-
-#[cfg(test)]
-mod tests;

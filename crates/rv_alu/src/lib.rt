@@ -36,6 +36,3 @@ pub use regs::Regs;
 pub use span::Span;
 pub use transfers::{Append, Load, Store, Transfers};
 pub use view::{HartStatus, HartView};
-
-#[cfg(test)]
-mod tests;

@@ -14,6 +14,3 @@ mod item;
 pub use builder::{Asm, MOST_LABELS, MOST_WORDS};
 pub use fault::AsmFault;
 pub use item::Label;
-
-#[cfg(test)]
-mod tests;

@@ -27,6 +27,3 @@ pub use theorems::{
     step_keeps_register_zero, step_keeps_shape, step_touches_one_line,
     step_writes_only_its_footprint, step_writes_only_one_line, stopped_hart_changes_nothing,
 };
-
-#[cfg(test)]
-mod tests;

@@ -18,6 +18,3 @@ pub use names::abi_name;
 pub use pseudos::{Pseudo, ZeroTest};
 pub use targets::target;
 pub use texts::Text;
-
-#[cfg(test)]
-mod tests;

@@ -17,8 +17,6 @@ mod immediate;
 mod insn;
 mod opcode;
 mod reg;
-#[cfg(test)]
-mod tests;
 mod theorems;
 mod validity;
 

@@ -14,6 +14,3 @@ mod text;
 pub use drawing::drawn_at;
 pub use generator::draw;
 pub use text::{OrderFault, read_order};
-
-#[cfg(test)]
-mod tests;

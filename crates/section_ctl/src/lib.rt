@@ -24,6 +24,3 @@ mod section;
 pub use armed::Armed;
 pub use live::Live;
 pub use section::Section;
-
-#[cfg(test)]
-mod tests;

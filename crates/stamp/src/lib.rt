@@ -11,6 +11,3 @@ mod order;
 
 pub use el_base::Stamped as Stamp;
 pub use order::{less, next_clock};
-
-#[cfg(test)]
-mod tests;

@@ -12,6 +12,3 @@ mod hart_times;
 mod times;
 
 pub use times::{Times, tabulate};
-
-#[cfg(test)]
-mod tests;

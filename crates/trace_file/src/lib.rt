@@ -27,6 +27,3 @@ pub use outcome_bytes::{SpelledOutcome, outcome_spelling};
 pub use reading::read_trace;
 pub use theorems::grammar;
 pub use writing::write_trace;
-
-#[cfg(test)]
-mod tests;

@@ -22,6 +22,3 @@ mod work;
 
 pub use building::build;
 pub use work::Work;
-
-#[cfg(test)]
-mod tests;

@@ -20,6 +20,3 @@ mod lines;
 pub use el_base::LineAddr;
 pub use hold::Hold;
 pub use lines::Lines;
-
-#[cfg(test)]
-mod tests;

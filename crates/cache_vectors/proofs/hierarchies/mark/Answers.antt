@@ -1,0 +1,4 @@
+use Rattle.cache_vectors.proofs.hierarchies.mark.Goals as goal
+
+pub invariant_of-memory : goal.invariant_of-memory
+invariant_of-memory c = record { lent = c.mark.ensures.lent c.args.memory.now.pool c.args.memory.now.lent }

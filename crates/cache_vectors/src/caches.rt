@@ -1,0 +1,393 @@
+//! The letters by the MOESI table, and caches of one set with two ways, worked by hand.
+
+ghost use Rattle.std.specs.Prelude.{IfOk};
+ghost use Rattle.cache_sets.specs.Slotted.{IsLent};
+
+use bitflags::Flags;
+use cache_sets::*;
+use el_base::{Config, LineAddr, Need, line_of};
+use line_pool::Pool;
+use moesi::{on_read, on_write};
+use std::alloc::Global;
+use std::marker::Model;
+use std::test::Fail;
+
+/// A cache and the pool that its lines are in.
+#[derive(Drop)]
+struct Lent {
+    pool: Pool,
+    sets: Sets,
+}
+
+impl Model for Lent {
+    ghost use Rattle.cache_sets.specs.Slotted.{IsLent, Slotted};
+
+    ghost Value = { Slotted };
+
+    ghost view = { λ lent. lent.sets };
+
+    ghost invariant = { λ lent. IsLent lent.pool lent.sets };
+}
+
+fn line(number: u8) -> LineAddr {
+    line_of(u32::from(number) * 64)
+}
+
+/// A cache of so many sets, each with two ways, that has all slots of a pool.
+fn cache(alloc: Global, sets: u8) -> Result<Lent, Fail> {
+    let config = Config {
+        sets,
+        ways: 2,
+        ..Config::usual()
+    };
+    if config.check().is_err() {
+        return Err("no such cache".into());
+    }
+    let sets = Sets::make(alloc, &config, 0)?;
+    let pool = Pool::make(alloc, &[u16::from(config.sets) * 2])?;
+    Ok(Lent { pool, sets })
+}
+
+impl Lent {
+    /// Fills a line with bytes that are its number, where that may be. Tells the number, the letter and the
+    /// first and last byte of a line that left.
+    fn fill(&mut self, number: u8, letter: Letter) -> Option<(u32, Letter, u8, u8)> {
+        let line = line(number);
+        if letter == Letter::I || self.sets.has(line) || !self.sets.room(line) {
+            return None;
+        }
+        let gone = self.sets.fill(&mut self.pool, line, letter, &[number; 64])?;
+        Some((gone.line.number, gone.letter, gone.bytes[0], gone.bytes[63]))
+    }
+
+    /// Does one thing to a line, where the cache has it.
+    fn touch(&mut self, number: u8) {
+        let line = line(number);
+        if self.sets.has(line) {
+            self.sets.touch(line);
+        }
+    }
+
+    fn set_bit(&mut self, number: u8, need: Need) {
+        let line = line(number);
+        if self.sets.has(line) {
+            self.sets.set_bit(line, need);
+        }
+    }
+
+    fn drop_line(&mut self, number: u8) {
+        let line = line(number);
+        if self.sets.has(line) {
+            self.sets.drop_line(&mut self.pool, line);
+        }
+    }
+
+    /// Another hart's request for a line is served: its letter changes, or it goes.
+    fn meet(&mut self, number: u8, need: Need) {
+        let line = line(number);
+        let letter = match need {
+            Need::Read => on_read(self.sets.letter(line)),
+            Need::Write => on_write(self.sets.letter(line)),
+        };
+        if !self.sets.has(line) {
+            return;
+        }
+        if letter == Letter::I {
+            self.sets.drop_line(&mut self.pool, line);
+        } else {
+            self.sets.set_letter(line, letter);
+        }
+    }
+
+    /// The section ends, and commits or not.
+    fn end(&mut self, commits: bool) {
+        if commits {
+            self.sets.commit_bits();
+        } else {
+            self.sets.clear_bits();
+        }
+    }
+
+    /// Writes a byte of a line, where the cache has it.
+    fn write(&mut self, number: u8, at: u8, byte: u8) {
+        let line = line(number);
+        if self.sets.has(line) {
+            let bytes = Sets::bytes_mut(&mut self.pool, &self.sets, line);
+            bytes[usize::from(at % 64)] = byte;
+        }
+    }
+
+    /// A byte of a line, if the cache has it.
+    fn read(&self, number: u8, at: u8) -> Option<u8> {
+        let line = line(number);
+        if self.sets.has(line) {
+            Some(self.sets.bytes(&self.pool, line)[usize::from(at % 64)])
+        } else {
+            None
+        }
+    }
+
+    /// How many slots of the pool are out.
+    fn out(&self) -> u16 {
+        if self.pool.owners() == 0 {
+            return 0;
+        }
+        self.pool.out(0)
+    }
+}
+
+/// A letter, and what becomes of it: after another's read, after a commit of a line that was read, and of one that was
+/// written.
+const LETTERS: &[(Letter, Letter, Letter, Letter)] = &[
+    (Letter::M, Letter::O, Letter::M, Letter::M),
+    (Letter::O, Letter::O, Letter::O, Letter::M),
+    (Letter::E, Letter::S, Letter::E, Letter::M),
+    (Letter::S, Letter::S, Letter::S, Letter::M),
+];
+
+#[test]
+fn each_letter_meets_each_request(rt: HostRuntime) -> Result<(), Fail> {
+    for &(letter, after_read, _, _) in LETTERS {
+        for (need, after) in [(Need::Read, after_read), (Need::Write, Letter::I)] {
+            let mut cache = cache(rt.alloc(), 1)?;
+            cache.fill(3, letter);
+            cache.meet(3, need);
+            assert_eq!(rt; cache.sets.letter(line(3)), after, "{letter:?} {need:?}");
+            assert_eq!(rt; cache.out(), u16::from(after != Letter::I));
+        }
+    }
+    Ok(())
+}
+
+#[test]
+fn each_letter_meets_each_commit(rt: HostRuntime) -> Result<(), Fail> {
+    for &(letter, _, committed, written) in LETTERS {
+        for (need, after) in [(Need::Read, committed), (Need::Write, written)] {
+            let mut cache = cache(rt.alloc(), 1)?;
+            cache.fill(3, letter);
+            cache.set_bit(3, need);
+            assert!(rt; cache.sets.marked());
+            cache.end(true);
+            assert!(rt; !cache.sets.marked());
+            assert_eq!(rt; cache.sets.letter(line(3)), after, "{letter:?} {need:?}");
+        }
+    }
+    Ok(())
+}
+
+/// Lines that come into a set of two ways, each as modified, what is done to a line after it, and the line that it
+/// makes leave, if it does.
+struct Turn {
+    comes: u8,
+    leaves: Option<u32>,
+    then: Then,
+}
+
+#[derive(Clone, Copy)]
+enum Then {
+    Nothing,
+    Touch(u8),
+    Mark(u8, Need),
+    Drop(u8),
+    Clear,
+}
+
+const TURNS: &[Turn] = &[
+    Turn {
+        comes: 5,
+        leaves: None,
+        then: Then::Nothing,
+    },
+    // most recent first: 5, 6 after the touch
+    Turn {
+        comes: 6,
+        leaves: None,
+        then: Then::Touch(5),
+    },
+    // 7, and 5 with a bit
+    Turn {
+        comes: 7,
+        leaves: Some(6),
+        then: Then::Mark(5, Need::Read),
+    },
+    // 8 and 5, of which both have bits
+    Turn {
+        comes: 8,
+        leaves: Some(7),
+        then: Then::Mark(8, Need::Write),
+    },
+    // there is no room for 9, and neither has a bit after it
+    Turn {
+        comes: 9,
+        leaves: None,
+        then: Then::Clear,
+    },
+    // 9 alone
+    Turn {
+        comes: 9,
+        leaves: Some(5),
+        then: Then::Drop(8),
+    },
+    // 10, 9
+    Turn {
+        comes: 10,
+        leaves: None,
+        then: Then::Nothing,
+    },
+    Turn {
+        comes: 11,
+        leaves: Some(9),
+        then: Then::Nothing,
+    },
+];
+
+impl Lent {
+    fn does(&mut self, then: Then) {
+        match then {
+            Then::Nothing => (),
+            Then::Touch(number) => self.touch(number),
+            Then::Mark(number, need) => self.set_bit(number, need),
+            Then::Drop(number) => self.drop_line(number),
+            Then::Clear => self.end(false),
+        }
+    }
+}
+
+#[test]
+fn the_last_line_without_bits_leaves(rt: HostRuntime) -> Result<(), Fail> {
+    let mut cache = cache(rt.alloc(), 1)?;
+    for turn in TURNS {
+        let victim = cache.sets.victim(line(turn.comes)).map(|line| line.number);
+        assert_eq!(rt; victim, turn.leaves, "{}", turn.comes);
+        let gone = cache.fill(turn.comes, Letter::M).map(|gone| gone.0);
+        assert_eq!(rt; gone, turn.leaves, "{}", turn.comes);
+        cache.does(turn.then);
+    }
+    assert_eq!(rt; cache.out(), 2);
+    Ok(())
+}
+
+#[test]
+fn a_set_full_of_bits_has_no_room(rt: HostRuntime) -> Result<(), Fail> {
+    let mut cache = cache(rt.alloc(), 1)?;
+    cache.fill(5, Letter::E);
+    cache.fill(8, Letter::M);
+    cache.set_bit(5, Need::Read);
+    assert_eq!(rt; cache.sets.write_bits(), 0);
+    cache.set_bit(8, Need::Write);
+    assert_eq!(rt; cache.sets.write_bits(), 1);
+    for (number, room, bits) in [
+        (5, true, Bits::READ),
+        (8, true, Bits::WRITE),
+        (9, false, Bits::empty()),
+    ] {
+        assert_eq!(rt; cache.sets.room(line(number)), room, "{number}");
+        assert_eq!(rt; cache.sets.bits(line(number)), bits, "{number}");
+    }
+    assert_eq!(rt; cache.sets.victim(line(9)), None);
+    cache.end(false);
+    assert!(rt; cache.sets.room(line(9)));
+    Ok(())
+}
+
+#[test]
+fn what_is_written_is_read_from_that_line_alone(rt: HostRuntime) -> Result<(), Fail> {
+    let mut cache = cache(rt.alloc(), 2)?;
+    // lines 2 and 4 are in one set, line 3 in the other
+    for number in [2, 3, 4] {
+        assert_eq!(rt; cache.fill(number, Letter::M), None);
+    }
+    cache.write(2, 0, 0x55);
+    cache.write(2, 63, 0xaa);
+    for (number, first, middle, last) in [(2, 0x55, 2, 0xaa), (3, 3, 3, 3), (4, 4, 4, 4)] {
+        for (at, byte) in [(0, first), (31, middle), (63, last)] {
+            assert_eq!(rt; cache.read(number, at), Some(byte), "{number} {at}");
+        }
+    }
+    assert_eq!(rt; cache.fill(6, Letter::E), Some((2, Letter::M, 0x55, 0xaa)));
+    assert_eq!(rt; cache.read(2, 0), None);
+    assert_eq!(rt; cache.out(), 3);
+    Ok(())
+}
+
+/// Two caches of one line each, with slots of one pool.
+#[derive(Drop)]
+struct Pair {
+    pool: Pool,
+    first: Sets,
+    second: Sets,
+}
+
+impl Model for Pair {
+    ghost use Rattle.std.specs.Prelude.{◌≢◌};
+    ghost use Rattle.cache_sets.specs.Slotted.{IsLent, Slotted};
+
+    ghost Value = { Slotted };
+
+    ghost view = { λ pair. pair.first };
+
+    ghost invariant = { λ pair. IsLent pair.pool pair.first × IsLent pair.pool pair.second × (pair.first.owner ≢ pair.second.owner) };
+}
+
+impl Pair {
+    /// Two caches without lines.
+    fn make(alloc: Global) -> Result<Pair, Fail> {
+        let config = Config {
+            sets: 1,
+            ways: 1,
+            ..Config::usual()
+        };
+        if config.check().is_err() {
+            return Err("no such cache".into());
+        }
+        let first = Sets::make(alloc, &config, 0)?;
+        let second = Sets::make(alloc, &config, 1)?;
+        let pool = Pool::make(alloc, &[1, 1])?;
+        Ok(Pair {
+            pool,
+            first,
+            second,
+        })
+    }
+
+    /// Fills a line of the first cache, and of the second, with bytes that are all one. Tells the first byte of a line
+    /// that left.
+    fn fill_first(&mut self, number: u8, byte: u8) -> Option<u8> {
+        let line = line(number);
+        if self.first.has(line) || !self.first.room(line) {
+            return None;
+        }
+        let gone = self
+            .first
+            .fill(&mut self.pool, line, Letter::E, &[byte; 64]);
+        first_byte(gone)
+    }
+
+    fn fill_second(&mut self, number: u8, byte: u8) -> Option<u8> {
+        let line = line(number);
+        if self.second.has(line) || !self.second.room(line) {
+            return None;
+        }
+        let gone = self
+            .second
+            .fill(&mut self.pool, line, Letter::E, &[byte; 64]);
+        first_byte(gone)
+    }
+}
+
+/// The first byte of a line that left, if one did.
+fn first_byte(gone: Option<Evicted>) -> Option<u8> {
+    Some(gone?.bytes[0])
+}
+
+#[test]
+fn two_caches_have_a_slot_each(rt: HostRuntime) -> Result<(), Fail> {
+    let mut pair = Pair::make(rt.alloc())?;
+    assert_eq!(rt; pair.fill_first(4, 0x11), None);
+    assert_eq!(rt; pair.fill_second(4, 0x22), None);
+    assert_eq!(rt; pair.fill_first(5, 0x33), Some(0x11));
+    assert_eq!(rt; pair.fill_second(6, 0x44), Some(0x22));
+    assert_eq!(rt; pair.fill_first(6, 0x55), Some(0x33));
+    assert_eq!(rt; pair.fill_second(7, 0x66), Some(0x44));
+    Ok(())
+}

@@ -1,0 +1,137 @@
+//! Programs are the words that GNU as makes of the instructions beside them; what they leave behind
+//! is worked out by hand from the RISC-V unprivileged manual.
+
+use el_base::HartId;
+use elf_image::load;
+use rv_alu::{HartStatus, HartView};
+use rv_flat::*;
+use rv_word::Reg;
+use std::alloc::{AllocError, Global};
+use std::process::Abort;
+use std::test::Fail;
+
+mod calls;
+mod changes;
+mod instructions;
+mod sharing;
+mod stopping;
+
+/// The ELF header and the program header of a file that is one segment at 0x10000, to be read,
+/// written and executed, with the entry behind them. The file's length is left out, at bytes 68 to
+/// 75.
+const HEADERS: [u8; 84] = [
+    0x7f, 0x45, 0x4c, 0x46, 0x01, 0x01, 0x01, 0x00, 0x00, 0x00, 0x00, 0x00, 0x00, 0x00, 0x00, 0x00,
+    0x02, 0x00, 0xf3, 0x00, 0x01, 0x00, 0x00, 0x00, 0x54, 0x00, 0x01, 0x00, 0x34, 0x00, 0x00, 0x00,
+    0x00, 0x00, 0x00, 0x00, 0x00, 0x00, 0x00, 0x00, 0x34, 0x00, 0x20, 0x00, 0x01, 0x00, 0x00, 0x00,
+    0x00, 0x00, 0x00, 0x00, 0x01, 0x00, 0x00, 0x00, 0x00, 0x00, 0x00, 0x00, 0x00, 0x00, 0x01, 0x00,
+    0x00, 0x00, 0x01, 0x00, 0x00, 0x00, 0x00, 0x00, 0x00, 0x00, 0x00, 0x00, 0x07, 0x00, 0x00, 0x00,
+    0x00, 0x10, 0x00, 0x00,
+];
+
+/// The address of the first instruction.
+const ENTRY: u32 = 0x10054;
+
+/// The most bytes of a file.
+const LIMIT: usize = 33_554_432;
+
+/// The file of a program that begins with the first of these instructions.
+fn file_of(rt: &impl Abort, alloc: Global, code: &[u32]) -> Result<Vec<u8>, AllocError> {
+    let mut file = HEADERS.to_vec(alloc)?;
+    for word in code {
+        file.extend_from_slice(&word.to_le_bytes())?;
+    }
+    assert!(rt; (84..LIMIT).contains(&file.len()));
+    let len = (file.len() as u32).to_le_bytes();
+    file[68..72].copy_from_slice(&len);
+    file[72..76].copy_from_slice(&len);
+    Ok(file)
+}
+
+/// The program of these instructions before its first step.
+fn flat_of(rt: &impl Abort, alloc: Global, code: &[u32], harts: u8) -> Result<Flat, Fail> {
+    let file = file_of(rt, alloc, code)?;
+    assert!(rt; file.len() <= LIMIT);
+    assert!(rt; (1..=8).contains(&harts));
+    let image = load(alloc, &file, harts)?;
+    Ok(Flat::make(alloc, &image)?)
+}
+
+/// So many steps of a hart.
+fn go(rt: &impl Abort, flat: &mut Flat, number: u8, count: usize) {
+    let hart = HartId::new(number).expect(rt, "a hart");
+    for _ in 0..count {
+        assert!(rt; usize::from(hart.number) < flat.harts());
+        flat.step(hart);
+    }
+}
+
+/// A hart's view.
+fn seen(rt: &impl Abort, flat: &Flat, number: u8) -> HartView {
+    let hart = HartId::new(number).expect(rt, "a hart");
+    assert!(rt; usize::from(hart.number) < flat.harts());
+    assert_eq!(rt; flat.hart(hart).status, flat.status(hart));
+    flat.hart(hart)
+}
+
+/// The word in a register.
+fn word_in(rt: &impl Abort, view: &HartView, number: u8) -> u32 {
+    view.regs.get(Reg::new(number).expect(rt, "a register"))
+}
+
+#[test]
+fn harts_start_at_the_entry_with_their_own_stacks(rt: HostRuntime) -> Result<(), Fail> {
+    for (harts, end) in [(1, 0x20080), (8, 0x90080)] {
+        // addi x0,x0,0
+        let flat = flat_of(&rt, rt.alloc(), &[0x0000_0013], harts)?;
+        assert_eq!(rt; flat.harts(), usize::from(harts));
+        assert_eq!(rt; flat.output().len(), 0);
+        for (address, byte) in [
+            (0xffff, None),
+            (0x10001, Some(0x45)),
+            (0x10054, Some(0x13)),
+            (end - 1, Some(0)),
+            (end, None),
+            (0, None),
+            (0xffff_ffff, None),
+        ] {
+            assert_eq!(rt; flat.byte(address), byte, "at {address:#x}");
+        }
+        for hart in 0..harts {
+            let view = seen(&rt, &flat, hart);
+            assert_eq!(rt; view.pc, ENTRY);
+            assert_eq!(rt; view.reserved, None);
+            assert_eq!(rt; view.status, HartStatus::Running);
+            for number in 0..32 {
+                let want = match number {
+                    2 => end - 0x10000 * u32::from(hart),
+                    10 => u32::from(hart),
+                    11 => u32::from(harts),
+                    _ => 0,
+                };
+                assert_eq!(rt;
+                    word_in(&rt, &view, number),
+                    want,
+                    "x{number} of hart {hart}"
+                );
+            }
+        }
+    }
+    Ok(())
+}
+
+#[test]
+fn a_program_writes_and_exits(rt: HostRuntime) -> Result<(), Fail> {
+    // addi x10,x0,1; auipc x11,0; addi x11,x11,32; addi x12,x0,2; addi x17,x0,64; ecall;
+    // addi x10,x0,0; addi x17,x0,93; ecall; and the characters 'A' and newline
+    let code = [
+        0x00100513, 0x00000597, 0x02058593, 0x00200613, 0x04000893, 0x00000073, 0x00000513,
+        0x05d00893, 0x00000073, 0x00000a41,
+    ];
+    let mut flat = flat_of(&rt, rt.alloc(), &code, 1)?;
+    go(&rt, &mut flat, 0, 8);
+    assert_eq!(rt; flat.output(), b"A\n".as_slice());
+    assert_eq!(rt; seen(&rt, &flat, 0).status, HartStatus::Running);
+    go(&rt, &mut flat, 0, 1);
+    assert_eq!(rt; seen(&rt, &flat, 0).status, HartStatus::Exited { code: 0 });
+    Ok(())
+}

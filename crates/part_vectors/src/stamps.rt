@@ -1,0 +1,45 @@
+//! Stamps that are just less, equal and greater, by clock and by hart.
+
+use el_base::HartId;
+use stamp::*;
+use std::test::Fail;
+
+#[test]
+fn stamps_are_ordered_by_clock_and_then_by_hart(rt: HostRuntime) -> Result<(), Fail> {
+    let rows = [
+        ((0, 0), (0, 0), false),
+        ((0, 0), (0, 1), true),
+        ((0, 1), (0, 0), false),
+        ((1, 0), (0, 7), false),
+        ((0, 7), (1, 0), true),
+        ((4, 3), (5, 3), true),
+        ((5, 3), (4, 3), false),
+        ((u64::MAX, 6), (u64::MAX, 7), true),
+        ((u64::MAX, 7), (u64::MAX, 7), false),
+    ];
+    for ((left_clock, left_hart), (right_clock, right_hart), before) in rows {
+        let left = Stamp {
+            clock: left_clock,
+            hart: HartId::new(left_hart).ok_or("no such hart")?,
+        };
+        let right = Stamp {
+            clock: right_clock,
+            hart: HartId::new(right_hart).ok_or("no such hart")?,
+        };
+        assert_eq!(rt; less(left, right), before, "{left:?} {right:?}");
+    }
+    Ok(())
+}
+
+#[test]
+fn the_next_clock_is_one_more_than_the_greater(rt: HostRuntime) {
+    for (own, seen, next) in [
+        (0, 0, 1),
+        (4, 4, 5),
+        (4, 9, 10),
+        (9, 4, 10),
+        (0, u64::MAX - 1, u64::MAX),
+    ] {
+        assert_eq!(rt; next_clock(own, seen), next, "{own} {seen}");
+    }
+}

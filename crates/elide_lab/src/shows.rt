@@ -31,26 +31,30 @@ pub(crate) fn show_events<'a, S: Shelf, O: Sink, E: Sink>(
 ) -> Result<(), Stop<'a>>
     ensures { S.told shelf.new ≡ S.told shelf.old }
 {
-    let Recorded {
-        mut machine,
-        trace,
-        image,
-        symbols,
-    } = read_recorded(alloc, shelf, err, command.traced)?;
-    check_range(&trace, command.range, command.traced.trace)?;
+    let mut run = read_recorded(alloc, shelf, err, command.traced)?;
+    show_run(alloc, out, &mut run, &command)
+}
+
+/// Makes the events of a run that was read, puts the lines that the command asks for, and compares the outcomes.
+fn show_run<'a, O: Sink>(
+    alloc: Global,
+    out: &mut O,
+    run: &mut Recorded,
+    command: &ShowCommand<'a>,
+) -> Result<(), Stop<'a>>
+    requires harts_exist { All (λ event. event.hart.number < run.old.machine.config.harts) run.old.trace.events }
+    requires enough_steps { length run.old.trace.events ≤ left_of run.old.machine }
+    ensures { OnOk result (run.new.machine ≡ continued run.old.machine run.old.trace.events) }
+{
+    let file = command.traced.trace;
+    check_range(&run.trace, command.range, file)?;
     let names = Names {
-        symbols: &symbols,
-        image: &image,
+        symbols: &run.symbols,
+        image: &run.image,
     };
-    put_events(
-        alloc,
-        out,
-        &mut machine,
-        trace.events.as_slice(),
-        &command,
-        &names,
-    )?;
-    check_outcomes(&machine, &trace, command.traced.trace)
+    let events = run.trace.events.as_slice();
+    put_events(alloc, out, &mut run.machine, events, command, &names)?;
+    check_outcomes(&run.machine, &run.trace, file)
 }
 
 /// Refuses a range that begins over the end of a trace, or of a hart that it has not.
@@ -153,21 +157,31 @@ pub(crate) fn show_state<'a, S: Shelf, O: Sink, E: Sink>(
 ) -> Result<(), Stop<'a>>
     ensures { S.told shelf.new ≡ S.told shelf.old }
 {
-    let Recorded {
-        mut machine,
-        trace,
-        image,
-        symbols,
-    } = read_recorded(alloc, shelf, err, traced)?;
-    go_to(&mut machine, trace.events.as_slice(), place, traced.trace)?;
+    let mut run = read_recorded(alloc, shelf, err, traced)?;
+    show_place(alloc, out, &mut run, place, traced.trace)
+}
+
+/// Makes the events before a place of a run that was read, puts how the machine stands, and compares the outcomes.
+fn show_place<'a, O: Sink>(
+    alloc: Global,
+    out: &mut O,
+    run: &mut Recorded,
+    place: u32,
+    file: &'a str,
+) -> Result<(), Stop<'a>>
+    requires harts_exist { All (λ event. event.hart.number < run.old.machine.config.harts) run.old.trace.events }
+    requires enough_steps { length run.old.trace.events ≤ left_of run.old.machine }
+    ensures { OnOk result (run.new.machine ≡ continued run.old.machine (take place run.old.trace.events)) }
+{
+    go_to(&mut run.machine, run.trace.events.as_slice(), place, file)?;
     let names = Names {
-        symbols: &symbols,
-        image: &image,
+        symbols: &run.symbols,
+        image: &run.image,
     };
     let mut text = String::new(alloc);
-    write_state(&mut text, &machine, &names)?;
+    write_state(&mut text, &run.machine, &names)?;
     put_all(out, text.as_bytes())?;
-    check_outcomes(&machine, &trace, traced.trace)
+    check_outcomes(&run.machine, &run.trace, file)
 }
 
 /// Makes the events before a place.

@@ -96,7 +96,19 @@ pub(crate) fn show_locks<'a, S: Shelf, O: Sink, E: Sink>(
     ensures { S.told shelf.new ≡ S.told shelf.old }
 {
     let followed = read_followed(alloc, shelf, err, traced)?;
-    let rows = all_lock_rows(alloc, &followed)?;
+    put_locks(alloc, out, &followed, layout)
+}
+
+/// Puts the rows of all acquires.
+fn put_locks<'a, O: Sink>(
+    alloc: Global,
+    out: &mut O,
+    followed: &Followed,
+    layout: Layout,
+) -> Result<(), Stop<'a>>
+    requires few { length followed.now.sections.takes.items + length followed.now.sections.releases.items ≤ MAX_STEPS }
+{
+    let rows = all_lock_rows(alloc, followed)?;
     let mut text = String::new(alloc);
     if rows.is_empty() && layout == Layout::Text {
         text.push_str("no acquire\n")?;
@@ -122,6 +134,16 @@ pub(crate) fn show_lines<'a, S: Shelf, O: Sink, E: Sink>(
     ensures { S.told shelf.new ≡ S.told shelf.old }
 {
     let followed = read_followed(alloc, shelf, err, traced)?;
+    put_lines(alloc, out, &followed, layout)
+}
+
+/// Puts the rows of all lines.
+fn put_lines<'a, O: Sink>(
+    alloc: Global,
+    out: &mut O,
+    followed: &Followed,
+    layout: Layout,
+) -> Result<(), Stop<'a>> {
     let rows = line_rows(alloc, &followed.facts)?;
     let mut text = String::new(alloc);
     if rows.is_empty() && layout == Layout::Text {
@@ -144,6 +166,20 @@ pub(crate) fn write_page_to<'a, S: Shelf, E: Sink>(
 ) -> Result<(), Stop<'a>>
     ensures { KeepsOthers (S.told shelf.old) (S.told shelf.new) file.now }
 {
+    let text = page_of(alloc, shelf, err, traced)?;
+    shelf.write(alloc, file, text.as_bytes())?;
+    Ok(())
+}
+
+/// The page of a run.
+fn page_of<'a, S: Shelf, E: Sink>(
+    alloc: Global,
+    shelf: &mut S,
+    err: &mut E,
+    traced: Traced<'a>,
+) -> Result<String, Stop<'a>>
+    ensures { S.told shelf.new ≡ S.told shelf.old }
+{
     let followed = read_followed(alloc, shelf, err, traced)?;
     let mut text = String::new(alloc);
     let run = Run {
@@ -156,8 +192,7 @@ pub(crate) fn write_page_to<'a, S: Shelf, E: Sink>(
         facts: &followed.facts,
     };
     write_page(alloc, &mut text, &run, &followed.symbols)?;
-    shelf.write(alloc, file, text.as_bytes())?;
-    Ok(())
+    Ok(text)
 }
 
 /// `info`: what a trace says of itself.

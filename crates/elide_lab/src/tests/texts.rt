@@ -227,14 +227,26 @@ const ITEMS: [(Item, &str, &str); 24] = [
     ),
 ];
 
+/// An item reads so, in words and as JSON.
+fn reads(
+    rt: &impl Abort,
+    alloc: Global,
+    phrase: Phrase<'_>,
+    words: &str,
+    object: &str,
+) -> Result<(), Fail> {
+    let Phrase { item, symbols } = phrase;
+    let text = format!(in alloc; "{}", phrase)?;
+    let json = format!(in alloc; "{}", Member { item, symbols })?;
+    assert_eq!(rt; (text.as_str(), json.as_str()), (words, object));
+    Ok(())
+}
+
 #[test]
 fn items_read_as_written(rt: HostRuntime) -> Result<(), Fail> {
-    let symbols = read_symbols(rt.alloc(), &NAMED).map_err(|_| "no symbols")?;
-    let symbols = &symbols;
+    let symbols = &read_symbols(rt.alloc(), &NAMED).map_err(|_| "no symbols")?;
     for (item, words, object) in ITEMS {
-        let text = format!(in rt.alloc(); "{}", Phrase { item, symbols })?;
-        let json = format!(in rt.alloc(); "{}", Member { item, symbols })?;
-        assert_eq!(rt; (text.as_str(), json.as_str()), (words, object));
+        reads(&rt, rt.alloc(), Phrase { item, symbols }, words, object)?;
     }
     Ok(())
 }
@@ -409,23 +421,28 @@ const OBJECTS: &str =
 {"event":422,"hart":0,"kind":"order","did":[]}
 "#;
 
+/// The lines of the events above, and some of them as objects.
+fn write_events(lines: &mut String, objects: &mut String, names: &Names<'_>) -> Result<(), Fail> {
+    write_event(lines, &began(), names)?;
+    write_event(lines, &ran(), names)?;
+    write_event(lines, &let_go(), names)?;
+    write_event(lines, &served(), names)?;
+    write_event(lines, &delivered(), names)?;
+    write_event(lines, &idle(), names)?;
+    write_event_json(objects, &began(), names)?;
+    write_event_json(objects, &served(), names)?;
+    write_event_json(objects, &idle(), names)?;
+    Ok(())
+}
+
 #[test]
 fn events_read_as_written(rt: HostRuntime) -> Result<(), Fail> {
     let symbols = &read_symbols(rt.alloc(), &NAMED).map_err(|_| "no symbols")?;
     let image = &image(rt.alloc())?;
-    let names = Names { symbols, image };
     let mut lines = String::new(rt.alloc());
-    write_event(&mut lines, &began(), &names)?;
-    write_event(&mut lines, &ran(), &names)?;
-    write_event(&mut lines, &let_go(), &names)?;
-    write_event(&mut lines, &served(), &names)?;
-    write_event(&mut lines, &delivered(), &names)?;
-    write_event(&mut lines, &idle(), &names)?;
-    assert_eq!(rt; lines.as_str(), LINES);
     let mut objects = String::new(rt.alloc());
-    write_event_json(&mut objects, &began(), &names)?;
-    write_event_json(&mut objects, &served(), &names)?;
-    write_event_json(&mut objects, &idle(), &names)?;
+    write_events(&mut lines, &mut objects, &Names { symbols, image })?;
+    assert_eq!(rt; lines.as_str(), LINES);
     assert_eq!(rt; objects.as_str(), OBJECTS);
     Ok(())
 }
@@ -497,24 +514,42 @@ hart 1 at 00010054, running
 E-- I-- 00010040
 ";
 
+/// The machine's state reads so.
+fn stands(
+    rt: &impl Abort,
+    alloc: Global,
+    machine: &Machine,
+    names: &Names<'_>,
+    wanted: &str,
+) -> Result<(), Fail> {
+    let mut text = String::new(alloc);
+    write_state(&mut text, machine, names)?;
+    assert_eq!(rt; text.as_str(), wanted);
+    Ok(())
+}
+
+/// How the machine stands before its request is ordered, and when its line has come.
+fn asks_and_holds(
+    rt: &impl Abort,
+    alloc: Global,
+    machine: &mut Machine,
+    names: &Names<'_>,
+) -> Result<(), Fail> {
+    for _ in 0..6 {
+        make(rt, machine, Kind::Step);
+    }
+    stands(rt, alloc, machine, names, ASKING)?;
+    make(rt, machine, Kind::Order);
+    make(rt, machine, Kind::Serve);
+    stands(rt, alloc, machine, names, HOLDING)
+}
+
 #[test]
 fn a_state_reads_as_written(rt: HostRuntime) -> Result<(), Fail> {
     let symbols = &Symbols::none(rt.alloc());
     let image = &image(rt.alloc())?;
-    let names = Names { symbols, image };
     let mut machine = machine(&rt, rt.alloc())?;
-    for _ in 0..6 {
-        make(&rt, &mut machine, Kind::Step)?;
-    }
-    let mut text = String::new(rt.alloc());
-    write_state(&mut text, &machine, &names)?;
-    assert_eq!(rt; text.as_str(), ASKING);
-    make(&rt, &mut machine, Kind::Order)?;
-    make(&rt, &mut machine, Kind::Serve)?;
-    let mut text = String::new(rt.alloc());
-    write_state(&mut text, &machine, &names)?;
-    assert_eq!(rt; text.as_str(), HOLDING);
-    Ok(())
+    asks_and_holds(&rt, rt.alloc(), &mut machine, &Names { symbols, image })
 }
 
 fn machine(rt: &impl Abort, alloc: Global) -> Result<Machine, Fail> {
@@ -528,8 +563,7 @@ fn machine(rt: &impl Abort, alloc: Global) -> Result<Machine, Fail> {
 }
 
 /// An event of hart 0.
-fn make(rt: &impl Abort, machine: &mut Machine, kind: Kind) -> Result<(), Fail> {
+fn make(rt: &impl Abort, machine: &mut Machine, kind: Kind) {
     assert!(rt; machine.steps_left() >= 1 && machine.config().harts >= 1);
     machine.step(Event { kind, hart: H0 });
-    Ok(())
 }

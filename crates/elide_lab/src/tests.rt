@@ -1,4 +1,4 @@
-//! The top call over files in memory, and worked rows of the crates of the laboratory, worked by hand.
+//! The top call over files in memory, and examples of the crates of the laboratory, worked by hand.
 //!
 //! They stand here, and not in those crates, since the tests of a crate prove all of it once more.
 

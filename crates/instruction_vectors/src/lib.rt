@@ -1,4 +1,4 @@
-//! Worked rows of instructions, of images and of runs on plain memory, against the RISC-V manual and GNU as.
+//! Worked examples of instructions, of images and of runs on plain memory, against the RISC-V manual and GNU as.
 //!
 //! The crate stands on `rv_word`, `rv_alu`, `rv_asm`, `rv_text`, `elf_image` and `rv_flat`, and holds nothing but tests of their public calls. It is
 //! a crate of its own since the tests of a crate prove all of that crate once more.

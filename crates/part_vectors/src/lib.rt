@@ -1,4 +1,4 @@
-//! Worked rows of words, histories and schedules, and of the parts of a cache, a bus and a section.
+//! Worked examples of words, histories and schedules, and of the parts of a cache, a bus and a section.
 //!
 //! The crate stands on the crates that hold these and holds nothing but tests of their public calls. It is a crate of its own
 //! since the tests of a crate prove all of that crate once more.

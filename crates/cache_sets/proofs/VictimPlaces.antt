@@ -10,7 +10,8 @@ use Rattle.residency.specs.Residency.{has_unmarked, is_marked, victim_in}
 use Rattle.residency.proofs.Laws.ResidencyLemmas.{victim_in-some}
 
 -- lines of which each has a bit have no victim
-pub no_victim_among : (lines : List code.Line) → ((k : ℕ) → k < length lines → (d : code.Line) → is_marked (shown_line (get_or lines k d)) ≡ true) →
+pub no_victim_among : (lines : List code.Line) →
+    ((k : ℕ) → k < length lines → (d : code.Line) → is_marked (shown_line (get_or lines k d)) ≡ true) →
     victim_in (map shown_line lines) ≡ None
 no_victim_among [] marked = refl
 no_victim_among (first ∷ lines) marked =

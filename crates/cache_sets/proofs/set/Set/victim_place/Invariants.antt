@@ -8,7 +8,8 @@ use Rattle.cache_sets.proofs.set.Set.victim_place.Given as goal
 abbrev pub invariant-loop-place : goal.invariant-loop-place
 invariant-loop-place l = record {
   within : l.place ≤ length l.self.lines.items;
-  marked : (k : ℕ) → l.place ≤ k → k < length l.self.lines.items → (d : code.Line) → is_marked (shown_line (get_or l.self.lines.items k d)) ≡ true;
+  marked : (k : ℕ) → l.place ≤ k → k < length l.self.lines.items →
+      (d : code.Line) → is_marked (shown_line (get_or l.self.lines.items k d)) ≡ true;
 }
 
 abbrev pub decreases-loop-place : goal.decreases-loop-place

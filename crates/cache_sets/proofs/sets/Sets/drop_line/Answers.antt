@@ -11,12 +11,15 @@ use Rattle.cache_sets.proofs.sets.Sets.drop_line.Goals as goal
 
 pub remove-gone-requires : goal.remove-gone-requires
 remove-gone-requires c =
-    once-reached _ _ _ _ (reached c.as_slice.ensures.value c.set_number-number.ensures.exact c.set_number-number.ensures.within c.index_mut-set.ensures.value) _ _ _ c.self.invariant c.args.line.number
+    once-reached _ _ _ _
+    (reached c.as_slice.ensures.value c.set_number-number.ensures.exact c.set_number-number.ensures.within c.index_mut-set.ensures.value)
+    _ _ _ c.self.invariant c.args.line.number
 
 pub give_back-requires : goal.give_back-requires
 give_back-requires c =
     let at = reached c.as_slice.ensures.value c.set_number-number.ensures.exact c.set_number-number.ensures.within c.index_mut-set.ensures.value in
-    gone-out c.remove-gone.new.self c.self.invariant c.self.view_is at c.remove-gone.ensures.room c.remove-gone.ensures.left c.args.pool.now c.args.pool.now c.remove-gone.result
+    gone-out c.remove-gone.new.self c.self.invariant c.self.view_is at c.remove-gone.ensures.room c.remove-gone.ensures.left
+    c.args.pool.now c.args.pool.now c.remove-gone.result
     c.requires.lent c.requires.resident c.remove-gone.ensures.gone
 
 pub overflow_sub-self : goal.overflow_sub-self

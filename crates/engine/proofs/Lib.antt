@@ -38,3 +38,4 @@ mod ArmedSteps
 mod AfterArmed
 mod Eliding
 mod PrivateCalls
+mod NothingFound

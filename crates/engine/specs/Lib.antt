@@ -15,3 +15,4 @@ pub mod Private
 pub mod MainMemory
 pub mod Turns
 pub mod Armed
+pub mod Resting

@@ -27,6 +27,7 @@ mod mode_policy;
 mod on_bus;
 mod others_reservations;
 mod reservations;
+mod resting;
 mod rolling_back;
 mod running;
 mod step;

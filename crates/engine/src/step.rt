@@ -18,8 +18,30 @@ use snoop::Asked;
 impl Engine {
     /// One event: whatever state that a program reaches the parts are in, they are in the state after the event then,
     /// with its outcome. It takes no memory.
-    #[tactic(auto, unfolding(el_model::specs::Next::next))]
+    #[inline(always)]
+    #[tactic(auto, using(crate::proofs::NothingFound::resting_outcome, crate::proofs::NothingFound::resting_lines))]
     pub fn step(&mut self, event: Event) -> Outcome
+        requires hart_exists { event.hart.number < length (parts self.old).harts }
+        requires stands { Stands (parts self.old) }
+        ensures ready { IsReady (parts self.new).bus }
+        ensures state { (state : ModelState) → IsReached state → IsIn (parts self.old) state →
+            IsIn (parts self.new) (next state event).state }
+        ensures outcome { (state : ModelState) → IsReached state → IsIn (parts self.old) state →
+            result ≡ (next state event).outcome }
+        ensures memory { (state : ModelState) → IsReached state → IsIn (parts self.old) state →
+            (parts self.new).bus.copies.lines ≡ lines_from state event (parts self.old).bus.copies.lines }
+    {
+        if self.finds_nothing(event) {
+            Outcome::Idle
+        } else {
+            self.turn(event)
+        }
+    }
+
+    /// The same, by the kind of the event. Its body is large, and apart from the small one of `step`.
+    #[inline(never)]
+    #[tactic(auto, unfolding(el_model::specs::Next::next))]
+    fn turn(&mut self, event: Event) -> Outcome
         requires hart_exists { event.hart.number < length (parts self.old).harts }
         requires stands { Stands (parts self.old) }
         ensures ready { IsReady (parts self.new).bus }

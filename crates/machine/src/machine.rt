@@ -148,6 +148,7 @@ impl Machine {
     /// a hart that holds the line until its next step. The last three are the idea of R. Rajwar and J. R. Goodman,
     /// 'Transactional Lock-Free Execution of Lock-Based Programs', ASPLOS 2002, and the first three that of their
     /// 'Speculative Lock Elision', MICRO 2001.
+    #[inline(always)]
     #[tactic(auto, using(crate::proofs::GoesOn::told_more))]
     pub fn step(&mut self, event: Event) -> Outcome
         requires hart_exists { event.hart.number < self.old.config.harts }

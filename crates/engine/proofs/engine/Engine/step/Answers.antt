@@ -1,16 +1,9 @@
--- a step leaves main memory as it was
-use Rattle.std.proofs.Common.{◌≡◌, ◌≢◌, ◌∙◌, sym}
-use Rattle.el_base.specs.declared.events.Kind.{Kind}
-use Rattle.el_base.specs.declared.events.Kind.TheVariants.{Serve, Step}
-use Rattle.engine.proofs.MainMemory.{kept_lines}
+-- an event that finds nothing to do leaves the parts in the state that they are in
+use Rattle.std.proofs.Common.{◌∙◌, sym}
+use Rattle.engine.proofs.NothingFound.{resting_state}
 use Rattle.engine.proofs.engine.Engine.step.Goals as goal
+use Rattle.engine.specs.Parts.{parts}
 
-steps : (kind : Kind) → kind ≡ Step → kind ≢ Serve
-steps kind is serves = by (sym is ∙ serves)
-  where
-    by : Step ≢ Serve
-    by same = cc
-
-pub returns-in-Step-clause-memory : goal.returns-in-Step-clause-memory
-returns-in-Step-clause-memory c state reached is =
-    c.step_of.ensures.memory_stays ∙ kept_lines state c.args.event _ (steps c.args.event.kind c.in-Step.is)
+pub returns-then-finds_nothing-clause-state : goal.returns-then-finds_nothing-clause-state
+returns-then-finds_nothing-clause-state c state reached is =
+    resting_state (parts c.args.self.now) state c.args.event (sym (c.finds_nothing.ensures state is) ∙ c.if-finds_nothing.true) is

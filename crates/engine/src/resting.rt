@@ -1,0 +1,30 @@
+//! Events of the bus that find nothing to do.
+
+ghost use Rattle.std.specs.Prelude.{◌≡◌, ◌<◌, length};
+ghost use Rattle.el_model.specs.State.{ModelState};
+ghost use Rattle.engine.specs.Parts.{IsIn, parts};
+ghost use Rattle.engine.specs.Reached.{Stands};
+ghost use Rattle.engine.specs.Resting.{finds_nothing};
+
+use crate::engine::Engine;
+use el_base::{Event, Kind};
+
+impl Engine {
+    /// Whether an event of the bus finds nothing to do, as most of a run do: the hart has raised nothing that an order
+    /// would place, has nothing in the order that a serve would look at, or has no message that would be delivered. A
+    /// step is none of these. It stands in each caller's loop, so that such an event costs no call.
+    #[inline(always)]
+    #[tactic(auto, using(crate::proofs::Laws::BusEvents::hart_exists))]
+    pub(crate) fn finds_nothing(&self, event: Event) -> bool
+        requires hart_exists { event.hart.number < length (parts self.now).harts }
+        requires stands { Stands (parts self.now) }
+        ensures { (state : ModelState) → IsIn (parts self.now) state → result ≡ finds_nothing state event }
+    {
+        match event.kind {
+            Kind::Step => false,
+            Kind::Order => self.bus.agent(event.hart).raised().is_none(),
+            Kind::Serve => self.bus.requests().of(event.hart).is_none(),
+            Kind::Deliver => !self.bus.agent(event.hart).has_mail(),
+        }
+    }
+}

@@ -1,5 +1,5 @@
 -- A file without a fault is the spelling of what is read of it.
-use Rattle.std.proofs.Common.{◌≡◌, ◌≢◌, ℕ, ◌+◌, ◌≤◌, ◌<◌, Bool, true, false, not, ◌==◌, ltb, List, [], ◌∷◌, ◌++◌, length, map, get_or, take, drop, Option, Some, None, IsTrue, refl, sym, subst, ap, ◌∙◌, arith}
+use Rattle.std.proofs.Common.{◌≡◌, ◌≢◌, ℕ, ◌+◌, ◌≤◌, ◌<◌, Bool, true, false, not, ◌==◌, ltb, List, [], ◌∷◌, ◌++◌, length, map, get_or, take, drop, Option, Some, None, IsTrue, refl, sym, ap, ◌∙◌, arith}
 use Rattle.std.specs.Prelude.{All}
 use Rattle.std.specs.Option.{option_map}
 use Rattle.std.proofs.lemmas.Bool.{ltb-false}
@@ -7,7 +7,7 @@ use Rattle.std.proofs.lemmas.Bool.Decides.{nat_tests}
 use Rattle.std.proofs.lemmas.List.{length-drop, length-map}
 use Rattle.std.proofs.lemmas.List.Elements.{All-cons, All-head, All-tail}
 use Rattle.chronicle.specs.Chronicle.{events}
-use Rattle.el_base.specs.Config.{allows, within}
+use Rattle.el_base.specs.Config.{allows}
 use Rattle.el_base.specs.declared.config.ConfigFault.TheVariants.{Harts, Sets, Ways, Lines, Long, Steps}
 use Rattle.el_base.specs.declared.hart_id.TheConstants.{MAX_HARTS}
 use Rattle.el_base.specs.Firsts.{first_of, some_if}
@@ -16,7 +16,7 @@ use Rattle.el_base.specs.declared.config.Config.{Config}
 use Rattle.el_base.specs.declared.events.Event.{Event}
 use Rattle.el_base.specs.declared.outcomes.Outcome.{Outcome}
 use Rattle.trace_file.specs.declared.fault.FaultKind.TheVariants.{Event as event_kind, Tail, Version}
-use Rattle.trace_file.specs.Spelling.{head, spelling, event_byte, outcomes, recorded_bytes, IsTrace}
+use Rattle.trace_file.specs.Spelling.{head, spelling, event_byte, outcomes, IsTrace}
 use Rattle.trace_file.specs.FaultKinds.{fault_of}
 use Rattle.trace_file.specs.Fields.{is_event}
 use Rattle.trace_file.specs.Faults.{byte_fault, magic_fault, version_fault, settings_fault, number_fault, head_fault, number_at, config_at, is_mode, is_few, is_version, event_fault, end_fault, events_fault, entries_fault, body_fault, trace_fault}

@@ -1,13 +1,12 @@
 -- Four bits a hart: what bytes say of losers and freed harts, and the bytes that say it.
-use Rattle.std.proofs.Common.{◌≡◌, ℕ, zero, suc, ◌+◌, ◌*◌, ◌/◌, ◌%◌, ◌≤◌, ◌<◌, ◌==◌, ◌&&◌, Bool, true, false, List, [], ◌∷◌, ◌++◌, length, get_or, drop, Option, Some, None, refl, sym, ap, ◌∙◌, min, arith}
-use Rattle.std.specs.Prelude.{IfSome, IsTrue, if◌then◌else◌, nat_lt, nat_le, slice_index}
+use Rattle.std.proofs.Common.{◌≡◌, ℕ, zero, suc, ◌/◌, ◌%◌, ◌≤◌, ◌<◌, ◌==◌, ◌&&◌, Bool, true, false, List, [], ◌∷◌, ◌++◌, get_or, Option, Some, None, refl, sym, ap, ◌∙◌, min, arith}
+use Rattle.std.specs.Prelude.{IfSome, IsTrue, if◌then◌else◌, nat_lt, nat_le}
 use Rattle.std.proofs.lemmas.Bool.{ltb-true, ltb-false, lt-ltb}
 use Rattle.std.proofs.lemmas.Bool.Decides.{nat_tests}
 use Rattle.std.proofs.lemmas.List.{get_or_append_left}
 use Rattle.el_base.specs.Freed.{count_in, freed_of}
 use Rattle.el_base.specs.Losers.{beaten_by, decoded_winner, losers_of, winner_code}
 use Rattle.el_base.specs.NibblePairs.{nibble_in, nibble_in-pairs_of, pair_of, pairs_of}
-use Rattle.el_base.specs.Nibbles.{nibble_of}
 use Rattle.el_base.specs.declared.freed.Freed.{Freed}
 use Rattle.el_base.specs.declared.losers.Losers.{Losers}
 use Rattle.el_base.proofs.Laws.MadeLosers.{beaten_by-beyond, beaten_by-losers_of, count_in-beyond, count_in-freed_of, named_by_map, winner_below}

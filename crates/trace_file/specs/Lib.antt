@@ -4,3 +4,4 @@ pub mod Fields
 pub mod Outcomes
 pub mod Reading
 pub mod Spelling
+pub mod Stretches

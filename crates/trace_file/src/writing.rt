@@ -1,11 +1,12 @@
 //! From a history to bytes.
 
-ghost use Rattle.std.specs.Prelude.{◌≡◌, ◌≢◌, ◌+◌, ◌++◌, ◌<◌, ◌≤◌, ◌*◌, ◌∷◌, [], Err, Some, length, map, vec_capacity, All, IfOk, IfSome, OnOk};
+ghost use Rattle.std.specs.Prelude.{◌≡◌, ◌≢◌, ◌+◌, ◌-◌, ◌++◌, ◌<◌, ◌≤◌, ◌*◌, ◌∷◌, [], Err, Some, length, map, vec_capacity, All, IfOk, OnOk};
 ghost use Rattle.chronicle.specs.Chronicle.{events};
 ghost use Rattle.el_base.specs.Config.{IsInRange};
 ghost use Rattle.el_io.specs.Shelf.{Holds, KeepsOthers, Records};
 ghost use Rattle.trace_file.specs.Outcomes.{IsRecordable, outcome_spelling};
-ghost use Rattle.trace_file.specs.Spelling.{entry_bytes, event_byte, head, outcomes, recorded_bytes, spelling};
+ghost use Rattle.trace_file.specs.Spelling.{entry_bytes, event_byte, head, outcomes, spelling};
+ghost use Rattle.trace_file.specs.Stretches.{between, bytes_of};
 
 use crate::head::{HEAD_BYTES, MAGIC, WITH_OUTCOMES};
 use crate::outcome_bytes;
@@ -56,6 +57,7 @@ fn head_bytes(config: &Config, count: u32) -> [u8; 22]
 /// How many bytes the spelling of an outcome has.
 fn width_of(outcome: Outcome) -> usize
     ensures exact { result ≡ length (outcome_spelling outcome) }
+    ensures some { 1 ≤ result }
     ensures small { result ≤ 9 }
 {
     match outcome {
@@ -72,17 +74,18 @@ fn width_of(outcome: Outcome) -> usize
 }
 
 /// The code of an outcome whose spelling is its code alone.
-fn bare_code(outcome: Outcome) -> Option<u8>
-    ensures { IfSome result (λ code. outcome_spelling outcome ≡ code ∷ []) }
+fn lone_code(outcome: Outcome) -> u8
+    requires { length (outcome_spelling outcome) ≡ 1 }
+    ensures { outcome_spelling outcome ≡ result ∷ [] }
 {
     match outcome {
-        Outcome::Idle => Some(0),
-        Outcome::Stalled => Some(1),
-        Outcome::Ran => Some(4),
-        Outcome::Began => Some(5),
-        Outcome::Buffered => Some(6),
-        Outcome::Armed => Some(13),
-        _ => None,
+        Outcome::Idle => 0,
+        Outcome::Stalled => 1,
+        Outcome::Ran => 4,
+        Outcome::Began => 5,
+        Outcome::Buffered => 6,
+        Outcome::Armed => 13,
+        _ => unreachable!(),
     }
 }
 
@@ -98,54 +101,129 @@ fn put_bytes(bytes: &mut Vec<u8>, more: &[u8])
     }
 }
 
-/// Puts the spelling of an outcome behind the bytes, in room that is there. That of most outcomes of a run is a code
-/// alone.
-fn put_outcome(bytes: &mut Vec<u8>, outcome: Outcome)
-    requires room { length bytes.old.items + length (outcome_spelling outcome) ≤ vec_capacity bytes.old }
-    ensures items { bytes.new.items ≡ bytes.old.items ++ outcome_spelling outcome }
-    ensures capacity { vec_capacity bytes.old ≤ vec_capacity bytes.new }
+/// The bytes and behind them the spelling of an outcome, in room that is there.
+#[inline(never)]
+fn with_spelling(mut bytes: Vec<u8>, outcome: Outcome) -> Vec<u8>
+    requires room { length bytes.items + length (outcome_spelling outcome) ≤ vec_capacity bytes }
+    ensures items { result.items ≡ bytes.items ++ outcome_spelling outcome }
+    ensures capacity { vec_capacity bytes ≤ vec_capacity result }
 {
-    match bare_code(outcome) {
-        Some(code) => bytes.push_reserved(code),
-        None => put_bytes(bytes, outcome_bytes::outcome_spelling(outcome).as_bytes()),
+    put_bytes(
+        &mut bytes,
+        outcome_bytes::outcome_spelling(outcome).as_bytes(),
+    );
+    bytes
+}
+
+/// `with_entry` for an outcome with fields, one of the rarer. The call for its spelling stands apart, and takes and
+/// gives the bytes by value, so that the loops over the entries keep their place and length in registers.
+fn with_long(mut bytes: Vec<u8>, entry: Entry) -> Vec<u8>
+    requires room { length bytes.items + length (entry_bytes entry.event entry.outcome) ≤ vec_capacity bytes }
+    ensures items { result.items ≡ bytes.items ++ entry_bytes entry.event entry.outcome }
+    ensures capacity { vec_capacity bytes ≤ vec_capacity result }
+{
+    bytes.push_reserved(event_byte(entry.event));
+    with_spelling(bytes, entry.outcome)
+}
+
+/// `with_entry` for an outcome whose spelling is its code alone, as that of most outcomes of a run is.
+fn with_brief(mut bytes: Vec<u8>, entry: Entry) -> Vec<u8>
+    requires brief { length (outcome_spelling entry.outcome) ≡ 1 }
+    requires room { length bytes.items + 2 ≤ vec_capacity bytes }
+    ensures items { result.items ≡ bytes.items ++ entry_bytes entry.event entry.outcome }
+    ensures capacity { vec_capacity bytes ≤ vec_capacity result }
+{
+    bytes.push_reserved(event_byte(entry.event));
+    bytes.push_reserved(lone_code(entry.outcome));
+    bytes
+}
+
+/// The bytes and behind them an event and the spelling of its outcome, in room that is there.
+fn with_entry(bytes: Vec<u8>, entry: Entry) -> Vec<u8>
+    requires room { length bytes.items + length (entry_bytes entry.event entry.outcome) ≤ vec_capacity bytes }
+    ensures items { result.items ≡ bytes.items ++ entry_bytes entry.event entry.outcome }
+    ensures capacity { vec_capacity bytes ≤ vec_capacity result }
+{
+    if width_of(entry.outcome) == 1 {
+        with_brief(bytes, entry)
+    } else {
+        with_long(bytes, entry)
     }
 }
 
-/// Puts an event and the spelling of its outcome behind the bytes, in room that is there.
-fn put_entry(bytes: &mut Vec<u8>, entry: Entry)
-    requires room { length bytes.old.items + length (entry_bytes entry.event entry.outcome) ≤ vec_capacity bytes.old }
-    ensures items { bytes.new.items ≡ bytes.old.items ++ entry_bytes entry.event entry.outcome }
-    ensures capacity { vec_capacity bytes.old ≤ vec_capacity bytes.new }
-{
-    bytes.push_reserved(event_byte(entry.event));
-    put_outcome(bytes, entry.outcome);
-}
-
-/// How many bytes the entries of a history have.
-fn length_of(history: &History) -> usize
-    ensures exact { result ≡ length (recorded_bytes (events history.now.entries) (outcomes history.now.entries)) }
-    ensures small { result ≤ 10 * length history.now.entries }
+/// How many bytes the entries of a history between two places have.
+fn length_of(history: &History, from: u32, to: u32) -> usize
+    requires order { from ≤ to }
+    requires inside { to ≤ length history.now.entries }
+    ensures exact { result ≡ length (bytes_of (between from to history.now.entries)) }
+    ensures small { result ≤ 10 * to }
 {
     let mut total = 0;
-    for place in 0..history.length() {
+    for place in from..to {
         let entry = history.entry(place);
         total += 1 + width_of(entry.outcome);
     }
     total
 }
 
-/// The spelling of a configuration and of the entries of a history. Its memory is taken at once.
+/// `with_entries` for entries that are all brief, where no entry has to be asked for its width.
+fn with_brief_entries(mut bytes: Vec<u8>, history: &History, from: u32, to: u32) -> Vec<u8>
+    requires order { from ≤ to }
+    requires inside { to ≤ length history.now.entries }
+    requires brief { length (bytes_of (between from to history.now.entries)) ≡ 2 * (to - from) }
+    requires room { length bytes.items + length (bytes_of (between from to history.now.entries)) ≤ vec_capacity bytes }
+    ensures items { result.items ≡ bytes.items ++ bytes_of (between from to history.now.entries) }
+    ensures capacity { vec_capacity bytes ≤ vec_capacity result }
+{
+    for place in from..to {
+        bytes = with_brief(bytes, history.entry(place));
+    }
+    bytes
+}
+
+/// The bytes and behind them those of the entries of a history between two places, in room that is there.
+fn with_entries(mut bytes: Vec<u8>, history: &History, from: u32, to: u32) -> Vec<u8>
+    requires order { from ≤ to }
+    requires inside { to ≤ length history.now.entries }
+    requires room { length bytes.items + length (bytes_of (between from to history.now.entries)) ≤ vec_capacity bytes }
+    ensures items { result.items ≡ bytes.items ++ bytes_of (between from to history.now.entries) }
+    ensures capacity { vec_capacity bytes ≤ vec_capacity result }
+{
+    for place in from..to {
+        bytes = with_entry(bytes, history.entry(place));
+    }
+    bytes
+}
+
+/// `with_entries`, and quicker where all of the entries are brief: one test then stands for that of each.
+fn with_stretch(bytes: Vec<u8>, history: &History, from: u32, to: u32) -> Vec<u8>
+    requires order { from ≤ to }
+    requires inside { to ≤ length history.now.entries }
+    requires room { length bytes.items + length (bytes_of (between from to history.now.entries)) ≤ vec_capacity bytes }
+    ensures items { result.items ≡ bytes.items ++ bytes_of (between from to history.now.entries) }
+    ensures capacity { vec_capacity bytes ≤ vec_capacity result }
+{
+    if length_of(history, from, to) == 2 * (to - from) as usize {
+        with_brief_entries(bytes, history, from, to)
+    } else {
+        with_entries(bytes, history, from, to)
+    }
+}
+
+/// The spelling of a configuration and of the entries of a history. Its memory is taken at once. The entries are
+/// put four by four: with so few the compiler writes each out, and a rare long one slows no more than three others.
 fn spelled(alloc: Global, config: &Config, history: &History) -> Result<Vec<u8>, NoMemory>
     ensures { IfOk result (λ bytes. bytes.items ≡
         spelling config.now (events history.now.entries) (Some (outcomes history.now.entries))) }
 {
     let count = history.length();
-    let mut bytes = Vec::with_capacity(alloc, HEAD_BYTES as usize + length_of(history))?;
+    let size = HEAD_BYTES as usize + length_of(history, 0, count);
+    let mut bytes = Vec::with_capacity(alloc, size)?;
     put_bytes(&mut bytes, &head_bytes(config, count));
-    for place in 0..count {
-        put_entry(&mut bytes, history.entry(place));
+    for four in 0..count / 4 {
+        bytes = with_stretch(bytes, history, 4 * four, 4 * four + 4);
     }
-    Ok(bytes)
+    Ok(with_entries(bytes, history, count / 4 * 4, count))
 }
 
 /// Makes the spelling in version 2 of the configuration and of the history's events, with their outcomes, the

@@ -1,7 +1,7 @@
 -- Outcomes and the bytes that spell them.
-use Rattle.std.proofs.Common.{◌≡◌, ℕ, zero, suc, ◌+◌, ◌*◌, ◌/◌, ◌%◌, ◌≤◌, ◌<◌, ◌^◌, Bool, true, false, List, [], ◌∷◌, ◌++◌, length, get_or, drop, Option, Some, None, refl, sym, ap, ◌∙◌, append_assoc, arith, IsTrue}
+use Rattle.std.proofs.Common.{◌≡◌, ℕ, zero, suc, ◌+◌, ◌/◌, ◌%◌, ◌≤◌, ◌<◌, ◌^◌, true, List, [], ◌∷◌, ◌++◌, length, get_or, drop, None, refl, sym, ap, ◌∙◌, append_assoc, arith, IsTrue}
 use Rattle.std.proofs.lemmas.Bool.Decides.{nat_tests}
-use Rattle.std.proofs.lemmas.List.{drop-drop, length-drop}
+use Rattle.std.proofs.lemmas.List.{drop-drop}
 use Rattle.byteorder.specs.Endian.{little_bytes, little_number}
 use Rattle.byteorder.specs.Numbers.{little_number-reads_back}
 use Rattle.el_base.specs.Config.{within}
@@ -20,7 +20,7 @@ use Rattle.el_base.specs.declared.outcomes.Why.TheVariants.{Behind, Retained, Lo
 use Rattle.el_base.proofs.Laws.HartIds.{hart_id-number, hart_id-of_hart}
 use Rattle.el_base.proofs.Laws.Lines.{line_addr-number, line_addr-of_line}
 use Rattle.trace_file.specs.Faults.{fields_fault}
-use Rattle.trace_file.specs.Fields.{Field, are_nibbles, byte_field, fields_of, freed_field, is_blocking, is_cause, is_line, losers_field, number_field, widths}
+use Rattle.trace_file.specs.Fields.{byte_field, fields_of, freed_field, is_blocking, is_cause, is_line, losers_field, number_field, widths}
 use Rattle.trace_file.specs.Outcomes.{IsRecordable, blocking_byte, cause_code, freed_bytes, losers_bytes, most_committed, most_let_go, outcome_spelling, why_code}
 use Rattle.trace_file.specs.Reading.{cause_at, freed_in, losers_in, outcome_in, why_at}
 use Rattle.trace_file.proofs.FieldRows.{first_known}

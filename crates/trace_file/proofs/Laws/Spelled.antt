@@ -1,5 +1,5 @@
 -- A trace that is spelled has no fault, and is read again.
-use Rattle.std.proofs.Common.{◌≡◌, ℕ, ◌+◌, ◌*◌, ◌/◌, ◌%◌, ◌^◌, ◌≤◌, ◌<◌, Bool, true, false, not, ◌==◌, ltb, List, [], ◌∷◌, ◌++◌, length, map, get_or, take, drop, Option, Some, None, IsTrue, refl, sym, ap, ◌∙◌, inl, inr, arith}
+use Rattle.std.proofs.Common.{◌≡◌, ℕ, ◌+◌, ◌^◌, ◌≤◌, ◌<◌, Bool, true, false, not, ltb, List, [], ◌∷◌, ◌++◌, length, map, get_or, take, Option, Some, None, IsTrue, refl, sym, ap, ◌∙◌, inl, inr, arith}
 use Rattle.std.specs.Prelude.{All}
 use Rattle.std.specs.List.{position, position_or_len}
 use Rattle.std.proofs.lemmas.Bool.{cases_lt, le-ltb}
@@ -7,11 +7,10 @@ use Rattle.std.proofs.lemmas.Bool.Decides.{nat_tests}
 use Rattle.std.proofs.lemmas.List.{length-map, take_all}
 use Rattle.std.proofs.lemmas.List.Sums.{passes_at_first}
 use Rattle.std.proofs.lemmas.List.Elements.{All-map}
-use Rattle.std.specs.Option.{option_or}
 use Rattle.byteorder.specs.Endian.{little_bytes}
 use Rattle.byteorder.specs.Numbers.{little_number-reads_back}
 use Rattle.chronicle.specs.Chronicle.{events}
-use Rattle.el_base.specs.Config.{allows, within}
+use Rattle.el_base.specs.Config.{allows}
 use Rattle.el_base.specs.declared.config.ConfigFault.TheVariants.{Harts, Sets, Ways, Lines, Long, Steps}
 use Rattle.el_base.specs.declared.config.TheConstants.{MAX_STEPS}
 use Rattle.el_base.specs.declared.hart_id.TheConstants.{MAX_HARTS}
@@ -24,7 +23,7 @@ use Rattle.el_base.specs.declared.config.Mode.TheVariants.{Plain, Sle, Tlr}
 use Rattle.el_base.specs.declared.file_fault.FileFault.{FileFault}
 use Rattle.el_base.specs.declared.outcomes.Outcome.{Outcome}
 use Rattle.trace_file.specs.declared.fault.FaultKind.{FaultKind}
-use Rattle.trace_file.specs.declared.fault.FaultKind.TheVariants.{Config as config_kind, Version, Tail}
+use Rattle.trace_file.specs.declared.fault.FaultKind.TheVariants.{Config as config_kind, Version}
 use Rattle.el_base.specs.Modes.{mode_number}
 use Rattle.trace_file.specs.Spelling.{head, spelling, event_byte, outcomes, recorded_bytes, version_of, IsTrace}
 use Rattle.trace_file.specs.FaultKinds.{fault_of}

@@ -1,4 +1,4 @@
-use Rattle.std.proofs.Common.{sym, ◌∙◌, arith}
+use Rattle.std.proofs.Common.{◌∙◌, arith}
 use Rattle.trace_file.specs.Spelling.{listed}
 use Rattle.trace_file.proofs.Judged.{is_whole}
 use Rattle.trace_file.proofs.Laws.Spelled.{faultless_again, read_again}

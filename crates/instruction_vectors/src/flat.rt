@@ -29,13 +29,13 @@ const HEADERS: [u8; 84] = [
 ];
 
 /// The address of the first instruction.
-const ENTRY: u32 = 0x10054;
+pub(crate) const ENTRY: u32 = 0x10054;
 
 /// The most bytes of a file.
-const LIMIT: usize = 33_554_432;
+pub(crate) const LIMIT: usize = 33_554_432;
 
 /// The file of a program that begins with the first of these instructions.
-fn file_of(rt: &impl Abort, alloc: Global, code: &[u32]) -> Result<Vec<u8>, AllocError> {
+pub(crate) fn file_of(rt: &impl Abort, alloc: Global, code: &[u32]) -> Result<Vec<u8>, AllocError> {
     let mut file = HEADERS.to_vec(alloc)?;
     for word in code {
         file.extend_from_slice(&word.to_le_bytes())?;

@@ -13,7 +13,6 @@ use Rattle.el_model.specs.Serve.{serve_ordered, serve_turn}
 use Rattle.el_model.specs.State.{ModelState, hart_of, idle, ordered_of, raised_of}
 use Rattle.engine.specs.MainMemory.{back_by, line_written_back, lines_from, with_committed}
 use Rattle.engine.specs.Parts.{IsIn, Parts}
-use Rattle.engine.specs.Reached.{IsReached, Stands}
 use Rattle.engine.specs.Resting.{finds_nothing, nothing_for}
 use Rattle.mail.specs.Mailbox.{Message}
 

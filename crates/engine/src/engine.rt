@@ -29,7 +29,8 @@ ghost use Rattle.snoop.specs.Shows.{kept};
 
 use crate::beginning::{first_harts, first_pool, memory_of};
 use el_base::{Config, HartId, NoMemory};
-use elf_image::{Code, Image};
+use elf_image::Image;
+use fetch::Fetch;
 use hart_state::HartState;
 use line_pool::Pool;
 use rv_alu::{Action, HartStatus, HartView, Span};
@@ -47,7 +48,7 @@ pub struct Engine {
     pub(crate) pool: Pool,
     pub(crate) bus: Bus,
     pub(crate) harts: Vec<HartState>,
-    pub(crate) code: Code,
+    pub(crate) code: Fetch,
     pub(crate) output: Output,
 }
 
@@ -65,7 +66,7 @@ impl Engine {
             pool: first_pool(alloc, config)?,
             bus: Bus::make(alloc, image, config)?,
             harts: first_harts(alloc, image, config)?,
-            code: image.code().share()?,
+            code: Fetch::make(alloc, image.code().share()?)?,
             output: Output::make(alloc)?,
         })
     }
@@ -200,7 +201,7 @@ impl Engine {
     {
         let view = self.harts[usize::from(hart.number)].shown();
         Action::at(
-            self.code.code_word(view.pc),
+            self.code.code().code_word(view.pc),
             view,
             self.span,
             self.output.room(),

@@ -86,7 +86,7 @@ impl Engine {
     {
         let own = &mut self.harts[usize::from(hart.number)];
         let pc = own.committed().pc;
-        let reserves = is_load_reserved(&self.code, pc, &action);
+        let reserves = is_load_reserved(self.code.code(), pc, &action);
         own.has_run(&self.config, pc, &action, exchange, reserves);
     }
 

@@ -3,16 +3,17 @@
 ghost use Rattle.std.specs.Prelude.{◌≡◌, ◌<◌, ◌↔◌, length, true, false};
 ghost use Rattle.el_model.specs.Next.{going_turn, next, step_turn};
 ghost use Rattle.el_model.specs.State.{ModelState, has_request, section_of};
-ghost use Rattle.engine.specs.Acting.{MayAct, MayActSomewhere};
+ghost use Rattle.engine.specs.Acting.{MayAct, MayActSomewhere, next_action};
 ghost use Rattle.engine.specs.MainMemory.{lines_from};
-ghost use Rattle.engine.specs.Parts.{IsIn, committed_at, parts};
+ghost use Rattle.engine.specs.Parts.{IsIn, committed_at, parts, room_in};
 ghost use Rattle.engine.specs.Reached.{IsReached, Stands};
+ghost use Rattle.rv_alu.specs.Footprint.{IsInPlace};
 ghost use Rattle.rv_alu.specs.declared.view.HartStatus.TheVariants.{Running};
 ghost use Rattle.snoop.specs.Shows.{IsReady, Shows};
 
 use crate::engine::Engine;
 use el_base::{Event, HartId, Kind, Outcome};
-use rv_alu::HartStatus;
+use rv_alu::{Action, HartStatus};
 use snoop::Asked;
 
 impl Engine {
@@ -147,12 +148,23 @@ impl Engine {
             result ≡ (going_turn from hart.number (section_of from hart.number)).outcome }
         ensures memory_stays { (parts self.new).bus.copies.lines ≡ (parts self.old).bus.copies.lines }
     {
-        let action = self.next_action(hart);
+        let action = self.fetch_action(hart);
         let section = self.harts[usize::from(hart.number)].section();
         match (section.live(), section.armed()) {
             (Some(_), _) => self.act_inside(hart, action),
             (None, Some(armed)) => self.act_armed(hart, action, armed),
             (None, None) => self.act_outside(hart, action),
         }
+    }
+
+    /// The action that a hart comes to next, as it sees itself. Its instruction is kept decoded.
+    fn fetch_action(&mut self, hart: HartId) -> Action
+        requires { hart.number < length (parts self.old).harts }
+        ensures value { result ≡ next_action (parts self.old) hart.number }
+        ensures in_place { IsInPlace (parts self.old).span (room_in (parts self.old)) result }
+        ensures same { parts self.new ≡ parts self.old }
+    {
+        let view = self.harts[usize::from(hart.number)].shown();
+        self.code.next(view, self.span, self.output.room())
     }
 }

@@ -1,5 +1,6 @@
 pub mod Laws
 mod GoingRound
+mod NextHart
 mod Recordings
 mod SameOutcomes
 mod RoundRobins

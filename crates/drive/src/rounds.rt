@@ -1,4 +1,4 @@
-ghost use Rattle.std.specs.Prelude.{◌≡◌, ◌<◌, ◌≤◌, ◌%◌, ◌/◌};
+ghost use Rattle.std.specs.Prelude.{◌≡◌, ℕ, ◌+◌, ◌<◌, ◌≤◌, ◌%◌};
 ghost use Rattle.drive.specs.Drivers.{MakesRoundRobin};
 ghost use Rattle.el_base.specs.Kinds.{kind_number};
 ghost use Rattle.machine.specs.Story.{left_of};
@@ -26,25 +26,52 @@ fn go_round(machine: &mut Machine, harts: u8, steps: u32)
     requires steps_are { steps ≡ left_of machine.old }
     ensures { MakesRoundRobin machine.old machine.new }
 {
-    for place in 0..steps {
+    let mut turn = Event {
+        kind: Kind::Step,
+        hart: HartId { number: 0 },
+    };
+    for _ in 0..steps {
         if machine.over() {
             break;
         }
-        machine.step(turn_at(harts, place));
+        machine.step(turn);
+        turn = next_turn(harts, turn);
     }
 }
 
-/// The event at a place of the round robin of so many harts.
-fn turn_at(harts: u8, place: u32) -> Event
+/// The event that comes after this one in the round robin of so many harts.
+///
+/// It goes by the one before, since to find an event by its place takes a division by the number of harts.
+fn next_turn(harts: u8, turn: Event) -> Event
     requires some { 1 ≤ harts }
     requires few { harts ≤ 8 }
-    ensures { IsEventAt harts place result }
+    ensures { (place : ℕ) → IsEventAt harts place turn → IsEventAt harts (place + 1) result }
 {
+    let kind = kind_at(u32::from(turn.kind.number()) + 1);
+    if let Kind::Deliver = turn.kind {
+        return Event {
+            kind,
+            hart: next_hart(harts, turn.hart),
+        };
+    }
     Event {
-        kind: kind_at(place),
-        hart: HartId {
-            number: (place / 4 % u32::from(harts)) as u8,
-        },
+        kind,
+        hart: turn.hart,
+    }
+}
+
+/// The hart after this one of so many, and the first one after the last.
+#[tactic(auto, using(crate::proofs::NextHart::next_of_harts, crate::proofs::NextHart::first_of_harts))]
+fn next_hart(harts: u8, hart: HartId) -> HartId
+    requires some { 1 ≤ harts }
+    requires few { harts ≤ 8 }
+    ensures { (turns : ℕ) → hart.number ≡ turns % harts → result.number ≡ (turns + 1) % harts }
+{
+    let number = hart.number + 1;
+    if number < harts {
+        HartId { number }
+    } else {
+        HartId { number: 0 }
     }
 }
 

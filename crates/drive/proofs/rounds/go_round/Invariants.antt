@@ -1,5 +1,9 @@
 use Rattle.drive.proofs.GoingRound.{GoesRound}
+use Rattle.drive.specs.RoundRobin.{IsEventAt}
 use Rattle.drive.proofs.rounds.go_round.Given as goal
 
-abbrev pub invariant-loop-place : goal.invariant-loop-place
-invariant-loop-place l = GoesRound l.initial.machine l.machine l.place
+abbrev pub invariant-loop : goal.invariant-loop
+invariant-loop l = record {
+  round : GoesRound l.initial.machine l.machine l.counter;
+  turn : IsEventAt l.harts l.counter l.turn;
+}

@@ -1,6 +1,6 @@
 -- Counting an event.
 use Rattle.std.proofs.Common.{◌≡◌, ℕ, ◌+◌, ◌*◌, ◌^◌, ◌<◌, ◌≤◌, ◌==◌, Bool, true, false, ◌&&◌}
-use Rattle.std.proofs.Common.{IsTrue, List, [], ◌∷◌, get_or, length, set, take, cond, refl, ap, sym, ◌∙◌, arith}
+use Rattle.std.proofs.Common.{IsTrue, List, [], ◌∷◌, get_or, length, set, take, cond, refl, ap, sym, subst, ◌∙◌, arith}
 use Rattle.std.specs.Prelude.{nat_le, nat_lt, slice_get, Some}
 use Rattle.std.specs.List.{list_all}
 use Rattle.std.proofs.lemmas.Bool.Decides.{nat_tests}
@@ -133,6 +133,25 @@ entry_small entry small hart =
     with_conflict_small (cond (entry.event.hart.number == hart) (of_outcome entry.outcome) nothing)
     (cond (has_lost hart entry.outcome) 1 0) (one_at_most (has_lost hart entry.outcome))
     (either_small (of_outcome entry.outcome) (entry.event.hart.number == hart) small)
+
+-- an idle event counts for nothing, whichever hart it is of
+idle_nothing : (hart : ℕ) (entry : Entry) → entry.outcome ≡ Idle → of_entry hart entry ≡ nothing
+unfolding of_entry
+idle_nothing hart entry idle =
+    let own = entry.event.hart.number == hart in
+    ap (λ o. record (cond own (of_outcome o) nothing) { conflict = cond (has_lost hart o) 1 0 }) idle
+    ∙ either_nothing own
+  where
+    either_nothing : (own : Bool) → record (cond own nothing nothing) { conflict = 0 } ≡ nothing
+    either_nothing true = refl
+    either_nothing false = refl
+
+pub idle_counted : (tally : Tally) (hart : ℕ) (entry : Entry) → entry.outcome ≡ Idle →
+    tally ≡ plus tally (of_entry hart entry)
+idle_counted tally hart entry idle = sym (ap (plus tally) (idle_nothing hart entry idle) ∙ plus_nothing tally)
+
+pub idle_small : (entry : Entry) → entry.outcome ≡ Idle → (hart : ℕ) → IsTallyOf 1 (of_entry hart entry)
+idle_small entry idle hart = subst (IsTallyOf 1) (sym (idle_nothing hart entry idle)) nothing_small
 
 one_has_room : (n : ℕ) → n + 1 < 2 ^ 32 → (x : ℕ) (others room : Bool) → IsTrue (nat_le x (n * most_effects) && others) →
     (IsTrue others → IsTrue room) → IsTrue (nat_lt (x + most_effects) (2 ^ 64) && room)

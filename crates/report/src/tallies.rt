@@ -35,6 +35,8 @@ pub(crate) fn counts_of(history: &History) -> Counts
 
 /// Counts an event, for its hart and for the harts whose sections lost in it, and says how many
 /// instructions took effect in it.
+///
+/// An idle event counts for nothing, and is seen first: where harts seldom wait, most events are idle.
 fn count(tallies: &mut Tallies, entry: Entry) -> u64
     requires { (hart : ℕ) → hart < 8 → HasRoom (tally_at tallies.old hart) }
     ensures exact { (hart : ℕ) → hart < 8 →
@@ -43,6 +45,9 @@ fn count(tallies: &mut Tallies, entry: Entry) -> u64
     ensures steps { result ≡ length (taking_effect entry.event.hart.number entry.outcome) }
     ensures few { result ≤ most_effects }
 {
+    if let Outcome::Idle = entry.outcome {
+        return 0;
+    }
     let own = entry.event.hart.number as usize;
     let steps = count_own(&mut tallies[own], entry.outcome);
     count_losses(tallies, entry.outcome);

@@ -1,5 +1,6 @@
 use Rattle.std.proofs.Common.{arith}
-use Rattle.report.proofs.Counted.{entry_small, own_then_losses, room_for_losses}
+use Rattle.report.proofs.Counted.{entry_small, idle_counted, idle_small, own_then_losses, room_for_losses}
+use Rattle.report.specs.Counting.{tally_at}
 use Rattle.report.proofs.tallies.count.Goals as goal
 
 pub count_losses-requires : goal.count_losses-requires
@@ -14,3 +15,10 @@ returns-clause-exact c =
 
 pub returns-clause-small : goal.returns-clause-small
 returns-clause-small c = entry_small c.args.entry c.count_own-steps.ensures.small
+
+pub returns-in-Idle-clause-exact : goal.returns-in-Idle-clause-exact
+returns-in-Idle-clause-exact c hart small =
+    idle_counted (tally_at c.args.tallies.now hart) hart c.args.entry c.in-Idle.is
+
+pub returns-in-Idle-clause-small : goal.returns-in-Idle-clause-small
+returns-in-Idle-clause-small c = idle_small c.args.entry c.in-Idle.is

@@ -14,10 +14,12 @@ compared with what its run of crates/worked_runs/data makes, but for layout and 
     events  a list of [kind, hart, outcome]; an outcome is its name and then its numbers
     end     bytes_unlike_0, order, harts: the state after the last event
 """
+import itertools
 import json
 import pathlib
 import re
 import sys
+import textwrap
 
 CRATES = pathlib.Path(__file__).resolve().parent.parent / "crates"
 
@@ -185,6 +187,12 @@ outcomes = refl
 """
 
 
+def registers(harts):
+    """The list of each hart's registers, on lines of its own."""
+    lists = [wrapped(map(str, value["registers"]), indent="     ", width=100).strip() for value in harts]
+    return "\n".join([*[f"    ({numbers}) ∷" for numbers in lists], "    []"])
+
+
 def ending(end, length):
     """The last state of a run with so many bytes of memory, and the proof that the definition comes to it."""
     harts = end["harts"]
@@ -195,7 +203,7 @@ last = record {{
   order = {items(map(request, end['order']))};
   pcs = {items(str(value['pc']) for value in harts)};
   registers =
-    {items("(" + items(map(str, value['registers'])) + ")" for value in harts)};
+{registers(harts)};
   bytes = patched (replicate {length} 0) ({items(f"({i}, {b})" for i, b in end['bytes_unlike_0'])});
 }}
 
@@ -204,9 +212,19 @@ unfolding computing
 ending = refl"""
 
 
+def commented(title):
+    """A title as comment lines."""
+    return textwrap.fill(title, 118, initial_indent="-- ", subsequent_indent="-- ")
+
+
+def title_of(text):
+    """The title that stands in a proof file's first comment."""
+    return " ".join(line.removeprefix("-- ") for line in itertools.takewhile(lambda line: line.startswith("-- "), text.splitlines()))
+
+
 def proof_file(title, run):
     """The text of a run's proof file."""
-    parts = [f"-- {title}", USES, given(run), expected(run["events"]), ending(run["end"], run["memory"]["length"])]
+    parts = [commented(title), USES, given(run), expected(run["events"]), ending(run["end"], run["memory"]["length"])]
     return "\n".join(parts)
 
 
@@ -222,7 +240,7 @@ def check():
         text = file.read_text()
         name = "-".join(re.findall("[A-Z][a-z]+|[0-9]+", file.stem)).lower()
         run = json.loads((CRATES / f"worked_runs/data/{name}.json").read_text())
-        if bare(text) == bare(proof_file(text.splitlines()[0].removeprefix("-- "), run)):
+        if bare(text) == bare(proof_file(title_of(text), run)):
             agree += 1
         else:
             differ.append(file.stem)

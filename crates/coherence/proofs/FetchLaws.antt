@@ -69,7 +69,8 @@ other_new h g mid cache other = get_or-set_other mid h g cache no_cache other
 unshared_from : (from : ℕ) (caches : List Cached) (h line k : ℕ) → others_from from caches h line ≡ false → (from + k ≢ h) →
     is_resident (cache_at caches k).residency line ≡ false
 unshared_from from [] h line k none other = refl
-unshared_from from (cache ∷ caches) h line zero none other = not_first (from == h) (is_resident cache.residency line) _ none (λ same. other (same_number from h same))
+unshared_from from (cache ∷ caches) h line zero none other =
+    not_first (from == h) (is_resident cache.residency line) _ none (λ same. other (same_number from h same))
   where
     not_first : (same here later : Bool) → ((not same && here) || later) ≡ false → (same ≡ true → ⊥) → here ≡ false
     not_first true here later none other = absurd (other refl)

@@ -17,7 +17,8 @@ abbrev is_count : ℕ → Bool
 is_count n = list_any (λ count. eqb count n) set_counts
 
 -- a number that is no byte is none of some bytes
-no_byte : (n : ℕ) → ltb n 256 ≡ false → (bytes : List ℕ) → list_all (λ byte. ltb byte 256) bytes ≡ true → list_any (λ byte. eqb byte n) bytes ≡ false
+no_byte : (n : ℕ) → ltb n 256 ≡ false → (bytes : List ℕ) → list_all (λ byte. ltb byte 256) bytes ≡ true →
+    list_any (λ byte. eqb byte n) bytes ≡ false
 no_byte n large [] small = refl
 no_byte n large (byte ∷ bytes) small =
     ap₂ (λ a b. a || b) (differs byte (both (ltb byte 256) _ small).0) (no_byte n large bytes (both (ltb byte 256) _ small).1)

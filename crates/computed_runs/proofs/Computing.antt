@@ -23,5 +23,7 @@ use Rattle.rv_word.specs.Load.{load_width_at}
 use Rattle.rv_word.specs.Store.{store_width_at}
 
 unfoldable pub computing : Type 0
-unfolding action_of amo_at armed_turn begin by_armed_rule by_plain_rule by_section_rule code_word decoded deliver_turn delivered executed face_losers faced first_view flat is_over let_go load_width_at next op_at op_imm_at order_of order_turn placed plain_turn reg_field section_turn serve_turn served start step_turn store_width_at test_at
+unfolding action_of amo_at armed_turn begin by_armed_rule by_plain_rule by_section_rule code_word decoded deliver_turn
+    delivered executed face_losers faced first_view flat is_over let_go load_width_at next op_at op_imm_at order_of
+    order_turn placed plain_turn reg_field section_turn serve_turn served start step_turn store_width_at test_at
 computing = Unit {0}

@@ -26,11 +26,13 @@ other_event hart event other = grind (arith, nat_tests)
 of_hart_more : (hart : ℕ) (made : List Event) (event : Event) → of_hart hart (made ++ event ∷ []) ≡ of_hart hart made ++ of_hart hart (event ∷ [])
 of_hart_more hart made event = filter-append _ made (event ∷ [])
 
-own_more : (hart : ℕ) (made : List Event) (event : Event) → event.hart.number ≡ hart → of_hart hart (made ++ event ∷ []) ≡ of_hart hart made ++ event ∷ []
+own_more : (hart : ℕ) (made : List Event) (event : Event) → event.hart.number ≡ hart →
+    of_hart hart (made ++ event ∷ []) ≡ of_hart hart made ++ event ∷ []
 own_more hart made event same = of_hart_more hart made event ∙ ap (λ l. of_hart hart made ++ l) (own_event hart event same)
 
 other_more : (hart : ℕ) (made : List Event) (event : Event) → event.hart.number ≢ hart → of_hart hart (made ++ event ∷ []) ≡ of_hart hart made
-other_more hart made event other = of_hart_more hart made event ∙ (ap (λ l. of_hart hart made ++ l) (other_event hart event other) ∙ append-nil (of_hart hart made))
+other_more hart made event other = of_hart_more hart made event
+    ∙ (ap (λ l. of_hart hart made ++ l) (other_event hart event other) ∙ append-nil (of_hart hart made))
 
 turns_more : (most : ℕ) (made : List Event) (event : Event) → AreTurns most made → length made < most → kind_number event.kind ≡ length made % 4 →
     AreTurns most (made ++ event ∷ [])

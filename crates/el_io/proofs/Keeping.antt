@@ -5,7 +5,8 @@ use Rattle.std.proofs.lemmas.List.{take_min}
 use Rattle.std.proofs.lemmas.Bool.Decides.{nat_tests}
 
 -- the bytes that fit behind those that are kept
-pub keep_fitting : (room : ℕ) (kept bytes : List ℕ) → length kept ≤ room → kept ++ take (min (room - length kept) (length bytes)) bytes ≡ take room (kept ++ bytes)
+pub keep_fitting : (room : ℕ) (kept bytes : List ℕ) → length kept ≤ room →
+    kept ++ take (min (room - length kept) (length bytes)) bytes ≡ take room (kept ++ bytes)
 keep_fitting room kept bytes within =
     let all : length kept + (room - length kept) ≡ room = omega arith in
     ap (λ (more : List ℕ). kept ++ more) (take_min (room - length kept) bytes)

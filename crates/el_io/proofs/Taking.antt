@@ -11,18 +11,22 @@ took-nothing None = record { grown = inl refl }
 took-nothing (Some held) = record { grown = inr (ap Some (sym (append-nil held))) }
 
 -- bytes appended behind others are appended together
-appended-twice : (before : Option (List ℕ)) (first more : List ℕ) → option_map (λ told. told ++ more) (option_map (λ told. told ++ first) before) ≡ option_map (λ told. told ++ (first ++ more)) before
+appended-twice : (before : Option (List ℕ)) (first more : List ℕ) →
+    option_map (λ told. told ++ more) (option_map (λ told. told ++ first) before) ≡ option_map
+    (λ told. told ++ (first ++ more)) before
 appended-twice None first more = refl
 appended-twice (Some held) first more = ap Some (append_assoc held first more)
 
 -- bytes taken after others are taken behind them
-pub took-more : {before between now : Option (List ℕ)} {first more : List ℕ} → Took before between first → Took between now more → Took before now (first ++ more)
+pub took-more : {before between now : Option (List ℕ)} {first more : List ℕ} → Took before between first →
+    Took between now more → Took before now (first ++ more)
 took-more {before} {between} {now} {first} {more} a b =
     elim b.grown [
       | inl nothing ↦ record { grown = inl nothing }
       | inr behind ↦ elim a.grown [
         | inl nothing ↦ record { grown = inl (behind ∙ ap (option_map (λ (told : List ℕ). told ++ more)) nothing) }
-        | inr first_behind ↦ record { grown = inr (behind ∙ ap (option_map (λ (told : List ℕ). told ++ more)) first_behind ∙ appended-twice before first more) }
+        | inr first_behind ↦ record { grown = inr (behind
+            ∙ ap (option_map (λ (told : List ℕ). told ++ more)) first_behind ∙ appended-twice before first more) }
       ]
     ]
 
@@ -38,7 +42,10 @@ all-of_took before now [] some took = absurd (omega (arith, some))
 all-of_took before now (byte ∷ bytes) some took = took
 
 -- the first bytes taken, and then some more of the rest
-pub took-next : (before between now : Option (List ℕ)) (bytes : List ℕ) (first count : ℕ) → 1 ≤ length bytes → 1 ≤ count → TookAll before between (take first bytes) → Took between now (take count (take (length bytes - first) (drop first bytes))) → TookAll before now (take (first + count) bytes)
+pub took-next : (before between now : Option (List ℕ)) (bytes : List ℕ) (first count : ℕ) → 1 ≤ length bytes →
+    1 ≤ count → TookAll before between (take first bytes) →
+    Took between now (take count (take (length bytes - first) (drop first bytes))) →
+    TookAll before now (take (first + count) bytes)
 took-next before between now bytes first count some more a b =
     let some_taken : 1 ≤ length (take (first + count) bytes) = simp length-take (omega (arith, some, more)) in
     all-of_took before now (take (first + count) bytes) some_taken

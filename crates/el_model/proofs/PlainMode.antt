@@ -34,7 +34,8 @@ pub new_is_plain : (sets : ℕ) → IsPlain (new_hart sets)
 new_is_plain sets = record { section = refl; armed = refl; unmarked = unmarked-empty sets; watch = refl }
 
 -- the same sections and watch, and a cache without bits
-still_plain : (old new : Hart) → new.section ≡ old.section → new.armed ≡ old.armed → new.predictor.watch ≡ old.predictor.watch → has_marks new.cache ≡ false →
+still_plain : (old new : Hart) → new.section ≡ old.section → new.armed ≡ old.armed →
+    new.predictor.watch ≡ old.predictor.watch → has_marks new.cache ≡ false →
     IsPlain old → IsPlain new
 still_plain old new section armed watch unmarked plain =
     record { section = section ∙ plain.section; armed = armed ∙ plain.armed; unmarked = unmarked; watch = watch ∙ plain.watch }
@@ -79,7 +80,8 @@ serving_plain : (state : ModelState) (request : Request) (hart : Hart) (own : Bo
     IsPlain (if own then served_hart state request hart else bystander state request hart)
 serving_plain state request hart true plain =
     claim_plain hart.section request _ plain.section
-    (still_plain hart _ refl refl refl (unmarked-touched _ request.line (own_unmarked state.config.ways _ request.need hart.cache request.line plain.unmarked)) plain)
+    (still_plain hart _ refl refl refl (unmarked-touched _ request.line
+        (own_unmarked state.config.ways _ request.need hart.cache request.line plain.unmarked)) plain)
 serving_plain state request hart false plain =
     still_plain hart _ refl refl refl (others_unmarked _ request.need hart.cache request.line plain.unmarked) plain
 

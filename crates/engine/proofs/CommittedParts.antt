@@ -145,7 +145,8 @@ owned_in : (way : Option Way) → IsOwned way → bit_in Write way ≡ true → 
 owned_in None owned bit = absurd (cc)
 owned_in (Some way) owned bit = owned bit
 
-owned : (from : ModelState) (h line : ℕ) → IsReached from → write_bit (cache_of from h) line ≡ true → may_write (letter_of (cache_of from h) line) ≡ true
+owned : (from : ModelState) (h line : ℕ) → IsReached from → write_bit (cache_of from h) line ≡ true →
+    may_write (letter_of (cache_of from h) line) ≡ true
 owned from h line reached bit =
     owned_in (way_of (cache_of from h) line)
     (subst (λ s. IsOwned (way_of (cache_of s h) line)) (sym reached.state_is)
@@ -172,7 +173,8 @@ module _ (copies : Copies) (h : ℕ) (cache : Cached) (old done : FlatState) (wo
   unheld_back : (line : ℕ) (bit : Bool) → write_bit before.residency line ≡ bit → holds hold line ≡ false → IsCopyBack (copy_in before line)
       (copy_in cache line)
   unheld_back line false bit unheld =
-      given_back_of.Kept (commits_in.others line unheld ∙ ap (λ b. option_map (committed_copy b) (copy_in before line)) bit ∙ same_copy (copy_in before line))
+      given_back_of.Kept (commits_in.others line unheld
+          ∙ ap (λ b. option_map (committed_copy b) (copy_in before line)) bit ∙ same_copy (copy_in before line))
   unheld_back line true bit unheld =
       Stored (record { letter = letter_of before.residency line; bytes = bytes_of before line }) (record { letter = M; bytes = bytes_of before line })
       (was line bit) (owns line bit)

@@ -92,7 +92,8 @@ for_request pool bus state h shows told below (Some request) =
     (leaves pool bus state h request.line shows below)
 
 as_outcome : (pool : Pooled) (bus : Kept) (state : ModelState) (h : ℕ) → Shows bus state → Tells pool bus (line_of state.committed) →
-    h < length state.harts → (outcome : Outcome) → lines_served pool bus h outcome ≡ with_committed state.committed bus.copies.lines (back_as state h outcome)
+    h < length state.harts → (outcome : Outcome) →
+        lines_served pool bus h outcome ≡ with_committed state.committed bus.copies.lines (back_as state h outcome)
 as_outcome pool bus state h shows told below (outcomes.Served losers freed) =
     for_request pool bus state h shows told below (request_of bus.order h)
     ∙ ap (λ order. with_committed state.committed bus.copies.lines (back_for state h (request_of order h))) shows.order

@@ -17,7 +17,8 @@ use Rattle.rv_flat.specs.FlatState.{no_hart}
 use Rattle.write_hold.specs.Slotted.{IsLent}
 
 -- so are those below a number, and the pool has changed for those that lost alone
-pub record IsRestoredBelow (below : ℕ) (mode : Mode) (winner : ℕ → Option ℕ) (count : ℕ → ℕ) (before pool : Pooled) (old new : List Own) : Type 0 where
+pub record IsRestoredBelow (below : ℕ) (mode : Mode) (winner : ℕ → Option ℕ) (count : ℕ → ℕ) (before pool :
+    Pooled) (old new : List Own) : Type 0 where
   pub harts : AreRestoredBelow below mode winner count old new
   pub lent : LendsHolds pool new
   pub kept : LeavesKeptBelow below winner before pool

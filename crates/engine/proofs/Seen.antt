@@ -49,7 +49,8 @@ sees_outside state h None kept is keeps stands view =
     sym (ap (λ mark. checkpoint_or mark kept.marks.present) stands.unmarked) ∙ view ∙ ap (view_outside state h) is
 sees_outside state h (Some reserved) kept is keeps stands view = keeps.view ∙ ap (view_outside state h) is
 
-sees : (pool : Pooled) (state : ModelState) (h : ℕ) (live : Option Section) (kept : SectionState) → option_map (λ r. r.armed) kept.armed ≡ armed_of state h →
+sees : (pool : Pooled) (state : ModelState) (h : ℕ) (live : Option Section) (kept : SectionState) →
+    option_map (λ r. r.armed) kept.armed ≡ armed_of state h →
     KeepsSectionOf pool state h live kept → KeepsReserved state.committed h kept.armed kept.marks.present →
     StandsAs kept.marks kept.hold live kept.armed → committed_of kept.marks ≡ view_of state.committed h →
     kept.marks.present ≡ view_in state h live

@@ -125,7 +125,8 @@ module _ (state : ModelState) (facts : Facts Everywhere state) (orderly : Orderl
       line_gets_on state h found.0 orderly found.1
       (λ g. unless (retains state g found.0.line) (λ retained. none_live none g (retainer_live state g found.0.line retained)))
 
-pub removal_gets_on : (state : ModelState) → Facts Everywhere state → Orderly state → (h : ℕ) → status_of state.committed h ≡ Running → GetsOn state
+pub removal_gets_on : (state : ModelState) → Facts Everywhere state → Orderly state → (h : ℕ) →
+    status_of state.committed h ≡ Running → GetsOn state
 removal_gets_on state facts orderly h running = by (gets_on_or_waits state orderly)
   where
     by_stamp : (waits : (k : ℕ) → OnlyWaits state k) →

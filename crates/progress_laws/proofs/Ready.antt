@@ -131,7 +131,8 @@ pub gets_on_by_number : (state : ModelState) (event : Event) → gets_on state e
 unfolding next
 gets_on_by_number state event = refl
 
-same_event : (state : ModelState) (event : Event) (h : ℕ) → h < 8 → event.hart.number ≡ h → gets_on state (of_kind h event.kind) ≡ gets_on state event
+same_event : (state : ModelState) (event : Event) (h : ℕ) → h < 8 → event.hart.number ≡ h →
+    gets_on state (of_kind h event.kind) ≡ gets_on state event
 unfolding next
 same_event state event h small is =
     ap (λ number. is_progress (kind_turn state number event.kind).outcome) (number_kept h small ∙ sym is)

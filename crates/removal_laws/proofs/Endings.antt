@@ -52,7 +52,8 @@ step_ends state h g =
     (λ k live ended. clash ended live) g)
 
 -- an event of the bus that names no winner over a hart leaves its section
-bus_leaves : (mode : Mode) (old new : Standing) (winner : Option ℕ) → new ≡ restored mode winner old → winner ≡ None → is_some new.section ≡ is_some old.section
+bus_leaves : (mode : Mode) (old new : Standing) (winner : Option ℕ) → new ≡ restored mode winner old → winner ≡ None →
+    is_some new.section ≡ is_some old.section
 bus_leaves mode old new None same none = ap (λ standing. is_some standing.section) same
 bus_leaves mode old new (Some winner) same none = absurd (cc)
 
@@ -69,6 +70,7 @@ least_ends_its_own_section program config events event h stamp mode same range l
     let state = after program config events in
     let numbered = requests_are_numbered program config events same range in
     by_event
-    (λ turn. winner_over turn.outcome h ≡ None → is_live turn.state h ≡ false → ((event.hart.number == h) && closes_it turn.outcome) ≡ true) state event
+    (λ turn. winner_over turn.outcome h ≡ None → is_live turn.state h ≡ false →
+        ((event.hart.number == h) && closes_it turn.outcome) ≡ true) state event
     (λ step unnamed. step_ends state event.hart.number h live) (λ turn done unnamed. left done h numbered unnamed live)
     (least_stamp_never_loses program config events event h stamp mode least)

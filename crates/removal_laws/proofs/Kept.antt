@@ -83,7 +83,8 @@ messages_moved on old new moved now = record {
     own h before (inl was) = moved.knows before h (now.told_own h before was)
     own h before (inr owed) = owed.own
 
-    others : (h before origin line : ℕ) (mine request : Request) → has (hart_of new h).upstream before ≡ true → has (hart_of new h).told origin ≡ true →
+    others : (h before origin line : ℕ) (mine request : Request) → has (hart_of new h).upstream before ≡ true →
+        has (hart_of new h).told origin ≡ true →
         before ≢ origin → ordered_on new h line ≡ Some mine → ordered_on new origin line ≡ Some request →
         (has (hart_of old h).upstream before ≡ true) ⊎ Owed new h before → (has (hart_of old h).told origin ≡ true) ⊎ OwedOf new h origin →
         Knows (hart_of new before) origin
@@ -135,7 +136,8 @@ may_kept old new g line heads orders links kept may = record {
 }
 
 -- a section that retains a line retained it before, by the same head
-pub retained_before : (line : ℕ) (g : ℕ) (head : Option Request) (old new : Hart) → ((request : Request) → head ≡ Some request → request.line ≡ line) →
+pub retained_before : (line : ℕ) (g : ℕ) (head : Option Request) (old new : Hart) →
+    ((request : Request) → head ≡ Some request → request.line ≡ line) →
     Fewer line old new → conflicts_with head g new ≡ true → conflicts_with head g old ≡ true
 retained_before line g None old new lines fewer is = absurd (cc)
 retained_before line g (Some request) old new lines fewer is =
@@ -155,7 +157,8 @@ pub record Trimmed (state : ModelState) (g : ℕ) (old new : Hart) : Type 0 wher
       is_before request.stamp old.attempt ≡ false)
   pub fewer : (line : ℕ) → Fewer line old new
 
-pub retaining_trimmed : (on : ℕ → Type 0) (old new : ModelState) → new.order ≡ old.order → Each (λ g hart. Trimmed old g (hart_of old g) hart) new →
+pub retaining_trimmed : (on : ℕ → Type 0) (old new : ModelState) → new.order ≡ old.order →
+    Each (λ g hart. Trimmed old g (hart_of old g) hart) new →
     Retaining on old → Retaining on new
 retaining_trimmed on old new order trimmed now = record {
   may = λ g line is_on is.
@@ -180,7 +183,8 @@ retaining_trimmed on old new order trimmed now = record {
 
     not_after : (g line origin : ℕ) (request : Request) → conflicts_with (head_of old line) g (hart_of new g) ≡ true → MayRetain old g line →
         ordered_on old origin line ≡ Some request → (has (hart_of old g).told origin ≡ true)
-        ⊎ ((line : ℕ) (request : Request) → ordered_on old origin line ≡ Some request → conflicts_with (head_of old line) g (hart_of new g) ≡ true →
+        ⊎ ((line : ℕ) (request : Request) → ordered_on old origin line ≡ Some request →
+            conflicts_with (head_of old line) g (hart_of new g) ≡ true →
         is_before request.stamp (hart_of old g).attempt ≡ false) → is_before request.stamp (hart_of old g).attempt ≡ false
     not_after g line origin request here may is (inl was) = may.not_after_told origin request was is
     not_after g line origin request here may is (inr safe) = safe line request is here

@@ -91,7 +91,8 @@ module _ (state : ModelState) (request : Request) (place : Place) (grounds : Gro
         by (inl same) = free_hart (subst (IsWaiting state) same waits)
         by (inr apart) = ap (for_line line) (sym (other_ordered g apart)) ∙ is
 
-    pub base_messages : (on : ℕ → Type 0) → ((line : ℕ) → on line → queue_of (base state request place).order line ≡ queue_of state.order line) →
+    pub base_messages : (on : ℕ → Type 0) → ((line : ℕ) → on line →
+        queue_of (base state request place).order line ≡ queue_of state.order line) →
         Messages on (base state request place)
     base_messages on queues = record {
       before = λ h before is.
@@ -157,8 +158,10 @@ module _ (state : ModelState) (request : Request) (place : Place) (grounds : Gro
       first = λ h found is_on is live bit. first_by h found is_on is live bit (cases_eq h request.hart);
     }
       where
-        ordered_by : (h : ℕ) (found : Request) → ordered_of (base state request place) h ≡ Some found → is_live (base state request place) h ≡ true →
-            has_bit (cache_of (base state request place) h) found.line ≡ true → (h ≡ request.hart) ⊎ (h ≡ request.hart → ⊥) → found.need ≡ Write
+        ordered_by : (h : ℕ) (found : Request) → ordered_of (base state request place) h ≡ Some found →
+            is_live (base state request place) h ≡ true →
+            has_bit (cache_of (base state request place) h) found.line ≡ true → (h ≡ request.hart) ⊎
+                (h ≡ request.hart → ⊥) → found.need ≡ Write
         ordered_by h found is live bit (inl same) =
             let e : request ≡ found = some_same (sym own_ordered ∙ ap (ordered_of (base state request place)) (sym same) ∙ is) in
             standing.retaining.raised h found (ap (raised_of state) same ∙ ordering.raised ∙ ap Some e) (live_before found.line h live)

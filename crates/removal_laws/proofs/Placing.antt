@@ -41,7 +41,8 @@ use Rattle.stamp.proofs.Laws.StampOrder.{less_strict}
 pub posted_none : (state : ModelState) → AllPosted state state
 posted_none state = record { order = refl; count = refl; each_posted = λ g. unchanged state g (hart_of state g) }
 
-posted_one : (mode : Mode) (state : ModelState) (sender h : ℕ) → mode ≡ Tlr → MayPrecede state h sender → AllPosted state (marked_from mode state sender h)
+posted_one : (mode : Mode) (state : ModelState) (sender h : ℕ) → mode ≡ Tlr → MayPrecede state h sender →
+    AllPosted state (marked_from mode state sender h)
 posted_one Tlr state sender h mode may = record {
   order = refl;
   count = length-set state.harts h _;
@@ -63,7 +64,8 @@ posted_by : (state : ModelState) (last : Option Request) (h : ℕ) → state.con
 posted_by state None h mode may = posted_none state
 posted_by state (Some last) h mode may = posted_one state.config.mode state last.hart h mode (may last refl)
 
-linked_by : (state : ModelState) (last : Option Request) (h : ℕ) (found : Request) → state.config.mode ≡ Tlr → last ≡ Some found → h < length state.harts →
+linked_by : (state : ModelState) (last : Option Request) (h : ℕ) (found : Request) → state.config.mode ≡ Tlr →
+    last ≡ Some found → h < length state.harts →
     IsLinked (hart_of (marked_by state last h) h) found.hart
 linked_by state None h found mode is exists = absurd (cc)
 linked_by state (Some last) h found mode is exists =
@@ -82,7 +84,8 @@ linked_to state h (Some former) found mode is exists =
     (linked_one state.config.mode state h former.hart mode (subst (λ r. r.hart < length state.harts) (sym (some_same is)) exists))
 
 -- what is said of the other lines and of one is said of all
-pub all_chained : (state : ModelState) (line : ℕ) → Messages (Other line) state → IsChained state (queue_of state.order line) → Messages Everywhere state
+pub all_chained : (state : ModelState) (line : ℕ) → Messages (Other line) state →
+    IsChained state (queue_of state.order line) → Messages Everywhere state
 all_chained state line others own = record {
   before = others.before;
   known = others.known;
@@ -101,7 +104,8 @@ none_is (Some found) none = absurd (cc)
 
 -- of the attempts of two harts one is before the other
 no_tie : {X : Type 0} (a b : Option Stamp) (g h : ℕ) → g ≢ h → ((stamp : Stamp) → a ≡ Some stamp → stamp.hart ≡ g) →
-    ((stamp : Stamp) → b ≡ Some stamp → stamp.hart ≡ h) → is_some a ≡ true → is_some b ≡ true → is_before a b ≡ false → is_before b a ≡ false → X
+    ((stamp : Stamp) → b ≡ Some stamp → stamp.hart ≡ h) → is_some a ≡ true → is_some b ≡ true →
+        is_before a b ≡ false → is_before b a ≡ false → X
 no_tie None b g h apart own_a own_b some_a some_b one other = absurd (cc)
 no_tie (Some a) None g h apart own_a own_b some_a some_b one other = absurd (cc)
 no_tie (Some a) (Some b) g h apart own_a own_b some_a some_b one other =
@@ -290,7 +294,8 @@ module _ (state : ModelState) (request : Request) (grounds : Grounds state) (ord
       own_need = standing.retaining.raised request.hart request ordering.raised own_live own_bit
 
       -- the section of the request's hart retained the line
-      retained : h ≢ request.hart → ordered_of state h ≡ Some found → head_of state found.line ≡ Some found → retains state request.hart found.line ≡ true
+      retained : h ≢ request.hart → ordered_of state h ≡ Some found → head_of state found.line ≡ Some found →
+          retains state request.hart found.line ≡ true
       retained apart was first =
           subst (λ head. conflicts_with head request.hart (hart_of state request.hart) ≡ true) (sym first)
           (in_the_way found request.hart (hart_of state request.hart)

@@ -45,7 +45,8 @@ took_nothing Up Told state g hart = record {
 }
 
 -- one more probe, and a list of them
-pub probed : (Up Told : ℕ → ℕ → Type 0) (state : ModelState) (g origin : ℕ) (old hart : Hart) → MayBeKnown state g origin → Took Up Told state g old hart →
+pub probed : (Up Told : ℕ → ℕ → Type 0) (state : ModelState) (g origin : ℕ) (old hart : Hart) →
+    MayBeKnown state g origin → Took Up Told state g old hart →
     Took Up Told state g old (record hart { mail = posted hart.mail (Probe origin) })
 probed Up Told state g origin old hart may now = record {
   raised = now.raised;
@@ -81,7 +82,8 @@ probed Up Told state g origin old hart may now = record {
     knows other (inl sent) = inl (still_there hart.mail (Probe origin) (Probe other) sent)
     knows other (inr is) = inr is
 
-    of_probe : (other : ℕ) → (has_message hart.mail (Probe other) ≡ true) ⊎ (Probe origin ≡ Probe other) → Knows old other ⊎ MayBeKnown state g other
+    of_probe : (other : ℕ) → (has_message hart.mail (Probe other) ≡ true) ⊎ (Probe origin ≡ Probe other) →
+        Knows old other ⊎ MayBeKnown state g other
     of_probe other (inl was) = now.known other (inl was)
     of_probe other (inr same) = let e : origin ≡ other = cc in inr (subst (MayBeKnown state g) e may)
 
@@ -114,7 +116,8 @@ all_known (first ∷ origins) hart origin is = all_known origins (record hart { 
     new : Hart
     new = record hart { mail = posted hart.mail (Probe first) }
 
-    here : (same : Bool) → (first == origin) ≡ same → (if same then true else has origins origin) ≡ true → (has origins origin ≡ true) ⊎ Knows new origin
+    here : (same : Bool) → (first == origin) ≡ same → (if same then true else has origins origin) ≡ true →
+        (has origins origin ≡ true) ⊎ Knows new origin
     here true same is =
         inr
         (inl
@@ -184,16 +187,19 @@ debts_stand Up Told state final debts standing = record {
       }) standing.retaining;
 }
   where
-    up : (g before : ℕ) → (has (hart_of state g).upstream before ≡ true) ⊎ Up g before → (has (hart_of state g).upstream before ≡ true) ⊎ Owed final g before
+    up : (g before : ℕ) → (has (hart_of state g).upstream before ≡ true) ⊎ Up g before →
+        (has (hart_of state g).upstream before ≡ true) ⊎ Owed final g before
     up g before (inl was) = inl was
     up g before (inr new) = inr (debts.owed g before new)
 
-    told : (g origin : ℕ) → (has (hart_of state g).told origin ≡ true) ⊎ Told g origin → (has (hart_of state g).told origin ≡ true) ⊎ OwedOf final g origin
+    told : (g origin : ℕ) → (has (hart_of state g).told origin ≡ true) ⊎ Told g origin →
+        (has (hart_of state g).told origin ≡ true) ⊎ OwedOf final g origin
     told g origin (inl was) = inl was
     told g origin (inr new) = inr (debts.owed_of g origin new)
 
     told_safe : (g origin : ℕ) → (has (hart_of state g).told origin ≡ true) ⊎ Told g origin → (has (hart_of state g).told origin ≡ true)
-        ⊎ ((line : ℕ) (request : Request) → ordered_on state origin line ≡ Some request → conflicts_with (head_of state line) g (hart_of final g) ≡ true →
+        ⊎ ((line : ℕ) (request : Request) → ordered_on state origin line ≡ Some request →
+            conflicts_with (head_of state line) g (hart_of final g) ≡ true →
         is_before request.stamp (hart_of state g).attempt ≡ false)
     told_safe g origin (inl was) = inl was
     told_safe g origin (inr new) = inr (debts.safe g origin new)

@@ -75,7 +75,8 @@ served_ordered state request g now = gone (cases_eq g request.hart)
         Stamping (request_of (removed state.order request.hart)) g (hart_of state g)
     gone (inl same) = record {
       raised_is = (now g).raised_is;
-      ordered_is = λ other is. some_none (sym is ∙ ap (request_of (removed state.order request.hart)) same ∙ request_of_removed_own state.order request.hart);
+      ordered_is = λ other is. some_none (sym is ∙ ap (request_of (removed state.order request.hart)) same
+          ∙ request_of_removed_own state.order request.hart);
     }
     gone (inr apart) = rw (request_of_removed_other state.order request.hart g (λ same. apart (sym same))) (now g)
 
@@ -116,7 +117,8 @@ past_stamped state by (Places request place) sound now may h past = by_own (case
     by_own : (h ≡ request.hart) ⊎ (h ≡ request.hart → ⊥) →
         Stamping (request_of (order_at state request place)) h (hart_of state h)
     by_own (inl same) =
-        some_none (sym (raised_own state by request sound may.raised) ∙ ap (raised_of state) (sym same) ∙ ap (λ hart. hart.raised) (hart_of-past state h past))
+        some_none (sym (raised_own state by request sound may.raised) ∙ ap (raised_of state) (sym same)
+            ∙ ap (λ hart. hart.raised) (hart_of-past state h past))
     by_own (inr apart) = rw (order_other state request place h apart) (now h)
 past_stamped state by (Serves request) sound now may h past = served_ordered state request h now
 past_stamped state by (Takes message others) sound now where_it h past = now h
@@ -131,7 +133,8 @@ bus_stamped {state} {by} {turn} done sound now h =
     rw done.order stamped
 
 -- a deed
-candidate_stamped : (ordered : Option Request) (pc : Option ℕ) (had_watch : Bool) (candidate : Option Swap) (hart : Hart) → HasStamp ordered hart.raised hart.attempt →
+candidate_stamped : (ordered : Option Request) (pc : Option ℕ) (had_watch : Bool) (candidate : Option Swap) (hart :
+    Hart) → HasStamp ordered hart.raised hart.attempt →
     HasStamp ordered (after_candidate pc had_watch candidate hart).raised (after_candidate pc had_watch candidate hart).attempt
 candidate_stamped ordered pc had_watch None hart now = now
 candidate_stamped ordered pc had_watch (Some swap) hart now = now

@@ -104,7 +104,8 @@ module _ (state : ModelState) (request : Request) (grounds : Grounds state) (ser
   queue_left : (line : ℕ) → IsChained state (removed (queue_of state.order line) request.hart)
   queue_left line = by (cases_eq line request.line)
     where
-      own : (queue : List Request) → queue_of state.order request.line ≡ queue → IsChained state (removed (queue_of state.order request.line) request.hart)
+      own : (queue : List Request) → queue_of state.order request.line ≡ queue →
+          IsChained state (removed (queue_of state.order request.line) request.hart)
       own [] none = subst (IsChained state) (sym (ap (λ queue. removed queue request.hart) none)) tt
       own (head ∷ others) is =
           let found = subst (λ queue. IsHead queue (first_of state.order request.line)) is (head_is state.order request.line) in

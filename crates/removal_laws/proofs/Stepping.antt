@@ -89,7 +89,8 @@ record Retained (old new : Hart) : Type 0 where
 record Stepped (state : ModelState) (g : ℕ) (new : Hart) : Type 0 where
   retained : (line : ℕ) → conflicts_with (head_of state line) g new ≡ true → (conflicts_with (head_of state line) g (hart_of state g) ≡ true)
       × Retained (hart_of state g) new
-  raised : (request : Request) → new.raised ≡ Some request → is_some new.section ≡ true → has_bit new.cache request.line ≡ true → request.need ≡ Write
+  raised : (request : Request) → new.raised ≡ Some request → is_some new.section ≡ true →
+      has_bit new.cache request.line ≡ true → request.need ≡ Write
   ordered : (request : Request) → ordered_of state g ≡ Some request → is_some new.section ≡ true → has_bit new.cache request.line ≡ true →
       (request.need ≡ Write) × (head_of state request.line ≡ Some request)
 
@@ -351,7 +352,8 @@ done_stepped state h deed does grounds standing =
     (λ g apart. unchanged state g standing)
     (λ past. subst (Stepped state h) (hart_of-past state h past) (unchanged state h standing))
 
-done_stands : (state : ModelState) (h : ℕ) (deed : Deed) → DoesWhere state h deed → Grounds state → Standing state → Standing (done state h deed).state
+done_stands : (state : ModelState) (h : ℕ) (deed : Deed) → DoesWhere state h deed → Grounds state → Standing state →
+    Standing (done state h deed).state
 done_stands state h deed does grounds standing =
     let new = (done state h deed).state in
     let same : (g : ℕ) → contents (hart_of new g) ≡ contents (hart_of state g) =

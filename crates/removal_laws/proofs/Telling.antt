@@ -340,7 +340,8 @@ module _ (state : ModelState) (h origin : ℕ) (others : List Message) (mail : (
       }) standing
 
 -- whatever the message
-message_stands : (state : ModelState) (h : ℕ) (message : Message) (others : List Message) → (hart_of state h).mail ≡ message ∷ others → Grounds state →
+message_stands : (state : ModelState) (h : ℕ) (message : Message) (others : List Message) →
+    (hart_of state h).mail ≡ message ∷ others → Grounds state →
     Standing state → Standing (delivered (taken state h others) h message)
 unfolding delivered
 message_stands state h (Marker sender) others mail grounds standing = marker_stands state h sender others mail grounds standing

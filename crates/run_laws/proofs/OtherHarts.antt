@@ -46,7 +46,8 @@ ended_more old state new h (inr (same, keeps)) none = inl (same ∙ none)
 module _ (program : Program) (config : Config) (bytes : AreBytes program.bytes) (old : ModelState) (h : ℕ) (section : Section)
     (was_live : section_of old h ≡ Some section) where
   -- while it lives its hart is not armed
-  unarmed_since : {X : Type 0} (done : List Event) → Since old (after program config done) h → is_some (armed_of (after program config done) h) ≡ true → X
+  unarmed_since : {X : Type 0} (done : List Event) → Since old (after program config done) h →
+      is_some (armed_of (after program config done) h) ≡ true → X
   unarmed_since done since armed =
       let state = after program config done in
       not_both armed (ap is_some (live_unarmed state h section (rested_in state (always_settled program config done)) (since.same ∙ was_live)))

@@ -18,7 +18,8 @@ no_least [] none = refl
 no_least (n ∷ numbers) none = absurd (some_least numbers n none)
 
 -- what gives nothing of a list gives nothing of each element
-gives_none : {X Y : Type 0} (h : X → Option Y) (xs : List X) (place : ℕ) (x : X) → filter_map h xs ≡ [] → slice_get xs place ≡ Some x → h x ≡ None
+gives_none : {X Y : Type 0} (h : X → Option Y) (xs : List X) (place : ℕ) (x : X) → filter_map h xs ≡ [] →
+    slice_get xs place ≡ Some x → h x ≡ None
 gives_none h (y ∷ xs) zero x none there = grind arith
 gives_none h (y ∷ xs) (suc place) x none there = grind (arith, gives_none h xs place x)
 gives_none h [] place x none there = cc
@@ -27,7 +28,8 @@ gives_none_further : {X Y : Type 0} (h : X → Option Y) (x : X) (xs : List X) �
 gives_none_further h x xs none = grind arith
 
 -- what is not found in a range is true of nothing there
-not_found : (p : ℕ → Bool) (from count place : ℕ) → find p (range_with_len from count) ≡ None → from ≤ place → place < from + count → p place ≡ false
+not_found : (p : ℕ → Bool) (from count place : ℕ) → find p (range_with_len from count) ≡ None → from ≤ place →
+    place < from + count → p place ≡ false
 not_found p from zero place none low high = absurd (omega arith)
 not_found p from (suc count) place none low high = grind (arith, not_found p (from + 1) count place)
 

@@ -20,7 +20,8 @@ use Rattle.rv_flat.proofs.Laws.PutBytes.{put_bytes-same}
 use Rattle.rv_flat.proofs.Laws.StepLaws.{appended, appended_by-more, one_line-touched, view-applied, within}
 
 -- a hart does the same next in two states that are the same to it
-pub same_execution : (left right : FlatState) (view : HartView) → left.code ≡ right.code → span_of left ≡ span_of right → room_of left ≡ room_of right →
+pub same_execution : (left right : FlatState) (view : HartView) → left.code ≡ right.code →
+    span_of left ≡ span_of right → room_of left ≡ room_of right →
     AgreeOn (touched_by right view) (byte_in left.base left.bytes) (byte_in right.base right.bytes) → execution_of left view ≡ execution_of right view
 same_execution left right view code span room bytes =
     let byte : ℕ → ℕ = byte_in left.base left.bytes in

@@ -106,12 +106,14 @@ other_status state hart other reserved Running there apart =
       (seen_by store view).reserved,
       other_applied state hart other view (view_of state other) execution apart
           ∙ ap (with_view after hart) (seen_by-reserved store (view_of state hart) reserved)
-          ∙ ap (λ view. with_view after hart (record view { reserved = (seen_by store (record (view_of state hart) { reserved = reserved })).reserved })) (sym seen),
+          ∙ ap (λ view. with_view after hart (record view { reserved =
+              (seen_by store (record (view_of state hart) { reserved = reserved })).reserved })) (sym seen),
     )
 other_status state hart other reserved (Exited code) there apart = (reserved, refl)
 other_status state hart other reserved (Trapped cause pc) there apart = (reserved, refl)
 
-step_by : (state : FlatState) (hart next : ℕ) (reserved : Option ℕ) → hart < length state.harts → (next ≡ hart → IsNoStoreConditional (next_insn state hart)) →
+step_by : (state : FlatState) (hart next : ℕ) (reserved : Option ℕ) → hart < length state.harts →
+    (next ≡ hart → IsNoStoreConditional (next_insn state hart)) →
     (next ≡ hart) ⊎ (next ≡ hart → ⊥) → IsButReserved hart (flat (with_reserved state hart reserved) next) (flat state next)
 unfolding flat
 step_by state hart next reserved there none (inl same) =
@@ -140,7 +142,8 @@ harts-run state [] = refl
 harts-run state (hart ∷ harts) = harts-run (flat state hart) harts ∙ (keeps_shape state hart).harts
 
 -- so two runs with the same left of it come to the same state
-pub run_forgets : (state : FlatState) (hart : ℕ) (reserved : Option ℕ) (harts : List ℕ) → hart < length state.harts → MakesNoStoreConditional state hart harts →
+pub run_forgets : (state : FlatState) (hart : ℕ) (reserved : Option ℕ) (harts : List ℕ) → hart < length state.harts →
+    MakesNoStoreConditional state hart harts →
     (view_of (run (with_reserved state hart reserved) harts) hart).reserved ≡ (view_of (run state harts) hart).reserved →
     run (with_reserved state hart reserved) harts ≡ run state harts
 run_forgets state hart reserved harts there none left =

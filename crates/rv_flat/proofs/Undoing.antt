@@ -81,7 +81,8 @@ other-seen (Trap cause) view = refl
 other-seen (Exit code) view = refl
 
 -- what is below a place, and from one on, depends on the bytes there alone
-below-same : (left right : List ℕ) (place : ℕ) → length left ≡ length right → ((k : ℕ) → k < place → slice_index left k ≡ slice_index right k) →
+below-same : (left right : List ℕ) (place : ℕ) → length left ≡ length right →
+    ((k : ℕ) → k < place → slice_index left k ≡ slice_index right k) →
     take place left ≡ take place right
 below-same left right place same h =
     same_number_lists (take place left) (take place right) (omega (arith, length-take {A = ℕ}))
@@ -89,7 +90,8 @@ below-same left right place same h =
     let low : k < place = omega (arith, length-take {A = ℕ}) in
     get_or-take place left k 0 low ∙ h k low ∙ sym (get_or-take place right k 0 low))
 
-above-same : (left right : List ℕ) (place : ℕ) → length left ≡ length right → ((k : ℕ) → place ≤ k → slice_index left k ≡ slice_index right k) →
+above-same : (left right : List ℕ) (place : ℕ) → length left ≡ length right →
+    ((k : ℕ) → place ≤ k → slice_index left k ≡ slice_index right k) →
     drop place left ≡ drop place right
 above-same left right place same h =
     same_number_lists (drop place left) (drop place right) (omega (arith, length-drop {A = ℕ}))
@@ -225,7 +227,8 @@ output-back before change new held is =
     ∙ ap (take (length before.output)) shape.output
     ∙ take_at before.output shape.more (length before.output) refl
 
-same-state : (left right : FlatState) → left.harts ≡ right.harts → left.base ≡ right.base → left.bytes ≡ right.bytes → left.code ≡ right.code →
+same-state : (left right : FlatState) → left.harts ≡ right.harts → left.base ≡ right.base → left.bytes ≡ right.bytes →
+    left.code ≡ right.code →
     left.output ≡ right.output → left ≡ right
 same-state left right harts base bytes code output =
     let Of : List HartView → ℕ → List ℕ → List CodeSegment → List ℕ → FlatState =

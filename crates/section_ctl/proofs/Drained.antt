@@ -128,7 +128,8 @@ module _ (hold now next : Held) (cache filled new : Cached) (line : ℕ) (marked
   elsewhere : (l : ℕ) → l ≢ line → holds_line hold.entries l ≡ true → bytes_of new l ≡ bytes_of filled l
   elsewhere l other held_first = other_bytes filled new l (there l held_first) (written.others l other)
 
-  shown_here : (place : ℕ) → place < LINE_BYTES → seen_at next.entries line (bytes_of new line) place ≡ seen_at hold.entries line (bytes_of cache line) place
+  shown_here : (place : ℕ) → place < LINE_BYTES → seen_at next.entries line (bytes_of new line) place ≡ seen_at
+      hold.entries line (bytes_of cache line) place
   shown_here place below =
       seen_after_drain now next line before after drained place below ∙ far.shows line place (far.within line held) below
 

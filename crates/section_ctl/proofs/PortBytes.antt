@@ -102,7 +102,8 @@ lies_in_cache word new cache address under aligned lock_aligned other is k below
     ∙ sym (stored_outside (cached_byte cache) word 4 new (address + k) (λ low high. other (omega arith)))
 
 -- as many of a word's bytes as are stored
-pub low_part : (bytes : List ℕ) (len value : ℕ) → length bytes ≡ 4 → IsSize len → ((place : ℕ) → place < 4 → slice_index bytes place ≡ byte_of value place) →
+pub low_part : (bytes : List ℕ) (len value : ℕ) → length bytes ≡ 4 → IsSize len →
+    ((place : ℕ) → place < 4 → slice_index bytes place ≡ byte_of value place) →
     AreLowBytes (take len bytes) len value
 low_part bytes len value four size each = record {
   count = grind (arith, common_steps);
@@ -115,7 +116,8 @@ low_part bytes len value four size each = record {
     few (inr (inr four)) place below = omega arith
 
 -- after the low bytes of a value were put into the hold
-pub shown_after_put : (old new : Held) (line offset : ℕ) (bytes : List ℕ) (under : ℕ → ℕ) (address len value : ℕ) → IsPut old new line offset bytes →
+pub shown_after_put : (old new : Held) (line offset : ℕ) (bytes : List ℕ) (under : ℕ → ℕ) (address len value : ℕ) →
+    IsPut old new line offset bytes →
     line * LINE_BYTES + offset ≡ address → AreLowBytes bytes len value → (at : ℕ) →
     held_over new.entries under at ≡ stored (held_over old.entries under) address len value at
 shown_after_put old new line offset bytes under address len value put is low at =

@@ -106,7 +106,8 @@ count-written_in : (ways : List Way) (line : ℕ) → bit_in Write (way_in ways 
 count-written_in [] line bit = absurd cc
 count-written_in (way ∷ ways) line bit = grind (arith, nat_tests, common_steps, count-written_in ways line)
 
-count-written_lines : (cache : List (List Way)) (n line : ℕ) → count_in (written_in (slice_index_or cache n [])) line ≤ count_in (written_lines cache) line
+count-written_lines : (cache : List (List Way)) (n line : ℕ) →
+    count_in (written_in (slice_index_or cache n [])) line ≤ count_in (written_lines cache) line
 count-written_lines [] n line = grind (arith, common_steps)
 count-written_lines (set ∷ sets) zero line = grind (arith, common_steps)
 count-written_lines (set ∷ sets) (suc n) line = grind (arith, common_steps, count-written_lines sets n line)
@@ -132,11 +133,13 @@ none-counted : (entries : List Entry) (n : ℕ) → holds entries n ≡ false �
 none-counted [] n none = refl
 none-counted (entry ∷ entries) n none = grind (arith, nat_tests, common_steps, none-counted entries n)
 
-pub room_for_written : (cache : List (List Way)) (hold : Held) (line : ℕ) → IsHold hold → HoldsMarked cache hold.entries → write_bits_of cache ≤ hold.limit →
+pub room_for_written : (cache : List (List Way)) (hold : Held) (line : ℕ) → IsHold hold →
+    HoldsMarked cache hold.entries → write_bits_of cache ≤ hold.limit →
     write_bit cache line ≡ true → has_room_for hold line ≡ true
 room_for_written cache hold line sound marked few bit = by (holds hold.entries line) refl
   where
-    by_held : (n : ℕ) → n ≢ line → (held : Bool) → holds hold.entries n ≡ held → count_in (lines_of hold.entries) n ≤ count_in (written_lines cache) n
+    by_held : (n : ℕ) → n ≢ line → (held : Bool) → holds hold.entries n ≡ held →
+        count_in (lines_of hold.entries) n ≤ count_in (written_lines cache) n
     by_held n other true held =
         let some : 1 ≤ count_in (written_lines cache) n = count-write_bit cache n (marked n held) in
         let once : count_in (lines_of hold.entries) n ≤ 1 = subst (λ k. k ≤ 1) (sym (count-lines_of hold.entries n)) (sound.once n) in
@@ -150,7 +153,8 @@ room_for_written cache hold line sound marked few bit = by (holds hold.entries l
       | inl same ↦
           let none : count_in (lines_of hold.entries) n ≡ 0 =
           count-lines_of hold.entries n ∙ ap (count_of_line hold.entries) same ∙ none-counted hold.entries line absent in
-          let some : 1 ≤ count_in (written_lines cache) n = subst (λ k. 1 ≤ count_in (written_lines cache) k) (sym same) (count-write_bit cache line bit) in
+          let some : 1 ≤ count_in (written_lines cache) n =
+              subst (λ k. 1 ≤ count_in (written_lines cache) k) (sym same) (count-write_bit cache line bit) in
           omega (arith, none, some, count-here line (lines_of hold.entries) n (sym same))
       | inr other ↦ omega (arith, by_held n other (holds hold.entries n) refl, count-there line (lines_of hold.entries) n (λ e. other (sym e)))
     ]

@@ -33,7 +33,8 @@ use Rattle.write_hold.specs.Held.{Entry, Held, held}
 use Rattle.write_hold.specs.Slotted as holds
 
 -- what a port shows is what the section shows, since no byte of the lock word is held
-byte_shown : (entries : List Entry) (word new : ℕ) (cache : Cached) → ((address : ℕ) → word ≤ address → address < word + 4 → held entries address ≡ None) →
+byte_shown : (entries : List Entry) (word new : ℕ) (cache : Cached) →
+    ((address : ℕ) → word ≤ address → address < word + 4 → held entries address ≡ None) →
     (address : ℕ) → port_byte entries word new cache address ≡ section_byte entries word new (cached_byte cache) address
 byte_shown entries word new cache free address = elim (in_word word address) [
   | Inside low high ↦
@@ -45,7 +46,8 @@ byte_shown entries word new cache free address = elim (in_word word address) [
       ∙ sym (stored_outside (held_over entries (cached_byte cache)) word 4 new address beside)
 ]
 
-pub bytes_shown : (entries : List Entry) (word new : ℕ) (cache : Cached) → ((address : ℕ) → word ≤ address → address < word + 4 → held entries address ≡ None) →
+pub bytes_shown : (entries : List Entry) (word new : ℕ) (cache : Cached) →
+    ((address : ℕ) → word ≤ address → address < word + 4 → held entries address ≡ None) →
     port_byte entries word new cache ≡ section_byte entries word new (cached_byte cache)
 bytes_shown entries word new cache free = λ k address. byte_shown entries word new cache free address k
 

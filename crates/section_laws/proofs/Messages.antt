@@ -41,7 +41,8 @@ abbrev Holds : ℕ → ℕ → Hart → Type 0
 Holds count h hart = NamesOthersOnce count h hart.mail hart.told hart.upstream
 
 -- a hart that is posted a message
-mail_holds : (count h : ℕ) (hart : Hart) (mail : List Message) → IsMailbox count h mail → Holds count h hart → Holds count h (record hart { mail = mail })
+mail_holds : (count h : ℕ) (hart : Hart) (mail : List Message) → IsMailbox count h mail → Holds count h hart →
+    Holds count h (record hart { mail = mail })
 mail_holds count h hart mail is now = record { mail_is = is; told_is = now.told_is; upstream_is = now.upstream_is }
 
 -- a section that is lost

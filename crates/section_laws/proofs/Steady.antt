@@ -76,7 +76,8 @@ steady_cleared cache l =
     (changed_way without_bits (way_of cache l)
     (λ w is. record { write = λ may. may; owner = λ is. inl is; owned = λ was wrote. absurd (cc) }))
 
-committed_steady : (way : Way) (wrote : Bool) → way.write ≡ wrote → (way.write ≡ true → may_write way.letter ≡ true) → Steady way (committed_way way)
+committed_steady : (way : Way) (wrote : Bool) → way.write ≡ wrote → (way.write ≡ true → may_write way.letter ≡ true) →
+    Steady way (committed_way way)
 committed_steady way true is owned = rw is (record { write = λ may. owned is; owner = λ wrong. absurd (cc); owned = λ was wrote. refl })
 committed_steady way false is owned = rw is (record { write = λ may. may; owner = λ is. inl is; owned = λ was wrote. absurd (cc) })
 

@@ -59,7 +59,8 @@ same_test true false to from = sym (to refl)
 same_test false true to from = from refl
 same_test false false to from = refl
 
-pub same_lines : (state : FlatState) (h n line : ℕ) (test : Bool) → (WroteLine state h n line → test ≡ true) → (test ≡ true → WroteLine state h n line) →
+pub same_lines : (state : FlatState) (h n line : ℕ) (test : Bool) → (WroteLine state h n line → test ≡ true) →
+    (test ≡ true → WroteLine state h n line) →
     has_written state h n line ≡ test
 same_lines state h n line test to from =
     same_test (has_written state h n line) test (λ is. to (written_was state h n line is))

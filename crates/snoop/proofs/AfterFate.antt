@@ -21,7 +21,8 @@ use Rattle.snoop.specs.Settled.{in_removal, loses, stamp_seen}
 use Rattle.stamp.specs.Stamps.{Stamp}
 
 -- a try more or less is no matter of the bus
-try_kept : {A : Type 0} (f : Hart → A) (hart : Hart) → ((h : Hart) (tries : ℕ) (fallback : Bool) → f (record h { tries = tries; fallback = fallback }) ≡ f h) →
+try_kept : {A : Type 0} (f : Hart → A) (hart : Hart) →
+    ((h : Hart) (tries : ℕ) (fallback : Bool) → f (record h { tries = tries; fallback = fallback }) ≡ f h) →
     (last : Bool) → f (if last then record hart { tries = 0; fallback = true } else record hart { tries = hart.tries + 1 }) ≡ f hart
 try_kept f hart same true = same hart 0 true
 try_kept f hart same false = same hart (hart.tries + 1) hart.fallback

@@ -59,7 +59,8 @@ no_hart_changed becomes clears bus = record {
   other_caches = λ h from. record { ways = refl; residency = refl };
 }
 
-pub one_hart_changed : (becomes : ℕ → Agent → Agent) (clears : ℕ → Bool) (h : ℕ) (old mid new : Kept) → AreHartsChanged becomes clears h old mid →
+pub one_hart_changed : (becomes : ℕ → Agent → Agent) (clears : ℕ → Bool) (h : ℕ) (old mid new : Kept) →
+    AreHartsChanged becomes clears h old mid →
     IsHartChanged (becomes h) (clears h) h mid new → h < length mid.agents → AreHartsChanged becomes clears (h + 1) old new
 one_hart_changed becomes clears h old mid new below at inside = record {
   mode = at.mode ∙ below.mode;
@@ -95,7 +96,8 @@ one_hart_changed becomes clears h old mid new below at inside = record {
         ∙ ap (becomes h) (below.other_agents h (omega arith))
 
 -- of any hart, those past the last one too
-pub any_ways : {becomes : ℕ → Agent → Agent} {clears : ℕ → Bool} {number : ℕ} {old new : Kept} → AreHartsChanged becomes clears number old new → (h : ℕ) →
+pub any_ways : {becomes : ℕ → Agent → Agent} {clears : ℕ → Bool} {number : ℕ} {old new : Kept} →
+    AreHartsChanged becomes clears number old new → (h : ℕ) →
     (slotted_at new.copies.caches h).ways ≡ (slotted_at old.copies.caches h).ways
 any_ways {becomes} {clears} {number} {old} {new} changed h = elim (cases_lt h number) [
   | inl below ↦ (changed.caches h below).ways
@@ -111,7 +113,8 @@ any_kept f {becomes} {clears} {number} {old} {new} changed keeps h = elim (cases
 ]
 
 -- no request is new, and each cache has as much room as before
-pub changed_ready : {becomes : ℕ → Agent → Agent} {clears : ℕ → Bool} {number : ℕ} {old new : Kept} → AreHartsChanged becomes clears number old new →
+pub changed_ready : {becomes : ℕ → Agent → Agent} {clears : ℕ → Bool} {number : ℕ} {old new : Kept} →
+    AreHartsChanged becomes clears number old new →
     ((h : ℕ) (agent : Agent) → (becomes h agent).raised ≡ agent.raised) →
     ((h : ℕ) (agent : Agent) → agent.armed ≤ 15 → (becomes h agent).armed ≤ 15) → IsReady old → IsReady new
 changed_ready {becomes} {clears} {number} {old} {new} changed raises few ready = ready_after old new ready (record {

@@ -92,7 +92,8 @@ no_probe_left test number count to agents final all was =
     was ∙ ap (λ n. probes_sent test (numbers_from number n) to agents) e
 
 -- a probe changes nothing that its receiver was told
-pub told_after_probe : (taken : Bool) (origin to h : ℕ) (agents : List Agent) → (agent_at (probe_sent taken origin to agents) h).told ≡ (agent_at agents h).told
+pub told_after_probe : (taken : Bool) (origin to h : ℕ) (agents : List Agent) →
+    (agent_at (probe_sent taken origin to agents) h).told ≡ (agent_at agents h).told
 told_after_probe true origin to h agents = agent_kept (λ a. a.told) agents to h _ refl
 told_after_probe false origin to h agents = refl
 
@@ -188,7 +189,8 @@ marker_answered bus h sender own is =
     (ap (λ told. probes_sent (passes told bus.order sender own.line) (numbers_from 0 (length (first_answer bus.agents h sender))) sender
     (first_answer bus.agents h sender))
     (told_behind bus.agents h sender)
-    ∙ ap (λ count. probes_sent (passes (agent_at bus.agents h).told bus.order sender own.line) (numbers_from 0 count) sender (first_answer bus.agents h sender))
+    ∙ ap (λ count. probes_sent (passes (agent_at bus.agents h).told bus.order sender own.line) (numbers_from 0 count)
+        sender (first_answer bus.agents h sender))
     (count_with_agent behind sender _ ∙ count_with_agent bus.agents h _)
     ∙ probes_posted (passes (agent_at bus.agents h).told bus.order sender own.line) (numbers_from 0 (length bus.agents)) sender
     (first_answer bus.agents h sender)

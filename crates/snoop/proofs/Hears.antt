@@ -32,7 +32,8 @@ use Rattle.snoop.proofs.Ready.{asks_agent, few_armed_yet, ready_after}
 use Rattle.snoop.proofs.Showing.{agent_other, agent_past, agent_same, count_with_agent, lies_yet, shows_agent, shows_each}
 
 -- a hart that does not lose
-pub heard_shows : (bus : Kept) (state : ModelState) (h origin : ℕ) (request : Option Request) → Shows bus state → loses_to_origin state h request ≡ false →
+pub heard_shows : (bus : Kept) (state : ModelState) (h origin : ℕ) (request : Option Request) → Shows bus state →
+    loses_to_origin state h request ≡ false →
     Shows (record bus { agents = with_agent bus.agents h (agent_heard origin None (agent_at bus.agents h)) })
     (with_hart state h (told_of state h origin request))
 heard_shows bus state h origin request shows stays =
@@ -46,7 +47,8 @@ abbrev lost_hart : ModelState → ℕ → ℕ → Option Request → Hart
 lost_hart state h origin request =
     beaten state.config.mode (stamp_in request) (record (hart_of state h) { told = included (hart_of state h).told origin })
 
-lost_here : (bus : Kept) (state : ModelState) (h origin : ℕ) (request : Option Request) → Shows bus state → h < length bus.agents → (g : ℕ) → g ≡ h →
+lost_here : (bus : Kept) (state : ModelState) (h origin : ℕ) (request : Option Request) → Shows bus state →
+    h < length bus.agents → (g : ℕ) → g ≡ h →
     hart_of (with_hart state h (lost_hart state h origin request)) g ≡ lost_hart state h origin request
 lost_here bus state h origin request shows inside g same =
     ap (hart_of (with_hart state h (lost_hart state h origin request))) same
@@ -118,7 +120,8 @@ lost_is_shown bus new state h origin request shows inside unarmed lost =
             ∙ agent_same bus.agents h (agent_heard origin (in_removal bus.mode (stamp_in request)) (agent_at bus.agents h)) inside
             ∙ lost_agent bus state h origin request shows unarmed
             ∙ ap agent_of (sym (lost_here bus state h origin request shows inside g same))
-        | inr other ↦ agent_other bus.agents h g (agent_heard origin (in_removal bus.mode (stamp_in request)) (agent_at bus.agents h)) other ∙ shows.agents g
+        | inr other ↦ agent_other bus.agents h g (agent_heard origin (in_removal bus.mode (stamp_in request))
+            (agent_at bus.agents h)) other ∙ shows.agents g
             ∙ ap agent_of (sym (lost_there state h origin request g other))
       ];
       caches = λ g. elim (cases_eq g h) [
@@ -218,13 +221,15 @@ chosen_agent : (test : Bool) (origin : ℕ) (hart : Hart) →
 chosen_agent true origin hart = refl
 chosen_agent false origin hart = refl
 
-chosen_kept : {A : Type 0} (f : Hart → A) (test : Bool) (origin : ℕ) (hart : Hart) → f (record hart { mail = posted hart.mail (Probe origin) }) ≡ f hart →
+chosen_kept : {A : Type 0} (f : Hart → A) (test : Bool) (origin : ℕ) (hart : Hart) →
+    f (record hart { mail = posted hart.mail (Probe origin) }) ≡ f hart →
     f (if test then record hart { mail = posted hart.mail (Probe origin) } else hart) ≡ f hart
 chosen_kept f true origin hart keeps = keeps
 chosen_kept f false origin hart keeps = refl
 
 -- this bus shows the state after the hart was told; of the state before, the order and who is before the hart are as they were
-pub forward_shows : (bus new : Kept) (before told : ModelState) (h origin : ℕ) (request : Option Request) → Shows bus told → told.order ≡ before.order →
+pub forward_shows : (bus new : Kept) (before told : ModelState) (h origin : ℕ) (request : Option Request) →
+    Shows bus told → told.order ≡ before.order →
     (hart_of told h).upstream ≡ (hart_of before h).upstream → IsForwarded h origin request bus new →
     Shows new (each_hart told (forwarded before h origin request))
 forward_shows bus new before told h origin request shows order upstream forward =
@@ -250,7 +255,8 @@ forward_shows bus new before told h origin request shows order upstream forward 
       memory = subst (λ copies. LiesWhere copies told.committed) (sym forward.copies) shows.memory;
     }))
   where
-    same_test : (g : ℕ) → ((not (g == origin) && has (agent_at bus.agents h).upstream g) && asks_on bus.order h request) ≡ forwards_on before h origin request g
+    same_test : (g : ℕ) → ((not (g == origin) && has (agent_at bus.agents h).upstream g) && asks_on bus.order h
+        request) ≡ forwards_on before h origin request g
     same_test g =
         ap (λ harts. (not (g == origin) && has harts g) && asks_on bus.order h request) (ap (λ agent. agent.upstream) (shows.agents h) ∙ upstream)
         ∙ ap (λ requests. (not (g == origin) && has (hart_of before h).upstream g) && asks_on requests h request) (shows.order ∙ order)

@@ -96,7 +96,8 @@ gone_cache : (test : Bool) (pc : ℕ) (hart : Hart) → cleared_if test hart.cac
 gone_cache true pc hart = refl
 gone_cache false pc hart = refl
 
-gone_tells : (test : Bool) (pc : ℕ) (hart : Hart) → (test ≡ true → is_some hart.armed ≡ true) → TellsSection hart → TellsSection (gone_if test pc hart)
+gone_tells : (test : Bool) (pc : ℕ) (hart : Hart) → (test ≡ true → is_some hart.armed ≡ true) → TellsSection hart →
+    TellsSection (gone_if test pc hart)
 gone_tells true pc hart armed told = tells_cleared (let_go_hart pc hart) hart.cache (armed_lifeless hart told (armed refl)) refl refl
 gone_tells false pc hart armed told = told
 

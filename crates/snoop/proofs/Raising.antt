@@ -46,14 +46,16 @@ ready_raised bus request ready inside none in_memory room = record {
     still : (h : ℕ) (other : Request) → CanBeServed bus h other → CanBeServed (raised_in bus request) h other
     still h other can = served_yet bus (raised_in bus request) h other count (λ inside. inside) (λ room. room) can
 
-    before : (h : ℕ) (other : Request) → h ≢ request.hart → (agent_at (with_agent bus.agents request.hart (raising bus request)) h).raised ≡ Some other →
+    before : (h : ℕ) (other : Request) → h ≢ request.hart →
+        (agent_at (with_agent bus.agents request.hart (raising bus request)) h).raised ≡ Some other →
         (agent_at bus.agents h).raised ≡ Some other
     before h other apart is = ap (λ a. a.raised) (sym (agent_other bus.agents request.hart h (raising bus request) apart)) ∙ is
 
     same : (one other : Request) → Some one ≡ Some other → one ≡ other
     same one other is = cc
 
-    the_one : (h : ℕ) (other : Request) → h ≡ request.hart → (agent_at (with_agent bus.agents request.hart (raising bus request)) h).raised ≡ Some other →
+    the_one : (h : ℕ) (other : Request) → h ≡ request.hart →
+        (agent_at (with_agent bus.agents request.hart (raising bus request)) h).raised ≡ Some other →
         request ≡ other
     the_one h other own is =
         same request other

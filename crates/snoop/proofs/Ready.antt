@@ -26,7 +26,8 @@ pub record AsksNoMore (bus new : Kept) : Type 0 where
 
 pub served_yet : (bus new : Kept) (h : ℕ) (request : Request) → length new.agents ≡ length bus.agents →
     (LiesIn bus.copies request.line → LiesIn new.copies request.line) →
-    (has_room_in bus.copies h request.line ≡ true → has_room_in new.copies h request.line ≡ true) → CanBeServed bus h request → CanBeServed new h request
+    (has_room_in bus.copies h request.line ≡ true → has_room_in new.copies h request.line ≡ true) →
+        CanBeServed bus h request → CanBeServed new h request
 served_yet bus new h request count inside room can = record {
   own = can.own;
   hart_exists = omega (arith, can.hart_exists, count);
@@ -86,12 +87,14 @@ asks_agent bus h agent ready raises few = record {
   few_armed = few_armed_yet bus.agents h agent ready.few_armed few;
 }
   where
-    before : (g : ℕ) (request : Request) → (agent_at (with_agent bus.agents h agent) g).raised ≡ Some request → (agent_at bus.agents g).raised ≡ Some request
+    before : (g : ℕ) (request : Request) → (agent_at (with_agent bus.agents h agent) g).raised ≡ Some request →
+        (agent_at bus.agents g).raised ≡ Some request
     before g request is =
         elim (cases_eq g h) [
           | inl own ↦ elim (cases_lt h (length bus.agents)) [
             | inl below ↦ ap (λ k. (agent_at bus.agents k).raised) own
-                ∙ raises request (sym (ap (λ a. a.raised) (ap (agent_at (with_agent bus.agents h agent)) own ∙ agent_same bus.agents h agent below)) ∙ is)
+                ∙ raises request (sym (ap (λ a. a.raised) (ap (agent_at (with_agent bus.agents h agent)) own
+                    ∙ agent_same bus.agents h agent below)) ∙ is)
             | inr past ↦ ap (λ a. a.raised) (agent_past bus.agents g (omega (arith, past, own))
                 ∙ sym (agent_past (with_agent bus.agents h agent) g (omega (arith, past, own, count_with_agent bus.agents h agent)))) ∙ is
           ]

@@ -185,7 +185,8 @@ others_same pool bus state h line shows =
     (residency_at pool bus.copies.caches k ∙ ap (λ n. (slotted_at bus.copies.caches n).residency) same ∙ shows.caches number))
 
 -- the definition's hart after its request was served
-claim_cache : (live : Bool) (request : Request) (hart : Hart) → (with_claim live request hart).cache ≡ claimed_cache live request.line request.need hart.cache
+claim_cache : (live : Bool) (request : Request) (hart : Hart) →
+    (with_claim live request hart).cache ≡ claimed_cache live request.line request.need hart.cache
 claim_cache true request hart = refl
 claim_cache false request hart = refl
 
@@ -202,7 +203,8 @@ claim_agent true request hart = refl
 claim_agent false request hart = refl
 
 -- where it is to write, no other hart that is not armed has a bit on its line
-unmet : (bus : Kept) (state : ModelState) (request : Request) (g : ℕ) → IsReady bus → Shows bus state → request_of bus.order request.hart ≡ Some request →
+unmet : (bus : Kept) (state : ModelState) (request : Request) (g : ℕ) → IsReady bus → Shows bus state →
+    request_of bus.order request.hart ≡ Some request →
     obstacle_to state request ≡ Free → armed_count (armed_of state g) ≡ 0 → g ≢ request.hart → request.need ≡ Write →
     has_bit (cache_of state g) request.line ≡ false
 unmet bus state request g ready shows ordered free unarmed apart write = by (section_of state g) refl
@@ -221,7 +223,8 @@ served_agent : (state : ModelState) (request : Request) (g : ℕ) (hart : Hart) 
     agent_after_serve (is_live state request.hart) request g (agent_of hart) ≡ agent_of (serving state request g hart)
 served_agent state request g hart is =
     elim (cases_eq g request.hart) [
-      | inl same ↦ let live : is_live state request.hart ≡ is_some hart.section = ap (is_live state) (sym same) ∙ ap (λ k. is_some k.section) (sym (is same)) in
+      | inl same ↦ let live : is_live state request.hart ≡ is_some hart.section = ap (is_live state) (sym same)
+          ∙ ap (λ k. is_some k.section) (sym (is same)) in
           at_own g request.hart _ _ same
           ∙ ap (λ lives. agent_claiming lives request.line (agent_served (agent_forgetting request.hart (agent_of hart)))) live
           ∙ sym (claim_agent (is_some hart.section) request _)
@@ -247,7 +250,8 @@ serving_armed state request g hart =
     ]
 
 -- the residency of each cache is the definition's
-served_cache : (bus new : Kept) (state : ModelState) (request : Request) (before after : Pooled) → IsReady bus → Shows bus state → request.hart < length bus.agents →
+served_cache : (bus new : Kept) (state : ModelState) (request : Request) (before after : Pooled) → IsReady bus →
+    Shows bus state → request.hart < length bus.agents →
     Serves request before after bus new → (g : ℕ) → g < length bus.agents →
     (slotted_at new.copies.caches g).residency ≡ (serving state request g (hart_of state g)).cache
 served_cache bus new state request before after ready shows exists serves g below =
@@ -278,14 +282,17 @@ served_cache bus new state request before after ready shows exists serves g belo
         ∙ ap (λ cache. own_after state.config.ways (others_have state request.hart request.line) request.need cache request.line) (shows.caches request.hart)
 
 -- a cache of a hart that is not armed has a bit where it had one
-served_marks : (bus new : Kept) (state : ModelState) (request : Request) (before after : Pooled) → IsReady bus → Shows bus state → request_of bus.order request.hart ≡ Some request →
-    obstacle_to state request ≡ Free → Serves request before after bus new → (g : ℕ) → g < length bus.agents → armed_count (armed_of state g) ≡ 0 →
+served_marks : (bus new : Kept) (state : ModelState) (request : Request) (before after : Pooled) → IsReady bus →
+    Shows bus state → request_of bus.order request.hart ≡ Some request →
+    obstacle_to state request ≡ Free → Serves request before after bus new → (g : ℕ) → g < length bus.agents →
+        armed_count (armed_of state g) ≡ 0 →
     has_marks (slotted_at new.copies.caches g).residency ≡ has_marks (slotted_at bus.copies.caches g).residency
 served_marks bus new state request before after ready shows ordered free serves g below unarmed =
     elim (cases_eq g request.hart) [
       | inl same ↦ ap (λ k. has_marks (slotted_at new.copies.caches k).residency) same
           ∙ ap has_marks (serve_own bus new request before after serves)
-          ∙ claimed (lives_at bus request.hart) (sym (lives_unarmed (slotted_at bus.copies.caches request.hart).residency (agent_at bus.agents request.hart).armed
+          ∙ claimed (lives_at bus request.hart) (sym
+              (lives_unarmed (slotted_at bus.copies.caches request.hart).residency (agent_at bus.agents request.hart).armed
           (noted request.hart ∙ ap (λ k. armed_count (armed_of state k)) (sym same) ∙ unarmed)))
           ∙ ap (λ k. has_marks (slotted_at bus.copies.caches k).residency) (sym same)
       | inr other ↦ ap has_marks (serve_others bus new request before after serves g other)
@@ -316,7 +323,8 @@ served_marks bus new state request before after ready shows ordered free serves 
         (slotted_at bus.copies.caches request.hart).residency request.line well can.room
 
 -- it tells of each hart whether it has a live section
-served_tells : (bus new : Kept) (state : ModelState) (request : Request) (before after : Pooled) → IsReady bus → Shows bus state → request_of bus.order request.hart ≡ Some request →
+served_tells : (bus new : Kept) (state : ModelState) (request : Request) (before after : Pooled) → IsReady bus →
+    Shows bus state → request_of bus.order request.hart ≡ Some request →
     obstacle_to state request ≡ Free → Serves request before after bus new → (g : ℕ) → g < length bus.agents →
     TellsSection (serving state request g (hart_of state g))
 served_tells bus new state request before after ready shows ordered free serves g below =
@@ -335,7 +343,8 @@ served_tells bus new state request before after ready shows ordered free serves 
 
 -- the state that is shown
 pub serve_shows : (bus new : Kept) (state : ModelState) (request : Request) (before after : Pooled) → IsReady bus → Shows bus state →
-    request_of bus.order request.hart ≡ Some request → obstacle_to state request ≡ Free → Serves request before after bus new → Shows new (served state request)
+    request_of bus.order request.hart ≡ Some request → obstacle_to state request ≡ Free →
+        Serves request before after bus new → Shows new (served state request)
 unfolding served
 serve_shows bus new state request before after ready shows ordered free serves =
     subst (λ order. Shows new (record (each_hart state (serving state request)) { order = order }))
@@ -365,7 +374,8 @@ serve_shows bus new state request before after ready shows ordered free serves =
 
 -- every cache is as it must be
 served_well_formed : (bus new : Kept) (request : Request) (before after : Pooled) → IsReady bus → request_of bus.order request.hart ≡ Some request →
-    Serves request before after bus new → (g : ℕ) → g < length bus.agents → IsWellFormed (slotted_at bus.copies.caches g).ways (slotted_at new.copies.caches g).residency
+    Serves request before after bus new → (g : ℕ) → g < length bus.agents →
+        IsWellFormed (slotted_at bus.copies.caches g).ways (slotted_at new.copies.caches g).residency
 served_well_formed bus new request before after ready ordered serves g below =
     elim (cases_eq g request.hart) [
       | inl same ↦ subst (λ k. IsWellFormed (slotted_at bus.copies.caches k).ways (slotted_at new.copies.caches k).residency) (sym same)

@@ -91,7 +91,8 @@ own_outcomes program config events event is =
 -- an outcome that is none of the bus comes of a step
 is_step : (state : ModelState) (event : Event) → (IsOfBus (next state event).outcome → ⊥) → event.kind ≡ kinds.Step
 is_step state event =
-    by_event (λ turn. (IsOfBus turn.outcome → ⊥) → event.kind ≡ kinds.Step) state event (λ step other. step) (λ turn done other. absurd (other done.of_bus))
+    by_event (λ turn. (IsOfBus turn.outcome → ⊥) →
+        event.kind ≡ kinds.Step) state event (λ step other. step) (λ turn done other. absurd (other done.of_bus))
 
 -- a commit, and a rollback
 pub own_commits : OwnCommits

@@ -76,7 +76,8 @@ loss_follows h winner entry old own e lost places = record {
     settled true lost = refl
     settled false lost = rw lost refl
 
-    counted : (own : Bool) → winner_over entry.outcome h ≡ Some winner → (after_any own old entry.outcome).lost + (after_any own old entry.outcome).unsettled
+    counted : (own : Bool) → winner_over entry.outcome h ≡ Some winner →
+        (after_any own old entry.outcome).lost + (after_any own old entry.outcome).unsettled
         ≡ old.lost + cond (has_lost h entry.outcome) old.unsettled 0
     counted true lost = grind (arith, stays true, lost)
     counted false lost = grind (arith, lost)

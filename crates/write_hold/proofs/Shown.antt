@@ -23,7 +23,8 @@ full pool entry = lent_entry pool (shown entry)
 abbrev pub all_of : Pooled → List code.Entry → List Entry
 all_of pool entries = map (lent_entry pool) (map shown entries)
 
-pub shown_entry : (pool : Pooled) (entries : List code.Entry) (line : ℕ) → entry_of (all_of pool entries) line ≡ option_map (full pool) (found entries line)
+pub shown_entry : (pool : Pooled) (entries : List code.Entry) (line : ℕ) →
+    entry_of (all_of pool entries) line ≡ option_map (full pool) (found entries line)
 shown_entry pool entries line =
     find_of_map (lent_entry pool) (λ entry. entry.line == line) (map shown entries)
     ∙ ap (option_map (lent_entry pool)) (find_of_map shown (λ (place : Place). place.line == line) entries)
@@ -70,7 +71,8 @@ laid_in_line : (line offset address : ℕ) (bytes : List ℕ) (under : Option �
 laid_in_line line offset address bytes under is =
     laid_from (line * LINE_BYTES) offset (address % LINE_BYTES) address bytes under (omega arith)
 
-pub laid_elsewhere : (line offset address : ℕ) (bytes : List ℕ) (under : Option ℕ) → offset + length bytes ≤ LINE_BYTES → line_number address ≢ line
+pub laid_elsewhere : (line offset address : ℕ) (bytes : List ℕ) (under : Option ℕ) →
+    offset + length bytes ≤ LINE_BYTES → line_number address ≢ line
     → laid (line * LINE_BYTES + offset) bytes address under ≡ under
 laid_elsewhere line offset address bytes under inside other =
     let start : ℕ = line * LINE_BYTES + offset in

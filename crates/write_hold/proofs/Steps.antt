@@ -101,7 +101,8 @@ module _ (entries : List code.Entry) (line : ℕ) (y : code.Entry) (none : posit
           omega arith
       step false is sum = omega arith
 
-  pub stands_pushed : (limit room more : ℕ) → length entries < limit → room ≤ more → Stands limit room entries → Stands limit more (entries ++ y ∷ [])
+  pub stands_pushed : (limit room more : ℕ) → length entries < limit → room ≤ more → Stands limit room entries →
+      Stands limit more (entries ++ y ∷ [])
   stands_pushed limit room more fits grows stands = record {
     few = omega (arith, length-append entries (y ∷ []));
     reserved = omega (arith, stands.reserved);

@@ -39,7 +39,8 @@ written_over offset place bytes old now inside is =
         → slice_index (put_at offset bytes old) place ≡ slice_index bytes (place - offset)
     there within = put_inside offset bytes old inside place (grind (arith, nat_tests)) (grind (arith, nat_tests))
 
-    elsewhere : (nat_le offset place && nat_lt place (offset + length bytes)) ≡ false → slice_index (put_at offset bytes old) place ≡ slice_index old place
+    elsewhere : (nat_le offset place && nat_lt place (offset + length bytes)) ≡ false →
+        slice_index (put_at offset bytes old) place ≡ slice_index old place
     elsewhere beyond = elim (cases_lt place offset) [
       | inl below ↦ put_below offset bytes old inside place below
       | inr past ↦ put_above offset bytes old inside place (grind (arith, nat_tests))

@@ -71,7 +71,8 @@ word_bytes cache address at bytes even is small low high =
     omega arith
 
 -- a store puts its bytes there, and leaves all others
-pub stored_byte : (old new : Cached) (address len value at : ℕ) → IsSize len → address % len ≡ 0 → is_resident old.residency (line_number address) ≡ true →
+pub stored_byte : (old new : Cached) (address len value at : ℕ) → IsSize len → address % len ≡ 0 →
+    is_resident old.residency (line_number address) ≡ true →
     length (bytes_of old (line_number address)) ≡ LINE_BYTES → PutsIn old new address len value →
     cached_byte new at ≡ stored (cached_byte old) address len value at
 stored_byte old new address len value at size even there full puts =

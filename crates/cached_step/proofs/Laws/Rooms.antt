@@ -38,7 +38,8 @@ marks-access ways cache line Read well = has_marks-touched ways cache line well
 marks-access ways cache line Write well =
     has_marks-lettered ways _ line M (well_formed-touched ways cache line well) ∙ has_marks-touched ways cache line well
 
-marks-touch : (ways : ℕ) (cache : List (List Way)) (touch : Option Touch) → IsWellFormed ways cache → has_marks (after_touch cache touch) ≡ has_marks cache
+marks-touch : (ways : ℕ) (cache : List (List Way)) (touch : Option Touch) → IsWellFormed ways cache →
+    has_marks (after_touch cache touch) ≡ has_marks cache
 marks-touch ways cache None well = refl
 marks-touch ways cache (Some touch) well = marks-access ways cache touch.line touch.need well
 
@@ -62,7 +63,8 @@ bare_unmarked way set bare = by (is_marked way) bare
 
 bare_room : (ways : ℕ) (set : List Way) (line : ℕ) → 1 ≤ ways → list_any is_marked set ≡ false → room_in ways set line ≡ true
 bare_room ways [] line some bare = grind (arith, nat_tests)
-bare_room ways (way ∷ set) line some bare = rw (bare_unmarked way set bare) (or_true (is_some (way_in (way ∷ set) line) || nat_lt (length (way ∷ set)) ways))
+bare_room ways (way ∷ set) line some bare = rw (bare_unmarked way set bare)
+    (or_true (is_some (way_in (way ∷ set) line) || nat_lt (length (way ∷ set)) ways))
   where
     or_true : (b : Bool) → (b || true) ≡ true
     or_true true = refl

@@ -50,7 +50,8 @@ piece_line copies flat address len placed piece =
     let high : address + len ≤ flat.base + length flat.bytes = piece.before_end in
     record { from = omega arith; below = omega arith }
 
-touch_line : (copies : Copies) (line : ℕ) (need : Need) (touch : Touch) → Some (record { line = line; need = need }) ≡ Some touch → HasLine copies line →
+touch_line : (copies : Copies) (line : ℕ) (need : Need) (touch : Touch) →
+    Some (record { line = line; need = need }) ≡ Some touch → HasLine copies line →
     HasLine copies touch.line
 touch_line copies line need touch is there = subst (HasLine copies) (ap (λ (t : Option Touch). option_map_or (λ s. s.line) t 0) is) there
 
@@ -169,7 +170,8 @@ with_other : (bytes : ℕ → List ℕ) (line : ℕ) (new : List ℕ) (l : ℕ) 
 with_other bytes line new l other = rw (ne_eqb l line other) refl
 
 -- a store in memory is a store in its line
-stored_line : (first base : ℕ) (bytes : List ℕ) (address len value l : ℕ) → first * 64 ≡ base → base ≤ address → address % 64 + len ≤ 64 → first ≤ l →
+stored_line : (first base : ℕ) (bytes : List ℕ) (address len value l : ℕ) → first * 64 ≡ base → base ≤ address →
+    address % 64 + len ≤ 64 → first ≤ l →
     line_at base (put_bytes bytes (address - base) len value) l
     ≡ bytes_with (line_at base bytes) (line_number address) (put_bytes (line_at base bytes (line_number address)) (address % 64) len value) l
 stored_line first base bytes address len value l place low one_line from =
@@ -180,7 +182,8 @@ stored_line first base bytes address len value l place low one_line from =
           ∙ sym (with_here (line_at base bytes) (line_number address) (put_bytes (line_at base bytes (line_number address)) (address % 64) len value) l same)
       | inr other ↦
           elsewhere other (cases_lt l (line_number address))
-          ∙ sym (with_other (line_at base bytes) (line_number address) (put_bytes (line_at base bytes (line_number address)) (address % 64) len value) l other)
+          ∙ sym (with_other (line_at base bytes) (line_number address)
+              (put_bytes (line_at base bytes (line_number address)) (address % 64) len value) l other)
     ]
   where
     elsewhere : l ≢ line_number address → (l < line_number address) ⊎ (line_number address ≤ l) →

@@ -239,7 +239,8 @@ fetched_by_parts need h line first lines after old mid new cache bytes evicted f
       here =
           copy_resident (cache_at (slice_set mid h cache) h) line _ (fetched_own need h line old mid cache bytes evicted fetch);
       ways = λ g. elim (cases_eq g h) [
-        | inl own ↦ rw own (ap (λ c. c.ways) (own_new need h line old mid cache bytes evicted fetch) ∙ (fetch.filled.ways ∙ ap (λ c. c.ways) fetch.gave.own))
+        | inl own ↦ rw own (ap (λ c. c.ways) (own_new need h line old mid cache bytes evicted fetch)
+            ∙ (fetch.filled.ways ∙ ap (λ c. c.ways) fetch.gave.own))
         | inr other ↦
             ap (λ c. c.ways) (other_new h g mid cache other)
             ∙ gives_ways need (cache_at old g) (cache_at mid g) line (given_up_at need h line old mid fetch.gave g other)

@@ -192,7 +192,8 @@ account_of h = count_of (begins h) history ∷ count_of (commits h) history ∷ 
     ∷ (if is_live (state_after chain.first chain.events) h then 1 else 0) ∷ []
 
 accounts : map account_of (0 ∷ 1 ∷ 2 ∷ 3 ∷ [])
-    ≡ (1 ∷ 0 ∷ 0 ∷ 0 ∷ 1 ∷ []) ∷ (1 ∷ 0 ∷ 0 ∷ 1 ∷ 0 ∷ []) ∷ (1 ∷ 0 ∷ 0 ∷ 1 ∷ 0 ∷ []) ∷ (1 ∷ 0 ∷ 0 ∷ 1 ∷ 0 ∷ []) ∷ []
+    ≡ (1 ∷ 0 ∷ 0 ∷ 0 ∷ 1 ∷ []) ∷ (1 ∷ 0 ∷ 0 ∷ 1 ∷ 0 ∷ []) ∷
+       (1 ∷ 0 ∷ 0 ∷ 1 ∷ 0 ∷ []) ∷ (1 ∷ 0 ∷ 0 ∷ 1 ∷ 0 ∷ []) ∷ []
 unfolding computing
 accounts = refl
 

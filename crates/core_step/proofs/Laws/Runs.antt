@@ -119,7 +119,8 @@ pub aligned : (word : Option ℕ) (view : HartView) (span : Span) (room : ℕ) �
 aligned None view span room = tt
 aligned (Some word) view span room = aligned-decoded (decoded word) view span room
 
-pub aligned_at : (word : Option ℕ) (view : HartView) (span : Span) (room : ℕ) (action : Action) → action ≡ action_at word view span room → IsAligned action
+pub aligned_at : (word : Option ℕ) (view : HartView) (span : Span) (room : ℕ) (action : Action) →
+    action ≡ action_at word view span room → IsAligned action
 aligned_at word view span room action is = rw is (aligned word view span room)
 
 -- an execution is its action's

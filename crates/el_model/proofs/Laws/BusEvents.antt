@@ -390,7 +390,8 @@ freed_becomes_at state by start head is h = each state by start head is (met_bec
 
 past_event : (state : ModelState) (by : ℕ) (request : Request) → ordered_of state by ≡ Some request → (obstacle : Obstacle) →
     obstacle_to state request ≡ obstacle → IsBusEvent state by (serve_past state request obstacle)
-past_event state by request ordered (Blocks why other) is = nothing_done state by (serve_past state request (Blocks why other)) refl tt (λ h. refl) (λ h. refl)
+past_event state by request ordered (Blocks why other) is =
+    nothing_done state by (serve_past state request (Blocks why other)) refl tt (λ h. refl) (λ h. refl)
 past_event state by request ordered Free is =
     serve_event state by request (record { ordered = ordered; free = is }) (head_of (served state request) request.line) refl
 

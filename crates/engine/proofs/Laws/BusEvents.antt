@@ -53,7 +53,8 @@ bytes_kept state event reached bus =
     record { base = memory.base; bytes = memory.bytes }
 
 -- so the bus, which owes that to its caller, shows the state after it
-pub shown_after : (bus : Kept) (state : ModelState) (event : Event) (turn : Turn) → next state event ≡ turn → IsReached state → event.kind ≢ kinds.Step →
+pub shown_after : (bus : Kept) (state : ModelState) (event : Event) (turn : Turn) → next state event ≡ turn →
+    IsReached state → event.kind ≢ kinds.Step →
     (KeepsBytes state.committed turn.state.committed → Shows bus turn.state) → Shows bus (next state event).state
 shown_after bus state event turn is reached no_step shows =
     subst (λ t. Shows bus t.state) (sym is)

@@ -70,7 +70,8 @@ same_reserve action word rd address of is =
     ap (actions.LoadReserved rd) (sym (some_is address word (ap reserved_by (sym is ∙ of.is)))) ∙ sym is
 
 -- what a swap touches is its word's line
-pub touches_word : (byte : ℕ → ℕ) (action : Action) (swap : Option Swap) → swap_by byte action ≡ swap → TouchesWord swap (touch_of (footprint action))
+pub touches_word : (byte : ℕ → ℕ) (action : Action) (swap : Option Swap) → swap_by byte action ≡ swap →
+    TouchesWord swap (touch_of (footprint action))
 touches_word byte action None is = tt
 touches_word byte action (Some swap) is = ap (λ a. touch_of (footprint a)) (swap_action byte action swap is).is
 
@@ -82,7 +83,8 @@ pub reserve_aligned : (action : Action) (word : ℕ) → IsReserveOf action word
 reserve_aligned action word of even = subst IsAligned of.is even
 
 -- an exchange writes its word
-pub exchange_writes : (byte : ℕ → ℕ) (action : Action) (swap : Swap) → exchange_by byte action ≡ Some swap → footprint action ≡ accesses.Write swap.word 4
+pub exchange_writes : (byte : ℕ → ℕ) (action : Action) (swap : Swap) → exchange_by byte action ≡ Some swap →
+    footprint action ≡ accesses.Write swap.word 4
 exchange_writes byte (actions.Amo op rd address source) swap is =
     ap footprint (swap_action byte (actions.Amo op rd address source) swap is).is
 exchange_writes byte (actions.StoreConditional rd address value) swap is =

@@ -56,7 +56,8 @@ module _ (P : ℕ → Option Section → ℕ → Option Stamp → Type 0) (keeps
   }
 
 -- a candidate that ran changes none of them
-pub candidate_keeps : (P : Option Section → ℕ → ℕ → Option Stamp → Type 0) (pc : Option ℕ) (had_watch : Bool) (candidate : Option Swap) (hart : Hart) →
+pub candidate_keeps : (P : Option Section → ℕ → ℕ → Option Stamp → Type 0) (pc : Option ℕ) (had_watch :
+    Bool) (candidate : Option Swap) (hart : Hart) →
     P hart.section hart.clock hart.seen hart.attempt →
     P (after_candidate pc had_watch candidate hart).section (after_candidate pc had_watch candidate hart).clock
     (after_candidate pc had_watch candidate hart).seen (after_candidate pc had_watch candidate hart).attempt

@@ -134,7 +134,8 @@ module _ (state : ModelState) (by : ℕ) (start : Start) (head : Request) (is : 
   face_won : Lost mid head g (hart_of mid g) winner → WonBy state start g winner (winning_stamp mid head.line winner)
   face_won lost = by_why lost.why
     where
-      by_why : ((winner ≡ head.hart) × (is_before head.stamp (hart_of mid g).attempt ≡ true)) ⊎ (told_winner mid (hart_of mid g) head.line ≡ Some winner) →
+      by_why : ((winner ≡ head.hart) × (is_before head.stamp (hart_of mid g).attempt ≡ true)) ⊎
+          (told_winner mid (hart_of mid g) head.line ≡ Some winner) →
           WonBy state start g winner (winning_stamp mid head.line winner)
       by_why (inl (same, less)) = record {
         request = head;

@@ -94,7 +94,8 @@ module _ (state : ModelState) (h line : ℕ) (request : Request) (once : IsOneEa
       up : has (hart_of state own.hart).upstream before ≡ true
       up = is_upstream own.hart before own mine link
 
-      by : (own.hart ≢ h → request_of others h ≡ Some request → has (hart_of state own.hart).told h ≡ true) → (same : Bool) → (own.hart == h) ≡ same →
+      by : (own.hart ≢ h → request_of others h ≡ Some request → has (hart_of state own.hart).told h ≡ true) →
+          (same : Bool) → (own.hart == h) ≡ same →
           (if same then Some own else request_of others h) ≡ Some request → has (hart_of state before).told h ≡ true
       by further true same is =
           let e = number_of_test own.hart h same in
@@ -148,7 +149,8 @@ module _ (state : ModelState) (h line : ℕ) (request : Request) (once : IsOneEa
           inr (climbs first.hart others apart ordered linked
           (subst (λ b. (if b then Some first else request_of others h) ≡ Some request) (other_test first.hart h apart) there))
 
-  refused : {X : Type 0} (g : ℕ) (head : Request) → head_of state line ≡ Some head → retains state g line ≡ true → Meets head g (hart_of state g) →
+  refused : {X : Type 0} (g : ℕ) (head : Request) → head_of state line ≡ Some head → retains state g line ≡ true →
+      Meets head g (hart_of state g) →
       (g ≡ h) ⊎ (g ≡ h → ⊥) → X
   refused g head is retained it (inl same) = not_own head is (subst (λ k. Meets head k (hart_of state k)) same it)
   refused g head is retained it (inr apart) =

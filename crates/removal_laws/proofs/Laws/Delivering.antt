@@ -35,7 +35,8 @@ new_or_had harts new hart is = by (cases_eq new hart)
     by (inr apart) = inr (sym (has_included_other harts new hart apart) ∙ is)
 
 -- a hart with a message is one of the machine's
-pub mail_exists : (state : ModelState) (h : ℕ) (message : Message) (others : List Message) → (hart_of state h).mail ≡ message ∷ others → h < length state.harts
+pub mail_exists : (state : ModelState) (h : ℕ) (message : Message) (others : List Message) →
+    (hart_of state h).mail ≡ message ∷ others → h < length state.harts
 mail_exists state h message others mail = by (nat_lt h (length state.harts)) refl
   where
     empty : {X : Type 0} → [] ≡ message ∷ others → X
@@ -53,11 +54,13 @@ abbrev pub NoEntry : ℕ → ℕ → Type 0
 NoEntry g hart = ⊥
 
 -- an ordered request that is one of a line
-pub own_line : (line : ℕ) (found : Option Request) (request : Request) → for_line line found ≡ Some request → (found ≡ Some request) × (request.line ≡ line)
+pub own_line : (line : ℕ) (found : Option Request) (request : Request) → for_line line found ≡ Some request →
+    (found ≡ Some request) × (request.line ≡ line)
 own_line line None request is = absurd (cc)
 own_line line (Some own) request is = by (own.line == line) refl is
   where
-    by : (same : Bool) → (own.line == line) ≡ same → (if same then Some own else None) ≡ Some request → (Some own ≡ Some request) × (request.line ≡ line)
+    by : (same : Bool) → (own.line == line) ≡ same → (if same then Some own else None) ≡ Some request →
+        (Some own ≡ Some request) × (request.line ≡ line)
     by true same is = (is, ap (λ r. r.line) (sym (some_same is)) ∙ number_of_test own.line line same)
     by false apart is = absurd (cc)
 

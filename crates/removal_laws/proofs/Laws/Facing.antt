@@ -49,7 +49,8 @@ pub passes : (test : ℕ → Bool) (harts : List ℕ) (h : ℕ) → has harts h 
 passes test [] h is holds = absurd (cc)
 passes test (first ∷ others) h is holds = by (λ later. passes test others h later holds) (test first) refl (first == h) refl is
   where
-    by : (has others h ≡ true → has (filter test others) h ≡ true) → (taken : Bool) → test first ≡ taken → (same : Bool) → (first == h) ≡ same →
+    by : (has others h ≡ true → has (filter test others) h ≡ true) → (taken : Bool) → test first ≡ taken →
+        (same : Bool) → (first == h) ≡ same →
         (if same then true else has others h) ≡ true →
         has (if taken then first ∷ filter test others else filter test others) h ≡ true
     by rest true first_holds true same is = rw same refl
@@ -58,7 +59,8 @@ passes test (first ∷ others) h is holds = by (λ later. passes test others h l
     by rest false fails false apart is = rest is
 
 -- where there is no least one, the test holds of none
-none_least : (test : ℕ → Bool) (stamp : ℕ → Option Stamp) (harts : List ℕ) (h : ℕ) → least_such test stamp harts ≡ None → has harts h ≡ true →
+none_least : (test : ℕ → Bool) (stamp : ℕ → Option Stamp) (harts : List ℕ) (h : ℕ) →
+    least_such test stamp harts ≡ None → has harts h ≡ true →
     test h ≡ false
 none_least test stamp [] h none is = absurd (cc)
 none_least test stamp (first ∷ others) h none is = by (none_least test stamp others h) (test first) refl none
@@ -83,7 +85,8 @@ none_least test stamp (first ∷ others) h none is = by (none_least test stamp o
     by rest false fails none = here rest fails none (first == h) refl is
 
 -- and the least one passes the test
-pub least_passes : (test : ℕ → Bool) (stamp : ℕ → Option Stamp) (harts : List ℕ) (h : ℕ) → least_such test stamp harts ≡ Some h → test h ≡ true
+pub least_passes : (test : ℕ → Bool) (stamp : ℕ → Option Stamp) (harts : List ℕ) (h : ℕ) →
+    least_such test stamp harts ≡ Some h → test h ≡ true
 least_passes test stamp [] h is = absurd (cc)
 least_passes test stamp (first ∷ others) h is = by (least_passes test stamp others h) (test first) refl is
   where
@@ -92,7 +95,8 @@ least_passes test stamp (first ∷ others) h is = by (least_passes test stamp ot
     one true other rest found holds is = rest (found ∙ is)
     one false other rest found holds is = subst (λ k. test k ≡ true) (some_same is) holds
 
-    taken : (least_such test stamp others ≡ Some h → test h ≡ true) → test first ≡ true → (other : Option ℕ) → least_such test stamp others ≡ other →
+    taken : (least_such test stamp others ≡ Some h → test h ≡ true) → test first ≡ true → (other : Option ℕ) →
+        least_such test stamp others ≡ other →
         earlier stamp (Some first) other ≡ Some h → test h ≡ true
     taken rest holds None found is = subst (λ k. test k ≡ true) (some_same is) holds
     taken rest holds (Some other) found is = one (is_before (stamp other) (stamp first)) other rest found holds is
@@ -122,7 +126,8 @@ told_is : (state : ModelState) (head : Request) (g : ℕ) (hart : Hart) → conf
 told_is state head g hart meets_it not_after None is = record { meets_it = meets_it; not_after = not_after; none_told = is }
 told_is state head g hart meets_it not_after (Some winner) is = record { meets_it = meets_it; why = inr is }
 
-pub fate_is : (state : ModelState) (head : Request) (g : ℕ) (hart : Hart) → state.config.mode ≡ Tlr → FateIs state head g hart (fate_of state head g hart)
+pub fate_is : (state : ModelState) (head : Request) (g : ℕ) (hart : Hart) → state.config.mode ≡ Tlr →
+    FateIs state head g hart (fate_of state head g hart)
 fate_is state head g hart mode =
     by_test (FateIs state head g hart) (conflicts head g hart) _ Unmet
     (λ meets_it.
@@ -196,7 +201,8 @@ pub record Retains (state : ModelState) (head : Request) (g : ℕ) (new : Hart) 
   pub stayed : Stayed state head g (hart_of state g)
   pub hart_is : new ≡ see head.stamp (hart_of state g)
 
-after_fate_retains : (state : ModelState) (head : Request) (g : ℕ) (fate : Fate) → state.config.mode ≡ Tlr → FateIs state head g (hart_of state g) fate →
+after_fate_retains : (state : ModelState) (head : Request) (g : ℕ) (fate : Fate) → state.config.mode ≡ Tlr →
+    FateIs state head g (hart_of state g) fate →
     conflicts head g (after_fate state head fate (hart_of state g)) ≡ true →
     Retains state head g (after_fate state head fate (hart_of state g))
 after_fate_retains state head g Unmet mode says is = clash says is
@@ -250,7 +256,8 @@ face_links state head g mode exists below is =
     (all_linked (filter (stays_at state head) (numbers_of state)) (hart_of state head.hart) g
     (inl (passes (stays_at state head) (numbers_of state) g (has_number state g below) is)))))
 
-stays_if : (state : ModelState) (head : Request) (g : ℕ) → state.config.mode ≡ Tlr → Stayed state head g (hart_of state g) → stays_at state head g ≡ true
+stays_if : (state : ModelState) (head : Request) (g : ℕ) → state.config.mode ≡ Tlr →
+    Stayed state head g (hart_of state g) → stays_at state head g ≡ true
 stays_if state head g mode stayed = by (fate_at state head g) (fate_is state head g (hart_of state g) mode)
   where
     told : (winner : ℕ) → ((winner ≡ head.hart) × (is_before head.stamp (hart_of state g).attempt ≡ true))

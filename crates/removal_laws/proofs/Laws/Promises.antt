@@ -128,7 +128,8 @@ locked_by state head (Some holder) sound is =
     by holds (inl none) = some_none (sym holds ∙ none)
     by holds (inr only) = only.no_section
 
-head_served : (state : ModelState) (head : Request) → Grounds state → head_of state head.line ≡ Some head → ((g : ℕ) → retains state g head.line ≡ false) →
+head_served : (state : ModelState) (head : Request) → Grounds state → head_of state head.line ≡ Some head →
+    ((g : ℕ) → retains state g head.line ≡ false) →
     (is_served (serve_turn state head.hart).outcome ≡ true) ⊎ IsLocked state head.line (serve_turn state head.hart).outcome
 unfolding serve_turn
 head_served state head grounds first kept =

@@ -35,7 +35,8 @@ way_of-with_set_other (first ∷ cache) line l set kept =
       | inr other ↦ rw (set_of-with_set_other whole line l set other) refl
     ]
 
-way_of-with_set_same : (cache : List (List Way)) (line : ℕ) (set : List Way) → 0 < length cache → way_of (with_set cache line set) line ≡ way_in set line
+way_of-with_set_same : (cache : List (List Way)) (line : ℕ) (set : List Way) → 0 < length cache →
+    way_of (with_set cache line set) line ≡ way_in set line
 way_of-with_set_same cache line set some = rw (set_of-with_set_same cache line line set some refl) refl
 
 -- the way of the line itself, by a word that leaves an empty set empty

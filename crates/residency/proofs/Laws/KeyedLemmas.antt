@@ -67,7 +67,8 @@ module _ {X : Type 0} (key : X → ℕ) where
   found_at (x ∷ xs) k (suc i) d once within is =
       let inside : i < length xs = omega arith in
       let counted : 1 ≤ count_of key xs k = counted_at xs k i d inside is in
-      let rest : found key xs k ≡ Some (get_or xs i d) = found_at xs k i d (grind (arith, nat_tests, sum_by-cons (λ y. cond (eqb (key y) k) 1 0) x xs)) inside is in
+      let rest : found key xs k ≡ Some (get_or xs i d) =
+          found_at xs k i d (grind (arith, nat_tests, sum_by-cons (λ y. cond (eqb (key y) k) 1 0) x xs)) inside is in
       grind (arith, nat_tests, sum_by-cons (λ y. cond (eqb (key y) k) 1 0) x xs)
 
   pub remove-without : (xs : List X) (k i : ℕ) (d : X) → count_of key xs k ≤ 1 → i < length xs → key (get_or xs i d) ≡ k →
@@ -137,7 +138,8 @@ module _ {X : Type 0} (key : X → ℕ) where
   found-le-sum_by f [] k x is = absurd cc
   found-le-sum_by f (y ∷ xs) k x is = grind (arith, nat_tests, sum_by-cons f y xs, found-le-sum_by f xs k x)
 
-  pub two_found : (f : X → ℕ) (xs : List X) (k j : ℕ) (x y : X) → count_of key xs k ≤ 1 → j ≢ k → found key xs k ≡ Some x → found key xs j ≡ Some y →
+  pub two_found : (f : X → ℕ) (xs : List X) (k j : ℕ) (x y : X) → count_of key xs k ≤ 1 → j ≢ k →
+      found key xs k ≡ Some x → found key xs j ≡ Some y →
       f x + f y ≤ sum_by f xs
   two_found f xs k j x y once other first second =
       let there : option_map_or f (found key xs k) 0 ≡ f x = ap (λ w. option_map_or f w 0) first in

@@ -38,9 +38,11 @@ total-with_set : (f : Way → ℕ) (cache : List (List Way)) (line : ℕ) (set :
     total f (with_set cache line set) + sum_by f (set_of cache line) ≡ total f cache + sum_by f set
 total-with_set f cache line set some = sum_by-set (λ s. sum_by f s) cache (set_number cache line) set [] (omega arith)
 
-pub total-touched : (f : Way → ℕ) (ways : ℕ) (cache : List (List Way)) (line : ℕ) → IsWellFormed ways cache → total f (touched cache line) ≡ total f cache
+pub total-touched : (f : Way → ℕ) (ways : ℕ) (cache : List (List Way)) (line : ℕ) → IsWellFormed ways cache →
+    total f (touched cache line) ≡ total f cache
 total-touched f ways cache line kept =
-    omega (arith, total-with_set f cache line (touched_in (set_of cache line) line) kept.some_set, sum_by-touched_in f (set_of cache line) line (kept.once line line))
+    omega (arith, total-with_set f cache line (touched_in (set_of cache line) line) kept.some_set,
+        sum_by-touched_in f (set_of cache line) line (kept.once line line))
 
 pub total-without_line : (f : Way → ℕ) (ways : ℕ) (cache : List (List Way)) (line : ℕ) → IsWellFormed ways cache →
     total f (without_line cache line) + option_map_or f (way_of cache line) 0 ≡ total f cache
@@ -51,7 +53,8 @@ total-changed : (f : Way → ℕ) (change : Way → Way) (ways : ℕ) (cache : L
     total f (with_set cache line (changed_in change (set_of cache line) line)) + option_map_or f (way_of cache line) 0
     ≡ total f cache + option_map_or (λ way. f (change way)) (way_of cache line) 0
 total-changed f change ways cache line kept =
-    omega (arith, total-with_set f cache line (changed_in change (set_of cache line) line) kept.some_set, sum_by-changed_in f change (set_of cache line) line (kept.once line line))
+    omega (arith, total-with_set f cache line (changed_in change (set_of cache line) line) kept.some_set,
+        sum_by-changed_in f change (set_of cache line) line (kept.once line line))
 
 pub total-lettered : (f : Way → ℕ) (ways : ℕ) (cache : List (List Way)) (line : ℕ) (letter : Letter) → IsWellFormed ways cache →
     ((way : Way) → f (with_letter letter way) ≡ f way) → total f (lettered cache line letter) ≡ total f cache
@@ -77,7 +80,8 @@ sum_by-none f [] gone = refl
 sum_by-none f (way ∷ set) gone = omega (arith, sum_by-cons f way set, gone way, sum_by-none f set gone)
 
 -- a sum after a change of every way that leaves nothing to count
-total-map : (f : Way → ℕ) (change : Way → Way) (cache : List (List Way)) → ((way : Way) → f (change way) ≡ 0) → total f (map (map change) cache) ≡ 0
+total-map : (f : Way → ℕ) (change : Way → Way) (cache : List (List Way)) → ((way : Way) → f (change way) ≡ 0) →
+    total f (map (map change) cache) ≡ 0
 total-map f change [] gone = refl
 total-map f change (set ∷ cache) gone =
     omega (
@@ -105,7 +109,8 @@ same_marks before after same = has_marks-counted after ∙ ap (λ n. not (eqb n 
 pub has_marks-touched : (ways : ℕ) (cache : List (List Way)) (line : ℕ) → IsWellFormed ways cache → has_marks (touched cache line) ≡ has_marks cache
 has_marks-touched ways cache line kept = same_marks cache (touched cache line) (total-touched mark_of ways cache line kept)
 
-pub write_bits_of-touched : (ways : ℕ) (cache : List (List Way)) (line : ℕ) → IsWellFormed ways cache → write_bits_of (touched cache line) ≡ write_bits_of cache
+pub write_bits_of-touched : (ways : ℕ) (cache : List (List Way)) (line : ℕ) → IsWellFormed ways cache →
+    write_bits_of (touched cache line) ≡ write_bits_of cache
 write_bits_of-touched ways cache line kept = total-touched write_of ways cache line kept
 
 pub has_marks-lettered : (ways : ℕ) (cache : List (List Way)) (line : ℕ) (letter : Letter) → IsWellFormed ways cache →
@@ -159,7 +164,8 @@ write_bits_of-marked_write ways cache line kept some =
     more_writes (way_of cache line) (write_bits_of cache) (write_bits_of (marked cache line Write)) some (total-marked write_of ways cache line Write kept)
 
 -- what leaves for a line has no bit
-pub evicted_by-unmarked : (ways : ℕ) (cache : List (List Way)) (line : ℕ) (gone : Way) → evicted_by ways cache line ≡ Some gone → is_marked gone ≡ false
+pub evicted_by-unmarked : (ways : ℕ) (cache : List (List Way)) (line : ℕ) (gone : Way) →
+    evicted_by ways cache line ≡ Some gone → is_marked gone ≡ false
 evicted_by-unmarked ways cache line gone is = victim_in-unmarked (set_of cache line) gone (evicted_in-victim ways (set_of cache line) gone is)
 
 none_lost : (f : Way → ℕ) (evicted : Option Way) → ((gone : Way) → evicted ≡ Some gone → f gone ≡ 0) → option_map_or f evicted 0 ≡ 0
@@ -259,7 +265,8 @@ marked_set (set ∷ cache) some =
     refl some
 
 -- there is a line with a bit, where any way has one
-pub marked_line : (ways : ℕ) (cache : List (List Way)) → IsWellFormed ways cache → has_marks cache ≡ true → (line : ℕ) × (has_bit cache line ≡ true)
+pub marked_line : (ways : ℕ) (cache : List (List Way)) → IsWellFormed ways cache → has_marks cache ≡ true →
+    (line : ℕ) × (has_bit cache line ≡ true)
 marked_line ways cache kept some =
     let there = marked_set cache some in
     let own : set_number cache there.0 ≡ there.0 = grind (arith, there.1) in
@@ -271,7 +278,8 @@ marked_line ways cache kept some =
     (way.line, ap (λ w. bit_in Read w || bit_in Write w) here ∙ found.2)
 
 -- no more lines than a cache has places
-pub total-le : (f : Way → ℕ) (ways : ℕ) (cache : List (List Way)) → IsWellFormed ways cache → ((way : Way) → f way ≤ 1) → total f cache ≤ length cache * ways
+pub total-le : (f : Way → ℕ) (ways : ℕ) (cache : List (List Way)) → IsWellFormed ways cache →
+    ((way : Way) → f way ≤ 1) → total f cache ≤ length cache * ways
 total-le f ways cache kept small =
     sum_by-le (λ set. sum_by f set) ways cache (λ k d within.
     let own : k % length cache ≡ k = grind (arith, within) in

@@ -80,7 +80,8 @@ victim_in-unmarked (first ∷ set) way is =
       | inr own ↦ subst (λ (w : Way). is_marked w ≡ false) own.1 own.0
     ]
 
-pub once_less : (first : Way) (set : List Way) → ((line : ℕ) → count_of line_of (first ∷ set) line ≤ 1) → (line : ℕ) → count_of line_of set line ≤ 1
+pub once_less : (first : Way) (set : List Way) → ((line : ℕ) → count_of line_of (first ∷ set) line ≤ 1) → (line : ℕ) →
+    count_of line_of set line ≤ 1
 once_less first set once line = grind (arith, once line, sum_by-cons (λ way. cond (eqb (line_of way) line) 1 0) first set)
 
 -- a way that is found counts

@@ -36,7 +36,8 @@ each_set : (P : List Way → ℕ → Type 0) (cache : List (List Way)) (line : �
     P (set_of (with_set cache line set) l) (set_number cache l)
 each_set P cache line set some here others l =
     elim (cases_eq (set_number cache l) (set_number cache line)) [
-      | inl same ↦ subst (λ (s : List Way). P s (set_number cache l)) (sym (set_of-with_set_same cache line l set some same)) (here (set_number cache l) same)
+      | inl same ↦ subst (λ (s : List Way). P s (set_number cache l))
+          (sym (set_of-with_set_same cache line l set some same)) (here (set_number cache l) same)
       | inr other ↦ subst (λ (s : List Way). P s (set_number cache l)) (sym (set_of-with_set_other cache line l set other)) (others l)
     ]
 
@@ -55,7 +56,8 @@ well_formed-with_set ways cache line set kept fits = record {
       ∙ each_set (λ s n. (l : ℕ) (way : Way) → way_in s l ≡ Some way → set_number cache l ≡ n) cache line set kept.some_set
       (λ n is l way found. fits.home l way found ∙ sym is) kept.home line' l way is
       ∙ sym (same_number cache line line' set);
-  valid = each_set (λ s n. (l : ℕ) (way : Way) → way_in s l ≡ Some way → way.letter ≢ I) cache line set kept.some_set (λ n is. fits.valid) kept.valid;
+  valid = each_set (λ s n. (l : ℕ) (way : Way) → way_in s l ≡ Some way →
+      way.letter ≢ I) cache line set kept.some_set (λ n is. fits.valid) kept.valid;
 }
 
 -- a set in which no way is new, and the sums have not grown, fits
@@ -225,7 +227,8 @@ well_formed-map change ways cache keeps kept =
       within = λ line. omega (arith, kept.within line, ap length (sets line), length-map (set_of cache line) change);
       once = λ line l.
           let same : count_of line_of (map change (set_of cache line)) l ≡ count_of line_of (set_of cache line) l =
-          sum_by-map (λ way. cond (eqb (line_of way) l) 1 0) change (set_of cache line) ∙ λ i. sum_by (λ way. cond (eqb (keeps.line way i) l) 1 0) (set_of cache line) in
+          sum_by-map (λ way. cond (eqb (line_of way) l) 1 0) change (set_of cache line)
+              ∙ λ i. sum_by (λ way. cond (eqb (keeps.line way i) l) 1 0) (set_of cache line) in
           omega (arith, kept.once line l, same, ap (λ set. count_of line_of set l) (sets line));
       home = λ line l way is.
           let was = mapped change (way_in (set_of cache line) l) way

@@ -53,7 +53,8 @@ writes_elsewhere state h g touch apart coherent may line is =
     bare (cache_of state g) line
     (nowhere (way_of (cache_of state h) line) (way_of (cache_of state g) line) permitted (coherent h g (λ same. apart (sym same)) line))
 
-pub deed_beside : (state : ModelState) (h g : ℕ) (deed : Deed) → g ≢ h → DoesWhere state h deed → Sound state → AllCovered state → AllArmed state →
+pub deed_beside : (state : ModelState) (h g : ℕ) (deed : Deed) → g ≢ h → DoesWhere state h deed → Sound state →
+    AllCovered state → AllArmed state →
     IsChangeBeside g (cache_of state g) state.committed (committed_after state h deed)
 deed_beside state h g Rests apart does sound covered armed_runs = same_beside g (cache_of state g) state.committed
 deed_beside state h g Waits apart does sound covered armed_runs = same_beside g (cache_of state g) state.committed

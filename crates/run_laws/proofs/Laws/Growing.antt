@@ -40,12 +40,14 @@ perform_status (actions.Trap cause) view byte is = absurd (cc)
 perform_status (actions.Exit code) view byte is = absurd (cc)
 perform_status _ view byte is = refl
 
-executed_status : (word : Option ℕ) (view : HartView) (span : Span) (room : ℕ) (byte : ℕ → ℕ) → stops (executed word view span room byte) ≡ false →
+executed_status : (word : Option ℕ) (view : HartView) (span : Span) (room : ℕ) (byte : ℕ → ℕ) →
+    stops (executed word view span room byte) ≡ false →
     (view_after (executed word view span room byte) view).status ≡ view.status
 unfolding executed
 executed_status word view span room byte is = perform_status (action_at word view span room) view byte is
 
-goes_on_running : (state : FlatState) (h : ℕ) → status_of state h ≡ Running → stops (next_execution state h) ≡ false → status_of (flat state h) h ≡ Running
+goes_on_running : (state : FlatState) (h : ℕ) → status_of state h ≡ Running → stops (next_execution state h) ≡ false →
+    status_of (flat state h) h ≡ Running
 goes_on_running state h runs is =
     ap (λ view. view.status) (own_view state h (runs-exists state h runs) runs) ∙ executed_status _ (view_of state h) _ _ _ is ∙ runs
 
@@ -160,7 +162,8 @@ continued_run state h armed may run = record {
   quiet = λ n some less. quiet n some less (cases_eq n armed.count);
 }
   where
-    quiet : (n : ℕ) → 1 ≤ n → n < suc armed.count → (n ≡ armed.count) ⊎ (n ≡ armed.count → ⊥) → is_quiet (alone state.committed h n) h ≡ true
+    quiet : (n : ℕ) → 1 ≤ n → n < suc armed.count → (n ≡ armed.count) ⊎ (n ≡ armed.count → ⊥) →
+        is_quiet (alone state.committed h n) h ≡ true
     quiet n some less (inl last) = rw last may.quiet
     quiet n some less (inr before) = run.quiet n some (omega (arith, less))
 

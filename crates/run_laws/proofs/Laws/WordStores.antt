@@ -134,7 +134,8 @@ pub record StoresWord (state : FlatState) (h word value : ℕ) : Type 0 where
 abbrev word_store : ℕ → ℕ → ℕ → Store
 word_store word len value = record { address = word; len = len; value = value }
 
-pub stores_word : (state : FlatState) (h word value : ℕ) (store : Store) → next_store state h ≡ Some store → store.address ≡ word → store.len ≡ 4 →
+pub stores_word : (state : FlatState) (h word value : ℕ) (store : Store) → next_store state h ≡ Some store →
+    store.address ≡ word → store.len ≡ 4 →
     store.value ≡ value → calls (next_insn state h) ≡ false → StoresWord state h word value
 stores_word state h word value store is address len same none =
     let stored : store ≡ word_store word 4 value =

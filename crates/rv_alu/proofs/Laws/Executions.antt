@@ -57,13 +57,15 @@ perform-agree (actions.Amo op rd address source) view left right agree =
     (loaded-same left right address 4 (λ k low high. agree k (low, high)))
 perform-agree _ view left right agree = refl
 
-insn-agree : (insn : Option Insn) (view : HartView) (span : Span) (room : ℕ) (left right : ℕ → ℕ) → AgreeOn (insn_touched insn view span room) left right →
+insn-agree : (insn : Option Insn) (view : HartView) (span : Span) (room : ℕ) (left right : ℕ → ℕ) →
+    AgreeOn (insn_touched insn view span room) left right →
     perform (insn_action_of insn view span room) view left ≡ perform (insn_action_of insn view span room) view right
 insn-agree None view span room left right agree = refl
 insn-agree (Some insn) view span room left right agree = perform-agree (action_of insn view.pc view.regs view.reserved span room) view left right agree
 
 -- an instruction depends on the bytes of its footprint alone
-pub executed_agree : (word : Option ℕ) (view : HartView) (span : Span) (room : ℕ) (left right : ℕ → ℕ) → AgreeOn (touched word view span room) left right →
+pub executed_agree : (word : Option ℕ) (view : HartView) (span : Span) (room : ℕ) (left right : ℕ → ℕ) →
+    AgreeOn (touched word view span room) left right →
     executed word view span room left ≡ executed word view span room right
 unfolding executed
 executed_agree None view span room left right agree = refl
@@ -88,7 +90,8 @@ executed-room None view span room other byte h = refl
 executed-room (Some word) view span room other byte h = ap (λ action. perform action view byte) (insn-room (decoded word) view span room other h)
 
 -- an output without room takes nothing
-no_room-append : (span : Span) (action : Action) (view : HartView) (byte : ℕ → ℕ) → IsInPlace span 0 action → append_in (perform action view byte) ≡ None
+no_room-append : (span : Span) (action : Action) (view : HartView) (byte : ℕ → ℕ) → IsInPlace span 0 action →
+    append_in (perform action view byte) ≡ None
 no_room-append span (actions.Append address len) view byte h =
     let some : 1 ≤ len = h.0.some in
     let none : len ≤ 0 = h.1 in
@@ -115,7 +118,8 @@ touched-room None view span room other h = refl
 touched-room (Some insn) view span room other h = ap footprint (action-room insn view.pc view.regs view.reserved span room other h)
 
 -- only a store conditional depends on the reservation
-pub action-reserved : (insn : Insn) (pc : ℕ) (regs : List ℕ) (reserved other : Option ℕ) (span : Span) (room : ℕ) → is_store_conditional insn ≡ false →
+pub action-reserved : (insn : Insn) (pc : ℕ) (regs : List ℕ) (reserved other : Option ℕ) (span : Span) (room : ℕ) →
+    is_store_conditional insn ≡ false →
     action_of insn pc regs reserved span room ≡ action_of insn pc regs other span room
 unfolding action_of
 action-reserved (insns.Sc rd rs1 rs2 aq rl) pc regs reserved other span room h = cc
@@ -216,7 +220,8 @@ amo-action word op rd rs1 rs2 aq rl view span room from len is writes =
     let address : ℕ = get view.regs rs1.number in
     let action : Action = actions.Amo op rd address (get view.regs rs2.number) in
     let writes = rw is at writes in
-    let went : checked_of span address 4 store_address_misaligned store_access_fault action ≡ action = checked-went span address 4 _ _ action from len writes in
+    let went : checked_of span address 4 store_address_misaligned store_access_fault action ≡ action =
+        checked-went span address 4 _ _ action from len writes in
     let there : Write address 4 ≡ Write from len = rw went at writes in
     (cc, cc, rw is (cc went))
 

@@ -95,7 +95,8 @@ abbrev pub appended : Option Append → ℕ → List ℕ → List ℕ
 appended None base bytes = []
 appended (Some append) base bytes = piece_of bytes (append.address - base) append.len
 
-pub appended_by-more : (append : Option Append) (base : ℕ) (bytes output : List ℕ) → appended_by append base bytes output ≡ output ++ appended append base bytes
+pub appended_by-more : (append : Option Append) (base : ℕ) (bytes output : List ℕ) →
+    appended_by append base bytes output ≡ output ++ appended append base bytes
 appended_by-more None base bytes output = sym (append-nil output)
 appended_by-more (Some append) base bytes output = refl
 
@@ -135,7 +136,8 @@ KeepsBytes state access new =
     (place : ℕ) → (Writes access (state.base + place) → ⊥) → slice_index new.bytes place ≡ slice_index state.bytes place
 
 stored_by-other : (state : FlatState) (access : Access) (store : Option Store) → IsInOneLine (span_of state) access →
-    MatchOption store (IsNoWrite access) (λ store. access ≡ Write store.address store.len) → (place : ℕ) → (Writes access (state.base + place) → ⊥) →
+    MatchOption store (IsNoWrite access) (λ store. access ≡ Write store.address store.len) → (place : ℕ) →
+        (Writes access (state.base + place) → ⊥) →
     slice_index (stored_by store state.base state.bytes) place ≡ slice_index state.bytes place
 stored_by-other state access None piece is place out = refl
 stored_by-other state access (Some store) piece is place out =
@@ -152,7 +154,8 @@ writes_in_footprint state hart =
     (one_line-touched state (view_of state hart)) (within state (view_of state hart)).store)
 
 -- so it changes memory only on the line that is written
-on_line : (span : Span) (access : Access) (address : ℕ) → IsInOneLine span access → Writes access address → written_line access ≡ Some (line_number address)
+on_line : (span : Span) (access : Access) (address : ℕ) → IsInOneLine span access → Writes access address →
+    written_line access ≡ Some (line_number address)
 on_line span (Write from len) address piece there =
     let short : from % LINE_BYTES + len ≤ LINE_BYTES = piece.one_line in
     let low : from ≤ address = there.0 in

@@ -102,10 +102,12 @@ kept_free (Some store) word old new apart after free address low high =
         laid_above store.address after.bytes address (held old.entries address) (grind (arith, nat_tests)) ∙ free address low high
 
 -- a live section stays live over an action that is buffered
-pub stays_live : (old new : Pooled) (marks : Marked) (hold after : Slotted) (section : Section) (count : ℕ) (action : Action) (byte : ℕ → ℕ) (view : HartView) →
+pub stays_live : (old new : Pooled) (marks : Marked) (hold after : Slotted) (section : Section) (count : ℕ) (action :
+    Action) (byte : ℕ → ℕ) (view : HartView) →
     IsLive marks hold section →
     ends_section action ≡ false → overlaps section.word (store_in (perform action marks.present byte)) ≡ false →
-    view ≡ view_after (perform action marks.present byte) marks.present → HoldsAfter (store_in (perform action marks.present byte)) (lent old hold) (lent new after) →
+    view ≡ view_after (perform action marks.present byte) marks.present →
+        HoldsAfter (store_in (perform action marks.present byte)) (lent old hold) (lent new after) →
     IsLive (record { present = view; mark = marks.mark }) after (record section { count = count })
 stays_live old new marks hold after section count action byte view live goes apart is held = record {
   mark = live.mark;

@@ -84,7 +84,8 @@ marked_with : (store : Option Store) (cache : List (List Way)) (old new : Held) 
 marked_with None cache old new bit same marked line is = marked line (ap (λ entries. holds entries line) (sym same) ∙ is)
 marked_with (Some store) cache old new bit held marked line is = elim (cases_eq line (line_number store.address)) [
   | inl same ↦ ap (write_bit cache) same ∙ bit
-  | inr other ↦ marked line (sym (holds_after_put_other old new (line_number store.address) (store.address % LINE_BYTES) held.bytes held.put line other) ∙ is)
+  | inr other ↦ marked line (sym (holds_after_put_other old new (line_number store.address)
+      (store.address % LINE_BYTES) held.bytes held.put line other) ∙ is)
 ]
 
 write_bit_covered : (old new : Cached) (touch : Option Touch) (line : ℕ) → HasItsBit old.residency touch → IsCoveredIn old new touch →
@@ -166,7 +167,8 @@ module _ (committed done : FlatState) (h word : ℕ) (view : HartView) (hold : L
       by false none = on_other address had there none
 
 -- a section commits
-commits_with : (pool : Pooled) (before after : SectionState) (section : Section) (old new : Cached) (committed : FlatState) (h : ℕ) → AreBytes committed.bytes →
+commits_with : (pool : Pooled) (before after : SectionState) (section : Section) (old new : Cached) (committed :
+    FlatState) (h : ℕ) → AreBytes committed.bytes →
     IsKept pool committed h before section old → is_release (alone committed h section.count) h section.word section.old ≡ true →
     after.marks.present
     ≡ view_after (section_execution committed section before.marks.present (hold_in pool before).entries (λ at. 0)) before.marks.present →

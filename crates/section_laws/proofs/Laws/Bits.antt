@@ -91,7 +91,8 @@ no_more_twice one two three first second =
 no_more_none : (old : Option Way) → NoMore old None
 no_more_none old = record { read = λ is. absurd (cc); write = λ is. absurd (cc) }
 
-pub no_more_any : (old new : Option Way) → NoMore old new → (bit_in Read new || bit_in Write new) ≡ true → (bit_in Read old || bit_in Write old) ≡ true
+pub no_more_any : (old new : Option Way) → NoMore old new → (bit_in Read new || bit_in Write new) ≡ true →
+    (bit_in Read old || bit_in Write old) ≡ true
 no_more_any old new no_more is = by (either (bit_in Read new) (bit_in Write new) is)
   where
     by : (bit_in Read new ≡ true) ⊎ (bit_in Write new ≡ true) → (bit_in Read old || bit_in Write old) ≡ true

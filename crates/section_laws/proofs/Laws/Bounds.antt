@@ -137,7 +137,8 @@ outside_place config cache request some bare = record {
   spare = λ write is. let none = none_written cache bare in let lines = some.lines in omega (arith, none, lines);
 }
 
-not_full : (state : ModelState) (h : ℕ) (need : Need) → IsConfigured state.config (cache_of state h) → is_full state h need ≡ false → need ≡ Write →
+not_full : (state : ModelState) (h : ℕ) (need : Need) → IsConfigured state.config (cache_of state h) →
+    is_full state h need ≡ false → need ≡ Write →
     write_bits_of (cache_of state h) < state.config.lines
 not_full state h Read now free write = absurd (cc)
 not_full state h Write now free write = let few = now.written in grind (arith, nat_tests)
@@ -365,7 +366,8 @@ record IsNew (config : Config) (hart : Hart) : Type 0 where
   cache_is : IsConfigured config hart.cache
   not_raised : hart.raised ≡ None
 
-first_at : (config : Config) (count h : ℕ) → HasSome config → h < count → IsNew config (slice_index_or (replicate count (new_hart config.sets)) h (new_hart 0))
+first_at : (config : Config) (count h : ℕ) → HasSome config → h < count →
+    IsNew config (slice_index_or (replicate count (new_hart config.sets)) h (new_hart 0))
 first_at config zero h some below = absurd (omega (arith, below))
 first_at config (suc count) zero some below = record { cache_is = configured_empty config some; not_raised = refl }
 first_at config (suc count) (suc h) some below = first_at config count h some (omega (arith, below))
@@ -402,7 +404,8 @@ always_config program config events =
     (first_config program config)
 
 -- of a hart of the machine, by the configuration that it began with
-bounded_at : (program : Program) (config : Config) (events : List Event) (h : ℕ) → program.harts ≡ config.harts → IsInRange config → h < config.harts →
+bounded_at : (program : Program) (config : Config) (events : List Event) (h : ℕ) → program.harts ≡ config.harts →
+    IsInRange config → h < config.harts →
     IsBounded config (cache_of (after program config events) h) (raised_of (after program config events) h)
     (ordered_of (after program config events) h)
 bounded_at program config events h same range below =

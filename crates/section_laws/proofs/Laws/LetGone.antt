@@ -267,9 +267,11 @@ deed_unfreed state h (Runs touch) head runs rested bare is now =
     none_freed head h (hart_after state h (Runs touch) (hart_of state h)) (candidate_armed _ _ (candidate_of state h) _ ∙ runs.outside.unarmed)
 deed_unfreed state h (Begins swap) head does rested bare is now = none_freed head h (hart_after state h (Begins swap) (hart_of state h)) refl
 deed_unfreed state h (Buffers section touch) head buffers rested bare is now =
-    none_freed head h (hart_after state h (Buffers section touch) (hart_of state h)) (live_unarmed state h section rested buffers.goes.goes_on.is_short.inside.live)
+    none_freed head h (hart_after state h (Buffers section touch) (hart_of state h))
+        (live_unarmed state h section rested buffers.goes.goes_on.is_short.inside.live)
 deed_unfreed state h (Commits section) head does rested bare is now = none_freed head h (hart_after state h (Commits section) (hart_of state h)) refl
-deed_unfreed state h (RollsBack section cause) head does rested bare is now = none_freed head h (hart_after state h (RollsBack section cause) (hart_of state h)) refl
+deed_unfreed state h (RollsBack section cause) head does rested bare is now =
+    none_freed head h (hart_after state h (RollsBack section cause) (hart_of state h)) refl
 deed_unfreed state h (Arms word) head arms rested bare is now = arming_unfreed state h word head arms bare is
 deed_unfreed state h (Elides armed swap) head does rested bare is now = none_freed head h (hart_after state h (Elides armed swap) (hart_of state h)) refl
 deed_unfreed state h (Continues armed) head continues rested bare is now =

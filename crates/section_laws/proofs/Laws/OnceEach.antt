@@ -117,7 +117,8 @@ once_with : (cache : List (List Way)) (line : ℕ) (set : List Way) → (IsOnce 
 once_with cache line set keeps once = once_set cache (set_number cache line) set (keeps (once_at cache (set_number cache line) once)) once
 
 once_touched : (cache : List (List Way)) (line : ℕ) → AreOnce cache → AreOnce (touched cache line)
-once_touched cache line = once_with cache line (touched_in (set_of cache line) line) (once_front (set_of cache line) line (way_in (set_of cache line) line) refl)
+once_touched cache line = once_with cache line (touched_in (set_of cache line) line)
+    (once_front (set_of cache line) line (way_in (set_of cache line) line) refl)
 
 once_lettered : (cache : List (List Way)) (line : ℕ) (letter : Letter) → AreOnce cache → AreOnce (lettered cache line letter)
 once_lettered cache line letter = once_with cache line _ (once_changed (with_letter letter) (λ way. refl) (set_of cache line) line)

@@ -137,7 +137,8 @@ step_flagged state h g none =
     rw step.turn_is
     (by_hart step.deed step.where_it (λ own ran. none own (ap (λ turn. turn.outcome) step.turn_is ∙ ran)) (cases_eq g h))
   where
-    by_hart : (deed : Deed) → DoesWhere state h deed → (g ≡ h → outcome_of deed ≡ outcomes.Ran → is_some (candidate_of state h) ≡ true → ⊥) →
+    by_hart : (deed : Deed) → DoesWhere state h deed →
+        (g ≡ h → outcome_of deed ≡ outcomes.Ran → is_some (candidate_of state h) ≡ true → ⊥) →
         (g ≡ h) ⊎ (g ≡ h → ⊥) → Flagged state g (hart_of (done state h deed).state g)
     by_hart deed does none (inl own) =
         each_but (λ k hart. k ≡ h → Flagged state k hart) state h (hart_after state h deed (hart_of state h))

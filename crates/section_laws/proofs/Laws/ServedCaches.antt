@@ -23,7 +23,8 @@ use Rattle.moesi.specs.declared.letter.Letter.TheVariants.{M, O, E, S, I}
 use Rattle.section_laws.proofs.Rooms.{room_lettered, room_without_line}
 
 -- the letter of a line that is there
-there_letter : (ways : ℕ) (cache : List (List Way)) (line : ℕ) → IsWellFormed ways cache → is_resident cache line ≡ true → letter_of cache line ≢ I
+there_letter : (ways : ℕ) (cache : List (List Way)) (line : ℕ) → IsWellFormed ways cache →
+    is_resident cache line ≡ true → letter_of cache line ≢ I
 there_letter ways cache line well here = by (way_of cache line) refl here
   where
     by : (way : Option Way) → way_of cache line ≡ way → is_some way ≡ true → letter_in way ≢ I

@@ -88,7 +88,8 @@ stored_line store old new stored line is = by (cases_eq line (line_number store.
     by (inr other) =
         inr (sym (holds_after_put_other old new (line_number store.address) (store.address % LINE_BYTES) stored.bytes stored.put line other) ∙ is)
 
-still_held : (store : Store) (old new : Held) → IsHeldStore store old new → (line : ℕ) → holds old.entries line ≡ true → holds new.entries line ≡ true
+still_held : (store : Store) (old new : Held) → IsHeldStore store old new → (line : ℕ) →
+    holds old.entries line ≡ true → holds new.entries line ≡ true
 still_held store old new stored line is = by (cases_eq line (line_number store.address))
   where
     by : (line ≡ line_number store.address) ⊎ (line ≡ line_number store.address → ⊥) → holds new.entries line ≡ true
@@ -105,7 +106,8 @@ written_store (Exit code) none = refl
 
 no_store : (state : FlatState) (h : ℕ) → status_of state h ≡ Running → next_store state h ≡ None → written_line (footprint_of state h) ≡ None
 no_store state h runs none =
-    ap written_line (running_footprint state h runs) ∙ written_store (next_access state h) (by (next_store state h) none (within state (view_of state h)).store)
+    ap written_line (running_footprint state h runs)
+        ∙ written_store (next_access state h) (by (next_store state h) none (within state (view_of state h)).store)
   where
     by : (store : Option Store) → store ≡ None →
         MatchOption store (IsNoWrite (next_access state h)) (λ store. next_access state h ≡ Write store.address store.len) →
@@ -135,7 +137,8 @@ pub written_since : (committed : FlatState) (h n line : ℕ) → WroteLine commi
     (written_line (footprint_of (alone committed h n) h) ≡ Some line) ⊎ WroteLine committed h n line
 written_since committed h n line wrote = by (cases_eq wrote.step n)
   where
-    by : (wrote.step ≡ n) ⊎ (wrote.step ≡ n → ⊥) → (written_line (footprint_of (alone committed h n) h) ≡ Some line) ⊎ WroteLine committed h n line
+    by : (wrote.step ≡ n) ⊎ (wrote.step ≡ n → ⊥) → (written_line (footprint_of (alone committed h n) h) ≡ Some line) ⊎
+        WroteLine committed h n line
     by (inl same) = inl (subst (λ n. written_line (footprint_of (alone committed h n) h) ≡ Some line) same wrote.writes)
     by (inr other) =
         let before = wrote.before in

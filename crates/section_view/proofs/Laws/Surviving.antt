@@ -76,7 +76,8 @@ module _ (h : ℕ) (cache : List (List Way)) (old new : FlatState) (change : IsC
       (armed_runs_survive h cache (record { count = n; word = swap.word }) old new
       (shorter_armed old h cache (record { count = suc before; word = swap.word }) n run some within) change).1.view
 
-  first_touch : (before : ℕ) (swap : Swap) → IsAcquire old h cache before swap → (other : ℕ) → other ≤ before → IsAcquire new h cache other swap →
+  first_touch : (before : ℕ) (swap : Swap) → IsAcquire old h cache before swap → (other : ℕ) → other ≤ before →
+      IsAcquire new h cache other swap →
       next_access new h ≡ next_access old h
   first_touch zero swap is other within there =
       let none : other ≡ 0 = omega (arith, within) in

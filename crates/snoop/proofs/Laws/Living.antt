@@ -45,7 +45,8 @@ pub record TellsSection (hart : Hart) : Type 0 where
 pub tells : {bus : Kept} {state : ModelState} → Shows bus state → (h : ℕ) → TellsSection (hart_of state h)
 tells shows h = record { live = shows.live h; arms = shows.arms h }
 
-pub tells_yet : (old new : Hart) → new.section ≡ old.section → new.armed ≡ old.armed → new.cache ≡ old.cache → TellsSection old → TellsSection new
+pub tells_yet : (old new : Hart) → new.section ≡ old.section → new.armed ≡ old.armed → new.cache ≡ old.cache →
+    TellsSection old → TellsSection new
 tells_yet old new section armed cache was = record {
   live = rw (section, armed, cache) was.live;
   arms = rw armed was.arms;

@@ -175,7 +175,8 @@ deed_holds state h (Elides armed swap) does two armed_short now =
 deed_holds state h (Continues armed) does two armed_short now = now
 deed_holds state h (LetsGo armed) does two armed_short now = now
 
-next_holds : (state : ModelState) (event : Event) → HasTwo state.config.long → ArmedShort state.config.long state → Each (Holds state.config.long) state →
+next_holds : (state : ModelState) (event : Event) → HasTwo state.config.long → ArmedShort state.config.long state →
+    Each (Holds state.config.long) state →
     Each (Holds state.config.long) (next state event).state
 next_holds state event two armed_short now =
     event_keeps (bus_kept state.config.long) state event

@@ -43,7 +43,8 @@ survivors_keep_bits program config events event g section other was =
     (λ turn done live. kept_section state turn.state g section (turn_kept done rested one once g) was live)
 
 -- what is committed changes beside the hart alone: a hart with a live section is not armed, and so not let go
-bus_change : {state : ModelState} {by : ℕ} {turn : Turn} → (done : IsBusEvent state by turn) → AllArmed state → (g : ℕ) → armed_of state g ≡ None →
+bus_change : {state : ModelState} {by : ℕ} {turn : Turn} → (done : IsBusEvent state by turn) → AllArmed state →
+    (g : ℕ) → armed_of state g ≡ None →
     IsChangeBeside g (cache_of state g) state.committed turn.state.committed
 bus_change {state} {by} {turn} done armed_runs g unarmed = by_let_go (spared_or_gone done g)
   where

@@ -23,12 +23,14 @@ module _ (start : ℕ) (bytes : List ℕ) (address : ℕ) (under : Option ℕ) w
   laid_above above = chosen false (grind (arith, nat_tests))
 
   -- no byte outside of a line that the bytes lie in is theirs
-  pub laid_in_other_line : (line offset : ℕ) → start ≡ line * LINE_BYTES + offset → offset + length bytes ≤ LINE_BYTES → line_number address ≢ line
+  pub laid_in_other_line : (line offset : ℕ) → start ≡ line * LINE_BYTES + offset →
+      offset + length bytes ≤ LINE_BYTES → line_number address ≢ line
       → laid start bytes address under ≡ under
   laid_in_other_line line offset is inside other = chosen false (grind (arith, nat_tests))
 
 -- what is laid later wins: bytes that were covered leave no trace
-pub later_wins : (first second : ℕ) (old new : List ℕ) (address : ℕ) (under : Option ℕ) → second ≤ first → first + length old ≤ second + length new
+pub later_wins : (first second : ℕ) (old new : List ℕ) (address : ℕ) (under : Option ℕ) → second ≤ first →
+    first + length old ≤ second + length new
     → laid second new address (laid first old address under) ≡ laid second new address under
 later_wins first second old new address under from past =
     step (nat_le first address && nat_lt address (first + length old)) (nat_le second address && nat_lt address (second + length new))
@@ -56,7 +58,8 @@ either_order first second old new address under apart =
     step false in_new covers = refl
 
 -- an address is a place of its line
-pub held_at_address : (entries : List Entry) (line place : ℕ) → place < LINE_BYTES → held entries (line * LINE_BYTES + place) ≡ held_at entries line place
+pub held_at_address : (entries : List Entry) (line place : ℕ) → place < LINE_BYTES →
+    held entries (line * LINE_BYTES + place) ≡ held_at entries line place
 held_at_address entries line place within =
     let its_line : line_number (line * LINE_BYTES + place) ≡ line = omega arith in
     let its_place : (line * LINE_BYTES + place) % LINE_BYTES ≡ place = omega arith in

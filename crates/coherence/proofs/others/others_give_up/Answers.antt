@@ -30,7 +30,8 @@ loop-number-preserved c =
     let caches = c.loop-number.caches.items in
     let pool = c.loop-number.pool in
     let inside : number < length caches =
-    all_there need h line number first pool old caches so_far c.len-number-end.result (c.len-number-end.ensures ∙ c.args.caches.now.ok.0) c.loop-number-test.true in
+    all_there need h line number first pool old caches so_far c.len-number-end.result (c.len-number-end.ensures
+        ∙ c.args.caches.now.ok.0) c.loop-number-test.true in
     elim c.if-number-from.branch [
       | then-number-from w ↦
           rw (w.pool-is, w.caches-is)

@@ -38,7 +38,8 @@ invariant_of-self c =
     let at = place_told c.self.inside.entries.items _ c.args.line.number (Some c.in-Some.place) c.place_of.result c.deref.ensures.value
     c.place_of.ensures c.in-Some.is in
     subst (Stands c.self.inside.limit c.remove-entry.new.self.cap) (sym c.remove-entry.ensures.items)
-    (stands-drained c.self.invariant c.self.view_is c.requires.lent c.args.line.number at c.remove-entry.ensures.value c.give.ensures c.remove-entry.new.self.cap
+    (stands-drained c.self.invariant c.self.view_is c.requires.lent c.args.line.number at c.remove-entry.ensures.value
+        c.give.ensures c.remove-entry.new.self.cap
     (omega (arith, c.remove-entry.ensures.capacity)))
 
 pub returns : goal.returns

@@ -44,7 +44,7 @@ report_parts story config events steps output configured counted served put =
     first_line story.config (length story.entries) ++ (hart_lines story.config.harts story.entries (status_of (committed story)) ++ last_line n output)) served
     ∙ ap (λ n.
     first_line story.config (length story.entries) ++ (hart_lines story.config.harts story.entries
-        (status_of (committed story)) ++ last_line (length (serial story.entries)) n)) put
+    (status_of (committed story)) ++ last_line (length (serial story.entries)) n)) put
     ∙ sym (append_assoc (first_line story.config (length story.entries)) _ _)
 
 pub report_stopped_at_first : (before now : SinkState) (story : Story) (config : Config) (events : ℕ) → config ≡ story.config →

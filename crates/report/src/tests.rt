@@ -14,19 +14,7 @@ use std::alloc::Global;
 use std::process::Abort;
 use std::test::Fail;
 use timetable::{Times, tabulate};
-
-/// A program of nine instructions at 0x10054 that prints 'A' and a newline and exits, in one segment at
-/// 0x10000 that is the whole file.
-const FILE: [u8; 122] = [
-    0x7f, 0x45, 0x4c, 0x46, 0x01, 0x01, 0x01, 0x00, 0x00, 0x00, 0x00, 0x00, 0x00, 0x00, 0x00, 0x00,
-    0x02, 0x00, 0xf3, 0x00, 0x01, 0x00, 0x00, 0x00, 0x54, 0x00, 0x01, 0x00, 0x34, 0x00, 0x00, 0x00,
-    0x00, 0x00, 0x00, 0x00, 0x00, 0x00, 0x00, 0x00, 0x34, 0x00, 0x20, 0x00, 0x01, 0x00, 0x00, 0x00,
-    0x00, 0x00, 0x00, 0x00, 0x01, 0x00, 0x00, 0x00, 0x00, 0x00, 0x00, 0x00, 0x00, 0x00, 0x01, 0x00,
-    0x00, 0x00, 0x01, 0x00, 0x7a, 0x00, 0x00, 0x00, 0x7a, 0x00, 0x00, 0x00, 0x05, 0x00, 0x00, 0x00,
-    0x00, 0x10, 0x00, 0x00, 0x13, 0x05, 0x10, 0x00, 0x97, 0x05, 0x00, 0x00, 0x93, 0x85, 0x05, 0x02,
-    0x13, 0x06, 0x20, 0x00, 0x93, 0x08, 0x00, 0x04, 0x73, 0x00, 0x00, 0x00, 0x13, 0x05, 0x00, 0x00,
-    0x93, 0x08, 0xd0, 0x05, 0x73, 0x00, 0x00, 0x00, 0x41, 0x0a,
-];
+use worked_files::HELLO;
 
 /// The place in the file of the last `addi x10,x0,0`, which gives the exit code.
 const CODE: usize = 108;
@@ -105,7 +93,7 @@ fn a_report_is_three_lines_for_one_hart(rt: HostRuntime) -> Result<(), Fail> {
         (Mode::Sle, "sle"),
         (Mode::Tlr, "tlr"),
     ] {
-        let sink = reported(&rt, rt.alloc(), mode, &FILE, &[(0, 37)])?;
+        let sink = reported(&rt, rt.alloc(), mode, &HELLO, &[(0, 37)])?;
         let text = format!(in rt.alloc();
             "elide {name} harts 1 events 37\n\
             hart 0 ran 9 began 0 committed 0 instr 0 conflict 0 room 0 lines 0 long 0 call 0 mixed 0 \
@@ -145,7 +133,7 @@ fn a_line_ends_with_how_its_hart_stands(rt: HostRuntime) -> Result<(), Fail> {
         ),
     ];
     for (place, word, events, ran, end) in rows {
-        let mut file = FILE;
+        let mut file = HELLO;
         file[place..place + 4].copy_from_slice(&word);
         let sink = reported(&rt, rt.alloc(), Mode::Tlr, &file, &[(0, events)])?;
         let text = str::from_utf8(sink.taken()).map_err(|_| "no text")?;
@@ -167,7 +155,7 @@ fn each_of_eight_harts_has_its_line(rt: HostRuntime) -> Result<(), Fail> {
         (6, 25),
         (7, 29),
     ];
-    let sink = reported(&rt, rt.alloc(), Mode::Tlr, &FILE, &events)?;
+    let sink = reported(&rt, rt.alloc(), Mode::Tlr, &HELLO, &events)?;
     let text = str::from_utf8(sink.taken()).map_err(|_| "no text")?;
     let mut lines = text.lines();
     assert_eq!(rt; lines.next(), Some("elide tlr harts 8 events 136"));
@@ -204,7 +192,7 @@ fn is_told_bit_by_bit(alloc: Global, machine: &Machine) -> Result<bool, Fail> {
 
 #[test]
 fn a_sink_is_given_the_rest_of_what_it_did_not_take(rt: HostRuntime) -> Result<(), Fail> {
-    let machine = run(&rt, rt.alloc(), &FILE, &[(0, 37)])?;
+    let machine = run(&rt, rt.alloc(), &HELLO, &[(0, 37)])?;
     assert!(rt; is_told_bit_by_bit(rt.alloc(), &machine)?);
     Ok(())
 }
@@ -220,7 +208,7 @@ fn taken_until(alloc: Global, machine: &Machine, failing: u32) -> Result<MemSink
 
 #[test]
 fn a_sink_that_failed_has_the_beginning(rt: HostRuntime) -> Result<(), Fail> {
-    let machine = run(&rt, rt.alloc(), &FILE, &[(0, 37)])?;
+    let machine = run(&rt, rt.alloc(), &HELLO, &[(0, 37)])?;
     let rows = [
         (1, b"".as_slice()),
         (2, b"elide"),
@@ -376,7 +364,7 @@ fn one_loss(rt: &impl Abort, alloc: Global) -> Result<Times, Fail> {
 
 /// What a run to its end took.
 fn run_times(rt: &impl Abort, alloc: Global) -> Result<Times, Fail> {
-    let machine = run(rt, alloc, &FILE, &[(0, 37)])?;
+    let machine = run(rt, alloc, &HELLO, &[(0, 37)])?;
     Ok(tabulate(machine.history()))
 }
 

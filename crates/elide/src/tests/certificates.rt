@@ -1,6 +1,7 @@
 //! Certificates of runs, and what is found of them.
-use crate::tests::support::{CERTIFICATE, Ending, HELLO, REPORT, TRACE, answer, changed, resized};
+use crate::tests::support::{Ending, REPORT, answer, changed, resized};
 use std::test::Fail;
+use worked_files::{CERTIFICATE, HELLO, TRACE};
 
 /// Whether the program ended with this status and put these bytes.
 fn ended(ending: &Ending, status: u8, out: &[u8], err: &[u8]) -> bool {

@@ -1,9 +1,10 @@
 //! Images that are generated: what they print, and that they are the same each time.
-use crate::tests::support::{Ending, HELLO, answer};
+use crate::tests::support::{Ending, answer};
 use std::alloc::Global;
 use std::sync::Wait;
 use std::test::Fail;
 use std::thread::Threads;
+use worked_files::HELLO;
 
 const KINDS: [&str; 6] = ["counter", "bank", "buckets", "locks", "overflow", "pairs"];
 

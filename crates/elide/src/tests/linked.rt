@@ -1,7 +1,8 @@
 //! An image as linkers make them: code and data in two segments, and headers that are passed over.
-use crate::tests::support::{HELLO, MISSED_ONE, answer, report_of};
+use crate::tests::support::{MISSED_ONE, answer, report_of};
 use std::alloc::{AllocError, Global};
 use std::test::Fail;
+use worked_files::HELLO;
 
 /// The length of the file, with the bytes of both segments.
 const LENGTH: usize = 0x6f0;

@@ -1,7 +1,8 @@
 //! What is refused, each with its one line.
-use crate::tests::support::{BARE_TRACE, Ending, HELLO, TRACE, USAGE, answer, changed, resized};
+use crate::tests::support::{Ending, USAGE, answer, changed, resized};
 use std::alloc::{AllocError, Global};
 use std::test::Fail;
+use worked_files::{BARE_TRACE, HELLO, TRACE};
 
 /// The program refused with this line, and put nothing else.
 fn is_refused(ending: &Ending, line: &str) -> bool {

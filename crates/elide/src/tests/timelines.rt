@@ -2,10 +2,11 @@
 //!
 //! The worked run is five steps of the image, the sixth at event 24 after its line came, and the last three. Its
 //! first instruction stands at 0x10054, and the exit leaves the pc as it is.
-use crate::tests::support::{BARE_TRACE, HELLO, TRACE, USAGE, answer, changed, strings};
+use crate::tests::support::{USAGE, answer, changed, strings};
 use el_io::{MemShelf, MemSink, OpenGate};
 use std::test::Fail;
 use tool::tool;
+use worked_files::{BARE_TRACE, HELLO, TRACE};
 
 /// Words, and what is put to out.
 const SHOWN: &[(&[&str], &str)] = &[

@@ -12,7 +12,7 @@ use Rattle.cache_sets.specs.declared.set.Set.{Set}
 use Rattle.residency.specs.Cache.{is_resident, marked, without_line, write_bits_of}
 use Rattle.cache_sets.specs.Calls.{IsLettered, IsMarked, IsTouched, IsWithout}
 use Rattle.residency.specs.Keyed.{changed, found, fronted, without}
-use Rattle.cache_sets.specs.Kept.{HasRoom, IsGivenBack, IsSound, Stands, lettered_way, line_at, lines_of, marked_way, number_of, residency_of, set_at, shown_cache, with_lines, with_way}
+use Rattle.cache_sets.specs.Kept.{HasRoom, IsGivenBack, IsSound, CacheStands, lettered_way, line_at, lines_of, marked_way, number_of, residency_of, set_at, shown_cache, with_lines, with_way}
 use Rattle.residency.specs.Cache.{marks_of}
 use Rattle.cache_sets.specs.Slotted.{IsLent, Slotted, lent}
 use Rattle.cache_sets.proofs.Changes.{is_lettered, is_marked, is_touched, slots-lettered, slots-marked, slots-touched, some, sound-lettered, sound-marked, sound-touched, sound-without}
@@ -27,7 +27,7 @@ pub between : (P : Slotted → Slotted → Type 0) (shown old new after : Slotte
 between P shown old new after is are holds = subst (λ a. P a after) is (subst (λ b. P shown b) (sym are) holds)
 
 module _ {ways owner marks writes : ℕ} {sets : List Set} {v : Slotted} {line number : ℕ} {old : Set} (new : Set)
-    (stands : Stands ways sets marks writes) (is : shown_cache ways owner (lines_of sets) ≡ v)
+    (stands : CacheStands ways sets marks writes) (is : shown_cache ways owner (lines_of sets) ≡ v)
     (at : Reaches sets line number old) (room : HasRoom old new) where
   abbrev cache : List (List code.Line)
   cache = lines_of sets
@@ -44,7 +44,7 @@ module _ {ways owner marks writes : ℕ} {sets : List Set} {v : Slotted} {line n
     after_is = ap (shown_cache ways owner) lines_are
 
     pub stands-after : (new_marks new_writes : ℕ) → IsSound ways (with_lines cache line (word (set_at cache line))) new_marks new_writes
-        → Stands ways (slice_set sets number new) new_marks new_writes
+        → CacheStands ways (slice_set sets number new) new_marks new_writes
     stands-after new_marks new_writes sound = record {
       sound = subst (λ c. IsSound ways c new_marks new_writes) (sym lines_are) sound;
       room = room-after sets line number old at ways new stands.room room;
@@ -60,7 +60,7 @@ module _ {ways owner marks writes : ℕ} {sets : List Set} {v : Slotted} {line n
     abbrev front : List code.Line → List code.Line
     front lines = fronted number_of lines line
 
-    pub stands-touched : Stands ways (slice_set sets number new) marks writes
+    pub stands-touched : CacheStands ways (slice_set sets number new) marks writes
     stands-touched = stands-after front does marks writes (sound-touched ways marks writes cache line stands.sound)
 
     pub touched-after : (pool : Pooled) → IsTouched (lent pool v) (lent pool after) line
@@ -76,7 +76,7 @@ module _ {ways owner marks writes : ℕ} {sets : List Set} {v : Slotted} {line n
     abbrev relettered : List code.Line → List code.Line
     relettered lines = changed number_of (with_way (lettered_way letter)) lines line
 
-    pub stands-lettered : letter ≢ I → Stands ways (slice_set sets number new) marks writes
+    pub stands-lettered : letter ≢ I → CacheStands ways (slice_set sets number new) marks writes
     stands-lettered valid = stands-after relettered does marks writes (sound-lettered ways marks writes cache line stands.sound letter valid)
 
     pub lettered-after : (pool : Pooled) → IsLettered (lent pool v) (lent pool after) line letter
@@ -93,7 +93,7 @@ module _ {ways owner marks writes : ℕ} {sets : List Set} {v : Slotted} {line n
     remarked lines = changed number_of (with_way (marked_way need)) lines line
 
     pub stands-marked : (new_marks new_writes : ℕ) → new_marks ≡ marks_of (marked (residency_of cache) line need)
-        → new_writes ≡ write_bits_of (marked (residency_of cache) line need) → Stands ways (slice_set sets number new) new_marks new_writes
+        → new_writes ≡ write_bits_of (marked (residency_of cache) line need) → CacheStands ways (slice_set sets number new) new_marks new_writes
     stands-marked new_marks new_writes counted written =
         stands-after remarked does new_marks new_writes
         (sound-marked ways marks writes cache line stands.sound need new_marks new_writes counted written)
@@ -112,7 +112,7 @@ module _ {ways owner marks writes : ℕ} {sets : List Set} {v : Slotted} {line n
     rest lines = without number_of lines line
 
     pub stands-dropped : (new_marks new_writes : ℕ) → new_marks ≡ marks_of (without_line (residency_of cache) line)
-        → new_writes ≡ write_bits_of (without_line (residency_of cache) line) → Stands ways (slice_set sets number new) new_marks new_writes
+        → new_writes ≡ write_bits_of (without_line (residency_of cache) line) → CacheStands ways (slice_set sets number new) new_marks new_writes
     stands-dropped new_marks new_writes counted written =
         stands-after rest does new_marks new_writes
         (sound-without ways marks writes cache line stands.sound new_marks new_writes counted written)

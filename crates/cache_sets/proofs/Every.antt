@@ -15,7 +15,7 @@ use Rattle.residency.specs.Cache.{bit_in, cleared, committed, committed_way as s
 use Rattle.cache_sets.specs.Cached.{copy_in, copy_with_letter}
 use Rattle.cache_sets.specs.Calls.{IsCleared, IsCommitted}
 use Rattle.residency.specs.Keyed.{found}
-use Rattle.cache_sets.specs.Kept.{AreChanged, HaveRoom, IsSound, Stands, cleared_way, committed_way, line_at, lines_of, number_of, residency_of, set_at, shown_cache, shown_line, shown_way, with_way}
+use Rattle.cache_sets.specs.Kept.{AreChanged, HaveRoom, IsSound, CacheStands, cleared_way, committed_way, line_at, lines_of, number_of, residency_of, set_at, shown_cache, shown_line, shown_way, with_way}
 use Rattle.residency.specs.Cache.{marks_of}
 use Rattle.residency.specs.Residency.{Way, without_bits}
 use Rattle.cache_sets.specs.Slotted.{IsLent, Slotted, lent}
@@ -164,7 +164,7 @@ module _ (ways marks writes : ℕ) (cache : List (List code.Line)) (sound : IsSo
 
 -- the fields after a call that changed every set
 module _ {ways owner marks writes : ℕ} (sets : Vec Set Global) {slice : List Set} (new : List Set) {v : Slotted}
-    (stands : Stands ways sets.items marks writes)
+    (stands : CacheStands ways sets.items marks writes)
     (is : shown_cache ways owner (lines_of sets.items) ≡ v) (same : slice ≡ sets.items) where
   abbrev cache : List (List code.Line)
   cache = lines_of sets.items
@@ -185,7 +185,7 @@ module _ {ways owner marks writes : ℕ} (sets : Vec Set Global) {slice : List S
     after_is : after ≡ shown_cache ways owner (map (map (with_way change)) cache)
     after_is = ap (shown_cache ways owner) lines_are
 
-    stands-after : IsSound ways (map (map (with_way change)) cache) 0 0 → Stands ways (with_items sets new).items 0 0
+    stands-after : IsSound ways (map (map (with_way change)) cache) 0 0 → CacheStands ways (with_items sets new).items 0 0
     stands-after sound = record {
       sound = subst (λ c. IsSound ways c 0 0) (sym lines_are) sound;
       room = subst (HaveRoom ways) (sym whole) (room-changed change ways sets.items new of_all stands.room);
@@ -197,7 +197,7 @@ module _ {ways owner marks writes : ℕ} (sets : Vec Set Global) {slice : List S
         (lent-moved pool ways owner cache (map (map (with_way change)) cache) (length-map cache (map (with_way change))) (slots-every change cache))
 
   module _ (changed : AreChanged cleared_way slice new) where
-    pub stands-cleared : Stands ways (with_items sets new).items 0 0
+    pub stands-cleared : CacheStands ways (with_items sets new).items 0 0
     stands-cleared = stands-after cleared_way changed (sound-cleared ways marks writes cache stands.sound)
 
     pub cleared-after : (pool : Pooled) → IsCleared (lent pool v) (lent pool after)
@@ -209,7 +209,7 @@ module _ {ways owner marks writes : ℕ} (sets : Vec Set Global) {slice : List S
     lent-cleared = lent-after cleared_way changed
 
   module _ (changed : AreChanged committed_way slice new) where
-    pub stands-committed : Stands ways (with_items sets new).items 0 0
+    pub stands-committed : CacheStands ways (with_items sets new).items 0 0
     stands-committed = stands-after committed_way changed (sound-committed ways marks writes cache stands.sound)
 
     pub committed-after : (pool : Pooled) → IsCommitted (lent pool v) (lent pool after)

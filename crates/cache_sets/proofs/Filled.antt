@@ -21,7 +21,7 @@ use Rattle.cache_sets.specs.declared.way.Way as known
 use Rattle.residency.specs.Cache.{is_resident, room_of, set_of, way_of}
 use Rattle.cache_sets.specs.Calls.{IsFilledWith}
 use Rattle.residency.specs.Keyed.{found}
-use Rattle.cache_sets.specs.Kept.{HasRoom, IsSound, IsVacated, MakesRoom, MayVacate, Stands, left_by, lines_of, new_way, number_of, residency_of, set_at, shown_cache, shown_line, total}
+use Rattle.cache_sets.specs.Kept.{HasRoom, IsSound, IsVacated, MakesRoom, MayVacate, CacheStands, left_by, lines_of, new_way, number_of, residency_of, set_at, shown_cache, shown_line, total}
 use Rattle.residency.specs.Residency.{Way, evicted_in, room_in, way_in}
 use Rattle.cache_sets.specs.Slotted.{IsLent, Slotted, lent}
 use Rattle.cache_sets.proofs.After.{after_is, between, stands-after}
@@ -61,7 +61,7 @@ exactly_fewer : (told : Option Evicted) (n ways : ℕ) → is_some told ≡ not 
 exactly_fewer told n ways is = (λ none. grind (arith, nat_tests, none, is), λ fewer. grind (arith, nat_tests, fewer, is))
 
 module _ {ways owner marks writes : ℕ} {sets : List Set} {v : Slotted} (line : LineAddr) {number : ℕ} {old made : Set} {letter : Letter}
-    {gone : Option code.Line} {before : Pooled} (stands : Stands ways sets marks writes) (is : shown_cache ways owner (lines_of sets) ≡ v)
+    {gone : Option code.Line} {before : Pooled} (stands : CacheStands ways sets marks writes) (is : shown_cache ways owner (lines_of sets) ≡ v)
     (at : Reaches sets line.number number old) (makes : MakesRoom ways old made gone)
     (room : room_of v.ways v.residency line.number ≡ true) (absent : is_resident v.residency line.number ≡ false) (valid : letter ≢ I)
     (owes : IsLent before v) where
@@ -182,7 +182,7 @@ module _ {ways owner marks writes : ℕ} {sets : List Set} {v : Slotted} (line :
       does = put ∙ ap (λ w. record { way = w; slot = slot } ∷ made.lines.items) way_is
           ∙ ap (λ lines. record { way = new_way line letter; slot = slot } ∷ lines) makes.left
 
-      pub stands-filled : Stands ways (slice_set sets number last) marks writes
+      pub stands-filled : CacheStands ways (slice_set sets number last) marks writes
       stands-filled = stands-after last stands is at (same ∙ makes.room) filling does marks writes (sound_then slot)
 
       pub filled-after : IsFilledWith (lent before v) (lent after (shown_cache ways owner (lines_of (slice_set sets number last)))) line.number

@@ -13,7 +13,7 @@ use Rattle.line_pool.specs.declared.slot.Slot.{Slot}
 use Rattle.cache_sets.specs.declared.line.Line as code
 use Rattle.cache_sets.specs.declared.set.Set.{Set}
 use Rattle.residency.specs.Cache.{empty_cache, write_bits_of}
-use Rattle.cache_sets.specs.Kept.{AreEmpty, IsEmpty, Stands, lines_of, residency_of, shown_cache, total}
+use Rattle.cache_sets.specs.Kept.{AreEmpty, IsEmpty, CacheStands, lines_of, residency_of, shown_cache, total}
 use Rattle.residency.specs.Cache.{marks_of}
 use Rattle.residency.specs.Residency.{Way, is_marked}
 use Rattle.cache_sets.specs.Slotted.{empty_slotted}
@@ -55,7 +55,7 @@ module _ (ways count owner : ℕ) (sets : List Set) (are : AreEmpty ways count s
   residency-made : residency_of (lines_of sets) ≡ empty_cache count
   residency-made = ap residency_of lines-made ∙ residency-none count
 
-  made-stands : 1 ≤ ways → ways ≤ 8 → 1 ≤ count → count ≤ 64 → Stands ways sets 0 0
+  made-stands : 1 ≤ ways → ways ≤ 8 → 1 ≤ count → count ≤ 64 → CacheStands ways sets 0 0
   made-stands some_way ways_fit some_set sets_fit = record {
     sound = record {
       some_way = some_way;
@@ -75,7 +75,7 @@ module _ (ways count owner : ℕ) (sets : List Set) (are : AreEmpty ways count s
 set_range : (n : ℕ) → allows Sets n ≡ true → (1 ≤ n) × (n ≤ 64)
 set_range n allowed = (grind (arith, nat_tests), grind (arith, nat_tests))
 
-pub stands-made : (config : Config) (sets : List Set) → IsInRange config → AreEmpty config.ways config.sets sets → Stands config.ways sets 0 0
+pub stands-made : (config : Config) (sets : List Set) → IsInRange config → AreEmpty config.ways config.sets sets → CacheStands config.ways sets 0 0
 stands-made config sets in_range are =
     let r = ranges config in_range in
     let sets_range = set_range config.sets r.sets in

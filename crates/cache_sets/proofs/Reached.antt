@@ -6,7 +6,7 @@ use Rattle.std.proofs.lemmas.List.{get_or-map, get_or-set_other, get_or-set_same
 use Rattle.cache_sets.specs.declared.line.Line as code
 use Rattle.cache_sets.specs.declared.set.Set.{Set}
 use Rattle.residency.specs.Keyed.{count_of}
-use Rattle.cache_sets.specs.Kept.{HasRoom, HaveRoom, Stands, lines_of, number_of, set_at, with_lines}
+use Rattle.cache_sets.specs.Kept.{HasRoom, HaveRoom, CacheStands, lines_of, number_of, set_at, with_lines}
 use Rattle.cache_sets.proofs.Shown.{once_at}
 
 abbrev pub items_of : Set → List code.Line
@@ -35,7 +35,7 @@ module _ (sets : List Set) (line number : ℕ) (old : Set) (at : Reaches sets li
       ap items_of at.read ∙ sym (get_or-map items_of sets number old [] at.within)
       ∙ ap (λ n. get_or (lines_of sets) n []) place_is
 
-  pub once-reached : (ways marks writes : ℕ) → Stands ways sets marks writes → (l : ℕ) → count_of number_of old.lines.items l ≤ 1
+  pub once-reached : (ways marks writes : ℕ) → CacheStands ways sets marks writes → (l : ℕ) → count_of number_of old.lines.items l ≤ 1
   once-reached ways marks writes stands l =
       omega (
         arith,

@@ -14,7 +14,7 @@ use Rattle.cache_sets.specs.Bits.{bits_of}
 use Rattle.residency.specs.Cache.{has_marks, is_resident, set_of, way_of}
 use Rattle.cache_sets.specs.Cached.{bytes_of}
 use Rattle.cache_sets.specs.Calls.{IsCached}
-use Rattle.cache_sets.specs.Kept.{Stands, line_at, lines_of, residency_of, set_at, shown_cache, shown_line, shown_way, slot_in_use}
+use Rattle.cache_sets.specs.Kept.{CacheStands, line_at, lines_of, residency_of, set_at, shown_cache, shown_line, shown_way, slot_in_use}
 use Rattle.cache_sets.specs.Slotted.{IsLent, IsWrittenIn, Slotted, lent, slot_of}
 use Rattle.cache_sets.proofs.BitLemmas.{bits_of_shown}
 use Rattle.cache_sets.proofs.Changes.{some, unnamed}
@@ -24,7 +24,7 @@ use Rattle.cache_sets.proofs.Shown.{set_of_shown, slot_shown, way_of_shown}
 use Rattle.cache_sets.proofs.Slots.{out-at}
 use Rattle.cache_sets.proofs.Totals.{part-at}
 
-module _ {ways owner marks writes : ℕ} {sets : List Set} {v : Slotted} (stands : Stands ways sets marks writes)
+module _ {ways owner marks writes : ℕ} {sets : List Set} {v : Slotted} (stands : CacheStands ways sets marks writes)
     (is : shown_cache ways owner (lines_of sets) ≡ v) where
   abbrev cache : List (List code.Line)
   cache = lines_of sets

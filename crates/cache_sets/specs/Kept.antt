@@ -165,6 +165,6 @@ abbrev pub HaveRoom : ℕ → List Set → Type 0
 HaveRoom ways sets = (k : ℕ) (d : Set) → k < length sets → ways ≤ vec_capacity (slice_index_or sets k d).lines
 
 -- what the fields of a cache keep
-pub record Stands (ways : ℕ) (sets : List Set) (marks writes : ℕ) : Type 0 where
+pub record CacheStands (ways : ℕ) (sets : List Set) (marks writes : ℕ) : Type 0 where
   pub sound : IsSound ways (lines_of sets) marks writes
   pub room : HaveRoom ways sets

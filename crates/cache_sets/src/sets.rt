@@ -45,11 +45,11 @@ impl Model for Sets {
 
     ghost Value = { Slotted };
 
-    ghost use Rattle.cache_sets.specs.Kept.{Stands, lines_of, shown_cache};
+    ghost use Rattle.cache_sets.specs.Kept.{CacheStands, lines_of, shown_cache};
 
     ghost view = { λ s. shown_cache s.ways s.owner (lines_of s.sets.items) };
 
-    ghost invariant = { λ s. Stands s.ways s.sets.items s.marked s.written };
+    ghost invariant = { λ s. CacheStands s.ways s.sets.items s.marked s.written };
 }
 
 impl Sets {

@@ -7,7 +7,7 @@ ghost use Rattle.cache_sets.specs.Cached.{bytes_of};
 ghost use Rattle.cache_sets.specs.Slotted.{lent};
 ghost use Rattle.coherence.specs.GivenBack.{bytes_with};
 ghost use Rattle.coherence.specs.Lent.{IsLentTo, slotted_at};
-ghost use Rattle.coherence.specs.Served.{IsCoherent, TellsOf, caches_of, shown};
+ghost use Rattle.coherence.specs.Served.{IsCoherent, TellsOf, caches_of, shown_copies};
 ghost use Rattle.el_base.specs.Line.{line_number};
 ghost use Rattle.moesi.specs.Letters.{may_write};
 
@@ -43,7 +43,7 @@ struct Memory {
 
 /// Main memory and the caches of two harts, each of one set with so many ways.
 fn made(alloc: Global, ways: u8) -> Result<Memory, Fail>
-    ensures { IfOk result (λ memory. IsCoherent (shown memory.pool memory.hierarchy)) }
+    ensures { IfOk result (λ memory. IsCoherent (shown_copies memory.pool memory.hierarchy)) }
 {
     let config = Config {
         harts: 2,
@@ -66,8 +66,8 @@ fn made(alloc: Global, ways: u8) -> Result<Memory, Fail>
 
 /// Serves a request, where that may be.
 fn serve(memory: &mut Memory, hart: HartId, line: LineAddr, need: Need) -> bool
-    requires { IsCoherent (shown memory.old.pool memory.old.hierarchy) }
-    ensures { IsCoherent (shown memory.new.pool memory.new.hierarchy) }
+    requires { IsCoherent (shown_copies memory.old.pool memory.old.hierarchy) }
+    ensures { IsCoherent (shown_copies memory.new.pool memory.new.hierarchy) }
 {
     let hierarchy = &mut memory.hierarchy;
     let served = usize::from(hart.number) < hierarchy.harts()
@@ -95,8 +95,8 @@ fn put(memory: &mut Memory, hart: HartId, line: LineAddr, at: u8, byte: u8)
     requires may { may_write
         (letter_of (slotted_at (caches_of memory.old.hierarchy) hart.number).residency line.number) ≡ true }
     requires within { at < 64 }
-    ensures tells { (bytes : ℕ → List ℕ) → TellsOf (shown memory.old.pool memory.old.hierarchy) bytes →
-        TellsOf (shown memory.new.pool memory.new.hierarchy)
+    ensures tells { (bytes : ℕ → List ℕ) → TellsOf (shown_copies memory.old.pool memory.old.hierarchy) bytes →
+        TellsOf (shown_copies memory.new.pool memory.new.hierarchy)
         (bytes_with bytes line.number (slice_set (bytes line.number) at byte)) }
     ensures place { (memory.new.hierarchy.first ≡ memory.old.hierarchy.first)
         × (memory.new.hierarchy.lines ≡ memory.old.hierarchy.lines) }
@@ -114,9 +114,9 @@ fn store(memory: &mut Memory, hart: HartId, address: u32, byte: u8) -> Option<u8
     requires hart_exists { hart.number < length (caches_of memory.old.hierarchy) }
     requires may { may_write
         (letter_of (slotted_at (caches_of memory.old.hierarchy) hart.number).residency (line_number address)) ≡ true }
-    requires coherent { IsCoherent (shown memory.old.pool memory.old.hierarchy) }
+    requires coherent { IsCoherent (shown_copies memory.old.pool memory.old.hierarchy) }
     ensures there { result ≡ Some byte }
-    ensures coherent { IsCoherent (shown memory.new.pool memory.new.hierarchy) }
+    ensures coherent { IsCoherent (shown_copies memory.new.pool memory.new.hierarchy) }
 {
     put(memory, hart, line_of(address), (address % 64) as u8, byte);
     memory.hierarchy.byte(&memory.pool, address)
@@ -124,8 +124,8 @@ fn store(memory: &mut Memory, hart: HartId, address: u32, byte: u8) -> Option<u8
 
 /// Stores a byte, where the hart may write the line, and tells which byte is there then.
 fn try_store(memory: &mut Memory, hart: HartId, address: u32, byte: u8) -> Option<u8>
-    requires { IsCoherent (shown memory.old.pool memory.old.hierarchy) }
-    ensures { IsCoherent (shown memory.new.pool memory.new.hierarchy) }
+    requires { IsCoherent (shown_copies memory.old.pool memory.old.hierarchy) }
+    ensures { IsCoherent (shown_copies memory.new.pool memory.new.hierarchy) }
 {
     if usize::from(hart.number) >= memory.hierarchy.harts() {
         return None;
@@ -138,15 +138,15 @@ fn try_store(memory: &mut Memory, hart: HartId, address: u32, byte: u8) -> Optio
 
 /// The byte at an address.
 fn byte(memory: &Memory, address: u32) -> Option<u8>
-    requires { IsCoherent (shown memory.now.pool memory.now.hierarchy) }
+    requires { IsCoherent (shown_copies memory.now.pool memory.now.hierarchy) }
 {
     memory.hierarchy.byte(&memory.pool, address)
 }
 
 /// Sets a bit of a line, where the hart's cache has it.
 fn mark(memory: &mut Memory, hart: HartId, line: LineAddr, need: Need) -> bool
-    requires { IsCoherent (shown memory.old.pool memory.old.hierarchy) }
-    ensures { IsCoherent (shown memory.new.pool memory.new.hierarchy) }
+    requires { IsCoherent (shown_copies memory.old.pool memory.old.hierarchy) }
+    ensures { IsCoherent (shown_copies memory.new.pool memory.new.hierarchy) }
 {
     let hierarchy = &mut memory.hierarchy;
     let marked = usize::from(hart.number) < hierarchy.harts() && hierarchy.cache(hart).has(line);
@@ -158,8 +158,8 @@ fn mark(memory: &mut Memory, hart: HartId, line: LineAddr, need: Need) -> bool
 
 /// Clears a hart's bits, where there is such a hart.
 fn clear(memory: &mut Memory, hart: HartId)
-    requires { IsCoherent (shown memory.old.pool memory.old.hierarchy) }
-    ensures { IsCoherent (shown memory.new.pool memory.new.hierarchy) }
+    requires { IsCoherent (shown_copies memory.old.pool memory.old.hierarchy) }
+    ensures { IsCoherent (shown_copies memory.new.pool memory.new.hierarchy) }
 {
     if usize::from(hart.number) < memory.hierarchy.harts() {
         memory.hierarchy.clear(hart);

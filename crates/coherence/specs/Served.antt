@@ -95,8 +95,8 @@ pub record IsCoherent (copies : Copies) : Type 0 where
   pub tells : TellsOf copies bytes
 
 -- main memory and caches as contracts see them: the caches with the bytes that a pool has for them
-abbrev pub shown : Pooled → hierarchies.Hierarchy → Copies
-shown pool hierarchy = record { first = hierarchy.first; lines = hierarchy.lines.items; caches = lent_all pool hierarchy.caches.items }
+abbrev pub shown_copies : Pooled → hierarchies.Hierarchy → Copies
+shown_copies pool hierarchy = record { first = hierarchy.first; lines = hierarchy.lines.items; caches = lent_all pool hierarchy.caches.items }
 
 -- the caches where the pool is not at hand
 abbrev pub caches_of : hierarchies.Hierarchy → List Slotted

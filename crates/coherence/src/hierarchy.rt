@@ -10,7 +10,7 @@ ghost use Rattle.coherence.specs.Beginning.{bytes_at_first, lines_at_first};
 ghost use Rattle.coherence.specs.Caches.{IsInMemory, behind_of};
 ghost use Rattle.coherence.specs.Changed.{GetsBit, IsChangedAt};
 ghost use Rattle.coherence.specs.Lent.{IsLentTo, LeavesHolds, Offers, slotted_at};
-ghost use Rattle.coherence.specs.Served.{HasLine, IsCoherent, IsServed, Moves, TellsOf, caches_of, has_room, shown};
+ghost use Rattle.coherence.specs.Served.{HasLine, IsCoherent, IsServed, Moves, TellsOf, caches_of, has_room, shown_copies};
 ghost use Rattle.el_base.specs.Config.{IsInRange};
 ghost use Rattle.el_base.specs.Line.{line_number};
 ghost use Rattle.el_base.specs.declared.line.TheConstants.{LINE_BYTES};
@@ -47,14 +47,14 @@ impl Hierarchy {
         requires in_range { IsInRange config.now }
         requires one_hart_each { image.now.harts ≡ config.now.harts }
         ensures memory { IfOk result (λ hierarchy. (pool : Pooled) →
-            TellsOf (shown pool hierarchy) (bytes_at_first image.now)) }
+            TellsOf (shown_copies pool hierarchy) (bytes_at_first image.now)) }
         ensures lines { IfOk result (λ hierarchy. (pool : Pooled) →
-            (shown pool hierarchy).lines ≡ lines_at_first image.now) }
+            (shown_copies pool hierarchy).lines ≡ lines_at_first image.now) }
         ensures caches { IfOk result (λ hierarchy. (pool : Pooled) →
-            (shown pool hierarchy).caches ≡ replicate config.now.harts (empty_cached config.now.ways config.now.sets)) }
+            (shown_copies pool hierarchy).caches ≡ replicate config.now.harts (empty_cached config.now.ways config.now.sets)) }
         ensures first { IfOk result (λ hierarchy. (pool : Pooled) →
-            ((shown pool hierarchy).first * LINE_BYTES ≡ image.now.base)
-            × (length (shown pool hierarchy).lines * LINE_BYTES ≡ length image.now.bytes)) }
+            ((shown_copies pool hierarchy).first * LINE_BYTES ≡ image.now.base)
+            × (length (shown_copies pool hierarchy).lines * LINE_BYTES ≡ length image.now.bytes)) }
         ensures lent { IfOk result (λ hierarchy. (pool : Pooled) →
             Offers pool config.now.harts (config.now.sets * config.now.ways) → IsLentTo pool (caches_of hierarchy)) }
     {
@@ -98,9 +98,9 @@ impl Hierarchy {
     /// The byte at an address that caches and main memory tell, or none outside memory.
     pub fn byte(&self, pool: &Pool, address: u32) -> Option<u8>
         requires lent { IsLentTo pool.now (caches_of self.now) }
-        requires coherent { IsCoherent (shown pool.now self.now) }
-        ensures none_exactly_outside { IsNone result ↔ ¬ (HasLine (shown pool.now self.now) (line_number address)) }
-        ensures exact { (bytes : ℕ → List ℕ) → TellsOf (shown pool.now self.now) bytes →
+        requires coherent { IsCoherent (shown_copies pool.now self.now) }
+        ensures none_exactly_outside { IsNone result ↔ ¬ (HasLine (shown_copies pool.now self.now) (line_number address)) }
+        ensures exact { (bytes : ℕ → List ℕ) → TellsOf (shown_copies pool.now self.now) bytes →
             IfSome result (λ byte. byte ≡ slice_index (bytes (line_number address)) (address % LINE_BYTES)) }
     {
         let line = line_of(address);
@@ -142,11 +142,11 @@ impl Hierarchy {
     pub fn serve(&mut self, pool: &mut Pool, hart: HartId, line: LineAddr, need: Need)
         requires hart_exists { hart.number < length (caches_of self.old) }
         requires lent { IsLentTo pool.old (caches_of self.old) }
-        requires in_memory { HasLine (shown pool.old self.old) line.number }
-        requires room { has_room (shown pool.old self.old) hart.number line.number ≡ true }
-        requires coherent { IsCoherent (shown pool.old self.old) }
-        ensures served { IsServed need hart.number line.number (shown pool.old self.old) (shown pool.new self.new) }
-        ensures coherent { IsCoherent (shown pool.new self.new) }
+        requires in_memory { HasLine (shown_copies pool.old self.old) line.number }
+        requires room { has_room (shown_copies pool.old self.old) hart.number line.number ≡ true }
+        requires coherent { IsCoherent (shown_copies pool.old self.old) }
+        ensures served { IsServed need hart.number line.number (shown_copies pool.old self.old) (shown_copies pool.new self.new) }
+        ensures coherent { IsCoherent (shown_copies pool.new self.new) }
         ensures lent { IsLentTo pool.new (caches_of self.new) }
         ensures holds { LeavesHolds pool.old pool.new }
     {
@@ -160,7 +160,7 @@ impl Hierarchy {
         requires hart_exists { hart.number < length (caches_of self.old) }
         requires resident { is_resident (slotted_at (caches_of self.old) hart.number).residency line.number ≡ true }
         ensures changed { (pool : Pooled) →
-            IsChangedAt (GetsBit line.number need) hart.number (shown pool self.old) (shown pool self.new) }
+            IsChangedAt (GetsBit line.number need) hart.number (shown_copies pool self.old) (shown_copies pool self.new) }
         ensures lent { (pool : Pooled) → IsLentTo pool (caches_of self.old) → IsLentTo pool (caches_of self.new) }
     {
         changing::mark(&mut self.caches, hart, line, need);
@@ -170,7 +170,7 @@ impl Hierarchy {
     pub fn clear(&mut self, hart: HartId)
         requires { hart.number < length (caches_of self.old) }
         ensures changed { (pool : Pooled) →
-            IsChangedAt IsCleared hart.number (shown pool self.old) (shown pool self.new) }
+            IsChangedAt IsCleared hart.number (shown_copies pool self.old) (shown_copies pool self.new) }
         ensures lent { (pool : Pooled) → IsLentTo pool (caches_of self.old) → IsLentTo pool (caches_of self.new) }
     {
         changing::clear(&mut self.caches, hart);
@@ -180,11 +180,11 @@ impl Hierarchy {
     fn bring(&mut self, pool: &mut Pool, hart: HartId, line: LineAddr, need: Need)
         requires hart_exists { hart.number < length (caches_of self.old) }
         requires lent { IsLentTo pool.old (caches_of self.old) }
-        requires in_memory { HasLine (shown pool.old self.old) line.number }
-        requires room { has_room (shown pool.old self.old) hart.number line.number ≡ true }
-        requires coherent { IsCoherent (shown pool.old self.old) }
+        requires in_memory { HasLine (shown_copies pool.old self.old) line.number }
+        requires room { has_room (shown_copies pool.old self.old) hart.number line.number ≡ true }
+        requires coherent { IsCoherent (shown_copies pool.old self.old) }
         ensures moved { Moves (λ cache. cache) need hart.number line.number
-            (shown pool.old self.old) (shown pool.new self.new) }
+            (shown_copies pool.old self.old) (shown_copies pool.new self.new) }
         ensures lent { IsLentTo pool.new (caches_of self.new) }
         ensures holds { LeavesHolds pool.old pool.new }
     {

@@ -75,7 +75,7 @@ use Rattle.section_view.proofs.Laws.Committing.{commits}
 use Rattle.section_view.proofs.Laws.OfProgram.{committed_is as of_program}
 use Rattle.section_view.proofs.Laws.Releasing.{release_actions}
 use Rattle.section_view.specs.KeptRun.{HoldsMarked, is_written, section_byte, section_execution}
-use Rattle.section_view.specs.Release.{HasEffect, IsLineFrom, IsReleaseAction, reserved_beside, unreserved_on}
+use Rattle.section_view.specs.Release.{HasEffect, IsLineFrom, IsReleaseAction, reserved_beside, view_unreserved_on}
 use Rattle.snoop.proofs.Laws.Living.{lives_unarmed}
 use Rattle.snoop.proofs.Laws.Returning.{ready_returned, shows_returned, unasked_returned}
 use Rattle.snoop.specs.Agent.{agent_of}
@@ -236,17 +236,17 @@ agent_then from h none =
 
 -- a hart that loses its reservation where it is of a word on one of these lines
 seen_by : (lines : ℕ → Bool) (reserved : Option ℕ) (own : Own) → (committed_of own.section.marks).reserved ≡ reserved →
-    IsSeenAs own (unreserved_line (line_among lines reserved) own) (unreserved_on lines (committed_of own.section.marks))
+    IsSeenAs own (unreserved_line (line_among lines reserved) own) (view_unreserved_on lines (committed_of own.section.marks))
 seen_by lines None own is =
     let view = committed_of own.section.marks in
-    seen_same own (unreserved_on lines view) (ap (λ r. record view { reserved = r }) (is ∙ sym (ap (reserved_beside lines) is)))
+    seen_same own (view_unreserved_on lines view) (ap (λ r. record view { reserved = r }) (is ∙ sym (ap (reserved_beside lines) is)))
 seen_by lines (Some word) own is = by (lines (line_number word)) refl
   where
     view : HartView
     view = committed_of own.section.marks
 
     by : (among : Bool) → lines (line_number word) ≡ among →
-        IsSeenAs own (unreserved_line (if among then Some (line_number word) else None) own) (unreserved_on lines view)
+        IsSeenAs own (unreserved_line (if among then Some (line_number word) else None) own) (view_unreserved_on lines view)
     by true here =
         subst (IsSeenAs own (unreserved_own (line_number word) own))
         (ap (λ r. record view { reserved = r })
@@ -255,12 +255,12 @@ seen_by lines (Some word) own is = by (lines (line_number word)) refl
         ∙ sym (ap (reserved_beside lines) is ∙ ap (λ test. if test then None else Some word) here)))
         (seen_unreserved (line_number word) own)
     by false here =
-        seen_same own (unreserved_on lines view)
+        seen_same own (view_unreserved_on lines view)
         (ap (λ r. record view { reserved = r })
         (is ∙ sym (ap (reserved_beside lines) is ∙ ap (λ test. if test then None else Some word) here)))
 
 seen_beside : (lines : ℕ → Bool) (own : Own) →
-    IsSeenAs own (unreserved_beside lines own) (unreserved_on lines (committed_of own.section.marks))
+    IsSeenAs own (unreserved_beside lines own) (view_unreserved_on lines (committed_of own.section.marks))
 seen_beside lines own = seen_by lines (committed_of own.section.marks).reserved own refl
 
 -- the hart's cache as its section commits, and what the bus shows then
@@ -415,7 +415,7 @@ module _ (parts : Parts) (bus : Kept) (h : ℕ) (from : ModelState) (section : S
       (subst (IsSeenAs (own_at parts.harts g) (unreserved_beside lines (own_at parts.harts g)))
       (sym (effects.others g other))
       (subst (λ view. IsSeenAs (own_at parts.harts g) (unreserved_beside lines (own_at parts.harts g))
-      (unreserved_on lines view))
+      (view_unreserved_on lines view))
       (may.is_in.harts g exists).view
       (seen_beside lines (own_at parts.harts g))))
 

@@ -7,7 +7,7 @@ use Rattle.std.proofs.lemmas.List.{get_or_append_left, get_or_default, get_or_pa
 use Rattle.std.proofs.lemmas.List.Sums.{sum_by-cons, sum_by_more}
 use Rattle.line_pool.specs.declared.share.Share as code
 use Rattle.line_pool.specs.Calls.{IsMade, IsPooled, IsShare}
-use Rattle.line_pool.specs.Kept.{AreFirst, AreKept, IsFull, IsKept, Stands, quotas_in, shown_pool, shown_share}
+use Rattle.line_pool.specs.Kept.{AreFirst, AreKept, IsFull, IsKept, PoolStands, quotas_in, shown_pool, shown_share}
 use Rattle.line_pool.specs.Pooled.{Pooled, Share, out_in, quotas_of, share_of, no_share}
 use Rattle.line_pool.proofs.Moves.{kept_share, times-push}
 use Rattle.line_pool.proofs.Steps.{quotas_shown}
@@ -56,7 +56,7 @@ all_add_up (share ∷ shares) each =
       sum_by-cons (λ n. n) share.quota (map (λ (s : Share). s.quota) shares),
     )
 
-pub pooled : (shares : List code.Share) (lines : List (List ℕ)) (pool : Pooled) → Stands shares (length lines)
+pub pooled : (shares : List code.Share) (lines : List (List ℕ)) (pool : Pooled) → PoolStands shares (length lines)
     → shown_pool shares lines ≡ pool → IsPooled pool
 pooled shares lines pool stands is = subst IsPooled is shown
   where
@@ -153,7 +153,7 @@ module _ (quotas : List ℕ) (shares : List code.Share) (are : AreFull quotas sh
       let P : List ℕ → Type 0 = λ qs. IsKept (sum (take owner qs)) (slice_index_or shares owner d) in
       subst P (sym quotas_are) (are.each owner d within).kept
 
-  pub made_stands : (lines : List (List ℕ)) → length quotas ≤ 16 → length lines ≡ sum quotas → Stands shares (length lines)
+  pub made_stands : (lines : List (List ℕ)) → length quotas ≤ 16 → length lines ≡ sum quotas → PoolStands shares (length lines)
   made_stands lines few long = record {
     owners = omega (arith, are.long);
     each = made_kept;

@@ -7,7 +7,7 @@ use Rattle.std.proofs.lemmas.List.Sums.{sum_by_more_le}
 use Rattle.line_pool.specs.declared.share.Share as code
 use Rattle.line_pool.specs.declared.slot.Slot.{Slot}
 use Rattle.line_pool.specs.Calls.{IsWritten}
-use Rattle.line_pool.specs.Kept.{Stands, index_in, quotas_in, shown_pool}
+use Rattle.line_pool.specs.Kept.{PoolStands, index_in, quotas_in, shown_pool}
 use Rattle.line_pool.specs.Pooled.{Pooled, Share, bytes_of, has_slot, index_by, is_out, quota_of, quotas_of, share_of, with_bytes, no_share}
 use Rattle.line_pool.proofs.Steps.{out_there, quotas_shown, same_slots}
 
@@ -81,7 +81,7 @@ module _ (pool : Pooled) (total : length pool.lines ≡ sum (quotas_of pool)) (s
     quotas = refl;
   }
 
-module _ (shares : List code.Share) (lines : List (List ℕ)) (stands : Stands shares (length lines)) (pool : Pooled)
+module _ (shares : List code.Share) (lines : List (List ℕ)) (stands : PoolStands shares (length lines)) (pool : Pooled)
     (is : shown_pool shares lines ≡ pool) (slot : Slot) (out : is_out pool slot ≡ true) (index : ℕ)
     (at : index ≡ index_in shares slot) where
   quotas_are : quotas_of pool ≡ quotas_in shares

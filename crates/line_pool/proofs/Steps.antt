@@ -7,7 +7,7 @@ use Rattle.std.proofs.Math.Seq.{map-set_same}
 use Rattle.line_pool.specs.declared.share.Share as code
 use Rattle.line_pool.specs.declared.slot.Slot.{Slot}
 use Rattle.line_pool.specs.Calls.{IsGiven, IsShare, IsTaken}
-use Rattle.line_pool.specs.Kept.{IsGivenAt, IsGivenTo, IsKept, IsOutAt, SameBeside, Stands, quotas_in, shown_pool, shown_share}
+use Rattle.line_pool.specs.Kept.{IsGivenAt, IsGivenTo, IsKept, IsOutAt, SameBeside, PoolStands, quotas_in, shown_pool, shown_share}
 use Rattle.line_pool.specs.Pooled.{Pooled, Share, bytes_of, is_out, is_out_in, out_in, out_of, quotas_of, share_of, no_share}
 use Rattle.line_pool.proofs.Moves.{IsMoved, kept_share, less_is, more_is, moved}
 
@@ -81,7 +81,7 @@ moved_in less more slot own others = record {
         ∙ ap (λ owner. is_out_in (share_of more owner) other.place) (sym same)
 
 -- the shares of the code, one of which changed beside its start and quota
-module _ (shares : List code.Share) (lines : List (List ℕ)) (stands : Stands shares (length lines)) (owner : ℕ) (old new : code.Share)
+module _ (shares : List code.Share) (lines : List (List ℕ)) (stands : PoolStands shares (length lines)) (owner : ℕ) (old new : code.Share)
     (there : owner < length shares) (read : old ≡ slice_index_or shares owner old) (beside : SameBeside old new) where
   abbrev old_pool : Pooled
   old_pool = shown_pool shares lines
@@ -124,7 +124,7 @@ module _ (shares : List code.Share) (lines : List (List ℕ)) (stands : Stands s
   old_is = kept_share (sum (take owner (quotas_in shares))) old old_kept
 
   -- what the pool keeps, if the share does
-  pub still_stands : length new.free.items ≤ new.quota → IsShare (shown_share new) → Stands (slice_set shares owner new) (length lines)
+  pub still_stands : length new.free.items ≤ new.quota → IsShare (shown_share new) → PoolStands (slice_set shares owner new) (length lines)
   still_stands few share = record {
     owners = omega (arith, length-set shares owner new, stands.owners);
     each =
@@ -169,7 +169,7 @@ module _ (shares : List code.Share) (lines : List (List ℕ)) (stands : Stands s
         ap (λ free. record { quota = old.quota; free = free }) same
         ∙ ap (λ quota. record { quota = quota; free = new.free.items }) (sym beside.quota)
 
-    pub same_stands : Stands (slice_set shares owner new) (length lines)
+    pub same_stands : PoolStands (slice_set shares owner new) (length lines)
     same_stands = let is = subst IsShare same_share old_is in still_stands is.few is
 
     pub same_pool : new_pool ≡ old_pool
@@ -180,7 +180,7 @@ module _ (shares : List code.Share) (lines : List (List ℕ)) (stands : Stands s
 
   -- a place was taken
   module _ (place : ℕ) (free : old.free.items ≡ new.free.items ++ place ∷ []) where
-    pub taken_stands : Stands (slice_set shares owner new) (length lines)
+    pub taken_stands : PoolStands (slice_set shares owner new) (length lines)
     taken_stands =
         let is = less_is (shown_share new) (shown_share old) place beside.quota free old_is in still_stands is.few is
 
@@ -207,7 +207,7 @@ module _ (shares : List code.Share) (lines : List (List ℕ)) (stands : Stands s
     new_is : IsShare (shown_share new)
     new_is = more_is (shown_share old) (shown_share new) place (sym beside.quota) free old_is out
 
-    pub given_stands : Stands (slice_set shares owner new) (length lines)
+    pub given_stands : PoolStands (slice_set shares owner new) (length lines)
     given_stands = still_stands new_is.few new_is
 
     pub given : IsGiven old_pool new_pool (record { owner = owner; place = place })
@@ -230,10 +230,10 @@ module _ (shares : List code.Share) (lines : List (List ℕ)) (stands : Stands s
 
 -- the shares of the code after a slot was given
 pub record IsGivenBack (shares now : List code.Share) (lines : List (List ℕ)) (slot : Slot) : Type 0 where
-  pub stands : Stands now (length lines)
+  pub stands : PoolStands now (length lines)
   pub given : IsGiven (shown_pool shares lines) (shown_pool now lines) slot
 
-given_with : (shares now : List code.Share) (lines : List (List ℕ)) (slot : Slot) → Stands shares (length lines) → (old new : code.Share)
+given_with : (shares now : List code.Share) (lines : List (List ℕ)) (slot : Slot) → PoolStands shares (length lines) → (old new : code.Share)
     → slot.owner < length shares → old ≡ slice_index_or shares slot.owner old → IsGivenTo old new slot.place
     → is_out_in (shown_share old) slot.place ≡ true → now ≡ slice_set shares slot.owner new → IsGivenBack shares now lines slot
 given_with shares now lines slot stands old new there read at out is =
@@ -242,7 +242,7 @@ given_with shares now lines slot stands old new there read at out is =
       given = given shares lines stands slot.owner old new there read at.beside slot.place at.free out;
     })
 
-pub given_back : (shares now : List code.Share) (lines : List (List ℕ)) (slot : Slot) → Stands shares (length lines)
+pub given_back : (shares now : List code.Share) (lines : List (List ℕ)) (slot : Slot) → PoolStands shares (length lines)
     → slot.owner < length shares
     → IsOutAt slot.owner slot.place shares → IsGivenAt slot.owner slot.place shares now → IsGivenBack shares now lines slot
 given_back [] now lines slot stands there out at = absurd (omega arith)

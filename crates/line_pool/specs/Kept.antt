@@ -69,7 +69,7 @@ AreKept shares = (owner : ℕ) (d : code.Share) → owner < length shares →
     IsKept (sum (take owner (quotas_in shares))) (slice_index_or shares owner d)
 
 -- what the fields of a pool keep
-pub record Stands (shares : List code.Share) (lines : ℕ) : Type 0 where
+pub record PoolStands (shares : List code.Share) (lines : ℕ) : Type 0 where
   pub owners : length shares ≤ 16
   pub each : AreKept shares
   pub total : lines ≡ sum (quotas_in shares)

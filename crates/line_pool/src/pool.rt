@@ -28,11 +28,11 @@ impl Model for Pool {
 
     ghost Value = { Pooled };
 
-    ghost use Rattle.line_pool.specs.Kept.{Stands, shown_pool};
+    ghost use Rattle.line_pool.specs.Kept.{PoolStands, shown_pool};
 
     ghost view = { λ pool. shown_pool pool.shares.items pool.lines.items };
 
-    ghost invariant = { λ pool. Stands pool.shares.items (length pool.lines.items) };
+    ghost invariant = { λ pool. PoolStands pool.shares.items (length pool.lines.items) };
 }
 
 impl Pool {

@@ -154,7 +154,7 @@ room_for_written cache hold line sound marked few bit = by (holds hold.entries l
           let none : count_in (lines_of hold.entries) n ≡ 0 =
           count-lines_of hold.entries n ∙ ap (count_of_line hold.entries) same ∙ none-counted hold.entries line absent in
           let some : 1 ≤ count_in (written_lines cache) n =
-              subst (λ k. 1 ≤ count_in (written_lines cache) k) (sym same) (count-write_bit cache line bit) in
+          subst (λ k. 1 ≤ count_in (written_lines cache) k) (sym same) (count-write_bit cache line bit) in
           omega (arith, none, some, count-here line (lines_of hold.entries) n (sym same))
       | inr other ↦ omega (arith, by_held n other (holds hold.entries n) refl, count-there line (lines_of hold.entries) n (λ e. other (sym e)))
     ]

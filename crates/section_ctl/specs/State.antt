@@ -76,7 +76,7 @@ pub record IsLive (marks : Marked) (hold : Slotted) (section : Section) : Type 0
       held (lent pool hold).entries address ≡ None
 
 -- what the fields keep
-abbrev pub Stands : Marked → Slotted → Private → Type 0
-Stands marks hold privates.Nothing = IsIdle marks hold
-Stands marks hold (privates.Armed reserved) = IsArmed marks hold (reserved_of reserved)
-Stands marks hold (privates.Live live) = IsLive marks hold (section_of live)
+abbrev pub SectionStands : Marked → Slotted → Private → Type 0
+SectionStands marks hold privates.Nothing = IsIdle marks hold
+SectionStands marks hold (privates.Armed reserved) = IsArmed marks hold (reserved_of reserved)
+SectionStands marks hold (privates.Live live) = IsLive marks hold (section_of live)

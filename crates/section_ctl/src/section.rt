@@ -43,13 +43,13 @@ pub struct Section {
 }
 
 impl Model for Section {
-    ghost use Rattle.section_ctl.specs.State.{SectionState, Stands, shown_state};
+    ghost use Rattle.section_ctl.specs.State.{SectionState, SectionStands, shown_state};
 
     ghost Value = { SectionState };
 
     ghost view = { λ s. shown_state s.marks s.hold s.private };
 
-    ghost invariant = { λ s. Stands s.marks s.hold s.private };
+    ghost invariant = { λ s. SectionStands s.marks s.hold s.private };
 }
 
 impl Section {

@@ -13,7 +13,7 @@ use Rattle.rv_flat.specs.Step.{flat}
 use Rattle.run_laws.proofs.Laws.Tests.{or_left, or_right}
 use Rattle.section_view.proofs.Laws.Beginning.{or_cases}
 use Rattle.section_view.specs.KeptRun.{WroteLine}
-use Rattle.section_view.specs.Release.{reserved_beside, unreserved_on}
+use Rattle.section_view.specs.Release.{reserved_beside, view_unreserved_on}
 
 -- whether a line is the one that was written
 abbrev is_line : Option ℕ → ℕ → Bool
@@ -73,14 +73,14 @@ reserved_same left right same None = refl
 reserved_same left right same (Some word) = ap (λ test. if test then None else Some word) (same (line_number word))
 
 pub unreserved_same : (left right : ℕ → Bool) → ((line : ℕ) → left line ≡ right line) → (view : HartView) →
-    unreserved_on left view ≡ unreserved_on right view
+    view_unreserved_on left view ≡ view_unreserved_on right view
 unreserved_same left right same view = ap (λ reserved. record view { reserved = reserved }) (reserved_same left right same view.reserved)
 
 none_reserved : (reserved : Option ℕ) → reserved_beside (λ line. false) reserved ≡ reserved
 none_reserved None = refl
 none_reserved (Some word) = refl
 
-none_unreserved : (view : HartView) → view ≡ unreserved_on (λ line. false) view
+none_unreserved : (view : HartView) → view ≡ view_unreserved_on (λ line. false) view
 none_unreserved view = ap (λ reserved. record view { reserved = reserved }) (sym (none_reserved view.reserved))
 
 first_off : (written : ℕ) (rest : ℕ → Bool) (word : ℕ) (test : Bool) → (line_number word == written) ≡ test →
@@ -107,12 +107,12 @@ but_reserved (Trap cause) view reserved = refl
 but_reserved (Exit code) view reserved = refl
 
 -- each other hart's view after so many steps
-pub others_after : (state : FlatState) (h g n : ℕ) → g ≢ h → view_of (alone state h n) g ≡ unreserved_on (has_written state h n) (view_of state g)
+pub others_after : (state : FlatState) (h g n : ℕ) → g ≢ h → view_of (alone state h n) g ≡ view_unreserved_on (has_written state h n) (view_of state g)
 others_after state h g zero apart = none_unreserved (view_of state g)
 others_after state h g (suc n) apart =
     let access = footprint_of state h in
     let rest = has_written (flat state h) h n in
     let view = view_of state g in
-    others_after (flat state h) h g n apart ∙ ap (unreserved_on rest) (keeps_others state h g apart)
+    others_after (flat state h) h g n apart ∙ ap (view_unreserved_on rest) (keeps_others state h g apart)
     ∙ but_reserved access view (reserved_beside rest (seen_after access view).reserved)
     ∙ ap (λ reserved. record view { reserved = reserved }) (off_by access rest view.reserved view refl)

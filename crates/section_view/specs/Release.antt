@@ -32,8 +32,8 @@ reserved_beside lines None = None
 reserved_beside lines (Some word) = if lines (line_number word) then None else Some word
 
 -- a view without its reservation of a word on one of these lines
-abbrev pub unreserved_on : (ℕ → Bool) → HartView → HartView
-unreserved_on lines view = record view { reserved = reserved_beside lines view.reserved }
+abbrev pub view_unreserved_on : (ℕ → Bool) → HartView → HartView
+view_unreserved_on lines view = record view { reserved = reserved_beside lines view.reserved }
 
 -- memory begins with a line, and this line is none before it
 pub record IsLineFrom (state : FlatState) (line : ℕ) : Type 0 where
@@ -44,7 +44,7 @@ pub record IsLineFrom (state : FlatState) (line : ℕ) : Type 0 where
 -- other harts have lost their reservations of words on the lines that were written
 pub record HasEffect (committed done : FlatState) (h word : ℕ) (view : HartView) (hold : List Entry) : Type 0 where
   pub own : view_of done h ≡ view
-  pub others : (g : ℕ) → g ≢ h → view_of done g ≡ unreserved_on (is_written word hold) (view_of committed g)
+  pub others : (g : ℕ) → g ≢ h → view_of done g ≡ view_unreserved_on (is_written word hold) (view_of committed g)
   -- byte by byte, and line by line
   pub bytes : (place : ℕ) →
       slice_index done.bytes place ≡ unwrap_or (held hold (committed.base + place)) (slice_index committed.bytes place)

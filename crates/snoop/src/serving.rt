@@ -4,7 +4,7 @@ ghost use Rattle.std.specs.Prelude.{◌≡◌, ◌<◌, ℕ, List, Option, Some,
 ghost use Rattle.std.specs.Option.{option_map};
 ghost use Rattle.bus_order.specs.Order.{numbered, removed, request_of};
 ghost use Rattle.coherence.specs.Lent.{IsLentTo, LeavesHolds};
-ghost use Rattle.coherence.specs.Served.{HasLine, IsCoherent, IsServed, caches_of, has_room, lines_after, shown};
+ghost use Rattle.coherence.specs.Served.{HasLine, IsCoherent, IsServed, caches_of, has_room, lines_after, shown_copies};
 ghost use Rattle.el_model.specs.Serve as serving;
 ghost use Rattle.el_model.specs.Serve.{Free};
 ghost use Rattle.el_model.specs.Face.{freed_if, met_if, met_losers_if};
@@ -176,10 +176,10 @@ impl Bus {
 fn fill(hierarchy: &mut Hierarchy, pool: &mut Pool, request: Request, live: bool)
     requires hart_exists { request.hart.number < length (caches_of hierarchy.old) }
     requires lent { IsLentTo pool.old (caches_of hierarchy.old) }
-    requires in_memory { HasLine (shown pool.old hierarchy.old) request.line.number }
-    requires room { has_room (shown pool.old hierarchy.old) request.hart.number request.line.number ≡ true }
-    requires coherent { IsCoherent (shown pool.old hierarchy.old) }
-    ensures served { CopiesServe live (numbered request) (shown pool.old hierarchy.old) (shown pool.new hierarchy.new) }
+    requires in_memory { HasLine (shown_copies pool.old hierarchy.old) request.line.number }
+    requires room { has_room (shown_copies pool.old hierarchy.old) request.hart.number request.line.number ≡ true }
+    requires coherent { IsCoherent (shown_copies pool.old hierarchy.old) }
+    ensures served { CopiesServe live (numbered request) (shown_copies pool.old hierarchy.old) (shown_copies pool.new hierarchy.new) }
     ensures lent { IsLentTo pool.new (caches_of hierarchy.new) }
     ensures holds { LeavesHolds pool.old pool.new }
 {

@@ -5,7 +5,7 @@ ghost use Rattle.std.specs.Prelude.{◌≡◌, ◌<◌, ◌≤◌, ◌*◌, ℕ,
 ghost use Rattle.bus_order.specs.Order.{numbered};
 ghost use Rattle.residency.specs.WellFormed.{IsWellFormed};
 ghost use Rattle.coherence.specs.Lent.{IsLentTo, Offers, slotted_at};
-ghost use Rattle.coherence.specs.Served.{IsCoherent, caches_of, shown};
+ghost use Rattle.coherence.specs.Served.{IsCoherent, caches_of, shown_copies};
 ghost use Rattle.el_base.specs.Config.{IsInRange};
 ghost use Rattle.snoop.specs.Agent.{agent_at, with_agent};
 ghost use Rattle.snoop.specs.Shows.{IsReady, IsTold, has_room_in, kept};
@@ -106,7 +106,7 @@ struct Memory {
 
 /// Main memory and four caches, of which those of these harts have read the line in a section.
 fn read_by(alloc: Global, mode: Mode, readers: &[u8]) -> Result<Memory, Fail>
-    ensures { IfOk result (λ memory. IsCoherent (shown memory.pool memory.hierarchy)) }
+    ensures { IfOk result (λ memory. IsCoherent (shown_copies memory.pool memory.hierarchy)) }
 {
     let config = Config {
         harts: 4,
@@ -129,8 +129,8 @@ fn read_by(alloc: Global, mode: Mode, readers: &[u8]) -> Result<Memory, Fail>
 
 /// A hart reads the line in its section, where that may be.
 fn read_in_section(memory: &mut Memory, hart: HartId) -> bool
-    requires { IsCoherent (shown memory.old.pool memory.old.hierarchy) }
-    ensures { IsCoherent (shown memory.new.pool memory.new.hierarchy) }
+    requires { IsCoherent (shown_copies memory.old.pool memory.old.hierarchy) }
+    ensures { IsCoherent (shown_copies memory.new.pool memory.new.hierarchy) }
 {
     let line = line();
     let hierarchy = &mut memory.hierarchy;

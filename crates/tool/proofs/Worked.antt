@@ -7,7 +7,7 @@ use Rattle.rv_alu.specs.declared.view.HartStatus.{HartStatus}
 use Rattle.rv_alu.specs.declared.view.HartStatus.TheVariants.{Running, Exited, Trapped}
 use Rattle.rv_alu.specs.declared.view.HartView.{HartView}
 use Rattle.tool.specs.declared.refusal.Refusal.TheVariants.{Usage, Config, TooBig, Image, Trace}
-use Rattle.tool.specs.Messages.{config_fault_text, line_of, newline, written_line}
+use Rattle.tool.specs.Messages.{config_fault_text, line_of, newline, wrote_line}
 use Rattle.tool.specs.Ending.{all_succeeded}
 
 usage : line_of Usage ≡ codes "usage: elide run IMAGE [options], elide replay IMAGE TRACE, elide gen KIND NUMBER FILE" ++ newline
@@ -50,7 +50,7 @@ trace_with_a_byte_more : line_of (Trace (record { number = 6; place = 55 })) ≡
 unfolding line_of digits
 trace_with_a_byte_more = refl
 
-image_of_9496_bytes : written_line 9496 ≡ codes "wrote 9496 bytes" ++ newline
+image_of_9496_bytes : wrote_line 9496 ≡ codes "wrote 9496 bytes" ++ newline
 unfolding digits
 image_of_9496_bytes = refl
 

@@ -19,7 +19,7 @@ use Rattle.tool.specs.declared.refusal.Refusal.{Refusal}
 use Rattle.tool.specs.declared.status.Status.{Status}
 use Rattle.tool.specs.declared.status.Status.TheVariants.{Differs, Done, Refused, Rejected}
 use Rattle.tool.specs.Ending.{ending}
-use Rattle.tool.specs.Messages.{differs_line, fails_line, holds_line, line_of, written_line}
+use Rattle.tool.specs.Messages.{differs_line, fails_line, holds_line, line_of, wrote_line}
 use Rattle.report.specs.PlaceText.{found_text, place_of}
 use Rattle.report.specs.Text.{report_of}
 use Rattle.report.specs.TimesText.{times_of}
@@ -95,7 +95,7 @@ abbrev pub generated : List ℕ → List ℕ → Answer
 generated file image = record {
   status = Done;
   out = [];
-  err = written_line (length image);
+  err = wrote_line (length image);
   written = record { name = file; bytes = image } ∷ [];
 }
 

@@ -51,8 +51,8 @@ line_of refusals.NoSuchHart = line (codes "no such hart") []
 line_of (refusals.Trace fault) = fault_line (codes "trace") fault (unwrap_or (trace_faults.fault_name fault.number) [])
 
 -- the line that says how many bytes a file was written with, with its newline
-abbrev pub written_line : ℕ → List ℕ
-written_line count = codes "wrote " ++ decimal count ++ codes " bytes" ++ newline
+abbrev pub wrote_line : ℕ → List ℕ
+wrote_line count = codes "wrote " ++ decimal count ++ codes " bytes" ++ newline
 
 -- the line of a certificate that holds: the steps of its serial order, and the bytes of its output
 abbrev pub holds_line : ℕ → ℕ → List ℕ

@@ -9,7 +9,7 @@ ghost use Rattle.tool.specs.Answer.{CanBeTold, answer_of, besides_of, certified_
 ghost use Rattle.tool.specs.Causes.{Caused, FaultCounts, puts_out, run_writes, writes_of, writes_to};
 ghost use Rattle.tool.specs.Comes.{Comes, Untold};
 ghost use Rattle.tool.specs.Faults.{Faulted};
-ghost use Rattle.tool.specs.Messages.{differs_line, line_of, written_line as line_of_written};
+ghost use Rattle.tool.specs.Messages.{differs_line, line_of, wrote_line as line_of_written};
 ghost use Rattle.tool.specs.Statuses.{status_of};
 ghost use Rattle.tool.specs.Telling.{Only, Writes};
 
@@ -183,14 +183,14 @@ fn tell_image<S: Shelf, E: Sink>(
         (record { out = out; err = E.taken err.old; files = S.told shelf.old })
         (record { out = out; err = E.taken err.new; files = S.told shelf.new }) }
 {
-    let told = written_line(alloc, bytes.len())?;
+    let told = wrote_line(alloc, bytes.len())?;
     shelf.write(alloc, file, &bytes)?;
     put_all(err, told.as_bytes())?;
     Ok(Status::Done)
 }
 
 /// The line that says how many bytes a file was written with.
-fn written_line(alloc: Global, count: usize) -> Result<String, AllocError>
+fn wrote_line(alloc: Global, count: usize) -> Result<String, AllocError>
     ensures { IfOk result (λ line. string_bytes line ≡ line_of_written count) }
 {
     let mut line = format!(in alloc; "wrote {count}")?;

@@ -13,7 +13,7 @@ use Rattle.line_pool.specs.Pooled.{Pooled, bytes_of, is_out, out_of, quota_of}
 use Rattle.line_pool.proofs.Laws.{out-within}
 use Rattle.write_hold.specs.declared.entry.Entry as code
 use Rattle.write_hold.specs.Calls.{IsDrained, IsFull, IsPut}
-use Rattle.write_hold.specs.Entries.{IsMerged, IsStored, Stands, hold_of, number_of}
+use Rattle.write_hold.specs.Entries.{IsMerged, IsStored, HoldStands, hold_of, number_of}
 use Rattle.write_hold.specs.Held.{laid, stored_at}
 use Rattle.write_hold.specs.Slotted.{IsLent, Slotted, lent}
 use Rattle.write_hold.proofs.Finds.{found_at_position}
@@ -21,7 +21,7 @@ use Rattle.write_hold.proofs.Shown.{full, full_shown, shown_drained, shown_full,
 use Rattle.write_hold.proofs.Slots.{entry-out, leaves-given_entry, leaves-stored, leaves-written_entry, lent-given, lent-stored, lent-written, out-counted, stay-taken, stay-written}
 use Rattle.write_hold.proofs.Steps.{finds_pushed, finds_removed, finds_set, found, is_of, stands_pushed, stands_removed, stands_set}
 
-module _ {limit owner room : ℕ} {entries : List code.Entry} {v : Slotted} (stands : Stands limit room entries) (is : hold_of limit owner entries ≡ v)
+module _ {limit owner room : ℕ} {entries : List code.Entry} {v : Slotted} (stands : HoldStands limit room entries) (is : hold_of limit owner entries ≡ v)
     {pool : Pooled} (owes : IsLent pool v) (line : ℕ) where
   owes_shown : IsLent pool (hold_of limit owner entries)
   owes_shown = subst (IsLent pool) (sym is) owes
@@ -38,7 +38,7 @@ module _ {limit owner room : ℕ} {entries : List code.Entry} {v : Slotted} (sta
     held-not_full full = shown_full pool limit owner line entries (Some x) x_found (subst (λ hold. IsFull (lent pool hold) line) (sym is) full)
 
     module _ {after : Pooled} {y : code.Entry} {offset : ℕ} {bytes : List ℕ} (stored : IsStored pool after x y offset bytes) where
-      pub stands-held : Stands limit room (set entries place y)
+      pub stands-held : HoldStands limit room (set entries place y)
       stands-held = stands_set entries line place x y at read stored.line limit room stands
 
       pub put-held : offset + length bytes ≤ LINE_BYTES
@@ -58,7 +58,7 @@ module _ {limit owner room : ℕ} {entries : List code.Entry} {v : Slotted} (sta
 
     -- it left, and its slot was given back
     module _ {after : Pooled} (given : IsGiven pool after x.slot) where
-      pub stands-drained : (more : ℕ) → room ≤ more → Stands limit more (remove entries place)
+      pub stands-drained : (more : ℕ) → room ≤ more → HoldStands limit more (remove entries place)
       stands-drained more grows = stands_removed entries line place x at read limit room more grows stands
 
       pub drained-after : (was now : List ℕ) → IsMerged pool x was now
@@ -105,7 +105,7 @@ module _ {limit owner room : ℕ} {entries : List code.Entry} {v : Slotted} (sta
             owes_shown.quota,
           )
 
-      pub stands-new : (more : ℕ) → room ≤ more → Stands limit more (entries ++ y ∷ [])
+      pub stands-new : (more : ℕ) → room ≤ more → HoldStands limit more (entries ++ y ∷ [])
       stands-new more grows = stands_pushed entries line y at y_line limit room more room-new grows stands
 
       pub put-new : offset + length bytes ≤ LINE_BYTES → ((place : ℕ) → stored_at (full between fresh) place ≡ None)

@@ -11,7 +11,7 @@ use Rattle.std.proofs.lemmas.List.Quantifiers.{position-Some}
 use Rattle.std.proofs.lemmas.List.Sums.{sum_by-append, sum_by-remove, sum_by-set, sum_by_push}
 use Rattle.el_base.proofs.Laws.ListLaws.{find_by_no_position, place_by_position}
 use Rattle.write_hold.specs.declared.entry.Entry as code
-use Rattle.write_hold.specs.Entries.{Stands, number_of}
+use Rattle.write_hold.specs.Entries.{HoldStands, number_of}
 use Rattle.write_hold.proofs.Finds.{count_none_found, find_none_counted, find_pushed_other, find_pushed_same, find_removed_other, found_at_position}
 
 -- whether an entry is that of a line
@@ -72,7 +72,7 @@ module _ (entries : List code.Entry) (line i : ℕ) (x y : code.Entry) (at : pos
       let same : weight l y ≡ weight l (get_or entries i x) = ap (λ (n : ℕ). cond {A = ℕ} (n == l) 1 0) (line_of_new ∙ sym line_of_read) in
       omega (arith, same, sum_by-set (weight l) entries i y x within_set)
 
-  pub stands_set : (limit room : ℕ) → Stands limit room entries → Stands limit room (set entries i y)
+  pub stands_set : (limit room : ℕ) → HoldStands limit room entries → HoldStands limit room (set entries i y)
   stands_set limit room stands = record {
     few = omega (arith, stands.few, length-set entries i y);
     reserved = stands.reserved;
@@ -101,8 +101,8 @@ module _ (entries : List code.Entry) (line : ℕ) (y : code.Entry) (none : posit
           omega arith
       step false is sum = omega arith
 
-  pub stands_pushed : (limit room more : ℕ) → length entries < limit → room ≤ more → Stands limit room entries →
-      Stands limit more (entries ++ y ∷ [])
+  pub stands_pushed : (limit room more : ℕ) → length entries < limit → room ≤ more → HoldStands limit room entries →
+      HoldStands limit more (entries ++ y ∷ [])
   stands_pushed limit room more fits grows stands = record {
     few = omega (arith, length-append entries (y ∷ []));
     reserved = omega (arith, stands.reserved);
@@ -133,7 +133,7 @@ module _ (entries : List code.Entry) (line i : ℕ) (x : code.Entry) (at : posit
         find_removed_other (is_of l) entries i x within_removed (of_no_other (get_or entries i x) line l line_of_removed other);
   }
 
-  pub stands_removed : (limit room more : ℕ) → room ≤ more → Stands limit room entries → Stands limit more (remove entries i)
+  pub stands_removed : (limit room more : ℕ) → room ≤ more → HoldStands limit room entries → HoldStands limit more (remove entries i)
   stands_removed limit room more grows stands = record {
     few = omega (arith, stands.few, length-remove entries i within_removed);
     reserved = omega (arith, stands.reserved);
@@ -142,7 +142,7 @@ module _ (entries : List code.Entry) (line i : ℕ) (x : code.Entry) (at : posit
 
 -- the last entry left
 pub stands_popped : (limit room more : ℕ) (entries rest : List code.Entry) (x : code.Entry) → entries ≡ rest ++ x ∷ [] → room ≤ more
-    → Stands limit room entries → Stands limit more rest
+    → HoldStands limit room entries → HoldStands limit more rest
 stands_popped limit room more entries rest x is grows stands = record {
   few = omega (arith, stands.few, ap length is, length-append rest (x ∷ []));
   reserved = omega (arith, stands.reserved);

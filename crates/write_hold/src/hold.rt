@@ -22,14 +22,14 @@ pub struct Hold {
 
 impl Model for Hold {
     ghost use Rattle.std.specs.Prelude.{vec_capacity};
-    ghost use Rattle.write_hold.specs.Entries.{Stands, hold_of};
+    ghost use Rattle.write_hold.specs.Entries.{HoldStands, hold_of};
     ghost use Rattle.write_hold.specs.Slotted.{Slotted};
 
     ghost Value = { Slotted };
 
     ghost view = { λ hold. hold_of hold.limit hold.owner hold.entries.items };
 
-    ghost invariant = { λ hold. Stands hold.limit (vec_capacity hold.entries) hold.entries.items };
+    ghost invariant = { λ hold. HoldStands hold.limit (vec_capacity hold.entries) hold.entries.items };
 }
 
 impl Hold {

@@ -20,7 +20,7 @@ use Rattle.rv_word.specs.declared.insn.AmoOp.TheVariants as amos
 use Rattle.rv_word.specs.declared.reg.Reg.{Reg}
 use Rattle.section_ctl.proofs.Laws.AnyPool.{unheld_alike}
 use Rattle.section_ctl.specs.Calls.{ends_section}
-use Rattle.section_ctl.specs.State.{IsArmed, IsLive, Reserved, Stands, armed_in, live_in, reserved_of, section_of}
+use Rattle.section_ctl.specs.State.{IsArmed, IsLive, Reserved, SectionStands, armed_in, live_in, reserved_of, section_of}
 use Rattle.section_ctl.specs.declared.private.Private.{Private}
 use Rattle.section_ctl.specs.declared.private.Private.TheVariants as privates
 use Rattle.section_view.proofs.Laws.Bytes.{stored_inside}
@@ -62,19 +62,19 @@ begun_view rd word old new view after small told =
     told byte (ap Some (sym found)) ∙ ap (λ value. release_of (put_of view rd.number value)) found
 
 -- nothing is held where no section is live
-pub nothing_held : (marks : Marked) (hold : Slotted) (private : Private) → Stands marks hold private → live_in private ≡ None → hold.entries ≡ []
+pub nothing_held : (marks : Marked) (hold : Slotted) (private : Private) → SectionStands marks hold private → live_in private ≡ None → hold.entries ≡ []
 nothing_held marks hold privates.Nothing stands none = stands.empty
 nothing_held marks hold (privates.Armed reserved) stands none = stands.empty
 nothing_held marks hold (privates.Live live) stands none = absurd cc
 
 -- a section that is shown is there
-pub is_live : (marks : Marked) (hold : Slotted) (private : Private) (section : Section) → Stands marks hold private →
+pub is_live : (marks : Marked) (hold : Slotted) (private : Private) (section : Section) → SectionStands marks hold private →
     live_in private ≡ Some section → IsLive marks hold section
 is_live marks hold privates.Nothing section stands is = absurd cc
 is_live marks hold (privates.Armed reserved) section stands is = absurd cc
 is_live marks hold (privates.Live live) section stands is = let same : section_of live ≡ section = cc in subst (IsLive marks hold) same stands
 
-pub is_armed : (marks : Marked) (hold : Slotted) (private : Private) (reserved : Reserved) → Stands marks hold private →
+pub is_armed : (marks : Marked) (hold : Slotted) (private : Private) (reserved : Reserved) → SectionStands marks hold private →
     armed_in private ≡ Some reserved → IsArmed marks hold reserved
 is_armed marks hold privates.Nothing reserved stands is = absurd cc
 is_armed marks hold (privates.Armed there) reserved stands is = let same : reserved_of there ≡ reserved = cc in subst (IsArmed marks hold) same stands
@@ -107,7 +107,7 @@ pub stays_live : (old new : Pooled) (marks : Marked) (hold after : Slotted) (sec
     IsLive marks hold section →
     ends_section action ≡ false → overlaps section.word (store_in (perform action marks.present byte)) ≡ false →
     view ≡ view_after (perform action marks.present byte) marks.present →
-        HoldsAfter (store_in (perform action marks.present byte)) (lent old hold) (lent new after) →
+    HoldsAfter (store_in (perform action marks.present byte)) (lent old hold) (lent new after) →
     IsLive (record { present = view; mark = marks.mark }) after (record section { count = count })
 stays_live old new marks hold after section count action byte view live goes apart is held = record {
   mark = live.mark;

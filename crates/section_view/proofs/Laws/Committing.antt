@@ -35,7 +35,7 @@ use Rattle.section_view.proofs.Laws.Shapes.{alone_shape, comes_to, output_shown,
 use Rattle.section_view.proofs.Laws.ShownBytes.{InWord, Inside, Outside, do_as_shown, held_or_committed, in_word}
 use Rattle.section_view.specs.KeptRun.{KeepsRun, WroteLine, is_written, section_execution}
 use Rattle.section_view.specs.Laws.{AgreeBeside, ReleasedViewsAreTold, SectionsCommit}
-use Rattle.section_view.specs.Release.{released_view, unreserved_on}
+use Rattle.section_view.specs.Release.{released_view, view_unreserved_on}
 use Rattle.write_hold.specs.Held.{Entry, held, holds}
 
 module _ (committed : FlatState) (h : ℕ) (cache : List (List Way)) (section : Section) (view : HartView) (hold : List Entry) (under : ℕ → ℕ)
@@ -98,7 +98,7 @@ module _ (committed : FlatState) (h : ℕ) (cache : List (List Way)) (section : 
   wrote_it : (line : ℕ) → is_written section.word hold line ≡ true → WroteLine committed h (section.count + 1) line
   wrote_it line is = written_before committed h section.count line ((keeps.written line).1 is)
 
-  others : (g : ℕ) → g ≢ h → view_of (alone committed h (section.count + 1)) g ≡ unreserved_on (is_written section.word hold) (view_of committed g)
+  others : (g : ℕ) → g ≢ h → view_of (alone committed h (section.count + 1)) g ≡ view_unreserved_on (is_written section.word hold) (view_of committed g)
   others g apart =
       others_after committed h g (section.count + 1) apart
       ∙ unreserved_same (has_written committed h (section.count + 1)) (is_written section.word hold)

@@ -107,7 +107,7 @@ written_store (Exit code) none = refl
 no_store : (state : FlatState) (h : ℕ) → status_of state h ≡ Running → next_store state h ≡ None → written_line (footprint_of state h) ≡ None
 no_store state h runs none =
     ap written_line (running_footprint state h runs)
-        ∙ written_store (next_access state h) (by (next_store state h) none (within state (view_of state h)).store)
+    ∙ written_store (next_access state h) (by (next_store state h) none (within state (view_of state h)).store)
   where
     by : (store : Option Store) → store ≡ None →
         MatchOption store (IsNoWrite (next_access state h)) (λ store. next_access state h ≡ Write store.address store.len) →

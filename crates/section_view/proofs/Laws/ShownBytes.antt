@@ -144,7 +144,7 @@ do_as_shown committed h cache section view hold under run keeps beside =
     agree address there =
         let bytes = (alone committed h section.count).bytes in
         let above : committed.base ≤ address = touched_above (span_of committed) (touched_by committed view) address
-            (one_line-touched committed view) there in
+        (one_line-touched committed view) there in
         let back : committed.base + (address - committed.base) ≡ address = omega arith in
         same_under hold section.word section.new address under (byte_in committed.base committed.bytes) (beside address there)
         ∙ ap (section_byte hold section.word section.new (byte_in committed.base committed.bytes)) (sym back)

@@ -7,7 +7,7 @@ use Rattle.cache_sets.specs.Slotted.{Slotted, lent, slot_of}
 use Rattle.coherence.specs.Caches.{cache_at}
 use Rattle.coherence.specs.GivenBack.{IsStoredIn, bytes_with}
 use Rattle.coherence.specs.Lent.{slotted_at}
-use Rattle.coherence.specs.Served.{TellsOf, shown}
+use Rattle.coherence.specs.Served.{TellsOf, shown_copies}
 use Rattle.coherence.proofs.Laws.Fetched.{copy_resident}
 use Rattle.coherence.proofs.Laws.GivenBackLaws.{copy_tells, tells_stored, writable_there}
 use Rattle.coherence.proofs.Laws.LoanSteps.{bytes_by_calls, stored_by_calls}
@@ -70,7 +70,7 @@ returns-clause-tells c bytes tells =
     let memory = c.args.memory.now in
     let pool = memory.pool in
     let caches = memory.hierarchy.caches.items in
-    let old = shown pool memory.hierarchy in
+    let old = shown_copies pool memory.hierarchy in
     let h = c.args.hart.number in
     let line = c.args.line.number in
     let own = c.cache_mut-cache.result.now in

@@ -8,7 +8,7 @@ use Rattle.cache_sets.specs.Slotted.{lent}
 use Rattle.coherence.specs.Caches.{cache_at}
 use Rattle.coherence.specs.GivenBack.{bytes_with}
 use Rattle.coherence.specs.Lent.{slotted_at}
-use Rattle.coherence.specs.Served.{HasLine, shown}
+use Rattle.coherence.specs.Served.{HasLine, shown_copies}
 use Rattle.coherence.proofs.Laws.GivenBackLaws.{copy_tells, writable_there}
 use Rattle.coherence.proofs.Laws.Offered.{lent_at}
 use Rattle.cache_vectors.proofs.hierarchies.store.Goals as goal
@@ -28,7 +28,7 @@ returns-clause-there c =
     let coherent = c.requires.coherent in
     let memory = c.args.memory.now in
     let caches = memory.hierarchy.caches.items in
-    let old = shown memory.pool memory.hierarchy in
+    let old = shown_copies memory.pool memory.hierarchy in
     let h = c.args.hart.number in
     let cache = cache_at old.caches h in
     let here = line_number c.args.address in
@@ -39,7 +39,7 @@ returns-clause-there c =
     let resident : is_resident cache.residency here ≡ true =
     subst (λ (cached : Cached). is_resident cached.residency here ≡ true) is
     (writable_there (lent memory.pool (slotted_at caches h)) here c.requires.may) in
-    let has : HasLine (shown c.put.new.memory.pool c.put.new.memory.hierarchy) here =
+    let has : HasLine (shown_copies c.put.new.memory.pool c.put.new.memory.hierarchy) here =
     rw (c.put.ensures.place.0, c.put.ensures.place.1) (coherent.tells.inside h here resident) in
     let told =
     ap (λ cached. bytes_of cached line) is

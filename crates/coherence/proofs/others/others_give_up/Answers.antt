@@ -31,7 +31,7 @@ loop-number-preserved c =
     let pool = c.loop-number.pool in
     let inside : number < length caches =
     all_there need h line number first pool old caches so_far c.len-number-end.result (c.len-number-end.ensures
-        ∙ c.args.caches.now.ok.0) c.loop-number-test.true in
+    ∙ c.args.caches.now.ok.0) c.loop-number-test.true in
     elim c.if-number-from.branch [
       | then-number-from w ↦
           rw (w.pool-is, w.caches-is)

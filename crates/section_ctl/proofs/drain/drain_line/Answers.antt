@@ -16,7 +16,7 @@ returns c =
     drained_in c.args.pool.now c.drain_into.new.pool _ c.args.sets.now c.args.hold.now c.drain_into.new.self c.args.line.number
     c.drain_into.new.target c.requires.lent c.requires.resident
     (subst (λ bytes. IsDrained (holds.lent c.args.pool.now c.args.hold.now)
-        (holds.lent c.drain_into.new.pool c.drain_into.new.self) c.args.line.number bytes c.drain_into.new.target)
-        c.bytes.ensures c.drain_into.ensures.drained)
+    (holds.lent c.drain_into.new.pool c.drain_into.new.self) c.args.line.number bytes c.drain_into.new.target)
+    c.bytes.ensures c.drain_into.ensures.drained)
     c.drain_into.ensures.lent c.drain_into.ensures.owner c.drain_into.ensures.others
     (c.bytes_mut.ensures.written c.drain_into.new.target) c.drain_into.array_long

@@ -8,7 +8,7 @@ use Rattle.cache_sets.proofs.sets.Sets.fill.Goals as goal
 pub make_room-gone-requires : goal.make_room-gone-requires
 make_room-gone-requires c =
     once-reached _ _ _ _ (reached c.as_slice.ensures.value c.set_number-number.ensures.exact
-        c.set_number-number.ensures.within c.index_mut-set.ensures.value) _ _ _ c.self.invariant
+    c.set_number-number.ensures.within c.index_mut-set.ensures.value) _ _ _ c.self.invariant
 
 pub vacated-evicted-requires : goal.vacated-evicted-requires
 vacated-evicted-requires c =
@@ -32,8 +32,8 @@ invariant_of-self c =
     let at = reached c.as_slice.ensures.value c.set_number-number.ensures.exact c.set_number-number.ensures.within c.index_mut-set.ensures.value in
     stands-filled c.args.line c.self.invariant c.self.view_is at c.make_room-gone.ensures c.requires.room c.requires.absent c.requires.valid c.requires.lent
     c.vacated-evicted.new.pool c.vacated-evicted.result.slot c.vacated-evicted.result.evicted
-        c.vacated-evicted.ensures c.put_first.new.self c.write.ensures c.new.ensures c.put_first.ensures.lines
-        c.put_first.ensures.room
+    c.vacated-evicted.ensures c.put_first.new.self c.write.ensures c.new.ensures c.put_first.ensures.lines
+    c.put_first.ensures.room
 
 pub returns : goal.returns
 returns c =
@@ -42,20 +42,20 @@ returns c =
     record {
       filled = filled-after c.args.line c.self.invariant c.self.view_is at c.make_room-gone.ensures c.requires.room c.requires.absent c.requires.valid
           c.requires.lent c.vacated-evicted.new.pool c.vacated-evicted.result.slot c.vacated-evicted.result.evicted
-              c.vacated-evicted.ensures c.put_first.new.self c.write.ensures c.new.ensures c.put_first.ensures.lines
-              c.put_first.ensures.room;
+          c.vacated-evicted.ensures c.put_first.new.self c.write.ensures c.new.ensures c.put_first.ensures.lines
+          c.put_first.ensures.room;
       none_leaves = none-leaves c.args.line c.self.invariant c.self.view_is at c.make_room-gone.ensures c.requires.room c.requires.absent c.requires.valid
           c.requires.lent c.vacated-evicted.new.pool c.vacated-evicted.result.slot c.vacated-evicted.result.evicted
-              c.vacated-evicted.ensures c.put_first.new.self c.write.ensures c.new.ensures c.put_first.ensures.lines
-              c.put_first.ensures.room;
+          c.vacated-evicted.ensures c.put_first.new.self c.write.ensures c.new.ensures c.put_first.ensures.lines
+          c.put_first.ensures.room;
       lent = lent-after c.args.line c.self.invariant c.self.view_is at c.make_room-gone.ensures c.requires.room c.requires.absent c.requires.valid
           c.requires.lent c.vacated-evicted.new.pool c.vacated-evicted.result.slot c.vacated-evicted.result.evicted
-              c.vacated-evicted.ensures c.put_first.new.self c.write.ensures c.new.ensures c.put_first.ensures.lines
-              c.put_first.ensures.room;
+          c.vacated-evicted.ensures c.put_first.new.self c.write.ensures c.new.ensures c.put_first.ensures.lines
+          c.put_first.ensures.room;
       others = subst (λ o. LeavesOthers o c.args.pool.now c.write.new.pool) own
           (leaves-after c.args.line c.self.invariant c.self.view_is at c.make_room-gone.ensures c.requires.room c.requires.absent c.requires.valid
           c.requires.lent c.vacated-evicted.new.pool c.vacated-evicted.result.slot c.vacated-evicted.result.evicted
-              c.vacated-evicted.ensures c.put_first.new.self c.write.ensures c.new.ensures c.put_first.ensures.lines
-              c.put_first.ensures.room);
+          c.vacated-evicted.ensures c.put_first.new.self c.write.ensures c.new.ensures c.put_first.ensures.lines
+          c.put_first.ensures.room);
       owner = own;
     }

@@ -10,7 +10,7 @@ use Rattle.cache_sets.proofs.sets.Sets.set_bit.Goals as goal
 pub set_bit-requires : goal.set_bit-requires
 set_bit-requires c =
     once-reached _ _ _ _ (reached c.as_slice.ensures.value c.set_number-number.ensures.exact
-        c.set_number-number.ensures.within c.index_mut-set.ensures.value) _ _ _ c.self.invariant c.args.line.number
+    c.set_number-number.ensures.within c.index_mut-set.ensures.value) _ _ _ c.self.invariant c.args.line.number
 
 pub overflow_sub-self : goal.overflow_sub-self
 overflow_sub-self c =

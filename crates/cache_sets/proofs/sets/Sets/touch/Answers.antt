@@ -7,7 +7,7 @@ use Rattle.cache_sets.proofs.sets.Sets.touch.Goals as goal
 pub touch-requires : goal.touch-requires
 touch-requires c =
     once-reached _ _ _ _ (reached c.as_slice.ensures.value c.set_number-number.ensures.exact
-        c.set_number-number.ensures.within c.index_mut-set.ensures.value) _ _ _ c.self.invariant c.args.line.number
+    c.set_number-number.ensures.within c.index_mut-set.ensures.value) _ _ _ c.self.invariant c.args.line.number
 
 pub invariant_of-self : goal.invariant_of-self
 invariant_of-self c =

@@ -3,16 +3,16 @@ use Rattle.cache_sets.specs.Calls.{IsTouched}
 use Rattle.coherence.specs.Caches.{cache_at}
 use Rattle.coherence.specs.Changed.{IsReplacedAt}
 use Rattle.coherence.specs.Lent.{lent_all}
-use Rattle.coherence.specs.Served.{shown}
+use Rattle.coherence.specs.Served.{shown_copies}
 use Rattle.coherence.proofs.Laws.Offered.{length-lent, lent-replaced, replaced_at}
 use Rattle.coherence.proofs.ServedLaws.{served_by_touch}
 use Rattle.coherence.proofs.hierarchy.Hierarchy.serve.Goals as goal
 
 pub returns-clause-served : goal.returns-clause-served
 returns-clause-served c =
-    let old = shown c.args.pool.now c.args.self.now in
+    let old = shown_copies c.args.pool.now c.args.self.now in
     let now = c.bring.new.pool in
-    let mid = shown now c.bring.new.self in
+    let mid = shown_copies now c.bring.new.self in
     let h = c.args.hart.number in
     let line = c.args.line.number in
     let exists : h < length old.caches = subst (λ n. h < n) (sym (length-lent c.args.pool.now c.args.self.now.caches.items)) c.requires.hart_exists in

@@ -6,12 +6,12 @@ use Rattle.section_ctl.proofs.Laws.Begins.{held_none}
 use Rattle.section_ctl.proofs.Laws.Shows.{at_some}
 use Rattle.section_ctl.specs.Calls.{elided_state}
 use Rattle.section_ctl.specs.PrivateRuns.{ElidesRun}
-use Rattle.section_ctl.specs.State.{IsArmed, Stands, armed_in, reserved_of, shown_state}
+use Rattle.section_ctl.specs.State.{IsArmed, SectionStands, armed_in, reserved_of, shown_state}
 use Rattle.section_ctl.specs.declared.private.Private.TheVariants as privates
 use Rattle.section_ctl.proofs.section.Section.begin_armed.Goals as goal
 
 armed : (c : goal.After-self-1) → IsArmed c.self.inside.marks c.self.inside.hold (reserved_of c.in-Armed.reserved)
-armed c = subst (Stands c.self.inside.marks c.self.inside.hold) c.in-Armed.is c.self.invariant
+armed c = subst (SectionStands c.self.inside.marks c.self.inside.hold) c.in-Armed.is c.self.invariant
 
 view : (c : goal.After-self-1) → c.perform.new.view ≡ release_of (put_of c.self.inside.marks.present c.args.rd.number 0)
 view c =

@@ -27,9 +27,9 @@ by_code c =
     let new = c.commit_action.new.self in
     let small : c.in-Live.live.new < 4294967296 = search rules in
     let released = of_some old.live section (λ section. HasReleased c.args.pool.now old new section
-        c.release_by.result) (live c) c.commit_action.ensures.released in
+    c.release_by.result) (live c) c.commit_action.ensures.released in
     released_by c.args.pool.now old new section (decoded c.args.code) c.requires.release small
-        (subst (HasReleased c.args.pool.now old new section) c.release_by.ensures released)
+    (subst (HasReleased c.args.pool.now old new section) c.release_by.ensures released)
 
 pub returns-clause-released : goal.returns-clause-released
 returns-clause-released c =

@@ -3,7 +3,7 @@ use Rattle.std.proofs.lemmas.Bool.{true≢false}
 use Rattle.el_base.proofs.Laws.ListLaws.{find_by_no_position}
 use Rattle.line_pool.specs.Others.{LeavesOthers}
 use Rattle.write_hold.specs.Calls.{IsDrained}
-use Rattle.write_hold.specs.Entries.{Stands, hold_of}
+use Rattle.write_hold.specs.Entries.{HoldStands, hold_of}
 use Rattle.write_hold.specs.Held.{holds}
 use Rattle.write_hold.specs.Slotted.{IsLent, Slotted, lent}
 use Rattle.write_hold.proofs.After.{drained-after, held-out, leaves-drained, lent-drained, stands-drained}
@@ -37,9 +37,9 @@ pub invariant_of-self : goal.invariant_of-self
 invariant_of-self c =
     let at = place_told c.self.inside.entries.items _ c.args.line.number (Some c.in-Some.place) c.place_of.result c.deref.ensures.value
     c.place_of.ensures c.in-Some.is in
-    subst (Stands c.self.inside.limit c.remove-entry.new.self.cap) (sym c.remove-entry.ensures.items)
+    subst (HoldStands c.self.inside.limit c.remove-entry.new.self.cap) (sym c.remove-entry.ensures.items)
     (stands-drained c.self.invariant c.self.view_is c.requires.lent c.args.line.number at c.remove-entry.ensures.value
-        c.give.ensures c.remove-entry.new.self.cap
+    c.give.ensures c.remove-entry.new.self.cap
     (omega (arith, c.remove-entry.ensures.capacity)))
 
 pub returns : goal.returns

@@ -1,7 +1,7 @@
 use Rattle.std.proofs.Common.{None, Some, ap, is_some, refl, subst, sym, arith}
 use Rattle.line_pool.specs.Others.{LeavesOthers}
 use Rattle.write_hold.specs.Calls.{IsPut}
-use Rattle.write_hold.specs.Entries.{Stands, hold_of}
+use Rattle.write_hold.specs.Entries.{HoldStands, hold_of}
 use Rattle.write_hold.specs.Slotted.{IsLent, Slotted, lent}
 use Rattle.write_hold.proofs.After.{full-new, held-not_full, held-out, leaves-held, lent-held, lent-new, put-held, put-new, stands-held, stands-new}
 use Rattle.write_hold.proofs.Steps.{place_told}
@@ -50,9 +50,9 @@ pub invariant_of-self-in-Some-take : goal.invariant_of-self-in-Some-take
 invariant_of-self-in-Some-take c =
     let at = place_told c.self.inside.entries.items _ c.args.line.number None c.place_of.result c.deref.ensures.value
     c.place_of.ensures c.in-None.is in
-    subst (Stands c.self.inside.limit c.push_reserved.new.self.cap) (sym c.push_reserved.ensures.items)
+    subst (HoldStands c.self.inside.limit c.push_reserved.new.self.cap) (sym c.push_reserved.ensures.items)
     (stands-new c.self.invariant c.self.view_is c.requires.lent c.args.line.number at c.in-Some-take.ensures.taken
-        c.new-entry.ensures.slot c.store-in-Some-take.ensures
+    c.new-entry.ensures.slot c.store-in-Some-take.ensures
     (ap (λ l. l.number) c.new-entry.ensures.line)
     c.push_reserved.new.self.cap (omega (arith, c.push_reserved.ensures.capacity)))
 
@@ -64,7 +64,7 @@ returns-in-Some-take-clause-put c =
     subst (λ new. IsPut (lent c.args.pool.now c.args.self.now) (lent c.store-in-Some-take.new.pool (hold_of i.limit i.owner new))
     c.args.line.number c.args.offset c.args.bytes.now) (sym c.push_reserved.ensures.items)
     (put-new c.self.invariant c.self.view_is c.requires.lent c.args.line.number at c.in-Some-take.ensures.taken
-        c.new-entry.ensures.slot c.store-in-Some-take.ensures
+    c.new-entry.ensures.slot c.store-in-Some-take.ensures
     (ap (λ l. l.number) c.new-entry.ensures.line)
     c.requires.inside (c.new-entry.ensures.nothing c.take.new.self))
 
@@ -75,13 +75,15 @@ returns-in-Some-take-clause-lent c =
     c.place_of.ensures c.in-None.is in
     subst (λ new. IsLent c.store-in-Some-take.new.pool (hold_of i.limit i.owner new)) (sym c.push_reserved.ensures.items)
     (lent-new c.self.invariant c.self.view_is c.requires.lent c.args.line.number at c.in-Some-take.ensures.taken
-        c.new-entry.ensures.slot c.store-in-Some-take.ensures
+    c.new-entry.ensures.slot c.store-in-Some-take.ensures
     (ap (λ l. l.number) c.new-entry.ensures.line))
 
 -- there was none
 pub returns-in-None-take-clause-refused_exactly : goal.returns-in-None-take-clause-refused_exactly
 returns-in-None-take-clause-refused_exactly c =
     let at = place_told c.self.inside.entries.items _ c.args.line.number None c.place_of.result c.deref.ensures.value
-    c.place_of.ensures c.in-None.is in
-    (λ refused. full-new c.self.invariant c.self.view_is c.requires.lent c.args.line.number at
-        (c.take.ensures.none_exactly.0 (ap is_some c.in-None-take.is)), λ full. refl)
+    c.place_of.ensures c.in-None.is in (
+      λ refused. full-new c.self.invariant c.self.view_is c.requires.lent c.args.line.number at
+          (c.take.ensures.none_exactly.0 (ap is_some c.in-None-take.is)),
+      λ full. refl,
+    )

@@ -117,6 +117,7 @@ impl Action {
     /// store, SC or atomic operation likewise with 6 and 7. (RISC-V unprivileged manual, chapter 2
     /// and 'A Standard Extension for Atomic Instructions'; causes as in the privileged manual's
     /// `mcause`; the order of the checks and the calls are this project's profile.)
+    #[inline(always)]
     #[tactic(auto, using(crate::proofs::Laws::Footprints::fits), unfolding(crate::specs::Action::action_of))]
     pub fn of(
         insn: &Insn,
@@ -249,6 +250,7 @@ impl Action {
     /// none), and tells what is left to be done: what it stores in memory and what it appends to the
     /// output. A hart that traps or exits keeps all but its status. LR reserves its word, and a
     /// store, SC or atomic operation ends the hart's own reservation.
+    #[inline(always)]
     pub fn perform(self, view: &mut HartView, number: Option<u32>) -> Transfers
         requires { is_some number ≡ is_some (loads self) }
         ensures view { (byte : ℕ → ℕ) → number ≡ number_of self byte →
@@ -271,6 +273,7 @@ impl Action {
     }
 
     /// The hart's view after it.
+    #[inline(always)]
     fn change(self, view: &mut HartView, number: Option<u32>)
         requires { is_some number ≡ is_some (loads self) }
         ensures { (byte : ℕ → ℕ) → number ≡ number_of self byte →

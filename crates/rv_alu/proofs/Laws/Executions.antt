@@ -221,7 +221,7 @@ amo-action word op rd rs1 rs2 aq rl view span room from len is writes =
     let action : Action = actions.Amo op rd address (get view.regs rs2.number) in
     let writes = rw is at writes in
     let went : checked_of span address 4 store_address_misaligned store_access_fault action ≡ action =
-        checked-went span address 4 _ _ action from len writes in
+    checked-went span address 4 _ _ action from len writes in
     let there : Write address 4 ≡ Write from len = rw went at writes in
     (cc, cc, rw is (cc went))
 

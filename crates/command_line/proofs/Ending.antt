@@ -82,7 +82,7 @@ ends form done last place trailing known = by_settling form walk [] done last (S
         ap (λ (held : Held). fold with_default held.rows (built_rules form)) settled.held in
         let kinds : end_kinds form (holds done last) ≡ last_kinds form (rows_of_fields fields) (all_rows form fields) =
         ap (λ first. or_else first (last_kinds form (clap.settled (built_rules form) (holds done last)).rows
-            (finished (built_rules form) (holds done last)))) settled.passes
+        (finished (built_rules form) (holds done last)))) settled.passes
         ∙ ap (λ (held : Held). last_kinds form held.rows (fold with_default held.rows (built_rules form))) settled.held in
         agrees_along form (fields_after form fields None (Some [])) _ _ _ _
         (kinds_at_end form (at (holds done last) clap.idle place trailing) ∙ kinds)

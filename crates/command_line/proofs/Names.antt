@@ -15,7 +15,7 @@ differs word other apart = go (bytes_eq word other) refl
 pub no_command : (words : List (String Global)) (name : String Global) (rest : List (String Global)) (word : List ℕ)
     → words ≡ name ∷ rest → word ≡ string_bytes name → (word ≡ codes "run" → ⊥) → (word ≡ codes "replay" → ⊥)
     → (word ≡ codes "look" → ⊥) → (word ≡ codes "find" → ⊥) → (word ≡ codes "check" → ⊥) → (word ≡ codes "gen" → ⊥) →
-        job_of (texts words) ≡ None
+    job_of (texts words) ≡ None
 no_command words name rest word first is run replay look find check gen =
     ap (λ (all : List (String Global)). job_of (texts all)) first ∙ ap (λ (text : List ℕ). job_of (text ∷ texts rest)) (sym is)
     ∙ rw (

@@ -27,7 +27,7 @@ appended-footprint _ = tt
 
 appended-ends : (action : Action) (view : HartView) (byte : ℕ → ℕ) (permits : ℕ → Need → Bool) →
     IfSome (appended_of action) (λ access. lacking permits access ≡ None →
-        ended_of (lacking permits (footprint action)) (perform action view byte) ≡ Ran)
+    ended_of (lacking permits (footprint action)) (perform action view byte) ≡ Ran)
 appended-ends (actions.Append address len) view byte permits = λ none. rw none refl
 appended-ends _ view byte permits = tt
 
@@ -62,7 +62,7 @@ pub runs : (word : ℕ) (view : HartView) (span : Span) (room : ℕ) (byte : ℕ
     decoded word ≡ Some Ecall →
     IfSome (appended_of (action_of Ecall view.pc view.regs view.reserved span room))
     (λ access. lacking permits access ≡ None → ended_of (lacking permits (touched (Some word) view span room))
-        (executed (Some word) view span room byte) ≡ Ran)
+    (executed (Some word) view span room byte) ≡ Ran)
 runs word view span room byte permits is =
     rw (call-touched word view span room is, call-executed word view span room byte is)
     (appended-ends (action_of Ecall view.pc view.regs view.reserved span room) view byte permits)

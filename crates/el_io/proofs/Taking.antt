@@ -25,8 +25,10 @@ took-more {before} {between} {now} {first} {more} a b =
       | inl nothing ↦ record { grown = inl nothing }
       | inr behind ↦ elim a.grown [
         | inl nothing ↦ record { grown = inl (behind ∙ ap (option_map (λ (told : List ℕ). told ++ more)) nothing) }
-        | inr first_behind ↦ record { grown = inr (behind
-            ∙ ap (option_map (λ (told : List ℕ). told ++ more)) first_behind ∙ appended-twice before first more) }
+        | inr first_behind ↦ record {
+          grown = inr (behind
+              ∙ ap (option_map (λ (told : List ℕ). told ++ more)) first_behind ∙ appended-twice before first more);
+        }
       ]
     ]
 

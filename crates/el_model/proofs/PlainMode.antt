@@ -81,7 +81,7 @@ serving_plain : (state : ModelState) (request : Request) (hart : Hart) (own : Bo
 serving_plain state request hart true plain =
     claim_plain hart.section request _ plain.section
     (still_plain hart _ refl refl refl (unmarked-touched _ request.line
-        (own_unmarked state.config.ways _ request.need hart.cache request.line plain.unmarked)) plain)
+    (own_unmarked state.config.ways _ request.need hart.cache request.line plain.unmarked)) plain)
 serving_plain state request hart false plain =
     still_plain hart _ refl refl refl (others_unmarked _ request.need hart.cache request.line plain.unmarked) plain
 

@@ -206,7 +206,7 @@ module _ (parts : Parts) (hart : HartId) (state : ModelState) (action : Action) 
         harts = λ g below. elim (cases_eq g hart.number) [
           | inl own ↦
               subst (λ k. IsOfHart pool (state_ran state hart.number action) k
-                  (own_at (parts_ran parts hart.number state action pool cache).harts k)) (sym own)
+              (own_at (parts_ran parts hart.number state action pool cache).harts k)) (sym own)
               (subst (IsOfHart pool (state_ran state hart.number action) hart.number)
               (sym (get_or-set_same (unreserved_on (written_line (footprint action)) parts.harts) hart.number (own_ran parts hart.number state action)
               (new_own no_hart 0 0)

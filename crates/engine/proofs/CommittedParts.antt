@@ -174,7 +174,7 @@ module _ (copies : Copies) (h : ℕ) (cache : Cached) (old done : FlatState) (wo
       (copy_in cache line)
   unheld_back line false bit unheld =
       given_back_of.Kept (commits_in.others line unheld
-          ∙ ap (λ b. option_map (committed_copy b) (copy_in before line)) bit ∙ same_copy (copy_in before line))
+      ∙ ap (λ b. option_map (committed_copy b) (copy_in before line)) bit ∙ same_copy (copy_in before line))
   unheld_back line true bit unheld =
       Stored (record { letter = letter_of before.residency line; bytes = bytes_of before line }) (record { letter = M; bytes = bytes_of before line })
       (was line bit) (owns line bit)

@@ -93,7 +93,7 @@ for_request pool bus state h shows told below (Some request) =
 
 as_outcome : (pool : Pooled) (bus : Kept) (state : ModelState) (h : ℕ) → Shows bus state → Tells pool bus (line_of state.committed) →
     h < length state.harts → (outcome : Outcome) →
-        lines_served pool bus h outcome ≡ with_committed state.committed bus.copies.lines (back_as state h outcome)
+    lines_served pool bus h outcome ≡ with_committed state.committed bus.copies.lines (back_as state h outcome)
 as_outcome pool bus state h shows told below (outcomes.Served losers freed) =
     for_request pool bus state h shows told below (request_of bus.order h)
     ∙ ap (λ order. with_committed state.committed bus.copies.lines (back_for state h (request_of order h))) shows.order

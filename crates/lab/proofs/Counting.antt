@@ -400,7 +400,7 @@ module _ (program : Program) (config : Config) (same : program.harts ≡ config.
         live =
             ap (live_count h) grown
             ∙ noted_count h state (length events) event (tries_from from 0 events) (is_live state h)
-                (is_live (next state event).state h) balance begins told.live
+            (is_live (next state event).state h) balance begins told.live
             ∙ ap (λ s. one (is_live s h)) (sym (state_after-append from events (event ∷ [])));
         began =
             ap (total_of (λ tally. tally.began) h) grown

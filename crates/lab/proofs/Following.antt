@@ -98,6 +98,12 @@ noted_moment before after event outcome place ran tries later goes told counts a
     is
     ∙ noted_same place (slice_index ran) (ran_in (state_of before)) event outcome (state_of after) tries counts
     ∙ ap (λ s. noted (record { place = place; ran = ran_in (state_of before); event = event; outcome = outcome; after = s }) tries) new
-    ∙ ap (λ o. noted (record { place = place; ran = ran_in (state_of before); event = event; outcome = o; after =
-        (next (state_of before) event).state }) tries) told
+    ∙ ap (λ o. noted (record {
+      place = place;
+      ran = ran_in (state_of before);
+      event = event;
+      outcome = o;
+      after =
+          (next (state_of before) event).state;
+    }) tries) told
     ∙ ap (λ p. noted (moment_of (state_of before) p event) tries) at

@@ -278,7 +278,7 @@ leaving_told bus state sets h line shows is below =
 -- where nothing was served, nothing is written back
 none_back : (state : ModelState) (h : ℕ) (back : Option ℕ) (outcome : Outcome) (kind : Kind) →
     ((losers : Losers) (freed : Freed) → outcome ≡ outcomes.Served losers freed → (kind ≡ kinds.Serve) ×
-        (back ≡ back_for state h (ordered_of state h))) →
+    (back ≡ back_for state h (ordered_of state h))) →
     if_served outcome back ≡ back_by state h outcome kind
 none_back state h back (outcomes.Served losers freed) kind of =
     (of losers freed refl).1 ∙ ap (back_by state h (outcomes.Served losers freed)) (sym (of losers freed refl).0)
@@ -322,12 +322,20 @@ owner_told place line from to other =
     let number : HartId → ℕ = λ h. h.number in
     ap (λ o. record { place = place; line = Some line; what = Owner o to } ∷ []) (sym (owner_back from))
     ∙ ap (λ o. record { place = place; line = Some line; what = Owner (option_map hart_id (option_map number from)) o } ∷ []) (sym (owner_back to))
-    ∙ ap (λ l. record { place = place; line = Some l; what =
-        Owner (option_map hart_id (option_map number from)) (option_map hart_id (option_map number to)) } ∷ [])
+    ∙ ap (λ l. record {
+      place = place;
+      line = Some l;
+      what =
+          Owner (option_map hart_id (option_map number from)) (option_map hart_id (option_map number to));
+    } ∷ [])
     (sym (line_addr-of_line line))
     ∙ ap (λ b. cond b []
-    (record { place = place; line = Some (line_addr line.number); what =
-        Owner (option_map hart_id (option_map number from)) (option_map hart_id (option_map number to)) } ∷ []))
+    (record {
+      place = place;
+      line = Some (line_addr line.number);
+      what =
+          Owner (option_map hart_id (option_map number from)) (option_map hart_id (option_map number to));
+    } ∷ []))
     (sym other)
 
 -- where no line is told, there is none

@@ -128,7 +128,7 @@ module _ (tries : List Try) (live : List (Option ℕ)) (h : ℕ) (tracks : Track
           elim (equal_or p place) [
             | inl at ↦ absurd (over
                 (sym (ap (λ t. t.ended) (get_or-set_at tries place p (record (try_at tries place) { ended = ended })
-                    no_try at (tracks.there h place here))) ∙ is))
+                no_try at (tracks.there h place here))) ∙ is))
             | inr other ↦
                 let live_there : (try_at tries p).ended ≡ Live = sym (ap (λ t. t.ended) (same p other)) ∙ is in
                 let apart : (try_at tries p).hart.number ≢ h = λ own. others_over place p here below other own live_there in

@@ -187,7 +187,7 @@ piece_passed hart width place pieces piece bars inside here other are =
     bars_more hart width pieces place piece bars inside
     (subst (λ p. AreBars hart width (take place pieces ++ p ∷ []) bars) here
     (bars_passed hart width (take place pieces) piece bars
-        (λ column below. none column below (piece.hart.number == hart) (piece.first == column) refl refl) are))
+    (λ column below. none column below (piece.hart.number == hart) (piece.first == column) refl refl) are))
   where
     none : (column : ℕ) → column < width → (a b : Bool) → (piece.hart.number == hart) ≡ a → (piece.first == column) ≡ b →
         begins hart column piece ≡ false

@@ -71,6 +71,6 @@ least_ends_its_own_section program config events event h stamp mode same range l
     let numbered = requests_are_numbered program config events same range in
     by_event
     (λ turn. winner_over turn.outcome h ≡ None → is_live turn.state h ≡ false →
-        ((event.hart.number == h) && closes_it turn.outcome) ≡ true) state event
+    ((event.hart.number == h) && closes_it turn.outcome) ≡ true) state event
     (λ step unnamed. step_ends state event.hart.number h live) (λ turn done unnamed. left done h numbered unnamed live)
     (least_stamp_never_loses program config events event h stamp mode least)

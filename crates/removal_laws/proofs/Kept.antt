@@ -184,7 +184,7 @@ retaining_trimmed on old new order trimmed now = record {
     not_after : (g line origin : ℕ) (request : Request) → conflicts_with (head_of old line) g (hart_of new g) ≡ true → MayRetain old g line →
         ordered_on old origin line ≡ Some request → (has (hart_of old g).told origin ≡ true)
         ⊎ ((line : ℕ) (request : Request) → ordered_on old origin line ≡ Some request →
-            conflicts_with (head_of old line) g (hart_of new g) ≡ true →
+        conflicts_with (head_of old line) g (hart_of new g) ≡ true →
         is_before request.stamp (hart_of old g).attempt ≡ false) → is_before request.stamp (hart_of old g).attempt ≡ false
     not_after g line origin request here may is (inl was) = may.not_after_told origin request was is
     not_after g line origin request here may is (inr safe) = safe line request is here

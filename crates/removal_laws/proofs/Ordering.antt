@@ -161,7 +161,7 @@ module _ (state : ModelState) (request : Request) (place : Place) (grounds : Gro
         ordered_by : (h : ℕ) (found : Request) → ordered_of (base state request place) h ≡ Some found →
             is_live (base state request place) h ≡ true →
             has_bit (cache_of (base state request place) h) found.line ≡ true → (h ≡ request.hart) ⊎
-                (h ≡ request.hart → ⊥) → found.need ≡ Write
+            (h ≡ request.hart → ⊥) → found.need ≡ Write
         ordered_by h found is live bit (inl same) =
             let e : request ≡ found = some_same (sym own_ordered ∙ ap (ordered_of (base state request place)) (sym same) ∙ is) in
             standing.retaining.raised h found (ap (raised_of state) same ∙ ordering.raised ∙ ap Some e) (live_before found.line h live)

@@ -105,7 +105,7 @@ none_is (Some found) none = absurd (cc)
 -- of the attempts of two harts one is before the other
 no_tie : {X : Type 0} (a b : Option Stamp) (g h : ℕ) → g ≢ h → ((stamp : Stamp) → a ≡ Some stamp → stamp.hart ≡ g) →
     ((stamp : Stamp) → b ≡ Some stamp → stamp.hart ≡ h) → is_some a ≡ true → is_some b ≡ true →
-        is_before a b ≡ false → is_before b a ≡ false → X
+    is_before a b ≡ false → is_before b a ≡ false → X
 no_tie None b g h apart own_a own_b some_a some_b one other = absurd (cc)
 no_tie (Some a) None g h apart own_a own_b some_a some_b one other = absurd (cc)
 no_tie (Some a) (Some b) g h apart own_a own_b some_a some_b one other =

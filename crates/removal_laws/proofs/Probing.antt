@@ -199,7 +199,7 @@ debts_stand Up Told state final debts standing = record {
 
     told_safe : (g origin : ℕ) → (has (hart_of state g).told origin ≡ true) ⊎ Told g origin → (has (hart_of state g).told origin ≡ true)
         ⊎ ((line : ℕ) (request : Request) → ordered_on state origin line ≡ Some request →
-            conflicts_with (head_of state line) g (hart_of final g) ≡ true →
+        conflicts_with (head_of state line) g (hart_of final g) ≡ true →
         is_before request.stamp (hart_of state g).attempt ≡ false)
     told_safe g origin (inl was) = inl was
     told_safe g origin (inr new) = inr (debts.safe g origin new)

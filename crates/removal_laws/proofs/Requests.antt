@@ -118,7 +118,7 @@ past_stamped state by (Places request place) sound now may h past = by_own (case
         Stamping (request_of (order_at state request place)) h (hart_of state h)
     by_own (inl same) =
         some_none (sym (raised_own state by request sound may.raised) ∙ ap (raised_of state) (sym same)
-            ∙ ap (λ hart. hart.raised) (hart_of-past state h past))
+        ∙ ap (λ hart. hart.raised) (hart_of-past state h past))
     by_own (inr apart) = rw (order_other state request place h apart) (now h)
 past_stamped state by (Serves request) sound now may h past = served_ordered state request h now
 past_stamped state by (Takes message others) sound now where_it h past = now h

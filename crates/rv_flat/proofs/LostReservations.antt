@@ -106,8 +106,10 @@ other_status state hart other reserved Running there apart =
       (seen_by store view).reserved,
       other_applied state hart other view (view_of state other) execution apart
           ∙ ap (with_view after hart) (seen_by-reserved store (view_of state hart) reserved)
-          ∙ ap (λ view. with_view after hart (record view { reserved =
-              (seen_by store (record (view_of state hart) { reserved = reserved })).reserved })) (sym seen),
+          ∙ ap (λ view. with_view after hart (record view {
+            reserved =
+                (seen_by store (record (view_of state hart) { reserved = reserved })).reserved;
+          })) (sym seen),
     )
 other_status state hart other reserved (Exited code) there apart = (reserved, refl)
 other_status state hart other reserved (Trapped cause pc) there apart = (reserved, refl)

@@ -107,7 +107,8 @@ but_reserved (Trap cause) view reserved = refl
 but_reserved (Exit code) view reserved = refl
 
 -- each other hart's view after so many steps
-pub others_after : (state : FlatState) (h g n : ℕ) → g ≢ h → view_of (alone state h n) g ≡ view_unreserved_on (has_written state h n) (view_of state g)
+pub others_after : (state : FlatState) (h g n : ℕ) → g ≢ h →
+    view_of (alone state h n) g ≡ view_unreserved_on (has_written state h n) (view_of state g)
 others_after state h g zero apart = none_unreserved (view_of state g)
 others_after state h g (suc n) apart =
     let access = footprint_of state h in

@@ -190,7 +190,7 @@ marker_answered bus h sender own is =
     (first_answer bus.agents h sender))
     (told_behind bus.agents h sender)
     ∙ ap (λ count. probes_sent (passes (agent_at bus.agents h).told bus.order sender own.line) (numbers_from 0 count)
-        sender (first_answer bus.agents h sender))
+    sender (first_answer bus.agents h sender))
     (count_with_agent behind sender _ ∙ count_with_agent bus.agents h _)
     ∙ probes_posted (passes (agent_at bus.agents h).told bus.order sender own.line) (numbers_from 0 (length bus.agents)) sender
     (first_answer bus.agents h sender)

@@ -27,7 +27,7 @@ pub record AsksNoMore (bus new : Kept) : Type 0 where
 pub served_yet : (bus new : Kept) (h : ℕ) (request : Request) → length new.agents ≡ length bus.agents →
     (LiesIn bus.copies request.line → LiesIn new.copies request.line) →
     (has_room_in bus.copies h request.line ≡ true → has_room_in new.copies h request.line ≡ true) →
-        CanBeServed bus h request → CanBeServed new h request
+    CanBeServed bus h request → CanBeServed new h request
 served_yet bus new h request count inside room can = record {
   own = can.own;
   hart_exists = omega (arith, can.hart_exists, count);
@@ -94,7 +94,7 @@ asks_agent bus h agent ready raises few = record {
           | inl own ↦ elim (cases_lt h (length bus.agents)) [
             | inl below ↦ ap (λ k. (agent_at bus.agents k).raised) own
                 ∙ raises request (sym (ap (λ a. a.raised) (ap (agent_at (with_agent bus.agents h agent)) own
-                    ∙ agent_same bus.agents h agent below)) ∙ is)
+                ∙ agent_same bus.agents h agent below)) ∙ is)
             | inr past ↦ ap (λ a. a.raised) (agent_past bus.agents g (omega (arith, past, own))
                 ∙ sym (agent_past (with_agent bus.agents h agent) g (omega (arith, past, own, count_with_agent bus.agents h agent)))) ∙ is
           ]

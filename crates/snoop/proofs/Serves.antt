@@ -285,14 +285,14 @@ served_cache bus new state request before after ready shows exists serves g belo
 served_marks : (bus new : Kept) (state : ModelState) (request : Request) (before after : Pooled) → IsReady bus →
     Shows bus state → request_of bus.order request.hart ≡ Some request →
     obstacle_to state request ≡ Free → Serves request before after bus new → (g : ℕ) → g < length bus.agents →
-        armed_count (armed_of state g) ≡ 0 →
+    armed_count (armed_of state g) ≡ 0 →
     has_marks (slotted_at new.copies.caches g).residency ≡ has_marks (slotted_at bus.copies.caches g).residency
 served_marks bus new state request before after ready shows ordered free serves g below unarmed =
     elim (cases_eq g request.hart) [
       | inl same ↦ ap (λ k. has_marks (slotted_at new.copies.caches k).residency) same
           ∙ ap has_marks (serve_own bus new request before after serves)
           ∙ claimed (lives_at bus request.hart) (sym
-              (lives_unarmed (slotted_at bus.copies.caches request.hart).residency (agent_at bus.agents request.hart).armed
+          (lives_unarmed (slotted_at bus.copies.caches request.hart).residency (agent_at bus.agents request.hart).armed
           (noted request.hart ∙ ap (λ k. armed_count (armed_of state k)) (sym same) ∙ unarmed)))
           ∙ ap (λ k. has_marks (slotted_at bus.copies.caches k).residency) (sym same)
       | inr other ↦ ap has_marks (serve_others bus new request before after serves g other)
@@ -344,7 +344,7 @@ served_tells bus new state request before after ready shows ordered free serves 
 -- the state that is shown
 pub serve_shows : (bus new : Kept) (state : ModelState) (request : Request) (before after : Pooled) → IsReady bus → Shows bus state →
     request_of bus.order request.hart ≡ Some request → obstacle_to state request ≡ Free →
-        Serves request before after bus new → Shows new (served state request)
+    Serves request before after bus new → Shows new (served state request)
 unfolding served
 serve_shows bus new state request before after ready shows ordered free serves =
     subst (λ order. Shows new (record (each_hart state (serving state request)) { order = order }))
@@ -375,7 +375,7 @@ serve_shows bus new state request before after ready shows ordered free serves =
 -- every cache is as it must be
 served_well_formed : (bus new : Kept) (request : Request) (before after : Pooled) → IsReady bus → request_of bus.order request.hart ≡ Some request →
     Serves request before after bus new → (g : ℕ) → g < length bus.agents →
-        IsWellFormed (slotted_at bus.copies.caches g).ways (slotted_at new.copies.caches g).residency
+    IsWellFormed (slotted_at bus.copies.caches g).ways (slotted_at new.copies.caches g).residency
 served_well_formed bus new request before after ready ordered serves g below =
     elim (cases_eq g request.hart) [
       | inl same ↦ subst (λ k. IsWellFormed (slotted_at bus.copies.caches k).ways (slotted_at new.copies.caches k).residency) (sym same)

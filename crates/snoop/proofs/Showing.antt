@@ -68,7 +68,7 @@ shows_told bus state h agent hart shows is cache told = record {
     | inl own ↦ elim (cases_lt h (length bus.agents)) [
       | inl below ↦ ap (agent_at (with_agent bus.agents h agent)) own ∙ agent_same bus.agents h agent below ∙ is
           ∙ ap agent_of (sym (hart_of-with_hart_same state h hart (omega (arith, below, shows.agent_each)))
-              ∙ ap (hart_of (with_hart state h hart)) (sym own))
+          ∙ ap (hart_of (with_hart state h hart)) (sym own))
       | inr past ↦
           agent_past (with_agent bus.agents h agent) g (omega (arith, past, own, count_with_agent bus.agents h agent))
           ∙ ap agent_of (sym (hart_of-past (with_hart state h hart) g (omega (arith, past, own, shows.agent_each, same_harts))))

@@ -92,7 +92,7 @@ own_outcomes program config events event is =
 is_step : (state : ModelState) (event : Event) → (IsOfBus (next state event).outcome → ⊥) → event.kind ≡ kinds.Step
 is_step state event =
     by_event (λ turn. (IsOfBus turn.outcome → ⊥) →
-        event.kind ≡ kinds.Step) state event (λ step other. step) (λ turn done other. absurd (other done.of_bus))
+    event.kind ≡ kinds.Step) state event (λ step other. step) (λ turn done other. absurd (other done.of_bus))
 
 -- a commit, and a rollback
 pub own_commits : OwnCommits

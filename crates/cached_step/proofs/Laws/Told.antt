@@ -183,7 +183,7 @@ stored_line first base bytes address len value l place low one_line from =
       | inr other ↦
           elsewhere other (cases_lt l (line_number address))
           ∙ sym (with_other (line_at base bytes) (line_number address)
-              (put_bytes (line_at base bytes (line_number address)) (address % 64) len value) l other)
+          (put_bytes (line_at base bytes (line_number address)) (address % 64) len value) l other)
     ]
   where
     elsewhere : l ≢ line_number address → (l < line_number address) ⊎ (line_number address ≤ l) →

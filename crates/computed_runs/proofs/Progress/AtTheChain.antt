@@ -193,7 +193,7 @@ account_of h = count_of (begins h) history ∷ count_of (commits h) history ∷ 
 
 accounts : map account_of (0 ∷ 1 ∷ 2 ∷ 3 ∷ [])
     ≡ (1 ∷ 0 ∷ 0 ∷ 0 ∷ 1 ∷ []) ∷ (1 ∷ 0 ∷ 0 ∷ 1 ∷ 0 ∷ []) ∷
-       (1 ∷ 0 ∷ 0 ∷ 1 ∷ 0 ∷ []) ∷ (1 ∷ 0 ∷ 0 ∷ 1 ∷ 0 ∷ []) ∷ []
+    (1 ∷ 0 ∷ 0 ∷ 1 ∷ 0 ∷ []) ∷ (1 ∷ 0 ∷ 0 ∷ 1 ∷ 0 ∷ []) ∷ []
 unfolding computing
 accounts = refl
 

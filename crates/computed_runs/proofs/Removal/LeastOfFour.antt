@@ -115,7 +115,7 @@ abbrev GreatestNeverLoses : ModelState → Type 0
 GreatestNeverLoses state =
     (event : Event) (h : ℕ) (stamp : Stamp) → attempt_of state h ≡ Some stamp →
     ((g : ℕ) (other : Stamp) → g ≢ h → attempt_of state g ≡ Some other → less_of other stamp ≡ true) →
-        winner_over (next state event).outcome h ≡ None
+    winner_over (next state event).outcome h ≡ None
 
 -- hart 3, as hart 2 was served
 abbrev served : ModelState

@@ -68,7 +68,7 @@ module _ {X : Type 0} (key : X → ℕ) where
       let inside : i < length xs = omega arith in
       let counted : 1 ≤ count_of key xs k = counted_at xs k i d inside is in
       let rest : found key xs k ≡ Some (get_or xs i d) =
-          found_at xs k i d (grind (arith, nat_tests, sum_by-cons (λ y. cond (eqb (key y) k) 1 0) x xs)) inside is in
+      found_at xs k i d (grind (arith, nat_tests, sum_by-cons (λ y. cond (eqb (key y) k) 1 0) x xs)) inside is in
       grind (arith, nat_tests, sum_by-cons (λ y. cond (eqb (key y) k) 1 0) x xs)
 
   pub remove-without : (xs : List X) (k i : ℕ) (d : X) → count_of key xs k ≤ 1 → i < length xs → key (get_or xs i d) ≡ k →

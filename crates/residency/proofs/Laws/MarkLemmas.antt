@@ -41,8 +41,11 @@ total-with_set f cache line set some = sum_by-set (λ s. sum_by f s) cache (set_
 pub total-touched : (f : Way → ℕ) (ways : ℕ) (cache : List (List Way)) (line : ℕ) → IsWellFormed ways cache →
     total f (touched cache line) ≡ total f cache
 total-touched f ways cache line kept =
-    omega (arith, total-with_set f cache line (touched_in (set_of cache line) line) kept.some_set,
-        sum_by-touched_in f (set_of cache line) line (kept.once line line))
+    omega (
+      arith,
+      total-with_set f cache line (touched_in (set_of cache line) line) kept.some_set,
+      sum_by-touched_in f (set_of cache line) line (kept.once line line),
+    )
 
 pub total-without_line : (f : Way → ℕ) (ways : ℕ) (cache : List (List Way)) (line : ℕ) → IsWellFormed ways cache →
     total f (without_line cache line) + option_map_or f (way_of cache line) 0 ≡ total f cache
@@ -53,8 +56,11 @@ total-changed : (f : Way → ℕ) (change : Way → Way) (ways : ℕ) (cache : L
     total f (with_set cache line (changed_in change (set_of cache line) line)) + option_map_or f (way_of cache line) 0
     ≡ total f cache + option_map_or (λ way. f (change way)) (way_of cache line) 0
 total-changed f change ways cache line kept =
-    omega (arith, total-with_set f cache line (changed_in change (set_of cache line) line) kept.some_set,
-        sum_by-changed_in f change (set_of cache line) line (kept.once line line))
+    omega (
+      arith,
+      total-with_set f cache line (changed_in change (set_of cache line) line) kept.some_set,
+      sum_by-changed_in f change (set_of cache line) line (kept.once line line),
+    )
 
 pub total-lettered : (f : Way → ℕ) (ways : ℕ) (cache : List (List Way)) (line : ℕ) (letter : Letter) → IsWellFormed ways cache →
     ((way : Way) → f (with_letter letter way) ≡ f way) → total f (lettered cache line letter) ≡ total f cache

@@ -228,7 +228,7 @@ well_formed-map change ways cache keeps kept =
       once = λ line l.
           let same : count_of line_of (map change (set_of cache line)) l ≡ count_of line_of (set_of cache line) l =
           sum_by-map (λ way. cond (eqb (line_of way) l) 1 0) change (set_of cache line)
-              ∙ λ i. sum_by (λ way. cond (eqb (keeps.line way i) l) 1 0) (set_of cache line) in
+          ∙ λ i. sum_by (λ way. cond (eqb (keeps.line way i) l) 1 0) (set_of cache line) in
           omega (arith, kept.once line l, same, ap (λ set. count_of line_of set l) (sets line));
       home = λ line l way is.
           let was = mapped change (way_in (set_of cache line) l) way

@@ -137,7 +137,7 @@ KeepsBytes state access new =
 
 stored_by-other : (state : FlatState) (access : Access) (store : Option Store) → IsInOneLine (span_of state) access →
     MatchOption store (IsNoWrite access) (λ store. access ≡ Write store.address store.len) → (place : ℕ) →
-        (Writes access (state.base + place) → ⊥) →
+    (Writes access (state.base + place) → ⊥) →
     slice_index (stored_by store state.base state.bytes) place ≡ slice_index state.bytes place
 stored_by-other state access None piece is place out = refl
 stored_by-other state access (Some store) piece is place out =

@@ -62,7 +62,8 @@ begun_view rd word old new view after small told =
     told byte (ap Some (sym found)) ∙ ap (λ value. release_of (put_of view rd.number value)) found
 
 -- nothing is held where no section is live
-pub nothing_held : (marks : Marked) (hold : Slotted) (private : Private) → SectionStands marks hold private → live_in private ≡ None → hold.entries ≡ []
+pub nothing_held : (marks : Marked) (hold : Slotted) (private : Private) → SectionStands marks hold private →
+    live_in private ≡ None → hold.entries ≡ []
 nothing_held marks hold privates.Nothing stands none = stands.empty
 nothing_held marks hold (privates.Armed reserved) stands none = stands.empty
 nothing_held marks hold (privates.Live live) stands none = absurd cc

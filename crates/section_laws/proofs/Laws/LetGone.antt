@@ -268,7 +268,7 @@ deed_unfreed state h (Runs touch) head runs rested bare is now =
 deed_unfreed state h (Begins swap) head does rested bare is now = none_freed head h (hart_after state h (Begins swap) (hart_of state h)) refl
 deed_unfreed state h (Buffers section touch) head buffers rested bare is now =
     none_freed head h (hart_after state h (Buffers section touch) (hart_of state h))
-        (live_unarmed state h section rested buffers.goes.goes_on.is_short.inside.live)
+    (live_unarmed state h section rested buffers.goes.goes_on.is_short.inside.live)
 deed_unfreed state h (Commits section) head does rested bare is now = none_freed head h (hart_after state h (Commits section) (hart_of state h)) refl
 deed_unfreed state h (RollsBack section cause) head does rested bare is now =
     none_freed head h (hart_after state h (RollsBack section cause) (hart_of state h)) refl

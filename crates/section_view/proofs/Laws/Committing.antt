@@ -98,7 +98,8 @@ module _ (committed : FlatState) (h : ℕ) (cache : List (List Way)) (section : 
   wrote_it : (line : ℕ) → is_written section.word hold line ≡ true → WroteLine committed h (section.count + 1) line
   wrote_it line is = written_before committed h section.count line ((keeps.written line).1 is)
 
-  others : (g : ℕ) → g ≢ h → view_of (alone committed h (section.count + 1)) g ≡ view_unreserved_on (is_written section.word hold) (view_of committed g)
+  others : (g : ℕ) → g ≢ h → view_of (alone committed h (section.count + 1)) g ≡ view_unreserved_on
+      (is_written section.word hold) (view_of committed g)
   others g apart =
       others_after committed h g (section.count + 1) apart
       ∙ unreserved_same (has_written committed h (section.count + 1)) (is_written section.word hold)

@@ -21,6 +21,6 @@ returns-in_ok-note_owner c =
     ∙ append_assoc old (record { place = c.args.place; line = Some line; what = what } ∷ []) _
     ∙ ap (λ o. old ++ record { place = c.args.place; line = Some line; what = what } ∷ owner_facts c.args.place line.number before o) c.owner_of.ensures
     ∙ ap (λ l. old ++ record { place = c.args.place; line = Some l; what = what } ∷
-        owner_facts c.args.place line.number before (owner_in state line.number))
+    owner_facts c.args.place line.number before (owner_in state line.number))
     (sym (line_addr-of_line line))
     ∙ ap (λ a. old ++ served_facts c.args.place c.args.hart state (option_map numbered_asking a)) (sym c.in-Some.is)

@@ -25,7 +25,7 @@ pub returns-clause-state : goal.returns-clause-state
 returns-clause-state c state reached is =
     after_bus (parts c.args.self.now) (parts c.pass_to_bus-outcome.new.self) _ state c.args.event
     (winner_over c.pass_to_bus-outcome.result) (freed_of_outcome c.pass_to_bus-outcome.result) c.requires.no_step
-        reached is c.pass_to_bus-outcome.ensures.rest_stays refl (c.pass_to_bus-outcome.ensures.shows state reached is)
+    reached is c.pass_to_bus-outcome.ensures.rest_stays refl (c.pass_to_bus-outcome.ensures.shows state reached is)
     (c.pass_to_bus-outcome.ensures.told state reached is) c.pass_to_bus-outcome.ensures.holds c.restore_by.ensures.lent c.restore_by.ensures.kept
     (λ g. ap (λ outcome. winner_over outcome g) (sym (c.pass_to_bus-outcome.ensures.outcome state is)))
     (ap freed_of_outcome (c.pass_to_bus-outcome.ensures.outcome state is)) c.restore_by.ensures.restored

@@ -12,7 +12,7 @@ pub returns-clause-exact : goal.returns-clause-exact
 returns-clause-exact c =
     let mail = (agent_at (kept c.args.self.now).agents c.args.hart.number).mail in
     subst (λ there. (there ≡ true) ↔ (mail ≢ [])) (sym (c.has_mail.ensures
-        ∙ ap (λ agent. not (length agent.mail == 0)) c.agent.ensures)) (mail_there mail)
+    ∙ ap (λ agent. not (length agent.mail == 0)) c.agent.ensures)) (mail_there mail)
 
 pub returns-clause-shown : goal.returns-clause-shown
 returns-clause-shown c = λ state shows.

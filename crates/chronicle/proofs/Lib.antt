@@ -1,2 +1,3 @@
 pub mod Laws
+mod KeptRows
 mod Worked

@@ -1,3 +1,4 @@
 pub mod Chronicle
+pub mod Rows
 pub mod Serial
 pub mod Tally

@@ -2,14 +2,16 @@
 //! were made.
 //!
 //! It stands on `el_base`. A history is seen as its list of entries and its number of places. All
-//! places are taken when it is made, and no other call takes memory. What is read from it is defined
-//! over the whole list: the serial order is a concatenation over the entries, and a tally the sum of
-//! what each counts for. It says nothing of whether an outcome is right.
+//! places are taken when it is made, and no other call takes memory. Entries are kept in rows of eight
+//! bytes, and the outcomes that say more than their names in a list beside them. What is read from a
+//! history is defined over the whole list of entries: the serial order is a concatenation over them, and
+//! a tally the sum of what each counts for. It says nothing of whether an outcome is right.
 //!
 //! Where a doc comment names no other source, its rule is this project's profile.
 #![tactic(auto)]
 
 mod history;
+mod rows;
 mod tally;
 
 pub use history::History;

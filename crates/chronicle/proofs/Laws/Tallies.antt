@@ -11,7 +11,7 @@ use Rattle.chronicle.specs.Tally.{nothing, tally_of, of_entry, plus, numbers, Is
 use Rattle.chronicle.specs.declared.tally.Tally.{Tally}
 
 -- one entry more adds what it counts for
-tally_of-push : (hart : ℕ) (entries : List Entry) (entry : Entry) →
+pub tally_of-push : (hart : ℕ) (entries : List Entry) (entry : Entry) →
     tally_of hart (entries ++ entry ∷ []) ≡ plus (tally_of hart entries) (of_entry hart entry)
 unfolding tally_of plus
 tally_of-push hart entries entry = simp sum_by_push

@@ -1,9 +1,10 @@
-use Rattle.std.proofs.Common.{◌≡◌, take}
+use Rattle.std.proofs.Common.{◌≡◌, map, take}
+use Rattle.chronicle.specs.Rows.{entry_of}
 use Rattle.chronicle.specs.Tally.{tally_of, IsTallyOf}
 use Rattle.chronicle.proofs.history.History.tally.Given as goal
 
-abbrev pub invariant-loop-entry : goal.invariant-loop-entry
-invariant-loop-entry l = record {
-  so_far : l.tally ≡ tally_of l.hart.number (take l.entry-index l.entry-items);
-  small : IsTallyOf l.entry-index l.tally;
+abbrev pub invariant-loop-row : goal.invariant-loop-row
+invariant-loop-row l = record {
+  so_far : l.tally ≡ tally_of l.hart.number (map (entry_of l.self-inside.long.items) (take l.row-index l.row-items));
+  small : IsTallyOf l.row-index l.tally;
 }

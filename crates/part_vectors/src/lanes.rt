@@ -2,7 +2,6 @@
 //! bytes are the place's number; over it are the same numbers, and 0x80 with each.
 
 use line_lanes::*;
-use std::test::Fail;
 
 /// At each place the place's number and what is added to it.
 fn line(more: u8) -> [u8; 64] {
@@ -31,29 +30,27 @@ const WORDS: &[(u64, u8, u32)] = &[
 ];
 
 #[test]
-fn the_first_and_the_last_byte_are_merged_alone(rt: HostRuntime) -> Result<(), Fail> {
+fn the_first_and_the_last_byte_are_merged_alone(rt: HostRuntime) {
     let mut merged = [0; 64];
     merge(&mut merged, &[0xff; 64], 0x8000_0000_0000_0001);
     let mut wanted = [0; 64];
     wanted[0] = 0xff;
     wanted[63] = 0xff;
     assert_eq!(rt; merged, wanted);
-    Ok(())
 }
 
 #[test]
-fn words_are_merged_as_lines_are(rt: HostRuntime) -> Result<(), Fail> {
+fn words_are_merged_as_lines_are(rt: HostRuntime) {
     for &(mask, offset, word) in WORDS {
         let mut merged = line(0);
         merge(&mut merged, &line(0x80), mask);
+        let found = word_under(&line(0), mask, offset);
         assert_eq!(rt;
-            word_under(&line(0), mask, offset),
-            word,
+            (found, word_under(&merged, 0, offset)),
+            (word, word),
             "{mask:#x} {offset}"
         );
-        assert_eq!(rt; word_under(&merged, 0, offset), word, "{mask:#x} {offset}");
     }
-    Ok(())
 }
 
 /// The word at a place of a line under `line(0x80)`.
@@ -62,12 +59,11 @@ fn word_under(under: &[u8; 64], mask: u64, offset: u8) -> u32 {
 }
 
 #[test]
-fn lines_are_the_same_in_all_64_bytes(rt: HostRuntime) -> Result<(), Fail> {
+fn lines_are_the_same_in_all_64_bytes(rt: HostRuntime) {
     assert!(rt; same(&line(0), &line(0)));
     for place in 0..64_usize {
         let mut other = line(0);
         other[place] ^= 0x40;
         assert!(rt; !same(&line(0), &other), "{place}");
     }
-    Ok(())
 }

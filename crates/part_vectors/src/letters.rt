@@ -14,11 +14,18 @@ fn each_letter_meets_each_event(rt: HostRuntime) {
         (Letter::I, false, false, Letter::I, Letter::I, false),
     ];
     for (letter, reads, writes, after_read, after_write, dirty) in rows {
-        assert_eq!(rt; may(letter, Need::Read), reads, "{letter:?}");
-        assert_eq!(rt; may(letter, Need::Write), writes, "{letter:?}");
-        assert_eq!(rt; on_read(letter), after_read, "{letter:?}");
-        assert_eq!(rt; on_write(letter), after_write, "{letter:?}");
-        assert_eq!(rt; is_dirty(letter), dirty, "{letter:?}");
+        let (may_read, may_write) = (may(letter, Need::Read), may(letter, Need::Write));
+        assert_eq!(rt;
+            (
+                may_read,
+                may_write,
+                on_read(letter),
+                on_write(letter),
+                is_dirty(letter)
+            ),
+            (reads, writes, after_read, after_write, dirty),
+            "{letter:?}"
+        );
     }
 }
 

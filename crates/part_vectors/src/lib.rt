@@ -7,6 +7,8 @@
 #[cfg(test)]
 mod deferred;
 #[cfg(test)]
+mod harts;
+#[cfg(test)]
 mod histories;
 #[cfg(test)]
 mod lanes;

@@ -1,21 +1,21 @@
 //! Orders of a few requests, worked by hand.
 
+use crate::harts::hart;
 use bus_order::*;
-use el_base::{HartId, LineAddr, Need, line_of};
-use std::test::Fail;
+use el_base::{LineAddr, Need, line_of};
 
 fn line(number: u8) -> LineAddr {
     line_of(u32::from(number) * 64)
 }
 
 /// A hart's request to write the line with this number.
-fn asks(hart: u8, number: u8) -> Result<Request, Fail> {
-    Ok(Request {
-        hart: HartId::new(hart).ok_or("no such hart")?,
-        line: line(number),
+fn asks(number: u8, line_number: u8) -> Request {
+    Request {
+        hart: hart(number),
+        line: line(line_number),
         need: Need::Write,
         stamp: None,
-    })
+    }
 }
 
 /// Puts a request in front of its line or behind all, where its hart has none yet.
@@ -31,7 +31,7 @@ fn put(order: &mut Order, request: Request, in_front: bool) {
 }
 
 #[test]
-fn a_request_goes_behind_all_or_in_front_of_its_line(rt: HostRuntime) -> Result<(), Fail> {
+fn a_request_goes_behind_all_or_in_front_of_its_line(rt: HostRuntime) {
     let mut order = Order::new();
     for (hart, number, in_front) in [
         (0, 5, false),
@@ -41,35 +41,44 @@ fn a_request_goes_behind_all_or_in_front_of_its_line(rt: HostRuntime) -> Result<
         (4, 7, true),
         (5, 5, true),
     ] {
-        put(&mut order, asks(hart, number)?, in_front);
+        put(&mut order, asks(hart, number), in_front);
     }
-    let places = [(5, 5), (0, 5), (3, 6), (1, 6), (2, 5), (4, 7)];
-    assert_eq!(rt; order.as_slice().len(), places.len());
-    for (request, (hart, number)) in order.as_slice().iter().zip(&places) {
-        assert_eq!(rt; *request, asks(*hart, *number)?);
-    }
+    let wanted = [
+        asks(5, 5),
+        asks(0, 5),
+        asks(3, 6),
+        asks(1, 6),
+        asks(2, 5),
+        asks(4, 7),
+    ];
+    assert_eq!(rt; order.as_slice(), wanted.as_slice());
     for (number, first, last) in [(5, 5, 2), (6, 3, 1), (7, 4, 4)] {
-        assert_eq!(rt; order.first_of(line(number)), Some(asks(first, number)?));
-        assert_eq!(rt; order.tail_of(line(number)), Some(asks(last, number)?));
+        assert_eq!(rt;
+            ends(&order, number),
+            (Some(asks(first, number)), Some(asks(last, number)))
+        );
     }
-    assert_eq!(rt; order.first_of(line(8)), None);
-    assert_eq!(rt; order.tail_of(line(8)), None);
-    Ok(())
+    assert_eq!(rt; ends(&order, 8), (None, None));
+}
+
+/// The first request of a line and its last one.
+fn ends(order: &Order, number: u8) -> (Option<Request>, Option<Request>) {
+    (order.first_of(line(number)), order.tail_of(line(number)))
 }
 
 #[test]
-fn eight_harts_have_a_place_each(rt: HostRuntime) -> Result<(), Fail> {
+fn eight_harts_have_a_place_each(rt: HostRuntime) {
     let mut order = Order::new();
     for number in 0..8 {
-        put(&mut order, asks(number, 1)?, false);
+        put(&mut order, asks(number, 1), false);
     }
-    let head = asks(0, 1)?;
-    assert_eq!(rt; order.as_slice().len(), 8);
-    assert_eq!(rt; order.of(head.hart), Some(head));
+    let head = asks(0, 1);
+    let before = (order.as_slice().len(), order.of(head.hart));
     order.remove(head.hart);
-    assert_eq!(rt; order.of(head.hart), None);
-    assert_eq!(rt; order.first_of(head.line), Some(asks(1, 1)?));
+    let after = (order.of(head.hart), order.first_of(head.line));
     order.remove(head.hart);
-    assert_eq!(rt; order.as_slice().len(), 7);
-    Ok(())
+    assert_eq!(rt;
+        (before, after, order.as_slice().len()),
+        ((8, Some(head)), (None, Some(asks(1, 1))), 7)
+    );
 }

@@ -1,5 +1,4 @@
 use pair_table::*;
-use std::test::Fail;
 
 const NOTHING: Seen = Seen {
     release: false,
@@ -8,41 +7,46 @@ const NOTHING: Seen = Seen {
 };
 
 #[test]
-fn counters_stay_from_0_to_3_and_are_shared(rt: HostRuntime) -> Result<(), Fail> {
+fn counters_stay_from_0_to_3_and_are_shared(rt: HostRuntime) {
     let mut table = PairTable::new();
-    assert_eq!(rt; table.confidence(0x100), 2);
+    let first = table.confidence(0x100);
     table.settle(0x100, Verdict::Up);
-    assert_eq!(rt; table.confidence(0x100), 3);
+    let second = table.confidence(0x100);
     table.settle(0x100, Verdict::Up);
-    assert_eq!(rt; table.confidence(0x100), 3);
+    let third = table.confidence(0x100);
     for _ in 0..4 {
         table.settle(0x100, Verdict::Down);
     }
-    assert_eq!(rt; table.confidence(0x100), 0);
-    assert_eq!(rt; table.confidence(0x200), 0);
-    assert_eq!(rt; table.confidence(0x104), 2);
-    Ok(())
+    let shared = (table.confidence(0x100), table.confidence(0x200));
+    assert_eq!(rt;
+        ([first, second, third], shared, table.confidence(0x104)),
+        ([2, 3, 3], (0, 0), 2)
+    );
 }
 
 #[test]
-fn a_watch_is_settled_when_it_is_too_long(rt: HostRuntime) -> Result<(), Fail> {
+fn a_watch_is_settled_when_it_is_too_long(rt: HostRuntime) {
     let mut table = PairTable::new();
     table.watch(0x100, 0x2_0000, 0);
-    assert_eq!(rt; table.watched(), Some((0x2_0000, 0)));
-    assert_eq!(rt; table.saw(NOTHING, 2), Some(Verdict::Down));
-    assert_eq!(rt; table.confidence(0x100), 1);
-    assert_eq!(rt; table.watched(), None);
+    let watched = table.watched();
+    let verdict = table.saw(NOTHING, 2);
+    assert_eq!(rt;
+        (watched, verdict, table.confidence(0x100), table.watched()),
+        (Some((0x2_0000, 0)), Some(Verdict::Down), 1, None)
+    );
     let mut table = PairTable::new();
     table.watch(0x100, 0x2_0000, 0);
-    assert_eq!(rt; table.saw(NOTHING, 3), None);
-    assert_eq!(rt; table.confidence(0x100), 2);
-    assert_eq!(rt; table.saw(NOTHING, 3), Some(Verdict::Down));
-    assert_eq!(rt; table.saw(NOTHING, 3), None);
-    Ok(())
+    let first = table.saw(NOTHING, 3);
+    let confidence = table.confidence(0x100);
+    let (second, third) = (table.saw(NOTHING, 3), table.saw(NOTHING, 3));
+    assert_eq!(rt;
+        (first, confidence, second, third),
+        (None, 2, Some(Verdict::Down), None)
+    );
 }
 
 #[test]
-fn a_release_comes_before_all_else(rt: HostRuntime) -> Result<(), Fail> {
+fn a_release_comes_before_all_else(rt: HostRuntime) {
     let rows = [
         (
             Seen {
@@ -82,20 +86,23 @@ fn a_release_comes_before_all_else(rt: HostRuntime) -> Result<(), Fail> {
     for (seen, verdict, confidence) in rows {
         let mut table = PairTable::new();
         table.watch(0x1_0000, 0x2_0000, 7);
-        assert_eq!(rt; table.saw(seen, 2_000), verdict, "{seen:?}");
-        assert_eq!(rt; table.confidence(0x1_0000), confidence, "{seen:?}");
-        assert_eq!(rt; table.watched().is_some(), verdict.is_none(), "{seen:?}");
+        let found = table.saw(seen, 2_000);
+        assert_eq!(rt;
+            (found, table.confidence(0x1_0000), table.watched().is_some()),
+            (verdict, confidence, verdict.is_none()),
+            "{seen:?}"
+        );
     }
-    Ok(())
 }
 
 #[test]
-fn a_watch_that_is_ended_teaches_nothing(rt: HostRuntime) -> Result<(), Fail> {
+fn a_watch_that_is_ended_teaches_nothing(rt: HostRuntime) {
     let mut table = PairTable::new();
     table.watch(0x100, 0x2_0000, 0);
     table.unwatch();
-    assert_eq!(rt; table.watched(), None);
-    assert_eq!(rt; table.saw(NOTHING, 2), None);
-    assert_eq!(rt; table.confidence(0x100), 2);
-    Ok(())
+    let (watched, verdict) = (table.watched(), table.saw(NOTHING, 2));
+    assert_eq!(rt;
+        (watched, verdict, table.confidence(0x100)),
+        (None, None, 2)
+    );
 }

@@ -3,9 +3,9 @@ ghost use Rattle.std.specs.Option.{option_map};
 ghost use Rattle.stamp.specs.Stamps as stamps;
 ghost use Rattle.policy.specs.Winners.{wins_of};
 
-use el_base::{HartId, Mode};
+use crate::harts::hart;
+use el_base::Mode;
 use policy::*;
-use std::test::Fail;
 
 /// Asks as a user does who is generic over the policy, and needs the one of a mode.
 fn asked<P: Policy>(mode: Mode, policy: &P, request: Option<Stamp>, holder: Option<Stamp>) -> bool
@@ -17,11 +17,8 @@ fn asked<P: Policy>(mode: Mode, policy: &P, request: Option<Stamp>, holder: Opti
 }
 
 #[test]
-fn the_request_wins_without_stamps_and_the_earlier_stamp_with_them(
-    rt: HostRuntime,
-) -> Result<(), Fail> {
-    let first = HartId::new(0).ok_or("no hart 0")?;
-    let second = HartId::new(1).ok_or("no hart 1")?;
+fn the_request_wins_without_stamps_and_the_earlier_stamp_with_them(rt: HostRuntime) {
+    let (first, second) = (hart(0), hart(1));
     let early = Stamp {
         clock: 3,
         hart: first,
@@ -45,15 +42,12 @@ fn the_request_wins_without_stamps_and_the_earlier_stamp_with_them(
         (None, None, false),
     ];
     for (request, holder, wins) in rows {
+        let with_stamps = asked(Mode::Tlr, &TlrPolicy, request, holder);
+        let without = asked(Mode::Sle, &SlePolicy, request, holder);
         assert_eq!(rt;
-            asked(Mode::Tlr, &TlrPolicy, request, holder),
-            wins,
-            "{request:?} {holder:?}"
-        );
-        assert!(rt;
-            asked(Mode::Sle, &SlePolicy, request, holder),
+            (with_stamps, without),
+            (wins, true),
             "{request:?} {holder:?}"
         );
     }
-    Ok(())
 }

@@ -1,11 +1,12 @@
-use el_base::{Event, HartId, Kind};
+use crate::harts::hart;
+use el_base::{Event, Kind};
 use schedule::{OrderFault, draw, drawn_at, read_order};
 use std::test::Fail;
 
 /// The first numbers of SplitMix64 for the seed 1234567, as the page 'Pseudo-random numbers/Splitmix64' of Rosetta Code has
 /// them, and the event of three harts that each one stands for.
 #[test]
-fn a_seed_draws_its_events(rt: HostRuntime) -> Result<(), Fail> {
+fn a_seed_draws_its_events(rt: HostRuntime) {
     for (place, number, kind, hart) in [
         (0, 6457827717110365317, Kind::Order, 2),
         (1, 3203168211198807973, Kind::Order, 0),
@@ -13,17 +14,14 @@ fn a_seed_draws_its_events(rt: HostRuntime) -> Result<(), Fail> {
         (3, 4593380528125082431, Kind::Deliver, 1),
         (4, 16408922859458223821, Kind::Order, 1),
     ] {
-        assert_eq!(rt; draw(1_234_567, place), number);
-        let event = drawn_at(1_234_567, 3, place);
-        assert_eq!(rt; event.kind, kind);
-        assert_eq!(rt; event.hart.number, hart);
+        let drawn = (draw(1_234_567, place), drawn_at(1_234_567, 3, place));
+        assert_eq!(rt; drawn, (number, event(kind, hart)), "{place}");
     }
-    Ok(())
 }
 
-fn event(kind: Kind, number: u8) -> Result<Event, Fail> {
-    let hart = HartId::new(number).ok_or("no such hart")?;
-    Ok(Event { kind, hart })
+fn event(kind: Kind, number: u8) -> Event {
+    let hart = hart(number);
+    Event { kind, hart }
 }
 
 #[test]
@@ -31,10 +29,10 @@ fn a_text_lists_events(rt: HostRuntime) -> Result<(), Fail> {
     let text = b"# a comment\nstep 0\n\norder 1 # another\r\nserve 0  \ndeliver 1";
     let events = read_order(rt.alloc(), text, 2).map_err(|_| "refused")?;
     let wanted = [
-        event(Kind::Step, 0)?,
-        event(Kind::Order, 1)?,
-        event(Kind::Serve, 0)?,
-        event(Kind::Deliver, 1)?,
+        event(Kind::Step, 0),
+        event(Kind::Order, 1),
+        event(Kind::Serve, 0),
+        event(Kind::Deliver, 1),
     ];
     assert_eq!(rt; events.as_slice(), wanted.as_slice());
     Ok(())

@@ -1,11 +1,18 @@
 //! Stamps that are just less, equal and greater, by clock and by hart.
 
-use el_base::HartId;
+use crate::harts::hart;
 use stamp::*;
-use std::test::Fail;
+
+/// A stamp of a clock and a hart's number.
+fn stamp_of((clock, number): (u64, u8)) -> Stamp {
+    Stamp {
+        clock,
+        hart: hart(number),
+    }
+}
 
 #[test]
-fn stamps_are_ordered_by_clock_and_then_by_hart(rt: HostRuntime) -> Result<(), Fail> {
+fn stamps_are_ordered_by_clock_and_then_by_hart(rt: HostRuntime) {
     let rows = [
         ((0, 0), (0, 0), false),
         ((0, 0), (0, 1), true),
@@ -17,18 +24,10 @@ fn stamps_are_ordered_by_clock_and_then_by_hart(rt: HostRuntime) -> Result<(), F
         ((u64::MAX, 6), (u64::MAX, 7), true),
         ((u64::MAX, 7), (u64::MAX, 7), false),
     ];
-    for ((left_clock, left_hart), (right_clock, right_hart), before) in rows {
-        let left = Stamp {
-            clock: left_clock,
-            hart: HartId::new(left_hart).ok_or("no such hart")?,
-        };
-        let right = Stamp {
-            clock: right_clock,
-            hart: HartId::new(right_hart).ok_or("no such hart")?,
-        };
-        assert_eq!(rt; less(left, right), before, "{left:?} {right:?}");
+    for (left, right, before) in rows {
+        let is_less = less(stamp_of(left), stamp_of(right));
+        assert_eq!(rt; is_less, before, "{left:?} {right:?}");
     }
-    Ok(())
 }
 
 #[test]

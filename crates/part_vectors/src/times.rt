@@ -1,5 +1,6 @@
-use chronicle::History;
-use el_base::{Cause, Entry, Event, Freed, HartId, Kind, Losers, Need, Outcome, Why, line_of};
+use crate::harts::hart;
+use crate::histories::history_of;
+use el_base::{Cause, Freed, HartId, Kind, Losers, Need, Outcome, Why, line_of};
 use std::alloc::Global;
 use std::process::Abort;
 use std::test::Fail;
@@ -16,32 +17,18 @@ struct Row {
 
 const NO_LOSS: [(u64, u64); 4] = [(0, 0); 4];
 
-fn hart(number: u8) -> Result<HartId, Fail> {
-    Ok(HartId::new(number).ok_or("no such hart")?)
-}
-
 /// The table of a history of these events, each with its hart and its outcome.
 fn table(
     rt: &impl Abort,
     alloc: Global,
     events: &[(Kind, HartId, Outcome)],
 ) -> Result<Times, Fail> {
-    let mut history = History::make(alloc, 40)?;
-    for (kind, hart, outcome) in events {
-        assert!(rt; history.spare() >= 1);
-        history.push(Entry {
-            event: Event {
-                kind: *kind,
-                hart: *hart,
-            },
-            outcome: *outcome,
-        });
-    }
+    let history = history_of(rt, alloc, 40, events)?;
     Ok(tabulate(&history))
 }
 
 /// The table has these rows for the harts from 0 on.
-fn check(rt: &impl Abort, times: &Times, rows: &[Row]) -> Result<(), Fail> {
+fn check(rt: &impl Abort, times: &Times, rows: &[Row]) {
     for (number, row) in rows.iter().enumerate() {
         assert!(rt; number < 8);
         let loser = HartId::at(number);
@@ -55,14 +42,13 @@ fn check(rt: &impl Abort, times: &Times, rows: &[Row]) -> Result<(), Fail> {
             assert_eq!(rt; losses, row.to[number as usize]);
         }
     }
-    Ok(())
 }
 
 /// A run of ten steps of one hart, of which the sixth misses a line: nine run, and the miss is ordered and
 /// served.
 #[test]
 fn a_plain_run_costs_its_units(rt: HostRuntime) -> Result<(), Fail> {
-    let only = hart(0)?;
+    let only = hart(0);
     let (losers, freed) = (Losers::none(), Freed::none());
     let (line, need) = (line_of(0x1_0080), Need::Read);
     let events = [
@@ -87,12 +73,13 @@ fn a_plain_run_costs_its_units(rt: HostRuntime) -> Result<(), Fail> {
         lost: 0,
         to: NO_LOSS,
     };
-    check(&rt, &times, &[row])
+    check(&rt, &times, &[row]);
+    Ok(())
 }
 
 #[test]
 fn a_loss_is_charged_to_the_loser(rt: HostRuntime) -> Result<(), Fail> {
-    let (first, second) = (hart(0)?, hart(1)?);
+    let (first, second) = (hart(0), hart(1));
     let losers = Losers::none().with(second, first);
     let freed = Freed::none();
     let events = [
@@ -111,20 +98,21 @@ fn a_loss_is_charged_to_the_loser(rt: HostRuntime) -> Result<(), Fail> {
         lost: 2,
         to: [(1, 2), (0, 0), (0, 0), (0, 0)],
     };
-    check(&rt, &times, &[of_first, of_second])
+    check(&rt, &times, &[of_first, of_second]);
+    Ok(())
 }
 
 /// The first half of a history with every outcome: harts 1 and 2 both lose to hart 0 at one serve, with two
 /// and three instructions.
-fn two_losers() -> Result<[(Kind, HartId, Outcome); 12], Fail> {
-    let (zero, one, two, three) = (hart(0)?, hart(1)?, hart(2)?, hart(3)?);
+fn two_losers() -> [(Kind, HartId, Outcome); 12] {
+    let (zero, one, two, three) = (hart(0), hart(1), hart(2), hart(3));
     let line = line_of(0x1_0080);
     let need = Need::Write;
     let why = Why::Retained;
     let nobody = Losers::none();
     let losers = nobody.with(one, zero).with(two, zero);
     let freed = Freed::none();
-    Ok([
+    [
         (Kind::Order, zero, Outcome::Idle),
         (Kind::Step, zero, Outcome::Stalled),
         (Kind::Step, zero, Outcome::Missed { line, need }),
@@ -137,20 +125,20 @@ fn two_losers() -> Result<[(Kind, HartId, Outcome); 12], Fail> {
         (Kind::Serve, three, Outcome::Blocked { why, by: one }),
         (Kind::Deliver, three, Outcome::Delivered { losers: nobody }),
         (Kind::Serve, zero, Outcome::Served { losers, freed }),
-    ])
+    ]
 }
 
 /// The second half: hart 1 loses right after a commit, with nothing, and again with the one instruction
 /// since it let itself go; hart 2 was let go, and then loses with one.
-fn settled_in_between() -> Result<[(Kind, HartId, Outcome); 15], Fail> {
-    let (zero, one, two, three) = (hart(0)?, hart(1)?, hart(2)?, hart(3)?);
+fn settled_in_between() -> [(Kind, HartId, Outcome); 15] {
+    let (zero, one, two, three) = (hart(0), hart(1), hart(2), hart(3));
     let cause = Cause::Room;
     let nobody = Losers::none();
     let to_three = nobody.with(one, three);
     let to_zero = nobody.with(two, zero);
     let to_two = nobody.with(one, two);
     let second = Freed::none().with(two, 1);
-    Ok([
+    [
         (Kind::Step, one, Outcome::Began),
         (Kind::Step, one, Outcome::Buffered),
         (Kind::Step, one, Outcome::Committed { count: 3 }),
@@ -180,12 +168,12 @@ fn settled_in_between() -> Result<[(Kind, HartId, Outcome); 15], Fail> {
             },
         ),
         (Kind::Serve, one, Outcome::Idle),
-    ])
+    ]
 }
 
 #[test]
 fn two_harts_lose_at_one_serve(rt: HostRuntime) -> Result<(), Fail> {
-    let times = table(&rt, rt.alloc(), &two_losers()?)?;
+    let times = table(&rt, rt.alloc(), &two_losers())?;
     let winner = Row {
         units: 23,
         lost: 0,
@@ -206,12 +194,13 @@ fn two_harts_lose_at_one_serve(rt: HostRuntime) -> Result<(), Fail> {
         lost: 0,
         to: NO_LOSS,
     };
-    check(&rt, &times, &[winner, first, second, bystander])
+    check(&rt, &times, &[winner, first, second, bystander]);
+    Ok(())
 }
 
 #[test]
 fn what_was_settled_is_not_lost(rt: HostRuntime) -> Result<(), Fail> {
-    let times = table(&rt, rt.alloc(), &settled_in_between()?)?;
+    let times = table(&rt, rt.alloc(), &settled_in_between())?;
     let winner = Row {
         units: 21,
         lost: 0,
@@ -232,5 +221,6 @@ fn what_was_settled_is_not_lost(rt: HostRuntime) -> Result<(), Fail> {
         lost: 0,
         to: NO_LOSS,
     };
-    check(&rt, &times, &[winner, first, second, other])
+    check(&rt, &times, &[winner, first, second, other]);
+    Ok(())
 }

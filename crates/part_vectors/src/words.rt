@@ -1,7 +1,6 @@
 use el_base::*;
 use std::mem::size_of;
 use std::process::Abort;
-use std::test::Fail;
 
 const FIRST: HartId = HartId { number: 0 };
 
@@ -10,17 +9,14 @@ const THIRD: HartId = HartId { number: 2 };
 const LAST: HartId = HartId { number: 7 };
 
 #[test]
-fn harts_are_numbered_0_to_7(rt: HostRuntime) -> Result<(), Fail> {
+fn harts_are_numbered_0_to_7(rt: HostRuntime) {
     for (number, known) in [(0, true), (1, true), (7, true), (8, false), (255, false)] {
-        let hart = HartId::new(number);
-        assert_eq!(rt; hart.is_some(), known, "at {number}");
-        assert_eq!(rt;
-            hart.map_or(number, |hart| hart.number()),
-            number,
-            "at {number}"
-        );
+        let found = match HartId::new(number) {
+            Some(hart) => (true, hart.number()),
+            None => (false, number),
+        };
+        assert_eq!(rt; found, (known, number));
     }
-    Ok(())
 }
 
 #[test]
@@ -41,11 +37,13 @@ fn a_set_keeps_each_hart_apart(rt: HostRuntime) {
     let (first, third, last) = (FIRST, THIRD, LAST);
     let ends = Harts::empty().with(first).with(last);
     for (hart, inside) in [(first, true), (third, false), (last, true)] {
-        assert!(rt; !Harts::empty().has(hart));
-        assert_eq!(rt; ends.has(hart), inside);
-        assert_eq!(rt; ends.with(hart) == ends, inside);
-        assert_eq!(rt; ends.without(hart) == ends, !inside);
-        assert!(rt; !ends.without(hart).has(hart));
+        let (with, without) = (ends.with(hart), ends.without(hart));
+        assert_eq!(rt;
+            [ends.has(hart), with == ends, without == ends],
+            [inside, inside, !inside]
+        );
+        let left = (Harts::empty().has(hart), without.has(hart));
+        assert_eq!(rt; left, (false, false));
     }
 }
 
@@ -63,8 +61,8 @@ fn a_hart_has_the_last_winner_given(rt: HostRuntime) {
         .with(last, first)
         .with(third, first);
     for (loser, winner) in [(first, None), (third, Some(first)), (last, Some(first))] {
-        assert_eq!(rt; Losers::none().winner_of(loser), None);
-        assert_eq!(rt; losers.winner_of(loser), winner);
+        let winners = (Losers::none().winner_of(loser), losers.winner_of(loser));
+        assert_eq!(rt; winners, (None, winner));
     }
     let other_way_round = Losers::none().with(last, first).with(third, first);
     assert_eq!(rt; losers, other_way_round);
@@ -75,8 +73,8 @@ fn a_hart_is_freed_with_the_last_count_given(rt: HostRuntime) {
     let (first, third, last) = (FIRST, THIRD, LAST);
     let freed = Freed::none().with(third, 15).with(last, 1).with(third, 4);
     for (hart, count) in [(first, 0), (third, 4), (last, 1)] {
-        assert_eq!(rt; Freed::none().count_of(hart), 0);
-        assert_eq!(rt; freed.count_of(hart), count);
+        let counts = (Freed::none().count_of(hart), freed.count_of(hart));
+        assert_eq!(rt; counts, (0, count));
     }
     assert_eq!(rt; freed, Freed::none().with(last, 1).with(third, 4));
 }
@@ -161,9 +159,8 @@ fn the_first_fault_is_answered(rt: HostRuntime) {
 
 #[test]
 fn an_entry_takes_16_bytes(rt: HostRuntime) {
-    assert_eq!(rt; size_of::<Losers>(), 4);
-    assert_eq!(rt; size_of::<Freed>(), 4);
-    assert_eq!(rt; size_of::<Entry>(), 16);
+    let sizes = [size_of::<Losers>(), size_of::<Freed>(), size_of::<Entry>()];
+    assert_eq!(rt; sizes, [4, 4, 16]);
 }
 
 #[test]
@@ -176,11 +173,10 @@ fn kinds_are_numbered_0_to_3(rt: HostRuntime) {
         (4, None),
         (255, None),
     ] {
-        assert_eq!(rt; Kind::with_number(number), kind, "at {number}");
-        assert_eq!(rt;
-            kind.map_or(number, |kind| kind.number()),
-            number,
-            "at {number}"
-        );
+        let own = match kind {
+            Some(kind) => kind.number(),
+            None => number,
+        };
+        assert_eq!(rt; (Kind::with_number(number), own), (kind, number));
     }
 }

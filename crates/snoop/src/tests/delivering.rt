@@ -98,72 +98,71 @@ fn mail_after(alloc: Global, harts: &[u8], of: u8) -> Result<[Option<Message>; 4
 
 #[test]
 fn each_waiting_hart_has_a_marker_of_the_one_before_it(rt: HostRuntime) -> Result<(), Fail> {
-    for (of, from) in [(2, 1), (3, 2), (0, 3)] {
-        let wanted = [Some(marker(from)), None, None, None];
-        assert_eq!(rt; mail_after(rt.alloc(), &[], of)?, wanted);
+    for (of, wanted) in [
+        (2, Some(marker(1))),
+        (3, Some(marker(2))),
+        (0, Some(marker(3))),
+        (1, None),
+    ] {
+        let mail = mail_after(rt.alloc(), &[], of)?;
+        assert_eq!(rt; mail, [wanted, None, None, None], "hart {of}");
     }
-    assert_eq!(rt; mail_after(rt.alloc(), &[], 1)?, [None; 4]);
     Ok(())
 }
 
 #[test]
 fn probes_go_up_the_chain(rt: HostRuntime) -> Result<(), Fail> {
-    let [after, two] = [Some(marker(2)), Some(probe(0))];
-    assert_eq!(rt; mail_after(rt.alloc(), &[0], 3)?, [after, two, None, None]);
-    let [after, two] = [Some(marker(1)), Some(probe(3))];
-    assert_eq!(rt;
-        mail_after(rt.alloc(), &[0, 3], 2)?,
-        [after, two, None, None]
-    );
-    let three = Some(probe(0));
-    assert_eq!(rt;
-        mail_after(rt.alloc(), &[0, 3, 3], 2)?,
-        [after, two, three, None]
-    );
-    let all = [Some(probe(2)), Some(probe(3)), Some(probe(0)), None];
-    assert_eq!(rt; mail_after(rt.alloc(), &[0, 3, 3, 2, 2, 2], 1)?, all);
-    assert_eq!(rt; mail_after(rt.alloc(), &[0, 3, 3, 2, 2, 2], 0)?, [None; 4]);
+    let of_zero = Some(probe(0));
+    let (after_two, after_one) = (Some(marker(2)), Some(marker(1)));
+    let (of_two, of_three) = (Some(probe(2)), Some(probe(3)));
+    // who took a message each, in this order, and what lies in the mailbox of a hart then
+    let rows: [(&[u8], u8, [Option<Message>; 4]); 5] = [
+        (&[0], 3, [after_two, of_zero, None, None]),
+        (&[0, 3], 2, [after_one, of_three, None, None]),
+        (&[0, 3, 3], 2, [after_one, of_three, of_zero, None]),
+        (&[0, 3, 3, 2, 2, 2], 1, [of_two, of_three, of_zero, None]),
+        (&[0, 3, 3, 2, 2, 2], 0, [None; 4]),
+    ];
+    for (harts, of, wanted) in rows {
+        let mail = mail_after(rt.alloc(), harts, of)?;
+        assert_eq!(rt; mail, wanted, "hart {of} after {harts:?}");
+    }
     Ok(())
 }
 
 #[test]
 fn a_chain_of_four_loses_to_its_earliest(rt: HostRuntime) -> Result<(), Fail> {
-    let (one, two) = (hart(1), hart(2));
+    let (one, two, why) = (hart(1), hart(2), Why::Retained);
     let mut rig = chain_before_the_last_probe(rt.alloc())?;
-    assert!(rt; is_marked(&rig, one));
-    assert_eq!(rt;
-        serve(&mut rig, two),
-        Some(Outcome::Blocked {
-            why: Why::Retained,
-            by: one
-        })
-    );
-    assert_eq!(rt; deliver(&mut rig, one), delivered(&[(1, 0)]));
-    assert!(rt; !is_marked(&rig, one));
-    assert_eq!(rt; deliver(&mut rig, one), Some(Outcome::Idle));
+    let before = is_marked(&rig, one);
+    serve_says(&rt, &mut rig, two, Some(Outcome::Blocked { why, by: one }));
+    deliver_says(&rt, &mut rig, one, delivered(&[(1, 0)]));
+    let after = is_marked(&rig, one);
+    deliver_says(&rt, &mut rig, one, Some(Outcome::Idle));
     // each of the next two was told of hart 0, and loses as the next head is faced
-    assert_eq!(rt; serve(&mut rig, two), served(&[(2, 0)]));
-    assert_eq!(rt; serve(&mut rig, hart(3)), served(&[(3, 0)]));
-    assert_eq!(rt; serve(&mut rig, hart(0)), served(&[]));
-    assert!(rt; is_marked(&rig, hart(0)));
+    serve_says(&rt, &mut rig, two, served(&[(2, 0)]));
+    serve_says(&rt, &mut rig, hart(3), served(&[(3, 0)]));
+    serve_says(&rt, &mut rig, hart(0), served(&[]));
+    let last = is_marked(&rig, hart(0));
+    assert_eq!(rt; (before, after, last), (true, false, true));
     Ok(())
 }
 
 #[test]
 fn a_probe_that_comes_after_the_commit_costs_nobody(rt: HostRuntime) -> Result<(), Fail> {
     let mut rig = chain_after_the_commit(rt.alloc())?;
-    assert_eq!(rt; deliver(&mut rig, hart(1)), delivered(&[]));
-    assert_eq!(rt; serve(&mut rig, hart(2)), served(&[(2, 0)]));
+    deliver_says(&rt, &mut rig, hart(1), delivered(&[]));
+    serve_says(&rt, &mut rig, hart(2), served(&[(2, 0)]));
     Ok(())
 }
 
 #[test]
 fn a_probe_goes_as_its_origin_is_served(rt: HostRuntime) -> Result<(), Fail> {
     let mut rig = chain_after_the_commit(rt.alloc())?;
-    assert_eq!(rt; serve(&mut rig, hart(2)), served(&[(2, 0)]));
-    assert_eq!(rt; serve(&mut rig, hart(3)), served(&[(3, 0)]));
-    assert_eq!(rt; serve(&mut rig, hart(0)), served(&[]));
-    assert_eq!(rt; deliver(&mut rig, hart(1)), Some(Outcome::Idle));
+    serve_says(&rt, &mut rig, hart(2), served(&[(2, 0)]));
+    serve_says(&rt, &mut rig, hart(3), served(&[(3, 0)]));
+    serve_says(&rt, &mut rig, hart(0), served(&[]));
+    deliver_says(&rt, &mut rig, hart(1), Some(Outcome::Idle));
     Ok(())
 }
 
@@ -173,10 +172,10 @@ fn a_late_probe_costs_the_next_hart_its_section(rt: HostRuntime) -> Result<(), F
     let mut rig = chain_after(rt.alloc(), &[0, 3, 3])?;
     end_section(&mut rig, hart(1));
     // hart 2 was told of nobody yet, and defers hart 3
-    assert_eq!(rt; serve(&mut rig, two), served(&[]));
-    assert_eq!(rt; deliver(&mut rig, two), delivered(&[]));
-    assert_eq!(rt; deliver(&mut rig, two), delivered(&[(2, 0)]));
-    assert_eq!(rt; serve(&mut rig, hart(3)), served(&[(3, 0)]));
+    serve_says(&rt, &mut rig, two, served(&[]));
+    deliver_says(&rt, &mut rig, two, delivered(&[]));
+    deliver_says(&rt, &mut rig, two, delivered(&[(2, 0)]));
+    serve_says(&rt, &mut rig, hart(3), served(&[(3, 0)]));
     Ok(())
 }
 
@@ -194,12 +193,19 @@ fn answer(alloc: Global, before: &[u8], of: u8) -> Result<[Option<Message>; 4], 
 
 #[test]
 fn a_marker_is_answered_with_what_the_hart_was_told(rt: HostRuntime) -> Result<(), Fail> {
-    // hart 0 is not told of itself
     let own = Some(probe(1));
-    assert_eq!(rt; answer(rt.alloc(), &[0], 0)?, [own, None, None, None]);
-    // nor is anyone told of a hart that is not ordered on the line
-    assert_eq!(rt; answer(rt.alloc(), &[2], 2)?, [own, None, None, None]);
-    let all = [Some(marker(0)), own, Some(probe(0)), None];
-    assert_eq!(rt; answer(rt.alloc(), &[0, 2], 2)?, all);
+    let (after_zero, of_zero) = (Some(marker(0)), Some(probe(0)));
+    // who waits before hart 1, and what lies in the mailbox of a hart then
+    let rows: [(&[u8], u8, [Option<Message>; 4]); 3] = [
+        // hart 0 is not told of itself
+        (&[0], 0, [own, None, None, None]),
+        // nor is anyone told of a hart that is not ordered on the line
+        (&[2], 2, [own, None, None, None]),
+        (&[0, 2], 2, [after_zero, own, of_zero, None]),
+    ];
+    for (before, of, wanted) in rows {
+        let mail = answer(rt.alloc(), before, of)?;
+        assert_eq!(rt; mail, wanted, "hart {of} behind {before:?}");
+    }
     Ok(())
 }

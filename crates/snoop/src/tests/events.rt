@@ -7,6 +7,7 @@ ghost use Rattle.snoop.specs.Shows.{IsTold, kept};
 use super::*;
 use cache_sets::Letter;
 use el_base::{Freed, Losers};
+use std::process::Abort;
 
 /// The line after the first one of memory.
 pub(super) fn next_line() -> LineAddr {
@@ -171,4 +172,52 @@ pub(super) fn bytes(rig: &Rig, address: u32) -> (Option<u8>, Option<u8>)
         .has_in_memory(line_of(address))
         .then(|| rig.bus.hierarchy.main_byte(address));
     (rig.bus.byte(&rig.pool, address), main)
+}
+
+/// A hart asks for a line, which it may.
+pub(super) fn asks_for(rt: &impl Abort, rig: &mut Rig, hart: HartId, line: LineAddr, need: Need)
+    requires { IsTold rig.old.pool (kept rig.old.bus) }
+    ensures { IsTold rig.new.pool (kept rig.new.bus) }
+{
+    let asked = ask_for(rig, hart, line, need);
+    assert!(rt; asked, "{hart:?} {need:?}");
+}
+
+/// A hart asks for a line, and its request is ordered with no loser.
+pub(super) fn comes(rt: &impl Abort, rig: &mut Rig, hart: HartId, line: LineAddr, need: Need)
+    requires { IsTold rig.old.pool (kept rig.old.bus) }
+    ensures { IsTold rig.new.pool (kept rig.new.bus) }
+{
+    asks_for(rt, rig, hart, line, need);
+    order_says(rt, rig, hart, ordered(&[]));
+}
+
+/// Order says this of a hart.
+pub(super) fn order_says(rt: &impl Abort, rig: &mut Rig, hart: HartId, outcome: Option<Outcome>)
+    requires { IsTold rig.old.pool (kept rig.old.bus) }
+    ensures { IsTold rig.new.pool (kept rig.new.bus) }
+{
+    let said = order(rig, hart);
+    let mode = rig.bus.mode;
+    assert_eq!(rt; said, outcome, "{mode:?} {hart:?}");
+}
+
+/// Serve says this of a hart.
+pub(super) fn serve_says(rt: &impl Abort, rig: &mut Rig, hart: HartId, outcome: Option<Outcome>)
+    requires { IsTold rig.old.pool (kept rig.old.bus) }
+    ensures { IsTold rig.new.pool (kept rig.new.bus) }
+{
+    let said = serve(rig, hart);
+    let mode = rig.bus.mode;
+    assert_eq!(rt; said, outcome, "{mode:?} {hart:?}");
+}
+
+/// Deliver says this of a hart.
+pub(super) fn deliver_says(rt: &impl Abort, rig: &mut Rig, hart: HartId, outcome: Option<Outcome>)
+    requires { IsTold rig.old.pool (kept rig.old.bus) }
+    ensures { IsTold rig.new.pool (kept rig.new.bus) }
+{
+    let said = deliver(rig, hart);
+    let mode = rig.bus.mode;
+    assert_eq!(rt; said, outcome, "{mode:?} {hart:?}");
 }

@@ -2,8 +2,9 @@
 
 ghost use Rattle.snoop.specs.Shows.{IsTold, kept};
 
-use super::events::{ordered, ordered_and_freed, served_and_freed};
+use super::events::*;
 use super::*;
+use std::process::Abort;
 
 /// A hart is armed, and has run so many instructions.
 fn arm(rig: &mut Rig, hart: HartId, count: u8)
@@ -16,14 +17,24 @@ fn arm(rig: &mut Rig, hart: HartId, count: u8)
 }
 
 /// Whether a hart's cache has a bit, and what is noted of its armed section.
-fn armed(rig: &Rig, number: u8) -> Result<(bool, Option<u8>), Fail> {
+fn armed(rig: &Rig, number: u8) -> (bool, Option<u8>) {
     let hart = hart(number);
     let count = rig
         .bus
         .agents
         .get(usize::from(number))
         .map(|agent| agent.armed());
-    Ok((is_marked(rig, hart), count))
+    (is_marked(rig, hart), count)
+}
+
+/// A hart's cache has a bit where this says so, and so much is noted of its armed section.
+fn is_armed(rt: &impl Abort, rig: &Rig, number: u8, marked: bool, count: u8) {
+    let mode = rig.bus.mode;
+    assert_eq!(rt;
+        armed(rig, number),
+        (marked, Some(count)),
+        "{mode:?} hart {number}"
+    );
 }
 
 #[test]
@@ -32,16 +43,12 @@ fn a_write_lets_an_armed_hart_go(rt: HostRuntime) -> Result<(), Fail> {
     for mode in [Mode::Sle, Mode::Tlr] {
         let mut rig = made(rt.alloc(), mode, &[1], false)?;
         arm(&mut rig, one, 2);
-        assert_eq!(rt; armed(&rig, 1)?, (true, Some(2)));
-        assert!(rt; ask(&mut rig, zero, Need::Write));
-        assert_eq!(rt;
-            order(&mut rig, zero),
-            ordered_and_freed(&[], &[(1, 2)]),
-            "{mode:?}"
-        );
-        assert_eq!(rt; armed(&rig, 1)?, (false, Some(0)));
+        is_armed(&rt, &rig, 1, true, 2);
+        asks_for(&rt, &mut rig, zero, line(), Need::Write);
+        order_says(&rt, &mut rig, zero, ordered_and_freed(&[], &[(1, 2)]));
+        is_armed(&rt, &rig, 1, false, 0);
         // no section is in the way any more
-        assert_eq!(rt; events::serve(&mut rig, zero), events::served(&[]));
+        serve_says(&rt, &mut rig, zero, served(&[]));
     }
     Ok(())
 }
@@ -52,11 +59,10 @@ fn a_read_lets_nobody_go(rt: HostRuntime) -> Result<(), Fail> {
     for mode in [Mode::Sle, Mode::Tlr] {
         let mut rig = made(rt.alloc(), mode, &[1], false)?;
         arm(&mut rig, one, 2);
-        assert!(rt; ask(&mut rig, zero, Need::Read));
-        assert_eq!(rt; order(&mut rig, zero), ordered(&[]), "{mode:?}");
-        assert_eq!(rt; armed(&rig, 1)?, (true, Some(2)));
-        assert_eq!(rt; events::serve(&mut rig, zero), events::served(&[]));
-        assert_eq!(rt; armed(&rig, 1)?, (true, Some(2)));
+        comes(&rt, &mut rig, zero, line(), Need::Read);
+        is_armed(&rt, &rig, 1, true, 2);
+        serve_says(&rt, &mut rig, zero, served(&[]));
+        is_armed(&rt, &rig, 1, true, 2);
     }
     Ok(())
 }
@@ -68,11 +74,11 @@ fn two_armed_harts_are_let_go_at_once(rt: HostRuntime) -> Result<(), Fail> {
         let mut rig = made(rt.alloc(), mode, &[1, 2, 3], false)?;
         arm(&mut rig, hart(1), 1);
         arm(&mut rig, hart(2), 15);
-        assert!(rt; ask(&mut rig, hart(0), Need::Write));
+        asks_for(&rt, &mut rig, hart(0), line(), Need::Write);
         let wanted = ordered_and_freed(&[(3, 0)], &[(1, 1), (2, 15)]);
-        assert_eq!(rt; order(&mut rig, hart(0)), wanted, "{mode:?}");
+        order_says(&rt, &mut rig, hart(0), wanted);
         for number in [1, 2, 3] {
-            assert_eq!(rt; armed(&rig, number)?, (false, Some(0)), "hart {number}");
+            is_armed(&rt, &rig, number, false, 0);
         }
         // who is let go defers nothing, and sends no marker
         assert_eq!(rt; message(&mut rig, hart(0)), None);
@@ -84,9 +90,8 @@ fn two_armed_harts_are_let_go_at_once(rt: HostRuntime) -> Result<(), Fail> {
 fn an_armed_hart_of_another_line_stays(rt: HostRuntime) -> Result<(), Fail> {
     let mut rig = made(rt.alloc(), Mode::Tlr, &[1], false)?;
     arm(&mut rig, hart(1), 3);
-    assert!(rt; events::ask_for(&mut rig, hart(0), events::next_line(), Need::Write));
-    assert_eq!(rt; order(&mut rig, hart(0)), ordered(&[]));
-    assert_eq!(rt; armed(&rig, 1)?, (true, Some(3)));
+    comes(&rt, &mut rig, hart(0), next_line(), Need::Write);
+    is_armed(&rt, &rig, 1, true, 3);
     Ok(())
 }
 
@@ -98,15 +103,13 @@ fn the_next_head_lets_go_as_one_is_served(rt: HostRuntime) -> Result<(), Fail> {
         let mut rig = made(rt.alloc(), mode, &[1, 2], false)?;
         arm(&mut rig, hart(1), 4);
         arm(&mut rig, hart(2), 5);
-        assert!(rt; ask(&mut rig, zero, Need::Read));
-        assert_eq!(rt; order(&mut rig, zero), ordered(&[]));
-        assert!(rt; ask(&mut rig, three, Need::Write));
-        assert_eq!(rt; order(&mut rig, three), ordered(&[]));
-        assert_eq!(rt; armed(&rig, 1)?, (true, Some(4)));
+        comes(&rt, &mut rig, zero, line(), Need::Read);
+        comes(&rt, &mut rig, three, line(), Need::Write);
+        is_armed(&rt, &rig, 1, true, 4);
         let wanted = served_and_freed(&[], &[(1, 4), (2, 5)]);
-        assert_eq!(rt; events::serve(&mut rig, zero), wanted, "{mode:?}");
-        assert_eq!(rt; armed(&rig, 1)?, (false, Some(0)));
-        assert_eq!(rt; armed(&rig, 2)?, (false, Some(0)));
+        serve_says(&rt, &mut rig, zero, wanted);
+        is_armed(&rt, &rig, 1, false, 0);
+        is_armed(&rt, &rig, 2, false, 0);
     }
     Ok(())
 }

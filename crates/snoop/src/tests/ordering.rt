@@ -1,6 +1,6 @@
 //! Requests that take their place.
 
-use super::events::ordered;
+use super::events::*;
 use super::*;
 
 #[test]
@@ -8,23 +8,24 @@ fn a_second_request_goes_behind(rt: HostRuntime) -> Result<(), Fail> {
     let (first, second) = (hart(0), hart(1));
     for mode in [Mode::Plain, Mode::Sle, Mode::Tlr] {
         let mut rig = made(rt.alloc(), mode, &[], false)?;
-        assert_eq!(rt; order(&mut rig, first), Some(Outcome::Idle));
-        assert!(rt; ask(&mut rig, first, Need::Write));
-        assert!(rt; ask(&mut rig, second, Need::Read));
-        assert_eq!(rt; order(&mut rig, first), ordered(&[]));
-        assert_eq!(rt; order(&mut rig, first), Some(Outcome::Idle));
-        assert_eq!(rt; order(&mut rig, second), ordered(&[]));
-        let head = rig.bus.order.first_of(line()).ok_or("no head")?;
-        let last = rig.bus.order.tail_of(line()).ok_or("no last one")?;
-        assert_eq!(rt; (head.hart, last.hart), (first, second));
+        order_says(&rt, &mut rig, first, Some(Outcome::Idle));
+        asks_for(&rt, &mut rig, first, line(), Need::Write);
+        asks_for(&rt, &mut rig, second, line(), Need::Read);
+        order_says(&rt, &mut rig, first, ordered(&[]));
+        order_says(&rt, &mut rig, first, Some(Outcome::Idle));
+        order_says(&rt, &mut rig, second, ordered(&[]));
+        let ends = (head(&rig), last(&rig));
         // the last one of the line sends a marker in lock removal alone
         let wanted = if mode == Mode::Tlr {
             Some(marker(0))
         } else {
             None
         };
-        assert_eq!(rt; message(&mut rig, second), wanted, "{mode:?}");
-        assert_eq!(rt; message(&mut rig, first), None);
+        assert_eq!(rt;
+            (ends, message(&mut rig, second), message(&mut rig, first)),
+            ((Some(first), Some(second)), wanted, None),
+            "{mode:?}"
+        );
     }
     Ok(())
 }
@@ -32,6 +33,11 @@ fn a_second_request_goes_behind(rt: HostRuntime) -> Result<(), Fail> {
 /// The hart of the first request for the line.
 fn head(rig: &Rig) -> Option<HartId> {
     Some(rig.bus.order.first_of(line())?.hart)
+}
+
+/// The hart of the last one.
+fn last(rig: &Rig) -> Option<HartId> {
+    Some(rig.bus.order.tail_of(line())?.hart)
 }
 
 /// Harts 1, 2 and 3 have read the line in their sections; hart 0 waits to read it, which meets none of them. Then
@@ -64,26 +70,48 @@ fn marked(rig: &Rig) -> [bool; 4] {
 fn a_request_in_front_meets_two_sections(rt: HostRuntime) -> Result<(), Fail> {
     // without stamps both lose to the head, whatever was told, and no marker is sent
     let (mut rig, outcome) = in_front(rt.alloc(), Mode::Sle, true)?;
-    assert_eq!(rt; outcome, ordered(&[(1, 2), (3, 2)]));
-    assert_eq!(rt; marked(&rig), [false, false, true, false]);
-    assert_eq!(rt; message(&mut rig, hart(0)), None);
-    assert_eq!(rt; message(&mut rig, hart(2)), None);
-
+    let (bits, mail) = (marked(&rig), mail_of_two(&mut rig));
+    assert_eq!(rt;
+        (outcome, bits, mail),
+        (
+            ordered(&[(1, 2), (3, 2)]),
+            [false, false, true, false],
+            [None; 4]
+        )
+    );
     // in lock removal hart 1 does not lose to hart 2, but to hart 0, of which it was told; hart 2 sends hart 0,
     // whose request was the first one of the line, a marker
     let (mut rig, outcome) = in_front(rt.alloc(), Mode::Tlr, true)?;
-    assert_eq!(rt; outcome, ordered(&[(1, 0), (3, 2)]));
-    assert_eq!(rt; marked(&rig), [false, false, true, false]);
-    assert_eq!(rt; message(&mut rig, hart(0)), Some(marker(2)));
-    assert_eq!(rt; message(&mut rig, hart(0)), None);
-    assert_eq!(rt; message(&mut rig, hart(2)), None);
-
+    let (bits, mail) = (marked(&rig), mail_of_two(&mut rig));
+    assert_eq!(rt;
+        (outcome, bits, mail),
+        (
+            ordered(&[(1, 0), (3, 2)]),
+            [false, false, true, false],
+            [Some(marker(2)), None, None, None]
+        )
+    );
     // where it was not told, it stays and sends the head's hart a marker
     let (mut rig, outcome) = in_front(rt.alloc(), Mode::Tlr, false)?;
-    assert_eq!(rt; outcome, ordered(&[(3, 2)]));
-    assert_eq!(rt; marked(&rig), [false, true, true, false]);
-    assert_eq!(rt; message(&mut rig, hart(0)), Some(marker(2)));
-    assert_eq!(rt; message(&mut rig, hart(2)), Some(marker(1)));
-    assert_eq!(rt; message(&mut rig, hart(2)), None);
+    let (bits, mail) = (marked(&rig), mail_of_two(&mut rig));
+    assert_eq!(rt;
+        (outcome, bits, mail),
+        (
+            ordered(&[(3, 2)]),
+            [false, true, true, false],
+            [Some(marker(2)), None, Some(marker(1)), None]
+        )
+    );
     Ok(())
+}
+
+/// The two oldest messages of hart 0, and then of hart 2.
+fn mail_of_two(rig: &mut Rig) -> [Option<Message>; 4] {
+    let (zero, two) = (hart(0), hart(2));
+    [
+        message(rig, zero),
+        message(rig, zero),
+        message(rig, two),
+        message(rig, two),
+    ]
 }

@@ -2,6 +2,7 @@
 
 use super::events::*;
 use super::*;
+use std::process::Abort;
 
 /// Whether a hart's request would be served.
 fn serves(rig: &Rig, hart: HartId) -> bool {
@@ -33,34 +34,43 @@ fn mailed_harts(rig: &Rig) -> [bool; 4] {
     ]
 }
 
+/// The requests of these harts would be served, and no others.
+fn serves_alone(rt: &impl Abort, rig: &Rig, harts: [bool; 4]) {
+    assert_eq!(rt; served_harts(rig), harts);
+}
+
+/// These harts have mail, and no others.
+fn has_mail_alone(rt: &impl Abort, rig: &Rig, harts: [bool; 4]) {
+    let mode = rig.bus.mode;
+    assert_eq!(rt; mailed_harts(rig), harts, "{mode:?}");
+}
+
 #[test]
 fn a_request_is_served_where_nothing_is_in_its_way(rt: HostRuntime) -> Result<(), Fail> {
     let (one, two, three) = (hart(1), hart(2), hart(3));
     let none = [false; 4];
     // hart 0 has read the line in its section
     let mut rig = made(rt.alloc(), Mode::Tlr, &[0], false)?;
-    assert_eq!(rt; served_harts(&rig), none);
+    serves_alone(&rt, &rig, none);
     // a raised request is not served, an ordered one is
-    assert!(rt; ask(&mut rig, three, Need::Read));
-    assert_eq!(rt; served_harts(&rig), none);
-    assert_eq!(rt; order(&mut rig, three), ordered(&[]));
-    assert_eq!(rt; served_harts(&rig), [false, false, false, true]);
-    assert_eq!(rt; serve(&mut rig, three), served(&[]));
-    assert_eq!(rt; served_harts(&rig), none);
+    asks_for(&rt, &mut rig, three, line(), Need::Read);
+    serves_alone(&rt, &rig, none);
+    order_says(&rt, &mut rig, three, ordered(&[]));
+    serves_alone(&rt, &rig, [false, false, false, true]);
+    serve_says(&rt, &mut rig, three, served(&[]));
+    serves_alone(&rt, &rig, none);
     // hart 2 would write the line, and hart 1 read it behind: the section retains it, and then hart 3 holds it
-    assert!(rt; ask(&mut rig, two, Need::Write));
-    assert_eq!(rt; order(&mut rig, two), ordered(&[]));
-    assert!(rt; ask(&mut rig, one, Need::Read));
-    assert_eq!(rt; order(&mut rig, one), ordered(&[]));
-    assert_eq!(rt; served_harts(&rig), none);
+    comes(&rt, &mut rig, two, line(), Need::Write);
+    comes(&rt, &mut rig, one, line(), Need::Read);
+    serves_alone(&rt, &rig, none);
     end_section(&mut rig, hart(0));
-    assert_eq!(rt; served_harts(&rig), none);
+    serves_alone(&rt, &rig, none);
     give_up(&mut rig, three);
-    assert_eq!(rt; served_harts(&rig), [false, false, true, false]);
-    assert_eq!(rt; serve(&mut rig, two), served(&[]));
-    assert_eq!(rt; served_harts(&rig), none);
+    serves_alone(&rt, &rig, [false, false, true, false]);
+    serve_says(&rt, &mut rig, two, served(&[]));
+    serves_alone(&rt, &rig, none);
     give_up(&mut rig, two);
-    assert_eq!(rt; served_harts(&rig), [false, true, false, false]);
+    serves_alone(&rt, &rig, [false, true, false, false]);
     Ok(())
 }
 
@@ -71,17 +81,15 @@ fn a_hart_has_mail_until_it_has_taken_each_message(rt: HostRuntime) -> Result<()
     for mode in [Mode::Sle, Mode::Tlr] {
         let removal = mode == Mode::Tlr;
         let mut rig = made(rt.alloc(), mode, &[], false)?;
-        assert!(rt; ask(&mut rig, zero, Need::Write));
-        assert_eq!(rt; order(&mut rig, zero), ordered(&[]));
-        assert_eq!(rt; mailed_harts(&rig), none);
+        comes(&rt, &mut rig, zero, line(), Need::Write);
+        has_mail_alone(&rt, &rig, none);
         // in lock removal hart 0 sends hart 1 a marker, which answers with a probe
-        assert!(rt; ask(&mut rig, one, Need::Write));
-        assert_eq!(rt; order(&mut rig, one), ordered(&[]));
-        assert_eq!(rt; mailed_harts(&rig), [false, removal, false, false]);
+        comes(&rt, &mut rig, one, line(), Need::Write);
+        has_mail_alone(&rt, &rig, [false, removal, false, false]);
         deliver(&mut rig, one);
-        assert_eq!(rt; mailed_harts(&rig), [removal, false, false, false]);
+        has_mail_alone(&rt, &rig, [removal, false, false, false]);
         deliver(&mut rig, zero);
-        assert_eq!(rt; mailed_harts(&rig), none);
+        has_mail_alone(&rt, &rig, none);
     }
     Ok(())
 }

@@ -41,10 +41,13 @@ fn two_harts_read_and_one_writes(rt: HostRuntime) -> Result<(), Fail> {
         (zero, Need::Read, (Letter::S, Letter::O)),
         (zero, Need::Write, (Letter::M, Letter::I)),
     ] {
-        assert_eq!(rt; get_and_step(&mut rig, who, need), served(&[]));
-        assert_eq!(rt; letters(&rig), wanted, "{who:?} {need:?}");
+        let outcome = get_and_step(&mut rig, who, need);
         // nothing was stored, so main memory tells what the copies do
-        assert_eq!(rt; bytes(&rig, 0x10001), (Some(0x45), Some(0x45)));
+        assert_eq!(rt;
+            (outcome, letters(&rig), bytes(&rig, 0x10001)),
+            (served(&[]), wanted, (Some(0x45), Some(0x45))),
+            "{who:?} {need:?}"
+        );
     }
     assert_eq!(rt; bytes(&rig, 0xffff), (None, None));
     Ok(())
@@ -56,25 +59,24 @@ fn the_first_thing_in_the_way_is_told(rt: HostRuntime) -> Result<(), Fail> {
     // hart 0 has read the line in its section, and hart 3 holds it; hart 2 comes to write it, and hart 1 behind
     let mut rig = made(rt.alloc(), Mode::Tlr, &[0], false)?;
     assert_eq!(rt; get(&mut rig, three, line(), Need::Read), served(&[]));
-    assert!(rt; ask_for(&mut rig, two, line(), Need::Write));
-    assert_eq!(rt; order(&mut rig, two), ordered(&[]));
-    assert!(rt; ask_for(&mut rig, one, line(), Need::Read));
-    assert_eq!(rt; order(&mut rig, one), ordered(&[]));
+    comes(&rt, &mut rig, two, line(), Need::Write);
+    comes(&rt, &mut rig, one, line(), Need::Read);
     // the head's hart is told though the line is retained and held
-    assert_eq!(rt; serve(&mut rig, one), blocked(Why::Behind, 2));
+    serve_says(&rt, &mut rig, one, blocked(Why::Behind, 2));
     // the section's hart is told though the line is held
-    assert_eq!(rt; serve(&mut rig, two), blocked(Why::Retained, 0));
+    serve_says(&rt, &mut rig, two, blocked(Why::Retained, 0));
     end_section(&mut rig, hart(0));
-    assert_eq!(rt; serve(&mut rig, two), blocked(Why::Locked, 3));
-    assert_eq!(rt; letter(&rig, two, line()), Letter::I);
+    serve_says(&rt, &mut rig, two, blocked(Why::Locked, 3));
+    let before = letter(&rig, two, line());
     give_up(&mut rig, three);
-    assert_eq!(rt; serve(&mut rig, two), served(&[]));
-    assert_eq!(rt; letter(&rig, two, line()), Letter::M);
-    assert_eq!(rt; serve(&mut rig, two), Some(Outcome::Idle));
+    serve_says(&rt, &mut rig, two, served(&[]));
+    let after = letter(&rig, two, line());
+    assert_eq!(rt; (before, after), (Letter::I, Letter::M));
+    serve_says(&rt, &mut rig, two, Some(Outcome::Idle));
     // hart 2 has no section, so it holds the line now
-    assert_eq!(rt; serve(&mut rig, one), blocked(Why::Locked, 2));
+    serve_says(&rt, &mut rig, one, blocked(Why::Locked, 2));
     give_up(&mut rig, two);
-    assert_eq!(rt; serve(&mut rig, one), served(&[]));
+    serve_says(&rt, &mut rig, one, served(&[]));
     Ok(())
 }
 
@@ -82,15 +84,14 @@ fn the_first_thing_in_the_way_is_told(rt: HostRuntime) -> Result<(), Fail> {
 fn the_least_hart_that_retains_is_told(rt: HostRuntime) -> Result<(), Fail> {
     let three = hart(3);
     let mut rig = made(rt.alloc(), Mode::Tlr, &[0, 1, 2], false)?;
-    assert!(rt; ask_for(&mut rig, three, line(), Need::Write));
-    assert_eq!(rt; order(&mut rig, three), ordered(&[]));
-    assert_eq!(rt; serve(&mut rig, three), blocked(Why::Retained, 0));
+    comes(&rt, &mut rig, three, line(), Need::Write);
+    serve_says(&rt, &mut rig, three, blocked(Why::Retained, 0));
     end_section(&mut rig, hart(1));
-    assert_eq!(rt; serve(&mut rig, three), blocked(Why::Retained, 0));
+    serve_says(&rt, &mut rig, three, blocked(Why::Retained, 0));
     end_section(&mut rig, hart(0));
-    assert_eq!(rt; serve(&mut rig, three), blocked(Why::Retained, 2));
+    serve_says(&rt, &mut rig, three, blocked(Why::Retained, 2));
     end_section(&mut rig, hart(2));
-    assert_eq!(rt; serve(&mut rig, three), served(&[]));
+    serve_says(&rt, &mut rig, three, served(&[]));
     Ok(())
 }
 
@@ -111,10 +112,15 @@ fn after_section(alloc: Global, need: Need) -> Result<(Option<Outcome>, Option<O
 #[test]
 fn a_section_gets_a_bit_and_holds_no_line(rt: HostRuntime) -> Result<(), Fail> {
     // a read meets the write bit alone, and in elision it wins; the section holds no line, so nothing is in the way
-    let written = (ordered(&[(0, 1)]), served(&[]));
-    assert_eq!(rt; after_section(rt.alloc(), Need::Write)?, written);
-    let read = (ordered(&[]), served(&[]));
-    assert_eq!(rt; after_section(rt.alloc(), Need::Read)?, read);
+    let written = after_section(rt.alloc(), Need::Write)?;
+    let read = after_section(rt.alloc(), Need::Read)?;
+    assert_eq!(rt;
+        (written, read),
+        (
+            (ordered(&[(0, 1)]), served(&[])),
+            (ordered(&[]), served(&[]))
+        )
+    );
     Ok(())
 }
 
@@ -138,24 +144,26 @@ fn met(alloc: Global, mode: Mode) -> Result<(Rig, Option<Outcome>), Fail>
 #[test]
 fn a_chain_of_two_waits_in_lock_removal(rt: HostRuntime) -> Result<(), Fail> {
     let (zero, one) = (hart(0), hart(1));
-    let (_, outcome) = met(rt.alloc(), Mode::Sle)?;
-    assert_eq!(rt; outcome, ordered(&[(0, 1)]));
-
+    let (_, elided) = met(rt.alloc(), Mode::Sle)?;
     let (mut rig, outcome) = met(rt.alloc(), Mode::Tlr)?;
-    assert_eq!(rt; outcome, ordered(&[]));
-    assert_eq!(rt; letter(&rig, zero, next_line()), Letter::E);
-    assert_eq!(rt; serve(&mut rig, one), blocked(Why::Retained, 0));
+    assert_eq!(rt;
+        (elided, outcome, letter(&rig, zero, next_line())),
+        (ordered(&[(0, 1)]), ordered(&[]), Letter::E)
+    );
+    serve_says(&rt, &mut rig, one, blocked(Why::Retained, 0));
     // its own request goes in front, and is served
-    assert!(rt; ask_for(&mut rig, zero, next_line(), Need::Write));
-    assert_eq!(rt; order(&mut rig, zero), ordered(&[]));
-    assert_eq!(rt; serve(&mut rig, one), blocked(Why::Behind, 0));
-    assert_eq!(rt; serve(&mut rig, zero), served(&[]));
-    assert_eq!(rt; serve(&mut rig, one), blocked(Why::Retained, 0));
+    comes(&rt, &mut rig, zero, next_line(), Need::Write);
+    serve_says(&rt, &mut rig, one, blocked(Why::Behind, 0));
+    serve_says(&rt, &mut rig, zero, served(&[]));
+    serve_says(&rt, &mut rig, one, blocked(Why::Retained, 0));
     // the section commits
     end_section(&mut rig, zero);
-    assert_eq!(rt; serve(&mut rig, one), served(&[]));
-    assert_eq!(rt; letter(&rig, zero, next_line()), Letter::I);
-    assert_eq!(rt; letter(&rig, one, next_line()), Letter::M);
+    serve_says(&rt, &mut rig, one, served(&[]));
+    let (first, second) = (
+        letter(&rig, zero, next_line()),
+        letter(&rig, one, next_line()),
+    );
+    assert_eq!(rt; (first, second), (Letter::I, Letter::M));
     Ok(())
 }
 
@@ -163,15 +171,15 @@ fn a_chain_of_two_waits_in_lock_removal(rt: HostRuntime) -> Result<(), Fail> {
 fn an_event_that_has_nothing_to_do_is_idle(rt: HostRuntime) -> Result<(), Fail> {
     let zero = hart(0);
     let mut rig = made(rt.alloc(), Mode::Tlr, &[], false)?;
-    assert_eq!(rt; order(&mut rig, zero), Some(Outcome::Idle));
-    assert_eq!(rt; serve(&mut rig, zero), Some(Outcome::Idle));
-    assert_eq!(rt; deliver(&mut rig, zero), Some(Outcome::Idle));
+    order_says(&rt, &mut rig, zero, Some(Outcome::Idle));
+    serve_says(&rt, &mut rig, zero, Some(Outcome::Idle));
+    deliver_says(&rt, &mut rig, zero, Some(Outcome::Idle));
     // a raised request is nothing to serve, and an ordered one nothing to order
-    assert!(rt; ask_for(&mut rig, zero, line(), Need::Read));
-    assert_eq!(rt; serve(&mut rig, zero), Some(Outcome::Idle));
-    assert_eq!(rt; order(&mut rig, zero), ordered(&[]));
-    assert_eq!(rt; order(&mut rig, zero), Some(Outcome::Idle));
-    assert_eq!(rt; serve(&mut rig, zero), served(&[]));
-    assert_eq!(rt; serve(&mut rig, zero), Some(Outcome::Idle));
+    asks_for(&rt, &mut rig, zero, line(), Need::Read);
+    serve_says(&rt, &mut rig, zero, Some(Outcome::Idle));
+    order_says(&rt, &mut rig, zero, ordered(&[]));
+    order_says(&rt, &mut rig, zero, Some(Outcome::Idle));
+    serve_says(&rt, &mut rig, zero, served(&[]));
+    serve_says(&rt, &mut rig, zero, Some(Outcome::Idle));
     Ok(())
 }

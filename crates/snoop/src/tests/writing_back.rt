@@ -11,6 +11,7 @@ use super::events::*;
 use super::*;
 use crate::asked::Asked;
 use cache_sets::{Letter, Sets};
+use std::process::Abort;
 
 /// Writes a byte of a line.
 fn write(bytes: &mut [u8; 64], at: u8, byte: u8)
@@ -76,23 +77,52 @@ fn a_store_reaches_main_memory_as_its_line_leaves(rt: HostRuntime) -> Result<(),
     };
     let mut rig = first_rig(rt.alloc(), &config)?;
     // not before the line is there
-    assert!(rt; !store(&mut rig, zero, address, 0x11));
-    assert_eq!(rt; get(&mut rig, zero, line(), Need::Write), served(&[]));
-    give_up(&mut rig, zero);
-    assert_eq!(rt; bytes(&rig, address), (Some(0x45), Some(0x45)));
+    let too_early = store(&mut rig, zero, address, 0x11);
+    serve_line(&rt, &mut rig, line(), Need::Write);
+    let got = look(&rig, address);
     // the copy has the byte, and main memory is behind it
-    assert!(rt; store(&mut rig, zero, address, 0x11));
-    assert_eq!(rt; bytes(&rig, address), (Some(0x11), Some(0x45)));
-    assert_eq!(rt; bytes(&rig, address + 1), (Some(0x4c), Some(0x4c)));
+    let stored = store(&mut rig, zero, address, 0x11);
+    let written = look(&rig, address);
     // the only way is for the other line then
-    assert_eq!(rt; get(&mut rig, zero, next_line(), Need::Read), served(&[]));
-    give_up(&mut rig, zero);
-    assert_eq!(rt; letter(&rig, zero, line()), Letter::I);
-    assert_eq!(rt; bytes(&rig, address), (Some(0x11), Some(0x11)));
-    assert_eq!(rt; bytes(&rig, address + 1), (Some(0x4c), Some(0x4c)));
+    serve_line(&rt, &mut rig, next_line(), Need::Read);
+    let left = look(&rig, address);
     // and it comes back as it was written
-    assert_eq!(rt; get(&mut rig, zero, line(), Need::Read), served(&[]));
-    assert_eq!(rt; letter(&rig, zero, line()), Letter::E);
-    assert_eq!(rt; bytes(&rig, address), (Some(0x11), Some(0x11)));
+    serve_line(&rt, &mut rig, line(), Need::Read);
+    assert_eq!(rt; (too_early, stored), (false, true));
+    let (old, new) = (Some(0x45), Some(0x11));
+    let behind = (Some(0x4c), Some(0x4c));
+    assert_eq!(rt;
+        [got, written, left, look(&rig, address)],
+        [
+            (Letter::M, (old, old), behind),
+            (Letter::M, (new, old), behind),
+            (Letter::I, (new, new), behind),
+            (Letter::E, (new, new), behind),
+        ]
+    );
     Ok(())
 }
+
+/// Hart 0 gets a line, and holds it no more.
+fn serve_line(rt: &impl Abort, rig: &mut Rig, line: LineAddr, need: Need)
+    requires { IsTold rig.old.pool (kept rig.old.bus) }
+    ensures { IsTold rig.new.pool (kept rig.new.bus) }
+{
+    let outcome = get(rig, hart(0), line, need);
+    give_up(rig, hart(0));
+    assert_eq!(rt; outcome, served(&[]), "{line:?} {need:?}");
+}
+
+/// What hart 0 knows of the line of an address, and what caches and main memory have there and behind it.
+fn look(rig: &Rig, address: u32) -> (Letter, Told, Told)
+    requires { IsTold rig.now.pool (kept rig.now.bus) }
+{
+    (
+        letter(rig, hart(0), line_of(address)),
+        bytes(rig, address),
+        bytes(rig, address.saturating_add(1)),
+    )
+}
+
+/// A byte that caches and main memory tell, and main memory's.
+type Told = (Option<u8>, Option<u8>);

@@ -38,4 +38,3 @@ mod ArmedSteps
 mod AfterArmed
 mod Eliding
 mod PrivateCalls
-mod NothingFound

@@ -1,5 +1,5 @@
 -- events of the bus that find nothing to do
-use Rattle.std.specs.Prelude.{ℕ, Bool, false, is_none, length, ◌==◌}
+use Rattle.std.specs.Prelude.{ℕ, Bool, false, is_none, length, ◌==◌, ◌&&◌}
 use Rattle.el_base.specs.declared.events.Event.{Event}
 use Rattle.el_base.specs.declared.events.Kind.{Kind}
 use Rattle.el_base.specs.declared.events.Kind.TheVariants as kinds
@@ -15,3 +15,8 @@ nothing_for state h kinds.Deliver = length (hart_of state h).mail == 0
 
 abbrev pub finds_nothing : ModelState → Event → Bool
 finds_nothing state event = nothing_for state event.hart.number event.kind
+
+-- the bus is quiet for a hart: none of its events in the hart's turn finds anything to do
+abbrev pub is_quiet : ModelState → ℕ → Bool
+is_quiet state h =
+    nothing_for state h kinds.Order && nothing_for state h kinds.Serve && nothing_for state h kinds.Deliver

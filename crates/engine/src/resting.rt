@@ -4,10 +4,10 @@ ghost use Rattle.std.specs.Prelude.{◌≡◌, ◌<◌, length};
 ghost use Rattle.el_model.specs.State.{ModelState};
 ghost use Rattle.engine.specs.Parts.{IsIn, parts};
 ghost use Rattle.engine.specs.Reached.{Stands};
-ghost use Rattle.engine.specs.Resting.{finds_nothing};
+ghost use Rattle.engine.specs.Resting.{finds_nothing, is_quiet};
 
 use crate::engine::Engine;
-use el_base::{Event, Kind};
+use el_base::{Event, HartId, Kind};
 
 impl Engine {
     /// Whether an event of the bus finds nothing to do, as most of a run do: the hart has raised nothing that an order
@@ -26,5 +26,19 @@ impl Engine {
             Kind::Serve => self.bus.requests().of(event.hart).is_none(),
             Kind::Deliver => !self.bus.agent(event.hart).has_mail(),
         }
+    }
+
+    /// Whether the bus is quiet for a hart: all three events of the bus in the hart's turn, an order, a serve and a
+    /// delivery, find nothing to do.
+    #[inline(always)]
+    #[tactic(auto, using(crate::proofs::Laws::BusEvents::hart_exists))]
+    pub fn is_quiet(&self, hart: HartId) -> bool
+        requires hart_exists { hart.number < length (parts self.now).harts }
+        requires stands { Stands (parts self.now) }
+        ensures { (state : ModelState) → IsIn (parts self.now) state → result ≡ is_quiet state hart.number }
+    {
+        self.bus.agent(hart).raised().is_none()
+            && self.bus.requests().of(hart).is_none()
+            && !self.bus.agent(hart).has_mail()
     }
 }

@@ -20,7 +20,7 @@ impl Engine {
     /// One event: whatever state that a program reaches the parts are in, they are in the state after the event then,
     /// with its outcome. It takes no memory.
     #[inline(always)]
-    #[tactic(auto, using(crate::proofs::NothingFound::resting_outcome, crate::proofs::NothingFound::resting_lines))]
+    #[tactic(auto, using(crate::proofs::Laws::NothingFound::resting_outcome, crate::proofs::Laws::NothingFound::resting_lines))]
     pub fn step(&mut self, event: Event) -> Outcome
         requires hart_exists { event.hart.number < length (parts self.old).harts }
         requires stands { Stands (parts self.old) }

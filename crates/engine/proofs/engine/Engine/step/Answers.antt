@@ -1,6 +1,6 @@
 -- an event that finds nothing to do leaves the parts in the state that they are in
 use Rattle.std.proofs.Common.{◌∙◌, sym}
-use Rattle.engine.proofs.NothingFound.{resting_state}
+use Rattle.engine.proofs.Laws.NothingFound.{resting_state}
 use Rattle.engine.proofs.engine.Engine.step.Goals as goal
 use Rattle.engine.specs.Parts.{parts}
 

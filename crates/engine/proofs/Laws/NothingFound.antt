@@ -1,5 +1,7 @@
 -- an event that finds nothing to do leaves all as it was
-use Rattle.std.proofs.Common.{◌≡◌, ◌∙◌, ℕ, true, List, [], ◌∷◌, Option, Some, None, is_none, length, refl, ap, sym, subst, ◌==◌, arith}
+use Rattle.std.proofs.Common.{◌≡◌, ◌∙◌, ◌==◌, ◌&&◌, ℕ, true, List, [], ◌∷◌, Option, Some, None, is_none, length}
+use Rattle.std.proofs.Common.{refl, ap, sym, subst, arith}
+use Rattle.std.proofs.lemmas.Bool.{and_parts}
 use Rattle.std.proofs.lemmas.Bool.Decides.{nat_tests}
 use Rattle.bus_order.specs.Order.{Request}
 use Rattle.el_base.specs.declared.events.Event.{Event}
@@ -13,7 +15,7 @@ use Rattle.el_model.specs.Serve.{serve_ordered, serve_turn}
 use Rattle.el_model.specs.State.{ModelState, hart_of, idle, ordered_of, raised_of}
 use Rattle.engine.specs.MainMemory.{back_by, line_written_back, lines_from, with_committed}
 use Rattle.engine.specs.Parts.{IsIn, Parts}
-use Rattle.engine.specs.Resting.{finds_nothing, nothing_for}
+use Rattle.engine.specs.Resting.{finds_nothing, is_quiet, nothing_for}
 use Rattle.mail.specs.Mailbox.{Message}
 
 nothing_raised : (state : ModelState) (raised : Option Request) → is_none raised ≡ true →
@@ -67,3 +69,13 @@ resting_lines state event lines is =
     no_back state event.hart.number event.kind lines
     ∙ ap (λ outcome. with_committed state.committed lines (back_by state event.hart.number outcome event.kind))
     (resting_outcome state event is)
+
+-- where the bus is quiet for a hart, each of its events in the hart's turn finds nothing
+pub quiet_each : (state : ModelState) (h : ℕ) → is_quiet state h ≡ true →
+    (nothing_for state h kinds.Order ≡ true) × (nothing_for state h kinds.Serve ≡ true)
+    × (nothing_for state h kinds.Deliver ≡ true)
+quiet_each state h is =
+    let order = nothing_for state h kinds.Order in
+    let serve = nothing_for state h kinds.Serve in
+    let both = and_parts (order && serve) (nothing_for state h kinds.Deliver) is in
+    let first = and_parts order serve both.0 in (first.0, first.1, both.1)

@@ -23,6 +23,7 @@ mod Outsiders
 mod AfterRan
 mod Chosen
 mod RunsNext
+mod QuietRuns
 mod AfterBegan
 mod InsideRules
 mod KeptLive

@@ -1,11 +1,11 @@
 //! What a hart does outside of a section, which waits for nothing and holds nothing.
 
-ghost use Rattle.std.specs.Prelude.{◌≡◌};
+ghost use Rattle.std.specs.Prelude.{◌≡◌, ◌<◌, is_none, length};
 ghost use Rattle.el_model.specs.Plain.{plain_turn};
 ghost use Rattle.el_model.specs.State.{ModelState};
 ghost use Rattle.engine.specs.Acting.{ActsOutside, next_action};
 ghost use Rattle.engine.specs.Outside.{IsItsRule, OutsideSomewhere};
-ghost use Rattle.engine.specs.Parts.{IsIn, parts, room_in};
+ghost use Rattle.engine.specs.Parts.{IsIn, own_at, parts, room_in};
 ghost use Rattle.rv_alu.specs.Footprint.{IsInPlace};
 ghost use Rattle.snoop.specs.Asking.{HasNoRequest};
 ghost use Rattle.snoop.specs.Shows.{IsReady};
@@ -14,7 +14,7 @@ ghost use Rattle.step_rules.specs.Rules.{TellsOld, definition_plain};
 use crate::engine::Engine;
 use el_base::{HartId, Outcome};
 use rv_alu::Action;
-use step_rules::{PlainRule, plain_rule};
+use step_rules::{PlainRule, is_quiet, plain_rule};
 
 impl Engine {
     /// A step of a hart with neither a live nor an armed section, whose next action this is.
@@ -30,6 +30,9 @@ impl Engine {
             result ≡ (plain_turn from hart.number).outcome }
         ensures memory_stays { (parts self.new).bus.copies.lines ≡ (parts self.old).bus.copies.lines }
     {
+        if is_quiet(&action) && self.is_unwatched(hart) {
+            return self.run_quiet(hart, action);
+        }
         match self.rule_outside(hart, action) {
             PlainRule::Runs { .. } => self.run_next(hart, action),
             PlainRule::Misses { line, need } => self.miss(hart, line, need),
@@ -48,5 +51,16 @@ impl Engine {
     {
         let may_elide = self.harts[usize::from(hart.number)].may_elide(self.config.mode);
         plain_rule(&self.pool, &self.bus, hart, &action, may_elide)
+    }
+
+    /// Whether no watch stands in a hart's predictor, which would see what the hart runs.
+    fn is_unwatched(&self, hart: HartId) -> bool
+        requires { hart.number < length (parts self.now).harts }
+        ensures { result ≡ is_none (own_at (parts self.now).harts hart.number).predictor.watch }
+    {
+        self.harts[usize::from(hart.number)]
+            .predictor()
+            .watched()
+            .is_none()
     }
 }

@@ -1,11 +1,21 @@
--- each rule's deed is the turn
+-- a quiet action is one, and each rule's deed is the turn
 use Rattle.std.proofs.Common.{◌∙◌, ap, sym, subst}
-use Rattle.engine.proofs.Chosen.{missed_line, runs_own}
+use Rattle.engine.proofs.Chosen.{missed_line, next, runs_own}
 use Rattle.engine.proofs.Outsiders.{began_outcome, missed_outcome, missed_state, ran_outcome, turn_is}
 use Rattle.engine.proofs.StandsOutside.{has_room_for, line_there}
 use Rattle.engine.proofs.engine.Engine.act_outside.Goals as goal
 use Rattle.engine.specs.Parts.{IsIn, parts}
+use Rattle.step_rules.proofs.Laws.NextAction.{next_quiet}
 use Rattle.step_rules.specs.Rules.{TellsOld, definition_plain}
+
+pub run_quiet-requires-clause-quiet : goal.run_quiet-requires-clause-quiet
+run_quiet-requires-clause-quiet c =
+    let from = c.requires.some.from in
+    let acts = c.requires.some.acts in
+    let coming = next (parts c.args.self.now) c.args.hart.number from c.args.action acts c.requires.action in
+    next_quiet c.args.action from.committed c.args.hart.number coming
+    ∙ sym (c.is_quiet.ensures from.committed c.args.hart.number coming)
+    ∙ c.if-is_quiet.true
 
 pub run_next-requires-clause-runs : goal.run_next-requires-clause-runs
 run_next-requires-clause-runs c from acts =

@@ -98,22 +98,20 @@ given_more story room event given below left = record {
 }
 
 -- a machine stands after one event more, where a step is left
-pub stands_more : (story : Story) (old new : Parts) (room : ℕ) (event : Event) (outcome : Outcome) → Stands story old room →
-    event.hart.number < story.config.harts → 1 ≤ left_of story → IsReady new.bus →
-    ((state : ModelState) → IsReached state → IsIn old state → IsIn new (next state event).state) →
-    ((state : ModelState) → IsReached state → IsIn old state → outcome ≡ (next state event).outcome) →
-    ((state : ModelState) → IsReached state → IsIn old state → new.bus.copies.lines ≡ lines_from state event old.bus.copies.lines) →
+pub stands_on : (story : Story) (old new : Parts) (room : ℕ) (event : Event) (outcome : Outcome) →
+    Stands story old room → event.hart.number < story.config.harts → 1 ≤ left_of story → IsReady new.bus →
+    IsIn new (next (state_of story) event).state → outcome ≡ (next (state_of story) event).outcome →
+    new.bus.copies.lines ≡ lines_from (state_of story) event old.bus.copies.lines →
     Stands (record story { entries = story.entries ++ record { event = event; outcome = outcome } ∷ [] }) new room
-stands_more story old new room event outcome stands below left ready goes told writes =
+stands_on story old new room event outcome stands below left ready goes told writes =
     let Told : Outcome → Type 0 = λ o. Stands (record story { entries = story.entries ++ record { event = event; outcome = o } ∷ [] }) new room in
-    let here = reached story room stands.given in
-    subst Told (sym (told (state_of story) here stands.is_in))
+    subst Told (sym told)
     (record {
       given = given_more story room event stands.given below left;
       ready = ready;
-      is_in = subst (IsIn new) (sym (state_of_continued story (event ∷ []))) (goes (state_of story) here stands.is_in);
+      is_in = subst (IsIn new) (sym (state_of_continued story (event ∷ []))) goes;
       memory =
-          writes (state_of story) here stands.is_in
+          writes
           ∙ ap (lines_from (state_of story) event) stands.memory
           ∙ sym (more_lines story (continued story (event ∷ [])) event refl refl (events_more story event));
       entries =
@@ -121,6 +119,18 @@ stands_more story old new room event outcome stands below left ready goes told w
           ∙ sym (entries_from-append (begin story.program story.config) (events story.entries) (event ∷ []))
           ∙ sym (ap (λ made. entries_from (begin story.program story.config) made) (events_more story event));
     })
+
+-- so it does where the parts go on from each state that a program reaches
+pub stands_more : (story : Story) (old new : Parts) (room : ℕ) (event : Event) (outcome : Outcome) → Stands story old room →
+    event.hart.number < story.config.harts → 1 ≤ left_of story → IsReady new.bus →
+    ((state : ModelState) → IsReached state → IsIn old state → IsIn new (next state event).state) →
+    ((state : ModelState) → IsReached state → IsIn old state → outcome ≡ (next state event).outcome) →
+    ((state : ModelState) → IsReached state → IsIn old state → new.bus.copies.lines ≡ lines_from state event old.bus.copies.lines) →
+    Stands (record story { entries = story.entries ++ record { event = event; outcome = outcome } ∷ [] }) new room
+stands_more story old new room event outcome stands below left ready goes told writes =
+    let here = reached story room stands.given in
+    stands_on story old new room event outcome stands below left ready (goes (state_of story) here stands.is_in)
+    (told (state_of story) here stands.is_in) (writes (state_of story) here stands.is_in)
 
 -- so the story goes on by the event
 pub told_more : (story : Story) (old : Parts) (room : ℕ) (event : Event) (outcome : Outcome) → Stands story old room →

@@ -1,6 +1,7 @@
 pub mod Laws
 mod Openings
 mod GoesOn
+mod Resting
 mod Promised
 mod InSections
 mod There

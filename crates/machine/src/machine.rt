@@ -1,4 +1,5 @@
 ghost use Rattle.std.specs.Prelude.{
+  ℕ,
   ◌≡◌,
   ◌<◌,
   ◌≤◌,
@@ -20,6 +21,8 @@ ghost use Rattle.std.specs.Prelude.{
   IsSome,
   false,
   option_map,
+  true,
+  take,
 };
 ghost use Rattle.chronicle.specs.Chronicle.{events};
 ghost use Rattle.el_base.specs.Config.{IsInRange, config_fault};
@@ -31,6 +34,7 @@ ghost use Rattle.el_model.specs.State.{armed_of, cache_of, hart_of, ordered_of, 
 ghost use Rattle.elf_image.specs.Program.{IsProgram};
 ghost use Rattle.engine.specs.Parts.{parts};
 ghost use Rattle.engine.specs.Reached.{Begins};
+ghost use Rattle.engine.specs.Resting.{finds_nothing, is_quiet};
 ghost use Rattle.hart_state.specs.Own.{HasOwn};
 ghost use Rattle.coherence.specs.Beginning.{line_of};
 ghost use Rattle.line_pool.specs.Pooled.{Pooled};
@@ -47,6 +51,7 @@ ghost use Rattle.machine.specs.Promises.{
   change,
 };
 ghost use Rattle.machine.specs.Recording.{CanBeRecorded};
+ghost use Rattle.machine.specs.Resting.{bus_events};
 ghost use Rattle.machine.specs.Story.{IsOneRun, committed, continued, history_of, left_of, memory_of, state_of};
 ghost use Rattle.reg_mark.specs.Marks.{committed_of};
 ghost use Rattle.rv_alu.specs.Footprint.{IsInPlace};
@@ -65,7 +70,7 @@ ghost use Rattle.step_laws.specs.Counts.{IsSectionShort};
 use crate::fault::MakeFault;
 use crate::lent::Lent;
 use chronicle::History;
-use el_base::{Chronicled, Config, Entry, Event, HartId, Outcome};
+use el_base::{Chronicled, Config, Entry, Event, HartId, Kind, Outcome};
 use elf_image::Image;
 use engine::Engine;
 use hart_state::HartState;
@@ -168,6 +173,46 @@ impl Machine {
         let outcome = self.engine.step(event);
         self.history.push(Entry { event, outcome });
         outcome
+    }
+
+    /// Makes the three events of the bus in a hart's turn, an order, a serve and a delivery, where each finds nothing to
+    /// do, as in most of a run; says whether it made them. They leave the state as it is.
+    #[inline(always)]
+    #[tactic(auto, using(crate::proofs::Resting::three_made))]
+    pub fn rest(&mut self, hart: HartId) -> bool
+        requires hart_exists { hart.number < self.old.config.harts }
+        requires steps_left { 3 ≤ left_of self.old }
+        ensures exact { result ≡ is_quiet (state_of self.old) hart.number }
+        ensures made { result ≡ true → self.new ≡ continued self.old (bus_events hart) }
+        ensures left { result ≡ false → self.new ≡ self.old }
+        ensures same_state { state_of self.new ≡ state_of self.old }
+        ensures throughout { result ≡ true → (made : ℕ) →
+            state_of (continued self.old (take made (bus_events hart))) ≡ state_of self.old }
+        ensures one_run { IsOneRun self.new }
+    {
+        if !self.engine.is_quiet(hart) {
+            return false;
+        }
+        self.idle(Kind::Order, hart);
+        self.idle(Kind::Serve, hart);
+        self.idle(Kind::Deliver, hart);
+        true
+    }
+
+    /// Makes an event that finds nothing to do.
+    #[inline(always)]
+    fn idle(&mut self, kind: Kind, hart: HartId)
+        requires hart_exists { hart.number < self.old.config.harts }
+        requires step_left { 1 ≤ left_of self.old }
+        requires nothing { finds_nothing (state_of self.old) (record { kind = kind; hart = hart }) ≡ true }
+        ensures goes_on { self.new ≡ continued self.old (record { kind = kind; hart = hart } ∷ []) }
+        ensures same_state { state_of self.new ≡ state_of self.old }
+        ensures one_run { IsOneRun self.new }
+    {
+        self.history.push(Entry {
+            event: Event { kind, hart },
+            outcome: Outcome::Idle,
+        });
     }
 
     /// Whether every hart has stopped.

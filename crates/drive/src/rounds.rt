@@ -1,8 +1,10 @@
-ghost use Rattle.std.specs.Prelude.{◌≡◌, ℕ, ◌+◌, ◌<◌, ◌≤◌, ◌%◌};
-ghost use Rattle.drive.specs.Drivers.{MakesRoundRobin};
+ghost use Rattle.std.specs.Prelude.{◌≡◌, ℕ, ◌+◌, ◌*◌, ◌<◌, ◌≤◌, ◌%◌, ◌∷◌, [], false, take, true};
+ghost use Rattle.drive.specs.Drivers.{GoesRound, MakesRoundRobin};
+ghost use Rattle.drive.specs.Turns.{IsAtItsEnd};
 ghost use Rattle.el_base.specs.Kinds.{kind_number};
-ghost use Rattle.machine.specs.Story.{left_of};
-ghost use Rattle.drive.specs.RoundRobin.{IsEventAt};
+ghost use Rattle.el_model.specs.Next.{is_over};
+ghost use Rattle.machine.specs.Resting.{bus_events};
+ghost use Rattle.machine.specs.Story.{Story, continued, left_of, state_of};
 
 use el_base::{Event, HartId, Kind};
 use machine::Machine;
@@ -17,8 +19,8 @@ pub fn round_robin(machine: &mut Machine)
     go_round(machine, harts, steps);
 }
 
-/// Makes the events of a round robin of so many harts, and of so many steps at most.
-#[tactic(auto, using(crate::proofs::GoingRound::none_made, crate::proofs::GoingRound::one_made))]
+/// Makes the events of a round robin of so many harts, and of so many steps at most, by turns of harts.
+#[tactic(auto, using(crate::proofs::GoingRound::none_made))]
 fn go_round(machine: &mut Machine, harts: u8, steps: u32)
     requires some { 1 ≤ harts }
     requires few { harts ≤ 8 }
@@ -26,38 +28,87 @@ fn go_round(machine: &mut Machine, harts: u8, steps: u32)
     requires steps_are { steps ≡ left_of machine.old }
     ensures { MakesRoundRobin machine.old machine.new }
 {
-    let mut turn = Event {
-        kind: Kind::Step,
-        hart: HartId { number: 0 },
-    };
+    let mut hart = HartId { number: 0 };
     for _ in 0..steps {
-        if machine.over() {
+        if !make_turn(machine, hart) {
             break;
         }
-        machine.step(turn);
-        turn = next_turn(harts, turn);
+        hart = next_hart(harts, hart);
     }
 }
 
-/// The event that comes after this one in the round robin of so many harts.
-///
-/// It goes by the one before, since to find an event by its place takes a division by the number of harts.
-fn next_turn(harts: u8, turn: Event) -> Event
-    requires some { 1 ≤ harts }
-    requires few { harts ≤ 8 }
-    ensures { (place : ℕ) → IsEventAt harts place turn → IsEventAt harts (place + 1) result }
+/// Makes a hart's turn, an event of each kind, and says whether the round robin goes on behind it: not where every hart
+/// has stopped, or no step is left, before an event of the turn.
+#[inline(always)]
+fn make_turn(machine: &mut Machine, hart: HartId) -> bool
+    requires hart_exists { hart.number < machine.old.config.harts }
+    ensures goes_on { (before : Story) (turns : ℕ) → GoesRound before machine.old (4 * turns) →
+        hart.number ≡ turns % before.config.harts → result ≡ true → GoesRound before machine.new (4 * turns + 4) }
+    ensures ended { (before : Story) (turns : ℕ) → GoesRound before machine.old (4 * turns) →
+        hart.number ≡ turns % before.config.harts → result ≡ false → MakesRoundRobin before machine.new }
 {
-    let kind = kind_at(u32::from(turn.kind.number()) + 1);
-    if let Kind::Deliver = turn.kind {
-        return Event {
-            kind,
-            hart: next_hart(harts, turn.hart),
-        };
+    if !make(machine, Kind::Step, hart) {
+        return false;
     }
-    Event {
-        kind,
-        hart: turn.hart,
+    if rest(machine, hart) {
+        return true;
     }
+    make_on_bus(machine, hart)
+}
+
+/// Makes the events of the bus in a hart's turn at once, where some hart runs, a step is left for each of them, and they
+/// find nothing to do. It answers whether it made them.
+#[inline(always)]
+fn rest(machine: &mut Machine, hart: HartId) -> bool
+    requires hart_exists { hart.number < machine.old.config.harts }
+    ensures runs { result ≡ true → is_over (state_of machine.old) ≡ false }
+    ensures steps_left { result ≡ true → 3 ≤ left_of machine.old }
+    ensures goes_on { result ≡ true → machine.new ≡ continued machine.old (bus_events hart) }
+    ensures throughout { result ≡ true → (made : ℕ) →
+        state_of (continued machine.old (take made (bus_events hart))) ≡ state_of machine.old }
+    ensures left { result ≡ false → machine.new ≡ machine.old }
+{
+    if machine.over() || machine.steps_left() < 3 {
+        return false;
+    }
+    machine.rest(hart)
+}
+
+/// Makes the events of the bus in a hart's turn, one by one, as far as the round robin goes on.
+fn make_on_bus(machine: &mut Machine, hart: HartId) -> bool
+    requires hart_exists { hart.number < machine.old.config.harts }
+    ensures goes_on { (before : Story) (turns : ℕ) → GoesRound before machine.old (4 * turns + 1) →
+        hart.number ≡ turns % before.config.harts → result ≡ true → GoesRound before machine.new (4 * turns + 4) }
+    ensures ended { (before : Story) (turns : ℕ) → GoesRound before machine.old (4 * turns + 1) →
+        hart.number ≡ turns % before.config.harts → result ≡ false → MakesRoundRobin before machine.new }
+{
+    if !make(machine, Kind::Order, hart) {
+        return false;
+    }
+    if !make(machine, Kind::Serve, hart) {
+        return false;
+    }
+    make(machine, Kind::Deliver, hart)
+}
+
+/// Makes an event, unless every hart has stopped or no step is left. It answers whether it made it.
+fn make(machine: &mut Machine, kind: Kind, hart: HartId) -> bool
+    requires hart_exists { hart.number < machine.old.config.harts }
+    ensures runs { result ≡ true → is_over (state_of machine.old) ≡ false }
+    ensures step_left { result ≡ true → 1 ≤ left_of machine.old }
+    ensures goes_on { result ≡ true →
+        machine.new ≡ continued machine.old (record { kind = kind; hart = hart } ∷ []) }
+    ensures ended { result ≡ false → IsAtItsEnd machine.old }
+    ensures left { result ≡ false → machine.new ≡ machine.old }
+{
+    if machine.over() {
+        return false;
+    }
+    if machine.steps_left() == 0 {
+        return false;
+    }
+    machine.step(Event { kind, hart });
+    true
 }
 
 /// The hart after this one of so many, and the first one after the last.

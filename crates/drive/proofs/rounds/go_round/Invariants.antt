@@ -1,9 +1,9 @@
-use Rattle.drive.proofs.GoingRound.{GoesRound}
-use Rattle.drive.specs.RoundRobin.{IsEventAt}
+use Rattle.std.proofs.Common.{◌≡◌, ◌*◌, ◌%◌}
+use Rattle.drive.specs.Drivers.{GoesRound}
 use Rattle.drive.proofs.rounds.go_round.Given as goal
 
 abbrev pub invariant-loop : goal.invariant-loop
 invariant-loop l = record {
-  round : GoesRound l.initial.machine l.machine l.counter;
-  turn : IsEventAt l.harts l.counter l.turn;
+  round : GoesRound l.initial.machine l.machine (4 * l.counter);
+  turn : l.hart.0 ≡ l.counter % l.harts;
 }

@@ -152,8 +152,11 @@ fn each_letter_meets_each_request(rt: HostRuntime) -> Result<(), Fail> {
             let mut cache = cache(rt.alloc(), 1)?;
             cache.fill(3, letter);
             cache.meet(3, need);
-            assert_eq!(rt; cache.sets.letter(line(3)), after, "{letter:?} {need:?}");
-            assert_eq!(rt; cache.out(), u16::from(after != Letter::I));
+            assert_eq!(rt;
+                (cache.sets.letter(line(3)), cache.out()),
+                (after, u16::from(after != Letter::I)),
+                "{letter:?} {need:?}"
+            );
         }
     }
     Ok(())
@@ -166,10 +169,13 @@ fn each_letter_meets_each_commit(rt: HostRuntime) -> Result<(), Fail> {
             let mut cache = cache(rt.alloc(), 1)?;
             cache.fill(3, letter);
             cache.set_bit(3, need);
-            assert!(rt; cache.sets.marked());
+            let marked = cache.sets.marked();
             cache.end(true);
-            assert!(rt; !cache.sets.marked());
-            assert_eq!(rt; cache.sets.letter(line(3)), after, "{letter:?} {need:?}");
+            assert_eq!(rt;
+                (marked, cache.sets.marked(), cache.sets.letter(line(3))),
+                (true, false, after),
+                "{letter:?} {need:?}"
+            );
         }
     }
     Ok(())
@@ -258,9 +264,13 @@ fn the_last_line_without_bits_leaves(rt: HostRuntime) -> Result<(), Fail> {
     let mut cache = cache(rt.alloc(), 1)?;
     for turn in TURNS {
         let victim = cache.sets.victim(line(turn.comes)).map(|line| line.number);
-        assert_eq!(rt; victim, turn.leaves, "{}", turn.comes);
         let gone = cache.fill(turn.comes, Letter::M).map(|gone| gone.0);
-        assert_eq!(rt; gone, turn.leaves, "{}", turn.comes);
+        assert_eq!(rt;
+            (victim, gone),
+            (turn.leaves, turn.leaves),
+            "{}",
+            turn.comes
+        );
         cache.does(turn.then);
     }
     assert_eq!(rt; cache.out(), 2);
@@ -273,20 +283,24 @@ fn a_set_full_of_bits_has_no_room(rt: HostRuntime) -> Result<(), Fail> {
     cache.fill(5, Letter::E);
     cache.fill(8, Letter::M);
     cache.set_bit(5, Need::Read);
-    assert_eq!(rt; cache.sets.write_bits(), 0);
+    let of_read = cache.sets.write_bits();
     cache.set_bit(8, Need::Write);
-    assert_eq!(rt; cache.sets.write_bits(), 1);
+    assert_eq!(rt; (of_read, cache.sets.write_bits()), (0, 1));
     for (number, room, bits) in [
         (5, true, Bits::READ),
         (8, true, Bits::WRITE),
         (9, false, Bits::empty()),
     ] {
-        assert_eq!(rt; cache.sets.room(line(number)), room, "{number}");
-        assert_eq!(rt; cache.sets.bits(line(number)), bits, "{number}");
+        let line = line(number);
+        assert_eq!(rt;
+            (cache.sets.room(line), cache.sets.bits(line)),
+            (room, bits),
+            "{number}"
+        );
     }
-    assert_eq!(rt; cache.sets.victim(line(9)), None);
+    let victim = cache.sets.victim(line(9));
     cache.end(false);
-    assert!(rt; cache.sets.room(line(9)));
+    assert_eq!(rt; (victim, cache.sets.room(line(9))), (None, true));
     Ok(())
 }
 
@@ -304,9 +318,11 @@ fn what_is_written_is_read_from_that_line_alone(rt: HostRuntime) -> Result<(), F
             assert_eq!(rt; cache.read(number, at), Some(byte), "{number} {at}");
         }
     }
-    assert_eq!(rt; cache.fill(6, Letter::E), Some((2, Letter::M, 0x55, 0xaa)));
-    assert_eq!(rt; cache.read(2, 0), None);
-    assert_eq!(rt; cache.out(), 3);
+    let gone = cache.fill(6, Letter::E);
+    assert_eq!(rt;
+        (gone, cache.read(2, 0), cache.out()),
+        (Some((2, Letter::M, 0x55, 0xaa)), None, 3)
+    );
     Ok(())
 }
 
@@ -383,11 +399,15 @@ fn first_byte(gone: Option<Evicted>) -> Option<u8> {
 #[test]
 fn two_caches_have_a_slot_each(rt: HostRuntime) -> Result<(), Fail> {
     let mut pair = Pair::make(rt.alloc())?;
-    assert_eq!(rt; pair.fill_first(4, 0x11), None);
-    assert_eq!(rt; pair.fill_second(4, 0x22), None);
-    assert_eq!(rt; pair.fill_first(5, 0x33), Some(0x11));
-    assert_eq!(rt; pair.fill_second(6, 0x44), Some(0x22));
-    assert_eq!(rt; pair.fill_first(6, 0x55), Some(0x33));
-    assert_eq!(rt; pair.fill_second(7, 0x66), Some(0x44));
+    let gone = [
+        pair.fill_first(4, 0x11),
+        pair.fill_second(4, 0x22),
+        pair.fill_first(5, 0x33),
+        pair.fill_second(6, 0x44),
+        pair.fill_first(6, 0x55),
+        pair.fill_second(7, 0x66),
+    ];
+    let wanted = [None, None, Some(0x11), Some(0x22), Some(0x33), Some(0x44)];
+    assert_eq!(rt; gone, wanted);
     Ok(())
 }

@@ -88,8 +88,8 @@ fn store(address: u32, value: u32) -> Action {
     }
 }
 
-/// A section begins at a word, and is lost.
-fn lose(hart: &mut Hart, mode: Mode)
+/// A section begins at a word, and is lost. Tells whether the hart may elide then.
+fn lose(hart: &mut Hart, mode: Mode) -> bool
     requires idle { hart.old.state.section.live ≡ None }
     requires unarmed { hart.old.state.section.armed ≡ None }
     requires running { hart.old.state.section.marks.present.status ≡ Running }
@@ -99,6 +99,7 @@ fn lose(hart: &mut Hart, mode: Mode)
 {
     hart.state.begin(ACQUIRE, FOUND);
     hart.state.lose(&mut hart.pool, mode);
+    hart.state.may_elide(mode)
 }
 
 #[test]
@@ -109,16 +110,14 @@ fn the_fourth_loss_in_a_row_takes_the_lock_where_attempts_have_no_stamps(
         (Mode::Sle, [true, true, true, false]),
         (Mode::Tlr, [true, true, true, true]),
     ] {
-        let [first, second, third, fourth] = elides;
         let mut hart = hart_at(rt.alloc(), HERE)?;
-        lose(&mut hart, mode);
-        assert_eq!(rt; hart.state.may_elide(mode), first, "{mode:?}");
-        lose(&mut hart, mode);
-        assert_eq!(rt; hart.state.may_elide(mode), second, "{mode:?}");
-        lose(&mut hart, mode);
-        assert_eq!(rt; hart.state.may_elide(mode), third, "{mode:?}");
-        lose(&mut hart, mode);
-        assert_eq!(rt; hart.state.may_elide(mode), fourth, "{mode:?}");
+        let found = [
+            lose(&mut hart, mode),
+            lose(&mut hart, mode),
+            lose(&mut hart, mode),
+            lose(&mut hart, mode),
+        ];
+        assert_eq!(rt; found, elides, "{mode:?}");
     }
     Ok(())
 }
@@ -164,13 +163,23 @@ fn a_rollback_takes_the_next_lock_and_blames_the_section_alone(
     ] {
         let mut hart = hart_at(rt.alloc(), HERE)?;
         hart.state.begin(ACQUIRE, FOUND);
-        assert_eq!(rt; hart.state.shown().regs.get(FOUND), 7);
-        assert_eq!(rt; *hart.state.committed(), view(HERE));
+        let found = hart.state.shown().regs.get(FOUND);
+        let committed = *hart.state.committed();
         leave(&mut hart, cause);
-        assert_eq!(rt; *hart.state.shown(), view(HERE), "{cause:?}");
-        assert_eq!(rt; hart.state.may_elide(Mode::Sle), false, "{cause:?}");
+        let left = *hart.state.shown();
+        let elides = hart.state.may_elide(Mode::Sle);
         run_candidate(&mut hart, THERE, WORD);
-        assert_eq!(rt; hart.state.may_elide(Mode::Sle), trusted, "{cause:?}");
+        assert_eq!(rt;
+            (
+                found,
+                committed,
+                left,
+                elides,
+                hart.state.may_elide(Mode::Sle)
+            ),
+            (7, view(HERE), view(HERE), false, trusted),
+            "{cause:?}"
+        );
     }
     Ok(())
 }
@@ -192,10 +201,11 @@ fn a_watch_is_settled_by_what_comes_after_it(rt: HostRuntime) -> Result<(), Fail
         let mut hart = hart_at(rt.alloc(), HERE)?;
         run_candidate(&mut hart, HERE, WORD);
         hart.state.has_run(&config, THERE, &action, None, false);
-        assert_eq!(rt; hart.state.may_elide(Mode::Tlr), trusted, "{action:?}");
+        let elides = hart.state.may_elide(Mode::Tlr);
         roll_back(&mut hart, FOUND, Cause::Long);
         run_candidate(&mut hart, THERE, WORD);
-        assert_eq!(rt; hart.state.may_elide(Mode::Tlr), still, "{action:?}");
+        let elides = (elides, hart.state.may_elide(Mode::Tlr));
+        assert_eq!(rt; elides, (trusted, still), "{action:?}");
     }
     Ok(())
 }
@@ -289,10 +299,12 @@ fn an_acquire_by_an_sc_is_watched_from_the_last_lr(rt: HostRuntime) -> Result<()
             hart.state
                 .has_run(&Config::usual(), pc, &RESERVE, None, true);
         }
-        assert_eq!(rt; hart.state.last_lr(), reserved);
+        let before = hart.state.last_lr();
         run_conditional(&mut hart, THERE);
-        assert_eq!(rt; trust(&hart), trusted, "{reserved:?}");
-        assert_eq!(rt; hart.state.last_lr(), reserved);
+        assert_eq!(rt;
+            (before, trust(&hart), hart.state.last_lr()),
+            (reserved, trusted, reserved)
+        );
     }
     Ok(())
 }
@@ -301,13 +313,18 @@ fn an_acquire_by_an_sc_is_watched_from_the_last_lr(rt: HostRuntime) -> Result<()
 fn an_lr_that_is_let_go_is_the_last_one(rt: HostRuntime) -> Result<(), Fail> {
     let mut hart = hart_at(rt.alloc(), HERE)?;
     hart.state.arm(WORD, 7, FOUND);
-    assert_eq!(rt; hart.state.last_lr(), None);
+    let before = hart.state.last_lr();
     hart.state.let_go();
-    assert_eq!(rt; hart.state.last_lr(), Some(HERE));
-    assert_eq!(rt; hart.state.committed().pc, 0x10004);
-    assert_eq!(rt; hart.state.shown().regs.get(FOUND), 7);
+    let after = hart.state.last_lr();
+    let (pc, found) = (
+        hart.state.committed().pc,
+        hart.state.shown().regs.get(FOUND),
+    );
     run_conditional(&mut hart, THERE);
-    assert_eq!(rt; trust(&hart), (1, 2));
+    assert_eq!(rt;
+        (before, after, pc, found, trust(&hart)),
+        (None, Some(HERE), 0x10004, 7, (1, 2))
+    );
     Ok(())
 }
 
@@ -316,10 +333,16 @@ fn a_section_that_an_sc_begins_blames_its_lr(rt: HostRuntime) -> Result<(), Fail
     let mut hart = hart_at(rt.alloc(), HERE)?;
     hart.state.arm(WORD, 7, FOUND);
     hart.state.begin_armed(8, FOUND);
-    assert_eq!(rt; hart.state.shown().regs.get(FOUND), 0);
+    let found = hart.state.shown().regs.get(FOUND);
     leave(&mut hart, Cause::Long);
-    assert_eq!(rt; *hart.state.shown(), view(HERE));
-    assert_eq!(rt; hart.state.last_lr(), None);
-    assert_eq!(rt; trust(&hart), (1, 2));
+    assert_eq!(rt;
+        (
+            found,
+            *hart.state.shown(),
+            hart.state.last_lr(),
+            trust(&hart)
+        ),
+        (0, view(HERE), None, (1, 2))
+    );
     Ok(())
 }

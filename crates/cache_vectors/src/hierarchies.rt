@@ -17,6 +17,7 @@ use el_base::{Config, HartId, LineAddr, Mode, Need, line_of};
 use elf_image::load;
 use line_pool::Pool;
 use std::alloc::Global;
+use std::process::Abort;
 use std::test::Fail;
 
 /// An image of one segment of 256 bytes at 0x10000, of which the first 128 stand in the file: byte 84 of
@@ -32,6 +33,10 @@ const HEADER: [u8; 88] = [
 
 /// The number of the first line of its memory, 0x10000 divided by 64.
 const FIRST: u32 = 1024;
+
+const ZERO: HartId = HartId { number: 0 };
+
+const ONE: HartId = HartId { number: 1 };
 
 /// Main memory and the caches of two harts, and the pool that lends these.
 #[derive(Drop)]
@@ -198,114 +203,176 @@ fn letter(memory: &Memory, hart: HartId, line: LineAddr) -> Letter {
     }
 }
 
+/// What both harts know of a line.
+fn letters(memory: &Memory, line: LineAddr) -> (Letter, Letter) {
+    (letter(memory, ZERO, line), letter(memory, ONE, line))
+}
+
+/// The request is served.
+fn serves(rt: &impl Abort, memory: &mut Memory, hart: HartId, line: LineAddr, need: Need)
+    requires { IsCoherent (shown memory.old.pool memory.old.hierarchy) }
+    ensures { IsCoherent (shown memory.new.pool memory.new.hierarchy) }
+{
+    let served = serve(memory, hart, line, need);
+    assert!(rt; served, "{hart:?} {line:?} {need:?}");
+}
+
+/// A store of 0x11 by hart 0 is answered so.
+fn stores(rt: &impl Abort, memory: &mut Memory, address: u32, answer: Option<u8>)
+    requires { IsCoherent (shown memory.old.pool memory.old.hierarchy) }
+    ensures { IsCoherent (shown memory.new.pool memory.new.hierarchy) }
+{
+    let stored = try_store(memory, ZERO, address, 0x11);
+    assert_eq!(rt; stored, answer, "{address:#x}");
+}
+
+/// A bit of a line is set, or it is not, as this says.
+fn marks_line(
+    rt: &impl Abort,
+    memory: &mut Memory,
+    hart: HartId,
+    line: LineAddr,
+    need: Need,
+    sets: bool,
+)
+    requires { IsCoherent (shown memory.old.pool memory.old.hierarchy) }
+    ensures { IsCoherent (shown memory.new.pool memory.new.hierarchy) }
+{
+    let marked = mark(memory, hart, line, need);
+    assert_eq!(rt; marked, sets, "{hart:?} {line:?} {need:?}");
+}
+
 #[test]
 fn letters_follow_requests_of_two_harts(rt: HostRuntime) -> Result<(), Fail> {
-    let (zero, one) = harts()?;
     let line = line_of(FIRST * 64);
     let mut memory = made(rt.alloc(), 2)?;
-    // who asks, for what, and the letters of both harts then
-    for (hart, need, first, second) in [
-        (zero, Need::Read, Letter::E, Letter::I),
-        (one, Need::Read, Letter::S, Letter::S),
-        (zero, Need::Write, Letter::M, Letter::I),
-        (zero, Need::Read, Letter::M, Letter::I),
-        (one, Need::Read, Letter::O, Letter::S),
-        (one, Need::Write, Letter::I, Letter::M),
-        (zero, Need::Write, Letter::M, Letter::I),
+    // who asks for it, for what, and the letters of both harts then
+    for (hart, need, wanted) in [
+        (ZERO, Need::Read, (Letter::E, Letter::I)),
+        (ONE, Need::Read, (Letter::S, Letter::S)),
+        (ZERO, Need::Write, (Letter::M, Letter::I)),
+        (ZERO, Need::Read, (Letter::M, Letter::I)),
+        (ONE, Need::Read, (Letter::O, Letter::S)),
+        (ONE, Need::Write, (Letter::I, Letter::M)),
+        (ZERO, Need::Write, (Letter::M, Letter::I)),
     ] {
-        assert!(rt; serve(&mut memory, hart, line, need));
-        assert_eq!(rt; letter(&memory, zero, line), first, "{hart:?} {need:?}");
-        assert_eq!(rt; letter(&memory, one, line), second, "{hart:?} {need:?}");
-        assert_eq!(rt; byte(&memory, FIRST * 64), Some(0x7f), "{hart:?} {need:?}");
+        serves(&rt, &mut memory, hart, line, need);
+        let seen = (letters(&memory, line), byte(&memory, FIRST * 64));
+        assert_eq!(rt; seen, (wanted, Some(0x7f)), "{hart:?} {need:?}");
     }
     Ok(())
 }
 
+/// Addresses and the bytes there: in the first line, at the code, behind memory with two stacks, and before memory.
+const BYTES: &[(u32, Option<u8>)] = &[
+    (FIRST * 64 + 1, Some(0x45)),
+    (0x10054, Some(0x73)),
+    (0x10000 + 256 + 2 * 65536, None),
+    (0xffff, None),
+];
+
 #[test]
 fn a_line_leaves_for_another(rt: HostRuntime) -> Result<(), Fail> {
-    let (zero, one) = harts()?;
     let mut memory = made(rt.alloc(), 1)?;
     let here = line_of(FIRST * 64);
     let next = line_of(FIRST * 64 + 64);
-    assert!(rt; serve(&mut memory, zero, here, Need::Write));
-    assert!(rt; serve(&mut memory, one, next, Need::Read));
+    serves(&rt, &mut memory, ZERO, here, Need::Write);
+    serves(&rt, &mut memory, ONE, next, Need::Read);
     // the only way of hart 0 is for the other line then, which both harts have
-    assert!(rt; serve(&mut memory, zero, next, Need::Read));
-    assert_eq!(rt; letter(&memory, zero, here), Letter::I);
-    assert_eq!(rt; letter(&memory, zero, next), Letter::S);
-    assert_eq!(rt; letter(&memory, one, next), Letter::S);
-    assert_eq!(rt; byte(&memory, FIRST * 64 + 1), Some(0x45));
-    // the code at 0x10054, and the end of memory with two stacks
-    assert_eq!(rt; byte(&memory, 0x10054), Some(0x73));
-    assert_eq!(rt; byte(&memory, 0x10000 + 256 + 2 * 65536), None);
-    assert_eq!(rt; byte(&memory, 0xffff), None);
+    serves(&rt, &mut memory, ZERO, next, Need::Read);
+    let seen = (letter(&memory, ZERO, here), letters(&memory, next));
+    assert_eq!(rt; seen, (Letter::I, (Letter::S, Letter::S)));
+    for &(address, wanted) in BYTES {
+        assert_eq!(rt; byte(&memory, address), wanted, "{address:#x}");
+    }
     Ok(())
+}
+
+/// What hart 0 knows of the line of an address; the bytes there, before it and behind it; and what main memory has there
+/// and behind it.
+fn look(memory: &Memory, address: u32) -> (Letter, [Option<u8>; 3], [Option<u8>; 2])
+    requires { IsCoherent (shown memory.now.pool memory.now.hierarchy) }
+{
+    let before = address.saturating_sub(1);
+    let behind = address.saturating_add(1);
+    (
+        letter(memory, ZERO, line_of(address)),
+        [
+            byte(memory, address),
+            byte(memory, before),
+            byte(memory, behind),
+        ],
+        [main_byte(memory, address), main_byte(memory, behind)],
+    )
 }
 
 #[test]
 fn a_store_reaches_main_memory_as_its_line_leaves(rt: HostRuntime) -> Result<(), Fail> {
-    let (zero, one) = harts()?;
     let mut memory = made(rt.alloc(), 1)?;
     let address = FIRST * 64 + 1;
     let here = line_of(address);
     let next = line_of(FIRST * 64 + 64);
+    let (old, new, before, behind) = (Some(0x45), Some(0x11), Some(0x7f), Some(0x4c));
     // not before the line is there, nor to a copy that others have too
-    assert_eq!(rt; try_store(&mut memory, zero, address, 0x11), None);
-    assert!(rt; serve(&mut memory, zero, here, Need::Read));
-    assert!(rt; serve(&mut memory, one, here, Need::Read));
-    assert_eq!(rt; try_store(&mut memory, zero, address, 0x11), None);
-    assert_eq!(rt; byte(&memory, address), Some(0x45));
+    stores(&rt, &mut memory, address, None);
+    serves(&rt, &mut memory, ZERO, here, Need::Read);
+    serves(&rt, &mut memory, ONE, here, Need::Read);
+    stores(&rt, &mut memory, address, None);
+    let shared = look(&memory, address);
     // the only copy is written and modified, and main memory is behind it
-    assert!(rt; serve(&mut memory, one, next, Need::Read));
-    assert!(rt; serve(&mut memory, one, here, Need::Write));
-    assert!(rt; serve(&mut memory, one, next, Need::Read));
-    assert!(rt; serve(&mut memory, zero, here, Need::Read));
-    assert_eq!(rt; letter(&memory, zero, here), Letter::E);
-    assert_eq!(rt; try_store(&mut memory, zero, address, 0x11), Some(0x11));
-    assert_eq!(rt; letter(&memory, zero, here), Letter::M);
-    assert_eq!(rt; byte(&memory, address), Some(0x11));
-    assert_eq!(rt; byte(&memory, address - 1), Some(0x7f));
-    assert_eq!(rt; byte(&memory, address + 1), Some(0x4c));
-    assert_eq!(rt; main_byte(&memory, address), Some(0x45));
+    serves(&rt, &mut memory, ONE, next, Need::Read);
+    serves(&rt, &mut memory, ONE, here, Need::Write);
+    serves(&rt, &mut memory, ONE, next, Need::Read);
+    serves(&rt, &mut memory, ZERO, here, Need::Read);
+    let alone = look(&memory, address);
+    stores(&rt, &mut memory, address, new);
+    let written = look(&memory, address);
     // the only way of hart 0 is for the other line then
-    assert!(rt; serve(&mut memory, zero, next, Need::Read));
-    assert_eq!(rt; letter(&memory, zero, here), Letter::I);
-    assert_eq!(rt; main_byte(&memory, address), Some(0x11));
-    assert_eq!(rt; main_byte(&memory, address + 1), Some(0x4c));
-    assert_eq!(rt; byte(&memory, address), Some(0x11));
+    serves(&rt, &mut memory, ZERO, next, Need::Read);
+    let (unwritten, in_memory) = ([old, before, behind], [old, behind]);
+    assert_eq!(rt;
+        [shared, alone, written, look(&memory, address)],
+        [
+            (Letter::S, unwritten, in_memory),
+            (Letter::E, unwritten, in_memory),
+            (Letter::M, [new, before, behind], in_memory),
+            (Letter::I, [new, before, behind], [new, behind]),
+        ]
+    );
     Ok(())
 }
 
 #[test]
 fn bits_are_set_and_cleared_in_one_cache(rt: HostRuntime) -> Result<(), Fail> {
-    let (zero, one) = harts()?;
     let mut memory = made(rt.alloc(), 1)?;
     let here = line_of(FIRST * 64);
     let next = line_of(FIRST * 64 + 64);
-    assert!(rt; !mark(&mut memory, zero, here, Need::Read));
-    assert!(rt; serve(&mut memory, zero, here, Need::Read));
-    assert!(rt; serve(&mut memory, one, here, Need::Read));
-    assert!(rt; mark(&mut memory, zero, here, Need::Read));
-    assert!(rt; mark(&mut memory, one, here, Need::Write));
-    assert_eq!(rt; marks(&memory, zero), (true, 0));
-    assert_eq!(rt; marks(&memory, one), (true, 1));
-    assert!(rt; mark(&mut memory, zero, here, Need::Write));
-    assert_eq!(rt; marks(&memory, zero), (true, 1));
+    marks_line(&rt, &mut memory, ZERO, here, Need::Read, false);
+    serves(&rt, &mut memory, ZERO, here, Need::Read);
+    serves(&rt, &mut memory, ONE, here, Need::Read);
+    marks_line(&rt, &mut memory, ZERO, here, Need::Read, true);
+    marks_line(&rt, &mut memory, ONE, here, Need::Write, true);
+    let read = (marks(&memory, ZERO), marks(&memory, ONE));
+    marks_line(&rt, &mut memory, ZERO, here, Need::Write, true);
+    let written = marks(&memory, ZERO);
     // a line with a bit does not leave for another
-    assert!(rt; room(&memory, zero, here));
-    assert!(rt; !room(&memory, zero, next));
-    clear(&mut memory, zero);
-    assert!(rt; room(&memory, zero, next));
-    assert_eq!(rt; marks(&memory, zero), (false, 0));
-    assert_eq!(rt; marks(&memory, one), (true, 1));
-    assert_eq!(rt; letter(&memory, zero, here), Letter::S);
-    assert_eq!(rt; letter(&memory, one, here), Letter::S);
-    assert_eq!(rt; byte(&memory, FIRST * 64), Some(0x7f));
+    let rooms = (room(&memory, ZERO, here), room(&memory, ZERO, next));
+    clear(&mut memory, ZERO);
+    assert_eq!(rt;
+        (read, written, rooms),
+        (((true, 0), (true, 1)), (true, 1), (true, false))
+    );
+    assert_eq!(rt;
+        (
+            room(&memory, ZERO, next),
+            marks(&memory, ZERO),
+            marks(&memory, ONE)
+        ),
+        (true, (false, 0), (true, 1))
+    );
+    assert_eq!(rt;
+        (letters(&memory, here), byte(&memory, FIRST * 64)),
+        ((Letter::S, Letter::S), Some(0x7f))
+    );
     Ok(())
-}
-
-fn harts() -> Result<(HartId, HartId), Fail> {
-    let zero = HartId::new(0).ok_or("no hart")?;
-    let one = HartId::new(1).ok_or("no hart")?;
-    Ok((zero, one))
 }

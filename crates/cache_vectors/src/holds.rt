@@ -4,6 +4,7 @@ use el_base::{Config, line_of};
 use line_pool::Pool;
 use std::alloc::Global;
 use std::marker::Model;
+use std::process::Abort;
 use std::test::Fail;
 use write_hold::*;
 
@@ -100,74 +101,116 @@ fn under() -> [u8; 64] {
     bytes
 }
 
+/// A line's number, a place in it, and the word there.
+type Word = (u8, u8, u32);
+
+/// The bytes are put into a line, or there is too little room, as this says.
+fn puts(rt: &impl Abort, hold: &mut Lent, number: u8, offset: u8, bytes: &[u8], answer: Put) {
+    let put = hold.put(number, offset, bytes);
+    assert_eq!(rt; put, answer, "{number} {offset}");
+}
+
+/// These words are read.
+fn reads(rt: &impl Abort, hold: &Lent, words: &[Word]) {
+    for &(number, offset, word) in words {
+        assert_eq!(rt; hold.read(number, offset), word, "{number} {offset}");
+    }
+}
+
+/// So many lines are held, of which this is the first.
+fn holds(rt: &impl Abort, hold: &Lent, len: usize, first: Option<u8>) {
+    let wanted = match first {
+        Some(number) => Some(line(number)),
+        None => None,
+    };
+    assert_eq!(rt; (hold.hold.len(), hold.hold.first()), (len, wanted));
+}
+
+/// A line is drained, or it is not held, as this says.
+fn drains(rt: &impl Abort, hold: &mut Lent, number: u8, is_held: bool) {
+    let drained = hold.drained(number).is_some();
+    assert_eq!(rt; drained, is_held, "{number}");
+}
+
+/// Words over bytes 4 and 5 of line 3.
+const OVER_TWO_BYTES: &[Word] = &[
+    (3, 0, 0x0302_0100),
+    (3, 2, 0xbbaa_0302),
+    (3, 3, 0x06bb_aa03),
+    (3, 4, 0x0706_bbaa),
+    (3, 5, 0x0807_06bb),
+    (3, 6, 0x0908_0706),
+    (2, 4, 0x0706_0504),
+];
+
 #[test]
 fn a_word_takes_each_byte_from_the_hold_or_from_under_it(rt: HostRuntime) -> Result<(), Fail> {
     let mut hold = hold(rt.alloc(), 4)?;
-    assert_eq!(rt; hold.put(3, 4, &[0xaa, 0xbb]), Put::Held);
-    for (number, offset, word) in [
-        (3, 0, 0x0302_0100),
-        (3, 2, 0xbbaa_0302),
-        (3, 3, 0x06bb_aa03),
-        (3, 4, 0x0706_bbaa),
-        (3, 5, 0x0807_06bb),
-        (3, 6, 0x0908_0706),
-        (2, 4, 0x0706_0504),
-    ] {
-        assert_eq!(rt; hold.read(number, offset), word, "{number} {offset}");
-    }
+    puts(&rt, &mut hold, 3, 4, &[0xaa, 0xbb], Put::Held);
+    reads(&rt, &hold, OVER_TWO_BYTES);
     Ok(())
 }
+
+/// Words over the first four bytes of a line and its last two, and over all of it.
+const AT_THE_ENDS: &[Word] = &[
+    (0, 0, 0xa3a2_a1a0),
+    (0, 1, 0x04a3_a2a1),
+    (0, 59, 0xb03d_3c3b),
+    (0, 60, 0xb1b0_3d3c),
+];
+
+const OVER_ALL: &[Word] = &[
+    (0, 0, 0xcccc_cccc),
+    (0, 31, 0xcccc_cccc),
+    (0, 60, 0xcccc_cccc),
+];
 
 #[test]
 fn the_first_bytes_the_last_and_all_of_a_line(rt: HostRuntime) -> Result<(), Fail> {
     let mut hold = hold(rt.alloc(), 4)?;
-    assert_eq!(rt; hold.put(0, 0, &[0xa0, 0xa1, 0xa2, 0xa3]), Put::Held);
-    assert_eq!(rt; hold.put(0, 62, &[0xb0, 0xb1]), Put::Held);
-    for (offset, word) in [
-        (0, 0xa3a2_a1a0),
-        (1, 0x04a3_a2a1),
-        (59, 0xb03d_3c3b),
-        (60, 0xb1b0_3d3c),
-    ] {
-        assert_eq!(rt; hold.read(0, offset), word, "{offset}");
-    }
-    assert_eq!(rt; hold.put(0, 0, &[0xcc; 64]), Put::Held);
-    for offset in [0, 31, 60] {
-        assert_eq!(rt; hold.read(0, offset), 0xcccc_cccc, "{offset}");
-    }
-    assert_eq!(rt; hold.hold.len(), 1);
+    puts(&rt, &mut hold, 0, 0, &[0xa0, 0xa1, 0xa2, 0xa3], Put::Held);
+    puts(&rt, &mut hold, 0, 62, &[0xb0, 0xb1], Put::Held);
+    reads(&rt, &hold, AT_THE_ENDS);
+    puts(&rt, &mut hold, 0, 0, &[0xcc; 64], Put::Held);
+    reads(&rt, &hold, OVER_ALL);
+    holds(&rt, &hold, 1, Some(0));
     Ok(())
 }
 
+/// Three stores to a line, each a place, how many bytes of 0x11 0x22 0x33 0x44, and the word at place 16 after it.
+const STORES: &[&[(u8, usize, u32)]] = &[
+    &[
+        (16, 4, 0x4433_2211),
+        (18, 2, 0x2211_2211),
+        (18, 1, 0x2211_2211),
+    ],
+    &[
+        (18, 1, 0x1311_1110),
+        (18, 2, 0x2211_1110),
+        (16, 4, 0x4433_2211),
+    ],
+    &[
+        (17, 2, 0x1322_1110),
+        (16, 4, 0x4433_2211),
+        (19, 1, 0x1133_2211),
+    ],
+    &[
+        (16, 4, 0x4433_2211),
+        (16, 4, 0x4433_2211),
+        (17, 1, 0x4433_1111),
+    ],
+];
+
 #[test]
 fn the_last_store_to_a_byte_is_the_one_that_is_held(rt: HostRuntime) -> Result<(), Fail> {
-    // three stores, each a place and how many bytes of 0x11 0x22 0x33 0x44, and the word after each
-    for (stores, words) in [
-        (
-            [(16, 4), (18, 2), (18, 1)],
-            [0x4433_2211, 0x2211_2211, 0x2211_2211],
-        ),
-        (
-            [(18, 1), (18, 2), (16, 4)],
-            [0x1311_1110, 0x2211_1110, 0x4433_2211],
-        ),
-        (
-            [(17, 2), (16, 4), (19, 1)],
-            [0x1322_1110, 0x4433_2211, 0x1133_2211],
-        ),
-        (
-            [(16, 4), (16, 4), (17, 1)],
-            [0x4433_2211, 0x4433_2211, 0x4433_1111],
-        ),
-    ] {
+    for &stores in STORES {
         let mut hold = hold(rt.alloc(), 1)?;
-        for place in 0..3 {
-            let (offset, len) = stores[place];
-            let bytes = [0x11, 0x22, 0x33, 0x44];
-            assert_eq!(rt; hold.put(7, offset, &bytes[..len]), Put::Held);
-            assert_eq!(rt; hold.read(7, 16), words[place], "{stores:?} {place}");
+        for &(offset, len, word) in stores {
+            let bytes = &[0x11, 0x22, 0x33, 0x44][..len.min(4)];
+            puts(&rt, &mut hold, 7, offset, bytes, Put::Held);
+            reads(&rt, &hold, &[(7, 16, word)]);
         }
-        assert_eq!(rt; hold.hold.len(), 1);
+        holds(&rt, &hold, 1, Some(7));
     }
     Ok(())
 }
@@ -175,87 +218,80 @@ fn the_last_store_to_a_byte_is_the_one_that_is_held(rt: HostRuntime) -> Result<(
 #[test]
 fn the_same_word_twice(rt: HostRuntime) -> Result<(), Fail> {
     let mut hold = hold(rt.alloc(), 1)?;
-    assert_eq!(rt; hold.put(9, 8, &[1, 2, 3, 4]), Put::Held);
-    assert_eq!(rt; hold.put(9, 8, &[5, 6, 7, 8]), Put::Held);
-    assert_eq!(rt; hold.read(9, 8), 0x0807_0605);
-    assert_eq!(rt; hold.read(9, 12), 0x0f0e_0d0c);
-    assert_eq!(rt; hold.hold.len(), 1);
+    puts(&rt, &mut hold, 9, 8, &[1, 2, 3, 4], Put::Held);
+    puts(&rt, &mut hold, 9, 8, &[5, 6, 7, 8], Put::Held);
+    reads(&rt, &hold, &[(9, 8, 0x0807_0605), (9, 12, 0x0f0e_0d0c)]);
+    holds(&rt, &hold, 1, Some(9));
     Ok(())
 }
+
+/// Lines into which a byte is put, what comes of it, and how many are held then.
+const AT_THE_LIMIT: &[(u8, Put, usize)] = &[
+    (1, Put::Held, 1),
+    (2, Put::Held, 2),
+    (3, Put::TooMany(2), 2),
+    (1, Put::Held, 2),
+    (2, Put::Held, 2),
+    (3, Put::TooMany(2), 2),
+];
 
 #[test]
 fn a_new_line_is_refused_at_the_limit_and_an_old_one_is_not(rt: HostRuntime) -> Result<(), Fail> {
     let mut hold = hold(rt.alloc(), 2)?;
-    for (number, put, held) in [
-        (1, Put::Held, 1),
-        (2, Put::Held, 2),
-        (3, Put::TooMany(2), 2),
-        (1, Put::Held, 2),
-        (2, Put::Held, 2),
-        (3, Put::TooMany(2), 2),
-    ] {
-        assert_eq!(rt; hold.put(number, number, &[0xff]), put, "{number}");
-        assert_eq!(rt; hold.hold.len(), held, "{number}");
+    for &(number, put, held) in AT_THE_LIMIT {
+        let answer = hold.put(number, number, &[0xff]);
+        assert_eq!(rt; (answer, hold.hold.len()), (put, held), "{number}");
     }
     assert!(rt; !hold.hold.has(line(3)));
-    assert_eq!(rt; hold.read(3, 3), 0x0605_0403);
-    assert!(rt; hold.drained(1).is_some());
-    assert_eq!(rt; hold.put(3, 3, &[0xff]), Put::Held);
-    assert_eq!(rt; hold.read(3, 3), 0x0605_04ff);
+    reads(&rt, &hold, &[(3, 3, 0x0605_0403)]);
+    drains(&rt, &mut hold, 1, true);
+    puts(&rt, &mut hold, 3, 3, &[0xff], Put::Held);
+    reads(&rt, &hold, &[(3, 3, 0x0605_04ff)]);
     Ok(())
+}
+
+/// The bytes of a line at some places, if it is there.
+fn at_places(line: Option<[u8; 64]>) -> Option<[u8; 6]> {
+    let bytes = line?;
+    Some([
+        bytes[0], bytes[1], bytes[31], bytes[61], bytes[62], bytes[63],
+    ])
 }
 
 #[test]
 fn a_drain_merges_one_line_and_removes_it(rt: HostRuntime) -> Result<(), Fail> {
     let mut hold = hold(rt.alloc(), 3)?;
     for (number, offset, byte) in [(5, 0, 0x70), (5, 62, 0x90), (6, 1, 0x10), (5, 63, 0x80)] {
-        assert_eq!(rt; hold.put(number, offset, &[byte]), Put::Held);
+        puts(&rt, &mut hold, number, offset, &[byte], Put::Held);
     }
-    match hold.drained(5) {
-        Some(bytes) => {
-            for (place, byte) in [
-                (0, 0x70),
-                (1, 1),
-                (31, 31),
-                (61, 61),
-                (62, 0x90),
-                (63, 0x80),
-            ] {
-                assert_eq!(rt; bytes[place], byte, "{place}");
-            }
-        }
-        None => return Err("line 5 is not held".into()),
-    }
+    let drained = at_places(hold.drained(5));
+    assert_eq!(rt; drained, Some([0x70, 1, 31, 61, 0x90, 0x80]));
     assert!(rt; !hold.hold.has(line(5)));
-    assert_eq!(rt; hold.drained(5), None);
-    assert_eq!(rt; hold.read(5, 60), 0x3f3e_3d3c);
-    assert_eq!(rt; hold.read(6, 0), 0x0302_1000);
-    assert_eq!(rt; hold.hold.first(), Some(line(6)));
-    assert_eq!(rt; hold.hold.len(), 1);
-    assert!(rt; hold.drained(6).is_some());
-    assert_eq!(rt; hold.hold.first(), None);
+    drains(&rt, &mut hold, 5, false);
+    reads(&rt, &hold, &[(5, 60, 0x3f3e_3d3c), (6, 0, 0x0302_1000)]);
+    holds(&rt, &hold, 1, Some(6));
+    drains(&rt, &mut hold, 6, true);
+    holds(&rt, &hold, 0, None);
     Ok(())
 }
 
 #[test]
 fn a_hold_forgets_all_that_it_holds_and_goes_on(rt: HostRuntime) -> Result<(), Fail> {
     let mut hold = hold(rt.alloc(), 2)?;
-    assert_eq!(rt; hold.hold.first(), None);
+    holds(&rt, &hold, 0, None);
     for number in [1, 2] {
-        assert_eq!(rt; hold.put(number, 0, &[0xff; 4]), Put::Held);
+        puts(&rt, &mut hold, number, 0, &[0xff; 4], Put::Held);
     }
-    assert!(rt; hold.hold.first().is_some());
+    let has_first = hold.hold.first().is_some();
     hold.forget();
-    assert_eq!(rt; hold.hold.first(), None);
-    assert_eq!(rt; hold.hold.len(), 0);
-    for number in [1, 2] {
-        assert!(rt; !hold.hold.has(line(number)));
-        assert_eq!(rt; hold.read(number, 0), 0x0302_0100);
-    }
+    holds(&rt, &hold, 0, None);
+    let (has_one, has_two) = (hold.hold.has(line(1)), hold.hold.has(line(2)));
+    assert_eq!(rt; (has_first, has_one, has_two), (true, false, false));
+    reads(&rt, &hold, &[(1, 0, 0x0302_0100), (2, 0, 0x0302_0100)]);
     for (number, put) in [(3, Put::Held), (4, Put::Held), (1, Put::TooMany(2))] {
-        assert_eq!(rt; hold.put(number, 0, &[0xee]), put, "{number}");
+        puts(&rt, &mut hold, number, 0, &[0xee], put);
     }
-    assert_eq!(rt; hold.read(3, 0), 0x0302_01ee);
+    reads(&rt, &hold, &[(3, 0, 0x0302_01ee)]);
     Ok(())
 }
 
@@ -263,17 +299,17 @@ fn a_hold_forgets_all_that_it_holds_and_goes_on(rt: HostRuntime) -> Result<(), F
 fn sixteen_lines_are_held_and_a_seventeenth_is_not(rt: HostRuntime) -> Result<(), Fail> {
     let mut hold = hold(rt.alloc(), 16)?;
     for number in 0..16 {
-        assert_eq!(rt; hold.put(number, number, &[number]), Put::Held, "{number}");
+        puts(&rt, &mut hold, number, number, &[number], Put::Held);
     }
-    assert_eq!(rt; hold.put(16, 0, &[1]), Put::TooMany(16));
-    assert_eq!(rt; hold.out(), 16);
+    puts(&rt, &mut hold, 16, 0, &[1], Put::TooMany(16));
+    let out = hold.out();
     // a line that is held may be written further
-    assert_eq!(rt; hold.put(15, 63, &[2]), Put::Held);
+    puts(&rt, &mut hold, 15, 63, &[2], Put::Held);
     for number in 0..16 {
-        assert!(rt; hold.drained(number).is_some(), "{number}");
+        drains(&rt, &mut hold, number, true);
     }
-    assert_eq!(rt; hold.out(), 0);
-    assert_eq!(rt; hold.put(16, 0, &[1]), Put::Held);
+    assert_eq!(rt; (out, hold.out()), (16, 0));
+    puts(&rt, &mut hold, 16, 0, &[1], Put::Held);
     Ok(())
 }
 
@@ -338,12 +374,15 @@ impl Pair {
 #[test]
 fn two_holds_have_a_slot_each(rt: HostRuntime) -> Result<(), Fail> {
     let mut pair = Pair::make(rt.alloc())?;
-    assert!(rt; pair.put_first(4, 0x11));
-    assert!(rt; pair.put_second(4, 0x22));
-    assert!(rt; !pair.put_first(5, 0x33));
-    assert!(rt; !pair.put_second(6, 0x44));
-    assert_eq!(rt; pair.words(4), (0x11, 0x22));
-    assert!(rt; pair.put_first(4, 0x55));
-    assert_eq!(rt; pair.words(4), (0x55, 0x22));
+    let (first, second) = (pair.put_first(4, 0x11), pair.put_second(4, 0x22));
+    assert_eq!(rt; (first, second), (true, true));
+    let (first, second) = (pair.put_first(5, 0x33), pair.put_second(6, 0x44));
+    assert_eq!(rt; (first, second), (false, false));
+    let words = pair.words(4);
+    let put = pair.put_first(4, 0x55);
+    assert_eq!(rt;
+        (words, put, pair.words(4)),
+        ((0x11, 0x22), true, (0x55, 0x22))
+    );
     Ok(())
 }

@@ -19,6 +19,7 @@ use rv_alu::{Action, HartStatus, HartView, Regs, Span};
 use rv_word::{Insn, Reg, decode};
 use section_ctl::*;
 use std::alloc::Global;
+use std::process::Abort;
 use std::test::Fail;
 
 /// The lock word, what the acquire finds there, and what it would store.
@@ -27,6 +28,14 @@ const LOCK: u32 = 0x10040;
 const FREE: u32 = 0x1111_1111;
 
 const TAKEN: u32 = 0x2222_2222;
+
+const X5: Reg = Reg { number: 5 };
+
+const X6: Reg = Reg { number: 6 };
+
+const X7: Reg = Reg { number: 7 };
+
+const X8: Reg = Reg { number: 8 };
 
 /// A running hart with a reservation.
 fn view(reserved: Option<u32>) -> HartView
@@ -113,10 +122,7 @@ fn idle(alloc: Global, view: HartView, lines: &[(u32, Need)]) -> Result<Hart, Fa
 /// A hart that has begun a section.
 fn begun(alloc: Global, reserved: Option<u32>, lines: &[(u32, Need)]) -> Result<Hart, Fail> {
     let mut hart = idle(alloc, view(reserved), lines)?;
-    let Some(rd) = Reg::new(5) else {
-        return Err("no register".into());
-    };
-    hart.section.begin(LOCK, FREE, TAKEN, rd);
+    hart.section.begin(LOCK, FREE, TAKEN, X5);
     Ok(hart)
 }
 
@@ -184,9 +190,6 @@ fn store(hart: &mut Hart, address: u32, len: u32, value: u32) -> Result<(), Fail
 
 /// Loads a word, in a live section whose cache has a bit on its line, into x6.
 fn load(hart: &mut Hart, address: u32) -> Result<u32, Fail> {
-    let Some(rd) = Reg::new(6) else {
-        return Err("no register".into());
-    };
     let Some(live) = hart.section.live() else {
         return Err("no section is live".into());
     };
@@ -202,9 +205,9 @@ fn load(hart: &mut Hart, address: u32) -> Result<u32, Fail> {
     hart.section.spec_action(
         &mut hart.pool,
         &mut hart.sets,
-        Action::LoadReserved { rd, address },
+        Action::LoadReserved { rd: X6, address },
     );
-    Ok(hart.section.shown().regs.get(rd))
+    Ok(word_in(hart, X6))
 }
 
 /// Runs the instruction of a word, if it computes from a register and a number.
@@ -299,141 +302,163 @@ const STORE_WORD: u32 = 0x0053_2023;
 
 const SWAP: u32 = 0x0853_23af;
 
+/// The word in a register, as the section shows it.
+fn word_in(hart: &Hart, reg: Reg) -> u32 {
+    hart.section.shown().regs.get(reg)
+}
+
+/// The pc that the section shows, and the one that a rollback leads to.
+fn pcs(hart: &Hart) -> (u32, u32) {
+    (hart.section.shown().pc, hart.section.committed().pc)
+}
+
+/// The reservation that the section shows, and the one that a rollback leads to.
+fn reservations(hart: &Hart) -> (Option<u32>, Option<u32>) {
+    (
+        hart.section.shown().reserved,
+        hart.section.committed().reserved,
+    )
+}
+
+/// How many instructions a live section has run.
+fn count(hart: &Hart) -> Option<u32> {
+    Some(hart.section.live()?.count)
+}
+
+/// Whether the section wrote the line of an address.
+fn wrote(hart: &Hart, address: u32) -> bool {
+    hart.section.wrote(line_of(address))
+}
+
+/// Loads have these words, each from its address, in this order.
+fn loads(rt: &impl Abort, hart: &mut Hart, words: &[(u32, u32)]) -> Result<(), Fail> {
+    for &(address, word) in words {
+        let loaded = load(hart, address)?;
+        assert_eq!(rt; loaded, word, "{address:#x}");
+    }
+    Ok(())
+}
+
 #[test]
 fn an_acquire_and_a_release_alone_leave_memory_as_it_was(rt: HostRuntime) -> Result<(), Fail> {
-    let (Some(acquired), Some(released)) = (Reg::new(5), Reg::new(7)) else {
-        return Err("no register".into());
-    };
     for (code, found) in [(STORE_WORD, 0), (SWAP, TAKEN)] {
         let mut hart = begun(rt.alloc(), None, &[(LOCK, Need::Read)])?;
         let before = bytes_at(&hart, LOCK);
-        assert_eq!(rt; hart.section.shown().pc, 0x10004);
-        assert_eq!(rt; hart.section.shown().regs.get(acquired), FREE);
-        assert_eq!(rt; hart.section.committed().pc, 0x10000);
-        assert!(rt; hart.section.wrote(line_of(LOCK + 60)));
-        assert!(rt; !hart.section.wrote(line_of(LOCK + 64)));
+        let written = (wrote(&hart, LOCK + 60), wrote(&hart, LOCK + 64));
+        assert_eq!(rt;
+            (pcs(&hart), word_in(&hart, X5), written),
+            ((0x10004, 0x10000), FREE, (true, false))
+        );
         commit(&mut hart, code)?;
-        assert_eq!(rt; hart.section.shown().pc, 0x10008);
-        assert_eq!(rt; hart.section.committed().pc, 0x10008);
-        assert_eq!(rt; hart.section.shown().regs.get(released), found);
-        assert_eq!(rt; hart.section.live(), None);
-        assert_eq!(rt; bytes_at(&hart, LOCK), before);
-        assert_eq!(rt; hart.sets.letter(line_of(LOCK)), Letter::E);
-        assert!(rt; !hart.sets.marked());
+        assert_eq!(rt;
+            (pcs(&hart), word_in(&hart, X7), hart.section.live()),
+            ((0x10008, 0x10008), found, None)
+        );
+        let letter = hart.sets.letter(line_of(LOCK));
+        assert_eq!(rt;
+            (bytes_at(&hart, LOCK), letter, hart.sets.marked()),
+            (before, Letter::E, false)
+        );
     }
     Ok(())
 }
 
 #[test]
 fn a_load_sees_what_was_stored_over_the_bytes_under_it(rt: HostRuntime) -> Result<(), Fail> {
-    let mut hart = begun(
-        rt.alloc(),
-        None,
-        &[(LOCK, Need::Read), (0x10080, Need::Write)],
-    )?;
-    assert_eq!(rt; load(&mut hart, LOCK)?, TAKEN);
-    assert_eq!(rt; load(&mut hart, LOCK + 4)?, 0x0706_0504);
+    let lines = [(LOCK, Need::Read), (0x10080, Need::Write)];
+    let mut hart = begun(rt.alloc(), None, &lines)?;
+    loads(&rt, &mut hart, &[(LOCK, TAKEN), (LOCK + 4, 0x0706_0504)])?;
     store(&mut hart, 0x10086, 2, 0xffff_bbaa)?;
-    assert_eq!(rt; load(&mut hart, 0x10084)?, 0xbbaa_0504);
-    assert_eq!(rt; load(&mut hart, 0x10088)?, 0x0b0a_0908);
-    match hart.section.live() {
-        Some(live) => assert_eq!(rt; live.count, 6),
-        None => return Err("no section is live".into()),
-    }
+    loads(
+        &rt,
+        &mut hart,
+        &[(0x10084, 0xbbaa_0504), (0x10088, 0x0b0a_0908)],
+    )?;
+    assert_eq!(rt; count(&hart), Some(6));
     Ok(())
 }
 
 #[test]
 fn an_instruction_of_a_word_runs_on_the_live_view(rt: HostRuntime) -> Result<(), Fail> {
-    let Some(sum) = Reg::new(6) else {
-        return Err("no register".into());
-    };
     let mut hart = begun(rt.alloc(), None, &[(LOCK, Need::Read)])?;
     compute(&mut hart, ADD_ONE)?;
-    assert_eq!(rt; hart.section.shown().regs.get(sum), FREE + 1);
-    assert_eq!(rt; hart.section.shown().pc, 0x10008);
-    assert_eq!(rt; hart.section.committed().pc, 0x10000);
-    match hart.section.live() {
-        Some(live) => assert_eq!(rt; live.count, 2),
-        None => return Err("no section is live".into()),
-    }
+    assert_eq!(rt;
+        (word_in(&hart, X6), pcs(&hart), count(&hart)),
+        (FREE + 1, (0x10008, 0x10000), Some(2))
+    );
     Ok(())
+}
+
+/// The bytes at the places 7 to 12 of a line, if the cache has it.
+fn middle(hart: &Hart, address: u32) -> Option<[u8; 6]> {
+    let bytes = bytes_at(hart, address)?;
+    Some([
+        bytes[7], bytes[8], bytes[9], bytes[10], bytes[11], bytes[12],
+    ])
 }
 
 #[test]
 fn the_last_of_two_stores_to_a_word_is_committed(rt: HostRuntime) -> Result<(), Fail> {
-    let mut hart = begun(
-        rt.alloc(),
-        None,
-        &[(LOCK, Need::Read), (0x10080, Need::Write)],
-    )?;
-    store(&mut hart, 0x10088, 4, 0x1111_1111)?;
-    store(&mut hart, 0x10088, 4, 0x4433_2211)?;
-    match bytes_at(&hart, 0x10080) {
-        Some(bytes) => assert_eq!(rt; bytes[8], 8),
-        None => return Err("no such line".into()),
+    let lines = [(LOCK, Need::Read), (0x10080, Need::Write)];
+    let mut hart = begun(rt.alloc(), None, &lines)?;
+    for value in [0x1111_1111, 0x4433_2211] {
+        store(&mut hart, 0x10088, 4, value)?;
     }
+    let before = middle(&hart, 0x10080);
     commit(&mut hart, STORE_WORD)?;
-    match bytes_at(&hart, 0x10080) {
-        Some(bytes) => {
-            for (place, byte) in [
-                (7, 7),
-                (8, 0x11),
-                (9, 0x22),
-                (10, 0x33),
-                (11, 0x44),
-                (12, 12),
-            ] {
-                assert_eq!(rt; bytes[place], byte, "{place}");
-            }
-        }
-        None => return Err("no such line".into()),
-    }
-    assert_eq!(rt; hart.sets.letter(line_of(0x10080)), Letter::M);
-    assert_eq!(rt; hart.sets.letter(line_of(LOCK)), Letter::E);
-    assert_eq!(rt; hart.section.hold().first(), None);
+    let after = middle(&hart, 0x10080);
+    assert_eq!(rt;
+        (before, after),
+        (
+            Some([7, 8, 9, 10, 11, 12]),
+            Some([7, 0x11, 0x22, 0x33, 0x44, 12])
+        )
+    );
+    let written = hart.sets.letter(line_of(0x10080));
+    let read = hart.sets.letter(line_of(LOCK));
+    assert_eq!(rt;
+        (written, read, hart.section.hold().first()),
+        (Letter::M, Letter::E, None)
+    );
     Ok(())
 }
+
+/// Where stores of 0x44332211 go, how many bytes they have, and the word at 0x10080 after each.
+const OVER_ONE_ANOTHER: &[(u32, u32, u32)] = &[
+    (0x10082, 2, 0x2211_0100),
+    (0x10083, 1, 0x1111_0100),
+    (0x10080, 4, 0x4433_2211),
+    (0x10080, 1, 0x4433_2211),
+];
 
 #[test]
 fn a_byte_a_half_and_a_word_over_one_another_are_gone_after_a_rollback(
     rt: HostRuntime,
 ) -> Result<(), Fail> {
-    let mut hart = begun(
-        rt.alloc(),
-        None,
-        &[(LOCK, Need::Read), (0x10080, Need::Write)],
-    )?;
-    for (address, len, word) in [
-        (0x10082, 2, 0x2211_0100),
-        (0x10083, 1, 0x1111_0100),
-        (0x10080, 4, 0x4433_2211),
-        (0x10080, 1, 0x4433_2211),
-    ] {
+    let lines = [(LOCK, Need::Read), (0x10080, Need::Write)];
+    let mut hart = begun(rt.alloc(), None, &lines)?;
+    for &(address, len, word) in OVER_ONE_ANOTHER {
         store(&mut hart, address, len, 0x4433_2211)?;
-        assert_eq!(rt; load(&mut hart, 0x10080)?, word, "{address}");
+        loads(&rt, &mut hart, &[(0x10080, word)])?;
     }
     roll_back(&mut hart);
-    assert_eq!(rt; hart.section.live(), None);
-    assert_eq!(rt; hart.section.shown().pc, 0x10000);
-    assert_eq!(rt; hart.section.hold().len(), 0);
+    assert_eq!(rt;
+        (hart.section.live(), pcs(&hart), hart.section.hold().len()),
+        (None, (0x10000, 0x10000), 0)
+    );
     Ok(())
 }
 
 #[test]
 fn the_last_line_that_may_be_written_is_held(rt: HostRuntime) -> Result<(), Fail> {
-    let mut hart = begun(
-        rt.alloc(),
-        None,
-        &[(0x10080, Need::Write), (0x100c0, Need::Write)],
-    )?;
+    let lines = [(0x10080, Need::Write), (0x100c0, Need::Write)];
+    let mut hart = begun(rt.alloc(), None, &lines)?;
     for (address, held) in [(0x10080, 1), (0x100fc, 2), (0x10084, 2)] {
         store(&mut hart, address, 4, 0x5555_5555)?;
         assert_eq!(rt; hart.section.hold().len(), held, "{address}");
     }
-    assert!(rt; hart.section.wrote(line_of(0x100c0)));
-    assert_eq!(rt; load(&mut hart, 0x100fc)?, 0x5555_5555);
-    Ok(())
+    assert!(rt; wrote(&hart, 0x100c0));
+    loads(&rt, &mut hart, &[(0x100fc, 0x5555_5555)])
 }
 
 #[test]
@@ -443,66 +468,80 @@ fn a_checkpoint_loses_its_reservation_and_the_live_view_keeps_its_own(
     let mut hart = begun(rt.alloc(), Some(0x10088), &[(0x10080, Need::Read)])?;
     let _word = load(&mut hart, 0x1008c)?;
     hart.section.unreserve(line_of(0x10080));
-    assert_eq!(rt; hart.section.committed().reserved, None);
-    assert_eq!(rt; hart.section.shown().reserved, Some(0x1008c));
+    assert_eq!(rt; reservations(&hart), (Some(0x1008c), None));
     Ok(())
 }
 
 #[test]
 fn an_armed_section_becomes_a_live_one_and_commits(rt: HostRuntime) -> Result<(), Fail> {
-    let (Some(found), Some(failed), Some(other)) = (Reg::new(5), Reg::new(6), Reg::new(8)) else {
-        return Err("no register".into());
-    };
-    let mut hart = armed(rt.alloc(), found, &[(LOCK, Need::Read)])?;
+    let mut hart = armed(rt.alloc(), X5, &[(LOCK, Need::Read)])?;
     let before = bytes_at(&hart, LOCK);
-    assert_eq!(rt; hart.section.shown().reserved, Some(LOCK));
-    put(&mut hart, other, 7)?;
-    put(&mut hart, other, 9)?;
+    let reserved = hart.section.shown().reserved;
+    for value in [7, 9] {
+        put(&mut hart, X8, value)?;
+    }
+    let (count, word) = (3, LOCK);
     assert_eq!(rt;
-        hart.section.armed(),
-        Some(Armed {
-            count: 3,
-            word: LOCK
-        })
+        (
+            reserved,
+            hart.section.armed(),
+            hart.section.live(),
+            wrote(&hart, LOCK)
+        ),
+        (Some(LOCK), Some(Armed { count, word }), None, false)
     );
-    assert_eq!(rt; hart.section.live(), None);
-    assert!(rt; !hart.section.wrote(line_of(LOCK)));
-    elide(&mut hart, failed)?;
-    assert_eq!(rt; hart.section.armed(), None);
+    elide(&mut hart, X6)?;
+    let live = Live {
+        count: 4,
+        word,
+        old: FREE,
+        new: TAKEN,
+    };
     assert_eq!(rt;
-        hart.section.live(),
-        Some(Live {
-            count: 4,
-            word: LOCK,
-            old: FREE,
-            new: TAKEN
-        })
+        (
+            hart.section.armed(),
+            hart.section.live(),
+            hart.section.shown().reserved
+        ),
+        (None, Some(live), None)
     );
-    assert_eq!(rt; hart.section.shown().reserved, None);
-    assert_eq!(rt; hart.section.shown().regs.get(failed), 0);
-    assert_eq!(rt; hart.section.shown().regs.get(other), 9);
-    assert_eq!(rt; hart.section.committed().pc, 0x10000);
+    assert_eq!(rt;
+        (
+            word_in(&hart, X6),
+            word_in(&hart, X8),
+            hart.section.committed().pc
+        ),
+        (0, 9, 0x10000)
+    );
     commit(&mut hart, STORE_WORD)?;
-    assert_eq!(rt; hart.section.committed().pc, 0x10014);
-    assert_eq!(rt; hart.section.live(), None);
-    assert_eq!(rt; bytes_at(&hart, LOCK), before);
+    assert_eq!(rt;
+        (
+            hart.section.committed().pc,
+            hart.section.live(),
+            bytes_at(&hart, LOCK)
+        ),
+        (0x10014, None, before)
+    );
     Ok(())
 }
 
 #[test]
 fn an_armed_section_that_is_let_go_keeps_its_view(rt: HostRuntime) -> Result<(), Fail> {
-    let (Some(found), Some(other)) = (Reg::new(5), Reg::new(8)) else {
-        return Err("no register".into());
-    };
-    let mut hart = armed(rt.alloc(), found, &[(LOCK, Need::Read)])?;
-    put(&mut hart, other, 7)?;
-    assert_eq!(rt; hart.section.committed().pc, 0x10000);
+    let mut hart = armed(rt.alloc(), X5, &[(LOCK, Need::Read)])?;
+    put(&mut hart, X8, 7)?;
+    let before = hart.section.committed().pc;
     let_go(&mut hart);
-    assert_eq!(rt; hart.section.armed(), None);
-    assert_eq!(rt; hart.section.committed().pc, 0x10008);
-    assert_eq!(rt; hart.section.committed().reserved, Some(LOCK));
-    assert_eq!(rt; hart.section.committed().regs.get(found), FREE);
-    assert_eq!(rt; hart.section.committed().regs.get(other), 7);
+    let HartView {
+        pc,
+        regs,
+        reserved,
+        ..
+    } = hart.section.committed();
+    assert_eq!(rt;
+        (before, hart.section.armed(), *pc, *reserved),
+        (0x10000, None, 0x10008, Some(LOCK))
+    );
+    assert_eq!(rt; (regs.get(X5), regs.get(X8)), (FREE, 7));
     Ok(())
 }
 
@@ -510,17 +549,16 @@ fn an_armed_section_that_is_let_go_keeps_its_view(rt: HostRuntime) -> Result<(),
 fn a_register_that_is_written_over_after_its_lr_does_not_change_the_old_value(
     rt: HostRuntime,
 ) -> Result<(), Fail> {
-    let Some(found) = Reg::new(5) else {
-        return Err("no register".into());
-    };
     for value in [0, TAKEN] {
-        let mut hart = armed(rt.alloc(), found, &[(LOCK, Need::Read)])?;
-        put(&mut hart, found, value)?;
-        elide(&mut hart, found)?;
-        match hart.section.live() {
-            Some(live) => assert_eq!(rt; live.old, FREE),
-            None => return Err("no section is live".into()),
-        }
+        let mut hart = armed(rt.alloc(), X5, &[(LOCK, Need::Read)])?;
+        put(&mut hart, X5, value)?;
+        elide(&mut hart, X5)?;
+        assert_eq!(rt; old_value(&hart), Some(FREE), "{value:#x}");
     }
     Ok(())
+}
+
+/// The value that a live section found in the lock word.
+fn old_value(hart: &Hart) -> Option<u32> {
+    Some(hart.section.live()?.old)
 }

@@ -168,25 +168,32 @@ fn run(rt: &impl Abort, cache: &mut Cache, view: &mut HartView, word: u32) -> En
 /// The cache has the line of the address in x5 with this letter and these bytes, the other line is as it was, and
 /// this line is the least recent one.
 fn looks(rt: &impl Abort, cache: &mut Cache, letter: Letter, memory: u32, least: u32, word: u32) {
-    let bytes = match letter {
-        Letter::I => None,
-        _ => Some(line_with(memory)),
+    let (bytes, gone) = match letter {
+        Letter::I => (None, None),
+        _ => (Some(line_with(memory)), Some(line_of(least).number)),
     };
-    assert_eq!(rt; copy(cache, ADDRESS), (letter, bytes), "after {word:#x}");
+    let copies = [copy(cache, ADDRESS), copy(cache, OTHER)];
+    let other = (Letter::S, Some([0x55; 64]));
     assert_eq!(rt;
-        copy(cache, OTHER),
-        (Letter::S, Some([0x55; 64])),
+        (copies, fill(cache, THIRD, Letter::E, &[0; 64])),
+        ([(letter, bytes), other], gone),
         "after {word:#x}"
     );
-    let gone = match letter {
-        Letter::I => None,
-        _ => Some(line_of(least).number),
-    };
-    assert_eq!(rt;
-        fill(cache, THIRD, Letter::E, &[0; 64]),
-        gone,
-        "after {word:#x}"
-    );
+}
+
+/// The hart after an instruction that put a value into x8.
+fn moved(rt: &impl Abort, value: u32, reserved: Option<u32>) -> HartView {
+    let mut left = hart(rt);
+    left.regs.set(register(rt, 8), value);
+    left.pc = PC + 4;
+    left.reserved = reserved;
+    left
+}
+
+/// A line that is not as an instruction needs it.
+fn needs(need: Need) -> Ended {
+    let line = line_of(ADDRESS);
+    Ended::Needs { line, need }
 }
 
 #[test]
@@ -196,16 +203,12 @@ fn what_a_letter_permits_to_read_is_read(rt: HostRuntime) -> Result<(), Fail> {
             let mut cache = cache_with(rt.alloc(), letter)?;
             let mut view = hart(&rt);
             let ended = run(&rt, &mut cache, &mut view, word);
-            let mut left = hart(&rt);
-            if reads {
-                left.regs.set(register(&rt, 8), value);
-                left.pc = PC + 4;
-                assert_eq!(rt; ended, Ended::Ran, "{letter:?} {word:#x}");
+            let wanted = if reads {
+                (Ended::Ran, moved(&rt, value, Some(ADDRESS)))
             } else {
-                let (line, need) = (line_of(ADDRESS), Need::Read);
-                assert_eq!(rt; ended, Ended::Needs { line, need }, "{letter:?} {word:#x}");
-            }
-            assert_eq!(rt; view, left, "{letter:?} {word:#x}");
+                (needs(Need::Read), hart(&rt))
+            };
+            assert_eq!(rt; (ended, view), wanted, "{letter:?} {word:#x}");
             // it is the more recent line now, where it is there
             looks(&rt, &mut cache, letter, MEMORY, OTHER, word);
         }
@@ -220,18 +223,15 @@ fn what_a_letter_permits_to_write_is_modified(rt: HostRuntime) -> Result<(), Fai
             let mut cache = cache_with(rt.alloc(), letter)?;
             let mut view = hart(&rt);
             let ended = run(&rt, &mut cache, &mut view, word);
+            let wanted = if writes {
+                (Ended::Ran, moved(&rt, value, None))
+            } else {
+                (needs(Need::Write), hart(&rt))
+            };
+            assert_eq!(rt; (ended, view), wanted, "{letter:?} {word:#x}");
             if writes {
-                let mut left = hart(&rt);
-                left.regs.set(register(&rt, 8), value);
-                left.pc = PC + 4;
-                left.reserved = None;
-                assert_eq!(rt; ended, Ended::Ran, "{letter:?} {word:#x}");
-                assert_eq!(rt; view, left, "{letter:?} {word:#x}");
                 looks(&rt, &mut cache, Letter::M, memory, OTHER, word);
             } else {
-                let (line, need) = (line_of(ADDRESS), Need::Write);
-                assert_eq!(rt; ended, Ended::Needs { line, need }, "{letter:?} {word:#x}");
-                assert_eq!(rt; view, hart(&rt), "{letter:?} {word:#x}");
                 looks(&rt, &mut cache, letter, MEMORY, ADDRESS, word);
             }
         }
@@ -261,9 +261,12 @@ fn what_touches_nothing_leaves_the_cache(rt: HostRuntime) -> Result<(), Fail> {
         if word != 0xffb3_0413 {
             view.reserved = Some(ADDRESS + 4);
         }
-        assert_eq!(rt; run(&rt, &mut cache, &mut view, word), ended, "{word:#x}");
-        assert_eq!(rt; view.regs.get(register(&rt, 8)), value, "{word:#x}");
-        assert_eq!(rt; view.reserved, reserved, "{word:#x}");
+        let found = run(&rt, &mut cache, &mut view, word);
+        assert_eq!(rt;
+            (found, view.regs.get(register(&rt, 8)), view.reserved),
+            (ended, value, reserved),
+            "{word:#x}"
+        );
         looks(&rt, &mut cache, Letter::E, MEMORY, ADDRESS, word);
     }
     Ok(())

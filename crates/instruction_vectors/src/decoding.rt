@@ -14,9 +14,13 @@ fn x(number: u8) -> Reg {
 
 /// The word means the instruction, and is the one that is written for it.
 fn agree(rt: &impl Abort, word: u32, insn: Insn) {
-    assert_eq!(rt; decode(word), Some(insn), "at {word:#010x}");
-    assert!(rt; insn.is_valid(), "at {word:#010x}");
-    assert_eq!(rt; encode(insn), word, "at {word:#010x}");
+    let valid = insn.is_valid();
+    assert!(rt; valid, "at {word:#010x}");
+    assert_eq!(rt;
+        (decode(word), encode(insn)),
+        (Some(insn), word),
+        "at {word:#010x}"
+    );
 }
 
 #[test]
@@ -410,8 +414,11 @@ fn fences(rt: HostRuntime) {
         0x0100_000f,
         0xffff_8f8f,
     ] {
-        assert_eq!(rt; decode(word), Some(Insn::Fence), "at {word:#010x}");
-        assert_eq!(rt; encode_decoded(word), Some(0x0ff0_000f), "at {word:#010x}");
+        assert_eq!(rt;
+            (decode(word), encode_decoded(word)),
+            (Some(Insn::Fence), Some(0x0ff0_000f)),
+            "at {word:#010x}"
+        );
     }
 }
 
@@ -476,20 +483,24 @@ const NO_INSTRUCTION: &[(u32, &str)] = &[
 #[test]
 fn no_instruction(rt: HostRuntime) {
     for &(word, what) in NO_INSTRUCTION {
-        assert_eq!(rt; decode(word), None, "at {what}");
-        assert_eq!(rt; encode_decoded(word), None, "at {what}");
+        assert_eq!(rt;
+            (decode(word), encode_decoded(word)),
+            (None, None),
+            "at {what}"
+        );
     }
+}
+
+/// The number of a register, if it is one.
+fn number_of(reg: Option<Reg>) -> Option<u8> {
+    Some(reg?.number())
 }
 
 #[test]
 fn registers(rt: HostRuntime) {
     for (number, found) in [(0, true), (1, true), (31, true), (32, false), (255, false)] {
-        let reg = Reg::new(number);
-        assert_eq!(rt; reg.is_some(), found, "at {number}");
-        assert_eq!(rt;
-            reg.map(|reg| reg.number()),
-            if found { Some(number) } else { None }
-        );
+        let wanted = if found { Some(number) } else { None };
+        assert_eq!(rt; number_of(Reg::new(number)), wanted, "at {number}");
     }
 }
 
@@ -504,8 +515,10 @@ fn round_trip(rt: HostRuntime) {
         rl: false,
     };
     assert!(rt; insn.is_valid());
-    assert_eq!(rt; decode_encoded(insn), Some(insn));
-    assert_eq!(rt; encode_decoded(0x00a5_a5af), Some(0x00a5_a5af));
+    assert_eq!(rt;
+        (decode_encoded(insn), encode_decoded(0x00a5_a5af)),
+        (Some(insn), Some(0x00a5_a5af))
+    );
 }
 
 /// Immediates just inside and just outside their forms.

@@ -78,42 +78,59 @@ fn word_in(rt: &impl Abort, view: &HartView, number: u8) -> u32 {
     view.regs.get(Reg::new(number).expect(rt, "a register"))
 }
 
+/// An address behind memory that ends here, the last address of it, and others; and the byte at each before the first step.
+fn bytes_of(end: u32) -> [(u32, Option<u8>); 7] {
+    [
+        (0xffff, None),
+        (0x10001, Some(0x45)),
+        (0x10054, Some(0x13)),
+        (end.saturating_sub(1), Some(0)),
+        (end, None),
+        (0, None),
+        (0xffff_ffff, None),
+    ]
+}
+
+/// The words that a hart starts with, where memory ends here: its stack, its number, and how many harts there are.
+fn first_word(number: u8, end: u32, hart: u8, harts: u8) -> u32 {
+    match number {
+        2 => end.wrapping_sub(0x10000 * u32::from(hart)),
+        10 => hart.into(),
+        11 => harts.into(),
+        _ => 0,
+    }
+}
+
+/// A hart is before its first step, in memory that ends here.
+fn starts(rt: &impl Abort, flat: &Flat, hart: u8, harts: u8, end: u32) {
+    let view = seen(rt, flat, hart);
+    assert_eq!(rt;
+        (view.pc, view.reserved, view.status),
+        (ENTRY, None, HartStatus::Running),
+        "hart {hart}"
+    );
+    for number in 0..32 {
+        let wanted = first_word(number, end, hart, harts);
+        assert_eq!(rt;
+            word_in(rt, &view, number),
+            wanted,
+            "x{number} of hart {hart}"
+        );
+    }
+}
+
 #[test]
 fn harts_start_at_the_entry_with_their_own_stacks(rt: HostRuntime) -> Result<(), Fail> {
     for (harts, end) in [(1, 0x20080), (8, 0x90080)] {
         // addi x0,x0,0
         let flat = flat_of(&rt, rt.alloc(), &[0x0000_0013], harts)?;
-        assert_eq!(rt; flat.harts(), usize::from(harts));
-        assert_eq!(rt; flat.output().len(), 0);
-        for (address, byte) in [
-            (0xffff, None),
-            (0x10001, Some(0x45)),
-            (0x10054, Some(0x13)),
-            (end - 1, Some(0)),
-            (end, None),
-            (0, None),
-            (0xffff_ffff, None),
-        ] {
+        let sizes = (flat.harts(), flat.output().len());
+        assert_eq!(rt; sizes, (usize::from(harts), 0));
+        for (address, byte) in bytes_of(end) {
             assert_eq!(rt; flat.byte(address), byte, "at {address:#x}");
         }
         for hart in 0..harts {
-            let view = seen(&rt, &flat, hart);
-            assert_eq!(rt; view.pc, ENTRY);
-            assert_eq!(rt; view.reserved, None);
-            assert_eq!(rt; view.status, HartStatus::Running);
-            for number in 0..32 {
-                let want = match number {
-                    2 => end - 0x10000 * u32::from(hart),
-                    10 => u32::from(hart),
-                    11 => u32::from(harts),
-                    _ => 0,
-                };
-                assert_eq!(rt;
-                    word_in(&rt, &view, number),
-                    want,
-                    "x{number} of hart {hart}"
-                );
-            }
+            starts(&rt, &flat, hart, harts, end);
         }
     }
     Ok(())
@@ -129,9 +146,13 @@ fn a_program_writes_and_exits(rt: HostRuntime) -> Result<(), Fail> {
     ];
     let mut flat = flat_of(&rt, rt.alloc(), &code, 1)?;
     go(&rt, &mut flat, 0, 8);
+    let before = seen(&rt, &flat, 0).status;
     assert_eq!(rt; flat.output(), b"A\n".as_slice());
-    assert_eq!(rt; seen(&rt, &flat, 0).status, HartStatus::Running);
     go(&rt, &mut flat, 0, 1);
-    assert_eq!(rt; seen(&rt, &flat, 0).status, HartStatus::Exited { code: 0 });
+    let after = seen(&rt, &flat, 0).status;
+    assert_eq!(rt;
+        (before, after),
+        (HartStatus::Running, HartStatus::Exited { code: 0 })
+    );
     Ok(())
 }

@@ -68,13 +68,14 @@ fn writes_stop_at_their_line_and_at_the_room(rt: HostRuntime) {
         } else {
             (None, Access::Nothing)
         };
-        assert_eq!(rt; action.footprint(), footprint, "{arguments:?}");
-        assert_eq!(rt; transfers.append, wanted, "{arguments:?}");
-        assert_eq!(rt; transfers.store, None, "{arguments:?}");
         let mut after = caller(64, arguments);
         after.regs.set(A0, answer);
         after.pc = PC + 4;
-        assert_eq!(rt; view, after, "{arguments:?}");
+        assert_eq!(rt;
+            (action.footprint(), transfers.append, transfers.store, view),
+            (footprint, wanted, None, after),
+            "{arguments:?}"
+        );
     }
 }
 
@@ -84,16 +85,25 @@ fn only_write_and_exit_are_there(rt: HostRuntime) {
     let no_such_call = 0xffff_ffda;
     for number in [0, 63, 65, 94, 0x8000_005d, ONES] {
         let (action, transfers, view) = called(&rt, caller(number, [1, 0x10000, 4]), ROOM);
-        assert_eq!(rt; action.footprint(), Access::Nothing, "call {number}");
-        assert_eq!(rt; transfers.append, None, "call {number}");
-        assert_eq!(rt; view.regs.get(A0), no_such_call, "call {number}");
-        assert_eq!(rt; view.pc, PC + 4);
+        assert_eq!(rt;
+            (
+                action.footprint(),
+                transfers.append,
+                view.regs.get(A0),
+                view.pc
+            ),
+            (Access::Nothing, None, no_such_call, PC + 4),
+            "call {number}"
+        );
     }
     for code in [0, 1, LEAST, ONES] {
         let (action, _, view) = called(&rt, caller(93, [code, 0, 0]), ROOM);
-        assert_eq!(rt; action.footprint(), Access::Exit { code });
         let mut after = caller(93, [code, 0, 0]);
         after.status = HartStatus::Exited { code };
-        assert_eq!(rt; view, after, "exit {code}");
+        assert_eq!(rt;
+            (action.footprint(), view),
+            (Access::Exit { code }, after),
+            "exit {code}"
+        );
     }
 }

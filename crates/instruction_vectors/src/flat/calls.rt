@@ -37,9 +37,11 @@ fn calls_answer_and_write(rt: HostRuntime) -> Result<(), Fail> {
         let mut flat = flat_of(&rt, rt.alloc(), &code, 1)?;
         go(&rt, &mut flat, 0, code.len());
         let view = seen(&rt, &flat, 0);
-        assert_eq!(rt; word_in(&rt, &view, 10), answer, "after {words:?}");
-        assert_eq!(rt; view.status, HartStatus::Running);
-        assert_eq!(rt; flat.output(), output, "after {words:?}");
+        assert_eq!(rt;
+            (word_in(&rt, &view, 10), view.status, flat.output()),
+            (answer, HartStatus::Running, output),
+            "after {words:?}"
+        );
     }
     Ok(())
 }
@@ -56,9 +58,10 @@ fn the_output_fills_up(rt: HostRuntime) -> Result<(), Fail> {
     // 10 bytes, then 262,143 times a line, then the 54 bytes that are left
     go(&rt, &mut flat, 0, 7 + 3 * 262_144 + 3);
     let view = seen(&rt, &flat, 0);
-    assert_eq!(rt; view.pc, 0x10088);
-    assert_eq!(rt; word_in(&rt, &view, 13), 54);
-    assert_eq!(rt; word_in(&rt, &view, 10), 0xffff_ffe4);
+    assert_eq!(rt;
+        (view.pc, word_in(&rt, &view, 13), word_in(&rt, &view, 10)),
+        (0x10088, 54, 0xffff_ffe4)
+    );
     assert_eq!(rt; flat.output().len(), 16_777_216);
     Ok(())
 }

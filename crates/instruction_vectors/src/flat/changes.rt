@@ -77,13 +77,16 @@ fn a_step_notes_what_it_overwrites(rt: HostRuntime) -> Result<(), Fail> {
         let mut flat = flat_of(&rt, rt.alloc(), code, 1)?;
         go(&rt, &mut flat, 0, code.len().saturating_sub(1));
         let change = noted(&rt, &mut flat, 0);
-        assert_eq!(rt; (change.reg.number, change.value), register, "{code:?}");
+        let bytes = change.bytes;
         assert_eq!(rt;
-            (change.address, change.len, change.bytes),
-            place,
+            (
+                (change.reg.number, change.value),
+                (change.address, change.len, bytes),
+                change.output
+            ),
+            (register, place, output),
             "{code:?}"
         );
-        assert_eq!(rt; change.output, output, "{code:?}");
     }
     Ok(())
 }
@@ -122,11 +125,17 @@ fn undoing_a_store_gives_both_harts_their_reservations_back(rt: HostRuntime) -> 
     go(&rt, &mut flat, 0, 4);
     go(&rt, &mut flat, 1, 4);
     let change = noted_and_undone(&rt, &mut flat, 1);
+    let (first, second) = (seen(&rt, &flat, 0), seen(&rt, &flat, 1));
     assert_eq!(rt; change.words, [0x30040, 0x30040, 0, 0, 0, 0, 0, 0]);
-    assert_eq!(rt; seen(&rt, &flat, 0).reserved, Some(0x30040));
-    assert_eq!(rt; seen(&rt, &flat, 1).reserved, Some(0x30040));
-    assert_eq!(rt; seen(&rt, &flat, 1).pc, 0x10064);
-    assert_eq!(rt; flat.byte(0x30044), Some(0));
+    assert_eq!(rt;
+        (
+            first.reserved,
+            second.reserved,
+            second.pc,
+            flat.byte(0x30044)
+        ),
+        (Some(0x30040), Some(0x30040), 0x10064, Some(0))
+    );
     Ok(())
 }
 
@@ -137,8 +146,8 @@ fn undoing_a_write_call_takes_its_output_back(rt: HostRuntime) -> Result<(), Fai
     let mut flat = flat_of(&rt, rt.alloc(), &code, 1)?;
     go(&rt, &mut flat, 0, 4);
     noted_and_undone(&rt, &mut flat, 0);
-    assert_eq!(rt; flat.output().len(), 0);
-    assert_eq!(rt; word_in(&rt, &seen(&rt, &flat, 0), 10), 1);
+    let view = seen(&rt, &flat, 0);
+    assert_eq!(rt; (flat.output().len(), word_in(&rt, &view, 10)), (0, 1));
     go(&rt, &mut flat, 0, 1);
     assert_eq!(rt; flat.output(), b"\x7fEL".as_slice());
     Ok(())

@@ -210,8 +210,8 @@ fn letters(memory: &Memory, line: LineAddr) -> (Letter, Letter) {
 
 /// The request is served.
 fn serves(rt: &impl Abort, memory: &mut Memory, hart: HartId, line: LineAddr, need: Need)
-    requires { IsCoherent (shown memory.old.pool memory.old.hierarchy) }
-    ensures { IsCoherent (shown memory.new.pool memory.new.hierarchy) }
+    requires { IsCoherent (shown_copies memory.old.pool memory.old.hierarchy) }
+    ensures { IsCoherent (shown_copies memory.new.pool memory.new.hierarchy) }
 {
     let served = serve(memory, hart, line, need);
     assert!(rt; served, "{hart:?} {line:?} {need:?}");
@@ -219,8 +219,8 @@ fn serves(rt: &impl Abort, memory: &mut Memory, hart: HartId, line: LineAddr, ne
 
 /// A store of 0x11 by hart 0 is answered so.
 fn stores(rt: &impl Abort, memory: &mut Memory, address: u32, answer: Option<u8>)
-    requires { IsCoherent (shown memory.old.pool memory.old.hierarchy) }
-    ensures { IsCoherent (shown memory.new.pool memory.new.hierarchy) }
+    requires { IsCoherent (shown_copies memory.old.pool memory.old.hierarchy) }
+    ensures { IsCoherent (shown_copies memory.new.pool memory.new.hierarchy) }
 {
     let stored = try_store(memory, ZERO, address, 0x11);
     assert_eq!(rt; stored, answer, "{address:#x}");
@@ -235,8 +235,8 @@ fn marks_line(
     need: Need,
     sets: bool,
 )
-    requires { IsCoherent (shown memory.old.pool memory.old.hierarchy) }
-    ensures { IsCoherent (shown memory.new.pool memory.new.hierarchy) }
+    requires { IsCoherent (shown_copies memory.old.pool memory.old.hierarchy) }
+    ensures { IsCoherent (shown_copies memory.new.pool memory.new.hierarchy) }
 {
     let marked = mark(memory, hart, line, need);
     assert_eq!(rt; marked, sets, "{hart:?} {line:?} {need:?}");
@@ -291,7 +291,7 @@ fn a_line_leaves_for_another(rt: HostRuntime) -> Result<(), Fail> {
 /// What hart 0 knows of the line of an address; the bytes there, before it and behind it; and what main memory has there
 /// and behind it.
 fn look(memory: &Memory, address: u32) -> (Letter, [Option<u8>; 3], [Option<u8>; 2])
-    requires { IsCoherent (shown memory.now.pool memory.now.hierarchy) }
+    requires { IsCoherent (shown_copies memory.now.pool memory.now.hierarchy) }
 {
     let before = address.saturating_sub(1);
     let behind = address.saturating_add(1);

@@ -3,18 +3,7 @@ use elf_image::*;
 use std::alloc::{AllocError, Global};
 use std::process::Abort;
 use std::test::Fail;
-
-/// A program that prints 'A' and a newline, in one segment at 0x10000 that is the whole file.
-const FILE: [u8; 122] = [
-    0x7f, 0x45, 0x4c, 0x46, 0x01, 0x01, 0x01, 0x00, 0x00, 0x00, 0x00, 0x00, 0x00, 0x00, 0x00, 0x00,
-    0x02, 0x00, 0xf3, 0x00, 0x01, 0x00, 0x00, 0x00, 0x54, 0x00, 0x01, 0x00, 0x34, 0x00, 0x00, 0x00,
-    0x00, 0x00, 0x00, 0x00, 0x00, 0x00, 0x00, 0x00, 0x34, 0x00, 0x20, 0x00, 0x01, 0x00, 0x00, 0x00,
-    0x00, 0x00, 0x00, 0x00, 0x01, 0x00, 0x00, 0x00, 0x00, 0x00, 0x00, 0x00, 0x00, 0x00, 0x01, 0x00,
-    0x00, 0x00, 0x01, 0x00, 0x7a, 0x00, 0x00, 0x00, 0x7a, 0x00, 0x00, 0x00, 0x05, 0x00, 0x00, 0x00,
-    0x00, 0x10, 0x00, 0x00, 0x13, 0x05, 0x10, 0x00, 0x97, 0x05, 0x00, 0x00, 0x93, 0x85, 0x05, 0x02,
-    0x13, 0x06, 0x20, 0x00, 0x93, 0x08, 0x00, 0x04, 0x73, 0x00, 0x00, 0x00, 0x13, 0x05, 0x00, 0x00,
-    0x93, 0x08, 0xd0, 0x05, 0x73, 0x00, 0x00, 0x00, 0x41, 0x0a,
-];
+use worked_files::HELLO;
 
 /// The most bytes of a file.
 const LIMIT: usize = IMAGE_FILE_LIMIT as usize;
@@ -60,7 +49,7 @@ fn bad(fault: Option<(FaultKind, u32)>) -> Option<FileFault> {
 
 /// The file with bytes written over it, each with its place.
 fn changed(edits: &[(usize, u8)]) -> [u8; 122] {
-    let mut file = FILE;
+    let mut file = HELLO;
     for (place, value) in edits {
         if let Some(byte) = file.get_mut(*place) {
             *byte = *value;
@@ -77,11 +66,11 @@ fn file_of(
     headers: &[[u32; 6]],
     len: usize,
 ) -> Result<Vec<u8>, AllocError> {
-    let mut file = FILE[..24].to_vec(alloc)?;
+    let mut file = HELLO[..24].to_vec(alloc)?;
     file.extend_from_slice(&entry.to_le_bytes())?;
-    file.extend_from_slice(&FILE[28..44])?;
+    file.extend_from_slice(&HELLO[28..44])?;
     file.push(headers.len().to_le_bytes()[0])?;
-    file.extend_from_slice(&FILE[45..52])?;
+    file.extend_from_slice(&HELLO[45..52])?;
     for [p_type, p_offset, p_vaddr, p_filesz, p_memsz, p_flags] in headers {
         for field in [
             p_type, p_offset, p_vaddr, p_vaddr, p_filesz, p_memsz, p_flags, &0,
@@ -140,13 +129,13 @@ fn an_error_says_the_number_and_the_place(rt: HostRuntime) -> Result<(), Fail> {
 
 #[test]
 fn cut_files_are_refused(rt: HostRuntime) -> Result<(), Fail> {
-    for len in 0..FILE.len() {
+    for len in 0..HELLO.len() {
         let want = match len {
             0..52 => at(FaultKind::Short, len as u32),
             52..84 => at(FaultKind::Table, 28),
             _ => at(FaultKind::Segment, 56),
         };
-        let found = judged(&rt, rt.alloc(), &FILE[..len], 1)?;
+        let found = judged(&rt, rt.alloc(), &HELLO[..len], 1)?;
         assert_eq!(rt; found, Some(want), "cut to {len}");
     }
     Ok(())
@@ -210,7 +199,7 @@ fn changed_files_have_their_first_fault(rt: HostRuntime) -> Result<(), Fail> {
 
 /// The image of the file, for one hart.
 fn image(rt: &impl Abort, alloc: Global) -> Result<Image, Fail> {
-    Ok(loaded(rt, alloc, &FILE, 1)?.ok().ok_or("refused")?)
+    Ok(loaded(rt, alloc, &HELLO, 1)?.ok().ok_or("refused")?)
 }
 
 #[test]
@@ -221,8 +210,8 @@ fn the_file_is_loaded_behind_zeros(rt: HostRuntime) -> Result<(), Fail> {
         (image.base(), image.entry(), image.harts(), bytes.len()),
         (0x10000, 0x10054, 1, 0x20080 - 0x10000)
     );
-    let zeros = bytes.iter().skip(FILE.len()).all(|byte| *byte == 0);
-    assert_eq!(rt; (bytes.starts_with(&FILE), zeros), (true, true));
+    let zeros = bytes.iter().skip(HELLO.len()).all(|byte| *byte == 0);
+    assert_eq!(rt; (bytes.starts_with(&HELLO), zeros), (true, true));
     Ok(())
 }
 
@@ -253,7 +242,7 @@ fn is_the_file(rt: &impl Abort, code: &Code) {
     for segment in code.segments() {
         assert_eq!(rt;
             (segment.start(), segment.bytes()),
-            (0x10000, FILE.as_slice())
+            (0x10000, HELLO.as_slice())
         );
     }
 }

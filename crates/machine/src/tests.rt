@@ -11,23 +11,12 @@ use section_ctl::Live;
 use std::alloc::Global;
 use std::process::Abort;
 use std::test::Fail;
+use worked_files::HELLO;
 
 mod acquires;
 
 /// The lock's word.
 const LOCK: u32 = 0x1_1000;
-
-/// A program that prints 'A' and a newline, in one segment at 0x10000 that is the whole file.
-const FILE: [u8; 122] = [
-    0x7f, 0x45, 0x4c, 0x46, 0x01, 0x01, 0x01, 0x00, 0x00, 0x00, 0x00, 0x00, 0x00, 0x00, 0x00, 0x00,
-    0x02, 0x00, 0xf3, 0x00, 0x01, 0x00, 0x00, 0x00, 0x54, 0x00, 0x01, 0x00, 0x34, 0x00, 0x00, 0x00,
-    0x00, 0x00, 0x00, 0x00, 0x00, 0x00, 0x00, 0x00, 0x34, 0x00, 0x20, 0x00, 0x01, 0x00, 0x00, 0x00,
-    0x00, 0x00, 0x00, 0x00, 0x01, 0x00, 0x00, 0x00, 0x00, 0x00, 0x00, 0x00, 0x00, 0x00, 0x01, 0x00,
-    0x00, 0x00, 0x01, 0x00, 0x7a, 0x00, 0x00, 0x00, 0x7a, 0x00, 0x00, 0x00, 0x05, 0x00, 0x00, 0x00,
-    0x00, 0x10, 0x00, 0x00, 0x13, 0x05, 0x10, 0x00, 0x97, 0x05, 0x00, 0x00, 0x93, 0x85, 0x05, 0x02,
-    0x13, 0x06, 0x20, 0x00, 0x93, 0x08, 0x00, 0x04, 0x73, 0x00, 0x00, 0x00, 0x13, 0x05, 0x00, 0x00,
-    0x93, 0x08, 0xd0, 0x05, 0x73, 0x00, 0x00, 0x00, 0x41, 0x0a,
-];
 
 /// A program of ten instructions by which each hart prints the digit of its number, and exits:
 /// `auipc x11,0`, `addi x11,x11,40`, `add x11,x11,x10`, `addi x10,x0,1`, `addi x12,x0,1`,
@@ -370,7 +359,7 @@ fn a_program_runs_to_its_end(rt: HostRuntime) -> Result<(), Fail> {
         Act::ExpectHart(0, HartFact::Status(HartStatus::Exited { code: 0 })),
         Act::Expect(MachineFact::Serial(9)),
     ];
-    play(&rt, rt.alloc(), &FILE, plain(1, 20), &script, b"A\n")
+    play(&rt, rt.alloc(), &HELLO, plain(1, 20), &script, b"A\n")
 }
 
 /// Ten steps of a hart that waits, in each mode: five run, one misses, and the others stall.
@@ -387,7 +376,7 @@ fn a_machine_has_so_many_steps(rt: HostRuntime) -> Result<(), Fail> {
             mode,
             ..plain(1, 10)
         };
-        play(&rt, rt.alloc(), &FILE, config, &script, b"")?;
+        play(&rt, rt.alloc(), &HELLO, config, &script, b"")?;
     }
     Ok(())
 }
@@ -422,7 +411,7 @@ fn two_harts_share_a_line(rt: HostRuntime) -> Result<(), Fail> {
         Act::ExpectHart(1, HartFact::Letter(0x1_0040, Letter::S)),
         Act::Make(Kind::Step, 1, 1, Outcome::Ran),
     ];
-    play(&rt, rt.alloc(), &FILE, plain(2, 30), &script, b"A\nA\n")
+    play(&rt, rt.alloc(), &HELLO, plain(2, 30), &script, b"A\nA\n")
 }
 
 /// With room for one line, a written line goes back to main memory as another line comes.
@@ -541,7 +530,7 @@ fn the_order_of_events_is_the_order_of_the_output(rt: HostRuntime) -> Result<(),
 /// What is shown of memory and of a hart before the first event.
 #[test]
 fn a_machine_begins_as_its_image(rt: HostRuntime) -> Result<(), Fail> {
-    let machine = machine(&rt, rt.alloc(), &FILE, plain(1, 1))?;
+    let machine = machine(&rt, rt.alloc(), &HELLO, plain(1, 1))?;
     assert_eq!(rt; machine.byte(0xffff), None);
     assert_eq!(rt; machine.byte(0x1_0000), Some(0x7f));
     assert_eq!(rt; machine.byte(0x1_0079), Some(0x0a));
@@ -558,7 +547,7 @@ fn a_machine_begins_as_its_image(rt: HostRuntime) -> Result<(), Fail> {
 
 /// The fault of a configuration of the program for one hart, or none where a machine is made.
 fn fault_of(rt: &impl Abort, alloc: Global, config: Config) -> Result<Option<ConfigFault>, Fail> {
-    match made(rt, alloc, &FILE, config)? {
+    match made(rt, alloc, &HELLO, config)? {
         Ok(_) => Ok(None),
         Err(MakeFault::Config { fault }) => Ok(Some(fault)),
         Err(MakeFault::NoMemory) => Err("no memory")?,

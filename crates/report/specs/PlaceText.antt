@@ -9,7 +9,7 @@ use Rattle.report.specs.Text.{last_line, status_words}
 use Rattle.rv_alu.specs.declared.view.HartStatus.{HartStatus}
 use Rattle.rv_alu.specs.declared.view.HartView.{HartView}
 use Rattle.rv_flat.specs.FlatState.{view_of}
-use Rattle.step_back.specs.Standing.{Standing, places_of, serial_to, shown_state}
+use Rattle.step_back.specs.Standing.{Standing, places_of, serial_to, state_here}
 
 -- the line of a hart: its number, its committed pc and its status
 unfoldable pub pc_line : ℕ → ℕ → HartStatus → List ℕ
@@ -26,8 +26,8 @@ place_text harts view steps output = flat_map (view_line view) (range_with_len 0
 -- the text of a place of a run
 abbrev pub place_of : Standing → List ℕ
 place_of standing =
-    place_text standing.program.harts (view_of (shown_state standing))
-    (length (serial_to standing.entries standing.place)) (length (shown_state standing).output)
+    place_text standing.program.harts (view_of (state_here standing))
+    (length (serial_to standing.entries standing.place)) (length (state_here standing).output)
 
 -- the places of a run at which a hart comes to a pc, each on its line
 abbrev pub found_text : Program → List Entry → ℕ → ℕ → List ℕ

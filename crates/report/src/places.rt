@@ -6,7 +6,7 @@ ghost use Rattle.el_io.specs.Sink.{TookAll, TookPart};
 ghost use Rattle.report.specs.PlaceText.{found_text, pc_line, place_of, view_line};
 ghost use Rattle.report.specs.Puts.{Puts};
 ghost use Rattle.rv_flat.specs.FlatState.{view_of};
-ghost use Rattle.step_back.specs.Standing.{shown_state};
+ghost use Rattle.step_back.specs.Standing.{state_here};
 
 use crate::report::{put_last_line, put_with_status};
 use crate::word::{Word, put_number_line};
@@ -73,7 +73,7 @@ fn put_pc_lines<S: Sink>(sink: &mut S, timeline: &Timeline) -> Result<(), Failed
     ensures { Puts result
         (record { taken = S.taken sink.old; faults = S.faults sink.old })
         (record { taken = S.taken sink.new; faults = S.faults sink.new })
-        (flat_map (view_line (view_of (shown_state timeline.now))) (range_with_len 0 timeline.now.program.harts)) }
+        (flat_map (view_line (view_of (state_here timeline.now))) (range_with_len 0 timeline.now.program.harts)) }
 {
     for number in 0..timeline.harts() {
         put_pc_line_of(sink, timeline, HartId { number })?;
@@ -87,7 +87,7 @@ fn put_pc_line_of<S: Sink>(sink: &mut S, timeline: &Timeline, hart: HartId) -> R
     ensures { Puts result
         (record { taken = S.taken sink.old; faults = S.faults sink.old })
         (record { taken = S.taken sink.new; faults = S.faults sink.new })
-        (view_line (view_of (shown_state timeline.now)) hart.number) }
+        (view_line (view_of (state_here timeline.now)) hart.number) }
 {
     let view = timeline.view(hart);
     put_pc_line(sink, hart.number, view.pc, view.status)

@@ -23,8 +23,8 @@ abbrev pub state_at : Program → List Entry → ℕ → FlatState
 state_at program entries place = run (start program) (serial_to entries place)
 
 -- the committed state at the present place
-abbrev pub shown_state : Standing → FlatState
-shown_state standing = state_at standing.program standing.entries standing.place
+abbrev pub state_here : Standing → FlatState
+state_here standing = state_at standing.program standing.entries standing.place
 
 -- a run that can be taken back has come to a place of a history, whose harts exist and for all of which there is room
 pub record StandsAt (track : Track) (entries : List Entry) (place : ℕ) : Type 0 where

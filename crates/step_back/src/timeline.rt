@@ -5,7 +5,7 @@ ghost use Rattle.chronicle.specs.Serial.{serial};
 ghost use Rattle.rv_alu.specs.Span.{holds};
 ghost use Rattle.rv_flat.specs.FlatState.{output_limit, span_of, view_of};
 ghost use Rattle.rv_flat.specs.Memory.{byte_in};
-ghost use Rattle.step_back.specs.Standing.{ComesTo, HasNoNext, IsNext, serial_to, shown_state};
+ghost use Rattle.step_back.specs.Standing.{ComesTo, HasNoNext, IsNext, serial_to, state_here};
 
 use crate::effect::Effect;
 use crate::trail::Trail;
@@ -94,23 +94,23 @@ impl Timeline {
     /// A hart's committed view.
     pub fn view(&self, hart: HartId) -> HartView
         requires { hart.number < self.now.program.harts }
-        ensures { result ≡ view_of (shown_state self.now) hart.number }
+        ensures { result ≡ view_of (state_here self.now) hart.number }
     {
         self.trail.hart(hart)
     }
 
     /// The committed byte at an address, or none outside memory.
     pub fn byte(&self, address: u32) -> Option<u8>
-        ensures none_exactly_outside { IsNone result ↔ (holds (span_of (shown_state self.now)) address 1 ≡ false) }
-        ensures exact { IfSome result (λ byte. byte ≡ byte_in (shown_state self.now).base (shown_state self.now).bytes address) }
+        ensures none_exactly_outside { IsNone result ↔ (holds (span_of (state_here self.now)) address 1 ≡ false) }
+        ensures exact { IfSome result (λ byte. byte ≡ byte_in (state_here self.now).base (state_here self.now).bytes address) }
     {
         self.trail.byte(address)
     }
 
     /// What the program has written.
     pub fn output(&self) -> &[u8]
-        ensures exact { result.now ≡ (shown_state self.now).output }
-        ensures within_limit { length (shown_state self.now).output ≤ output_limit }
+        ensures exact { result.now ≡ (state_here self.now).output }
+        ensures within_limit { length (state_here self.now).output ≤ output_limit }
     {
         self.trail.output()
     }

@@ -11,26 +11,26 @@ use Rattle.line_pool.specs.Pooled.{Pooled, bytes_of}
 use Rattle.write_hold.specs.declared.entry.Entry as code
 use Rattle.write_hold.specs.Held.{Entry, entry_of, held, holds, laid, seen_at, stored_at}
 use Rattle.write_hold.specs.Calls.{IsDrained, IsFull, IsPut, IsHold}
-use Rattle.write_hold.specs.Entries.{IsMerged, HoldStands, hold_of, shown_entry}
+use Rattle.write_hold.specs.Entries.{IsMerged, HoldStands, hold_of, seen_entry}
 use Rattle.write_hold.specs.Slotted.{Place, lent, lent_entry}
 use Rattle.write_hold.proofs.Steps.{Finds, found}
 
 -- an entry with the bytes of its slot
 abbrev pub full : Pooled → code.Entry → Entry
-full pool entry = lent_entry pool (shown_entry entry)
+full pool entry = lent_entry pool (seen_entry entry)
 
 -- the entries of a hold, and the one of a line
 abbrev pub all_of : Pooled → List code.Entry → List Entry
-all_of pool entries = map (lent_entry pool) (map shown_entry entries)
+all_of pool entries = map (lent_entry pool) (map seen_entry entries)
 
 pub shown_entry : (pool : Pooled) (entries : List code.Entry) (line : ℕ) →
     entry_of (all_of pool entries) line ≡ option_map (full pool) (found entries line)
 shown_entry pool entries line =
-    find_of_map (lent_entry pool) (λ entry. entry.line == line) (map shown_entry entries)
-    ∙ ap (option_map (lent_entry pool)) (find_of_map shown_entry (λ (place : Place). place.line == line) entries)
+    find_of_map (lent_entry pool) (λ entry. entry.line == line) (map seen_entry entries)
+    ∙ ap (option_map (lent_entry pool)) (find_of_map seen_entry (λ (place : Place). place.line == line) entries)
     ∙ both (found entries line)
   where
-    both : (entry : Option code.Entry) → option_map (lent_entry pool) (option_map shown_entry entry) ≡ option_map (full pool) entry
+    both : (entry : Option code.Entry) → option_map (lent_entry pool) (option_map seen_entry entry) ≡ option_map (full pool) entry
     both None = refl
     both (Some entry) = refl
 
@@ -42,7 +42,7 @@ pub shown_holds : (pool : Pooled) (entries : List code.Entry) (line : ℕ) → h
 shown_holds pool entries line = ap is_some (shown_entry pool entries line) ∙ is_some_shown pool (found entries line)
 
 pub length-shown : (pool : Pooled) (entries : List code.Entry) → length (all_of pool entries) ≡ length entries
-length-shown pool entries = length-map (map shown_entry entries) (lent_entry pool) ∙ length-map entries shown_entry
+length-shown pool entries = length-map (map seen_entry entries) (lent_entry pool) ∙ length-map entries seen_entry
 
 pub shown_sound : (pool : Pooled) (limit room owner : ℕ) (entries : List code.Entry) → HoldStands limit room entries
     → IsHold (lent pool (hold_of limit owner entries))
@@ -52,8 +52,8 @@ shown_sound pool limit room owner entries stands = record {
       omega (
         arith,
         stands.once line,
-        count_of_map (lent_entry pool) (λ entry. entry.line == line) (map shown_entry entries),
-        count_of_map shown_entry (λ (place : Place). place.line == line) entries,
+        count_of_map (lent_entry pool) (λ entry. entry.line == line) (map seen_entry entries),
+        count_of_map seen_entry (λ (place : Place). place.line == line) entries,
       );
 }
 

@@ -16,7 +16,7 @@ use Rattle.line_pool.specs.Pooled.{Pooled, is_out, out_of, owner_of}
 use Rattle.line_pool.proofs.Laws.{has-out, keeps-given, keeps-permuted, keeps-taken, keeps-written, kept-out, kept-owner, stays_out}
 use Rattle.line_pool.proofs.Laws.OtherLaws.{leaves-given, leaves-taken, leaves-then, leaves-written}
 use Rattle.write_hold.specs.declared.entry.Entry as code
-use Rattle.write_hold.specs.Entries.{hold_of, shown_entry}
+use Rattle.write_hold.specs.Entries.{hold_of, seen_entry}
 use Rattle.write_hold.specs.Slotted.{IsLent, Place, slots_of}
 use Rattle.write_hold.proofs.Shown.{StayBeside}
 use Rattle.write_hold.proofs.Steps.{found}
@@ -41,12 +41,12 @@ two_found f (z ∷ entries) line l x y apart is there =
 
 -- a sum over the slots of a hold, which says how often a slot is among them, and how many there are
 pub slot-sum : (g : Slot → ℕ) (entries : List code.Entry)
-    → sum_by g (map (λ (place : Place). place.slot) (map shown_entry entries)) ≡ sum_by (λ e. g e.slot) entries
+    → sum_by g (map (λ (place : Place). place.slot) (map seen_entry entries)) ≡ sum_by (λ e. g e.slot) entries
 slot-sum g entries =
-    fold-map (λ total s. total + g s) (λ (place : Place). place.slot) 0 (map shown_entry entries)
-    ∙ fold-map (λ total (place : Place). total + g place.slot) shown_entry 0 entries
+    fold-map (λ total s. total + g s) (λ (place : Place). place.slot) 0 (map seen_entry entries)
+    ∙ fold-map (λ total (place : Place). total + g place.slot) seen_entry 0 entries
 
-slots_are : (entries : List code.Entry) → map (λ (place : Place). place.slot) (map shown_entry entries) ≡ map (λ (e : code.Entry). e.slot) entries
+slots_are : (entries : List code.Entry) → map (λ (place : Place). place.slot) (map seen_entry entries) ≡ map (λ (e : code.Entry). e.slot) entries
 slots_are [] = refl
 slots_are (e ∷ entries) = ap (λ rest. e.slot ∷ rest) (slots_are entries)
 
@@ -54,7 +54,7 @@ abbrev one_at : Slot → Slot → ℕ
 one_at slot other = if same_slot other slot then 1 else 0
 
 pub count-shown : (limit owner : ℕ) (entries : List code.Entry) → length (slots_of (hold_of limit owner entries)) ≡ length entries
-count-shown limit owner entries = length-map (map shown_entry entries) (λ (place : Place). place.slot) ∙ length-map entries shown_entry
+count-shown limit owner entries = length-map (map seen_entry entries) (λ (place : Place). place.slot) ∙ length-map entries seen_entry
 
 module _ (pool : Pooled) (limit owner : ℕ) (entries : List code.Entry) (owes : IsLent pool (hold_of limit owner entries)) where
   -- as many are out as there are lines, and no more than there may be

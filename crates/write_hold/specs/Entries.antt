@@ -12,12 +12,12 @@ abbrev pub number_of : code.Entry → ℕ
 number_of entry = entry.line.number
 
 -- an entry as contracts see it
-abbrev pub shown_entry : code.Entry → Place
-shown_entry entry = record { line = entry.line.number; mask = entry.mask; slot = entry.slot }
+abbrev pub seen_entry : code.Entry → Place
+seen_entry entry = record { line = entry.line.number; mask = entry.mask; slot = entry.slot }
 
 -- the hold that these fields show
 abbrev pub hold_of : ℕ → ℕ → List code.Entry → Slotted
-hold_of limit owner entries = record { limit = limit; owner = owner; entries = map shown_entry entries }
+hold_of limit owner entries = record { limit = limit; owner = owner; entries = map seen_entry entries }
 
 -- what the fields keep: there is room for as many lines as there may be, and none is there twice
 pub record HoldStands (limit room : ℕ) (entries : List code.Entry) : Type 0 where
@@ -27,15 +27,15 @@ pub record HoldStands (limit room : ℕ) (entries : List code.Entry) : Type 0 wh
 
 -- the byte of an entry over the one under it
 abbrev pub byte_over : Pooled → code.Entry → List ℕ → ℕ → ℕ
-byte_over pool entry under place = unwrap_or (stored_at (lent_entry pool (shown_entry entry)) place) (slice_index under place)
+byte_over pool entry under place = unwrap_or (stored_at (lent_entry pool (seen_entry entry)) place) (slice_index under place)
 
 -- bytes were stored in an entry from a place on: its slot alone was written
 pub record IsStored (before after : Pooled) (old new : code.Entry) (offset : ℕ) (bytes : List ℕ) : Type 0 where
   pub line : new.line ≡ old.line
   pub slot : new.slot ≡ old.slot
   pub written : IsWritten before after old.slot (bytes_of after old.slot)
-  pub laid : (place : ℕ) → stored_at (lent_entry after (shown_entry new)) place
-      ≡ laid offset bytes place (stored_at (lent_entry before (shown_entry old)) place)
+  pub laid : (place : ℕ) → stored_at (lent_entry after (seen_entry new)) place
+      ≡ laid offset bytes place (stored_at (lent_entry before (seen_entry old)) place)
 
 -- a line's bytes after those of an entry were merged into them
 abbrev pub IsMerged : Pooled → code.Entry → List ℕ → List ℕ → Type 0

@@ -19,14 +19,14 @@ pub struct Entry {
 
 impl Entry {
     ghost use Rattle.write_hold.specs.Held.{stored_at};
-    ghost use Rattle.write_hold.specs.Entries.{IsMerged, IsStored, byte_over, shown_entry};
+    ghost use Rattle.write_hold.specs.Entries.{IsMerged, IsStored, byte_over, seen_entry};
     ghost use Rattle.write_hold.specs.Slotted.{lent_entry};
 
     /// A line in which nothing was stored, whatever bytes its slot has.
     pub fn new(line: LineAddr, slot: Slot) -> Entry
         ensures line { result.line ≡ line }
         ensures slot { result.slot ≡ slot }
-        ensures nothing { (pool : Pooled) (place : ℕ) → stored_at (lent_entry pool (shown_entry result)) place ≡ None }
+        ensures nothing { (pool : Pooled) (place : ℕ) → stored_at (lent_entry pool (seen_entry result)) place ≡ None }
     {
         Entry {
             line,

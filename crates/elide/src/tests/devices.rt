@@ -1,13 +1,12 @@
 //! Each call of a device fails in turn, in each command.
-use crate::tests::support::{
-    BARE_TRACE, CERTIFICATE, HELLO, REPORT, TIMES, TRACE, USAGE, changed, strings,
-};
+use crate::tests::support::{REPORT, TIMES, USAGE, changed, strings};
 use el_io::{MemShelf, MemSink, OpenGate};
 use std::alloc::{AllocError, Global};
 use std::sync::Wait;
 use std::test::Fail;
 use std::thread::Threads;
 use tool::tool;
+use worked_files::{BARE_TRACE, CERTIFICATE, HELLO, TRACE};
 
 /// What a command does where no call fails, in this order: it reads so many files, puts a byte of `out` at a time, writes
 /// its files, and puts a byte of `err` at a time.

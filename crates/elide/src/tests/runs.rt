@@ -1,8 +1,9 @@
 //! Runs that end by themselves, or at their last step.
 use crate::tests::support::{
-    Ending, HELLO, MISSED_ONE, REPORT, TOUCHED_NOTHING, answer, changed, image_of, report_of,
+    Ending, MISSED_ONE, REPORT, TOUCHED_NOTHING, answer, changed, image_of, report_of,
 };
 use std::test::Fail;
+use worked_files::HELLO;
 
 // Each hart exits with its number: addi a7, x0, 93; ecall.
 const EXITS_WITH_ITS_NUMBER: [u32; 2] = [0x05d0_0893, 0x0000_0073];

@@ -1,8 +1,7 @@
 //! Traces that are written, and played again.
-use crate::tests::support::{
-    BARE_TRACE, HELLO, MISSED_ONE, REPORT, TIMES, TRACE, answer, changed, report_of,
-};
+use crate::tests::support::{MISSED_ONE, REPORT, TIMES, answer, changed, report_of};
 use std::test::Fail;
+use worked_files::{BARE_TRACE, HELLO, TRACE};
 
 #[test]
 fn a_run_writes_its_trace_and_its_replay_is_the_same(rt: HostRuntime) -> Result<(), Fail> {

@@ -1,18 +1,11 @@
 -- single bytes after some were put
-use Rattle.std.proofs.Common.{◌≡◌, ◌∙◌, ℕ, zero, suc, ◌+◌, ◌-◌, ◌/◌, ◌%◌, ◌^◌, ◌*◌, ◌≤◌, ◌<◌, List, length, ap, arith, sym}
+use Rattle.std.proofs.Common.{◌≡◌, ◌∙◌, ℕ, zero, suc, ◌+◌, ◌/◌, ◌%◌, ◌≤◌, ◌<◌, List, length, ap, arith}
 use Rattle.std.specs.Prelude.{slice_index, slice_set}
-use Rattle.std.proofs.lemmas.Bool.Decides.{nat_tests}
 use Rattle.std.proofs.lemmas.List.{get_or-set_same, length-set}
-use Rattle.std.proofs.Math.Nat.{div-div-eq-div-mul, pow-suc}
-use Rattle.core_step.specs.Port.{byte_of, stored}
+use Rattle.core_step.specs.Port.{byte_of}
+use Rattle.core_step.proofs.Laws.Bytes.{byte_of-more}
 use Rattle.rv_flat.specs.Memory.{put_bytes}
 use Rattle.rv_flat.proofs.Laws.PutBytes.{put_bytes-other}
-
--- a byte of a number is that of its high bytes one place lower
-byte_of-more : (value k : ℕ) → byte_of (value / 256) k ≡ byte_of value (suc k)
-byte_of-more value k =
-    let more : 256 ^ suc k ≡ 256 * 256 ^ k = rw pow-suc (omega arith) in
-    ap (λ n. n % 256) (div-div-eq-div-mul value 256 (256 ^ k)) ∙ sym (ap (λ power. value / power % 256) more)
 
 byte_of-first : (value : ℕ) → value % 256 ≡ byte_of value 0
 byte_of-first value = omega arith
@@ -33,12 +26,3 @@ put_bytes-here bytes place (suc n) value (suc k) at inside below is =
     put_bytes-here (slice_set bytes place (value % 256)) (place + 1) n (value / 256) k at
     (omega (arith, length-set bytes place (value % 256))) (omega arith) (omega arith)
     ∙ byte_of-more value k
-
--- a byte where something was stored, and one where nothing was
-pub stored-here : (byte : ℕ → ℕ) (from len value address : ℕ) → from ≤ address → address < from + len →
-    stored byte from len value address ≡ byte_of value (address - from)
-stored-here byte from len value address low high = grind (arith, nat_tests)
-
-pub stored-other : (byte : ℕ → ℕ) (from len value address : ℕ) → (from ≤ address → address < from + len → ⊥) →
-    stored byte from len value address ≡ byte address
-stored-other byte from len value address out = grind (arith, nat_tests)

@@ -38,7 +38,7 @@ pub fn runs_keep_the_form()
 {}
 
 /// A cache without marks has room for any line.
-#[tactic(auto, using(crate::proofs::Laws::Rooms::room_without_marks))]
+#[tactic(auto, using(residency::proofs::Laws::Rooms::room_without_marks))]
 pub fn unmarked_caches_have_room()
     ensures { UnmarkedCachesHaveRoom }
 {}

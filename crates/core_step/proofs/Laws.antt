@@ -2,3 +2,4 @@
 pub mod Cuts
 pub mod Runs
 pub mod Lines
+pub mod Bytes

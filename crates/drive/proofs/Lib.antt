@@ -1,4 +1,3 @@
-pub mod Laws
 mod GoingRound
 mod NextHart
 mod Recordings

@@ -6,13 +6,13 @@ use Rattle.std.proofs.lemmas.List.{same_lists}
 use Rattle.std.proofs.lemmas.Option.{slice_get-get_or, slice_get_read}
 use Rattle.std.proofs.Math.Seq.{take-length}
 use Rattle.std.specs.Prelude.{slice_get}
-use Rattle.drive.proofs.Laws.Steps.{one_followed}
 use Rattle.drive.specs.Recording.{IsFirstDifference}
 use Rattle.el_base.specs.declared.events.Event.{Event}
 use Rattle.el_base.specs.declared.outcomes.Outcome.{Outcome}
 use Rattle.el_model.specs.Next.{next, outcomes_from, state_after}
 use Rattle.el_model.specs.State.{ModelState}
-use Rattle.machine.proofs.Laws.Continued.{nothing_more, state_of_continued}
+use Rattle.el_model.proofs.Laws.Folds.{length-outcomes_from}
+use Rattle.machine.proofs.Laws.Continued.{nothing_more, one_followed, state_of_continued}
 use Rattle.machine.specs.Story.{Story, continued, state_of}
 
 same_Some : {X : Type 0} {x y : X} → Some x ≡ Some y → x ≡ y
@@ -26,10 +26,6 @@ found_at state [] place event within is = absurd (omega arith)
 found_at state (first ∷ events) zero event within is = ap (λ e. Some (next state e).outcome) (sym is)
 found_at state (first ∷ events) (suc place) event within is =
     found_at (next state first).state events place event (omega arith) is
-
-found_length : (state : ModelState) (events : List Event) → length (outcomes_from state events) ≡ length events
-found_length state [] = refl
-found_length state (event ∷ events) = ap suc (found_length (next state event).state events)
 
 -- two lists are the same before a place, or their first difference is before it
 abbrev Compared : List Outcome → List Outcome → ℕ → Option ℕ → Type 0
@@ -134,12 +130,12 @@ module _ (before now : Story) (events : List Event) (recorded : List Outcome) (c
     (each : length recorded ≡ length events)
   where
     as_many : length recorded ≡ length (outcomes_from (state_of before) events)
-    as_many = each ∙ sym (found_length (state_of before) events)
+    as_many = each ∙ sym (length-outcomes_from (state_of before) events)
 
     through : Compared recorded (outcomes_from (state_of before) events) (length (outcomes_from (state_of before) events)) first
     through =
         subst (λ n. Compared recorded (outcomes_from (state_of before) events) n first)
-        (all ∙ sym (found_length (state_of before) events)) compares.so_far
+        (all ∙ sym (length-outcomes_from (state_of before) events)) compares.so_far
 
     pub followed : now ≡ continued before events
     followed = compares.story ∙ ap (λ n. continued before (take n events)) all ∙ ap (continued before) (take-length events)

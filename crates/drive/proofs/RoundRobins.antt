@@ -4,31 +4,11 @@ use Rattle.std.specs.Prelude.{slice_get}
 use Rattle.std.proofs.Math.Seq.{take-length}
 use Rattle.std.proofs.lemmas.Bool.{cases_order}
 use Rattle.el_base.specs.declared.events.Event.{Event}
-use Rattle.el_base.specs.declared.events.Kind.{Kind}
-use Rattle.el_base.specs.declared.events.Kind.TheVariants.{Step, Order, Serve, Deliver}
-use Rattle.el_base.specs.Kinds.{kind_number}
 use Rattle.el_base.proofs.Laws.HartIds.{same_hart}
+use Rattle.el_base.proofs.Laws.Kinds.{one_kind}
 use Rattle.drive.specs.RoundRobin.{IsEventAt, IsRoundRobin}
 use Rattle.el_model.specs.Next.{is_over, state_after}
 use Rattle.el_model.specs.State.{ModelState}
-
-one_kind : (a b : Kind) → kind_number a ≡ kind_number b → a ≡ b
-one_kind Step Step h = refl
-one_kind Order Order h = refl
-one_kind Serve Serve h = refl
-one_kind Deliver Deliver h = refl
-one_kind Step Order h = absurd (omega arith)
-one_kind Step Serve h = absurd (omega arith)
-one_kind Step Deliver h = absurd (omega arith)
-one_kind Order Step h = absurd (omega arith)
-one_kind Order Serve h = absurd (omega arith)
-one_kind Order Deliver h = absurd (omega arith)
-one_kind Serve Step h = absurd (omega arith)
-one_kind Serve Order h = absurd (omega arith)
-one_kind Serve Deliver h = absurd (omega arith)
-one_kind Deliver Step h = absurd (omega arith)
-one_kind Deliver Order h = absurd (omega arith)
-one_kind Deliver Serve h = absurd (omega arith)
 
 -- one event stands at a place
 one_turn : (harts place : ℕ) (a b : Event) → IsEventAt harts place a → IsEventAt harts place b → a ≡ b

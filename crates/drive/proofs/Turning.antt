@@ -8,13 +8,13 @@ use mathlib.Core.List.{IsPrefix}
 use mathlib.Core.Logic.{dite}
 use native.Mathlib.Decide.{ℕ_discrete}
 use Rattle.chronicle.specs.Chronicle.{events}
-use Rattle.drive.proofs.GoingRound.{going_more, slice_get_push}
 use Rattle.drive.specs.Turns.{AreCounts, AreTurns, GoesByTurns, IsRound, RoundStory, before_of, made_in, of_hart, round_at, turns_of}
 use Rattle.el_base.specs.Kinds.{kind_number}
 use Rattle.el_base.specs.declared.entries.Entry.{Entry}
 use Rattle.el_base.specs.declared.events.Event.{Event}
+use Rattle.el_base.proofs.Laws.ListLaws.{slice_get_push}
 use Rattle.el_model.specs.Next.{entries_from, is_over}
-use Rattle.machine.proofs.Laws.Continued.{continued_more}
+use Rattle.machine.proofs.Laws.Continued.{continued_more, going_more}
 use Rattle.machine.specs.Story.{Story, continued, state_of}
 
 own_event : (hart : ℕ) (event : Event) → event.hart.number ≡ hart → of_hart hart (event ∷ []) ≡ event ∷ []

@@ -7,7 +7,7 @@ use el_base::{Event, Outcome};
 use machine::Machine;
 
 /// Makes these events, in their order.
-#[tactic(auto, using(crate::proofs::Laws::Steps::one_followed))]
+#[tactic(auto, using(machine::proofs::Laws::Continued::one_followed))]
 pub fn follow(machine: &mut Machine, events: &[Event])
     requires harts_exist { All (λ event. event.hart.number < machine.old.config.harts) events.now }
     requires enough_steps { length events.now ≤ left_of machine.old }

@@ -7,3 +7,5 @@ pub mod MadeLosers
 pub mod ListLaws
 pub mod Ranges
 pub mod SameLosers
+pub mod Kinds
+pub mod Options

@@ -1,16 +1,9 @@
 -- Bytes that a sink takes one after another: laws for those who put more than once.
-use Rattle.std.proofs.Common.{◌≡◌, ℕ, ◌+◌, ◌<◌, List, [], ◌∷◌, ◌++◌, length, take, Option, subst, sym, arith}
+use Rattle.std.proofs.Common.{◌≡◌, ℕ, ◌+◌, ◌<◌, List, [], ◌∷◌, ◌++◌, length, take, Option, subst, arith}
 use Rattle.std.proofs.Math.Seq.{take-append-add}
 use Rattle.std.proofs.lemmas.List.{length-append, take-append-le}
-use Rattle.el_io.proofs.Taking.{took-more, took-nothing}
-use Rattle.el_io.specs.Sink.{Took, TookAll, TookPart}
-
--- all of some bytes were taken
-took : (before now : Option (List ℕ)) (bytes : List ℕ) → TookAll before now bytes → Took before now bytes
-took before now [] all =
-    let P : Option (List ℕ) → Type 0 = λ told. Took before told [] in
-    subst P (sym all) (took-nothing before)
-took before now (byte ∷ bytes) all = all
+use Rattle.el_io.proofs.Taking.{took-more, took-of_all}
+use Rattle.el_io.specs.Sink.{TookAll, TookPart}
 
 -- bytes taken after others are taken behind them
 pub took_then_all : (before between now : Option (List ℕ)) (first more : List ℕ) → TookAll before between first →
@@ -18,7 +11,7 @@ pub took_then_all : (before between now : Option (List ℕ)) (first more : List 
 took_then_all before between now [] more a b =
     let P : Option (List ℕ) → Type 0 = λ told. TookAll told now more in
     subst P a b
-took_then_all before between now (byte ∷ first) more a b = took-more a (took between now more b)
+took_then_all before between now (byte ∷ first) more a b = took-more a (took-of_all between now more b)
 
 pub took_then_part : (before between now : Option (List ℕ)) (first more : List ℕ) → TookAll before between first →
     TookPart between now more → TookPart before now (first ++ more)

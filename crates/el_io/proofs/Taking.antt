@@ -33,7 +33,7 @@ took-more {before} {between} {now} {first} {more} a b =
     ]
 
 -- all of some bytes were taken
-took-of_all : (before now : Option (List ℕ)) (bytes : List ℕ) → TookAll before now bytes → Took before now bytes
+pub took-of_all : (before now : Option (List ℕ)) (bytes : List ℕ) → TookAll before now bytes → Took before now bytes
 took-of_all before now [] all =
     let P : Option (List ℕ) → Type 0 = λ told. Took before told [] in
     subst P (sym all) (took-nothing before)

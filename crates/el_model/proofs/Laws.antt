@@ -13,3 +13,6 @@ pub mod BusEvents
 pub mod Deeds
 pub mod Silent
 pub mod FromStart
+pub mod HartParts
+pub mod Conflicts
+pub mod Unmarked

@@ -2,30 +2,26 @@
 use Rattle.std.proofs.Common.{◌≡◌, ◌∙◌, ℕ, Bool, true, false, List, Option, None, Some, is_some, refl, ap, sym}
 use Rattle.std.proofs.Common.{if◌then◌else◌, ◌==◌, ◌+◌}
 use Rattle.bus_order.specs.Order.{Request}
-use Rattle.residency.specs.Cache.{has_marks, is_resident, touched}
-use Rattle.residency.specs.Residency.{Way}
-use Rattle.residency.proofs.Laws.Unmarked.{unmarked-cleared, unmarked-empty, unmarked-filled_with, unmarked-lettered, unmarked-touched, unmarked-without_line}
+use Rattle.residency.specs.Cache.{has_marks}
+use Rattle.residency.proofs.Laws.Unmarked.{unmarked-cleared, unmarked-empty, unmarked-touched}
 use Rattle.el_base.specs.declared.config.Mode.{Mode}
 use Rattle.el_base.specs.declared.config.Mode.TheVariants.{Plain, Sle, Tlr}
 use Rattle.el_base.specs.declared.events.Event.{Event}
-use Rattle.el_base.specs.declared.outcomes.Need.{Need}
-use Rattle.el_base.specs.declared.outcomes.Need.TheVariants.{Read, Write}
-use Rattle.el_base.specs.declared.outcomes.Cause.{Cause}
-use Rattle.el_base.specs.declared.outcomes.Cause.TheVariants.{Room, Lines, Long, Call, Mixed}
-use Rattle.el_model.specs.Deed.{Arms, Begins, Buffers, Commits, Continues, Deed, DoesWhere, Elides, IsArmed, IsInside, LetsGo, Misses, MustRollBack, Rests, RollsBack, Runs, Waits, hart_after}
+use Rattle.el_model.specs.Deed.{Arms, Begins, Buffers, Commits, Continues, Deed, DoesWhere, Elides, IsArmed, IsInside, LetsGo, Misses, Rests, RollsBack, Runs, Waits, hart_after}
 use Rattle.el_model.specs.BusEvent.{Becomes, IsAbsent, IsLetGo, IsSent, LosesIt, Nothing, Places, Sees, Serves, Start, Starts, Takes, having_taken, started}
 use Rattle.el_model.specs.Next.{next, step_turn}
-use Rattle.el_model.specs.Plain.{after_access, after_candidate, after_touch, candidate_of, if_candidate, may_elide, watched}
+use Rattle.el_model.specs.Plain.{after_candidate, candidate_of, if_candidate, may_elide, watched}
 use Rattle.el_model.specs.Quiet.{IsPlain}
 use Rattle.el_model.specs.RollBack.{beaten, most_tries, out_of_section}
-use Rattle.el_model.specs.Serve.{bystander, given_up, others_cache, own_copy, served_hart, with_claim}
+use Rattle.el_model.specs.Serve.{bystander, served_hart, with_claim}
 use Rattle.el_model.specs.State.{Armed, Hart, ModelState, Section, hart_of, new_hart}
-use Rattle.el_model.specs.Upcoming.{Swap, Touch, next_exchange}
+use Rattle.el_model.specs.Upcoming.{Swap, next_exchange}
 use Rattle.el_model.proofs.Laws.AllHarts.{All}
 use Rattle.el_model.proofs.Laws.BusEvents.{by_event}
-use Rattle.el_model.proofs.Laws.Deeds.{step_deed}
+use Rattle.el_model.proofs.Laws.Deeds.{is_rolled, step_deed}
 use Rattle.el_model.proofs.Laws.EachHart.{each_with}
 use Rattle.el_model.proofs.Laws.Tests.{by_test}
+use Rattle.el_model.proofs.Laws.Unmarked.{others_unmarked, own_unmarked, touch_unmarked}
 use Rattle.mail.specs.Mailbox.{Marker, Message, Probe}
 use Rattle.pair_table.specs.Predictor.{Predictor, Watch}
 use Rattle.stamp.specs.Stamps.{Stamp}
@@ -53,23 +49,6 @@ beaten_plain Tlr winner hart plain =
     record { section = refl; armed = refl; unmarked = unmarked-cleared hart.cache; watch = plain.watch }
 beaten_plain Sle winner hart plain = try_plain (out_of_section hart) (hart.tries + 1 == most_tries) (out_plain hart plain)
 beaten_plain Plain winner hart plain = try_plain (out_of_section hart) (hart.tries + 1 == most_tries) (out_plain hart plain)
-
--- a served request marks no line of a hart without a section
-own_unmarked : (ways : ℕ) (others : Bool) (need : Need) (cache : List (List Way)) (line : ℕ) → has_marks cache ≡ false →
-    has_marks (own_copy ways others need cache line) ≡ false
-own_unmarked ways others need cache line bare =
-    by_test (λ copy. has_marks copy ≡ false) (is_resident cache line) _ _ (λ had. unmarked-lettered cache line _ bare)
-    (λ new. unmarked-filled_with ways cache line _ bare)
-
-given_unmarked : (need : Need) (cache : List (List Way)) (line : ℕ) → has_marks cache ≡ false → has_marks (given_up need cache line) ≡ false
-given_unmarked Write cache line bare = unmarked-without_line cache line bare
-given_unmarked Read cache line bare = unmarked-lettered cache line _ bare
-
-others_unmarked : (had : Bool) (need : Need) (cache : List (List Way)) (line : ℕ) → has_marks cache ≡ false →
-    has_marks (others_cache had need cache line) ≡ false
-others_unmarked had Write cache line bare = given_unmarked Write cache line bare
-others_unmarked true Read cache line bare = bare
-others_unmarked false Read cache line bare = given_unmarked Read cache line bare
 
 claim_plain : (section : Option Section) (request : Request) (hart : Hart) → section ≡ None → IsPlain hart →
     IsPlain (with_claim (is_some section) request hart)
@@ -118,15 +97,6 @@ no_candidate : (mode : Mode) (swap : Option Swap) → mode ≡ Plain → if_cand
 no_candidate mode None plain = refl
 no_candidate mode (Some swap) plain = rw plain refl
 
-access_unmarked : (cache : List (List Way)) (line : ℕ) (need : Need) → has_marks cache ≡ false →
-    has_marks (after_access cache line need) ≡ false
-access_unmarked cache line Read bare = unmarked-touched cache line bare
-access_unmarked cache line Write bare = unmarked-lettered (touched cache line) line _ (unmarked-touched cache line bare)
-
-touch_unmarked : (cache : List (List Way)) (touch : Option Touch) → has_marks cache ≡ false → has_marks (after_touch cache touch) ≡ false
-touch_unmarked cache None bare = bare
-touch_unmarked cache (Some touch) bare = access_unmarked cache touch.line touch.need bare
-
 watched_none : (state : ModelState) (h : ℕ) (predictor : Predictor) (watch : Option Watch) → watch ≡ None →
     watched state h predictor watch ≡ predictor
 watched_none state h predictor None none = refl
@@ -141,15 +111,6 @@ not_elided : (mode : Mode) (hart : Hart) (pc : ℕ) → mode ≡ Plain → may_e
 not_elided Plain hart pc plain elided = absurd (cc)
 not_elided Sle hart pc plain elided = absurd (cc)
 not_elided Tlr hart pc plain elided = absurd (cc)
-
--- a section that is rolled back is one
-is_rolled : (state : ModelState) (h : ℕ) (section : Section) (cause : Cause) → MustRollBack state h section cause →
-    IsInside state h section
-is_rolled state h section Long must = must.inside
-is_rolled state h section Call must = must.is_short.inside
-is_rolled state h section Mixed must = must.goes_on.is_short.inside
-is_rolled state h section Lines must = must.wants.goes.goes_on.is_short.inside
-is_rolled state h section Room must = must.wants.goes.goes_on.is_short.inside
 
 no_section : {X : Type 0} (state : ModelState) (h : ℕ) (section : Section) → IsInside state h section →
     IsPlain (hart_of state h) → X

@@ -131,7 +131,7 @@ pub(crate) fn trace_of<'a>(alloc: Global, bytes: &[u8], file: &'a str) -> Result
 }
 
 /// The image that these bytes of a file are, for so many harts.
-#[tactic(auto, using(crate::proofs::Loading::loaded_harts))]
+#[tactic(auto, using(elf_image::proofs::Laws::Loading::loaded_harts))]
 pub(crate) fn image_of<'a>(
     alloc: Global,
     bytes: &[u8],

@@ -3,8 +3,8 @@ use Rattle.std.proofs.Common.{◌≡◌, ◌≢◌, ◌∙◌, ℕ, suc, ◌+◌
 use Rattle.std.specs.Prelude.{◌==◌, IfSome, IsSome, not, option_map, slice_set}
 use Rattle.std.proofs.lemmas.Bool.Decides.{nat_tests}
 use Rattle.std.proofs.lemmas.List.{get_or-set_other, get_or-set_same, length-set}
-use Rattle.residency.proofs.Laws.MarkLemmas.{has_marks-cleared}
 use Rattle.residency.proofs.Laws.WellFormedLemmas.{well_formed-cleared}
+use Rattle.residency.proofs.Laws.Unmarked.{unmarked-cleared}
 use Rattle.residency.specs.Cache.{cleared}
 use Rattle.cache_sets.specs.Slotted.{Slotted}
 use Rattle.coherence.specs.Beginning.{line_of}
@@ -290,7 +290,7 @@ module _ (old : Parts) (hart : HartId) (armed : Armed) (from : ModelState) (foll
         (record { base = keeps_rest.rest.base; bytes = keeps_rest.rest.bytes })
         (noted_between (returned old.bus g cache) bus from _ g 0 (unmarked_of from g) (freed_of from g) unmarked_back noted refl refl refl
         (ap is_some follows.acts.no_section
-        ∙ sym (lives_unarmed (cleared (hart_of from g).cache) 0 refl ∙ has_marks-cleared (hart_of from g).cache))).shows
+        ∙ sym (lives_unarmed (cleared (hart_of from g).cache) 0 refl ∙ unmarked-cleared (hart_of from g).cache))).shows
 
     freed_now : IsOfHart old.pool (state_freed from g armed) g freed_own_now
     freed_now =

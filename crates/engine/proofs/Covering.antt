@@ -13,6 +13,7 @@ use Rattle.el_model.specs.Upcoming.{Touch}
 use Rattle.engine.specs.Covered.{with_its_bit}
 use Rattle.moesi.specs.Letters.{may_of}
 use Rattle.run_laws.proofs.Laws.Bits.{KeepsBits, bits_covered, bits_marked, bits_touched, marked_has_bit, same_bits}
+use Rattle.run_laws.proofs.Laws.Growing.{own_covered}
 use Rattle.run_laws.specs.PrivateRun.{HasItsBit}
 use Rattle.section_view.specs.KeptRun.{HoldsMarked}
 use Rattle.write_hold.specs.Held.{Entry}
@@ -54,16 +55,13 @@ either : (first second : Bool) → first ≡ true → (first || second) ≡ true
 either true second is = refl
 either false second is = absurd (cc)
 
-bit_covers : (cache : List (List Way)) (line : ℕ) (need : Need) → bit_in need (way_of cache line) ≡ true → is_covered cache line need ≡ true
-bit_covers cache line Read bit = either (read_bit cache line) (write_bit cache line) bit
-bit_covers cache line Write bit = bit
-
 pub has_its_bit : (cache : List (List Way)) (touch : Option Touch) → IsThere cache touch → HasItsBit (with_its_bit cache touch) touch
 has_its_bit cache None there = tt
 has_its_bit cache (Some touch) there =
     by_test (λ now. is_covered now touch.line touch.need ≡ true) (is_covered cache touch.line touch.need) cache (marked cache touch.line touch.need)
     (λ had. had)
-    (λ new. bit_covers (marked cache touch.line touch.need) touch.line touch.need (marked_has_bit cache touch.line touch.need there))
+    (λ new. own_covered (marked cache touch.line touch.need) touch.line touch.need
+    (marked_has_bit cache touch.line touch.need there))
 
 -- a line that has its bit already is touched
 pub covered_twice : (cache : List (List Way)) (touch : Option Touch) → IsThere cache touch →

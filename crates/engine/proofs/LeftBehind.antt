@@ -12,10 +12,9 @@ use Rattle.hart_state.specs.Deeds.{unreserved_own}
 use Rattle.hart_state.specs.Own.{Own}
 use Rattle.reg_mark.specs.Marks.{unmarked, views_unreserved}
 use Rattle.reg_mark.specs.declared.marked.Marked.{Marked}
-use Rattle.rv_alu.proofs.Laws.Executions.{store_ends_reservation}
+use Rattle.rv_alu.proofs.Laws.Executions.{store_ends_reservation, unreserved-none}
 use Rattle.rv_alu.specs.Execution.{Store, append_in, perform, store_in, view_after}
 use Rattle.rv_alu.specs.Footprint.{IsInPlace, footprint}
-use Rattle.rv_alu.specs.Reservations.{reserved_off, unreserved}
 use Rattle.rv_alu.specs.declared.action.Action.{Action}
 use Rattle.rv_alu.specs.declared.action.Action.TheVariants as actions
 use Rattle.rv_alu.specs.declared.span.Span.{Span}
@@ -47,15 +46,11 @@ line_stored (actions.Fail rd) view byte = refl
 line_stored (actions.Amo op rd address source) view byte = refl
 
 -- a hart without a reservation and without a checkpoint has nothing to lose
-no_reservation : (line : ℕ) (view : HartView) → view.reserved ≡ None → unreserved line view ≡ view
-no_reservation line view none =
-    ap (λ reserved. record view { reserved = reserved_off line reserved }) none ∙ sym (ap (λ reserved. record view { reserved = reserved }) none)
-
 same_marks : (line : ℕ) (marks : Marked) → marks.mark ≡ None → marks.present.reserved ≡ None →
     views_unreserved line marks.mark marks.present ≡ marks
 same_marks line marks none free =
     ap (λ mark. views_unreserved line mark marks.present) none
-    ∙ ap unmarked (no_reservation line marks.present free)
+    ∙ ap unmarked (unreserved-none line marks.present free)
     ∙ sym (ap (λ mark. record marks { mark = mark }) none)
 
 nothing_lost : (line : ℕ) (own : Own) → own.section.marks.mark ≡ None → own.section.marks.present.reserved ≡ None →

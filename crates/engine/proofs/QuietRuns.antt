@@ -1,5 +1,5 @@
 -- a quiet action outside of a section that no watch sees: it runs, and changes its hart's view alone
-use Rattle.std.proofs.Common.{◌≡◌, ◌∙◌, ℕ, ◌++◌, Bool, true, false, [], Option, Some, None, is_some, refl, ap, sym}
+use Rattle.std.proofs.Common.{◌≡◌, ◌∙◌, ℕ, ◌++◌, true, false, [], Option, Some, None, is_some, refl, ap, sym}
 use Rattle.std.proofs.Common.{append-nil, subst}
 use Rattle.std.specs.Prelude.{if◌then◌else◌, is_none, slice_set}
 use Rattle.std.proofs.lemmas.List.{set-get_or}
@@ -9,6 +9,7 @@ use Rattle.coherence.specs.Lent.{no_slotted}
 use Rattle.core_step.specs.Run.{lacking}
 use Rattle.el_base.specs.declared.hart_id.HartId.{HartId}
 use Rattle.el_base.specs.declared.outcomes.Outcome.TheVariants.{Ran}
+use Rattle.el_base.proofs.Laws.Options.{none_either}
 use Rattle.el_model.specs.Plain.{Runs, after_touch, candidate_of, if_candidate, last_reserve, may_elide, plain_rule}
 use Rattle.el_model.specs.Plain.{plain_turn, reserve_rule, swap_rule, touch_rule, watched}
 use Rattle.el_model.specs.State.{ModelState, hart_of}
@@ -42,10 +43,6 @@ use Rattle.step_rules.proofs.Laws.NextAction.{next_call_or_stop, next_exchange a
 use Rattle.step_rules.proofs.Laws.NextAction.{next_reserved as reserve_next, next_swap as swap_next}
 use Rattle.step_rules.proofs.Laws.NextAction.{next_touch as touch_next, reserves_going}
 use Rattle.step_rules.specs.Actions.{IsNext, exchange_by, is_call_or_stop, quiet, reserved_by, swap_by}
-
-none_either : {A : Type 0} (b : Bool) (found : Option A) → found ≡ None → (if b then found else None) ≡ None
-none_either true found none = none
-none_either false found none = refl
 
 none_watches : (watch : Option Watch) → is_none watch ≡ true → watch ≡ None
 none_watches None is = refl

@@ -7,7 +7,7 @@ use Rattle.std.proofs.lemmas.List.{ext_get_or, get_or-set_other, get_or-set_same
 use Rattle.std.proofs.lemmas.List.FromFn.{get_or-map-range_with_len, length-map-range_with_len}
 use Rattle.coherence.proofs.Laws.Offered.{offers-made}
 use Rattle.coherence.specs.Lent.{Offers}
-use Rattle.el_base.proofs.Laws.Ranges.{at_most, ranges}
+use Rattle.el_base.proofs.Laws.Ranges.{harts_in_range}
 use Rattle.el_base.specs.Config.{IsInRange}
 use Rattle.el_base.specs.declared.config.Config.{Config}
 use Rattle.engine.specs.Lent.{first_quotas, quota_for}
@@ -67,19 +67,16 @@ hold_quota config h inside few =
     else (if nat_lt (hold_owner h - 8) config.harts then config.lines else 0)) above
     ∙ ap (λ b. if b then config.lines else 0) there
 
-few_harts : (config : Config) → IsInRange config → config.harts ≤ 8
-few_harts config in_range = at_most 1 8 config.harts (ranges config in_range).harts
-
 -- so a pool that was made with them offers the caches theirs, and lends the holds
 pub offers_first : (config : Config) (pool : Pooled) → IsInRange config → IsMade (first_quotas config) pool →
     Offers pool config.harts (config.sets * config.ways)
 offers_first config pool in_range made =
     offers-made pool (first_quotas config) config.harts (config.sets * config.ways) made
-    (λ h inside. cache_quota config h inside (few_harts config in_range))
+    (λ h inside. cache_quota config h inside (harts_in_range config in_range))
 
 pub lent_first : (config : Config) (pool : Pooled) (h : ℕ) → IsInRange config → IsMade (first_quotas config) pool → h < config.harts →
     IsLent pool (record { limit = config.lines; owner = hold_owner h; entries = [] })
 lent_first config pool h in_range made inside =
-    let few = few_harts config in_range in
+    let few = harts_in_range config in_range in
     is_lent-made pool (first_quotas config) config.lines (hold_owner h) made
     (omega (arith, inside, few, length-map-range_with_len (quota_for config) 0 16)) (hold_quota config h inside few)

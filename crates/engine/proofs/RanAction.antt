@@ -22,6 +22,7 @@ use Rattle.el_base.specs.declared.outcomes.Need.TheVariants.{Read}
 use Rattle.el_model.specs.Plain.{acquire_pc, after_candidate, after_touch, armed_count, candidate_of, last_reserve, ran_hart, watched}
 use Rattle.el_model.specs.State.{Hart, ModelState, hart_of}
 use Rattle.el_model.specs.Upcoming.{Swap, touch_of}
+use Rattle.el_model.proofs.Laws.HartParts.{candidate_armed, candidate_cache, candidate_section}
 use Rattle.coherence.proofs.Laws.Offered.{leaves_owner}
 use Rattle.engine.proofs.Framed.{told_back}
 use Rattle.engine.proofs.LeftBehind.{TellsPiece}
@@ -53,18 +54,6 @@ use Rattle.snoop.specs.Shows.{IsReady, Shows, Tells, lent_copies}
 candidate_agent : (pc : Option ℕ) (had : Bool) (swap : Option Swap) (hart : Hart) → agent_of (after_candidate pc had swap hart) ≡ agent_of hart
 candidate_agent pc had None hart = refl
 candidate_agent pc had (Some swap) hart = refl
-
-candidate_cache : (pc : Option ℕ) (had : Bool) (swap : Option Swap) (hart : Hart) → (after_candidate pc had swap hart).cache ≡ hart.cache
-candidate_cache pc had None hart = refl
-candidate_cache pc had (Some swap) hart = refl
-
-candidate_section : (pc : Option ℕ) (had : Bool) (swap : Option Swap) (hart : Hart) → (after_candidate pc had swap hart).section ≡ hart.section
-candidate_section pc had None hart = refl
-candidate_section pc had (Some swap) hart = refl
-
-candidate_armed : (pc : Option ℕ) (had : Bool) (swap : Option Swap) (hart : Hart) → (after_candidate pc had swap hart).armed ≡ hart.armed
-candidate_armed pc had None hart = refl
-candidate_armed pc had (Some swap) hart = refl
 
 candidate_kept : (pc : Option ℕ) (had : Bool) (swap : Option Swap) (own : Own) → (candidate_own pc had swap own).section ≡ own.section
 candidate_kept pc had None own = refl

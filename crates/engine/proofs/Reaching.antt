@@ -1,16 +1,14 @@
 -- what holds of the states that programs reach, by the laws of the definition
-use Rattle.std.proofs.Common.{◌≡◌, ◌≢◌, ◌∙◌, ℕ, ◌<◌, [], ◌∷◌, ◌++◌, true, length, Some, is_some, refl, ap, sym, subst, arith}
+use Rattle.std.proofs.Common.{◌≡◌, ◌≢◌, ◌∙◌, ℕ, ◌<◌, [], ◌∷◌, ◌++◌, true, length, Some, is_some, ap, sym, subst, arith}
 use Rattle.std.proofs.lemmas.List.{length-append}
-use Rattle.el_base.specs.declared.config.Config.{Config}
 use Rattle.el_base.specs.declared.events.Event.{Event}
 use Rattle.el_model.proofs.Laws.Folds.{state_after-append}
-use Rattle.el_model.proofs.Laws.FromStart.{kept_after, next_config}
+use Rattle.el_model.proofs.Laws.FromStart.{begin_config, kept_after, next_config}
 use Rattle.el_base.specs.Winners.{winner_over}
 use Rattle.el_model.specs.Losses.{HartsAreNumbered}
 use Rattle.el_base.specs.declared.events.Kind.TheVariants as kinds
 use Rattle.el_model.specs.Next.{after, next}
 use Rattle.el_model.specs.State.{Armed, ModelState, Section, armed_of, begin, cache_of, is_live, section_of}
-use Rattle.elf_image.specs.Program.{Program}
 use Rattle.engine.specs.Reached.{IsReached}
 use Rattle.run_laws.proofs.Laws.Reachable.{armed_sections_run_covered, other_harts_change_nothing_covered}
 use Rattle.run_laws.specs.PrivateRun.{IsArmedRun, IsChangeBeside}
@@ -24,10 +22,6 @@ use Rattle.step_laws.proofs.Laws.Survivors.{survivors_keep_what_they_show}
 use Rattle.step_laws.specs.Losing.{LosesItsSection}
 use Rattle.step_laws.specs.LettingGo.{LetsHartsGo, freed_of_outcome}
 use Rattle.step_laws.specs.Survivors.{IsNoStepOf, Survives}
-
-begin_config : (program : Program) (config : Config) → (begin program config).config ≡ config
-unfolding begin
-begin_config program config = refl
 
 -- no event changes the configuration
 pub config_of : (state : ModelState) (reached : IsReached state) → state.config ≡ reached.config

@@ -3,8 +3,8 @@ use Rattle.std.proofs.Common.{◌≡◌, ◌∙◌, ℕ, ◌<◌, ◌≤◌, len
 use Rattle.std.specs.Prelude.{slice_set}
 use Rattle.std.below.core.specs.declared.int.u64.TheConstants.{MAX}
 use Rattle.std.proofs.lemmas.List.{get_or-set_other, get_or-set_same, length-set}
-use Rattle.residency.proofs.Laws.MarkLemmas.{has_marks-cleared}
 use Rattle.residency.proofs.Laws.WellFormedLemmas.{well_formed-cleared}
+use Rattle.residency.proofs.Laws.Unmarked.{unmarked-cleared}
 use Rattle.residency.specs.Cache.{cleared, has_marks}
 use Rattle.cache_sets.specs.Slotted.{Slotted}
 use Rattle.residency.specs.WellFormed.{IsWellFormed}
@@ -115,7 +115,7 @@ has_cleared bus h from between cause cache is clears = record {
   ways = clears.ways;
   residency = ap (λ c. cleared c) (sym (is.shows.caches h ∙ ap (λ hart. hart.cache) is.here)) ∙ sym clears.residency;
   live =
-      sym (lives_unarmed cache.residency 0 refl ∙ ap has_marks clears.residency ∙ has_marks-cleared (slotted_at bus.copies.caches h).residency);
+      sym (lives_unarmed cache.residency 0 refl ∙ ap has_marks clears.residency ∙ unmarked-cleared (slotted_at bus.copies.caches h).residency);
 }
 
 -- the parts then

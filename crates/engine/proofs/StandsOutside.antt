@@ -2,8 +2,8 @@
 use Rattle.std.proofs.Common.{◌≡◌, ◌∙◌, ℕ, ◌-◌, ◌<◌, ◌≤◌, Bool, true, false, length, Option, Some, None, is_some, refl, ap, sym, subst, arith}
 use Rattle.std.specs.Prelude.{◌&&◌, ◌==◌}
 use Rattle.residency.specs.Cache.{has_marks}
+use Rattle.residency.proofs.Laws.Rooms.{room_without_marks}
 use Rattle.cache_sets.specs.Slotted.{IsLent}
-use Rattle.cached_step.proofs.Laws.Rooms.{room_without_marks}
 use Rattle.cached_step.proofs.Laws.Told.{touched_there}
 use Rattle.cached_step.specs.Memory.{TellsMemory}
 use Rattle.coherence.proofs.Laws.Offered.{lent_at}

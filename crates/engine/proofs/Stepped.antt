@@ -1,9 +1,9 @@
 -- a step of a hart, and the parts after it
-use Rattle.std.proofs.Common.{◌≡◌, ◌≢◌, ◌∙◌, ℕ, ◌+◌, ◌≤◌, ◌<◌, ◌||◌, if◌then◌else◌, false, length, Option, Some, None, is_some, refl, ap, sym, subst, inl, inr}
+use Rattle.std.proofs.Common.{◌≡◌, ◌≢◌, ◌∙◌, ℕ, ◌+◌, ◌≤◌, ◌<◌, if◌then◌else◌, false, length, Some, None, is_some, refl, ap, sym, subst, inl, inr}
 use Rattle.std.specs.Prelude.{◌==◌, not, slice_set}
 use Rattle.std.proofs.lemmas.Bool.{cases_eq}
 use Rattle.std.proofs.lemmas.List.{length-set, set-set}
-use Rattle.bus_order.specs.Order.{Request, request_of}
+use Rattle.bus_order.specs.Order.{request_of}
 use Rattle.residency.proofs.Laws.WellFormedLemmas.{well_formed-marked, well_formed-touched}
 use Rattle.residency.specs.Cache.{marked, touched}
 use Rattle.cache_sets.specs.Slotted.{Slotted}
@@ -14,6 +14,7 @@ use Rattle.el_base.specs.declared.events.Event.{Event}
 use Rattle.el_base.specs.declared.events.Kind.TheVariants as kinds
 use Rattle.el_base.specs.declared.hart_id.HartId.{HartId}
 use Rattle.el_base.specs.declared.outcomes.Need.TheVariants.{Read}
+use Rattle.el_base.proofs.Laws.Options.{none_from_both}
 use Rattle.el_model.proofs.Laws.Harts.{hart_of-with_hart_same}
 use Rattle.el_model.specs.Armed.{armed_turn}
 use Rattle.el_model.specs.InSection.{section_turn}
@@ -281,15 +282,10 @@ noted_between old bus from between h count hart now is noted agent cache armed l
     })))
 
 -- a hart that acts waits for nothing, at the bus either
-none_of : (raised ordered : Option Request) → (is_some raised || is_some ordered) ≡ false → (raised ≡ None) × (ordered ≡ None)
-none_of None None free = (refl, refl)
-none_of None (Some request) free = absurd (cc)
-none_of (Some request) ordered free = absurd (cc)
-
 pub free_between : (bus : Kept) (from between : ModelState) (h : ℕ) (hart : Hart) → IsBetween bus from between h hart →
     hart.raised ≡ raised_of from h → between.order ≡ from.order → has_request from h ≡ false → HasNoRequest bus h
 free_between bus from between h hart is raised order free =
-    let none = none_of (raised_of from h) (ordered_of from h) free in
+    let none = none_from_both (raised_of from h) (ordered_of from h) free in
     record {
       none_raised = ap (λ agent. agent.raised) (is.shows.agents h) ∙ ap (λ k. k.raised) is.here ∙ raised ∙ none.0;
       none_ordered = ap (λ requests. request_of requests h) (is.shows.order ∙ order) ∙ none.1;

@@ -3,6 +3,7 @@ use Rattle.std.proofs.Common.{◌≡◌, ◌≢◌, ◌∙◌, ℕ, ◌≤◌, �
 use Rattle.std.specs.Prelude.{◌||◌, if◌then◌else◌, option_map}
 use Rattle.bus_order.specs.Order.{Request, request_of}
 use Rattle.el_base.specs.declared.outcomes.Outcome.TheVariants.{Idle, Stalled}
+use Rattle.el_base.proofs.Laws.Options.{none_from_both}
 use Rattle.el_model.proofs.Laws.Harts.{with_hart_kept}
 use Rattle.el_model.proofs.Laws.Keeps.{keeps_with_hart}
 use Rattle.el_model.specs.Next.{going_turn, stalled, status_turn, step_turn}
@@ -112,14 +113,9 @@ may_act_somewhere parts bus h stands exists running free ready copies shows = re
 }
 
 -- it asks nothing of the bus
-none_of : (one other : Option Request) → (is_some one || is_some other) ≡ false → (one ≡ None) × (other ≡ None)
-none_of None None is = (refl, refl)
-none_of None (Some request) is = absurd (cc)
-none_of (Some request) other is = absurd (cc)
-
 pub asks_nothing : (parts : Parts) (state : ModelState) (h : ℕ) → MayAct parts h state → HasNoRequest parts.bus h
 asks_nothing parts state h may =
-    let none = none_of (raised_of state h) (ordered_of state h) may.free in
+    let none = none_from_both (raised_of state h) (ordered_of state h) may.free in
     record {
       none_raised =
           ap (λ agent. agent.raised) (may.is_in.shows.agents h)

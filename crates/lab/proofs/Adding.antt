@@ -1,7 +1,7 @@
 -- a number that is added to that of an acquire
 use Rattle.std.proofs.Common.{◌≡◌, ◌∙◌, ℕ, ◌+◌, ◌<◌, Bool, true, false, cond, List, Some, length, take, get_or, refl, ap, subst, sym, add-zero, unwrap_or}
 use Rattle.std.specs.HashMap.{HashMap, get}
-use Rattle.chronicle.proofs.Laws.Tallies.{plus_small}
+use Rattle.chronicle.proofs.Laws.Tallies.{plus_nothing, plus_small}
 use Rattle.chronicle.specs.Tally.{IsTallyOf, nothing, plus}
 use Rattle.chronicle.specs.declared.tally.Tally.{Tally}
 use Rattle.lab.proofs.Classes.{acquire_is}
@@ -22,10 +22,6 @@ added old new acquire other now amount sum is = by (same_acquire acquire other) 
         times_at new other ≡ times_at old other + cond b amount 0
     by true e is = ap (λ o. unwrap_or o 0) is ∙ sum ∙ ap (λ a. times_at old a + amount) (acquire_is acquire other e)
     by false e is = ap (λ o. unwrap_or o 0) is ∙ sym (add-zero (times_at old other))
-
-plus_nothing : (tally : Tally) → plus tally nothing ≡ tally
-unfolding plus
-plus_nothing tally = simp add-zero
 
 -- one section more, in the rows
 pub row_put : {S : Type 0} (old new : HashMap (ℕ × ℕ) Tally S) (tries : List Try) (place : ℕ) (try : Try) (other : Acquire) (row : Tally) →

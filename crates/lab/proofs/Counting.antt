@@ -16,10 +16,10 @@ use Rattle.el_base.specs.declared.outcomes.Cause.TheVariants.{Room, Lines, Long,
 use Rattle.el_base.specs.declared.outcomes.Outcome.{Outcome}
 use Rattle.el_base.specs.declared.outcomes.Outcome.TheVariants as outcomes
 use Rattle.elf_image.specs.Program.{Program}
-use Rattle.el_model.proofs.Laws.AllHarts.{all_first}
 use Rattle.el_model.proofs.Laws.Folds.{entries_from-append, state_after-append}
+use Rattle.el_model.proofs.Laws.FromStart.{first_outside}
 use Rattle.el_model.specs.Next.{after, entries_from, next}
-use Rattle.el_model.specs.State.{ModelState, Section, begin, is_live, new_hart, section_of}
+use Rattle.el_model.specs.State.{ModelState, Section, begin, is_live, section_of}
 use Rattle.lab.proofs.Balance.{Balanced, balanced, one}
 use Rattle.lab.proofs.Growing.{tries_from-push}
 use Rattle.lab.specs.Counts.{SectionsAreThoseOfTheReport, of_end, of_section, total_of}
@@ -349,11 +349,6 @@ module _ (h : ℕ) where
       let begun = begun_began (next state event).outcome (next state event).state place event.hart
       (section_of (next state event).state event.hart.number) begins in
       omega (arith, apart, begun, began_sum moment tries, entry_began (event.hart.number == h) (next state event).outcome)
-
-first_outside : (program : Program) (config : Config) (h : ℕ) → is_live (begin program config) h ≡ false
-unfolding begin
-first_outside program config h =
-    all_first (λ hart. is_some hart.section ≡ false) program.harts (new_hart config.sets) (new_hart 0) refl refl h
 
 -- what the sections of some events tell
 record Told (program : Program) (config : Config) (h : ℕ) (events : List Event) : Type 0 where

@@ -1,41 +1,15 @@
 -- the events of a seed, one after another
-use Rattle.std.proofs.Math.Seq.{take-length}
-use Rattle.std.proofs.lemmas.Bool.{cases_order}
-use Rattle.std.proofs.lemmas.List.{take-append-le}
-use Rattle.std.proofs.Common.{◌≡◌, ℕ, zero, suc, ◌+◌, ◌-◌, ◌<◌, ◌≤◌, ◌⊎◌, List, [], ◌∷◌, ◌++◌, length, take}
+use Rattle.std.proofs.Common.{◌≡◌, ℕ, ◌+◌, ◌-◌, ◌<◌, ◌≤◌, ◌⊎◌, List, [], ◌∷◌, ◌++◌, length, take}
 use Rattle.std.proofs.Common.{Some, false, true, refl, ◌∙◌, ap, sym, subst, arith, length-append, inl, inr}
 use Rattle.std.specs.Prelude.{slice_get, IsTrue}
 use Rattle.el_base.specs.declared.events.Event.{Event}
+use Rattle.el_base.proofs.Laws.ListLaws.{slice_get_push}
 use Rattle.el_model.specs.Next.{is_over, state_after}
 use Rattle.lab_run.specs.Drawn.{MakesDrawn}
 use Rattle.machine.proofs.Laws.Continued.{continued_more, left_of_continued, nothing_more, state_of_continued}
+use Rattle.machine.proofs.Laws.Continued.{going_more}
 use Rattle.machine.specs.Story.{Story, continued, left_of, state_of}
 use Rattle.schedule.specs.Drawn.{IsDrawnAt}
-
--- what stands in a list with one element more
-slice_get_push : {X : Type 0} (xs : List X) (x : X) (i : ℕ) (y : X) → slice_get (xs ++ x ∷ []) i ≡ Some y →
-    (slice_get xs i ≡ Some y) ⊎ ((i ≡ length xs) × (x ≡ y))
-slice_get_push [] x zero y found = inr (refl, cc)
-slice_get_push [] x (suc i) y found = cc
-slice_get_push (first ∷ xs) x zero y found = inl found
-slice_get_push (first ∷ xs) x (suc i) y found =
-    elim (slice_get_push xs x i y found) [ inl here ↦ inl here | inr last ↦ inr (ap suc last.0, last.1) ]
-
--- where every hart has not stopped at any of some events, nor after them, it has not at any of one event more
-going_more : (before now : Story) (made : List Event) (event : Event) → now ≡ continued before made → is_over (state_of now) ≡ false →
-    ((i : ℕ) → i < length made → is_over (state_after (state_of before) (take i made)) ≡ false) →
-    (i : ℕ) → i < length (made ++ event ∷ []) → is_over (state_after (state_of before) (take i (made ++ event ∷ []))) ≡ false
-going_more before now made event story runs going i within =
-    let up_to : i ≤ length made = omega (arith, length-append made (event ∷ [])) in
-    let part : take i (made ++ event ∷ []) ≡ take i made = take-append-le i made (event ∷ []) up_to in
-    rw part (elim (cases_order i (length made)) [
-      | inl last ↦
-          ap (λ n. is_over (state_after (state_of before) (take n made))) last
-          ∙ ap (λ list. is_over (state_after (state_of before) list)) (take-length made)
-          ∙ ap is_over (sym (ap state_of story ∙ state_of_continued before made)) ∙ runs
-      | inr (inl earlier) ↦ going i earlier
-      | inr (inr past) ↦ absurd (omega arith)
-    ])
 
 -- so many drawn events were made, and it may still go on
 pub record GoesDrawn (seed : ℕ) (before now : Story) (place : ℕ) : Type 0 where

@@ -2,7 +2,6 @@
 use Rattle.std.proofs.Common.{◌≡◌, ◌∙◌, ℕ, ◌+◌, ◌≤◌, ◌<◌, List, [], ◌∷◌, ◌++◌, length, ap, arith, length-append, refl, subst, sym}
 use Rattle.std.proofs.lemmas.List.Elements.{All-push}
 use Rattle.std.proofs.lemmas.List.{length-map, map-append}
-use Rattle.std.proofs.lemmas.List.FromFn.{length-map-range_with_len}
 use Rattle.std.specs.Prelude.{All, map}
 use Rattle.chronicle.specs.Chronicle.{Chronicle, events}
 use Rattle.chronicle.specs.Serial.{serial}
@@ -27,15 +26,12 @@ use Rattle.machine.specs.MainMemory.{main_lines}
 use Rattle.machine.specs.Recording.{CanBeRecorded}
 use Rattle.machine.specs.Stands.{IsGiven, Stands}
 use Rattle.machine.specs.Story.{IsOneRun, Story, committed, continued, left_of, memory_of, state_of}
-use Rattle.rv_flat.specs.FlatState.{FlatState, first_view, span_of, start}
+use Rattle.rv_flat.specs.FlatState.{FlatState, span_of, start}
 use Rattle.rv_flat.specs.Laws.{KeepsShape}
 use Rattle.rv_flat.specs.Memory.{AreBytes}
 use Rattle.rv_flat.specs.Run.{run}
+use Rattle.rv_flat.proofs.Laws.StepLaws.{start_harts}
 use Rattle.snoop.specs.Shows.{IsReady}
-
-pub start_harts : (program : Program) → length (start program).harts ≡ program.harts
-unfolding start
-start_harts program = length-map-range_with_len (first_view program) 0 program.harts
 
 -- a machine stands before its first event
 pub first : (program : Program) (config : Config) (parts : Parts) (entries : List Entry) (room : ℕ) → IsProgram program →

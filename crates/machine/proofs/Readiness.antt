@@ -8,6 +8,7 @@ use Rattle.std.proofs.lemmas.List.Folds.{find-append}
 use Rattle.bus_order.specs.Order.{Request}
 use Rattle.chronicle.specs.Chronicle.{events}
 use Rattle.el_base.proofs.Laws.HartIds.{hart_id-of_hart}
+use Rattle.el_base.proofs.Laws.Options.{none_from}
 use Rattle.el_base.specs.Config.{IsInRange}
 use Rattle.el_base.specs.declared.events.Event.{Event}
 use Rattle.el_base.specs.declared.events.Kind.{Kind}
@@ -15,20 +16,19 @@ use Rattle.el_base.specs.declared.events.Kind.TheVariants.{Step, Order, Serve, D
 use Rattle.el_base.specs.declared.hart_id.HartId.{HartId}
 use Rattle.el_model.proofs.Laws.Deeds.{step_deed}
 use Rattle.el_model.specs.Deliver.{deliver_next, deliver_turn}
-use Rattle.el_model.specs.Next.{is_over, next, status_turn, step_turn}
+use Rattle.el_model.specs.Next.{is_over, next, step_turn}
 use Rattle.el_model.specs.Order.{order_raised, order_turn}
 use Rattle.el_model.specs.Serve.{Blocks, Free, Obstacle, obstacle_to, serve_ordered, serve_past, serve_turn}
 use Rattle.el_model.specs.State.{ModelState, count_up, has_request, hart_of, ordered_of, raised_of}
-use Rattle.machine.proofs.GoesOn.{start_harts}
 use Rattle.machine.specs.Story.{Story, state_of}
 use Rattle.engine.proofs.Laws.Places.{keeps_place}
 use Rattle.mail.specs.Mailbox.{Message}
 use Rattle.progress_laws.proofs.Laws.EveryMode.{no_state_is_stuck}
-use Rattle.progress_laws.proofs.Laws.GettingOn.{always_orderly, deed_gets_on}
+use Rattle.progress_laws.proofs.Laws.GettingOn.{always_orderly, deed_gets_on, stopped_step}
 use Rattle.progress_laws.specs.Ready.{events_of, gets_on, is_progress, ready_event}
-use Rattle.rv_alu.specs.declared.view.HartStatus.{HartStatus}
-use Rattle.rv_alu.specs.declared.view.HartStatus.TheVariants.{Exited, Running, Trapped}
+use Rattle.rv_alu.specs.declared.view.HartStatus.TheVariants.{Running}
 use Rattle.rv_flat.specs.FlatState.{status_of}
+use Rattle.rv_flat.proofs.Laws.StepLaws.{start_harts}
 use Rattle.section_laws.proofs.Laws.Lengths.{AsMany}
 use Rattle.snoop.specs.Readiness.{is_delivered, is_served}
 
@@ -53,11 +53,6 @@ runs_on : (state : ModelState) (h : ℕ) → status_of state.committed h ≡ Run
 runs_on state h running true waits = sym (stalled_is_none state h running waits)
 runs_on state h running false waits = sym (free_is_progress state h running waits)
 
-rests : (state : ModelState) (h : ℕ) (status : HartStatus) → status ≢ Running → is_progress (status_turn state h status).outcome ≡ false
-rests state h Running stopped = absurd (stopped refl)
-rests state h (Exited code) stopped = refl
-rests state h (Trapped cause pc) stopped = refl
-
 pub step_goes : (state : ModelState) (hart : HartId) (waits : Bool) → status_of state.committed hart.number ≡ Running →
     waits ≡ has_request state hart.number → not waits ≡ gets_on state (of_hart hart Step)
 unfolding next
@@ -66,7 +61,7 @@ step_goes state hart waits running is = runs_on state hart.number running waits 
 pub step_rests : (state : ModelState) (hart : HartId) → status_of state.committed hart.number ≢ Running →
     false ≡ gets_on state (of_hart hart Step)
 unfolding next step_turn
-step_rests state hart stopped = sym (rests state hart.number (status_of state.committed hart.number) stopped)
+step_rests state hart stopped = sym (stopped_step state hart.number (status_of state.committed hart.number) stopped)
 
 -- an event at the bus is progress exactly where there is a raised request, one that is served, or a message
 raised_goes : (state : ModelState) (raised : Option Request) → is_progress (order_raised state raised).outcome ≡ is_some raised
@@ -141,14 +136,10 @@ split_at state n below =
     ∙ ap (λ m. option_or (find (gets_on state) (events_of n)) (find (gets_on state) (flat_map events_of (count_up m (drop (n + 1) state.harts)))))
     (omega arith)
 
-none_there : (found : Option Event) → is_some found ≡ false → found ≡ None
-none_there None none = refl
-none_there (Some event) none = absurd (cc)
-
 pub none_more : (state : ModelState) (n : ℕ) (found : Option Event) → n < length state.harts →
     ready_event state ≡ find (gets_on state) (events_from state n) → found ≡ find (gets_on state) (events_of n) → is_some found ≡ false →
     ready_event state ≡ find (gets_on state) (events_from state (n + 1))
-none_more state n found below so_far is none = so_far ∙ split_at state n below ∙ or_none _ _ (sym is ∙ none_there found none)
+none_more state n found below so_far is none = so_far ∙ split_at state n below ∙ or_none _ _ (sym is ∙ none_from found none)
 
 or_there : (found one other : Option Event) → found ≡ one → is_some found ≡ true → found ≡ option_or one other
 or_there None one other is some = absurd (cc)

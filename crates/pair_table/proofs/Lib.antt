@@ -1,1 +1,1 @@
-mod Counters
+pub mod Laws

@@ -8,10 +8,11 @@ use Rattle.el_model.specs.State.{ModelState, hart_of, ordered_of, raised_of}
 use Rattle.el_model.proofs.Laws.Harts.{hart_of-past}
 use Rattle.mail.specs.Mailbox.{Message}
 use Rattle.progress_laws.proofs.Laws.GettingOn.{GetsOn, Orderly}
-use Rattle.progress_laws.proofs.Laws.GettingOn.{free_gets_on, mail_gets_on, raised_gets_on, runs_exists}
+use Rattle.progress_laws.proofs.Laws.GettingOn.{free_gets_on, mail_gets_on, raised_gets_on}
 use Rattle.rv_alu.specs.declared.view.HartStatus.{HartStatus}
 use Rattle.rv_alu.specs.declared.view.HartStatus.TheVariants.{Exited, Running, Trapped}
 use Rattle.rv_flat.specs.FlatState.{status_of}
+use Rattle.section_laws.proofs.Laws.Lengths.{runs_exists}
 
 -- of each number below a limit, or else there is something else
 pub each_or : {G : Type 0} (P : ℕ → Type 0) (n : ℕ) → ((k : ℕ) → k < n → G ⊎ P k) → G ⊎ ((k : ℕ) → k < n → P k)

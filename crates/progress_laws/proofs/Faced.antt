@@ -7,10 +7,11 @@ use Rattle.std.proofs.lemmas.Bool.{ltb-true, ltb-false}
 use Rattle.bus_order.specs.Order.{IsOneEach, Request, first_of}
 use Rattle.bus_order.proofs.Laws.LookUps.{first_of_appended_other, first_of_appended_own, first_of_in_front_of_other}
 use Rattle.bus_order.proofs.Laws.LookUps.{first_of_in_front_of_own, number_of_test, own_test}
-use Rattle.bus_order.proofs.Laws.Queues.{first_of_removed_other, hart_of_request_of, line_of_first_of}
+use Rattle.bus_order.proofs.Laws.Queues.{first_of_removed_other, hart_of_request_of}
 use Rattle.std.proofs.lemmas.Bool.{cases_eq}
 use Rattle.el_base.specs.declared.config.Mode.{Mode}
 use Rattle.el_base.specs.declared.config.Mode.TheVariants.{Plain, Sle, Tlr}
+use Rattle.el_base.proofs.Laws.Options.{none_from}
 use Rattle.el_model.specs.BusEvent.{IsBusEvent, Nothing, Places, Serves, Start, StartsWhere, Takes, as_faced}
 use Rattle.el_model.specs.BusEvent.{faced_head, having_taken, order_after}
 use Rattle.el_model.specs.BusEvent.{order_at, started}
@@ -24,7 +25,7 @@ use Rattle.el_model.specs.Serve.{bystander, served_hart}
 use Rattle.el_model.specs.State.{Hart, ModelState, Turn, hart_of, head_of, new_hart, ordered_of, post_all}
 use Rattle.el_model.proofs.Laws.BusEvents.{frame_as_faced}
 use Rattle.el_model.proofs.Laws.Harts.{hart_of-each_hart, hart_of-each_hart_past}
-use Rattle.el_model.proofs.Laws.Orders.{served_order}
+use Rattle.el_model.proofs.Laws.Orders.{head_line, served_order}
 use Rattle.el_model.proofs.Laws.Tests.{by_hart, by_test}
 use Rattle.section_laws.proofs.Laws.Fewer.{bystander_fewer, fewer_moves, fewer_unmet, served_fewer}
 use Rattle.section_laws.proofs.Laws.Bits.{Fewer, fewer_same}
@@ -102,14 +103,11 @@ abbrev pub NoneRetains : ModelState → Type 0
 NoneRetains state = (h line : ℕ) → retains state h line ≡ false
 
 -- a head that stays meets no more sections where each has no bit more
-own_line : (state : ModelState) (line : ℕ) (r : Request) → head_of state line ≡ Some r → r.line ≡ line
-own_line state line r is = line_of_first_of state.order line r is
-
 same_head : (state new : ModelState) (h line : ℕ) → Fewer line (hart_of state h) (hart_of new h) →
     head_of new line ≡ head_of state line → retains state h line ≡ false → retains new h line ≡ false
 same_head state new h line fewer same unmet =
     ap (λ head. conflicts_with head h (hart_of new h)) same
-    ∙ fewer_unmet (head_of state line) h line (hart_of state h) (hart_of new h) (own_line state line) fewer unmet
+    ∙ fewer_unmet (head_of state line) h line (hart_of state h) (hart_of new h) (head_line state line) fewer unmet
 
 -- a place is right for a request
 abbrev Fits : ModelState → Request → Place → Type 0
@@ -117,16 +115,12 @@ Fits state request InFront = Unit {0}
 Fits state request Behind = is_some (head_of state request.line) ≡ true
 Fits state request Alone = head_of state request.line ≡ None
 
-none_of : {A : Type 0} (found : Option A) → is_some found ≡ false → found ≡ None
-none_of None is = refl
-none_of (Some x) is = false_true (sym is)
-
 fits : (state : ModelState) (request : Request) → Fits state request (place_for state request)
 fits state request =
     by_test (Fits state request) _ InFront _ (λ own. tt)
     (λ other.
     by_test (Fits state request) (is_some (head_of state request.line)) Behind Alone (λ some. some)
-    (λ none. none_of (head_of state request.line) none))
+    (λ none. none_from (head_of state request.line) none))
 
 other_heads : (state : ModelState) (request : Request) (place : Place) (line : ℕ) → line ≢ request.line →
     first_of (order_at state request place) line ≡ head_of state line

@@ -16,7 +16,7 @@ use Rattle.el_model.specs.Deed.{Arms, Begins, Buffers, Commits, Continues, Deed,
 use Rattle.el_model.specs.Deed.{MayBuffer, Misses, Rests, RollsBack, Runs, Waits, hart_after, permits}
 use Rattle.el_model.specs.InSection.{buffered_hart, is_covered}
 use Rattle.el_model.specs.Next.{step_turn}
-use Rattle.el_model.specs.Plain.{after_candidate, began_hart, candidate_of}
+use Rattle.el_model.specs.Plain.{began_hart, candidate_of}
 use Rattle.el_model.specs.State.{Hart, ModelState, Section, cache_of, hart_of, head_of, new_hart, section_of}
 use Rattle.el_model.specs.Upcoming.{Swap, Touch}
 use Rattle.el_model.proofs.Laws.Deeds.{step_deed}
@@ -28,6 +28,8 @@ use Rattle.section_laws.specs.EachHart.{HasNoOtherBit}
 use Rattle.section_laws.proofs.Laws.ArmedBits as bits
 use Rattle.section_laws.proofs.Laws.FreeLines.{first_not, not_met, second_not}
 use Rattle.el_model.proofs.Laws.EachHart.{Each, each_but}
+use Rattle.el_model.proofs.Laws.HartParts.{candidate_section}
+use Rattle.el_model.proofs.Laws.Orders.{head_line}
 use Rattle.progress_laws.proofs.Laws.Cases.{false_true, true_false}
 
 -- what nobody else asks of a line, its head does not ask
@@ -162,13 +164,10 @@ begins_unmet state h swap unwanted reads =
         (touched_other (cache_of state h) word head.line Read Write apart ∙ reads.unwritten head.line)
 
 -- an instruction of a section runs
-own_line : (state : ModelState) (line : ℕ) (r : Request) → head_of state line ≡ Some r → r.line ≡ line
-own_line state line r is = line_of_first_of state.order line r is
-
 fewer_bits_unmet : (state : ModelState) (h line : ℕ) (new : Hart) → Fewer line (hart_of state h) new →
     Unmet state h (hart_of state h) → conflicts_with (head_of state line) h new ≡ false
 fewer_bits_unmet state h line new fewer unmet =
-    fewer_unmet (head_of state line) h line (hart_of state h) new (own_line state line) fewer (unmet line)
+    fewer_unmet (head_of state line) h line (hart_of state h) new (head_line state line) fewer (unmet line)
 
 new_bit : (state : ModelState) (h : ℕ) (section : Section) (touch : Touch) → MayBuffer state h section (Some touch) →
     Unmet state h (hart_of state h) → is_wanted state h touch.line touch.need ≡ false → (new : Hart) →
@@ -242,11 +241,6 @@ buffers_unmet state h section None may unmet line =
 buffers_unmet state h section (Some touch) may unmet line = touch_unmet state h section touch may unmet line
 
 -- a deed
-candidate_section : (pc : Option ℕ) (had_watch : Bool) (candidate : Option Swap) (hart : Hart) →
-    (after_candidate pc had_watch candidate hart).section ≡ hart.section
-candidate_section pc had_watch None hart = refl
-candidate_section pc had_watch (Some swap) hart = refl
-
 deed_unmet : (state : ModelState) (h : ℕ) (deed : Deed) → DoesWhere state h deed → bits.Holds (hart_of state h) →
     Unmet state h (hart_of state h) → Unmet state h (hart_after state h deed (hart_of state h))
 deed_unmet state h Rests does outside unmet l = unmet l

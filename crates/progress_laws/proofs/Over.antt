@@ -4,11 +4,11 @@ use Rattle.std.specs.Prelude.{slice_index_or}
 use Rattle.el_base.specs.declared.events.Kind.{Kind}
 use Rattle.el_base.specs.declared.events.Kind.TheVariants.{Step, Order, Serve, Deliver}
 use Rattle.el_model.specs.Deliver.{deliver_next, deliver_turn}
-use Rattle.el_model.specs.Next.{all_stopped, has_stopped, is_over, kind_turn, next, status_turn, step_turn}
+use Rattle.el_model.specs.Next.{all_stopped, has_stopped, is_over, kind_turn, next, step_turn}
 use Rattle.el_model.specs.Order.{order_raised, order_turn}
 use Rattle.el_model.specs.Serve.{serve_ordered, serve_turn}
 use Rattle.el_model.specs.State.{ModelState, hart_of}
-use Rattle.progress_laws.proofs.Laws.GettingOn.{GetsOn, Orderly}
+use Rattle.progress_laws.proofs.Laws.GettingOn.{GetsOn, Orderly, stopped_step}
 use Rattle.progress_laws.proofs.Ready.{gets_on_by_number, none_is_ready_where_none_gets_on, number_kept, of_kind}
 use Rattle.progress_laws.specs.Ready.{gets_on, is_progress, ready_event}
 use Rattle.rv_alu.specs.declared.view.HartStatus.{HartStatus}
@@ -56,11 +56,6 @@ unfolding is_over
 runs_unless_over state going = some_runs state.committed.harts going
 
 -- a hart that has stopped, with an empty mailbox, gets on by no event
-stopped_step : (state : ModelState) (h : ℕ) (status : HartStatus) → status ≢ Running → is_progress (status_turn state h status).outcome ≡ false
-stopped_step state h Running stopped = absurd (stopped refl)
-stopped_step state h (Exited code) stopped = refl
-stopped_step state h (Trapped cause pc) stopped = refl
-
 stopped_rests : (state : ModelState) (h : ℕ) (kind : Kind) → Sound state → status_of state.committed h ≢ Running → (hart_of state h).mail ≡ [] →
     is_progress (kind_turn state h kind).outcome ≡ false
 unfolding step_turn order_turn serve_turn deliver_turn

@@ -9,23 +9,14 @@ use Rattle.el_base.specs.HartId.{hart_id}
 use Rattle.el_base.specs.declared.events.Event.{Event}
 use Rattle.el_base.specs.declared.events.Kind.{Kind}
 use Rattle.el_base.specs.declared.events.Kind.TheVariants.{Step, Order, Serve, Deliver}
+use Rattle.el_base.proofs.Laws.ListLaws.{find_passes}
 use Rattle.el_model.specs.Next.{kind_turn, next}
 use Rattle.el_model.specs.State.{Hart, ModelState, count_up}
 use Rattle.progress_laws.specs.Laws.{NoneIsReadyWhereNoneGetsOn, ReadyEventGetsOn}
 use Rattle.progress_laws.specs.Ready.{events_in, events_of, gets_on, is_progress}
 
--- what a search finds passes its test
-found_passes : {A : Type 0} (test : A → Bool) (xs : List A) (x : A) → find test xs ≡ Some x → test x ≡ true
-found_passes test [] x is = absurd (cc)
-found_passes test (first ∷ others) x is = by (test first) refl (found_passes test others x) is
-  where
-    by : (passes : Bool) → test first ≡ passes → (find test others ≡ Some x → test x ≡ true) →
-        cond passes (Some first) (find test others) ≡ Some x → test x ≡ true
-    by true passes rest is = let same : first ≡ x = cc in ap test (sym same) ∙ passes
-    by false passes rest is = rest is
-
 pub ready_event_gets_on : ReadyEventGetsOn
-ready_event_gets_on state event is = found_passes (gets_on state) (events_in state) event is
+ready_event_gets_on state event is = find_passes (gets_on state) (events_in state) event is
 
 -- nothing is found exactly where nothing passes
 abbrev NonePass : {A : Type 0} → (A → Bool) → List A → Type 0

@@ -5,11 +5,11 @@ use Rattle.residency.specs.Cache.{has_bit}
 use Rattle.defer_list.specs.HartSet.{has}
 use Rattle.el_model.specs.Conflicts.{conflicts_with}
 use Rattle.el_model.specs.State.{Hart, ModelState, cache_of, for_line, hart_of, head_of, is_live, ordered_on}
-use Rattle.bus_order.proofs.Laws.Queues.{line_of_first_of}
 use Rattle.removal_laws.specs.Facts.{AreLinked, IsChained, IsLinked, IsWaiting, Knows, MayBeKnown, MayPrecede, MayRetain, Messages, Retaining}
 use Rattle.section_laws.proofs.Laws.Bits.{Fewer, fewer_bit, fewer_conflicts}
 use Rattle.removal_laws.proofs.Posting.{Posted}
 use Rattle.el_model.proofs.Laws.EachHart.{Each}
+use Rattle.el_model.proofs.Laws.Orders.{head_line}
 use Rattle.stamp.specs.Stamps.{is_before}
 
 -- chains
@@ -142,9 +142,6 @@ pub retained_before : (line : ℕ) (g : ℕ) (head : Option Request) (old new : 
 retained_before line g None old new lines fewer is = absurd (cc)
 retained_before line g (Some request) old new lines fewer is =
     fewer_conflicts request g old new (subst (λ l. Fewer l old new) (sym (lines request refl)) fewer) is
-
-pub head_line : (state : ModelState) (line : ℕ) (request : Request) → head_of state line ≡ Some request → request.line ≡ line
-head_line state line request is = line_of_first_of state.order line request is
 
 -- where each section has no bit more, and each origin more that its hart was told of has no less stamp on a line that it retains
 pub record Trimmed (state : ModelState) (g : ℕ) (old new : Hart) : Type 0 where

@@ -11,11 +11,11 @@ use Rattle.el_model.specs.Conflicts.{conflicts_with}
 use Rattle.el_model.specs.Order.{Place, unraised}
 use Rattle.el_model.specs.State.{Hart, ModelState, cache_of, for_line, hart_of, head_of, is_live, ordered_of, ordered_on, raised_of}
 use Rattle.el_model.proofs.Laws.Harts.{hart_of-with_hart_other, hart_of-with_hart_same, with_hart_kept}
+use Rattle.el_model.proofs.Laws.Orders.{head_line, placed_own}
 use Rattle.removal_laws.specs.Facts.{IsChained, IsLinked, IsWaiting, Knows, Messages, Retaining}
 use Rattle.section_laws.proofs.Laws.Bits.{Fewer, clash, fewer_bit, fewer_same, some_none, some_same}
 use Rattle.removal_laws.proofs.Grounds.{Grounds, Standing}
-use Rattle.removal_laws.proofs.Kept.{chained_kept, may_kept, retained_before, head_line}
-use Rattle.removal_laws.proofs.Requests.{placed_own}
+use Rattle.removal_laws.proofs.Kept.{chained_kept, may_kept, retained_before}
 use Rattle.section_laws.proofs.Laws.OrderedHarts.{AreBelow}
 use Rattle.section_laws.proofs.Laws.Waiting.{order_other}
 

@@ -11,6 +11,7 @@ use Rattle.el_base.specs.declared.config.Mode.{Mode}
 use Rattle.el_base.specs.declared.config.Mode.TheVariants.{Plain, Sle, Tlr}
 use Rattle.el_base.specs.declared.outcomes.Need.{Need}
 use Rattle.el_base.specs.declared.outcomes.Need.TheVariants.{Read, Write}
+use Rattle.el_base.proofs.Laws.Options.{none_from}
 use Rattle.el_model.specs.Conflicts.{conflicts_with, meets_bit, retains}
 use Rattle.el_model.specs.Armed.{let_go}
 use Rattle.el_model.specs.Face.{met}
@@ -97,10 +98,6 @@ all_chained state line others own = record {
     by : (l : ℕ) → (l ≡ line) ⊎ (l ≡ line → ⊥) → IsChained state (queue_of state.order l)
     by l (inl same) = rw same own
     by l (inr apart) = others.chained l apart
-
-pub none_is : (found : Option Request) → is_some found ≡ false → found ≡ None
-none_is None none = refl
-none_is (Some found) none = absurd (cc)
 
 -- of the attempts of two harts one is before the other
 no_tie : {X : Type 0} (a b : Option Stamp) (g h : ℕ) → g ≢ h → ((stamp : Stamp) → a ≡ Some stamp → stamp.hart ≡ g) →
@@ -357,7 +354,7 @@ module _ (state : ModelState) (request : Request) (grounds : Grounds state) (ord
       (λ no_bit.
       by_test (λ place. Standing (placed state request place)) (is_some (head_of state request.line)) Behind Alone
       (λ has_head. behind_stands no_bit has_head)
-      (λ no_head. alone_stands (none_is (head_of state request.line) no_head)))
+      (λ no_head. alone_stands (none_from (head_of state request.line) no_head)))
 
 -- a hart orders the request that it has raised, if it has one
 pub ordered_stands : (state : ModelState) (h : ℕ) (raised : Option Request) → raised_of state h ≡ raised → Grounds state → Standing state →

@@ -7,7 +7,7 @@ use Rattle.el_model.specs.Conflicts.{conflicts_with}
 use Rattle.el_model.specs.State.{Hart, ModelState, hart_of, head_of, ordered_on, post_all}
 use Rattle.mail.specs.Mailbox.{Marker, Message, Probe, has_message, posted, same_message}
 use Rattle.mail.proofs.Laws.LookUps.{has_posted_own}
-use Rattle.mail.proofs.Laws.OnceEach.{same_as_itself, same_is_one}
+use Rattle.mail.proofs.Laws.OnceEach.{same_is_one}
 use Rattle.removal_laws.specs.Facts.{Everywhere, IsLinked, Knows, MayBeKnown}
 use Rattle.section_laws.proofs.Laws.Bits.{Fewer, fewer_same, fewer_twice, no_less}
 use Rattle.removal_laws.proofs.Grounds.{Standing}
@@ -147,9 +147,6 @@ later_there first others message is = by (same_message first message)
     by : (same : Bool) → (if same then true else has_message others message) ≡ true
     by true = refl
     by false = is
-
-pub first_there : (first : Message) (others : List Message) → has_message (first ∷ others) first ≡ true
-first_there first others = ap (λ b. if b then true else has_message others first) (same_as_itself first)
 
 -- what holds still holds, where what is owed for each new entry is there
 pub record Debts (Up Told : ℕ → ℕ → Type 0) (state final : ModelState) : Type 0 where

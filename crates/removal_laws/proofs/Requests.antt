@@ -3,28 +3,28 @@ use Rattle.std.proofs.Common.{◌≡◌, ◌∙◌, ◌≤◌, ℕ, Bool, true, 
 use Rattle.std.proofs.Common.{ap, sym, inl, inr, ◌⊎◌, subst}
 use Rattle.std.proofs.lemmas.Bool.{cases_eq}
 use Rattle.bus_order.specs.Order.{Request, removed, request_of}
-use Rattle.bus_order.proofs.Laws.LookUps.{request_of_appended_own, request_of_in_front_of_own, request_of_removed_other}
+use Rattle.bus_order.proofs.Laws.LookUps.{request_of_removed_other}
 use Rattle.bus_order.proofs.Laws.LookUps.{request_of_removed_own}
 use Rattle.el_base.specs.declared.events.Event.{Event}
 use Rattle.el_model.specs.BusEvent.{IsBusEvent, Nothing, Places, Serves, Start, StartsWhere, Takes, having_taken}
 use Rattle.el_model.specs.BusEvent.{order_after, order_at, started}
 use Rattle.el_model.specs.Deed.{Arms, Begins, Buffers, Commits, Continues, Deed, DoesWhere, Elides, LetsGo, Misses, Rests, RollsBack, Runs, Waits, hart_after}
 use Rattle.el_model.specs.Next.{next, step_turn}
-use Rattle.el_model.specs.Order.{Alone, Behind, InFront, Place}
 use Rattle.el_model.specs.Plain.{after_candidate, candidate_of}
 use Rattle.el_model.specs.Serve.{bystander, served_hart, with_claim}
 use Rattle.el_model.specs.State.{Hart, ModelState, Turn, hart_of, ordered_of, raised_of}
 use Rattle.el_model.specs.Upcoming.{Swap}
 use Rattle.el_model.proofs.Laws.BusEvents.{by_event}
-use Rattle.el_model.proofs.Laws.Deeds.{step_deed}
+use Rattle.el_model.proofs.Laws.Deeds.{is_rolled, step_deed}
 use Rattle.el_model.proofs.Laws.Harts.{hart_of-past}
 use Rattle.el_model.proofs.Laws.Tests.{by_hart}
 use Rattle.section_laws.proofs.Laws.Bits.{some_none, some_same}
 use Rattle.el_model.proofs.Laws.EachHart.{Each}
+use Rattle.el_model.proofs.Laws.Orders.{placed_own}
 use Rattle.section_laws.proofs.Laws.Moves.{Moves, moved, step_keeps, taken_keeps}
 use Rattle.section_laws.proofs.Laws.Numbered.{next_count, order_keeps}
 use Rattle.section_laws.proofs.Laws.OrderedHarts.{AreBelow, below_kept}
-use Rattle.section_laws.proofs.Laws.Waiting.{Sound, free_of_order, is_rolled, no_request, order_other}
+use Rattle.section_laws.proofs.Laws.Waiting.{Sound, free_of_order, no_request, order_other}
 use Rattle.stamp.specs.Stamps.{Stamp}
 
 -- a hart's requests, raised or ordered, have the stamp of its attempt
@@ -49,13 +49,6 @@ moves ordered = record {
   gave_up = λ h hart now. now;
   tried = λ h hart more now. now;
 }
-
--- a raised request that is ordered
-pub placed_own : (state : ModelState) (request : Request) (place : Place) → request_of state.order request.hart ≡ None →
-    request_of (order_at state request place) request.hart ≡ Some request
-placed_own state request InFront none = request_of_in_front_of_own state.order request none
-placed_own state request Behind none = request_of_appended_own state.order request none
-placed_own state request Alone none = request_of_appended_own state.order request none
 
 pub raised_own : (state : ModelState) (h : ℕ) (request : Request) → Sound state → raised_of state h ≡ Some request →
     raised_of state request.hart ≡ Some request

@@ -12,11 +12,12 @@ use Rattle.el_model.specs.Face.{met, met_if}
 use Rattle.el_model.specs.Serve.{Blocks, Free, Obstacle, obstacle_to, serve_ordered, serve_past, served}
 use Rattle.el_model.specs.State.{ModelState, cache_of, for_line, hart_of, head_of, is_live, ordered_of, ordered_on, raised_of}
 use Rattle.el_model.proofs.Laws.Keeps.{keeps_served}
+use Rattle.el_model.proofs.Laws.Orders.{head_line}
 use Rattle.removal_laws.specs.Facts.{AreLinked, Everywhere, IsChained, IsLinked, IsWaiting, MayRetain, Messages, Retaining}
 use Rattle.section_laws.proofs.Laws.Bits.{clash, fewer_bit, some_none, some_same}
 use Rattle.removal_laws.proofs.Faced.{Facing, FirstOn, Other, met_fewer, met_stands}
 use Rattle.removal_laws.proofs.Grounds.{Grounds, Standing}
-use Rattle.removal_laws.proofs.Kept.{may_kept, retained_before, head_line}
+use Rattle.removal_laws.proofs.Kept.{may_kept, retained_before}
 use Rattle.removal_laws.proofs.Leaving.{Left, served_left}
 use Rattle.removal_laws.proofs.Queues.{IsHead, head_is}
 use Rattle.section_laws.proofs.Laws.FreeLines.{has_head, head_is as first_is, not_blocked}

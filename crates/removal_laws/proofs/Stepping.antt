@@ -29,8 +29,10 @@ use Rattle.section_laws.proofs.Laws.ArmedBits.{completing}
 use Rattle.section_laws.proofs.Laws.Bits.{either, no_less}
 use Rattle.section_laws.specs.EachHart.{HasNoOtherBit}
 use Rattle.removal_laws.proofs.Grounds.{Grounds, Standing}
-use Rattle.removal_laws.proofs.Kept.{Moved, head_line, may_kept, messages_moved}
+use Rattle.removal_laws.proofs.Kept.{Moved, may_kept, messages_moved}
 use Rattle.el_model.proofs.Laws.EachHart.{Each, each_but}
+use Rattle.el_model.proofs.Laws.Orders.{head_line}
+use Rattle.el_model.proofs.Laws.Conflicts.{loser_lives}
 use Rattle.section_laws.proofs.Laws.FreeLines.{second_not}
 use Rattle.section_laws.proofs.Laws.Waiting.{no_request}
 
@@ -104,14 +106,10 @@ unchanged state g standing = record {
   ordered = λ request is live bit. (standing.retaining.ordered g request is live bit, standing.retaining.first g request tt is live bit);
 }
 
-meets_head : (head : Option Request) (g : ℕ) (hart : Hart) → conflicts_with head g hart ≡ true → is_some hart.section ≡ true
-meets_head None g hart is = absurd (cc)
-meets_head (Some request) g hart is = (meets request g hart is).live
-
 -- a hart without a section and without an ordered request
 outside_stepped : (state : ModelState) (g : ℕ) (new : Hart) → new.section ≡ None → Stepped state g new
 outside_stepped state g new none = record {
-  retained = λ line is. clash (ap is_some none) (meets_head (head_of state line) g new is);
+  retained = λ line is. clash (ap is_some none) (loser_lives (head_of state line) g new is);
   raised = λ request is live bit. clash (ap is_some none) live;
   ordered = λ request is live bit. clash (ap is_some none) live;
 }

@@ -17,14 +17,17 @@ use Rattle.el_model.proofs.Laws.Keeps.{length-each_from}
 use Rattle.el_model.proofs.Laws.Tests.{by_test}
 use Rattle.mail.specs.Mailbox.{Marker, Message, Probe, has_message, posted}
 use Rattle.mail.proofs.Laws.LookUps.{has_posted_own}
+use Rattle.mail.proofs.Laws.OnceEach.{first_there}
 use Rattle.removal_laws.specs.Facts.{IsLinked, Knows, MayBeKnown}
 use Rattle.section_laws.proofs.Laws.Bits.{both, clash, fewer_ended, fewer_same, first_of_both, meets}
 use Rattle.section_laws.proofs.Laws.Bits.{some_same}
-use Rattle.removal_laws.proofs.Laws.Delivering.{Entry, NoEntry, mail_exists, marker_stands, more_has, new_or_had, own_line}
+use Rattle.removal_laws.proofs.Laws.Delivering.{Entry, NoEntry, marker_stands, more_has, new_or_had, own_line}
 use Rattle.removal_laws.proofs.Grounds.{Grounds, Standing}
-use Rattle.removal_laws.proofs.Kept.{OwedOf, head_line, retained_before}
-use Rattle.removal_laws.proofs.Probing.{Took, debts_stand, first_or_later, first_there, later_there, probed, took_nothing}
+use Rattle.removal_laws.proofs.Kept.{OwedOf, retained_before}
+use Rattle.removal_laws.proofs.Probing.{Took, debts_stand, first_or_later, later_there, probed, took_nothing}
 use Rattle.el_model.proofs.Laws.EachHart.{Each, each_after, each_but}
+use Rattle.el_model.proofs.Laws.Orders.{head_line}
+use Rattle.el_model.proofs.Laws.BusEvents.{with_mail}
 use Rattle.section_laws.proofs.Laws.Moves.{seen_grows}
 use Rattle.stamp.specs.Stamps.{Stamp, is_before}
 
@@ -47,7 +50,7 @@ took_lost Up Told state g stamp old hart now = record {
 module _ (state : ModelState) (h origin : ℕ) (others : List Message) (mail : (hart_of state h).mail ≡ Probe origin ∷ others) (grounds : Grounds state)
     (standing : Standing state) where
   exists : h < length state.harts
-  exists = mail_exists state h (Probe origin) others mail
+  exists = with_mail state h (Probe origin) others mail
 
   was_known : MayBeKnown state h origin
   was_known =

@@ -10,6 +10,7 @@ use Rattle.std.proofs.lemmas.Option.{get_or_from_slice_get, slice_get_within}
 use Rattle.chronicle.specs.Serial.{most_effects, serial, taking_effect}
 use Rattle.chronicle.specs.Tally.{has_lost, nothing, numbers, of_entry, of_outcome, plus, IsTallyOf}
 use Rattle.chronicle.specs.declared.tally.Tally.{Tally}
+use Rattle.chronicle.proofs.Laws.Tallies.{plus_nothing}
 use Rattle.el_base.specs.declared.entries.Entry.{Entry}
 use Rattle.el_base.specs.declared.outcomes.Cause.TheVariants.{Room, Lines, Long, Call, Mixed}
 use Rattle.el_base.specs.declared.outcomes.Outcome.{Outcome}
@@ -46,10 +47,6 @@ counted_by : (tally own : Tally) (lost : Bool) → own.conflict ≡ 0 →
 unfolding plus
 counted_by tally own true none = grind (arith, none)
 counted_by tally own false none = grind (arith, none)
-
-plus_nothing : (tally : Tally) → plus tally nothing ≡ tally
-unfolding plus
-plus_nothing tally = grind arith
 
 pub entry_counted : (tally : Tally) (hart : ℕ) (entry : Entry) (own : Bool) → (entry.event.hart.number == hart) ≡ own →
     with_loss (cond own (plus tally (of_outcome entry.outcome)) tally) (has_lost hart entry.outcome)

@@ -1,3 +1,4 @@
+pub mod Laws
 mod Counted
 mod EachHart
 mod Losing

@@ -41,10 +41,6 @@ pub same_part : (before now : SinkState) (bytes others : List ℕ) → bytes ≡
     PutPart before now others
 same_part before now bytes others same a = subst (λ text. PutPart before now text) same a
 
-pub same_puts : (result : Result (Unit {0}) Failed) (before now : SinkState) (bytes others : List ℕ) → bytes ≡ others →
-    Puts result before now bytes → Puts result before now others
-same_puts result before now bytes others same a = subst (λ text. Puts result before now text) same a
-
 -- a call that failed where a part was put
 pub failed_puts : (result : Result (Unit {0}) Failed) (before now : SinkState) (bytes : List ℕ) → IsErr result →
     PutPart before now bytes → Puts result before now bytes

@@ -9,7 +9,8 @@ use Rattle.el_base.specs.declared.config.Config.{Config}
 use Rattle.el_base.specs.declared.entries.Entry.{Entry}
 use Rattle.el_io.specs.declared.sink.Failed.{Failed}
 use Rattle.machine.specs.Story.{Story, committed}
-use Rattle.report.proofs.Putting.{put_stopped, put_then, put_then_part, same_part, same_puts}
+use Rattle.report.proofs.Putting.{put_stopped, put_then, put_then_part, same_part}
+use Rattle.report.proofs.Laws.Puts.{same_puts}
 use Rattle.report.specs.Line.{line}
 use Rattle.report.specs.Puts.{PutAll, PutPart, Puts, SinkState}
 use Rattle.report.specs.Text.{count_words, first_line, hart_line, hart_lines, last_line, report_of, report_text, status_words}

@@ -6,3 +6,4 @@ pub mod WellFormedLemmas
 pub mod MarkLemmas
 pub mod Unmarked
 pub mod AbsentWays
+pub mod Rooms

@@ -8,6 +8,7 @@ use Rattle.std.proofs.lemmas.List.{append-nil, length-append, length-replicate, 
 use Rattle.std.proofs.lemmas.List.Concat.{flat_map-append}
 use Rattle.el_base.proofs.Laws.FreedOrder.{length-order_below-more}
 use Rattle.el_base.proofs.Laws.HartIds.{hart_id-of_hart}
+use Rattle.el_base.proofs.Laws.ListLaws.{take_next}
 use Rattle.el_base.specs.Freed.{order_below, order_of}
 use Rattle.el_base.specs.declared.freed.Freed.{Freed}
 use Rattle.el_base.specs.declared.hart_id.HartId.{HartId}
@@ -109,19 +110,12 @@ code_of_written (s ∷ stretches) code =
 
 -- ---- the entries of a history
 
-entry_at : (entries : List Entry) (place : ℕ) (entry : Entry) → slice_get entries place ≡ Some entry →
-    take (suc place) entries ≡ take place entries ++ entry ∷ []
-entry_at [] place entry found = absurd cc
-entry_at (first ∷ entries) zero entry found = let same : first ≡ entry = cc in ap (λ (x : Entry). x ∷ []) same
-entry_at (first ∷ entries) (suc place) entry found =
-    ap (λ (l : List Entry). first ∷ l) (entry_at entries place entry found)
-
 pub serial_more : (entries : List Entry) (place : ℕ) (entry : Entry) → slice_get entries place ≡ Some entry →
     serial (take (place + 1) entries) ≡ serial (take place entries)
     ++ taking_effect entry.event.hart.number entry.outcome
 serial_more entries place entry found =
     ap (λ n. serial (take n entries)) (add-one place)
-    ∙ ap serial (entry_at entries place entry found)
+    ∙ ap serial (take_next entries place entry found)
     ∙ flat_map-append (λ (e : Entry). taking_effect e.event.hart.number e.outcome) (take place entries) (entry ∷ [])
     ∙ ap (λ (l : List ℕ). serial (take place entries) ++ l)
     (append-nil (taking_effect entry.event.hart.number entry.outcome))

@@ -1,13 +1,13 @@
 -- Fields with and without a fault.
-use Rattle.std.proofs.Common.{◌≡◌, ℕ, ◌+◌, ◌*◌, ◌≤◌, Bool, true, false, not, cond, ◌==◌, ltb, List, [], ◌∷◌, length}
-use Rattle.std.proofs.Common.{get_or, Option, Some, None, refl, ap, ◌∙◌, arith}
+use Rattle.std.proofs.Common.{◌≡◌, ℕ, ◌+◌, ◌*◌, ◌≤◌, Bool, true, false, not, ◌==◌, ltb, List, [], ◌∷◌, length}
+use Rattle.std.proofs.Common.{get_or, Option, None, refl, arith}
 use Rattle.std.proofs.lemmas.Bool.{le-ltb, ltb-false}
 use Rattle.std.proofs.lemmas.Bool.Decides.{nat_tests}
-use Rattle.std.specs.Option.{option_or}
 use Rattle.el_base.specs.Config.{within}
 use Rattle.el_base.specs.Firsts.{first_of, some_if}
 use Rattle.el_base.specs.declared.file_fault.FileFault.{FileFault}
 use Rattle.el_base.specs.declared.hart_id.TheConstants.{MAX_HARTS}
+use Rattle.el_base.proofs.Laws.Options.{both_none, cond_none, or_none}
 use Rattle.run_check.specs.declared.fault.FaultKind.{FaultKind}
 use Rattle.run_check.specs.declared.fault.FaultKind.TheVariants as kinds
 use Rattle.run_check.specs.FaultKinds.{fault_of}
@@ -19,24 +19,15 @@ use Rattle.rv_flat.specs.FlatState.{output_limit}
 
 -- ---- what no fault says
 
-pub or_none : (a b : Option FileFault) → option_or a b ≡ None → (a ≡ None) × (b ≡ None)
-or_none None b none = (refl, none)
-or_none (Some fault) b none = absurd cc
-
 pub if_none : (wrong : Bool) (kind : FaultKind) (place : ℕ) → some_if wrong (fault_of kind place) ≡ None → wrong ≡ false
 if_none true kind place none = absurd cc
 if_none false kind place none = refl
-
-neither : (short : Bool) (x : FileFault) (fault : Option FileFault) → cond short (Some x) fault ≡ None →
-    (short ≡ false) × (fault ≡ None)
-neither true x fault none = absurd cc
-neither false x fault none = (refl, none)
 
 pub field_none : (file : List ℕ) (end : ℕ) (fault : Option FileFault) → field file end fault ≡ None →
     (end ≤ length file) × (fault ≡ None)
 unfolding field
 field_none file end fault none =
-    let e = neither (ltb (length file) end) (fault_of kinds.Short (length file)) fault none in
+    let e = cond_none (ltb (length file) end) (fault_of kinds.Short (length file)) fault none in
     (ltb-false (length file) end e.0, e.1)
 
 pub field_right : (file : List ℕ) (end : ℕ) (wrong : Bool) (kind : FaultKind) (place : ℕ) →
@@ -60,9 +51,6 @@ passes_if false kind place e = refl
 pub right_passes : (file : List ℕ) (end : ℕ) (wrong : Bool) (kind : FaultKind) (place : ℕ) → end ≤ length file →
     wrong ≡ false → field file end (some_if wrong (fault_of kind place)) ≡ None
 right_passes file end wrong kind place whole right = field_passes file end _ whole (passes_if wrong kind place right)
-
-pub both_none : (a b : Option FileFault) → a ≡ None → b ≡ None → option_or a b ≡ None
-both_none a b none none' = ap (λ (x : Option FileFault). option_or x b) none ∙ none'
 
 -- ---- the items
 

@@ -3,6 +3,7 @@ use Rattle.std.proofs.Common.{◌≡◌, ℕ, zero, suc, ◌+◌, ◌<◌, Optio
 use Rattle.std.specs.Option.{option_or}
 use Rattle.std.proofs.lemmas.Bool.{cases_lt}
 use Rattle.el_base.specs.declared.file_fault.FileFault.{FileFault}
+use Rattle.el_base.proofs.Laws.Options.{or_none}
 use Rattle.run_check.specs.Faults.{first_below}
 
 -- the fault of the first item that has one is the first of any more items
@@ -28,15 +29,11 @@ none_more index fault none here =
     rw (add-one index) (ap (λ (first : Option FileFault). option_or first (fault index)) none ∙ here)
 
 -- where no item has a fault, each has none
-neither : (a b : Option FileFault) → option_or a b ≡ None → (a ≡ None) × (b ≡ None)
-neither None b none = (refl, none)
-neither (Some fault) b none = absurd cc
-
 pub none_each : (count : ℕ) (fault : ℕ → Option FileFault) → first_below count fault ≡ None → (k : ℕ) → k < count →
     fault k ≡ None
 none_each zero fault none k within = absurd (omega arith)
 none_each (suc count) fault none k within =
-    let e = neither (first_below count fault) (fault count) none in
+    let e = or_none (first_below count fault) (fault count) none in
     elim (cases_lt k count) [
       | inl before ↦ none_each count fault e.0 k before
       | inr past ↦ let same : count ≡ k = omega arith in subst (λ n. fault n ≡ None) same e.1

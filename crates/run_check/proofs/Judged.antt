@@ -10,6 +10,7 @@ use Rattle.std.proofs.lemmas.List.FromFn.{fill_by_all, get_or-map-range_with_len
 use Rattle.byteorder.specs.Endian.{little_bytes}
 use Rattle.el_base.proofs.Laws.HartIds.{hart_id-number}
 use Rattle.el_base.proofs.Laws.Lines.{line_addr-number}
+use Rattle.el_base.proofs.Laws.Options.{or_none}
 use Rattle.el_base.specs.Firsts.{first_of}
 use Rattle.rv_flat.specs.FlatState.{no_hart, output_limit}
 use Rattle.run_check.specs.declared.content.Patch.{Patch}
@@ -25,9 +26,10 @@ use Rattle.run_check.specs.Spelling.{count_in, hart_in, head_bytes, line_in, lin
 use Rattle.run_check.specs.Spelling.{patch_in, reserved_bytes, spelling, status_bytes, stretch_bytes, view_bytes}
 use Rattle.run_check.specs.Spelling.{IsCertificate, IsReserved, IsStatus, IsView}
 use Rattle.run_check.proofs.FieldFaults.{HeadRight, LineRight, StretchRight, head_right, line_count_right, line_right}
-use Rattle.run_check.proofs.FieldFaults.{or_none, output_right, stretch_right, tail_right, view_right}
+use Rattle.run_check.proofs.FieldFaults.{output_right, stretch_right, tail_right, view_right}
 use Rattle.run_check.proofs.FirstBelow.{none_each}
 use Rattle.run_check.proofs.Pieces.{IsBytes, byte_piece, items_piece, number_piece, number_small, piece_sum, split_at}
+use Rattle.run_check.proofs.Pieces.{register_behind}
 use Rattle.run_check.proofs.RulesSame.{hart_below, line_below, same_count_rule, same_hart_rule, same_line_rule}
 
 -- what is known of a file without a fault
@@ -132,9 +134,6 @@ status_spelled (suc (suc (suc status))) number pc right = absurd (grind (arith, 
 neither : (a b : Bool) → (a || b) ≡ false → (a ≡ false) × (b ≡ false)
 neither true b e = absurd cc
 neither false b e = (refl, e)
-
-register_behind : (file : List ℕ) (place k : ℕ) → register_at file place (suc k) ≡ number_at file (place + 4 * suc k)
-register_behind file place k = grind (arith, nat_tests)
 
 -- x1 to x31 are the 31 numbers behind the pc
 registers_behind : (file : List ℕ) (place : ℕ) →

@@ -6,8 +6,10 @@ use Rattle.std.proofs.Math.Seq.{drop-cons}
 use Rattle.std.proofs.lemmas.List.{append-nil, drop-drop, drop-take, drop_at, get_or-drop, length-drop, take-append-drop, take-take}
 use Rattle.std.proofs.lemmas.List.Concat.{flat_map-append}
 use Rattle.std.proofs.lemmas.List.FromFn.{map-range_with_len_more}
+use Rattle.std.proofs.lemmas.Bool.Decides.{nat_tests}
 use Rattle.byteorder.specs.Endian.{little_bytes, little_number}
-use Rattle.run_check.specs.Faults.{number_at}
+use Rattle.run_check.specs.Faults.{number_at, register_at}
+use Rattle.el_base.proofs.Laws.ListLaws.{four_in_front}
 
 abbrev pub IsBytes : List ℕ → Type 0
 IsBytes bytes = (i : ℕ) → get_or bytes i 0 < 256
@@ -43,23 +45,13 @@ cells_of n a b c d is ha hb hc hd =
     let e3 : n / 16777216 % 256 ≡ d = omega arith in
     rw (e0, e1, e2, e3) refl
 
-cell : (bytes : List ℕ) (i : ℕ) → i < length bytes → drop i bytes ≡ get_or bytes i 0 ∷ drop (suc i) bytes
-cell bytes i within = drop-cons bytes i 0 within
-
-front : (bytes : List ℕ) → 4 ≤ length bytes →
-    bytes ≡ get_or bytes 0 0 ∷ get_or bytes 1 0 ∷ get_or bytes 2 0 ∷ get_or bytes 3 0 ∷ drop 4 bytes
-front bytes long =
-    cell bytes 0 (omega arith)
-    ∙ ap (λ (t : List ℕ). get_or bytes 0 0 ∷ t) (cell bytes 1 (omega arith))
-    ∙ ap (λ (t : List ℕ). get_or bytes 0 0 ∷ get_or bytes 1 0 ∷ t) (cell bytes 2 (omega arith))
-    ∙ ap (λ (t : List ℕ). get_or bytes 0 0 ∷ get_or bytes 1 0 ∷ get_or bytes 2 0 ∷ t) (cell bytes 3 (omega arith))
-
 bytes_behind : (place : ℕ) (file : List ℕ) → IsBytes file → IsBytes (drop place file)
 bytes_behind place file fits i = rw get_or-drop (fits (place + i))
 
 four_bytes : (bytes : List ℕ) → IsBytes bytes → 4 ≤ length bytes → take 4 bytes ≡ little_bytes 4 (little_number 4 bytes)
 four_bytes bytes fits long =
-    ap (take 4) (front bytes long) ∙ sym (cells_of (little_number 4 bytes) _ _ _ _ refl (fits 0) (fits 1) (fits 2)
+    ap (take 4) (four_in_front bytes long)
+    ∙ sym (cells_of (little_number 4 bytes) _ _ _ _ refl (fits 0) (fits 1) (fits 2)
     (fits 3))
 
 -- four bytes are those of their number
@@ -69,7 +61,7 @@ number_piece file place fits long =
     four_bytes (drop place file) (bytes_behind place file fits) (omega (arith, length-drop place file))
 
 pub byte_piece : (file : List ℕ) (place : ℕ) → place < length file → take 1 (drop place file) ≡ get_or file place 0 ∷ []
-byte_piece file place within = ap (take 1) (cell file place within)
+byte_piece file place within = ap (take 1) (drop-cons file place 0 within)
 
 -- a number of four bytes is small
 pub number_small : (file : List ℕ) (place : ℕ) → IsBytes file → number_at file place < 4294967296
@@ -143,3 +135,8 @@ behind_all bytes size (x ∷ xs) rest d each =
     ∙ ap (λ (l : List ℕ). drop (size * length xs) (drop size l)) whole
     ∙ ap (drop (size * length xs)) (drop_at (bytes x) (flat_map bytes xs ++ rest) size long)
     ∙ behind_all bytes size xs rest d (λ i inside. each (suc i) (omega arith))
+
+-- a register but the first stands in its place
+pub register_behind : (file : List ℕ) (place k : ℕ) →
+    register_at file place (suc k) ≡ number_at file (place + 4 * suc k)
+register_behind file place k = grind (arith, nat_tests)

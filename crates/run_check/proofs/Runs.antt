@@ -8,11 +8,10 @@ use Rattle.std.proofs.lemmas.List.Concat.{flat_map-append}
 use Rattle.std.proofs.lemmas.Option.{slice_get-get_or, slice_get_read}
 use Rattle.elf_image.specs.Program.{Program}
 use Rattle.rv_alu.specs.declared.view.HartView.{HartView}
-use Rattle.std.proofs.lemmas.List.FromFn.{length-map-range_with_len}
-use Rattle.rv_flat.specs.FlatState.{FlatState, first_view, no_hart, start}
+use Rattle.rv_flat.specs.FlatState.{FlatState, no_hart, start}
 use Rattle.rv_flat.specs.Run.{alone, run}
 use Rattle.rv_flat.specs.Step.{flat}
-use Rattle.rv_flat.proofs.Laws.StepLaws.{alone_sum, keeps_shape, run_append}
+use Rattle.rv_flat.proofs.Laws.StepLaws.{alone_sum, keeps_shape, run_append, start_harts}
 use Rattle.el_base.specs.HartId.{hart_id}
 use Rattle.run_check.specs.Content.{steps_in, written_out}
 use Rattle.run_check.specs.Rules.{steps_before}
@@ -110,10 +109,6 @@ steps_at xs same = ap (steps_before (count_in xs)) same
 -- what stands after the run of a certificate
 pub reached_keeps : (program : Program) (harts : List ℕ) → RunKeeps (start program) (run (start program) harts)
 reached_keeps program harts = run_keeps (start program) harts
-
-pub start_harts : (program : Program) → length (start program).harts ≡ program.harts
-unfolding start
-start_harts program = length-map-range_with_len (first_view program) 0 program.harts
 
 pub start_base : (program : Program) → (start program).base ≡ program.base
 unfolding start

@@ -11,6 +11,7 @@ use Rattle.el_base.specs.Config.{within}
 use Rattle.el_base.specs.HartId.{hart_id}
 use Rattle.el_base.specs.LineAddr.{line_addr}
 use Rattle.el_base.specs.declared.hart_id.TheConstants.{MAX_HARTS}
+use Rattle.el_base.proofs.Laws.Options.{both_none}
 use Rattle.rv_alu.specs.declared.view.HartStatus.{HartStatus}
 use Rattle.rv_alu.specs.declared.view.HartStatus.TheVariants.{Running, Exited, Trapped}
 use Rattle.rv_alu.specs.declared.view.HartView.{HartView}
@@ -28,11 +29,11 @@ use Rattle.run_check.specs.Rules.{count_wrong, most_lines, most_steps, reservati
 use Rattle.run_check.specs.Spelling.{count_in, hart_in, line_in, lines_bytes, output_bytes, patch_bytes, patch_in}
 use Rattle.run_check.specs.Spelling.{reserved_bytes, spelling, status_bytes, stretch_bytes, view_bytes, IsCertificate}
 use Rattle.run_check.specs.Spelling.{IsReserved, IsStatus, IsView}
-use Rattle.run_check.proofs.FieldFaults.{both_none, field_passes, line_count_passes, line_passes, output_passes}
+use Rattle.run_check.proofs.FieldFaults.{field_passes, line_count_passes, line_passes, output_passes}
 use Rattle.run_check.proofs.FieldFaults.{right_passes, stretch_passes, tail_passes, view_passes}
 use Rattle.run_check.proofs.FirstBelow.{each_none}
 use Rattle.run_check.proofs.Items.{patch_is, stretch_is}
-use Rattle.run_check.proofs.Pieces.{behind_all, item_behind}
+use Rattle.run_check.proofs.Pieces.{behind_all, item_behind, register_behind}
 use Rattle.run_check.proofs.RulesSame.{line_below, same_count_rule, same_hart_rule, same_line_rule}
 
 -- ---- what stands at a place
@@ -306,9 +307,6 @@ line_bytes_are c is p k within =
     ap (take 64) s.is ∙ take_at patch.bytes s.rest 64 (is.line_bytes k within)
 
 -- ---- a view
-
-register_behind : (file : List ℕ) (place k : ℕ) → register_at file place (suc k) ≡ number_at file (place + 4 * suc k)
-register_behind file place k = grind (arith, nat_tests)
 
 -- the parts of a view that stands at a place
 record ViewStands (file : List ℕ) (place : ℕ) (view : HartView) : Type 0 where

@@ -1,21 +1,15 @@
 -- what an instruction does to a state, in the order in which code does it
-use Rattle.std.proofs.Common.{◌≡◌, ℕ, List, Option, None, Some, ap, refl, sym, ◌∙◌}
+use Rattle.std.proofs.Common.{◌≡◌, ℕ, List, Option, None, Some, ap, refl, ◌∙◌}
 use Rattle.std.specs.Prelude.{OnSome, slice_set}
 use Rattle.std.proofs.lemmas.List.{map-set}
 use Rattle.el_base.specs.Line.{line_number}
-use Rattle.rv_alu.proofs.Laws.Executions.{store_ends_reservation}
+use Rattle.rv_alu.proofs.Laws.Executions.{store_ends_reservation, unreserved-none}
 use Rattle.rv_alu.specs.declared.action.Action.{Action}
 use Rattle.rv_alu.specs.declared.view.HartView.{HartView}
 use Rattle.rv_alu.specs.Execution.{Append, Execution, Store, append_in, executed, perform, store_in, view_after}
-use Rattle.rv_alu.specs.Reservations.{reserved_off}
 use Rattle.rv_flat.specs.FlatState.{FlatState, view_of}
 use Rattle.rv_flat.specs.Memory.{byte_in}
 use Rattle.rv_flat.specs.Step.{action_of, appended_by, applied, execution_of, stored_by, unreserved, unreserved_by}
-
--- a hart without a reservation loses none
-unreserved-none : (line : ℕ) (view : HartView) → view.reserved ≡ None → unreserved line view ≡ view
-unreserved-none line view none =
-    ap (λ reserved. record view { reserved = reserved_off line reserved }) none ∙ ap (λ reserved. record view { reserved = reserved }) (sym none)
 
 -- a hart that has lost its reservation may be among those that a store reaches
 unreserved_by-set : (store : Option Store) (harts : List HartView) (hart : ℕ) (view : HartView) → OnSome store (view.reserved ≡ None) →

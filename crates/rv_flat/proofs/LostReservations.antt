@@ -17,7 +17,7 @@ use Rattle.rv_flat.specs.Laws.{MakesNoStoreConditional, next_insn, with_reserved
 use Rattle.rv_flat.specs.Memory.{byte_in}
 use Rattle.rv_flat.specs.Run.{run}
 use Rattle.rv_flat.specs.Step.{appended_by, applied, execution_of, flat, status_step, stored_by, unreserved, unreserved_by, with_view}
-use Rattle.rv_flat.proofs.Laws.StepLaws.{keeps_shape, view-applied}
+use Rattle.rv_flat.proofs.Laws.StepLaws.{harts-run, keeps_shape, view-applied}
 
 -- a view after a store, if there is one
 abbrev pub seen_by : Option Store → HartView → HartView
@@ -138,10 +138,6 @@ run_but_reserved state hart reserved (next ∷ harts) there none =
     let goes : IsButReserved hart (run (with_reserved (flat state next) hart step.0) harts) (run (flat state next) harts) =
     run_but_reserved (flat state next) hart step.0 harts (omega (arith, there, (keeps_shape state next).harts)) none.1 in
     (goes.0, ap (λ state. run state harts) step.1 ∙ goes.1)
-
-harts-run : (state : FlatState) (harts : List ℕ) → length (run state harts).harts ≡ length state.harts
-harts-run state [] = refl
-harts-run state (hart ∷ harts) = harts-run (flat state hart) harts ∙ (keeps_shape state hart).harts
 
 -- so two runs with the same left of it come to the same state
 pub run_forgets : (state : FlatState) (hart : ℕ) (reserved : Option ℕ) (harts : List ℕ) → hart < length state.harts →

@@ -1,32 +1,22 @@
 -- the bytes that a port over a section shows
-use Rattle.std.proofs.Common.{◌≡◌, ◌≢◌, ℕ, zero, suc, ◌+◌, ◌-◌, ◌*◌, ◌%◌, ◌<◌, ◌≤◌, ◌&&◌, nat_le, nat_lt, if◌then◌else◌, Bool, true, false, List}
+use Rattle.std.proofs.Common.{◌≡◌, ◌≢◌, ℕ, ◌+◌, ◌-◌, ◌*◌, ◌%◌, ◌<◌, ◌≤◌, ◌&&◌, nat_le, nat_lt, if◌then◌else◌, Bool, true, false, List}
 use Rattle.std.proofs.Common.{length, take, inl, inr, slice_index, Some, refl, ap, sym, subst, ◌∙◌, arith}
 use Rattle.std.specs.Option.{unwrap_or}
 use Rattle.std.proofs.lemmas.Bool.Decides.{nat_tests}
 use Rattle.std.proofs.lemmas.Grind.{common_steps}
 use Rattle.cache_sets.specs.Cached.{Cached, bytes_of, cached_byte}
 use Rattle.core_step.specs.Port.{byte_of, stored}
+use Rattle.core_step.proofs.Laws.Bytes.{stored_inside, stored_outside}
 use Rattle.el_base.specs.Line.{line_number}
 use Rattle.el_base.specs.declared.line.TheConstants.{LINE_BYTES}
 use Rattle.rv_alu.specs.Footprint.{IsSize}
 use Rattle.rv_alu.specs.Loaded.{loaded}
+use Rattle.rv_alu.proofs.Laws.Executions.{loaded_from}
 use Rattle.section_ctl.specs.Shown.{port_byte}
-use Rattle.section_view.proofs.Laws.Bytes.{stored_inside, stored_outside}
 use Rattle.section_view.specs.KeptRun.{held_over}
 use Rattle.section_view.specs.Laws.{AreLowBytes}
 use Rattle.write_hold.specs.Calls.{IsPut}
 use Rattle.write_hold.specs.Held.{Entry, Held, held, held_at, laid, seen_at}
-
--- the same bytes from two places on are the same number
-loaded_from : (left right : ℕ → ℕ) (from start len : ℕ) → ((k : ℕ) → k < len → left (from + k) ≡ right (start + k)) →
-    loaded left from len ≡ loaded right start len
-loaded_from left right from start zero same = refl
-loaded_from left right from start (suc len) same =
-    let first : left from ≡ right start = ap left (omega arith) ∙ same 0 (omega arith) ∙ ap right (omega arith) in
-    let rest : loaded left (from + 1) len ≡ loaded right (start + 1) len =
-    loaded_from left right (from + 1) (start + 1) len
-    (λ k below. ap left (omega arith) ∙ same (k + 1) (omega arith) ∙ ap right (omega arith)) in
-    cc
 
 -- what lies under the hold in a word
 abbrev pub LiesUnder : ℕ → ℕ → Cached → ℕ → List ℕ → Type 0

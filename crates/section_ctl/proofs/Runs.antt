@@ -13,6 +13,7 @@ use Rattle.residency.specs.Residency.{Way}
 use Rattle.core_step.specs.Port.{stored}
 use Rattle.core_step.specs.Run.{ended_by, ended_of, lacking, store_when, view_when}
 use Rattle.core_step.specs.declared.ended.Ended.{Ended}
+use Rattle.core_step.proofs.Laws.Bytes.{stored_inside, stored_outside}
 use Rattle.el_base.specs.declared.outcomes.Need.{Need}
 use Rattle.el_model.specs.Upcoming.{Touch, touch_of}
 use Rattle.run_laws.specs.PrivateRun.{HasItsBit}
@@ -24,7 +25,6 @@ use Rattle.section_ctl.proofs.Room.{room_for_written}
 use Rattle.section_ctl.specs.Calls.{IsCoveredIn}
 use Rattle.section_ctl.specs.Lent.{LendsBoth, MayPut}
 use Rattle.section_ctl.specs.Shown.{IsTouchedLine, permits_one, port_byte}
-use Rattle.section_view.proofs.Laws.Bytes.{stored_inside, stored_outside}
 use Rattle.section_view.proofs.Laws.ShownBytes.{Inside, Outside, in_word}
 use Rattle.section_view.specs.KeptRun.{HoldsMarked, held_over, section_byte}
 use Rattle.section_view.specs.Laws.{HoldsAfter}

@@ -10,6 +10,7 @@ use Rattle.residency.proofs.Laws.MarkLemmas.{write_bits_of-cleared, write_bits_o
 use Rattle.residency.proofs.Laws.MarkLemmas.{write_bits_of-touched}
 use Rattle.residency.proofs.Laws.WellFormedLemmas.{well_formed-cleared, well_formed-committed, well_formed-empty_cache, well_formed-lettered}
 use Rattle.residency.proofs.Laws.WellFormedLemmas.{well_formed-marked, well_formed-touched}
+use Rattle.residency.proofs.Laws.Rooms.{room_cleared}
 use Rattle.el_base.specs.declared.config.Config.{Config}
 use Rattle.el_base.specs.declared.outcomes.Need.{Need}
 use Rattle.el_base.specs.declared.outcomes.Need.TheVariants.{Read, Write}
@@ -20,7 +21,6 @@ use Rattle.el_model.specs.Upcoming.{Touch}
 use Rattle.el_model.proofs.Laws.Tests.{by_test}
 use Rattle.moesi.specs.declared.letter.Letter.TheVariants.{M}
 use Rattle.section_laws.specs.Bounds.{IsShaped}
-use Rattle.section_laws.proofs.Rooms.{room_cleared}
 use Rattle.section_laws.proofs.Laws.ServedCaches.{WritesNoMore, marked_writes, others_room, others_sets, others_well_formed, others_writes, own_after}
 use Rattle.section_laws.proofs.Laws.ServedCaches.{own_after_sets, own_after_well_formed, own_after_write_bit, own_after_writes}
 

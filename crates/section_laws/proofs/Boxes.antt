@@ -13,7 +13,8 @@ use Rattle.defer_list.proofs.Laws.OnceEach.{once_each_cons, once_each_excluded, 
 use Rattle.el_model.proofs.Laws.Tests.{by_test}
 use Rattle.mail.specs.Mailbox.{Marker, Message, Probe, has_message, posted, same_message, without_markers, without_probe}
 use Rattle.mail.proofs.Laws.LookUps.{has_posted_other}
-use Rattle.mail.proofs.Laws.OnceEach.{count_of, count_of_cons, once_each_none, once_each_posted, once_each_without_oldest, same_as_itself, same_is_one}
+use Rattle.mail.proofs.Laws.OnceEach.{count_of, count_of_cons, once_each_none, once_each_posted, once_each_without_oldest, same_is_one}
+use Rattle.mail.proofs.Laws.OnceEach.{first_there}
 use Rattle.section_laws.specs.Messages.{IsMailbox, IsOther, IsSetOfOthers, named, origins, senders}
 
 -- a mailbox without messages, and a set without harts
@@ -42,9 +43,6 @@ NameOthers count h [] = Unit {0}
 NameOthers count h (message ∷ messages) = IsOther count h (named message) × NameOthers count h messages
 
 -- the oldest message is taken
-first_there : (first : Message) (box : List Message) → has_message (first ∷ box) first ≡ true
-first_there first box = ap (λ test. cond test true (has_message box first)) (same_as_itself first)
-
 rest_there : (first message : Message) (box : List Message) → has_message box message ≡ true → has_message (first ∷ box) message ≡ true
 rest_there first message box is = by (same_message first message) is
   where

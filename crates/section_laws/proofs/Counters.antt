@@ -1,6 +1,6 @@
 -- the counters of a predictor stay from 0 to 3
 use Rattle.std.proofs.Common.{◌∙◌, ◌≤◌, ◌+◌, ℕ, zero, suc, Bool, true, false, List, [], ◌∷◌, Option, None, Some, is_some, refl, arith, if◌then◌else◌}
-use Rattle.std.specs.Prelude.{replicate, slice_index, slice_set}
+use Rattle.std.specs.Prelude.{slice_index, slice_set}
 use Rattle.std.proofs.Math.ListN.{length-set}
 use Rattle.std.proofs.Math.Nat.{min-le_right}
 use Rattle.bus_order.specs.Order.{Request}
@@ -16,6 +16,7 @@ use Rattle.pair_table.specs.Predictor.{Predictor, Watch, confidence_of, counted,
 use Rattle.pair_table.specs.declared.seen.Seen.{Seen}
 use Rattle.pair_table.specs.declared.verdict.Verdict.{Verdict}
 use Rattle.pair_table.specs.declared.verdict.Verdict.TheVariants.{Up, Down}
+use Rattle.pair_table.proofs.Laws.Counters.{fresh_counters_small}
 use Rattle.section_laws.specs.EachHart.{AreCounters}
 use Rattle.section_laws.specs.Laws.{CountersStayInRange}
 use Rattle.section_laws.proofs.Laws.EachKept.{EachKept, always_each}
@@ -102,11 +103,6 @@ deed_holds state h (Elides armed swap) hart now = now
 deed_holds state h (Continues armed) hart now = now
 deed_holds state h (LetsGo armed) hart now = now
 
-new_small : (count n : ℕ) → slice_index (replicate count 2) n ≤ 3
-new_small zero n = omega arith
-new_small (suc count) zero = omega arith
-new_small (suc count) (suc n) = new_small count n
-
 kept : EachKept Holds
 kept = record {
   bus = record {
@@ -125,7 +121,7 @@ kept = record {
     bystander = λ h state request hart now. now;
   };
   deed = λ state h deed does now. deed_holds state h deed (hart_of state h) now;
-  new = λ sets. record { all = refl; small = new_small 64 };
+  new = λ sets. record { all = refl; small = fresh_counters_small 64 };
 }
 
 pub counters_stay_in_range : CountersStayInRange

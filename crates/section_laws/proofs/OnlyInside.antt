@@ -1,18 +1,15 @@
 -- only live and armed sections have bits
-use Rattle.std.proofs.Common.{◌≡◌, ℕ, Bool, true, false, List, [], ◌∷◌, Option, None, Some, is_some, map, refl, sym, ◌∙◌}
-use Rattle.std.specs.List.{list_any}
+use Rattle.std.proofs.Common.{◌≡◌, ℕ, Bool, false, Option, None, Some, is_some, refl, sym, ◌∙◌}
 use Rattle.bus_order.specs.Order.{Request}
-use Rattle.residency.specs.Cache.{committed, committed_way, has_marks, is_resident}
-use Rattle.residency.specs.Residency.{Way, is_marked}
-use Rattle.residency.proofs.Laws.Unmarked.{unmarked-cleared, unmarked-empty, unmarked-filled_with, unmarked-lettered, unmarked-touched, unmarked-without_line}
-use Rattle.el_base.specs.declared.outcomes.Need.{Need}
-use Rattle.el_base.specs.declared.outcomes.Need.TheVariants.{Read, Write}
+use Rattle.residency.specs.Cache.{has_marks}
+use Rattle.residency.proofs.Laws.Unmarked.{unmarked-cleared, unmarked-empty, unmarked-touched}
+use Rattle.residency.proofs.Laws.MarkLemmas.{has_marks-committed}
 use Rattle.el_model.specs.Deed.{Arms, Begins, Buffers, Commits, Continues, Deed, Elides, LetsGo, Misses, Rests, RollsBack, Runs, Waits, hart_after}
-use Rattle.el_model.specs.Plain.{after_access, after_candidate, after_touch, candidate_of}
-use Rattle.el_model.specs.Serve.{given_up, others_cache, own_copy, with_claim}
+use Rattle.el_model.specs.Plain.{after_candidate, candidate_of}
+use Rattle.el_model.specs.Serve.{with_claim}
 use Rattle.el_model.specs.State.{Hart, ModelState, Section, hart_of}
-use Rattle.el_model.specs.Upcoming.{Swap, Touch}
-use Rattle.el_model.proofs.Laws.Tests.{by_test}
+use Rattle.el_model.specs.Upcoming.{Swap}
+use Rattle.el_model.proofs.Laws.Unmarked.{others_unmarked, own_unmarked, touch_unmarked}
 use Rattle.section_laws.specs.EachHart.{HasBitsOnlyInside}
 use Rattle.section_laws.specs.Laws.{OnlyLiveSectionsHaveBits}
 use Rattle.section_laws.proofs.Laws.EachKept.{EachKept, always_each}
@@ -23,46 +20,13 @@ Holds hart = HasBitsOnlyInside hart.section hart.armed hart.cache
 some_live : {A X : Type 0} {x : A} → Some x ≡ None → X
 some_live wrong = absurd (cc)
 
-committed_set : (set : List Way) → list_any is_marked (map committed_way set) ≡ false
-committed_set [] = refl
-committed_set (way ∷ ways) = committed_set ways
-
-unmarked-committed : (cache : List (List Way)) → has_marks (committed cache) ≡ false
-unmarked-committed [] = refl
-unmarked-committed (set ∷ sets) = rw (committed_set set) (unmarked-committed sets)
-
 -- a request is served
-own_unmarked : (ways : ℕ) (others : Bool) (need : Need) (cache : List (List Way)) (line : ℕ) → has_marks cache ≡ false →
-    has_marks (own_copy ways others need cache line) ≡ false
-own_unmarked ways others need cache line bare =
-    by_test (λ copy. has_marks copy ≡ false) (is_resident cache line) _ _ (λ had. unmarked-lettered cache line _ bare)
-    (λ new. unmarked-filled_with ways cache line _ bare)
-
-given_unmarked : (need : Need) (cache : List (List Way)) (line : ℕ) → has_marks cache ≡ false → has_marks (given_up need cache line) ≡ false
-given_unmarked Write cache line bare = unmarked-without_line cache line bare
-given_unmarked Read cache line bare = unmarked-lettered cache line _ bare
-
-others_unmarked : (had : Bool) (need : Need) (cache : List (List Way)) (line : ℕ) → has_marks cache ≡ false →
-    has_marks (others_cache had need cache line) ≡ false
-others_unmarked had Write cache line bare = given_unmarked Write cache line bare
-others_unmarked true Read cache line bare = bare
-others_unmarked false Read cache line bare = given_unmarked Read cache line bare
-
 claim_holds : (live : Option Section) (request : Request) (hart : Hart) → hart.section ≡ live →
     (live ≡ None → hart.armed ≡ None → has_marks hart.cache ≡ false) → Holds (with_claim (is_some live) request hart)
 claim_holds None request hart is bare none unarmed = bare refl unarmed
 claim_holds (Some section) request hart is bare none unarmed = some_live (sym is ∙ none)
 
 -- a deed
-access_unmarked : (cache : List (List Way)) (line : ℕ) (need : Need) → has_marks cache ≡ false →
-    has_marks (after_access cache line need) ≡ false
-access_unmarked cache line Read bare = unmarked-touched cache line bare
-access_unmarked cache line Write bare = unmarked-lettered _ line _ (unmarked-touched cache line bare)
-
-touch_unmarked : (cache : List (List Way)) (touch : Option Touch) → has_marks cache ≡ false → has_marks (after_touch cache touch) ≡ false
-touch_unmarked cache None bare = bare
-touch_unmarked cache (Some touch) bare = access_unmarked cache touch.line touch.need bare
-
 candidate_holds : (pc : Option ℕ) (had_watch : Bool) (candidate : Option Swap) (hart : Hart) → Holds hart →
     Holds (after_candidate pc had_watch candidate hart)
 candidate_holds pc had_watch None hart now = now
@@ -76,7 +40,7 @@ deed_holds state h (Runs touch) hart now =
     candidate_holds _ _ (candidate_of state h) _ (λ none unarmed. touch_unmarked hart.cache touch (now none unarmed))
 deed_holds state h (Begins swap) hart now = λ none unarmed. some_live none
 deed_holds state h (Buffers section touch) hart now = λ none unarmed. some_live none
-deed_holds state h (Commits section) hart now = λ none unarmed. unmarked-committed hart.cache
+deed_holds state h (Commits section) hart now = λ none unarmed. has_marks-committed hart.cache
 deed_holds state h (RollsBack section cause) hart now = λ none unarmed. unmarked-cleared hart.cache
 deed_holds state h (Arms word) hart now = λ none unarmed. some_live unarmed
 deed_holds state h (Elides armed swap) hart now = λ none unarmed. some_live none

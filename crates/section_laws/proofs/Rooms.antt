@@ -1,15 +1,13 @@
--- a line that has room in a cache still has, after a line left it or changed its letter, and after its bits were cleared
-use Rattle.std.proofs.Common.{◌≡◌, ◌∙◌, ℕ, zero, suc, ◌<◌, ◌≤◌, ◌==◌, ◌||◌, ◌⊎◌, Bool, true, false, cond, List, [], ◌∷◌, length, map, Option, Some}
+-- a line that has room in a cache still has, after a line left it or changed its letter
+use Rattle.std.proofs.Common.{◌≡◌, ◌∙◌, ℕ, suc, ◌<◌, ◌≤◌, ◌==◌, ◌||◌, ◌⊎◌, Bool, true, false, cond, List, [], ◌∷◌, length, Option, Some}
 use Rattle.std.proofs.Common.{is_some, refl, ap, sym, inl, inr, arith}
-use Rattle.std.specs.List.{list_any}
 use Rattle.std.specs.Prelude.{nat_lt, slice_index_or}
 use Rattle.std.proofs.lemmas.Bool.{cases_eq}
-use Rattle.std.proofs.lemmas.Bool.Decides.{nat_tests}
-use Rattle.std.proofs.lemmas.List.{get_or-map, length-map}
-use Rattle.residency.specs.Cache.{cleared, has_marks, lettered, room_of, set_number, set_of, with_set, without_line}
-use Rattle.residency.specs.Residency.{Way, changed_in, dropped, has_unmarked, is_marked, room_in, way_in, with_letter, without_bits}
+use Rattle.residency.specs.Cache.{lettered, room_of, set_number, set_of, with_set, without_line}
+use Rattle.residency.specs.Residency.{Way, changed_in, dropped, has_unmarked, is_marked, room_in, way_in, with_letter}
 use Rattle.residency.specs.WellFormed.{IsWellFormed}
 use Rattle.residency.proofs.Laws.CacheLemmas.{set_of-with_set_other, set_of-with_set_same}
+use Rattle.residency.proofs.Laws.Rooms.{room_by_spare}
 use Rattle.el_model.proofs.Laws.Tests.{by_test}
 use Rattle.moesi.specs.declared.letter.Letter.{Letter}
 
@@ -28,22 +26,6 @@ room_by false false true d e f here fewer free is = let now = free refl in rw no
     or_last true = refl
     or_last false = refl
 room_by false false false d e f here fewer free is = absurd (cc)
-
-room_by_spare : (ways : ℕ) (set : List Way) (line : ℕ) → length set < ways → room_in ways set line ≡ true
-room_by_spare ways set line fewer = by (is_some (way_in set line)) (nat_lt (length set) ways) (has_unmarked set) (grind (arith, nat_tests))
-  where
-    by : (a b c : Bool) → b ≡ true → (a || b || c) ≡ true
-    by true b c is = refl
-    by false true c is = refl
-    by false false c is = absurd (cc)
-
-room_by_unmarked : (ways : ℕ) (set : List Way) (line : ℕ) → has_unmarked set ≡ true → room_in ways set line ≡ true
-room_by_unmarked ways set line free = by (is_some (way_in set line)) (nat_lt (length set) ways) (has_unmarked set) free
-  where
-    by : (a b c : Bool) → c ≡ true → (a || b || c) ≡ true
-    by true b c is = refl
-    by false true c is = refl
-    by false false c is = is
 
 -- a set without a line is the set, or has fewer lines
 shorter : (set : List Way) (line : ℕ) → (dropped set line ≡ set) ⊎ (length (dropped set line) < length set)
@@ -120,42 +102,3 @@ pub room_lettered : (ways : ℕ) (cache : List (List Way)) (line l : ℕ) (lette
     room_of ways (lettered cache line letter) l ≡ true
 room_lettered ways cache line l letter well room =
     in_set ways cache line l _ well.some_set (room_letter letter ways (set_of cache line) line l) room
-
--- a cache without bits has room for each line, where it has a way
-bare_room : (ways : ℕ) (set : List Way) (line : ℕ) → 1 ≤ ways → room_in ways (map without_bits set) line ≡ true
-bare_room ways [] line some = room_by_spare ways [] line some
-bare_room ways (way ∷ set) line some = room_by_unmarked ways (map without_bits (way ∷ set)) line refl
-
-set_of_cleared : (cache : List (List Way)) (line : ℕ) → set_of (cleared cache) line ≡ map without_bits (set_of cache line)
-set_of_cleared [] line = refl
-set_of_cleared (first ∷ cache) line =
-    let whole = first ∷ cache in
-    rw (length-map whole (map without_bits)) (get_or-map (map without_bits) whole (set_number whole line) [] [] (omega arith))
-
-pub room_cleared : (ways : ℕ) (cache : List (List Way)) (line : ℕ) → 1 ≤ ways → room_of ways (cleared cache) line ≡ true
-room_cleared ways cache line some =
-    ap (λ set. room_in ways set line) (set_of_cleared cache line) ∙ bare_room ways (set_of cache line) line some
-
-unmarked_set : (ways : ℕ) (set : List Way) (line : ℕ) → 1 ≤ ways → list_any is_marked set ≡ false → room_in ways set line ≡ true
-unmarked_set ways [] line some bare = room_by_spare ways [] line some
-unmarked_set ways (way ∷ set) line some bare = room_by_unmarked ways (way ∷ set) line (by (is_marked way) (list_any is_marked set) bare)
-  where
-    by : (marked later : Bool) → (marked || later) ≡ false → cond marked (has_unmarked set) true ≡ true
-    by true later is = absurd (cc)
-    by false later is = refl
-
-unmarked_at : (cache : List (List Way)) (n : ℕ) → has_marks cache ≡ false → list_any is_marked (slice_index_or cache n []) ≡ false
-unmarked_at [] n bare = refl
-unmarked_at (set ∷ cache) zero bare = first (list_any is_marked set) (has_marks cache) bare
-  where
-    first : (a b : Bool) → (a || b) ≡ false → a ≡ false
-    first true b is = absurd (cc)
-    first false b is = refl
-unmarked_at (set ∷ cache) (suc n) bare = unmarked_at cache n (second (list_any is_marked set) (has_marks cache) bare)
-  where
-    second : (a b : Bool) → (a || b) ≡ false → b ≡ false
-    second true b is = absurd (cc)
-    second false b is = is
-
-pub room_unmarked : (ways : ℕ) (cache : List (List Way)) (line : ℕ) → 1 ≤ ways → has_marks cache ≡ false → room_of ways cache line ≡ true
-room_unmarked ways cache line some bare = unmarked_set ways (set_of cache line) line some (unmarked_at cache (set_number cache line) bare)

@@ -1,10 +1,11 @@
 -- what a served request does to the copies of its line, and to the other lines
-use Rattle.std.proofs.Common.{◌≡◌, ◌≢◌, ◌∙◌, ℕ, Bool, true, false, List, [], ◌∷◌, Option, None, Some, is_some, option_map, refl, ap, sym, subst, inl, inr, ◌⊎◌, arith}
+use Rattle.std.proofs.Common.{◌≡◌, ◌≢◌, ◌∙◌, ℕ, Bool, true, false, List, [], ◌∷◌, Option, None, Some, option_map, refl, ap, sym, subst, inl, inr, ◌⊎◌, arith}
 use Rattle.residency.specs.Cache.{filled_with, is_resident, letter_in, letter_of, lettered, way_of}
 use Rattle.residency.specs.Residency.{Way, with_letter}
 use Rattle.residency.proofs.Laws.CacheLemmas.{way_of-filled_with_same, way_of-lettered_other, way_of-lettered_same, way_of-without_line_same}
 use Rattle.el_base.specs.declared.outcomes.Need.{Need}
 use Rattle.el_base.specs.declared.outcomes.Need.TheVariants.{Read, Write}
+use Rattle.el_base.proofs.Laws.Options.{none_from}
 use Rattle.el_model.specs.Serve.{kept_letter, others_cache, own_copy}
 use Rattle.el_model.proofs.Laws.Tests.{by_test}
 use Rattle.moesi.specs.Letters.{filled_of, may_write, on_read_of}
@@ -142,10 +143,6 @@ shared_fill (Some own) (Some other) letter (is, write) = record {
     never : S ≡ O → ⊥
     never same = absurd (cc)
 
-not_resident : (way : Option Way) → is_some way ≡ false → way ≡ None
-not_resident None none = refl
-not_resident (Some way) none = absurd (cc)
-
 pub own_together : (ways : ℕ) (others : Bool) (need : Need) (cache other : List (List Way)) (line : ℕ) →
     (others ≡ false → is_resident other line ≡ false) → MayBeTogether (way_of cache line) (way_of other line) →
     MayBeTogether (way_of (own_copy ways others need cache line) line) (way_of (others_cache (is_resident cache line) need other line) line)
@@ -164,6 +161,6 @@ own_together ways others Read cache other line absent now = by (is_resident cach
         (shared_fill (way_of (own_copy ways others Read cache line) line) (way_of other line) (letter_of other line)
         (subst (λ letter. IsNew letter (way_of (own_copy ways others Read cache line) line)) (ap (filled_of Read) which) new))
     by false is false which =
-        let none = not_resident (way_of other line) (absent which) in
+        let none = none_from (way_of other line) (absent which) in
         rw (way_of-lettered_same other line (on_read_of (letter_of other line)))
         (rw none (together_none (way_of (own_copy ways others Read cache line) line)))

@@ -1,5 +1,5 @@
 -- what a fate leaves of a hart
-use Rattle.std.proofs.Common.{◌≡◌, ◌∙◌, ℕ, ◌+◌, ◌≤◌, Bool, true, false, not, ◌&&◌, ◌==◌, List, [], ◌∷◌, length, Option, None, is_some}
+use Rattle.std.proofs.Common.{◌≡◌, ◌∙◌, ℕ, ◌+◌, ◌≤◌, Bool, true, false, not, ◌&&◌, ◌==◌, List, [], ◌∷◌, length, Option, is_some}
 use Rattle.std.proofs.Common.{refl, ap, sym, if◌then◌else◌}
 use Rattle.bus_order.specs.Order.{Request}
 use Rattle.bus_order.proofs.Laws.LookUps.{own_test}
@@ -13,6 +13,7 @@ use Rattle.el_model.specs.RollBack.{beaten, most_tries, out_of_section}
 use Rattle.el_model.specs.State.{Hart, ModelState, new_hart, post_all}
 use Rattle.el_model.proofs.Laws.Harts.{hart_of-past}
 use Rattle.el_model.proofs.Laws.Losing.{no_section_meets}
+use Rattle.el_model.proofs.Laws.HartParts.{beaten_armed}
 use Rattle.mail.specs.Mailbox.{Message, posted}
 use Rattle.snoop.proofs.Laws.Living.{TellsSection, live_unarmed, tells_cleared, tells_yet}
 use Rattle.snoop.specs.Agent.{agent_of, agent_seeing}
@@ -53,11 +54,6 @@ pub beaten_live : (mode : Mode) (stamp : Option Stamp) (hart : Hart) → is_some
 beaten_live Tlr stamp hart = refl
 beaten_live Sle stamp hart = try_kept (λ h. is_some h.section) (out_of_section hart) (λ h tries fallback. refl) (hart.tries + 1 == most_tries)
 beaten_live Plain stamp hart = try_kept (λ h. is_some h.section) (out_of_section hart) (λ h tries fallback. refl) (hart.tries + 1 == most_tries)
-
-beaten_armed : (mode : Mode) (stamp : Option Stamp) (hart : Hart) → (beaten mode stamp hart).armed ≡ None
-beaten_armed Tlr stamp hart = refl
-beaten_armed Sle stamp hart = try_kept (λ h. h.armed) (out_of_section hart) (λ h tries fallback. refl) (hart.tries + 1 == most_tries)
-beaten_armed Plain stamp hart = try_kept (λ h. h.armed) (out_of_section hart) (λ h tries fallback. refl) (hart.tries + 1 == most_tries)
 
 pub beaten_tells : (mode : Mode) (stamp : Option Stamp) (hart : Hart) → TellsSection (beaten mode stamp hart)
 beaten_tells mode stamp hart =

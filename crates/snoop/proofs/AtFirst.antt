@@ -1,13 +1,13 @@
 -- what the bus shows before the first event
-use Rattle.std.proofs.Common.{◌≡◌, ◌∙◌, ◌<◌, ◌≤◌, ℕ, zero, suc, ◌*◌, true, false, [], length, replicate, Option, None, Some, refl, ap, sym, subst, arith}
+use Rattle.std.proofs.Common.{◌≡◌, ◌∙◌, ◌<◌, ◌≤◌, ℕ, zero, suc, ◌*◌, true, [], length, replicate, Option, None, Some, refl, ap, sym, subst, arith}
 use Rattle.std.specs.Prelude.{slice_index_or}
 use Rattle.std.proofs.lemmas.Bool.Decides.{nat_tests}
 use Rattle.std.proofs.lemmas.List.{length-replicate}
 use Rattle.bus_order.specs.Order.{Request, request_of}
-use Rattle.residency.specs.Cache.{empty_cache, has_marks}
 use Rattle.cache_sets.specs.Cached.{empty_cached}
 use Rattle.residency.specs.WellFormed.{IsWellFormed}
 use Rattle.residency.proofs.Laws.WellFormedLemmas.{well_formed-empty_cache}
+use Rattle.residency.proofs.Laws.Unmarked.{unmarked-empty}
 use Rattle.coherence.specs.Caches.{cache_at}
 use Rattle.coherence.specs.Lent.{lent_all}
 use Rattle.coherence.proofs.Laws.Offered.{length-lent, lent_at}
@@ -45,13 +45,9 @@ ways_new (suc harts) ways sets zero below = refl
 ways_new (suc harts) ways sets (suc h) below = ways_new harts ways sets h (omega (arith, below))
 
 -- no new hart has a section, nor a bit in its cache
-no_marks : (sets : ℕ) → has_marks (empty_cache sets) ≡ false
-no_marks zero = refl
-no_marks (suc sets) = no_marks sets
-
 none_live : (harts sets h : ℕ) → TellsSection (slice_index_or (replicate harts (new_hart sets)) h (new_hart 0))
 none_live zero sets h = record { live = refl; arms = refl }
-none_live (suc harts) sets zero = record { live = rw (no_marks sets) refl; arms = refl }
+none_live (suc harts) sets zero = record { live = rw (unmarked-empty sets) refl; arms = refl }
 none_live (suc harts) sets (suc h) = none_live harts sets h
 
 -- the parts of the bus before the first event

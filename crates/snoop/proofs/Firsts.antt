@@ -1,9 +1,10 @@
 -- the first of all harts of which a test holds, from the last one down
-use Rattle.std.proofs.Common.{◌≡◌, ◌∙◌, ℕ, zero, suc, ◌+◌, ◌-◌, ◌<◌, ◌≤◌, Bool, false, List, [], ◌∷◌, drop, length, Option, Some, None}
+use Rattle.std.proofs.Common.{◌≡◌, ◌∙◌, ℕ, zero, suc, ◌+◌, ◌-◌, ◌<◌, ◌≤◌, Bool, List, [], ◌∷◌, drop, length, Option, Some, None}
 use Rattle.std.proofs.Common.{refl, ap, sym, arith, if◌then◌else◌}
 use Rattle.bus_order.specs.Order.{first_of}
 use Rattle.el_model.specs.Conflicts.{conflicts_with, first_such, retainer_of, retains}
 use Rattle.el_model.specs.State.{Hart, ModelState, count_up, hart_of, numbers_of}
+use Rattle.el_model.proofs.Laws.Conflicts.{none_first}
 use Rattle.snoop.specs.Shows.{Kept, Shows}
 
 -- of the harts past the last one there is none
@@ -37,12 +38,8 @@ next_first test harts n found later some below was is =
     is ∙ ap (λ other. if test (n - 1) then Some (n - 1) else other) was
     ∙ sym (one_earlier test harts (n - 1) n (omega (arith, some)) below)
 
-no_such : (test : ℕ → Bool) (numbers : List ℕ) → ((h : ℕ) → test h ≡ false) → first_such test numbers ≡ None
-no_such test [] none = refl
-no_such test (h ∷ others) none = ap (λ found. if found then Some h else first_such test others) (none h) ∙ no_such test others none
-
 -- a line without requests is retained by nobody
 pub nobody_retains : (bus : Kept) (state : ModelState) (line : ℕ) → Shows bus state → first_of bus.order line ≡ None → retainer_of state line ≡ None
 nobody_retains bus state line shows none =
-    no_such (λ h. retains state h line) (numbers_of state)
+    none_first (λ h. retains state h line) (numbers_of state)
     (λ h. ap (λ head. conflicts_with head h (hart_of state h)) (ap (λ order. first_of order line) (sym shows.order) ∙ none))

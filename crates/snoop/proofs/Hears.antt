@@ -1,5 +1,5 @@
 -- the bus shows what the definition makes of a probe
-use Rattle.std.proofs.Common.{◌≡◌, ◌≢◌, ◌∙◌, ℕ, ◌<◌, ◌≤◌, ◌==◌, ◌&&◌, not, Bool, true, false, List, length, Option, Some, None, is_some, refl}
+use Rattle.std.proofs.Common.{◌≡◌, ◌≢◌, ◌∙◌, ℕ, ◌<◌, ◌≤◌, ◌==◌, ◌&&◌, not, Bool, true, false, List, length, Option, Some, None, refl}
 use Rattle.std.proofs.Common.{ap, sym, subst, inl, inr, arith, if◌then◌else◌}
 use Rattle.std.proofs.lemmas.Bool.{cases_eq, cases_lt}
 use Rattle.std.proofs.lemmas.List.{length-set}
@@ -13,13 +13,14 @@ use Rattle.el_base.specs.Losers.{beaten_by}
 use Rattle.el_base.specs.declared.losers.Losers.{Losers}
 use Rattle.el_base.proofs.Laws.MadeLosers.{beaten_by-beyond, beaten_by-losers_of}
 use Rattle.el_base.proofs.Laws.SameLosers.{same_losers}
-use Rattle.el_model.specs.Conflicts.{conflicts_with, meets_bit, retains, stamp_in}
+use Rattle.el_model.specs.Conflicts.{retains, stamp_in}
 use Rattle.el_model.specs.Deliver.{after_probe, forwarded, forwards_on, loses_to_origin, one_lost, told_of}
 use Rattle.el_model.specs.Plain.{armed_count}
 use Rattle.el_model.specs.RollBack.{beaten}
 use Rattle.el_model.specs.State.{Hart, ModelState, armed_of, cache_of, each_hart, hart_of, head_of, with_hart}
 use Rattle.el_model.proofs.Laws.Harts.{hart_of-with_hart_other, hart_of-with_hart_same, with_hart_kept}
 use Rattle.el_model.proofs.Laws.Tests.{by_test}
+use Rattle.el_model.proofs.Laws.Conflicts.{loser_lives}
 use Rattle.mail.specs.Mailbox.{Probe, posted}
 use Rattle.snoop.specs.Agent.{Agent, agent_at, agent_of, agent_posted, with_agent}
 use Rattle.snoop.specs.Delivering.{Forwards, IsForwarded, IsLostTo, agent_heard, asks_on}
@@ -80,15 +81,6 @@ lost_tells bus state h origin request shows inside g = elim (cases_eq g h) [
 ]
 
 -- a hart that loses to an origin had a live section, and was not armed
-loser_lives : (head : Option Request) (h : ℕ) (hart : Hart) → conflicts_with head h hart ≡ true → is_some hart.section ≡ true
-loser_lives None h hart is = absurd (cc)
-loser_lives (Some head) h hart is = by (not (head.hart == h)) (is_some hart.section) (meets_bit hart head.line head.need) is
-  where
-    by : (apart live meets : Bool) → ((apart && live) && meets) ≡ true → live ≡ true
-    by true true meets is = refl
-    by true false meets is = absurd (cc)
-    by false live meets is = absurd (cc)
-
 loser_unarmed : (bus : Kept) (state : ModelState) (h : ℕ) (request : Option Request) → Shows bus state → loses_to_origin state h request ≡ true →
     armed_count (armed_of state h) ≡ 0
 loser_unarmed bus state h None shows loses = absurd (cc)

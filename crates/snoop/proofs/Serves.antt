@@ -19,11 +19,13 @@ use Rattle.coherence.specs.Served.{Copies, StaysCoherent, lines_after}
 use Rattle.coherence.proofs.Laws.Offered.{length-lent, lent_at}
 use Rattle.el_base.specs.declared.outcomes.Need.{Need}
 use Rattle.el_base.specs.declared.outcomes.Need.TheVariants.{Write}
+use Rattle.el_base.proofs.Laws.Options.{none_nor_some}
 use Rattle.el_model.specs.Conflicts.{meets_bit}
 use Rattle.el_model.specs.Serve.{Free, bystander, obstacle_to, others_cache, others_have, own_copy, served}
 use Rattle.el_model.specs.Serve.{served_hart, serving, with_claim}
 use Rattle.el_model.specs.Plain.{armed_count}
 use Rattle.el_model.specs.State.{Armed, Hart, ModelState, Section, armed_of, cache_of, count_up, each_hart, hart_of, is_live, section_of}
+use Rattle.el_model.proofs.Laws.HartParts.{claim_armed, claim_section}
 use Rattle.snoop.specs.Agent.{Agent, agent_at, agent_forgetting, agent_of, agent_served}
 use Rattle.snoop.specs.Serving.{CopiesClaim, CopiesServe, Serves, agent_after_serve, agent_claiming}
 use Rattle.line_pool.specs.Pooled.{Pooled}
@@ -189,14 +191,6 @@ claim_cache : (live : Bool) (request : Request) (hart : Hart) →
     (with_claim live request hart).cache ≡ claimed_cache live request.line request.need hart.cache
 claim_cache true request hart = refl
 claim_cache false request hart = refl
-
-claim_section : (live : Bool) (request : Request) (hart : Hart) → (with_claim live request hart).section ≡ hart.section
-claim_section true request hart = refl
-claim_section false request hart = refl
-
-claim_armed : (live : Bool) (request : Request) (hart : Hart) → (with_claim live request hart).armed ≡ hart.armed
-claim_armed true request hart = refl
-claim_armed false request hart = refl
 
 claim_agent : (live : Bool) (request : Request) (hart : Hart) → agent_of (with_claim live request hart) ≡ agent_claiming live request.line (agent_of hart)
 claim_agent true request hart = refl
@@ -428,10 +422,6 @@ raised_after live request g agent =
       | inr other ↦ ap (λ (a : Agent). a.raised) (at_other g request.hart _ _ other)
     ]
 
-none_some : {X : Type 0} (found : Option Request) (request : Request) → found ≡ None → found ≡ Some request → X
-none_some None request none some = absurd (cc)
-none_some (Some other) request none some = absurd (cc)
-
 no_room : false ≡ true → ⊥
 no_room is = absurd (cc)
 
@@ -450,11 +440,12 @@ serve_ready bus new request before after ready ordered serves = ready_after bus 
   once = subst (λ order. IsOneEach order) (sym serves.order) (one_each_removed bus.order request.hart ready.once);
   raised = λ g other is. let was = raised_before g other is in record {
     is = was;
-    room = room g other.line (λ same. none_some (request_of bus.order g) request (ready.one_request g other was) (ap (request_of bus.order) same ∙ ordered));
+    room = room g other.line (λ same. none_nor_some (request_of bus.order g) request
+        (ready.one_request g other was) (ap (request_of bus.order) same ∙ ordered));
   };
   ordered = λ g other is. let found = ap (λ order. request_of order g) (sym serves.order) ∙ is in
       elim (cases_eq g request.hart) [
-        | inl same ↦ none_some (request_of (removed bus.order request.hart) g) other
+        | inl same ↦ none_nor_some (request_of (removed bus.order request.hart) g) other
             (ap (request_of (removed bus.order request.hart)) same ∙ request_of_removed_own bus.order request.hart) found
         | inr apart ↦ record {
           is = sym (request_of_removed_other bus.order request.hart g (λ same. apart (sym same))) ∙ found;
@@ -478,7 +469,7 @@ serve_ready bus new request before after ready ordered serves = ready_after bus 
     raised_before g other is =
         elim (cases_lt g (length bus.agents)) [
           | inl below ↦ sym (raised_after _ request g (agent_at bus.agents g)) ∙ ap (λ a. a.raised) (sym (serves.agents.each g below)) ∙ is
-          | inr past ↦ none_some (agent_at new.agents g).raised other
+          | inr past ↦ none_nor_some (agent_at new.agents g).raised other
               (ap (λ a. a.raised) (agent_past new.agents g (omega (arith, past, serves.agents.count)))) is
         ]
 

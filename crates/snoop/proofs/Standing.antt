@@ -10,14 +10,11 @@ use Rattle.bus_order.specs.declared.request.Request as requests
 use Rattle.residency.specs.WellFormed.{IsWellFormed}
 use Rattle.coherence.specs.Lent.{slotted_at}
 use Rattle.el_base.specs.declared.config.Mode.{Mode}
+use Rattle.el_base.proofs.Laws.Options.{none_nor_some}
 use Rattle.snoop.proofs.Ready.{few_armed_yet, served_yet}
 use Rattle.snoop.proofs.Showing.{agent_other, agent_same, count_with_agent}
 use Rattle.snoop.specs.Agent.{Agent, agent_at, with_agent}
 use Rattle.snoop.specs.Shows.{CanBeServed, Holding, IsReady, Kept}
-
-none_is : {A : Type 0} (found : Option Request) (request : Request) → found ≡ None → found ≡ Some request → A
-none_is None request first second = absurd (cc)
-none_is (Some other) request first second = absurd (cc)
 
 pub ready_at_rest : (mode : Mode) (copies : Holding) (agents : List Agent) → length agents ≤ 8 →
     length copies.caches ≡ length agents →
@@ -28,7 +25,7 @@ ready_at_rest mode copies agents few each formed none few_armed = record {
   few = few;
   each = each;
   well_formed = formed;
-  raised = λ h request is. none_is (agent_at agents h).raised request (none h) is;
+  raised = λ h request is. none_nor_some (agent_at agents h).raised request (none h) is;
   ordered = λ h request is. absurd (cc);
   once = one_each_none;
   one_request = λ h request is. refl;

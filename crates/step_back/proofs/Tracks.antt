@@ -1,29 +1,19 @@
 -- a run that goes on by a step, or back by one
-use Rattle.std.proofs.Common.{◌≡◌, ℕ, List, [], ◌∷◌, ◌++◌, length, refl, ap, sym, ◌∙◌, subst}
+use Rattle.std.proofs.Common.{◌≡◌, List, [], ◌∷◌, ◌++◌, length, ap, sym, ◌∙◌, subst}
 use Rattle.std.proofs.lemmas.List.{length-map, map-append}
-use Rattle.std.proofs.lemmas.List.FromFn.{length-map-range_with_len}
 use Rattle.elf_image.specs.Program.{Program}
-use Rattle.rv_flat.proofs.Laws.StepLaws.{keeps_shape, run_append}
+use Rattle.rv_flat.proofs.Laws.StepLaws.{harts-run, run_append, start_harts}
 use Rattle.rv_flat.specs.declared.change.Change.{Change}
 use Rattle.rv_flat.specs.Change.{IsLeftBy}
-use Rattle.rv_flat.specs.FlatState.{FlatState, first_view, start}
+use Rattle.rv_flat.specs.FlatState.{FlatState, start}
 use Rattle.rv_flat.specs.Run.{run}
 use Rattle.rv_flat.specs.Step.{flat}
 use Rattle.step_back.specs.Track.{AreLeftBy, IsTracked, harts_of}
 
--- a run keeps the harts that there are
-harts-run : (state : FlatState) (harts : List ℕ) → length (run state harts).harts ≡ length state.harts
-harts-run state [] = refl
-harts-run state (hart ∷ harts) = harts-run (flat state hart) harts ∙ (keeps_shape state hart).harts
-
-harts-start : (program : Program) → length (start program).harts ≡ program.harts
-unfolding start
-harts-start program = length-map-range_with_len (first_view program) 0 program.harts
-
 pub harts-tracked : (program : Program) (state : FlatState) (changes : List Change) → IsTracked program state changes →
     length state.harts ≡ program.harts
 harts-tracked program state changes is =
-    ap (λ state. length state.harts) is.reached ∙ harts-run (start program) (harts_of changes) ∙ harts-start program
+    ap (λ state. length state.harts) is.reached ∙ harts-run (start program) (harts_of changes) ∙ start_harts program
 
 pub length-harts_of : (changes : List Change) → length (harts_of changes) ≡ length changes
 length-harts_of changes = length-map changes (λ change. change.hart.number)

@@ -1,5 +1,5 @@
 -- a hart stands after its step as its deed says
-use Rattle.std.proofs.Common.{◌≡◌, ◌∙◌, ◌<◌, ℕ, List, length, refl, ap, sym, subst, inl, inr, ◌⊎◌, arith}
+use Rattle.std.proofs.Common.{◌≡◌, ◌∙◌, ℕ, List, refl, ap, sym, subst, inl, inr, ◌⊎◌}
 use Rattle.el_base.specs.declared.config.Config.{Config}
 use Rattle.el_base.specs.declared.events.Event.{Event}
 use Rattle.el_base.specs.declared.events.Kind.TheVariants as kinds
@@ -13,17 +13,12 @@ use Rattle.el_model.specs.State.{ModelState, begin, hart_of}
 use Rattle.el_model.proofs.Laws.BusEvents.{by_event}
 use Rattle.el_model.proofs.Laws.FromStart.{kept_after, steps_are_deeds}
 use Rattle.el_model.proofs.Laws.Harts.{hart_of-with_hart_same, with_hart_kept}
+use Rattle.el_model.proofs.Laws.Deeds.{is_rolled}
 use Rattle.rv_alu.specs.declared.view.HartStatus.TheVariants.{Running}
-use Rattle.rv_flat.proofs.Laws.RunsAfter.{runs-exists}
 use Rattle.rv_flat.specs.FlatState.{status_of}
 use Rattle.rv_flat.specs.Run.{alone}
-use Rattle.section_laws.proofs.Laws.Lengths.{AsMany, first_as_many, next_as_many}
-use Rattle.section_laws.proofs.Laws.Waiting.{is_rolled}
+use Rattle.section_laws.proofs.Laws.Lengths.{AsMany, first_as_many, next_as_many, runs_exists}
 use Rattle.step_laws.specs.OwnSteps.{Does, OwnCommits, OwnDeeds, OwnOutcomes, OwnRollbacks, TellsOf}
-
--- a hart that runs is one of the machine's
-exists : (state : ModelState) (h : ℕ) → AsMany state → status_of state.committed h ≡ Running → h < length state.harts
-exists state h many running = let some = runs-exists state.committed h running in omega (arith, many, some)
 
 misses_running : (state : ModelState) (h line : ℕ) (need : Need) → MissesOutside state h line need ⊎ MissesInside state h line need →
     status_of state.committed h ≡ Running
@@ -36,19 +31,25 @@ deed_stands : (state : ModelState) (h : ℕ) (deed : Deed) → AsMany state → 
 deed_stands state h Rests many does = with_hart_kept (λ hart. hart) state h (hart_of state h) refl h
 deed_stands state h Waits many does = with_hart_kept (λ hart. hart) state h (hart_of state h) refl h
 deed_stands state h (Misses line need) many does =
-    hart_of-with_hart_same state h _ (exists state h many (misses_running state h line need does))
-deed_stands state h (Runs touch) many does = hart_of-with_hart_same state h _ (exists state h many does.outside.running)
-deed_stands state h (Begins swap) many does = hart_of-with_hart_same state h _ (exists state h many does.outside.running)
+    hart_of-with_hart_same state h _ (runs_exists state h many (misses_running state h line need does))
+deed_stands state h (Runs touch) many does =
+    hart_of-with_hart_same state h _ (runs_exists state h many does.outside.running)
+deed_stands state h (Begins swap) many does =
+    hart_of-with_hart_same state h _ (runs_exists state h many does.outside.running)
 deed_stands state h (Buffers section touch) many does =
-    hart_of-with_hart_same state h _ (exists state h many does.goes.goes_on.is_short.inside.running)
+    hart_of-with_hart_same state h _ (runs_exists state h many does.goes.goes_on.is_short.inside.running)
 deed_stands state h (Commits section) many does =
-    hart_of-with_hart_same state h _ (exists state h many does.goes_on.is_short.inside.running)
+    hart_of-with_hart_same state h _ (runs_exists state h many does.goes_on.is_short.inside.running)
 deed_stands state h (RollsBack section cause) many does =
-    hart_of-with_hart_same state h _ (exists state h many (is_rolled state h section cause does).running)
-deed_stands state h (Arms word) many does = hart_of-with_hart_same state h _ (exists state h many does.outside.running)
-deed_stands state h (Elides armed swap) many does = hart_of-with_hart_same state h _ (exists state h many does.is_armed.running)
-deed_stands state h (Continues armed) many does = hart_of-with_hart_same state h _ (exists state h many does.is_armed.running)
-deed_stands state h (LetsGo armed) many does = hart_of-with_hart_same state h _ (exists state h many does.is_armed.running)
+    hart_of-with_hart_same state h _ (runs_exists state h many (is_rolled state h section cause does).running)
+deed_stands state h (Arms word) many does =
+    hart_of-with_hart_same state h _ (runs_exists state h many does.outside.running)
+deed_stands state h (Elides armed swap) many does =
+    hart_of-with_hart_same state h _ (runs_exists state h many does.is_armed.running)
+deed_stands state h (Continues armed) many does =
+    hart_of-with_hart_same state h _ (runs_exists state h many does.is_armed.running)
+deed_stands state h (LetsGo armed) many does =
+    hart_of-with_hart_same state h _ (runs_exists state h many does.is_armed.running)
 
 does_deed : (state : ModelState) (event : Event) → event.kind ≡ kinds.Step → AsMany state → (deed : Deed) × Does state event deed
 does_deed state event is many =

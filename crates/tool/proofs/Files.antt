@@ -7,7 +7,6 @@ use Rattle.el_base.specs.declared.config.Config.{Config}
 use Rattle.el_base.specs.declared.events.Event.{Event}
 use Rattle.el_base.specs.declared.outcomes.Outcome.{Outcome}
 use Rattle.el_io.specs.Shelf.{Contents, Holds}
-use Rattle.elf_image.specs.Loaded.{program_of}
 use Rattle.trace_file.specs.Faults.{config_at}
 use Rattle.trace_file.specs.Spelling.{spelling}
 use Rattle.tool.specs.declared.refusal.Refusal.TheVariants.{TooBig}
@@ -34,11 +33,6 @@ over_limit None name limit over =
     let longer : limit < length zeros = omega (arith, length-replicate {A = ℕ} (limit + 1) 0) in
     (zeros, tt, size_refused limit zeros longer)
 over_limit (Some contents) name limit over = (contents name, refl, size_refused limit (contents name) over)
-
--- an image is loaded for as many harts as asked for
-pub loaded_harts : (file : List ℕ) (harts : ℕ) → (program_of file harts).harts ≡ harts
-unfolding program_of
-loaded_harts file harts = refl
 
 -- a trace is of as many harts as its head says
 pub spelled_harts : (file : List ℕ) (config : Config) (made : List Event) (recorded : Option (List Outcome)) →

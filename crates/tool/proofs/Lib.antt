@@ -4,7 +4,6 @@ mod Differences
 mod Failing
 mod Files
 mod Putting
-mod Refusing
 mod Repeating
 mod Running
 mod Succeeding

@@ -1,5 +1,5 @@
 -- A replay of the trace that a run wrote says what the run said.
-use Rattle.std.proofs.Common.{◌≡◌, ◌≢◌, ℕ, ◌+◌, ◌*◌, ◌/◌, ◌<◌, ◌≤◌, ◌-◌, false, nat_lt, List, [], ◌∷◌, ◌++◌, length, get_or, Option, None, Some, refl, ap, sym, subst, ◌∙◌, inl, inr, arith}
+use Rattle.std.proofs.Common.{◌≡◌, ◌≢◌, ℕ, ◌+◌, ◌*◌, ◌/◌, ◌<◌, ◌≤◌, ◌-◌, false, nat_lt, List, [], ◌++◌, length, get_or, Option, None, Some, refl, ap, sym, subst, ◌∙◌, inl, inr, arith}
 use Rattle.std.specs.Prelude.{All, Bool, true, not, if◌then◌else◌, slice_get}
 use Rattle.std.proofs.lemmas.List.Elements.{All-append}
 use Rattle.std.specs.Option.{option_map, option_map_or, option_or}
@@ -16,12 +16,13 @@ use Rattle.el_base.specs.declared.events.Event.{Event}
 use Rattle.el_base.specs.declared.outcomes.Outcome.{Outcome}
 use Rattle.el_base.specs.declared.config.Config.{Config}
 use Rattle.drive.specs.RoundRobin.{IsRoundRobin, IsEventAt}
-use Rattle.el_model.specs.Next.{entries_from, next}
-use Rattle.el_model.proofs.Laws.Folds.{length-entries_from, outcomes-entries_from}
+use Rattle.el_model.specs.Next.{entries_from}
+use Rattle.el_model.proofs.Laws.Folds.{events-entries_from, length-entries_from, outcomes-entries_from}
 use Rattle.el_model.specs.State.{ModelState, begin}
 use Rattle.elf_image.specs.Limits.{file_limit}
 use Rattle.elf_image.specs.Loaded.{program_of}
 use Rattle.elf_image.specs.Program.{Program}
+use Rattle.elf_image.proofs.Laws.Loading.{loaded_harts}
 use Rattle.machine.proofs.Laws.Continued.{continued_twice, left_of_continued, nothing_more}
 use Rattle.machine.proofs.Laws.Recording.{outcomes_can_be_recorded}
 use Rattle.machine.specs.Recording.{CanBeRecorded}
@@ -38,17 +39,12 @@ use Rattle.el_model.specs.Next.{is_over}
 use Rattle.tool.specs.Answer.{Answer, Besides, WrittenFile, certified_by, ended, files_of, times_if, where_named, written_by}
 use Rattle.tool.specs.Jobs.{DriversMade, FollowAnswer, IsReplayed, MakesRun, RanAnswer, ReplayAnswer, RunAnswer, UnlessRefused, besides_replay, besides_run, first_story}
 use Rattle.tool.specs.Laws.{SaysTheSame}
-use Rattle.tool.proofs.Files.{loaded_harts, spelled_harts}
+use Rattle.tool.proofs.Files.{spelled_harts}
 use Rattle.step_back.proofs.Laws.Recording.{are_recordable}
 use Rattle.tool.proofs.TraceLengths.{length-spelling}
 use Rattle.tool.specs.Refusals.{config_refusal, image_refusal, replay_refusal, run_refusal, size_refusal, trace_limit, trace_refusal}
 
 -- The events of a run
-
--- what was made of events are these events
-events-entries : (state : ModelState) (made : List Event) → events (entries_from state made) ≡ made
-events-entries state [] = refl
-events-entries state (event ∷ made) = ap (λ (rest : List Event). event ∷ rest) (events-entries (next state event).state made)
 
 -- each event of a round robin is of a hart that there is
 harts-made : (state : ModelState) (harts left : ℕ) (made : List Event) → 1 ≤ harts → IsRoundRobin state harts left made →
@@ -198,7 +194,7 @@ run-ran job image name bytes ran named answers written =
       spelled =
           written-story (besides_run job) name story file named as_written
           ∙ ap (λ events. spelling config events (Some (outcomes story.entries)))
-          (events-entries (state_of begins) all.made);
+          (events-entries_from (state_of begins) all.made);
       small = sized.0;
       accepted = accepted.0;
       exact = exact;

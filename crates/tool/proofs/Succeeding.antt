@@ -1,33 +1,15 @@
 -- How a run ends, one hart after another.
-use Rattle.std.proofs.Common.{◌≡◌, ℕ, ◌+◌, ◌<◌, true, false, ◌&&◌, List, [], ◌∷◌, length, take, refl, ◌∙◌, ap, take_all, ◌≤◌, sym, arith}
+use Rattle.std.proofs.Common.{◌≡◌, ℕ, ◌+◌, ◌<◌, true, false, ◌&&◌, [], length, take, ◌∙◌, ap, take_all, ◌≤◌, sym, arith}
 use Rattle.std.proofs.lemmas.List.Folds.{list_all_at, list_all_more}
-use Rattle.std.proofs.lemmas.List.FromFn.{length-map-range_with_len}
 use Rattle.chronicle.specs.Serial.{serial}
-use Rattle.elf_image.specs.Program.{Program}
-use Rattle.elf_image.specs.Loaded.{program_of}
 use Rattle.machine.specs.Story.{Story, committed}
-use Rattle.rv_flat.proofs.Laws.StepLaws.{keeps_shape}
-use Rattle.rv_flat.specs.FlatState.{FlatState, first_view, no_hart, start, view_of}
-use Rattle.rv_flat.specs.Run.{run}
-use Rattle.rv_flat.specs.Step.{flat}
+use Rattle.rv_flat.proofs.Laws.StepLaws.{harts-run, start_harts}
+use Rattle.rv_flat.specs.FlatState.{FlatState, no_hart, start, view_of}
 use Rattle.tool.specs.Ending.{all_succeeded, has_succeeded}
-
-harts-start : (program : Program) → length (start program).harts ≡ program.harts
-unfolding start
-harts-start program = length-map-range_with_len (first_view program) 0 program.harts
-
-harts-run : (state : FlatState) (harts : List ℕ) → length (run state harts).harts ≡ length state.harts
-harts-run state [] = refl
-harts-run state (hart ∷ harts) = harts-run (flat state hart) harts ∙ (keeps_shape state hart).harts
 
 -- a run has as many harts as its program
 pub harts-committed : (story : Story) → length (committed story).harts ≡ story.program.harts
-harts-committed story = harts-run (start story.program) (serial story.entries) ∙ harts-start story.program
-
--- an image is loaded for as many harts as asked for
-pub harts-program_of : (file : List ℕ) (harts : ℕ) → (program_of file harts).harts ≡ harts
-unfolding program_of
-harts-program_of file harts = refl
+harts-committed story = harts-run (start story.program) (serial story.entries) ∙ start_harts story.program
 
 pub one_failed : (state : FlatState) (hart : ℕ) → hart < length state.harts → has_succeeded (view_of state hart).status ≡ false →
     all_succeeded state.harts ≡ false

@@ -15,6 +15,7 @@ use Rattle.el_model.specs.State.{begin}
 use Rattle.machine.specs.Story.{continued}
 use Rattle.trace_file.proofs.Laws.OutcomeLaws.{number_again}
 use Rattle.elf_image.specs.Faults.{fault}
+use Rattle.elf_image.proofs.Laws.Loading.{loaded_harts}
 use Rattle.step_back.specs.Standing.{Standing}
 use Rattle.trace_file.specs.Faults.{config_at}
 use Rattle.trace_file.specs.Spelling.{IsTrace, body}
@@ -26,7 +27,7 @@ use Rattle.tool.specs.Answer.{found, looked}
 use Rattle.tool.specs.Jobs.{IsFindAnswer, IsLookAnswer, IsStoryOf, PlaceAnswer, PlacesAnswer, first_story}
 use Rattle.tool.specs.Refusals.{events_at, hart_refusal, image_refusal, place_refusal, trace_refusal}
 use Rattle.tool.specs.Stopping.{IsTraceOf, StopsRead, StopsWith, hart_stop, place_stop}
-use Rattle.tool.proofs.Files.{loaded_harts, some_file}
+use Rattle.tool.proofs.Files.{some_file}
 
 -- an image that is too big is refused whatever the trace
 pub image_not_looked_at : (job : LookJob) (told : Option Contents) (stop : Stop) → StopsRead told job.image file_limit stop →

@@ -381,7 +381,7 @@ pub(crate) fn trace_of(alloc: Global, file: Vec<u8>) -> Result<Trace, Stop>
 }
 
 /// The image in a file. The file is given back.
-#[tactic(auto, using(crate::proofs::Files::loaded_harts))]
+#[tactic(auto, using(elf_image::proofs::Laws::Loading::loaded_harts))]
 pub(crate) fn image_of(alloc: Global, file: Vec<u8>, harts: u8) -> Result<Image, Stop>
     requires harts_in_range { (1 ≤ harts) × (harts ≤ 8) }
     requires within_limit { length file.items ≤ file_limit }

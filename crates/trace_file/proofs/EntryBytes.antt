@@ -1,21 +1,15 @@
 -- The bytes of the entries of a history.
-use Rattle.std.proofs.Common.{◌≡◌, ◌<◌, ◌≤◌, ℕ, zero, suc, ◌+◌, ◌*◌, ◌-◌, List, [], ◌∷◌, ◌++◌, length, take, drop, Some, refl, sym, ap, ◌∙◌, append_assoc, arith}
+use Rattle.std.proofs.Common.{◌≡◌, ◌<◌, ◌≤◌, ℕ, suc, ◌+◌, ◌*◌, ◌-◌, List, [], ◌∷◌, ◌++◌, length, take, drop, Some, refl, sym, ap, ◌∙◌, append_assoc, arith}
 use Rattle.std.specs.List.{slice_get}
 use Rattle.std.proofs.lemmas.List.{append-nil, drop-append-le, drop_all, length-append, length-drop, length-take-le, take-append-drop, take-take, take_all}
 use Rattle.std.proofs.lemmas.Option.{slice_get_within}
 use Rattle.el_base.specs.declared.entries.Entry.{Entry}
 use Rattle.el_base.specs.declared.outcomes.Outcome.{Outcome}
 use Rattle.el_base.specs.declared.outcomes.Outcome.TheVariants.{Idle, Stalled, Missed, Ran, Began, Buffered, Committed, RolledBack, Ordered, Served, Blocked, Delivered, Armed, LetGo}
+use Rattle.el_base.proofs.Laws.ListLaws.{take_next}
 use Rattle.trace_file.specs.Outcomes.{outcome_spelling}
 use Rattle.trace_file.specs.Spelling.{entry_bytes}
 use Rattle.trace_file.specs.Stretches.{between, bytes_of}
-
-take_next : (entries : List Entry) (place : ℕ) (entry : Entry) → slice_get entries place ≡ Some entry →
-    take (suc place) entries ≡ take place entries ++ entry ∷ []
-take_next [] place entry found = absurd cc
-take_next (first ∷ entries) zero entry found = let same : first ≡ entry = cc in ap (λ (x : Entry). x ∷ []) same
-take_next (first ∷ entries) (suc place) entry found =
-    ap (λ (l : List Entry). first ∷ l) (take_next entries place entry found)
 
 bytes-append : (front back : List Entry) → bytes_of (front ++ back) ≡ bytes_of front ++ bytes_of back
 bytes-append [] back = refl

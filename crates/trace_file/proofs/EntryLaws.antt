@@ -5,6 +5,7 @@ use Rattle.std.proofs.lemmas.Bool.{ltb-false}
 use Rattle.std.proofs.lemmas.Bool.Decides.{nat_tests}
 use Rattle.std.proofs.lemmas.List.{drop-drop, get_or-drop, length-drop, nil_from_length}
 use Rattle.std.proofs.lemmas.List.Elements.{All-cons, All-head, All-tail}
+use Rattle.std.proofs.Math.Seq.{drop-cons}
 use Rattle.byteorder.specs.Endian.{little_bytes}
 use Rattle.chronicle.specs.Chronicle.{events}
 use Rattle.el_base.specs.Config.{within}
@@ -21,6 +22,7 @@ use Rattle.el_base.specs.declared.outcomes.Outcome.TheVariants.{Idle, Stalled, M
 use Rattle.el_base.specs.declared.outcomes.Cause.{Cause}
 use Rattle.el_base.specs.declared.outcomes.Cause.TheVariants.{Room, Lines, Long, Call, Mixed}
 use Rattle.el_base.proofs.Laws.HartIds.{hart_id-number, hart_id-of_hart}
+use Rattle.el_base.proofs.Laws.Options.{both_none, or_none}
 use Rattle.trace_file.specs.declared.fault.FaultKind.TheVariants.{Tail}
 use Rattle.trace_file.specs.Faults.{entries_fault, entry_fault, field_fault, fields_fault}
 use Rattle.trace_file.specs.Fields.{Field, byte_field, entry_width, event_field, fields_of, freed_field, is_blocking, is_cause, is_code, is_event, is_line, losers_field, number_field, widths}
@@ -28,8 +30,8 @@ use Rattle.trace_file.specs.Outcomes.{IsRecordable, blocking_byte, cause_code, f
 use Rattle.trace_file.specs.Reading.{entries_in, entry_in, event_in, kind_at, outcome_in}
 use Rattle.trace_file.specs.Spelling.{entry_bytes, event_byte, outcomes, recorded_bytes}
 use Rattle.trace_file.proofs.EventBytes.{kind_again, kind_back}
-use Rattle.trace_file.proofs.FieldRows.{Fill, both_none, field_passes, filled, first_known, joined}
-use Rattle.trace_file.proofs.Heads.{IsBytes, bytes_behind, cell, if_none, or_none}
+use Rattle.trace_file.proofs.FieldRows.{Fill, field_passes, filled, first_known, joined}
+use Rattle.trace_file.proofs.Heads.{IsBytes, bytes_behind, if_none}
 use Rattle.trace_file.proofs.Nibbles.{freed_pass, losers_pass}
 use Rattle.trace_file.proofs.Laws.OutcomeLaws.{number_again, outcome_back, outcome_spelled, why_small}
 
@@ -115,8 +117,8 @@ entry_spelled harts place bytes few fits none =
       spelled = ap (λ (x : ℕ). x ∷ (outcome_spelling (outcome_in code (drop 2 bytes)) ++ drop (1 + (1 + widths fields)) bytes)) event.0
           ∙ ap (λ (l : List ℕ). get_or bytes 0 0 ∷ (outcome_spelling (outcome_in code (drop 2 bytes)) ++ l)) (sym cut)
           ∙ ap (λ (l : List ℕ). get_or bytes 0 0 ∷ l) outcome.0
-          ∙ ap (λ (l : List ℕ). get_or bytes 0 0 ∷ l) (sym (cell bytes 1 (omega (arith, two))))
-          ∙ sym (cell bytes 0 (omega (arith, two)));
+          ∙ ap (λ (l : List ℕ). get_or bytes 0 0 ∷ l) (sym (drop-cons bytes 1 0 (omega (arith, two))))
+          ∙ sym (drop-cons bytes 0 0 (omega (arith, two)));
       hart = event.1;
       outcome = outcome.1;
     }

@@ -1,15 +1,14 @@
 -- Fields that stand one behind the other.
-use Rattle.std.proofs.Common.{◌≡◌, ℕ, ◌+◌, ◌≤◌, Bool, true, false, not, ltb, List, [], ◌∷◌, ◌++◌, length, drop, Option, Some, None, refl, sym, ap, ◌∙◌, arith}
+use Rattle.std.proofs.Common.{◌≡◌, ℕ, ◌+◌, ◌≤◌, Bool, true, false, not, ltb, List, [], ◌∷◌, ◌++◌, length, drop, None, refl, sym, ap, ◌∙◌, arith}
 use Rattle.std.proofs.lemmas.Bool.{le-ltb, ltb-false}
 use Rattle.std.proofs.lemmas.List.{drop_at, drop-drop, length-append, length-drop}
-use Rattle.std.specs.Option.{option_or}
 use Rattle.el_base.specs.Firsts.{some_if}
-use Rattle.el_base.specs.declared.file_fault.FileFault.{FileFault}
+use Rattle.el_base.proofs.Laws.Options.{both_none, cond_none, or_none}
 use Rattle.trace_file.specs.FaultKinds.{fault_of}
 use Rattle.trace_file.specs.Fields.{Field, widths}
 use Rattle.trace_file.specs.Faults.{field_fault, fields_fault}
 use Rattle.trace_file.specs.declared.fault.FaultKind.TheVariants.{Short}
-use Rattle.trace_file.proofs.Heads.{if_none, neither, not_true, or_none}
+use Rattle.trace_file.proofs.Heads.{if_none, not_true}
 
 -- ---- fields without a fault
 
@@ -18,7 +17,7 @@ pub field_known : (place : ℕ) (bytes : List ℕ) (one : Field) → field_fault
     (one.width ≤ length bytes) × (one.passes bytes ≡ true)
 unfolding field_fault
 field_known place bytes one none =
-    let e = neither (ltb (length bytes) one.width) (fault_of Short (place + length bytes)) _ none in
+    let e = cond_none (ltb (length bytes) one.width) (fault_of Short (place + length bytes)) _ none in
     (ltb-false (length bytes) one.width e.0, not_true (one.passes bytes) (if_none (not (one.passes bytes)) one.kind place e.1))
 
 pub first_known : (place : ℕ) (bytes : List ℕ) (first : Field) (fields : List Field) →
@@ -61,10 +60,6 @@ field_passes place bytes one whole passes = rw (le-ltb (length bytes) one.width 
     passing : (holds : Bool) → holds ≡ true → some_if (not holds) (fault_of one.kind place) ≡ None
     passing true is = refl
     passing false is = absurd cc
-
-pub both_none : (a b : Option FileFault) → a ≡ None → b ≡ None → option_or a b ≡ None
-both_none None b first second = second
-both_none (Some fault) b first second = absurd cc
 
 -- what fills the fields has no fault, and what follows it is behind the fields
 pub filled : (place : ℕ) (fields : List Field) (parts : List (List ℕ)) (rest : List ℕ) → Fill fields parts rest →

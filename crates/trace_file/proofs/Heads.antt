@@ -1,9 +1,8 @@
 -- A head without a fault is spelled by what stands in it.
-use Rattle.std.proofs.Common.{◌≡◌, ℕ, ◌+◌, ◌*◌, ◌/◌, ◌%◌, ◌≤◌, ◌<◌, Bool, true, false, not, cond, ◌==◌, ltb, List, [], ◌∷◌, ◌++◌, length, get_or, drop, zero, suc, Option, Some, None, refl, sym, ap, ◌∙◌, arith}
+use Rattle.std.proofs.Common.{◌≡◌, ℕ, ◌+◌, ◌*◌, ◌/◌, ◌%◌, ◌≤◌, ◌<◌, Bool, true, false, not, ◌==◌, ltb, List, [], ◌∷◌, ◌++◌, length, get_or, drop, zero, suc, Option, None, refl, sym, ap, ◌∙◌, arith}
 use Rattle.std.proofs.Math.Seq.{drop-cons}
 use Rattle.std.proofs.lemmas.Bool.{ltb-false}
 use Rattle.std.proofs.lemmas.List.{get_or-drop, length-drop, drop-drop}
-use Rattle.std.specs.Option.{option_or}
 use Rattle.std.proofs.lemmas.Bool.Decides.{nat_tests}
 use Rattle.el_base.specs.Config.{allows}
 use Rattle.el_base.specs.declared.config.ConfigFault.TheVariants.{Harts, Sets, Ways, Lines, Long, Steps}
@@ -13,6 +12,8 @@ use Rattle.el_base.specs.declared.file_fault.FileFault.{FileFault}
 use Rattle.trace_file.specs.declared.fault.FaultKind.{FaultKind}
 use Rattle.trace_file.specs.declared.fault.FaultKind.TheVariants.{Short, Magic, Config as config_kind}
 use Rattle.el_base.specs.Modes.{mode_number}
+use Rattle.el_base.proofs.Laws.Options.{cond_none, or_none}
+use Rattle.el_base.proofs.Laws.ListLaws.{four_in_front}
 use Rattle.trace_file.specs.Spelling.{head}
 use Rattle.trace_file.specs.FaultKinds.{fault_of}
 use Rattle.trace_file.specs.Faults.{field, wrong, byte_fault, magic_fault, settings_fault, number_fault, is_mode, number_at, mode_at, config_at}
@@ -32,17 +33,6 @@ cells_of n a b c d is ha hb hc hd =
     let e3 : n / 16777216 % 256 ≡ d = omega arith in
     rw (e0, e1, e2, e3) refl
 
-pub cell : (bytes : List ℕ) (i : ℕ) → i < length bytes → drop i bytes ≡ get_or bytes i 0 ∷ drop (suc i) bytes
-cell bytes i within = drop-cons bytes i 0 within
-
-pub front : (bytes : List ℕ) → 4 ≤ length bytes →
-    bytes ≡ get_or bytes 0 0 ∷ get_or bytes 1 0 ∷ get_or bytes 2 0 ∷ get_or bytes 3 0 ∷ drop 4 bytes
-front bytes long =
-    cell bytes 0 (omega arith)
-    ∙ ap (λ (t : List ℕ). get_or bytes 0 0 ∷ t) (cell bytes 1 (omega arith))
-    ∙ ap (λ (t : List ℕ). get_or bytes 0 0 ∷ get_or bytes 1 0 ∷ t) (cell bytes 2 (omega arith))
-    ∙ ap (λ (t : List ℕ). get_or bytes 0 0 ∷ get_or bytes 1 0 ∷ get_or bytes 2 0 ∷ t) (cell bytes 3 (omega arith))
-
 -- four bytes are the little-endian bytes of their number
 pub four_bytes : (bytes : List ℕ) → IsBytes bytes → 4 ≤ length bytes →
     little_bytes 4 (little_number 4 bytes) ++ drop 4 bytes ≡ bytes
@@ -50,7 +40,7 @@ four_bytes bytes fits long =
     ap
     (λ (cells : List ℕ). cells ++ drop 4 bytes)
     (cells_of (little_number 4 bytes) _ _ _ _ refl (fits 0) (fits 1) (fits 2) (fits 3))
-    ∙ sym (front bytes long)
+    ∙ sym (four_in_front bytes long)
 
 pub bytes_behind : (place : ℕ) (file : List ℕ) → IsBytes file → IsBytes (drop place file)
 bytes_behind place file fits i = rw get_or-drop (fits (place + i))
@@ -65,24 +55,15 @@ four_at file place end fits long is =
 
 -- ---- faults
 
-pub or_none : (a b : Option FileFault) → option_or a b ≡ None → (a ≡ None) × (b ≡ None)
-or_none None b none = (refl, none)
-or_none (Some fault) b none = absurd cc
-
 pub if_none : (wrong : Bool) (kind : FaultKind) (place : ℕ) → some_if wrong (fault_of kind place) ≡ None → wrong ≡ false
 if_none true kind place none = absurd cc
 if_none false kind place none = refl
-
-pub neither : (short : Bool) (x : FileFault) (fault : Option FileFault) → cond short (Some x) fault ≡ None →
-    (short ≡ false) × (fault ≡ None)
-neither true x fault none = absurd cc
-neither false x fault none = (refl, none)
 
 pub field_none : (file : List ℕ) (end : ℕ) (fault : Option FileFault) → field file end fault ≡ None →
     (end ≤ length file) × (fault ≡ None)
 unfolding field
 field_none file end fault none =
-    let e = neither (ltb (length file) end) (fault_of Short (length file)) fault none in
+    let e = cond_none (ltb (length file) end) (fault_of Short (length file)) fault none in
     (ltb-false (length file) end e.0, e.1)
 
 same_of : (x wanted : ℕ) → not (x == wanted) ≡ false → x ≡ wanted
@@ -166,7 +147,7 @@ numbers file fits long =
 -- the cell at a place holds this value
 holds : (file : List ℕ) (place value : ℕ) → place < length file → get_or file place 0 ≡ value →
     drop place file ≡ value ∷ drop (suc place) file
-holds file place value within is = cell file place within ∙ ap (λ (x : ℕ). x ∷ drop (suc place) file) is
+holds file place value within is = drop-cons file place 0 within ∙ ap (λ (x : ℕ). x ∷ drop (suc place) file) is
 
 settings_spelled : (file : List ℕ) → IsBytes file → 22 ≤ length file →
     get_or file 6 0 ≡ mode_number (mode_at (get_or file 6 0)) →
@@ -175,15 +156,15 @@ settings_spelled : (file : List ℕ) → IsBytes file → 22 ≤ length file →
     ∷ (little_bytes 4 (number_at file 10)
     ++ (little_bytes 4 (number_at file 14) ++ (little_bytes 4 (number_at file 18) ++ drop 22 file)))
 settings_spelled file fits long mode =
-    cell file 5 (omega arith)
+    drop-cons file 5 0 (omega arith)
     ∙ ap (λ (t : List ℕ). get_or file 5 0 ∷ t)
     (holds file 6 (mode_number (mode_at (get_or file 6 0))) (omega arith) mode
     ∙ ap (λ (t : List ℕ). mode_number (mode_at (get_or file 6 0)) ∷ t)
-    (cell file 7 (omega arith)
+    (drop-cons file 7 0 (omega arith)
     ∙ ap (λ (t : List ℕ). get_or file 7 0 ∷ t)
-    (cell file 8 (omega arith)
+    (drop-cons file 8 0 (omega arith)
     ∙ ap (λ (t : List ℕ). get_or file 8 0 ∷ t)
-    (cell file 9 (omega arith)
+    (drop-cons file 9 0 (omega arith)
     ∙ ap (λ (t : List ℕ). get_or file 9 0 ∷ t) (sym (numbers file fits long))))))
 
 pub head_spelled : (file : List ℕ) → IsBytes file → 22 ≤ length file → magic_fault file ≡ None → settings_fault file ≡ None →
@@ -200,5 +181,5 @@ head_spelled file fits long magic settings =
     ∙ ap (λ (t : List ℕ). 0x54 ∷ t)
     (holds file 3 0x52 (omega arith) letters.3
     ∙ ap (λ (t : List ℕ). 0x52 ∷ t)
-    (cell file 4 (omega arith)
+    (drop-cons file 4 0 (omega arith)
     ∙ ap (λ (t : List ℕ). get_or file 4 0 ∷ t) (settings_spelled file fits long mode)))))

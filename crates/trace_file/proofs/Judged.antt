@@ -12,6 +12,7 @@ use Rattle.el_base.specs.declared.config.ConfigFault.TheVariants.{Harts, Sets, W
 use Rattle.el_base.specs.declared.hart_id.TheConstants.{MAX_HARTS}
 use Rattle.el_base.specs.Firsts.{first_of, some_if}
 use Rattle.el_base.proofs.Laws.Ranges.{Ranges, in_range, at_most}
+use Rattle.el_base.proofs.Laws.Options.{or_none}
 use Rattle.el_base.specs.declared.config.Config.{Config}
 use Rattle.el_base.specs.declared.events.Event.{Event}
 use Rattle.el_base.specs.declared.outcomes.Outcome.{Outcome}
@@ -23,7 +24,7 @@ use Rattle.trace_file.specs.Faults.{byte_fault, magic_fault, version_fault, sett
 use Rattle.trace_file.specs.Reading.{entries_at, event_in, events_at, recorded_at}
 use Rattle.trace_file.proofs.EventBytes.{none_fails, all_taken}
 use Rattle.trace_file.proofs.EntryLaws.{entries_spelled, event_spelled}
-use Rattle.trace_file.proofs.Heads.{IsBytes, bytes_behind, byte_passed, number_passed, not_true, or_none, if_none, field_none, head_spelled}
+use Rattle.trace_file.proofs.Heads.{IsBytes, bytes_behind, byte_passed, number_passed, not_true, if_none, field_none, head_spelled}
 
 -- ---- the configuration
 

@@ -10,6 +10,7 @@ use Rattle.el_base.specs.NibblePairs.{nibble_in, nibble_in-pairs_of, pair_of, pa
 use Rattle.el_base.specs.declared.freed.Freed.{Freed}
 use Rattle.el_base.specs.declared.losers.Losers.{Losers}
 use Rattle.el_base.proofs.Laws.MadeLosers.{beaten_by-beyond, beaten_by-losers_of, count_in-beyond, count_in-freed_of, named_by_map, winner_below}
+use Rattle.el_base.proofs.Laws.MadeLosers.{decoded-winner_code}
 use Rattle.el_base.proofs.Laws.SameLosers.{same_freed, same_losers}
 use Rattle.trace_file.specs.Fields.{all_below, are_nibbles, is_nibble, most_for}
 use Rattle.trace_file.specs.Outcomes.{AreFreedBelow, AreLosersBelow, freed_bytes, losers_bytes}
@@ -168,10 +169,6 @@ code_of_decoded : (n : ℕ) → n ≤ 8 → winner_code (decoded_winner n) ≡ n
 code_of_decoded zero small = refl
 code_of_decoded (suc n) small = grind (arith, nat_tests)
 
-decoded_of_code : (winner : Option ℕ) → IfSome winner (λ w. w < 8) → decoded_winner (min (winner_code winner) 15) ≡ winner
-decoded_of_code None known = refl
-decoded_of_code (Some winner) known = grind (arith, nat_tests)
-
 small_decoded : (n : ℕ) → n ≤ 8 → IfSome (decoded_winner n) (λ w. w < 8)
 small_decoded zero small = tt
 small_decoded (suc n) small = omega arith
@@ -242,7 +239,7 @@ losers_again losers rest =
     alike : (h : ℕ) → h < 8 → beaten_by losers h ≡ winners_in (losers_bytes losers ++ rest) h
     alike h low =
         sym (ap decoded_winner (nibble_in_front (codes_of losers) rest h low)
-        ∙ decoded_of_code (beaten_by losers h) (known (beaten_by losers h) h refl))
+        ∙ decoded-winner_code (beaten_by losers h) (known (beaten_by losers h) h refl))
 
 pub losers_pass : (harts : ℕ) (losers : Losers) (rest : List ℕ) → harts ≤ 8 → AreLosersBelow harts losers →
     are_nibbles harts harts (losers_bytes losers ++ rest) ≡ true

@@ -11,13 +11,14 @@ use Rattle.residency.specs.Residency.{Way, way_in}
 use Rattle.coherence.proofs.Laws.Owners.{copy_is}
 use Rattle.core_step.specs.Port.{stored}
 use Rattle.core_step.proofs.Laws.Cuts.{in_word}
+use Rattle.core_step.proofs.Laws.Bytes.{stored_inside, stored_outside}
 use Rattle.el_base.specs.Line.{line_number}
 use Rattle.el_base.specs.declared.line.TheConstants.{LINE_BYTES}
 use Rattle.rv_alu.specs.Footprint.{IsSize}
 use Rattle.rv_flat.specs.Memory.{put_bytes}
 use Rattle.rv_flat.proofs.Laws.PutBytes.{put_bytes-other}
 use Rattle.cached_step.specs.CacheRun.{PutsIn, line_after}
-use Rattle.cached_step.proofs.PutBytes.{put_bytes-here, stored-here, stored-other}
+use Rattle.cached_step.proofs.PutBytes.{put_bytes-here}
 
 -- a line that is not there has no bytes
 not_here : (b : Bool) (way : Way) (other : Option Way) (bytes rest : List ℕ) → (is_some other ≡ false → rest ≡ []) →
@@ -83,7 +84,8 @@ stored_byte old new address len value at size even there full puts =
           ∙ on_line same (cases_lt at address) (cases_lt at (address + len))
       | inr other ↦
           ap (λ bytes. slice_index bytes (at % LINE_BYTES)) (same_bytes old new (line_number at) (puts.others (line_number at) other))
-          ∙ sym (stored-other (cached_byte old) address len value at (λ low high. other (omega (arith, within size even))))
+          ∙ sym (stored_outside (cached_byte old) address len value at
+          (λ low high. other (omega (arith, within size even))))
     ]
   where
     within : IsSize len → address % len ≡ 0 → address % LINE_BYTES + len ≤ LINE_BYTES
@@ -94,7 +96,7 @@ stored_byte old new address len value at size even there full puts =
     elsewhere same out =
         put_bytes-other (bytes_of old (line_number address)) (address % LINE_BYTES) len value (at % LINE_BYTES)
         (λ low high. out (omega arith) (omega arith))
-        ∙ sym (byte_near old address at same) ∙ sym (stored-other (cached_byte old) address len value at out)
+        ∙ sym (byte_near old address at same) ∙ sym (stored_outside (cached_byte old) address len value at out)
 
     on_line : line_number at ≡ line_number address → (at < address) ⊎ (address ≤ at) → (at < address + len) ⊎ (address + len ≤ at) →
         slice_index (line_after old address len value) (at % LINE_BYTES) ≡ stored (cached_byte old) address len value at
@@ -103,7 +105,7 @@ stored_byte old new address len value at size even there full puts =
     on_line same (inr low) (inl high) =
         put_bytes-here (bytes_of old (line_number address)) (address % LINE_BYTES) len value (at - address) (at % LINE_BYTES)
         (omega (arith, within size even)) (omega arith) (omega arith)
-        ∙ sym (stored-here (cached_byte old) address len value at low high)
+        ∙ sym (stored_inside (cached_byte old) address len value at low high)
 
 -- what was written where a line's bytes were lent
 pub puts_in : (old : Cached) (address len value line : ℕ) (bytes new : List ℕ) → line ≡ line_number address → bytes ≡ bytes_of old line →

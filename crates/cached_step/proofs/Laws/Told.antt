@@ -32,7 +32,7 @@ use Rattle.rv_alu.proofs.Laws.Executions.{executed_agree}
 use Rattle.rv_flat.specs.FlatState.{FlatState, room_of, span_of}
 use Rattle.rv_flat.specs.Memory.{byte_in, put_bytes}
 use Rattle.rv_flat.specs.Step.{action_of, applied, execution_of, stored_by}
-use Rattle.rv_flat.proofs.Laws.PutBytes.{length-put_bytes}
+use Rattle.rv_flat.proofs.Laws.StepLaws.{length-stored_by}
 use Rattle.rv_word.specs.Decoding.{decoded}
 use Rattle.rv_word.specs.declared.insn.Insn.{Insn}
 use Rattle.cached_step.specs.CacheRun.{HasRun, line_after, permitted}
@@ -219,10 +219,6 @@ store_in_place span room (actions.StoreConditional rd address value) view byte t
 store_in_place span room (actions.Amo op rd address source) view byte there = (there, inr (inr refl))
 store_in_place span room _ view byte there = tt
 
-length-stored : (store : Option Store) (base : ℕ) (bytes : List ℕ) → length (stored_by store base bytes) ≡ length bytes
-length-stored None base bytes = refl
-length-stored (Some store) base bytes = length-put_bytes bytes (store.address - base) store.len store.value
-
 pub tells_memory_after : (copies : Copies) (flat : FlatState) (h room : ℕ) (new : Cached) (action : Action) (view : HartView) (byte : ℕ → ℕ) →
     TellsMemory copies flat → IsInPlace (span_of flat) room action →
     HasRun (cache_at copies.caches h) new action (store_in (perform action view byte)) →
@@ -230,7 +226,7 @@ pub tells_memory_after : (copies : Copies) (flat : FlatState) (h room : ℕ) (ne
 tells_memory_after copies flat h room new action view byte tells there run = record {
   placed = record {
     first = tells.placed.first;
-    size = tells.placed.size ∙ sym (length-stored (store_in (perform action view byte)) flat.base flat.bytes);
+    size = tells.placed.size ∙ sym (length-stored_by (store_in (perform action view byte)) flat.base flat.bytes);
   };
   bytes =
       told_after copies flat h new action (store_in (perform action view byte)) tells

@@ -69,3 +69,8 @@ sum_fits n a b few first second = small_fit (n + 1) few (sums (numbers a) (numbe
 
 -- what a loop over the entries needs
 pub ruleset tally_laws = (no_tally, tally_more, none_small, plus_small, sum_fits)
+
+-- what counts for nothing adds nothing
+pub plus_nothing : (tally : Tally) → plus tally nothing ≡ tally
+unfolding plus
+plus_nothing tally = grind arith

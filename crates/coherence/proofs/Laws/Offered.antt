@@ -1,5 +1,5 @@
 -- Laws of caches that a pool lends, offered to the layers above: what is left of a pool, and a cache that is given back to it.
-use Rattle.std.proofs.Common.{◌≡◌, ◌≢◌, ◌∙◌, ◌≤◌, ◌<◌, ◌*◌, ℕ, zero, suc, zero-add, arith, nat_lt, if◌then◌else◌, List, [], ◌∷◌, length, map, replicate, slice_index, refl, ap, sym, subst, inl, inr}
+use Rattle.std.proofs.Common.{◌≡◌, ◌≢◌, ◌∙◌, ◌≤◌, ◌<◌, ◌*◌, ℕ, zero, suc, zero-add, arith, if◌then◌else◌, List, [], ◌∷◌, length, map, replicate, slice_index, refl, ap, sym, subst, inl, inr}
 use Rattle.std.specs.List.{range_with_len}
 use Rattle.std.specs.Prelude.{slice_set}
 use Rattle.std.proofs.lemmas.Bool.{cases_eq}
@@ -15,8 +15,9 @@ use Rattle.line_pool.specs.declared.slot.Slot.{Slot}
 use Rattle.line_pool.specs.Calls.{IsMade}
 use Rattle.line_pool.specs.Keeping.{Keeps, times_among}
 use Rattle.line_pool.specs.Others.{LeavesOthers}
-use Rattle.line_pool.specs.Pooled.{Pooled, bytes_of, has_slot, quotas_of}
+use Rattle.line_pool.specs.Pooled.{Pooled, bytes_of}
 use Rattle.line_pool.proofs.Laws.{has-out, kept-out, kept-owner}
+use Rattle.line_pool.proofs.Laws.OtherLaws.{same_has}
 
 -- the caches, and one of them, with the bytes of a pool
 pub length-lent : (pool : Pooled) (caches : List Slotted) → length (lent_all pool caches) ≡ length caches
@@ -38,9 +39,6 @@ leaves_owner owner other old new leaves apart = record {
 
 pub leaves_owner-same : (owner : ℕ) (pool : Pooled) → LeavesOwner owner pool pool
 leaves_owner-same owner pool = record { outs = λ slot mine. refl; count = refl; bytes = λ slot mine has. refl; quotas = refl }
-
-same_has : (old new : Pooled) (slot : Slot) → quotas_of new ≡ quotas_of old → has_slot new slot ≡ has_slot old slot
-same_has old new slot same = ap (λ quotas. nat_lt slot.place (slice_index quotas slot.owner)) same
 
 pub leaves_owner-then : (owner : ℕ) (old between new : Pooled) → LeavesOwner owner old between → LeavesOwner owner between new
     → LeavesOwner owner old new

@@ -1,57 +1,23 @@
 -- what the bits of a cache leave of its room for a line
-use Rattle.std.proofs.Common.{◌≡◌, ◌≢◌, ◌∙◌, ◌<◌, ◌≤◌, ◌||◌, ◌==◌, if◌then◌else◌, arith, ap, refl, sym, inl, inr}
+use Rattle.std.proofs.Common.{◌≡◌, ◌≢◌, ◌∙◌, ◌<◌, ◌||◌, ◌==◌, if◌then◌else◌, arith, ap, refl, sym, inl, inr}
 use Rattle.std.proofs.Common.{ℕ, suc, Bool, true, false, List, [], ◌∷◌, length, map, Option, None, Some, is_some, option_map}
 use Rattle.std.specs.Prelude.{nat_lt, slice_index_or}
 use Rattle.std.proofs.lemmas.Bool.{cases_eq}
-use Rattle.std.proofs.lemmas.Bool.Decides.{nat_tests}
-use Rattle.std.proofs.lemmas.List.{get_or-map, length-map}
 use Rattle.residency.specs.Cache.{cleared, is_resident, marked, room_of, set_number, set_of, way_of}
 use Rattle.residency.specs.Residency.{Way, changed_in, has_unmarked, room_in, way_in, with_bit, without_bits}
 use Rattle.residency.proofs.Laws.CacheLemmas.{set_of-with_set_other, set_of-with_set_same, way_of-marked_other, way_of-marked_same}
+use Rattle.residency.proofs.Laws.Rooms.{room_by_spare, room_by_unmarked, set_of_cleared}
 use Rattle.el_base.specs.declared.outcomes.Need.{Need}
 
--- a set has room for a line by any of three facts
+-- a set has room for a line that it has
 first_of : (a b c : Bool) → a ≡ true → (a || b || c) ≡ true
 first_of true b c is = refl
 first_of false b c is = absurd (cc)
 
-second_of : (a b c : Bool) → b ≡ true → (a || b || c) ≡ true
-second_of true b c is = refl
-second_of false true c is = refl
-second_of false false c is = absurd (cc)
-
-last_of : (a b c : Bool) → c ≡ true → (a || b || c) ≡ true
-last_of true b c is = refl
-last_of false true c is = refl
-last_of false false c is = is
-
-room_by_unmarked : (ways : ℕ) (set : List Way) (line : ℕ) → has_unmarked set ≡ true → room_in ways set line ≡ true
-room_by_unmarked ways set line is = last_of (is_some (way_in set line)) (nat_lt (length set) ways) (has_unmarked set) is
-
-room_by_spare : (ways : ℕ) (set : List Way) (line : ℕ) → length set < ways → room_in ways set line ≡ true
-room_by_spare ways set line below =
-    second_of (is_some (way_in set line)) (nat_lt (length set) ways) (has_unmarked set) (grind (arith, nat_tests, below))
-
--- a set without bits has room for each line, where it has a way
-bare_has_room : (ways : ℕ) (set : List Way) (line : ℕ) → 1 ≤ ways → room_in ways (map without_bits set) line ≡ true
-bare_has_room ways [] line some = room_by_spare ways [] line some
-bare_has_room ways (way ∷ set) line some = room_by_unmarked ways (map without_bits (way ∷ set)) line refl
-
--- and so for those for which it had room
+-- a set whose bits were cleared has room for those lines for which it had room, and so has a cache
 bare_keeps_room : (ways : ℕ) (set : List Way) (line : ℕ) → room_in ways set line ≡ true → room_in ways (map without_bits set) line ≡ true
 bare_keeps_room ways [] line room = room
 bare_keeps_room ways (way ∷ set) line room = room_by_unmarked ways (map without_bits (way ∷ set)) line refl
-
-set_of_cleared : (cache : List (List Way)) (line : ℕ) → set_of (cleared cache) line ≡ map without_bits (set_of cache line)
-set_of_cleared [] line = refl
-set_of_cleared (first ∷ cache) line =
-    let whole = first ∷ cache in
-    rw (length-map whole (map without_bits)) (get_or-map (map without_bits) whole (set_number whole line) [] [] (omega arith))
-
--- a cache whose bits were cleared has room for every line, and so for those for which it had room
-pub room_of_cleared : (ways : ℕ) (cache : List (List Way)) (line : ℕ) → 1 ≤ ways → room_of ways (cleared cache) line ≡ true
-room_of_cleared ways cache line some =
-    ap (λ set. room_in ways set line) (set_of_cleared cache line) ∙ bare_has_room ways (set_of cache line) line some
 
 pub room_after_clear : (ways : ℕ) (cache : List (List Way)) (line : ℕ) → room_of ways cache line ≡ true →
     room_of ways (cleared cache) line ≡ true

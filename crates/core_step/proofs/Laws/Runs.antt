@@ -9,10 +9,6 @@ use Rattle.el_base.specs.declared.outcomes.Need.{Need}
 use Rattle.rv_word.specs.Decoding.{decoded}
 use Rattle.rv_word.specs.declared.insn.Insn.{Insn}
 use Rattle.rv_word.specs.declared.insn.Insn.TheVariants as insns
-use Rattle.rv_word.specs.declared.insn.LoadWidth.{LoadWidth}
-use Rattle.rv_word.specs.declared.insn.LoadWidth.TheVariants as loads_of
-use Rattle.rv_word.specs.declared.insn.StoreWidth.{StoreWidth}
-use Rattle.rv_word.specs.declared.insn.StoreWidth.TheVariants as stores_of
 use Rattle.rv_alu.specs.declared.action.Action.{Action}
 use Rattle.rv_alu.specs.declared.action.Action.TheVariants as actions
 use Rattle.rv_alu.specs.declared.footprint.Access.{Access}
@@ -22,11 +18,12 @@ use Rattle.rv_alu.specs.declared.view.HartView.{HartView}
 use Rattle.rv_alu.specs.Action.{action_at, action_of, checked_of, has_reserved_of, indirect_of, insn_action_of, jump_of, load_size_of, store_size_of}
 use Rattle.rv_alu.specs.Cause.{instruction_address_misaligned}
 use Rattle.rv_alu.specs.Execution.{Execution, Goes, Stops, executed, insn_touched, loads, perform, store_in, touched, view_after}
-use Rattle.rv_alu.specs.Footprint.{IsSize, footprint}
+use Rattle.rv_alu.specs.Footprint.{footprint}
 use Rattle.rv_alu.specs.Operation.{moved_of, taken_of}
 use Rattle.rv_alu.specs.Regs.{a0, a1, a2, a7, get}
 use Rattle.rv_alu.specs.Span.{holds}
 use Rattle.rv_alu.specs.Syscall.{call_of, exit_number, write_call_of, write_number}
+use Rattle.rv_alu.proofs.Laws.Footprints.{load_sized, store_sized}
 use Rattle.core_step.specs.Run.{IsAligned, IsLoadable, IsReady, IsStorable, ended_by, ended_of, ended_with, lacking, refused, store_when}
 use Rattle.core_step.specs.declared.ended.Ended.{Ended}
 use Rattle.core_step.specs.declared.ended.Ended.TheVariants as ends
@@ -62,18 +59,6 @@ aligned-checked span address size misaligned outside action aligned =
     tested true true h = h refl
     tested true false h = tt
     tested false c h = tt
-
-store_sized : (width : StoreWidth) → IsSize (store_size_of width)
-store_sized stores_of.Byte = inl refl
-store_sized stores_of.Half = inr (inl refl)
-store_sized stores_of.Word = inr (inr refl)
-
-load_sized : (width : LoadWidth) → IsSize (load_size_of width)
-load_sized loads_of.Byte = inl refl
-load_sized loads_of.Half = inr (inl refl)
-load_sized loads_of.Word = inr (inr refl)
-load_sized loads_of.ByteU = inl refl
-load_sized loads_of.HalfU = inr (inl refl)
 
 aligned-write_call : (regs : List ℕ) (span : Span) (room : ℕ) → IsAligned (write_call_of regs span room)
 aligned-write_call regs span room =

@@ -1,11 +1,13 @@
 -- Look-ups, filters, places and counts of lists: what std's lemmas leave out.
 use Rattle.std.proofs.Common.{◌≡◌, ℕ, zero, suc, ◌+◌, ◌<◌, ◌≤◌, ◌==◌, nat_lt, Bool, true, false, not, cond, List, [], ◌∷◌, ◌++◌, length, map, reverse, take, drop, None, Some, refl, ap, sym, ◌∙◌, le_refl, arith}
+use Rattle.std.proofs.Common.{◌⊎◌, inl, inr, get_or}
 use Rattle.std.specs.List.{find, filter, list_any, count_by, prefix_len, position, position_or_len, slice_get, insert, remove}
 use Rattle.std.specs.Option.{option_map, unwrap_or}
 use Rattle.std.proofs.lemmas.List.{reverse-append}
 use Rattle.std.proofs.lemmas.List.Sums.{sum_by-cons, prefix_len-le-length}
 use Rattle.std.proofs.lemmas.List.Folds.{find_at}
 use Rattle.std.proofs.lemmas.Bool.Decides.{nat_tests}
+use Rattle.std.proofs.Math.Seq.{drop-cons}
 
 -- a function over a choice
 pub choice_of_images : {A B : Type 0} (h : A → B) (b : Bool) (x y : A) → cond b (h x) (h y) ≡ h (cond b x y)
@@ -190,3 +192,29 @@ module _ {X : Type 0} (code : X → ℕ) where
   pub length_by_codes : (n : ℕ) (xs : List X) → ((x : X) → code x < n) → ((k : ℕ) → count_by (λ x. code x == k) xs ≤ 1)
       → length xs ≤ n
   length_by_codes n xs small once = omega (arith, all_below n xs small, codes_below n xs once)
+
+-- what stands in a list with one element more
+pub slice_get_push : {X : Type 0} (xs : List X) (x : X) (i : ℕ) (y : X) → slice_get (xs ++ x ∷ []) i ≡ Some y →
+    (slice_get xs i ≡ Some y) ⊎ ((i ≡ length xs) × (x ≡ y))
+slice_get_push [] x zero y found = inr (refl, cc)
+slice_get_push [] x (suc i) y found = cc
+slice_get_push (first ∷ xs) x zero y found = inl found
+slice_get_push (first ∷ xs) x (suc i) y found =
+    elim (slice_get_push xs x i y found) [ inl here ↦ inl here | inr last ↦ inr (ap suc last.0, last.1) ]
+
+-- the first elements, with the one behind them
+pub take_next : {X : Type 0} (xs : List X) (place : ℕ) (x : X) → slice_get xs place ≡ Some x →
+    take (suc place) xs ≡ take place xs ++ x ∷ []
+take_next [] place x found = absurd cc
+take_next (first ∷ xs) zero x found = let same : first ≡ x = cc in ap (λ y. y ∷ []) same
+take_next (first ∷ xs) (suc place) x found = ap (λ list. first ∷ list) (take_next xs place x found)
+
+-- four elements in front, and the rest
+pub four_in_front : (bytes : List ℕ) → 4 ≤ length bytes →
+    bytes ≡ get_or bytes 0 0 ∷ get_or bytes 1 0 ∷ get_or bytes 2 0 ∷ get_or bytes 3 0 ∷ drop 4 bytes
+four_in_front bytes long =
+    drop-cons bytes 0 0 (omega arith)
+    ∙ ap (λ (t : List ℕ). get_or bytes 0 0 ∷ t) (drop-cons bytes 1 0 (omega arith))
+    ∙ ap (λ (t : List ℕ). get_or bytes 0 0 ∷ get_or bytes 1 0 ∷ t) (drop-cons bytes 2 0 (omega arith))
+    ∙ ap (λ (t : List ℕ). get_or bytes 0 0 ∷ get_or bytes 1 0 ∷ get_or bytes 2 0 ∷ t)
+    (drop-cons bytes 3 0 (omega arith))

@@ -16,9 +16,10 @@ beaten_by-beyond losers h beyond =
     ap decoded_winner (past_the_pairs losers.winners.pairs h losers.winners.one_byte_for_two beyond)
 
 -- a code is read as the winner that it stands for
-decoded : (winner : Option ℕ) → IfSome winner (λ w. w < 8) → decoded_winner (min (winner_code winner) 15) ≡ winner
-decoded None known = refl
-decoded (Some winner) known = grind (arith, nat_tests)
+pub decoded-winner_code : (winner : Option ℕ) → IfSome winner (λ w. w < 8) →
+    decoded_winner (min (winner_code winner) 15) ≡ winner
+decoded-winner_code None known = refl
+decoded-winner_code (Some winner) known = grind (arith, nat_tests)
 
 -- a hart below 8 is in its place in the list
 at_its_place : {A : Type 0} (map : ℕ → A) (d : A) (h : ℕ) → h < 8 → get_or (first_eight map) h d ≡ map h
@@ -42,7 +43,7 @@ nibble_of-first_eight number h low =
 pub beaten_by-losers_of : (winner : ℕ → Option ℕ) (h : ℕ) → h < 8 → IfSome (winner h) (λ w. w < 8) →
     beaten_by (losers_of winner) h ≡ winner h
 beaten_by-losers_of winner h low known =
-    ap decoded_winner (nibble_of-first_eight (λ g. winner_code (winner g)) h low) ∙ decoded (winner h) known
+    ap decoded_winner (nibble_of-first_eight (λ g. winner_code (winner g)) h low) ∙ decoded-winner_code (winner h) known
 
 -- a code is read as nothing else
 decoded_as : (winner : Option ℕ) (w : ℕ) → decoded_winner (min (winner_code winner) 15) ≡ Some w → winner ≡ Some w

@@ -68,3 +68,7 @@ at_least low high n e = grind (arith, nat_tests)
 
 pub at_most : (low high n : ℕ) → within low high n ≡ true → n ≤ high
 at_most low high n e = grind (arith, nat_tests)
+
+-- there are no more than 8 harts
+pub harts_in_range : (config : Config) → IsInRange config → config.harts ≤ 8
+harts_in_range config in_range = at_most 1 8 config.harts (ranges config in_range).harts

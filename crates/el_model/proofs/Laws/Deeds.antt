@@ -372,3 +372,12 @@ status_deed state h (Trapped cause pc) is = rests state h (λ runs. absurd (cc))
 pub step_deed : (state : ModelState) (h : ℕ) → IsDeed state h (step_turn state h)
 unfolding step_turn
 step_deed state h = status_deed state h (status_of state.committed h) refl
+
+-- a section that is rolled back is one
+pub is_rolled : (state : ModelState) (h : ℕ) (section : Section) (cause : Cause) → MustRollBack state h section cause →
+    IsInside state h section
+is_rolled state h section Long must = must.inside
+is_rolled state h section Call must = must.is_short.inside
+is_rolled state h section Mixed must = must.goes_on.is_short.inside
+is_rolled state h section Lines must = must.wants.goes.goes_on.is_short.inside
+is_rolled state h section Room must = must.wants.goes.goes_on.is_short.inside

@@ -1,13 +1,13 @@
 -- what never arises from the start on, by induction over the events
-use Rattle.std.proofs.Common.{◌≡◌, ◌∙◌, false, List, [], ◌∷◌, refl, ap}
+use Rattle.std.proofs.Common.{◌≡◌, ◌∙◌, false, List, [], ◌∷◌, refl, ap, ℕ, is_some}
 use Rattle.el_base.specs.declared.config.Config.{Config}
 use Rattle.el_base.specs.declared.config.Mode.TheVariants.{Plain}
 use Rattle.el_base.specs.declared.events.Event.{Event}
 use Rattle.elf_image.specs.Program.{Program}
 use Rattle.el_model.specs.Laws.{PlainStaysPlain, StepsAreDeeds, StamplessStaysSilent}
-use Rattle.el_model.specs.Next.{next, state_after}
+use Rattle.el_model.specs.Next.{after, next, state_after}
 use Rattle.el_model.specs.Quiet.{IsPlain, IsSilent, has_stamps}
-use Rattle.el_model.specs.State.{ModelState, begin, new_hart}
+use Rattle.el_model.specs.State.{ModelState, begin, is_live, new_hart}
 use Rattle.el_model.proofs.Laws.AllHarts.{All, all_first}
 use Rattle.el_model.proofs.Laws.BusEvents.{by_event}
 use Rattle.el_model.proofs.Laws.Deeds.{step_deed}
@@ -45,9 +45,16 @@ unfolding begin
 first_silent program config h =
     all_first IsSilent program.harts (new_hart config.sets) (new_hart 0) (new_is_silent config.sets) (new_is_silent 0) h
 
-begin_config : (program : Program) (config : Config) → (begin program config).config ≡ config
+pub begin_config : (program : Program) (config : Config) → (begin program config).config ≡ config
 unfolding begin
 begin_config program config = refl
+
+-- and no events do
+pub after_config : (program : Program) (config : Config) (events : List Event) →
+    (after program config events).config ≡ config
+after_config program config events =
+    kept_after (λ state. state.config ≡ config) (λ state event now. next_config state event ∙ now)
+    (begin program config) events (begin_config program config)
 
 pub stampless_silent : StamplessStaysSilent
 stampless_silent program config events mode =
@@ -79,3 +86,9 @@ plain_plain program config events mode =
       mode = ap (λ c. c.mode) (begin_config program config) ∙ mode;
       plain = first_plain program config;
     })).plain
+
+-- at the start no hart has a live section
+pub first_outside : (program : Program) (config : Config) (h : ℕ) → is_live (begin program config) h ≡ false
+unfolding begin
+first_outside program config h =
+    all_first (λ hart. is_some hart.section ≡ false) program.harts (new_hart config.sets) (new_hart 0) refl refl h

@@ -1,6 +1,8 @@
 -- the order of requests after each part of an event of the bus
 use Rattle.std.proofs.Common.{◌≡◌, ℕ, List, [], ◌∷◌, Option, None, Some, refl}
-use Rattle.bus_order.specs.Order.{Request, removed, tail_of}
+use Rattle.bus_order.specs.Order.{Request, removed, request_of, tail_of}
+use Rattle.bus_order.proofs.Laws.Queues.{line_of_first_of}
+use Rattle.bus_order.proofs.Laws.LookUps.{request_of_appended_own, request_of_in_front_of_own}
 use Rattle.defer_list.specs.HartSet.{has}
 use Rattle.el_base.specs.declared.config.Mode.{Mode}
 use Rattle.el_base.specs.declared.config.Mode.TheVariants.{Plain, Sle, Tlr}
@@ -67,3 +69,15 @@ order_as_met state by (Takes message others) = refl
 pub order_as_faced : (state : ModelState) (by : ℕ) (start : Start) (head : Request) → (as_faced state by start head).order ≡ order_after state start
 unfolding let_go
 order_as_faced state by start head = order_as_met state by start
+
+-- the head of a line asks for this line
+pub head_line : (state : ModelState) (line : ℕ) (request : Request) → head_of state line ≡ Some request →
+    request.line ≡ line
+head_line state line request is = line_of_first_of state.order line request is
+
+-- a request that is ordered is the one of its hart
+pub placed_own : (state : ModelState) (request : Request) (place : Place) → request_of state.order request.hart ≡ None →
+    request_of (order_at state request place) request.hart ≡ Some request
+placed_own state request InFront none = request_of_in_front_of_own state.order request none
+placed_own state request Behind none = request_of_appended_own state.order request none
+placed_own state request Alone none = request_of_appended_own state.order request none

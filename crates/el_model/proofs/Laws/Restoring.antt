@@ -73,7 +73,7 @@ first_numbered [] line next all is = absurd (cc)
 first_numbered (request ∷ order) line next all is =
     chosen_numbered request next (request.line == line) (first_of order line) all.0 (first_numbered order line next all.1) is
 
-removed_numbered : (order : List Request) (h : ℕ) → AreNumbered order → AreNumbered (removed order h)
+pub removed_numbered : (order : List Request) (h : ℕ) → AreNumbered order → AreNumbered (removed order h)
 removed_numbered [] h all = tt
 removed_numbered (request ∷ order) h all =
     by_test AreNumbered (request.hart == h) (removed order h) (request ∷ removed order h)

@@ -5,7 +5,7 @@ use Rattle.el_base.specs.declared.config.Mode.{Mode}
 use Rattle.el_base.specs.declared.config.Mode.TheVariants.{Plain, Sle, Tlr}
 use Rattle.el_base.specs.declared.outcomes.Cause.{Cause}
 use Rattle.el_base.specs.declared.outcomes.Need.{Need}
-use Rattle.el_model.proofs.Laws.Losing.{beaten_stands}
+use Rattle.el_model.proofs.Laws.Losing.{beaten_stands, lost_section}
 use Rattle.el_model.specs.Armed.{continued_hart, let_go_hart}
 use Rattle.el_model.specs.InSection.{buffered_hart, committed_hart}
 use Rattle.el_model.specs.Losses.{Standing, lost_in, restored, standing_of}
@@ -242,15 +242,6 @@ either_left last tries fallback =
     if last then record { section = None; tries = 0; fallback = true }
     else record { section = None; tries = tries; fallback = fallback }
 
-none_either : (last : Bool) (tries : ℕ) (fallback : Bool) → (either_left last tries fallback).section ≡ None
-none_either true tries fallback = refl
-none_either false tries fallback = refl
-
-none_left : (mode : Mode) (old : Standing) → (lost_in mode old).section ≡ None
-none_left Tlr old = refl
-none_left Sle old = none_either (old.tries + 1 == most_tries) (old.tries + 1) old.fallback
-none_left Plain old = none_either (old.tries + 1 == most_tries) (old.tries + 1) old.fallback
-
 -- what a hart has learnt, its armed section and its last LR stay: so they do by a loss, but for the section
 pub record IsUntaught (hart after : Hart) : Type 0 where
   pub predictor : after.predictor ≡ hart.predictor
@@ -271,7 +262,7 @@ trust_stays Plain winner hart = nothing_learnt (out_of_section hart) (hart.tries
 pub lost_is : (mode : Mode) (own : Own) (hart after : Hart) → HasOwn own hart → standing_of after ≡ lost_in mode (standing_of hart) →
     after.predictor ≡ hart.predictor → after.armed ≡ None → after.last_lr ≡ hart.last_lr → HasOwn (lost_own mode own) after
 lost_is mode own hart after has standing predictor unarmed last = record {
-  section = sym (none_left mode (standing_own own)) ∙ ap (λ s. s.section) left;
+  section = sym (lost_section mode (standing_own own)) ∙ ap (λ s. s.section) left;
   armed = sym unarmed;
   last_lr = has.last_lr ∙ sym last;
   predictor = has.predictor ∙ sym predictor;

@@ -14,7 +14,7 @@ use Rattle.line_pool.proofs.Laws.{has-out, kept-out, kept-owner, owners_apart}
 pub leaves-same : (owner : ℕ) (pool : Pooled) → LeavesOthers owner pool pool
 leaves-same owner pool = record { outs = λ s apart. refl; counts = λ o apart. refl; bytes = λ s apart has. refl; quotas = refl }
 
-same_has : (old new : Pooled) (slot : Slot) → quotas_of new ≡ quotas_of old → has_slot new slot ≡ has_slot old slot
+pub same_has : (old new : Pooled) (slot : Slot) → quotas_of new ≡ quotas_of old → has_slot new slot ≡ has_slot old slot
 same_has old new slot same = ap (λ quotas. nat_lt slot.place (slice_index quotas slot.owner)) same
 
 pub leaves-then : (owner : ℕ) (old between new : Pooled) → LeavesOthers owner old between → LeavesOthers owner between new

@@ -11,6 +11,7 @@ use Rattle.bus_order.specs.Order.{IsOneEach, Request}
 use Rattle.defer_list.specs.HartSet.{has}
 use Rattle.el_base.proofs.Laws.HartIds.{hart_id-number}
 use Rattle.el_base.proofs.Laws.MadeLosers.{count_in-beyond, count_in-freed_of, named_by_map, none_in_no_one}
+use Rattle.el_base.proofs.Laws.Ranges.{harts_in_range}
 use Rattle.el_base.specs.Config.{IsInRange}
 use Rattle.residency.specs.Cache.{has_bit}
 use Rattle.el_base.specs.Freed.{count_in, no_one_freed}
@@ -56,7 +57,7 @@ use Rattle.section_laws.proofs.Laws.Bits.{second_of_both, some_same}
 use Rattle.removal_laws.proofs.Laws.Delivering.{own_line}
 use Rattle.removal_laws.proofs.Laws.Facing.{least_passes}
 use Rattle.section_laws.proofs.Laws.Bounds.{Bounded, always_bounded}
-use Rattle.section_laws.proofs.Laws.Numbered.{harts_in_range, next_count, one_ordered_request_each, raised_exists}
+use Rattle.section_laws.proofs.Laws.Numbered.{next_count, one_ordered_request_each, raised_exists}
 use Rattle.section_laws.proofs.Laws.OrderedHarts.{AreBelow, below_kept}
 use Rattle.section_laws.proofs.Laws.SectionSteps.{live_exists}
 use Rattle.section_laws.specs.EachHart.{IsShortArmed}

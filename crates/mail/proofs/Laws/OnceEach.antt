@@ -139,3 +139,7 @@ place_for_one items new once none =
           sum_by_push (λ other. cond (same_message other message) 1 0) (map numbered items) (numbered new),
           once_each_behind (map numbered items) (numbered new) once none message,
         )
+
+-- the first message of a box is in it
+pub first_there : (first : Message) (box : List Message) → has_message (first ∷ box) first ≡ true
+first_there first box = ap (λ test. cond test true (has_message box first)) (same_as_itself first)

@@ -1,8 +1,6 @@
 -- how a state gets on: by a hart that waits for nothing, by a request or a message, or by the head of a line that no section retains
-use Rattle.std.proofs.Common.{◌≡◌, ◌≢◌, ◌∙◌, ℕ, zero, suc, ◌<◌, ◌≤◌, ◌==◌, Bool, true, false, ◌&&◌, not}
-use Rattle.std.proofs.Common.{List, [], ◌∷◌, Option, None, Some, is_some, length, refl, ap, sym, inl, inr, ◌⊎◌, arith, if◌then◌else◌}
-use Rattle.std.specs.Prelude.{nat_lt, slice_index_or}
-use Rattle.std.proofs.lemmas.Bool.{ltb-true, ltb-false}
+use Rattle.std.proofs.Common.{◌≡◌, ◌∙◌, ℕ, ◌<◌, ◌==◌, true, false, ◌&&◌, not, ◌≢◌}
+use Rattle.std.proofs.Common.{List, ◌∷◌, Option, None, Some, is_some, length, refl, ap, sym, inl, inr, ◌⊎◌}
 use Rattle.bus_order.specs.Order.{IsOneEach, Request}
 use Rattle.bus_order.proofs.Laws.LookUps.{own_test}
 use Rattle.bus_order.proofs.Laws.Queues.{line_of_first_of, request_of_first_of}
@@ -12,24 +10,25 @@ use Rattle.el_base.specs.declared.events.Kind.{Kind}
 use Rattle.el_base.specs.declared.events.Kind.TheVariants.{Step, Order, Serve, Deliver}
 use Rattle.el_base.specs.declared.outcomes.Why.TheVariants.{Behind, Retained, Locked}
 use Rattle.elf_image.specs.Program.{Program}
-use Rattle.el_model.specs.Conflicts.{first_such, holder_of, retainer_of, retains}
+use Rattle.el_model.specs.Conflicts.{holder_of, retainer_of, retains}
 use Rattle.el_model.specs.Deed.{Arms, Begins, Buffers, Commits, Continues, Deed, DoesWhere, Elides, LetsGo, Misses, Rests, RollsBack, Runs, Waits, outcome_of}
 use Rattle.el_model.specs.Deliver.{deliver_next, deliver_turn}
-use Rattle.el_model.specs.Next.{after, kind_turn}
+use Rattle.el_model.specs.Next.{after, kind_turn, status_turn}
 use Rattle.el_model.specs.Order.{order_raised, order_turn}
 use Rattle.el_model.specs.Serve.{Free, Obstacle, blocks_if, obstacle_to, other_head, serve_ordered, serve_past, serve_turn}
 use Rattle.el_model.specs.State.{ModelState, begin, has_request, hart_of, head_of, is_held, is_live, numbers_of, ordered_of, raised_of}
 use Rattle.el_model.proofs.Laws.Deeds.{step_deed}
 use Rattle.el_model.proofs.Laws.FromStart.{kept_after}
+use Rattle.el_model.proofs.Laws.Conflicts.{first_passes, none_first}
 use Rattle.mail.specs.Mailbox.{Message}
 use Rattle.progress_laws.specs.Ready.{is_progress}
-use Rattle.rv_alu.specs.declared.view.HartStatus.{HartStatus}
 use Rattle.rv_alu.specs.declared.view.HartStatus.TheVariants.{Exited, Running, Trapped}
-use Rattle.rv_alu.specs.declared.view.HartView.{HartView}
-use Rattle.rv_flat.specs.FlatState.{FlatState, no_hart, status_of}
+use Rattle.rv_alu.specs.declared.view.HartStatus.{HartStatus}
+use Rattle.rv_flat.specs.FlatState.{status_of}
+use Rattle.rv_flat.proofs.Laws.RunsAfter.{running_status}
 use Rattle.section_laws.specs.Waiting.{OnlyHolds}
 use Rattle.section_laws.proofs.Laws.FreeLines.{has_head}
-use Rattle.section_laws.proofs.Laws.Lengths.{AsMany, first_as_many, next_as_many}
+use Rattle.section_laws.proofs.Laws.Lengths.{AsMany, first_as_many, next_as_many, runs_exists}
 use Rattle.section_laws.proofs.Laws.Numbered.{one_ordered_request_each}
 use Rattle.section_laws.proofs.Laws.Waiting.{Sound, always_sound}
 use Rattle.progress_laws.proofs.Laws.Cases.{some_none, true_false}
@@ -55,52 +54,25 @@ always_orderly program config events = record {
   as_many = kept_after AsMany next_as_many (begin program config) events (first_as_many program config);
 }
 
--- a hart that runs is one of the machine's
-view_past : (harts : List HartView) (h : ℕ) → length harts ≤ h → slice_index_or harts h no_hart ≡ no_hart
-view_past [] h past = refl
-view_past (view ∷ views) zero past = absurd (omega arith)
-view_past (view ∷ views) (suc h) past = view_past views h (omega (arith, past))
-
-none_past : (state : FlatState) (h : ℕ) → length state.harts ≤ h → status_of state h ≡ Exited 0
-none_past state h past = ap (λ view. view.status) (view_past state.harts h past)
-
-runs_below : (state : FlatState) (h : ℕ) (below : Bool) → nat_lt h (length state.harts) ≡ below → status_of state h ≡ Running →
-    h < length state.harts
-runs_below state h true is running = ltb-true h (length state.harts) is
-runs_below state h false is running = never (sym running ∙ none_past state h (ltb-false h (length state.harts) is))
-  where
-    never : Running ≡ Exited 0 → h < length state.harts
-    never wrong = absurd (cc)
-
-pub runs_exists : (state : ModelState) (h : ℕ) → AsMany state → status_of state.committed h ≡ Running → h < length state.harts
-runs_exists state h same running =
-    let below = runs_below state.committed h (nat_lt h (length state.committed.harts)) refl running in
-    omega (arith, below, same)
-
 -- a hart that waits for something, or that holds a line, runs
-running_or : (status : HartStatus) → (status ≢ Running → ⊥) → status ≡ Running
-running_or Running never = refl
-running_or (Exited code) never = absurd (never (λ wrong. absurd (cc)))
-running_or (Trapped cause pc) never = absurd (never (λ wrong. absurd (cc)))
-
 pub ordered_runs : (state : ModelState) (h : ℕ) (request : Request) → Sound state → ordered_of state h ≡ Some request →
     status_of state.committed h ≡ Running
 ordered_runs state h request sound is =
-    running_or (status_of state.committed h) (λ ended. some_none (sym is ∙ ((sound h).stopped ended).not_ordered))
+    running_status (status_of state.committed h) (λ ended. some_none (sym is ∙ ((sound h).stopped ended).not_ordered))
 
 pub raised_runs : (state : ModelState) (h : ℕ) (request : Request) → Sound state → raised_of state h ≡ Some request →
     status_of state.committed h ≡ Running
 raised_runs state h request sound is =
-    running_or (status_of state.committed h) (λ ended. some_none (sym is ∙ ((sound h).stopped ended).not_raised))
+    running_status (status_of state.committed h) (λ ended. some_none (sym is ∙ ((sound h).stopped ended).not_raised))
 
 pub live_runs : (state : ModelState) (h : ℕ) → Sound state → is_live state h ≡ true → status_of state.committed h ≡ Running
 live_runs state h sound live =
-    running_or (status_of state.committed h)
+    running_status (status_of state.committed h)
     (λ ended. true_false (sym live ∙ ap is_some ((sound h).stopped ended).no_section))
 
 pub held_runs : (state : ModelState) (h line : ℕ) → Sound state → (hart_of state h).held ≡ Some line → status_of state.committed h ≡ Running
 held_runs state h line sound is =
-    running_or (status_of state.committed h) (λ ended. some_none (sym is ∙ ((sound h).stopped ended).not_held))
+    running_status (status_of state.committed h) (λ ended. some_none (sym is ∙ ((sound h).stopped ended).not_held))
 
 -- a hart that runs and has no request steps
 pub deed_gets_on : (state : ModelState) (h : ℕ) (deed : Deed) → DoesWhere state h deed → status_of state.committed h ≡ Running →
@@ -149,20 +121,6 @@ mail_gets_on state h message others exists mail = record {
   exists = exists;
   progress = ap (λ box. is_progress (deliver_next state h box).outcome) mail;
 }
-
--- the first hart of which a test holds, and none where it holds of none
-none_first : (test : ℕ → Bool) (numbers : List ℕ) → ((h : ℕ) → test h ≡ false) → first_such test numbers ≡ None
-none_first test [] none = refl
-none_first test (h ∷ others) none = rw (none h) (none_first test others none)
-
-pub first_passes : (test : ℕ → Bool) (numbers : List ℕ) (h : ℕ) → first_such test numbers ≡ Some h → test h ≡ true
-first_passes test [] h is = absurd (cc)
-first_passes test (first ∷ others) h is = by (test first) refl (first_passes test others h) is
-  where
-    by : (passes : Bool) → test first ≡ passes → (first_such test others ≡ Some h → test h ≡ true) →
-        (if passes then Some first else first_such test others) ≡ Some h → test h ≡ true
-    by true passes rest is = let same : first ≡ h = cc in ap test (sym same) ∙ passes
-    by false passes rest is = rest is
 
 -- a hart that holds a line waits for nothing, and steps
 held_line : (held : Option ℕ) (line : ℕ) → is_held held line ≡ true → (l : ℕ) × (held ≡ Some l)
@@ -234,3 +192,10 @@ pub line_gets_on : (state : ModelState) (h : ℕ) (request : Request) → Orderl
     ((g : ℕ) → retains state g request.line ≡ false) → GetsOn state
 line_gets_on state h request orderly is unretained =
     unretained_gets_on state h request orderly is (none_first (λ g. retains state g request.line) (numbers_of state) unretained)
+
+-- a hart that has stopped gets on by no step
+pub stopped_step : (state : ModelState) (h : ℕ) (status : HartStatus) → status ≢ Running →
+    is_progress (status_turn state h status).outcome ≡ false
+stopped_step state h Running stopped = absurd (stopped refl)
+stopped_step state h (Exited code) stopped = refl
+stopped_step state h (Trapped cause pc) stopped = refl

@@ -4,7 +4,6 @@ use Rattle.std.proofs.Common.{◌≡◌, ◌≢◌, ◌∙◌, ◌||◌, if◌th
 use Rattle.std.proofs.Common.{Option, None, Some, is_some, refl, ap, sym}
 use Rattle.std.specs.List.{list_any}
 use Rattle.bus_order.specs.Order.{Request}
-use Rattle.bus_order.proofs.Laws.LookUps.{number_of_test}
 use Rattle.el_base.specs.declared.events.Event.{Event}
 use Rattle.el_base.specs.declared.events.Kind.TheVariants as kinds
 use Rattle.el_model.specs.Deed.{Arms, Begins, Buffers, Commits, Continues, Elides, LetsGo, Misses, Rests, RollsBack, Runs, Waits}
@@ -16,8 +15,9 @@ use Rattle.el_model.specs.Upcoming.{Swap}
 use Rattle.el_model.proofs.Laws.Deeds.{step_deed}
 use Rattle.el_model.proofs.Laws.Harts.{hart_of-with_hart_same}
 use Rattle.mail.specs.Mailbox.{Marker, Message, Probe, has_message, same_message}
+use Rattle.mail.proofs.Laws.OnceEach.{same_is_one}
 use Rattle.progress_laws.proofs.Laws.Cases.{false_true, true_false}
-use Rattle.progress_laws.proofs.Laws.GettingOn.{Orderly, always_orderly, deed_gets_on, held_runs, holds_only, runs_exists}
+use Rattle.progress_laws.proofs.Laws.GettingOn.{Orderly, always_orderly, deed_gets_on, held_runs, holds_only}
 use Rattle.progress_laws.specs.LeastStamp.{EndsHold, LeastWaits, LineOfLeastStampMovesOn, is_about}
 use Rattle.progress_laws.specs.Ready.{is_progress}
 use Rattle.removal_laws.specs.Facts.{Everywhere, Facts}
@@ -29,15 +29,10 @@ use Rattle.removal_laws.proofs.Laws.Throughout.{facts_hold_throughout}
 use Rattle.rv_alu.specs.declared.view.HartStatus.TheVariants.{Running}
 use Rattle.rv_flat.specs.FlatState.{status_of}
 use Rattle.section_laws.proofs.Laws.FreeLines.{has_head}
+use Rattle.section_laws.proofs.Laws.Lengths.{runs_exists}
 use Rattle.stamp.specs.Stamps.{is_before}
 
 -- a message that a test takes is not in a box of which the test takes none
-same_is : (one other : Message) → same_message one other ≡ true → one ≡ other
-same_is (Marker one) (Marker other) same = ap Marker (number_of_test one other same)
-same_is (Probe one) (Probe other) same = ap Probe (number_of_test one other same)
-same_is (Marker one) (Probe other) same = false_true same
-same_is (Probe one) (Marker other) same = false_true same
-
 not_in_box : (test : Message → Bool) (box : List Message) (message : Message) → list_any test box ≡ false → test message ≡ true →
     has_message box message ≡ false
 not_in_box test [] message none takes = refl
@@ -47,7 +42,7 @@ not_in_box test (first ∷ others) message none takes =
     by : (taken : Bool) → test first ≡ taken → (taken || list_any test others) ≡ false → (same : Bool) → same_message first message ≡ same →
         (list_any test others ≡ false → has_message others message ≡ false) → (if same then true else has_message others message) ≡ false
     by true is wrong same there further = true_false wrong
-    by false is rest true same further = true_false (sym takes ∙ ap test (sym (same_is first message same)) ∙ is)
+    by false is rest true same further = true_false (sym takes ∙ ap test (sym (same_is_one first message same)) ∙ is)
     by false is rest false apart further = further rest
 
 module _ (state : ModelState) (h line : ℕ) (facts : Facts Everywhere state) (least : LeastWaits state h line) where

@@ -23,12 +23,12 @@ use Rattle.el_model.specs.State.{Hart, ModelState, Turn, for_line, hart_of, numb
 use Rattle.el_model.specs.State.{raised_of}
 use Rattle.el_model.proofs.Laws.BusEvents.{by_event, frame_as_faced, freed_becomes_at}
 use Rattle.el_model.proofs.Laws.Deeds.{step_deed}
-use Rattle.el_model.proofs.Laws.Orders.{order_as_faced, served_order}
+use Rattle.el_model.proofs.Laws.Orders.{order_as_faced, placed_own, served_order}
 use Rattle.removal_laws.specs.Laws.{LosersLoseToEarlier, LosesToEarlier, attempt_of}
 use Rattle.removal_laws.proofs.Laws.Attempts.{attempts_kept}
 use Rattle.removal_laws.proofs.Laws.Delivering.{own_line}
 use Rattle.removal_laws.proofs.Laws.Facing.{FateIs, Lost, fate_is, least_passes, saw_clock}
-use Rattle.removal_laws.proofs.Requests.{placed_own, raised_own}
+use Rattle.removal_laws.proofs.Requests.{raised_own}
 use Rattle.removal_laws.proofs.Laws.Throughout.{always_holds}
 use Rattle.section_laws.proofs.Laws.Bits.{second_of_both, some_same}
 use Rattle.section_laws.proofs.Laws.EachKept.{BusKept, becomes_keeps, turn_keeps}

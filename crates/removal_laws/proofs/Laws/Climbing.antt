@@ -12,11 +12,11 @@ use Rattle.el_base.specs.declared.outcomes.Need.TheVariants.{Read, Write}
 use Rattle.el_model.specs.Conflicts.{conflicts_with, meets_bit, retains}
 use Rattle.el_model.specs.Next.{after}
 use Rattle.el_model.specs.State.{Hart, ModelState, cache_of, for_line, hart_of, head_of, ordered_of, ordered_on}
+use Rattle.el_model.proofs.Laws.Orders.{head_line}
 use Rattle.removal_laws.specs.Facts.{AreLinked, Everywhere, Facts, IsChained, IsLinked, Knows}
 use Rattle.removal_laws.specs.Laws.{IsDelivered, LeastStampIsNotRetained, WaitsWithLeast}
 use Rattle.section_laws.proofs.Laws.Bits.{Meets, clash, meets, or_second, some_none, some_same}
 use Rattle.removal_laws.proofs.Laws.Delivering.{own_line}
-use Rattle.removal_laws.proofs.Kept.{head_line}
 use Rattle.removal_laws.proofs.Queues.{IsHead, head_is}
 use Rattle.removal_laws.proofs.Laws.Throughout.{always_holds, facts_hold_throughout}
 

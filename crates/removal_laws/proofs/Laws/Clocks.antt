@@ -5,19 +5,17 @@ use Rattle.bus_order.proofs.Laws.LookUps.{number_of_test, own_test}
 use Rattle.el_base.specs.declared.config.Mode.{Mode}
 use Rattle.el_base.specs.declared.config.Mode.TheVariants.{Plain, Sle, Tlr}
 use Rattle.el_base.specs.declared.events.Event.{Event}
-use Rattle.el_base.specs.declared.outcomes.Cause.{Cause}
-use Rattle.el_base.specs.declared.outcomes.Cause.TheVariants.{Room, Lines, Long, Call, Mixed}
 use Rattle.el_base.specs.declared.outcomes.Outcome.{Outcome}
 use Rattle.el_base.specs.declared.outcomes.Outcome.TheVariants as outcomes
 use Rattle.el_model.specs.Attempts.{closed_clock, opened}
 use Rattle.el_model.specs.BusEvent.{IsOfBus}
-use Rattle.el_model.specs.Deed.{Arms, Begins, Buffers, Commits, Continues, Deed, DoesWhere, Elides, IsInside, LetsGo, Misses, MustRollBack, Rests, RollsBack, Runs, Waits, done, hart_after, outcome_of}
+use Rattle.el_model.specs.Deed.{Arms, Begins, Buffers, Commits, Continues, Deed, DoesWhere, Elides, LetsGo, Misses, Rests, RollsBack, Runs, Waits, done, hart_after, outcome_of}
 use Rattle.el_model.specs.Next.{after, next, state_after, step_turn}
 use Rattle.el_model.specs.Plain.{candidate_of}
 use Rattle.el_model.specs.Serve.{with_claim}
-use Rattle.el_model.specs.State.{Hart, ModelState, Section, hart_of, new_hart, section_of}
+use Rattle.el_model.specs.State.{Hart, ModelState, hart_of, new_hart, section_of}
 use Rattle.el_model.proofs.Laws.BusEvents.{by_event}
-use Rattle.el_model.proofs.Laws.Deeds.{step_deed}
+use Rattle.el_model.proofs.Laws.Deeds.{is_rolled, step_deed}
 use Rattle.el_model.proofs.Laws.FromStart.{kept_after}
 use Rattle.el_model.proofs.Laws.Harts.{hart_of-past}
 use Rattle.removal_laws.specs.Laws.{IsLater, LaterAttemptsAreLater, StampsAreKept, attempt_of, closes}
@@ -185,13 +183,6 @@ never : {X : Type 0} (closing : Bool) → (closing && false) ≡ true → X
 never true wrong = absurd (cc)
 never false wrong = absurd (cc)
 
-inside : (state : ModelState) (h : ℕ) (section : Section) (cause : Cause) → MustRollBack state h section cause → IsInside state h section
-inside state h section Long must = must.inside
-inside state h section Call must = must.is_short.inside
-inside state h section Mixed must = must.goes_on.is_short.inside
-inside state h section Lines must = must.wants.goes.goes_on.is_short.inside
-inside state h section Room must = must.wants.goes.goes_on.is_short.inside
-
 deed_closes : (state : ModelState) (h : ℕ) (deed : Deed) → DoesWhere state h deed → AllOpen state →
     Closing state (λ g. (h == g) && closes_it (outcome_of deed)) h (hart_after state h deed (hart_of state h))
 deed_closes state h Rests does now = λ closing. never (h == h) closing
@@ -207,7 +198,8 @@ deed_closes state h (LetsGo armed) does now = λ closing. never (h == h) closing
 deed_closes state h (Commits section) does now =
     λ closing. attempt_closes (hart_of state h) _ (now.open_each h (ap is_some does.goes_on.is_short.inside.live)) refl
 deed_closes state h (RollsBack section cause) does now =
-    λ closing. attempt_closes (hart_of state h) _ (now.open_each h (ap is_some (inside state h section cause does).live)) refl
+    λ closing.
+    attempt_closes (hart_of state h) _ (now.open_each h (ap is_some (is_rolled state h section cause does).live)) refl
 
 live_exists : {X : Type 0} (state : ModelState) (h : ℕ) → length state.harts ≤ h → is_some (section_of state h) ≡ true → X
 live_exists state h past live =
@@ -240,7 +232,7 @@ done_closes state h deed does now =
     past_closes state h (LetsGo armed) does past closing = never (h == h) closing
     past_closes state h (Commits section) does past closing = live_exists state h past (ap is_some does.goes_on.is_short.inside.live)
     past_closes state h (RollsBack section cause) does past closing =
-        live_exists state h past (ap is_some (inside state h section cause does).live)
+        live_exists state h past (ap is_some (is_rolled state h section cause does).live)
 
 -- no event of the bus closes an attempt
 closes_not : {X : Type 0} (own : Bool) (outcome : Outcome) → IsOfBus outcome → (own && closes_it outcome) ≡ true → X

@@ -1,23 +1,24 @@
 -- what holds still holds after a message is delivered
 use Rattle.std.proofs.Common.{◌≡◌, ◌≢◌, ◌∙◌, ◌<◌, ◌==◌, ◌&&◌, ℕ, Bool, true, false, not, List, [], ◌∷◌, length, map, Option, None, Some, is_some, refl, ap, sym, inl, inr, ◌⊎◌, arith, subst, if◌then◌else◌}
-use Rattle.std.specs.Prelude.{nat_lt}
 use Rattle.std.proofs.Math.ListN.{length-set}
-use Rattle.std.proofs.lemmas.Bool.{cases_eq, ltb-true, ltb-false}
+use Rattle.std.proofs.lemmas.Bool.{cases_eq}
 use Rattle.bus_order.specs.Order.{Request}
 use Rattle.bus_order.proofs.Laws.LookUps.{number_of_test, other_test, own_test}
 use Rattle.defer_list.specs.HartSet.{has, included}
 use Rattle.defer_list.proofs.Laws.LookUps.{has_included_other, has_included_own}
 use Rattle.el_model.specs.Deliver.{taken, told_on}
 use Rattle.el_model.specs.State.{Hart, ModelState, for_line, hart_of, numbers_of, ordered_of, ordered_on, post_all, with_hart}
-use Rattle.el_model.proofs.Laws.Harts.{hart_of-past, hart_of-with_hart_other, hart_of-with_hart_same}
+use Rattle.el_model.proofs.Laws.Harts.{hart_of-with_hart_other, hart_of-with_hart_same}
 use Rattle.mail.specs.Mailbox.{Marker, Message, Probe, has_message}
+use Rattle.mail.proofs.Laws.OnceEach.{first_there}
 use Rattle.removal_laws.specs.Facts.{IsLinked, IsWaiting, Knows, MayBeKnown, MayPrecede}
 use Rattle.section_laws.proofs.Laws.Bits.{both, clash, fewer_same, first_of_both, second_of_both, some_same}
 use Rattle.removal_laws.proofs.Laws.Facing.{has_number, passed, passes}
 use Rattle.removal_laws.proofs.Grounds.{Grounds, Standing}
 use Rattle.removal_laws.proofs.Kept.{Owed}
-use Rattle.removal_laws.proofs.Probing.{Took, all_known, all_probed, debts_stand, first_or_later, first_there, later_there, took_nothing}
+use Rattle.removal_laws.proofs.Probing.{Took, all_known, all_probed, debts_stand, first_or_later, later_there, took_nothing}
 use Rattle.el_model.proofs.Laws.EachHart.{Each, each_but, each_with}
+use Rattle.el_model.proofs.Laws.BusEvents.{with_mail}
 
 -- a set with one hart more
 pub more_has : (harts : List ℕ) (new hart : ℕ) → has harts hart ≡ true → has (included harts new) hart ≡ true
@@ -33,18 +34,6 @@ new_or_had harts new hart is = by (cases_eq new hart)
     by : (new ≡ hart) ⊎ (new ≡ hart → ⊥) → (hart ≡ new) ⊎ (has harts hart ≡ true)
     by (inl same) = inl (sym same)
     by (inr apart) = inr (sym (has_included_other harts new hart apart) ∙ is)
-
--- a hart with a message is one of the machine's
-pub mail_exists : (state : ModelState) (h : ℕ) (message : Message) (others : List Message) →
-    (hart_of state h).mail ≡ message ∷ others → h < length state.harts
-mail_exists state h message others mail = by (nat_lt h (length state.harts)) refl
-  where
-    empty : {X : Type 0} → [] ≡ message ∷ others → X
-    empty wrong = absurd (cc)
-
-    by : (below : Bool) → nat_lt h (length state.harts) ≡ below → h < length state.harts
-    by true below = ltb-true h (length state.harts) below
-    by false past = empty (ap (λ hart. hart.mail) (sym (hart_of-past state h (ltb-false h (length state.harts) past))) ∙ mail)
 
 -- the entry that is new
 abbrev pub Entry : ℕ → ℕ → ℕ → ℕ → Type 0
@@ -70,7 +59,7 @@ module _ (state : ModelState) (h sender : ℕ) (others : List Message) (mail : (
   Took_marker g hart = Took (Entry h sender) NoEntry state g (hart_of state g) hart
 
   exists : h < length state.harts
-  exists = mail_exists state h (Marker sender) others mail
+  exists = with_mail state h (Marker sender) others mail
 
   may : MayPrecede state h sender
   may = standing.messages.before h sender (inl (subst (λ box. has_message box (Marker sender) ≡ true) (sym mail) (first_there (Marker sender) others)))

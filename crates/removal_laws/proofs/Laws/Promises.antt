@@ -1,6 +1,6 @@
 -- what comes of the facts: the least stamp never loses, later attempts are later than all that their hart waited for, and
 -- a head that nothing is in the way of is served
-use Rattle.std.proofs.Common.{◌≡◌, ◌∙◌, ◌==◌, ◌&&◌, ℕ, Bool, true, false, not, List, [], ◌∷◌, Option, None, Some, refl, ap, sym, inl, inr, ◌⊎◌, arith, subst, if◌then◌else◌}
+use Rattle.std.proofs.Common.{◌≡◌, ◌∙◌, ◌==◌, ◌&&◌, ℕ, true, false, not, [], Option, None, Some, refl, ap, sym, inl, inr, ◌⊎◌, arith, subst, if◌then◌else◌}
 use Rattle.std.proofs.lemmas.Bool.{cases_eq}
 use Rattle.bus_order.specs.Order.{Request}
 use Rattle.bus_order.proofs.Laws.LookUps.{number_of_test, own_test}
@@ -9,12 +9,14 @@ use Rattle.el_base.specs.declared.events.Event.{Event}
 use Rattle.el_base.specs.declared.events.Kind.{Kind}
 use Rattle.el_base.specs.declared.events.Kind.TheVariants as kinds
 use Rattle.el_base.specs.declared.outcomes.Why.TheVariants.{Behind, Locked, Retained}
-use Rattle.el_model.specs.Conflicts.{first_such, holder_of, retainer_of, retains}
+use Rattle.el_model.specs.Conflicts.{holder_of, retainer_of, retains}
 use Rattle.el_base.specs.Winners.{winner_over}
 use Rattle.el_model.specs.Next.{after, kind_turn, next}
 use Rattle.el_model.specs.Serve.{Free, Obstacle, blocks_if, obstacle_to, other_head, serve_ordered, serve_past, serve_turn}
 use Rattle.el_model.specs.State.{ModelState, hart_of, head_of, is_held, numbers_of, ordered_of, section_of}
 use Rattle.el_model.proofs.Laws.BusEvents.{by_event}
+use Rattle.el_model.proofs.Laws.Orders.{head_line}
+use Rattle.el_model.proofs.Laws.Conflicts.{first_passes, none_first}
 use Rattle.removal_laws.specs.Facts.{Everywhere, Facts}
 use Rattle.removal_laws.specs.Laws.{HasLeast, HeadIsServed, IsLocked, LaterThanDeferredHeads, LaterThanWinners, LeastStampNeverLoses, LosesToEarlier, attempt_of, is_served}
 use Rattle.removal_laws.proofs.Laws.Beating.{next_beats, same_attempts, step_names}
@@ -22,7 +24,6 @@ use Rattle.section_laws.proofs.Laws.Bits.{clash, second_of_both, some_none, some
 use Rattle.removal_laws.proofs.Laws.Climbing.{least_stamp_is_not_retained}
 use Rattle.removal_laws.proofs.Laws.Clocks.{later_from}
 use Rattle.removal_laws.proofs.Grounds.{Grounds, facts_of}
-use Rattle.removal_laws.proofs.Kept.{head_line}
 use Rattle.removal_laws.proofs.Laws.Throughout.{always_holds, next_holds}
 use Rattle.section_laws.specs.Waiting.{OnlyHolds}
 use Rattle.section_laws.proofs.Laws.EachKept.{turn_keeps}
@@ -91,20 +92,6 @@ later_than_deferred_heads program config events between afterwards closing g lin
     let saw = (now.standing.retaining.may g line tt retained).seen head stamp is_head stamp_is in
     let later_is = (later_from state between afterwards closing g later now.grounds.own now.grounds.opened closed is).than_seen in
     omega (arith, saw, later_is)
-
--- the first of which a test holds
-none_first : (test : ℕ → Bool) (harts : List ℕ) → ((h : ℕ) → test h ≡ false) → first_such test harts ≡ None
-none_first test [] none = refl
-none_first test (h ∷ others) none = ap (λ b. if b then Some h else first_such test others) (none h) ∙ none_first test others none
-
-first_passes : (test : ℕ → Bool) (harts : List ℕ) (h : ℕ) → first_such test harts ≡ Some h → test h ≡ true
-first_passes test [] h is = absurd (cc)
-first_passes test (first ∷ others) h is = by (first_passes test others h) (test first) refl is
-  where
-    by : (first_such test others ≡ Some h → test h ≡ true) → (found : Bool) → test first ≡ found →
-        (if found then Some first else first_such test others) ≡ Some h → test h ≡ true
-    by rest true holds is = subst (λ k. test k ≡ true) (some_same is) holds
-    by rest false fails is = rest is
 
 -- where nothing but a hold is in the way
 abbrev ServedOrLocked : ModelState → Request → Obstacle → Type 0

@@ -1,13 +1,10 @@
 -- Of a line that is not there nothing can be dropped, and no letter changes.
-use Rattle.std.proofs.Common.{◌≡◌, ℕ, Bool, true, false, List, [], ◌∷◌, Option, None, Some, is_some, ap, refl, if◌then◌else◌, ◌==◌}
+use Rattle.std.proofs.Common.{◌≡◌, ℕ, Bool, true, false, List, [], ◌∷◌, None, Some, ap, refl, if◌then◌else◌, ◌==◌}
 use Rattle.std.proofs.lemmas.List.{set-get_or}
 use Rattle.moesi.specs.declared.letter.Letter.{Letter}
 use Rattle.residency.specs.Cache.{is_resident, lettered, set_number, set_of, way_of, without_line}
 use Rattle.residency.specs.Residency.{Way, changed_in, dropped, way_in, with_letter}
-
-pub not_there : (way : Option Way) → is_some way ≡ false → way ≡ None
-not_there None absent = refl
-not_there (Some way) absent = absurd (cc)
+use Rattle.el_base.proofs.Laws.Options.{none_from}
 
 some_not_none : {X : Type 0} (way : Way) → Some way ≡ None → X
 some_not_none way is = absurd (cc)
@@ -33,10 +30,11 @@ changed_absent change (way ∷ ways) line absent = by (way.line == line) absent 
 
 pub without_absent : (cache : List (List Way)) (line : ℕ) → is_resident cache line ≡ false → without_line cache line ≡ cache
 without_absent cache line absent =
-    rw (dropped_absent (set_of cache line) line (not_there (way_of cache line) absent)) (set-get_or cache (set_number cache line) [])
+    rw (dropped_absent (set_of cache line) line (none_from (way_of cache line) absent))
+    (set-get_or cache (set_number cache line) [])
 
 pub lettered_absent : (cache : List (List Way)) (line : ℕ) (letter : Letter) → is_resident cache line ≡ false →
     lettered cache line letter ≡ cache
 lettered_absent cache line letter absent =
-    rw (changed_absent (with_letter letter) (set_of cache line) line (not_there (way_of cache line) absent))
+    rw (changed_absent (with_letter letter) (set_of cache line) line (none_from (way_of cache line) absent))
     (set-get_or cache (set_number cache line) [])

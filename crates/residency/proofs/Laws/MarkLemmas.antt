@@ -216,9 +216,6 @@ marks_of-cleared cache = total-map mark_of without_bits cache (λ way. refl)
 pub marks_of-committed : (cache : List (List Way)) → marks_of (committed cache) ≡ 0
 marks_of-committed cache = total-map mark_of committed_way cache (λ way. refl)
 
-pub has_marks-cleared : (cache : List (List Way)) → has_marks (cleared cache) ≡ false
-has_marks-cleared cache = has_marks-counted (cleared cache) ∙ ap (λ n. not (eqb n 0)) (marks_of-cleared cache)
-
 pub write_bits_of-cleared : (cache : List (List Way)) → write_bits_of (cleared cache) ≡ 0
 write_bits_of-cleared cache = total-map write_of without_bits cache (λ way. refl)
 

@@ -71,7 +71,7 @@ bare_filled_in ways set way none bare =
     bare_cons way (left_in set (evicted_in ways set)) none (bare_left set (evicted_in ways set) bare)
 
 -- a set of a cache without bits, and such a cache with another set
-bare_at : (cache : List (List Way)) (place : ℕ) → has_marks cache ≡ false → IsBare (slice_index_or cache place [])
+pub bare_at : (cache : List (List Way)) (place : ℕ) → has_marks cache ≡ false → IsBare (slice_index_or cache place [])
 bare_at [] place bare = refl
 bare_at (set ∷ sets) zero bare = first_not _ _ bare
 bare_at (set ∷ sets) (suc place) bare = bare_at sets place (second_not (list_any is_marked set) _ bare)

@@ -19,6 +19,7 @@ use Rattle.residency.proofs.Laws.ResidencyLemmas.{evicted_in-some, uncounted, li
 use Rattle.residency.proofs.Laws.ResidencyLemmas.{sum_by-touched_in, way_in-changed_in_other, way_in-changed_in_same, way_in-dropped_other, way_in-dropped_same}
 use Rattle.residency.proofs.Laws.ResidencyLemmas.{way_in-filled_in_same, way_in-map, way_in-touched_in}
 use Rattle.el_base.specs.declared.outcomes.Need.TheVariants.{Read, Write}
+use Rattle.el_base.proofs.Laws.Options.{none_from}
 use Rattle.residency.proofs.Laws.CacheLemmas.{line-with_bit, length-with_set, set_of-with_set_other, set_of-with_set_same}
 use Rattle.residency.specs.Keyed.{count_of}
 use Rattle.residency.proofs.Laws.KeyedLemmas.{length-sum_by, mapped}
@@ -159,10 +160,6 @@ filled_before : (ways : ℕ) (set : List Way) (new : Way) (l : ℕ) (way : Way) 
     way_in set l ≡ Some way
 filled_before ways set new l way other is =
     left_before set (evicted_in ways set) l way (grind (arith, nat_tests))
-
-pub none_from : (way : Option Way) → is_some way ≡ false → way ≡ None
-none_from None none = refl
-none_from (Some way) none = absurd cc
 
 one_of : (way : Option Way) → is_some way ≡ true → option_map_or (λ w. suc zero) way 0 ≡ 1
 one_of None some = absurd cc

@@ -5,12 +5,10 @@ use Rattle.std.specs.Prelude.{slice_index}
 use Rattle.residency.specs.Residency.{Way}
 use Rattle.elf_image.specs.Program.{code_word}
 use Rattle.el_model.specs.Upcoming.{calls, next_access, next_execution, next_touch}
-use Rattle.rv_alu.proofs.Laws.Executions.{action-room, executed-room, executed_agree}
-use Rattle.rv_alu.specs.Execution.{Store, executed, insn_at, insn_touched, store_in, touched, view_after}
-use Rattle.rv_alu.specs.Footprint.{IsNoCall, footprint}
-use Rattle.rv_alu.specs.declared.span.Span.{Span}
+use Rattle.rv_alu.proofs.Laws.Executions.{executed-room, executed_agree, touched-room}
+use Rattle.rv_alu.specs.Execution.{Store, executed, insn_at, store_in, touched, view_after}
+use Rattle.rv_alu.specs.Footprint.{IsNoCall}
 use Rattle.rv_alu.specs.declared.view.HartStatus.TheVariants.{Running}
-use Rattle.rv_alu.specs.declared.view.HartView.{HartView}
 use Rattle.rv_flat.proofs.Laws.PutBytes.{put_bytes-same}
 use Rattle.rv_flat.proofs.Laws.RunsAfter.{runs-exists}
 use Rattle.rv_flat.proofs.Laws.StepLaws.{alone_sum, keeps_shape, own_view, running}
@@ -46,12 +44,6 @@ same_span left right same =
 pub no_call : (insn : Option Insn) → calls insn ≡ false → IsNoCall insn
 no_call None none = tt
 no_call (Some insn) none = none
-
-pub touched-room : (insn : Option Insn) (view : HartView) (span : Span) (room other : ℕ) → IsNoCall insn →
-    insn_touched insn view span room ≡ insn_touched insn view span other
-touched-room None view span room other none = refl
-touched-room (Some insn) view span room other none =
-    ap footprint (action-room insn view.pc view.regs view.reserved span room other none)
 
 -- the next instruction is the same
 pub same_insn : (left right : FlatState) (h : ℕ) → right.code ≡ left.code → (view_of right h).pc ≡ (view_of left h).pc →

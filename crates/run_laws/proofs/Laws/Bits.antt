@@ -157,10 +157,6 @@ pub bits_claim : (live : Bool) (request : Request) (hart : Hart) → KeepsBits h
 bits_claim true request hart = bits_marked hart.cache request.line request.need
 bits_claim false request hart = same_bits hart.cache
 
-pub claim_section : (live : Bool) (request : Request) (hart : Hart) → (with_claim live request hart).section ≡ hart.section
-claim_section true request hart = refl
-claim_section false request hart = refl
-
 -- an instruction of a section
 pub bits_covered : (cache : List (List Way)) (touch : Option Touch) → KeepsBits cache (covered cache touch)
 bits_covered cache None = same_bits cache

@@ -168,7 +168,8 @@ continued_run state h armed may run = record {
     quiet n some less (inr before) = run.quiet n some (omega (arith, less))
 
 -- one more instruction
-own_covered : (cache : List (List Way)) (line : ℕ) (need : Need) → bit_in need (way_of cache line) ≡ true → is_covered cache line need ≡ true
+pub own_covered : (cache : List (List Way)) (line : ℕ) (need : Need) → bit_in need (way_of cache line) ≡ true →
+    is_covered cache line need ≡ true
 own_covered cache line Read bit = or_left (read_bit cache line) (write_bit cache line) bit
 own_covered cache line Write bit = bit
 

@@ -1,5 +1,5 @@
 -- every event keeps the private run of each live section covered, and that of each armed one
-use Rattle.std.proofs.Common.{◌≡◌, ◌≢◌, ◌∙◌, ℕ, Bool, true, false, List, Option, None, Some, is_some, refl, ap, sym, subst, inl, inr, ◌⊎◌}
+use Rattle.std.proofs.Common.{◌≡◌, ◌≢◌, ◌∙◌, ℕ, true, false, List, Option, None, Some, is_some, refl, ap, sym, subst, inl, inr, ◌⊎◌}
 use Rattle.bus_order.specs.Order.{IsOneEach, Request}
 use Rattle.residency.specs.Cache.{bit_in, is_resident, way_of}
 use Rattle.el_base.specs.Freed.{count_in}
@@ -15,10 +15,9 @@ use Rattle.el_model.specs.Deed.{committed_after, hart_after}
 use Rattle.el_model.specs.InSection.{covered}
 use Rattle.el_model.specs.Losses.{standing_of}
 use Rattle.el_model.specs.Next.{kind_turn, step_turn}
-use Rattle.el_model.specs.Plain.{after_candidate, candidate_of}
+use Rattle.el_model.specs.Plain.{candidate_of}
 use Rattle.el_model.specs.Serve.{bystander, others_have, own_copy, served_hart}
 use Rattle.el_model.specs.State.{Hart, ModelState, Section, Turn, armed_of, cache_of, hart_of, ordered_of, raised_of, section_of}
-use Rattle.el_model.specs.Upcoming.{Swap}
 use Rattle.el_model.proofs.Laws.BusEvents.{by_kind}
 use Rattle.el_model.proofs.Laws.Deeds.{step_deed}
 use Rattle.el_model.proofs.Laws.EachHart.{Each, each_but}
@@ -26,14 +25,15 @@ use Rattle.el_model.proofs.Laws.Harts.{hart_of-with_hart_other}
 use Rattle.el_model.proofs.Laws.Losing.{lost_section}
 use Rattle.el_model.proofs.Laws.Restoring.{stands}
 use Rattle.el_model.proofs.Laws.Tests.{by_hart}
+use Rattle.el_model.proofs.Laws.HartParts.{candidate_armed, candidate_section, claim_section}
 use Rattle.mail.specs.Mailbox.{Marker, Message, Probe}
 use Rattle.rv_flat.specs.FlatState.{status_of, view_of}
 use Rattle.section_laws.specs.Once.{AreOnce}
 use Rattle.section_laws.specs.Waiting.{RunsWithNothing}
 use Rattle.section_laws.proofs.Laws.FreeLines.{unmet}
 use Rattle.section_laws.proofs.Laws.LetGone.{ReadsItsLine}
-use Rattle.section_laws.proofs.Laws.Waiting.{Rested, candidate_armed}
-use Rattle.run_laws.proofs.Laws.Bits.{KeepsBits, armed_kept, bits_claim, bits_covered, bits_others, bits_own, bits_touched, claim_section, run_kept}
+use Rattle.section_laws.proofs.Laws.Waiting.{Rested}
+use Rattle.run_laws.proofs.Laws.Bits.{KeepsBits, armed_kept, bits_claim, bits_covered, bits_others, bits_own, bits_touched, run_kept}
 use Rattle.run_laws.proofs.Laws.Bits.{same_bits, some_bit}
 use Rattle.run_laws.proofs.Laws.EventsBeside.{AllArmed, AllCovered, ArmedCovered, Covered, Sound, deed_beside}
 use Rattle.run_laws.proofs.Laws.Growing.{arming_run, begun_run, buffered_run, continued_run, elided_run}
@@ -161,11 +161,6 @@ other_kept state h g kind apart rested one once =
     (λ turn done. turn_kept done rested one once g)
 
 -- a deed of its own hart
-candidate_section : (pc : Option ℕ) (had_watch : Bool) (candidate : Option Swap) (hart : Hart) →
-    (after_candidate pc had_watch candidate hart).section ≡ hart.section
-candidate_section pc had_watch None hart = refl
-candidate_section pc had_watch (Some swap) hart = refl
-
 own_covered : (state : ModelState) (h : ℕ) (deed : Deed) → DoesWhere state h deed → AllCovered state → AllArmed state →
     Covered (committed_after state h deed) h (hart_after state h deed (hart_of state h))
 own_covered state h Rests does each armed_runs section is = each h section is

@@ -18,6 +18,7 @@ use Rattle.el_model.proofs.Laws.BusEvents.{met_becomes}
 use Rattle.el_model.proofs.Laws.EachHart.{each_become}
 use Rattle.el_model.proofs.Laws.Harts.{hart_of-past}
 use Rattle.el_model.proofs.Laws.Tests.{by_test}
+use Rattle.el_model.proofs.Laws.HartParts.{claim_armed}
 use Rattle.rv_flat.proofs.Laws.StepLaws.{run_append}
 use Rattle.rv_flat.specs.FlatState.{FlatState, view_of}
 use Rattle.rv_flat.specs.Run.{alone, run}
@@ -26,7 +27,6 @@ use Rattle.section_laws.proofs.Laws.EachKept.{BusKept, becomes_keeps}
 use Rattle.section_laws.proofs.Laws.Moves.{Moves, faced_keeps, freed_is_armed}
 use Rattle.section_laws.proofs.Laws.SerialLength.{freed_at_most}
 use Rattle.section_laws.proofs.Laws.Statuses.{unfreed_count}
-use Rattle.section_laws.proofs.Laws.Waiting.{claim_armed}
 use Rattle.run_laws.proofs.Beside.{armed_beside, beside_twice, same_beside}
 use Rattle.run_laws.proofs.Laws.Bits.{same_bits}
 use Rattle.run_laws.proofs.Laws.EventsBeside.{AllArmed}

@@ -1,5 +1,5 @@
 -- in every state that can be reached live and armed sections run covered, and other harts change nothing that they show
-use Rattle.std.proofs.Common.{◌≡◌, ◌≢◌, ◌∙◌, ◌+◌, ◌⊎◌, ℕ, true, List, [], ◌∷◌, None, Some, is_some, replicate, refl, ap, sym, subst, inl, inr}
+use Rattle.std.proofs.Common.{◌≡◌, ◌≢◌, ◌∙◌, ◌+◌, ◌⊎◌, ℕ, true, List, [], None, Some, is_some, replicate, refl, ap, sym, subst, inl, inr}
 use Rattle.el_base.specs.Freed.{count_in, order_of}
 use Rattle.el_base.specs.declared.config.Config.{Config}
 use Rattle.el_base.specs.declared.events.Event.{Event}
@@ -12,10 +12,9 @@ use Rattle.el_model.specs.State.{ModelState, Turn, armed_of, begin, cache_of, ne
 use Rattle.el_model.proofs.Laws.AllHarts.{all_first}
 use Rattle.el_model.proofs.Laws.BusEvents.{by_kind}
 use Rattle.el_model.proofs.Laws.Deeds.{step_deed}
-use Rattle.rv_flat.proofs.Laws.RunsAfter.{keeps_bytes}
-use Rattle.rv_flat.specs.FlatState.{FlatState, start}
+use Rattle.rv_flat.proofs.Laws.RunsAfter.{keeps_bytes, run_bytes}
+use Rattle.rv_flat.specs.FlatState.{start}
 use Rattle.rv_flat.specs.Memory.{AreBytes}
-use Rattle.rv_flat.specs.Run.{run}
 use Rattle.rv_flat.specs.Step.{flat}
 use Rattle.section_laws.proofs.Laws.Coherence.{copies_are_coherent, written_lines_are_elsewhere_in_no_cache}
 use Rattle.section_laws.proofs.Laws.LetGone.{always_guarded, next_guarded}
@@ -29,11 +28,6 @@ use Rattle.run_laws.proofs.Laws.Tests.{not_both}
 use Rattle.run_laws.specs.Laws.{ArmedSectionsRunCovered, LettingGoChangesNothingBeside, LettingGoLeavesMemory, LiveSectionsRunCovered}
 use Rattle.run_laws.specs.Laws.{OtherHartsChangeNothingCovered}
 use Rattle.run_laws.specs.PrivateRun.{IsChangeBeside}
-
--- memory stays bytes
-run_bytes : (state : FlatState) (harts : List ℕ) → AreBytes state.bytes → AreBytes (run state harts).bytes
-run_bytes state [] bytes = bytes
-run_bytes state (h ∷ harts) bytes = run_bytes (flat state h) harts (keeps_bytes state h bytes)
 
 deed_bytes : (state : ModelState) (h : ℕ) (deed : Deed) → AreBytes state.committed.bytes → AreBytes (committed_after state h deed).bytes
 deed_bytes state h Rests bytes = bytes

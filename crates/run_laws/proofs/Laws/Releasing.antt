@@ -1,5 +1,5 @@
 -- a section that comes to its release commits
-use Rattle.std.proofs.Common.{◌≡◌, ◌≢◌, ◌∙◌, ◌==◌, ℕ, true, false, List, None, Some, refl, ap, sym, if◌then◌else◌}
+use Rattle.std.proofs.Common.{◌≡◌, ◌∙◌, ◌==◌, ℕ, true, false, List, None, Some, refl, ap, sym, if◌then◌else◌}
 use Rattle.bus_order.proofs.Laws.LookUps.{other_test}
 use Rattle.el_base.specs.declared.config.Config.{Config}
 use Rattle.el_base.specs.declared.events.Event.{Event}
@@ -7,22 +7,17 @@ use Rattle.el_base.specs.declared.events.Kind.TheVariants as kinds
 use Rattle.elf_image.specs.Program.{Program}
 use Rattle.el_model.specs.InSection.{Commits, by_section_rule, section_rule, section_turn, shown_in}
 use Rattle.el_model.specs.Next.{after, going_turn, kind_turn, next, stalled, status_turn, step_turn}
-use Rattle.el_model.specs.State.{ModelState, Section, begin, has_request, section_of}
+use Rattle.el_model.specs.State.{ModelState, Section, has_request, section_of}
 use Rattle.el_model.specs.Upcoming.{is_release}
-use Rattle.el_model.proofs.Laws.FromStart.{kept_after, next_config}
-use Rattle.rv_alu.specs.declared.view.HartStatus.{HartStatus}
-use Rattle.rv_alu.specs.declared.view.HartStatus.TheVariants.{Running, Exited, Trapped}
+use Rattle.el_model.proofs.Laws.FromStart.{after_config}
+use Rattle.rv_alu.specs.declared.view.HartStatus.TheVariants.{Running}
 use Rattle.rv_flat.specs.FlatState.{status_of}
+use Rattle.rv_flat.proofs.Laws.RunsAfter.{running_status}
 use Rattle.section_laws.proofs.Laws.Numbered.{each_hart_waits_for_one}
 use Rattle.run_laws.proofs.Laws.WordStores.{releases}
 use Rattle.run_laws.specs.Laws.{ReleasesCommit, TakesEffect}
 
 -- a hart with a live section runs
-running_status : (status : HartStatus) → (status ≢ Running → ⊥) → status ≡ Running
-running_status Running never = refl
-running_status (Exited code) never = absurd (never (λ same. absurd (cc)))
-running_status (Trapped cause pc) never = absurd (never (λ same. absurd (cc)))
-
 live_runs : (program : Program) (config : Config) (events : List Event) (h : ℕ) (section : Section) →
     section_of (after program config events) h ≡ Some section → status_of (after program config events).committed h ≡ Running
 live_runs program config events h section live =
@@ -31,16 +26,6 @@ live_runs program config events h section live =
   where
     some_none : Some section ≡ None → ⊥
     some_none wrong = absurd (cc)
-
--- the configuration is that of the start
-begin_config : (program : Program) (config : Config) → (begin program config).config ≡ config
-unfolding begin
-begin_config program config = refl
-
-after_config : (program : Program) (config : Config) (events : List Event) → (after program config events).config ≡ config
-after_config program config events =
-    kept_after (λ state. state.config ≡ config) (λ state event same. next_config state event ∙ same) (begin program config) events
-    (begin_config program config)
 
 commits_by_rule : (state : ModelState) (h : ℕ) (section : Section) → (section.count == state.config.long) ≡ false →
     is_release (shown_in state h section) h section.word section.old ≡ true → section_rule state h section ≡ Commits

@@ -36,6 +36,7 @@ use Rattle.run_laws.proofs.Laws.Alike.{alone_base, alone_more}
 use Rattle.run_laws.proofs.Laws.Tests.{first_of_both, second_of_both}
 use Rattle.run_laws.proofs.Laws.WordStores.{StoresWord, acquires, stores_word, writes_store}
 use Rattle.run_laws.specs.PrivateRun.{IsAcquire, IsArmedRun}
+use Rattle.el_base.proofs.Laws.Options.{none_from}
 
 -- the word at a pc is an LR
 pub record IsReserve (found : Option ℕ) : Type 0 where
@@ -164,15 +165,13 @@ not_so : (b : Bool) → not b ≡ true → b ≡ false
 not_so true is = absurd (cc)
 not_so false is = refl
 
-none_there : {A : Type 0} (found : Option A) → is_some found ≡ false → found ≡ None
-none_there None is = refl
-none_there (Some x) is = absurd (cc)
-
 pub quiet_of : (state : FlatState) (h : ℕ) → is_quiet state h ≡ true → Quiet state h
 quiet_of state h is =
     let first = first_of_both (not (is_some (next_touch state h)) && not (is_store_conditional (next_insn state h))) (not (calls_or_stops state h)) is in
     record {
-      untouched = none_there (next_touch state h) (not_so (is_some (next_touch state h)) (first_of_both (not (is_some (next_touch state h))) _ first));
+      untouched =
+          none_from (next_touch state h)
+          (not_so (is_some (next_touch state h)) (first_of_both (not (is_some (next_touch state h))) _ first));
       no_conditional = not_so (is_store_conditional (next_insn state h)) (second_of_both (not (is_some (next_touch state h))) _ first);
       goes_on = not_so (calls_or_stops state h)
           (second_of_both (not (is_some (next_touch state h)) && not (is_store_conditional (next_insn state h))) (not (calls_or_stops state h)) is);

@@ -11,7 +11,7 @@ use Rattle.el_model.specs.Armed.{is_quiet}
 use Rattle.el_model.specs.State.{Armed, Section}
 use Rattle.el_model.specs.Upcoming.{Swap, calls, calls_or_stops, is_load_reserved, is_store_conditional, is_swap, next_access, next_conditional}
 use Rattle.el_model.specs.Upcoming.{next_execution, next_reserved, next_store, next_swap, next_touch, overlaps, read_at, stops, swap_of, touch_of}
-use Rattle.rv_alu.proofs.Laws.Executions.{amo-reserved, executed-room, executed_agree, loaded-same}
+use Rattle.rv_alu.proofs.Laws.Executions.{amo-reserved, executed-room, executed_agree, loaded-same, touched-room}
 use Rattle.rv_alu.specs.Execution.{Execution, Goes, Stops, executed, store_in, touched, view_after}
 use Rattle.rv_alu.specs.Footprint.{AgreeOn, IsNoCall}
 use Rattle.rv_alu.specs.declared.footprint.Access.TheVariants.{Read}
@@ -24,7 +24,7 @@ use Rattle.rv_flat.specs.Run.{alone}
 use Rattle.rv_flat.specs.Step.{flat}
 use Rattle.rv_word.specs.Decoding.{decoded}
 use Rattle.run_laws.proofs.Laws.Alike.{AlikeAt, DidAlike, SamePlaces, alike_more, alike_runs, alone_base, did_alike, same_access, same_execution}
-use Rattle.run_laws.proofs.Laws.Alike.{same_insn, same_span, touched-room}
+use Rattle.run_laws.proofs.Laws.Alike.{same_insn, same_span}
 use Rattle.run_laws.proofs.Laws.Reserving.{Completes, IsReserve, Quiet, Reserves, completes_by, lr-reserved, quiet_of, reserve_insn, reserves}
 use Rattle.run_laws.proofs.Laws.Tests.{first_not, or_left, second_not}
 use Rattle.run_laws.proofs.Laws.Touches.{IsOnBit, SameOnBits, agree_there, on_bit}

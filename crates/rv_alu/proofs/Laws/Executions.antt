@@ -24,6 +24,7 @@ use Rattle.rv_alu.specs.Loaded.{loaded}
 use Rattle.rv_alu.specs.Operation.{amo_of, extend_of, moved_of}
 use Rattle.rv_alu.specs.Regs.{AreRegs, a0, get, set}
 use Rattle.rv_alu.specs.Span.{holds}
+use Rattle.rv_alu.specs.Reservations.{reserved_off, unreserved}
 
 -- a store ends the hart's own reservation
 pub store_ends_reservation : (action : Action) (view : HartView) (byte : ℕ → ℕ) →
@@ -112,7 +113,7 @@ unfolding executed
 executed-append None view span room byte h = refl
 executed-append (Some word) view span room byte h = insn-append (decoded word) view span room byte h
 
-touched-room : (insn : Option Insn) (view : HartView) (span : Span) (room other : ℕ) → IsNoCall insn →
+pub touched-room : (insn : Option Insn) (view : HartView) (span : Span) (room other : ℕ) → IsNoCall insn →
     insn_touched insn view span room ≡ insn_touched insn view span other
 touched-room None view span room other h = refl
 touched-room (Some insn) view span room other h = ap footprint (action-room insn view.pc view.regs view.reserved span room other h)
@@ -252,3 +253,21 @@ store-action word width rs1 rs2 offset view span room from len is writes =
     checked-went span address (store_size_of width) _ _ action from len writes in
     let there : Write address (store_size_of width) ≡ Write from len = rw went at writes in
     (cc, cc, rw is (cc went))
+
+-- the same bytes from two places on are the same number
+pub loaded_from : (left right : ℕ → ℕ) (from start len : ℕ) →
+    ((k : ℕ) → k < len → left (from + k) ≡ right (start + k)) →
+    loaded left from len ≡ loaded right start len
+loaded_from left right from start zero same = refl
+loaded_from left right from start (suc len) same =
+    let first : left from ≡ right start = ap left (omega arith) ∙ same 0 (omega arith) ∙ ap right (omega arith) in
+    let rest : loaded left (from + 1) len ≡ loaded right (start + 1) len =
+    loaded_from left right (from + 1) (start + 1) len
+    (λ k below. ap left (omega arith) ∙ same (k + 1) (omega arith) ∙ ap right (omega arith)) in
+    cc
+
+-- a hart without a reservation loses none
+pub unreserved-none : (line : ℕ) (view : HartView) → view.reserved ≡ None → unreserved line view ≡ view
+unreserved-none line view none =
+    ap (λ reserved. record view { reserved = reserved_off line reserved }) none
+    ∙ sym (ap (λ reserved. record view { reserved = reserved }) none)

@@ -51,14 +51,14 @@ piece span address size sized aligned held =
       before_end = grind (arith, nat_tests);
     }
 
-load_sized : (width : LoadWidth) → IsSize (load_size_of width)
+pub load_sized : (width : LoadWidth) → IsSize (load_size_of width)
 load_sized loads.Byte = inl refl
 load_sized loads.Half = inr (inl refl)
 load_sized loads.Word = inr (inr refl)
 load_sized loads.ByteU = inl refl
 load_sized loads.HalfU = inr (inl refl)
 
-store_sized : (width : StoreWidth) → IsSize (store_size_of width)
+pub store_sized : (width : StoreWidth) → IsSize (store_size_of width)
 store_sized stores.Byte = inl refl
 store_sized stores.Half = inr (inl refl)
 store_sized stores.Word = inr (inr refl)

@@ -1,5 +1,6 @@
 -- which harts run after a step, and that bytes stay bytes
-use Rattle.std.proofs.Common.{◌≡◌, ◌<◌, ℕ, ◌-◌, List, length, Option, None, Some, refl, ap, sym, ◌∙◌, inl, inr, ◌⊎◌}
+use Rattle.std.proofs.Common.{◌≡◌, ◌<◌, ℕ, ◌-◌, List, length, Option, None, Some, refl, ap, sym, ◌∙◌, inl, inr, ◌⊎◌, []}
+use Rattle.std.proofs.Common.{◌∷◌, ◌≢◌}
 use Rattle.std.proofs.lemmas.Bool.{cases_eq}
 use Rattle.std.proofs.Math.ListN.{get_or-eq_default}
 use Rattle.std.proofs.Math.Nat.{lt_of_not-le}
@@ -15,6 +16,7 @@ use Rattle.rv_flat.specs.Memory.{AreBytes}
 use Rattle.rv_flat.specs.Step.{execution_of, flat, status_step, stored_by}
 use Rattle.rv_flat.proofs.Laws.PutBytes.{put_bytes-bytes}
 use Rattle.rv_flat.proofs.Laws.StepLaws.{by_step, keeps_others}
+use Rattle.rv_flat.specs.Run.{run}
 
 -- a hart that runs exists
 pub runs-exists : (state : FlatState) (hart : ℕ) → status_of state hart ≡ Running → hart < length state.harts
@@ -23,7 +25,13 @@ runs-exists state hart runs =
     let none : Exited 0 ≡ Running = ap (λ view. view.status) (sym (get_or-eq_default state.harts no_hart past)) ∙ runs in
     cc)
 
-seen_after-status : (access : Access) (view : HartView) → (seen_after access view).status ≡ view.status
+-- what does not run has stopped
+pub running_status : (status : HartStatus) → (status ≢ Running → ⊥) → status ≡ Running
+running_status Running never = refl
+running_status (Exited code) never = absurd (never (λ same. absurd (cc)))
+running_status (Trapped cause pc) never = absurd (never (λ same. absurd (cc)))
+
+pub seen_after-status : (access : Access) (view : HartView) → (seen_after access view).status ≡ view.status
 seen_after-status (Write from len) view = refl
 seen_after-status (Read from len) view = refl
 seen_after-status Nothing view = refl
@@ -56,3 +64,8 @@ stored_by-bytes (Some store) base bytes h = put_bytes-bytes bytes (store.address
 pub keeps_bytes : (state : FlatState) (hart : ℕ) → AreBytes state.bytes → AreBytes (flat state hart).bytes
 keeps_bytes state hart h =
     by_step (λ access new. AreBytes new.bytes) state hart h (stored_by-bytes (store_in (execution_of state (view_of state hart))) state.base state.bytes h)
+
+-- and so does a run
+pub run_bytes : (state : FlatState) (harts : List ℕ) → AreBytes state.bytes → AreBytes (run state harts).bytes
+run_bytes state [] bytes = bytes
+run_bytes state (h ∷ harts) bytes = run_bytes (flat state h) harts (keeps_bytes state h bytes)

@@ -86,7 +86,8 @@ pub length-unreserved_by : (store : Option Store) (harts : List HartView) → le
 length-unreserved_by None harts = refl
 length-unreserved_by (Some store) harts = length-map harts (unreserved (line_number store.address))
 
-length-stored_by : (store : Option Store) (base : ℕ) (bytes : List ℕ) → length (stored_by store base bytes) ≡ length bytes
+pub length-stored_by : (store : Option Store) (base : ℕ) (bytes : List ℕ) →
+    length (stored_by store base bytes) ≡ length bytes
 length-stored_by None base bytes = refl
 length-stored_by (Some store) base bytes = length-put_bytes bytes (store.address - base) store.len store.value
 
@@ -204,6 +205,11 @@ pub run_append : (state : FlatState) (first second : List ℕ) → run state (fi
 run_append state [] second = refl
 run_append state (hart ∷ first) second = run_append (flat state hart) first second
 
+-- a run keeps the harts that there are
+pub harts-run : (state : FlatState) (harts : List ℕ) → length (run state harts).harts ≡ length state.harts
+harts-run state [] = refl
+harts-run state (hart ∷ harts) = harts-run (flat state hart) harts ∙ (keeps_shape state hart).harts
+
 -- steps of one hart, one after the other
 pub alone_sum : (state : FlatState) (hart m n : ℕ) → alone state hart (m + n) ≡ alone (alone state hart m) hart n
 alone_sum state hart m n = ap (run state) (sym (replicate-append-replicate m n hart)) ∙ run_append state (replicate m hart) (replicate n hart)
@@ -264,3 +270,8 @@ start_regs program hart within =
     regs_along (first_view program hart) (view_of (start program) hart)
     (get_or-map-range_with_len (first_view program) 0 program.harts hart hart no_hart few (zero-add hart))
     (first_has_regs program hart)
+
+-- a program starts with all of its harts
+pub start_harts : (program : Program) → length (start program).harts ≡ program.harts
+unfolding start
+start_harts program = length-map-range_with_len (first_view program) 0 program.harts

@@ -4,6 +4,7 @@ use Rattle.std.proofs.Common.{ap, sym, subst, ◌∙◌, arith}
 use Rattle.std.proofs.lemmas.Bool.{cases_lt}
 use Rattle.std.proofs.lemmas.Bool.Decides.{nat_tests}
 use Rattle.core_step.specs.Port.{byte_of, stored}
+use Rattle.core_step.proofs.Laws.Bytes.{stored_inside}
 use Rattle.el_base.specs.Line.{line_number}
 use Rattle.el_base.specs.declared.line.TheConstants.{LINE_BYTES}
 use Rattle.el_model.specs.State.{Section}
@@ -23,7 +24,6 @@ use Rattle.section_ctl.specs.Calls.{ends_section}
 use Rattle.section_ctl.specs.State.{IsArmed, IsLive, Reserved, SectionStands, armed_in, live_in, reserved_of, section_of}
 use Rattle.section_ctl.specs.declared.private.Private.{Private}
 use Rattle.section_ctl.specs.declared.private.Private.TheVariants as privates
-use Rattle.section_view.proofs.Laws.Bytes.{stored_inside}
 use Rattle.section_view.specs.Laws.{HoldsAfter}
 use Rattle.write_hold.proofs.Laws.LookUps.{laid_above, laid_below}
 use Rattle.write_hold.specs.Held.{Held, held, laid}

@@ -2,32 +2,29 @@
 use Rattle.std.proofs.Common.{◌≡◌, ◌≢◌, ◌∙◌, ◌+◌, ◌<◌, ◌==◌, ℕ, Bool, true, false, ◌&&◌, List, [], ◌∷◌, Option, None, Some, is_some, length, refl, ap, sym, inl, inr, ◌⊎◌, arith, if◌then◌else◌}
 use Rattle.std.proofs.lemmas.Bool.{cases_eq}
 use Rattle.bus_order.proofs.Laws.LookUps.{other_test, own_test}
-use Rattle.el_base.specs.declared.config.Config.{Config}
 use Rattle.el_base.specs.declared.config.Mode.{Mode}
 use Rattle.el_base.specs.declared.events.Event.{Event}
 use Rattle.el_base.specs.declared.outcomes.Outcome.{Outcome}
 use Rattle.el_base.specs.declared.outcomes.Outcome.TheVariants as outcomes
-use Rattle.elf_image.specs.Program.{Program}
 use Rattle.el_model.specs.BusEvent.{IsBusEvent, IsOfBus}
 use Rattle.el_model.specs.Deed.{Arms, Begins, Buffers, Commits, Continues, Deed, DoesWhere, Elides, LetsGo, Misses, Rests, RollsBack, Runs, Waits, done, hart_after, outcome_of}
 use Rattle.el_base.specs.Winners.{winner_over}
 use Rattle.el_model.specs.Losses.{Standing, restored, standing_of}
 use Rattle.el_model.specs.Next.{entries_from, next, state_after, step_turn}
-use Rattle.el_model.specs.Plain.{after_candidate, candidate_of}
-use Rattle.el_model.specs.State.{Hart, ModelState, Section, Turn, begin, hart_of, is_live, new_hart, section_of}
-use Rattle.el_model.specs.Upcoming.{Swap}
-use Rattle.el_model.proofs.Laws.AllHarts.{all_first}
+use Rattle.el_model.specs.Plain.{candidate_of}
+use Rattle.el_model.specs.State.{ModelState, Section, Turn, begin, hart_of, is_live, section_of}
 use Rattle.el_model.proofs.Laws.BusEvents.{by_event}
-use Rattle.el_model.proofs.Laws.Deeds.{step_deed}
+use Rattle.el_model.proofs.Laws.Deeds.{is_rolled, step_deed}
 use Rattle.el_model.proofs.Laws.Harts.{hart_of-with_hart_other, hart_of-with_hart_same, with_hart_kept}
 use Rattle.el_model.proofs.Laws.Losing.{lost_section}
 use Rattle.el_model.proofs.Laws.Restoring.{bus_restores, stays_outside, unnamed_outside}
+use Rattle.el_model.proofs.Laws.FromStart.{first_outside}
+use Rattle.el_model.proofs.Laws.HartParts.{candidate_section}
 use Rattle.rv_flat.proofs.Laws.RunsAfter.{runs-exists}
 use Rattle.section_laws.specs.Sections.{BegunSectionsAreAccountedFor, begins, commits, count_of, is_began, is_committed, is_rolled_back, loses, rolls_back}
 use Rattle.section_laws.proofs.Laws.Lengths.{AsMany, first_as_many, next_as_many}
 use Rattle.section_laws.proofs.Laws.Numbered.{Numbered, first_numbered, next_numbered, numbers_of_state}
 use Rattle.section_laws.proofs.Laws.SectionSteps.{live_exists}
-use Rattle.section_laws.proofs.Laws.Waiting.{is_rolled}
 
 -- one event: a section that was live or begins has ended, or is live
 abbrev one : Bool → ℕ
@@ -47,11 +44,6 @@ deed_section : (state : ModelState) (h g : ℕ) (deed : Deed) →
     is_live (done state h deed).state g ≡ is_live state g
 deed_section state h g deed same =
     with_hart_kept (λ hart. is_some hart.section) state h (hart_after state h deed (hart_of state h)) same g
-
-candidate_section : (pc : Option ℕ) (had_watch : Bool) (candidate : Option Swap) (hart : Hart) →
-    (after_candidate pc had_watch candidate hart).section ≡ hart.section
-candidate_section pc had_watch None hart = refl
-candidate_section pc had_watch (Some swap) hart = refl
 
 after_deed : (state : ModelState) (h : ℕ) (deed : Deed) → h < length state.harts →
     is_live (done state h deed).state h ≡ is_some (hart_after state h deed (hart_of state h)).section
@@ -176,11 +168,6 @@ accounted state (event ∷ events) g numbered many =
     let later = accounted (next state event).state events g (next_numbered state event numbered) (next_as_many state event many) in
     let now = next_balanced state event g numbered many in
     omega (arith, later, now)
-
-first_outside : (program : Program) (config : Config) (h : ℕ) → is_live (begin program config) h ≡ false
-unfolding begin
-first_outside program config h =
-    all_first (λ hart. is_some hart.section ≡ false) program.harts (new_hart config.sets) (new_hart 0) refl refl h
 
 pub begun_sections_are_accounted_for : BegunSectionsAreAccountedFor
 begun_sections_are_accounted_for program config events h same range =

@@ -15,12 +15,12 @@ use Rattle.el_model.specs.Plain.{candidate_of}
 use Rattle.el_model.specs.Upcoming.{Swap, changes_word}
 use Rattle.el_model.specs.Serve.{others_have, own_copy, with_claim}
 use Rattle.el_model.specs.State.{Armed, Hart, ModelState, Section, cache_of, hart_of}
+use Rattle.el_model.proofs.Laws.HartParts.{candidate_armed}
 use Rattle.section_laws.specs.EachHart.{HasNoOtherBit}
 use Rattle.section_laws.proofs.Laws.Bits.{NoBitMore, clash, no_more_marked, no_more_others, no_more_own, no_more_touched, no_more_twice, unless}
 use Rattle.section_laws.proofs.Laws.Bits.{first_of_both, second_of_both, some_none, write_of_read_marked}
 use Rattle.section_laws.proofs.Laws.EachKept.{BusKept, EachKept}
 use Rattle.section_laws.proofs.OnlyInside as inside
-use Rattle.section_laws.proofs.Laws.Waiting.{candidate_armed}
 
 pub record ReadsAlone (word : ℕ) (section : Option Section) (cache : List (List Way)) : Type 0 where
   pub no_section : section ≡ None
@@ -36,7 +36,7 @@ Holds hart = inside.Holds hart × Alone hart
 none_some : {A X : Type 0} {x : A} → None ≡ Some x → X
 none_some wrong = absurd (cc)
 
-same_word : {one other : Armed} → Some one ≡ Some other → one.word ≡ other.word
+pub same_word : {one other : Armed} → Some one ≡ Some other → one.word ≡ other.word
 same_word {one} {other} is = let same : one ≡ other = cc in ap (λ armed. armed.word) same
 
 -- a cache with no more bits

@@ -17,8 +17,8 @@ use Rattle.el_model.proofs.Laws.FromStart.{kept_after, next_config}
 use Rattle.section_laws.specs.EachHart.{IsShortArmed}
 use Rattle.section_laws.specs.Laws.{ArmedSectionsAreShort}
 use Rattle.el_model.proofs.Laws.EachHart.{Each}
+use Rattle.el_model.proofs.Laws.HartParts.{candidate_armed, claim_armed}
 use Rattle.section_laws.proofs.Laws.EachKept.{BusKept, event_keeps}
-use Rattle.section_laws.proofs.Laws.Waiting.{candidate_armed, claim_armed}
 
 abbrev Short : ℕ → Hart → Type 0
 Short long hart = (armed : Armed) → hart.armed ≡ Some armed → IsShortArmed long armed

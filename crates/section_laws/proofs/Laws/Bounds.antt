@@ -8,13 +8,13 @@ use Rattle.std.specs.List.{count_by}
 use Rattle.std.proofs.lemmas.List.{length-replicate}
 use Rattle.std.proofs.lemmas.List.Sums.{sum_by-cons}
 use Rattle.bus_order.specs.Order.{Request, removed, request_of}
-use Rattle.bus_order.proofs.Laws.LookUps.{request_of_appended_own, request_of_in_front_of_own}
 use Rattle.bus_order.proofs.Laws.LookUps.{request_of_removed_other, request_of_removed_own}
 use Rattle.bus_order.proofs.Laws.Queues.{hart_of_request_of}
 use Rattle.residency.specs.Cache.{cleared, has_marks, write_bits_of}
 use Rattle.residency.specs.Cache.{marks_of}
 use Rattle.residency.specs.Residency.{Way, is_marked}
 use Rattle.residency.proofs.Laws.MarkLemmas.{has_marks-counted, mark_of, one_if}
+use Rattle.residency.proofs.Laws.Rooms.{room_without_marks}
 use Rattle.el_base.specs.Config.{IsInRange, allows}
 use Rattle.el_base.specs.declared.config.Config.{Config}
 use Rattle.el_base.specs.declared.config.ConfigFault.TheVariants.{Sets}
@@ -28,15 +28,14 @@ use Rattle.el_model.specs.BusEvent.{order_after, order_at, started}
 use Rattle.el_model.specs.Deed.{Arms, Begins, Buffers, Commits, Continues, Deed, DoesWhere, Elides, HasRoom, IsCoverable, LetsGo, Misses, Rests, RollsBack, Runs, Waits, hart_after}
 use Rattle.el_model.specs.InSection.{is_full}
 use Rattle.el_model.specs.Next.{after, next, step_turn}
-use Rattle.el_model.specs.Order.{Alone, Behind, InFront, Place}
 use Rattle.el_model.specs.Plain.{after_candidate, candidate_of}
 use Rattle.el_model.specs.Serve.{bystander, others_have, served_hart, with_claim}
 use Rattle.el_model.specs.State.{Hart, ModelState, Section, Turn, begin, cache_of, hart_of, new_hart, ordered_of}
 use Rattle.el_model.specs.State.{raised_of}
 use Rattle.el_model.specs.Upcoming.{Swap, Touch}
 use Rattle.el_model.proofs.Laws.BusEvents.{by_event}
-use Rattle.el_model.proofs.Laws.Deeds.{step_deed}
-use Rattle.el_model.proofs.Laws.FromStart.{kept_after, next_config}
+use Rattle.el_model.proofs.Laws.Deeds.{is_rolled, step_deed}
+use Rattle.el_model.proofs.Laws.FromStart.{after_config, kept_after, next_config}
 use Rattle.el_model.proofs.Laws.Harts.{hart_of-past}
 use Rattle.el_model.proofs.Laws.Tests.{by_hart}
 use Rattle.section_laws.specs.Bounds.{CachesAreShaped, WaitingLinesHaveRoom, WaitingWritesAreSpared, WaitsWith, WrittenLinesAreFew}
@@ -44,15 +43,15 @@ use Rattle.section_laws.proofs.Bounded.{HasPlace, HasSome, IsConfigured, MayCove
 use Rattle.section_laws.proofs.Bounded.{configured_covered, configured_empty, configured_marked, configured_others, configured_own, configured_touch}
 use Rattle.section_laws.proofs.Bounded.{configured_touched, place_cleared, place_others}
 use Rattle.el_model.proofs.Laws.EachHart.{Each, each_but}
+use Rattle.el_model.proofs.Laws.Orders.{placed_own}
 use Rattle.section_laws.proofs.Laws.EachKept.{first_each, next_keeps}
 use Rattle.section_laws.proofs.Laws.Moves.{Moves, moved, taken_keeps}
 use Rattle.section_laws.proofs.Laws.Numbered.{next_count, order_keeps, raised_exists}
 use Rattle.section_laws.proofs.OnlyInside as inside
 use Rattle.section_laws.proofs.Laws.OrderedHarts.{AreBelow, below_kept}
-use Rattle.section_laws.proofs.Rooms.{room_unmarked}
 use Rattle.section_laws.proofs.Laws.ServedCaches.{own_after}
-use Rattle.section_laws.proofs.Laws.Waiting.{Rested, Sound, always_settled, always_sound, free_of_order, is_rolled, next_settled, no_request}
-use Rattle.section_laws.proofs.Laws.Waiting.{order_other, rested_in, settled_by, sound_in}
+use Rattle.section_laws.proofs.Laws.Waiting.{Rested, Sound, always_settled, always_sound, free_of_order, next_settled, no_request}
+use Rattle.section_laws.proofs.Laws.Waiting.{order_other, rested_in, same_request, settled_by, sound_in}
 
 -- a hart's cache with what it has left for the hart's request, raised or ordered
 pub record IsBounded (config : Config) (cache : List (List Way)) (raised ordered : Option Request) : Type 0 where
@@ -133,7 +132,7 @@ none_written cache bare =
 outside_place : (config : Config) (cache : List (List Way)) (request : Request) → HasSome config → has_marks cache ≡ false →
     HasPlace config cache request
 outside_place config cache request some bare = record {
-  room = room_unmarked config.ways cache request.line some.ways bare;
+  room = room_without_marks config.ways cache request.line some.ways bare;
   spare = λ write is. let none = none_written cache bare in let lines = some.lines in omega (arith, none, lines);
 }
 
@@ -149,9 +148,6 @@ inside_place state h section request now room = record {
   room = room.room;
   spare = λ write is. not_full state h request.need now room.not_full write;
 }
-
-same_request : (one other : Request) → Some one ≡ Some other → one ≡ other
-same_request one other same = cc
 
 missed_bounded : (state : ModelState) (h : ℕ) (request : Request) → ordered_of state h ≡ None → IsConfigured state.config (cache_of state h) →
     HasPlace state.config (cache_of state h) request → IsBounded state.config (cache_of state h) (Some request) (ordered_of state h)
@@ -243,12 +239,6 @@ step_each state h now =
     (λ g apart. now.each g) (λ past below. past_end h (length state.harts) past below))
 
 -- a request is ordered
-order_own : (state : ModelState) (request : Request) (place : Place) → request_of state.order request.hart ≡ None →
-    request_of (order_at state request place) request.hart ≡ Some request
-order_own state request InFront free = request_of_in_front_of_own state.order request free
-order_own state request Behind free = request_of_appended_own state.order request free
-order_own state request Alone free = request_of_appended_own state.order request free
-
 ordered_bounded : (config : Config) (cache : List (List Way)) (raised ordered before : Option Request) (request : Request) → raised ≡ Some request →
     ordered ≡ Some request → IsBounded config cache raised before → IsBounded config cache None ordered
 ordered_bounded config cache raised ordered before request was is now = record {
@@ -288,7 +278,7 @@ started_bounded state by (Places request place) now may h =
     (λ own.
     rw own (λ below.
     ordered_bounded state.config hart.cache hart.raised (ordered request.hart) (ordered_of state request.hart) request mine
-    (order_own state request place free) (now.each request.hart below)))
+    (placed_own state request place free) (now.each request.hart below)))
     (λ apart. rw (order_other state request place h apart) (now.each h))
 started_bounded state by (Serves request) now may h =
     let mine : ordered_of state request.hart ≡ Some request = ap (ordered_of state) (hart_of_request_of state.order by request may.ordered) ∙ may.ordered in
@@ -393,16 +383,6 @@ pub always_bounded : (program : Program) (config : Config) (events : List Event)
     Bounded (after program config events)
 always_bounded program config events same range = kept_after Bounded next_bounded (begin program config) events (first_bounded program config same range)
 
--- the laws
-first_config : (program : Program) (config : Config) → (begin program config).config ≡ config
-unfolding begin
-first_config program config = refl
-
-always_config : (program : Program) (config : Config) (events : List Event) → (after program config events).config ≡ config
-always_config program config events =
-    kept_after (λ state. state.config ≡ config) (λ state event now. next_config state event ∙ now) (begin program config) events
-    (first_config program config)
-
 -- of a hart of the machine, by the configuration that it began with
 bounded_at : (program : Program) (config : Config) (events : List Event) (h : ℕ) → program.harts ≡ config.harts →
     IsInRange config → h < config.harts →
@@ -411,7 +391,7 @@ bounded_at : (program : Program) (config : Config) (events : List Event) (h : �
 bounded_at program config events h same range below =
     let state = after program config events in
     let bounded = always_bounded program config events same range in
-    let is = always_config program config events in
+    let is = after_config program config events in
     let count = bounded.count ∙ ap (λ c. c.harts) is in
     subst (λ c. IsBounded c (cache_of state h) (raised_of state h) (ordered_of state h)) is (bounded.each h (omega (arith, below, count)))
 
@@ -422,7 +402,7 @@ caches_are_shaped program config events same range h below = (bounded_at program
 waits_below : (program : Program) (config : Config) (events : List Event) (h : ℕ) (request : Request) → program.harts ≡ config.harts →
     IsInRange config → WaitsWith (after program config events) h request → h < config.harts
 waits_below program config events h request same range waits =
-    let count = bounded.count ∙ ap (λ c. c.harts) (always_config program config events) in
+    let count = bounded.count ∙ ap (λ c. c.harts) (after_config program config events) in
     let below = exists waits in
     omega (arith, count, below)
   where
@@ -466,6 +446,6 @@ written_lines_are_few program config events same range h = by (nat_lt h config.h
     by true below = (bounded_at program config events h same range (ltb-true h config.harts below)).cache_is.written
     by false above =
         let past = ltb-false h config.harts above in
-        let count = (always_bounded program config events same range).count ∙ ap (λ c. c.harts) (always_config program config events) in
+        let count = (always_bounded program config events same range).count ∙ ap (λ c. c.harts) (after_config program config events) in
         let none = ap (λ hart. write_bits_of hart.cache) (hart_of-past state h (omega (arith, past, count))) in
         omega (arith, none)

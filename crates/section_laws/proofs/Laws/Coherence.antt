@@ -22,12 +22,12 @@ use Rattle.el_model.specs.BusEvent.{having_taken, started}
 use Rattle.el_model.specs.Deed.{Arms, Begins, Buffers, Commits, Continues, Deed, DoesWhere, Elides, IsCoverable, IsPermitted, LetsGo, Misses, Rests, RollsBack, Runs, Waits, hart_after, is_refused, permits}
 use Rattle.el_model.specs.InSection.{covered}
 use Rattle.el_model.specs.Next.{after, next, step_turn}
-use Rattle.el_model.specs.Plain.{after_access, after_candidate, after_touch, candidate_of}
+use Rattle.el_model.specs.Plain.{after_access, after_touch, candidate_of}
 use Rattle.el_model.specs.Serve.{bystander, others_cache, others_have, own_copy, served, served_hart, serving}
 use Rattle.el_model.specs.Serve.{with_claim}
 use Rattle.el_model.specs.State.{Hart, ModelState, Section, Turn, begin, cache_of, count_up, hart_of, new_hart}
 use Rattle.el_model.specs.State.{section_of}
-use Rattle.el_model.specs.Upcoming.{Swap, Touch}
+use Rattle.el_model.specs.Upcoming.{Touch}
 use Rattle.el_model.proofs.Laws.AllHarts.{all_first}
 use Rattle.el_model.proofs.Laws.BusEvents.{by_event}
 use Rattle.el_model.proofs.Laws.FromStart.{kept_after}
@@ -38,6 +38,7 @@ use Rattle.moesi.specs.declared.letter.Letter.TheVariants.{M}
 use Rattle.section_laws.specs.Laws.{CopiesAreCoherent, WrittenLinesAreElsewhereInNoCache, WrittenLinesMayBeWritten}
 use Rattle.section_laws.specs.Coherence.{AreCoherent, AreOwned, IsOwned, MayBeTogether}
 use Rattle.el_model.proofs.Laws.EachHart.{Each}
+use Rattle.el_model.proofs.Laws.HartParts.{candidate_cache}
 use Rattle.section_laws.proofs.Laws.ArmedBits as bits
 use Rattle.section_laws.proofs.Laws.EachKept as kept
 use Rattle.section_laws.proofs.Laws.FreeLines.{NotWritten, free_line}
@@ -104,11 +105,6 @@ touch_steady : (state : ModelState) (h : ℕ) (touch : Option Touch) → IsPermi
     IsSteady (cache_of state h) (after_touch (cache_of state h) touch)
 touch_steady state h None permitted = same_cache (cache_of state h)
 touch_steady state h (Some touch) permitted = access_steady (cache_of state h) touch.line touch.need permitted
-
-candidate_cache : (pc : Option ℕ) (had_watch : Bool) (candidate : Option Swap) (hart : Hart) →
-    (after_candidate pc had_watch candidate hart).cache ≡ hart.cache
-candidate_cache pc had_watch None hart = refl
-candidate_cache pc had_watch (Some swap) hart = refl
 
 marked_steady : (cache : List (List Way)) (line : ℕ) (need : Need) → (need ≡ Write → may_write (letter_of cache line) ≡ true) →
     IsSteady cache (touched (marked cache line need) line)

@@ -1,13 +1,13 @@
 -- where nothing is in the way of a read, no other hart's section has written its line
 use Rattle.std.proofs.Common.{◌≡◌, ◌≢◌, ◌∙◌, ◌<◌, ◌+◌, ◌==◌, ℕ, zero, suc, Bool, true, false, ◌&&◌, ◌||◌, not, List, [], ◌∷◌, length, Option, None, Some, is_some, refl, ap, sym, arith, if◌then◌else◌}
 use Rattle.std.specs.List.{list_any}
-use Rattle.std.specs.Prelude.{slice_index_or}
 use Rattle.std.proofs.lemmas.Bool.Decides.{nat_tests}
 use Rattle.bus_order.specs.Order.{IsOneEach, Request, first_of, request_of}
 use Rattle.bus_order.proofs.Laws.LookUps.{number_of_test, other_test}
 use Rattle.bus_order.proofs.Laws.Queues.{hart_of_request_of, request_of_first_of}
 use Rattle.residency.specs.Cache.{bit_in, has_marks, set_number, set_of, way_of}
 use Rattle.residency.specs.Residency.{Way, is_marked, way_in}
+use Rattle.residency.proofs.Laws.Unmarked.{bare_at}
 use Rattle.el_base.specs.declared.outcomes.Need.TheVariants.{Read, Write}
 use Rattle.el_base.specs.declared.outcomes.Why.{Why}
 use Rattle.el_model.specs.Conflicts.{conflicts_with, first_such, meets_bit, retainer_of, retains}
@@ -35,13 +35,8 @@ unmarked_in (way ∷ ways) line bare =
     by_test NotWritten (way.line == line) (Some way) (way_in ways line) (λ here. second_not way.read way.write (first_not (is_marked way) _ bare))
     (λ other. unmarked_in ways line (second_not (is_marked way) _ bare))
 
-unmarked_at : (cache : List (List Way)) (place : ℕ) → has_marks cache ≡ false → list_any is_marked (slice_index_or cache place []) ≡ false
-unmarked_at [] place bare = refl
-unmarked_at (set ∷ sets) zero bare = first_not _ _ bare
-unmarked_at (set ∷ sets) (suc place) bare = unmarked_at sets place (second_not (list_any is_marked set) _ bare)
-
 unmarked_way : (cache : List (List Way)) (line : ℕ) → has_marks cache ≡ false → NotWritten (way_of cache line)
-unmarked_way cache line bare = unmarked_in (set_of cache line) line (unmarked_at cache (set_number cache line) bare)
+unmarked_way cache line bare = unmarked_in (set_of cache line) line (bare_at cache (set_number cache line) bare)
 
 unwritten_way : (way : Option Way) → bit_in Write way ≡ false → NotWritten way
 unwritten_way None none = tt

@@ -35,17 +35,19 @@ use Rattle.el_model.proofs.Laws.FromStart.{kept_after}
 use Rattle.el_model.proofs.Laws.Harts.{hart_of-past}
 use Rattle.el_model.proofs.Laws.Orders.{served_order}
 use Rattle.el_model.proofs.Laws.Tests.{by_hart, by_test}
+use Rattle.el_model.proofs.Laws.HartParts.{candidate_armed, claim_armed}
 use Rattle.moesi.specs.Letters.{may_read}
 use Rattle.moesi.specs.declared.letter.Letter.{Letter}
 use Rattle.rv_flat.specs.FlatState.{status_of, view_of}
 use Rattle.section_laws.specs.Laws.{ArmedHartsWaitForNothing, ArmedSectionsHaveOneReadBit, NoHartIsLiveAndArmed, OrderedWritesMeetNoArmedHart}
 use Rattle.section_laws.specs.Waiting.{RunsWithNothing}
 use Rattle.section_laws.proofs.Laws.ArmedBits as bits
+use Rattle.section_laws.proofs.Laws.ArmedBits.{same_word}
 use Rattle.section_laws.proofs.Laws.Bits.{NoBitMore, clash, no_more_any, no_more_others, no_more_same, unless}
 use Rattle.section_laws.proofs.Laws.Coherence as coherence
 use Rattle.section_laws.proofs.Laws.FreeLines.{head_is, not_blocked}
 use Rattle.section_laws.proofs.Laws.Moves.{Moves, faced_keeps, moved, step_keeps, taken_keeps}
-use Rattle.section_laws.proofs.Laws.Waiting.{Rested, candidate_armed, claim_armed, live_unarmed, none_freed, unarmed_ordered}
+use Rattle.section_laws.proofs.Laws.Waiting.{Rested, live_unarmed, none_freed, unarmed_ordered}
 
 none_some : {A X : Type 0} {x : A} → None ≡ Some x → X
 none_some wrong = absurd (cc)
@@ -306,9 +308,6 @@ reads_moves = record {
   gave_up = λ h hart now. now;
   tried = λ h hart more now. now;
 }
-
-same_word : {one other : Armed} → Some one ≡ Some other → one.word ≡ other.word
-same_word is = ap (λ armed. armed.word) (same_some is)
 
 marked_here : (cache : List (List Way)) (line : ℕ) → may_read (letter_of cache line) ≡ true →
     read_bit (touched (marked cache line Read) line) line ≡ true

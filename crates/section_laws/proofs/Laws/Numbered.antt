@@ -2,14 +2,13 @@
 use Rattle.std.proofs.Common.{◌≡◌, ◌∙◌, ◌<◌, ◌≤◌, ◌==◌, ℕ, Bool, true, false, List, [], ◌∷◌, None, Some, length, refl, ap, sym, arith}
 use Rattle.std.specs.Prelude.{nat_lt}
 use Rattle.std.proofs.lemmas.Bool.{ltb-true, ltb-false}
-use Rattle.std.proofs.lemmas.Bool.Decides.{nat_tests}
 use Rattle.std.proofs.Math.ListN.{length-set}
 use Rattle.std.proofs.lemmas.List.{length-replicate}
 use Rattle.bus_order.specs.Order.{IsOneEach, Request, appended, in_front_of, removed, request_of}
 use Rattle.bus_order.proofs.Laws.Orders.{one_each_appended, one_each_in_front_of, one_each_none, one_each_removed}
 use Rattle.el_base.specs.Config.{IsInRange}
 use Rattle.el_base.specs.declared.config.Config.{Config}
-use Rattle.el_base.proofs.Laws.Ranges.{ranges}
+use Rattle.el_base.proofs.Laws.Ranges.{harts_in_range}
 use Rattle.el_base.specs.declared.events.Event.{Event}
 use Rattle.elf_image.specs.Program.{Program}
 use Rattle.el_model.specs.BusEvent.{Nothing, Places, Serves, Start, StartsWhere, Takes, order_after, order_at}
@@ -22,6 +21,7 @@ use Rattle.el_model.proofs.Laws.Deeds.{step_deed}
 use Rattle.el_model.proofs.Laws.FromStart.{kept_after}
 use Rattle.el_model.proofs.Laws.Harts.{hart_of-past}
 use Rattle.el_model.proofs.Laws.Tests.{by_test}
+use Rattle.el_model.proofs.Laws.Restoring.{removed_numbered}
 use Rattle.section_laws.specs.Laws.{EachHartWaitsForOne, OneOrderedRequestEach, RequestsAreNumbered}
 use Rattle.section_laws.proofs.Laws.Waiting.{Rested, Sound, always_settled, always_sound, free_of_order, next_settled, rested_in, settled_by}
 use Rattle.section_laws.proofs.Laws.Waiting.{sound_in}
@@ -124,17 +124,11 @@ numbered_in_front (first ∷ order) request small (own, others) =
     by_test AreNumbered (first.line == request.line) (request ∷ first ∷ order) (first ∷ in_front_of order request)
     (λ here. (small, (own, others))) (λ behind. (own, numbered_in_front order request small others))
 
-numbered_removed : (order : List Request) (h : ℕ) → AreNumbered order → AreNumbered (removed order h)
-numbered_removed [] h now = tt
-numbered_removed (first ∷ order) h (own, others) =
-    by_test AreNumbered (first.hart == h) (removed order h) (first ∷ removed order h)
-    (λ gone. numbered_removed order h others) (λ kept. (own, numbered_removed order h others))
-
 kept_numbered : (count : ℕ) → count ≤ 8 → KeptInOrder AreNumbered count
 kept_numbered count few = record {
   placed_last = λ order request exists free now. numbered_appended order request (omega (arith, exists, few)) now;
   placed_before = λ order request exists free now. numbered_in_front order request (omega (arith, exists, few)) now;
-  taken_out = numbered_removed;
+  taken_out = removed_numbered;
 }
 
 pub record Numbered (state : ModelState) : Type 0 where
@@ -150,9 +144,6 @@ next_numbered state event now = record {
   few = rw (next_count state event) now.few;
   numbered = order_keeps state event (kept_numbered (length state.harts) now.few) now.sound now.numbered;
 }
-
-pub harts_in_range : (config : Config) → IsInRange config → config.harts ≤ 8
-harts_in_range config range = let small = (ranges config range).harts in grind (arith, nat_tests, small)
 
 pub first_numbered : (program : Program) (config : Config) → program.harts ≡ config.harts → IsInRange config → Numbered (begin program config)
 unfolding begin

@@ -1,14 +1,14 @@
 -- no set of a cache has a line twice
-use Rattle.std.proofs.Common.{◌≡◌, ◌∙◌, ◌==◌, ℕ, zero, suc, Bool, true, false, List, [], ◌∷◌, Option, None, Some, is_some, map, refl, ap, sym, if◌then◌else◌}
+use Rattle.std.proofs.Common.{◌≡◌, ◌∙◌, ◌==◌, ℕ, zero, suc, Bool, true, false, List, [], ◌∷◌, Option, None, Some, is_some, map, refl, ap, if◌then◌else◌}
 use Rattle.std.specs.Prelude.{slice_index_or, slice_set}
 use Rattle.bus_order.specs.Order.{Request}
 use Rattle.residency.specs.Cache.{committed_way, empty_cache, filled_with, is_resident, lettered, marked, set_number, set_of, touched, way_of, with_set, without_line}
 use Rattle.residency.specs.Residency.{Way, changed_in, dropped, evicted_in, left_in, to_front, touched_in, way_in, with_bit, with_letter, without_bits}
-use Rattle.residency.proofs.Laws.ResidencyLemmas.{way_in-dropped_same}
+use Rattle.residency.proofs.Laws.ResidencyLemmas.{way_in-dropped_same, way_in-line}
 use Rattle.residency.proofs.Laws.CacheLemmas.{line-with_bit}
-use Rattle.bus_order.proofs.Laws.LookUps.{number_of_test}
 use Rattle.el_base.specs.declared.outcomes.Need.{Need}
 use Rattle.el_base.specs.declared.outcomes.Need.TheVariants.{Read, Write}
+use Rattle.el_base.proofs.Laws.Options.{none_from}
 use Rattle.el_model.specs.Deed.{Arms, Begins, Buffers, Commits, Continues, Deed, Elides, LetsGo, Misses, Rests, RollsBack, Runs, Waits, hart_after}
 use Rattle.el_model.specs.InSection.{covered, is_covered}
 use Rattle.el_model.specs.Plain.{after_access, after_candidate, after_touch, candidate_of}
@@ -76,22 +76,12 @@ once_map change keeps [] once = tt
 once_map change keeps (way ∷ ways) (absent, once) =
     (ap (way_in (map change ways)) (keeps way) ∙ absent_map change keeps ways way.line absent, once_map change keeps ways once)
 
-found_line : (set : List Way) (line : ℕ) (way : Way) → way_in set line ≡ Some way → way.line ≡ line
-found_line [] line way is = absurd (cc)
-found_line (first ∷ ways) line way is = by (first.line == line) refl (λ rest. found_line ways line way rest) is
-  where
-    same_some : (a b : Way) → Some a ≡ Some b → a ≡ b
-    same_some a b same = cc
-
-    by : (here : Bool) → (first.line == line) ≡ here → (way_in ways line ≡ Some way → way.line ≡ line) →
-        (if here then Some first else way_in ways line) ≡ Some way → way.line ≡ line
-    by true is rest found = sym (ap (λ w. w.line) (same_some first way found)) ∙ number_of_test first.line line is
-    by false is rest found = rest found
-
 once_front : (set : List Way) (line : ℕ) (found : Option Way) → way_in set line ≡ found → IsOnce set → IsOnce (to_front set line found)
 once_front set line None is once = once
-once_front set line (Some way) is once =
-    (ap (way_in (dropped set line)) (found_line set line way is) ∙ way_in-dropped_same set line, once_dropped set line once)
+once_front set line (Some way) is once = (
+  ap (way_in (dropped set line)) (way_in-line set line way is) ∙ way_in-dropped_same set line,
+  once_dropped set line once,
+)
 
 absent_left : (set : List Way) (gone : Option Way) (line : ℕ) → way_in set line ≡ None → way_in (left_in set gone) line ≡ None
 absent_left set None line none = none
@@ -128,10 +118,6 @@ once_marked cache line need = once_with cache line _ (once_changed (with_bit nee
 
 once_without : (cache : List (List Way)) (line : ℕ) → AreOnce cache → AreOnce (without_line cache line)
 once_without cache line = once_with cache line _ (once_dropped (set_of cache line) line)
-
-none_from : (way : Option Way) → is_some way ≡ false → way ≡ None
-none_from None none = refl
-none_from (Some way) none = absurd (cc)
 
 once_filled : (ways : ℕ) (cache : List (List Way)) (line : ℕ) (letter : Letter) → is_resident cache line ≡ false → AreOnce cache →
     AreOnce (filled_with ways cache line letter)

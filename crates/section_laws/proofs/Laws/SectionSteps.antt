@@ -17,13 +17,13 @@ use Rattle.el_model.specs.Serve.{with_claim}
 use Rattle.el_model.specs.State.{Hart, ModelState, Section, hart_of, is_live, section_of}
 use Rattle.el_model.specs.Upcoming.{Swap}
 use Rattle.el_model.proofs.Laws.BusEvents.{by_event}
-use Rattle.el_model.proofs.Laws.Deeds.{step_deed}
+use Rattle.el_model.proofs.Laws.Deeds.{is_rolled, step_deed}
 use Rattle.el_model.proofs.Laws.Harts.{hart_of-past, hart_of-with_hart_same}
 use Rattle.pair_table.specs.Predictor.{confidence_of}
 use Rattle.section_laws.specs.Sections.{IsOfSection, NeverRunsCandidate, NoneBeginsAfterRollback, RunsCandidate, SectionStepsAreOfFiveKinds}
 use Rattle.el_model.proofs.Laws.EachHart.{each_but}
 use Rattle.section_laws.proofs.Laws.EachKept.{BusKept, turn_keeps}
-use Rattle.section_laws.proofs.Laws.Waiting.{Sound, always_sound, is_rolled}
+use Rattle.section_laws.proofs.Laws.Waiting.{Sound, always_sound}
 
 not_live : {X : Type 0} (section : Option Section) → is_some section ≡ true → section ≡ None → X
 not_live None live none = absurd (cc)

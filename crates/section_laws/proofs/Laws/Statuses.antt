@@ -10,25 +10,16 @@ use Rattle.el_base.specs.declared.freed.Freed.{Freed}
 use Rattle.el_model.specs.Armed.{freed_by, freed_count, is_freed, let_go}
 use Rattle.el_model.specs.Plain.{armed_count}
 use Rattle.el_model.specs.State.{ModelState, hart_of}
-use Rattle.rv_alu.specs.declared.footprint.Access.{Access}
-use Rattle.rv_alu.specs.declared.footprint.Access.TheVariants.{Nothing, Read, Write, Trap, Exit}
-use Rattle.rv_alu.specs.declared.view.HartView.{HartView}
 use Rattle.rv_flat.specs.FlatState.{FlatState, status_of, view_of}
-use Rattle.rv_flat.specs.Laws.{footprint_of, seen_after}
+use Rattle.rv_flat.specs.Laws.{footprint_of}
 use Rattle.rv_flat.specs.Run.{alone, run}
 use Rattle.rv_flat.specs.Step.{flat}
 use Rattle.rv_flat.proofs.Laws.StepLaws.{keeps_others, run_append}
-
-seen_status : (access : Access) (view : HartView) → (seen_after access view).status ≡ view.status
-seen_status (Write from len) view = refl
-seen_status (Read from len) view = refl
-seen_status Nothing view = refl
-seen_status (Trap cause) view = refl
-seen_status (Exit code) view = refl
+use Rattle.rv_flat.proofs.Laws.RunsAfter.{seen_after-status}
 
 pub flat_status : (state : FlatState) (h g : ℕ) → g ≢ h → status_of (flat state h) g ≡ status_of state g
 flat_status state h g apart =
-    ap (λ view. view.status) (keeps_others state h g apart) ∙ seen_status (footprint_of state h) (view_of state g)
+    ap (λ view. view.status) (keeps_others state h g apart) ∙ seen_after-status (footprint_of state h) (view_of state g)
 
 pub alone_status : (state : FlatState) (h g count : ℕ) → g ≢ h → status_of (alone state h count) g ≡ status_of state g
 alone_status state h g zero apart = refl

@@ -7,15 +7,13 @@ use Rattle.bus_order.proofs.Laws.LookUps.{request_of_appended_other, request_of_
 use Rattle.bus_order.proofs.Laws.Queues.{hart_of_request_of}
 use Rattle.el_base.proofs.Laws.FreedOrder.{no_one_in_order}
 use Rattle.el_base.specs.declared.config.Config.{Config}
-use Rattle.el_base.specs.declared.outcomes.Cause.{Cause}
-use Rattle.el_base.specs.declared.outcomes.Cause.TheVariants.{Room, Lines, Long, Call, Mixed}
 use Rattle.el_base.specs.declared.outcomes.Need.{Need}
 use Rattle.el_base.specs.declared.events.Event.{Event}
 use Rattle.elf_image.specs.Program.{Program}
 use Rattle.el_model.specs.Armed.{freed_hart, is_freed, let_go, let_go_hart}
 use Rattle.el_model.specs.BusEvent.{IsBusEvent, Nothing, Places, Serves, Start, StartsWhere, Takes, as_met, faced_head, having_taken}
 use Rattle.el_model.specs.BusEvent.{order_after, order_at, started}
-use Rattle.el_model.specs.Deed.{Arms, Begins, Buffers, Commits, Continues, Deed, DoesWhere, Elides, IsArmed, IsInside, IsOutside, LetsGo, Misses, MustRollBack, Rests, RollsBack, Runs, Waits, committed_after, done, hart_after}
+use Rattle.el_model.specs.Deed.{Arms, Begins, Buffers, Commits, Continues, Deed, DoesWhere, Elides, IsArmed, IsOutside, LetsGo, Misses, Rests, RollsBack, Runs, Waits, committed_after, done, hart_after}
 use Rattle.el_model.specs.Face.{faced, met}
 use Rattle.el_model.specs.Next.{after, next, step_turn}
 use Rattle.el_model.specs.Order.{Alone, Behind, InFront, Place}
@@ -26,12 +24,13 @@ use Rattle.el_model.specs.State.{raised_of, section_of}
 use Rattle.el_model.specs.Upcoming.{Swap}
 use Rattle.el_model.proofs.Laws.AllHarts.{all_first}
 use Rattle.el_model.proofs.Laws.BusEvents.{by_event, keeps_as_met, met_becomes}
-use Rattle.el_model.proofs.Laws.Deeds.{step_deed}
+use Rattle.el_model.proofs.Laws.Deeds.{is_rolled, step_deed}
 use Rattle.el_model.proofs.Laws.EachHart.{Each, each_become, each_but}
 use Rattle.el_model.proofs.Laws.FromStart.{kept_after}
 use Rattle.el_model.proofs.Laws.Harts.{hart_of-past}
 use Rattle.el_model.proofs.Laws.Orders.{order_as_met}
 use Rattle.el_model.proofs.Laws.Tests.{by_hart, by_test}
+use Rattle.el_model.proofs.Laws.HartParts.{candidate_armed, claim_armed}
 use Rattle.rv_alu.specs.declared.view.HartStatus.{HartStatus}
 use Rattle.rv_alu.specs.declared.view.HartStatus.TheVariants.{Running}
 use Rattle.rv_flat.specs.FlatState.{status_of, view_of}
@@ -268,10 +267,6 @@ served_waits state request hart (Some live) is status ordered found now new sect
     bare (inl none) = none
     bare (inr only) = some_none only.no_section
 
-pub claim_armed : (live : Bool) (request : Request) (hart : Hart) → (with_claim live request hart).armed ≡ hart.armed
-claim_armed true request hart = refl
-claim_armed false request hart = refl
-
 served_standing : (state : ModelState) (request : Request) → Settled state → ordered_of state request.hart ≡ Some request →
     Standing (status_of state.committed) (λ h. None) request.hart (served_hart state request (hart_of state request.hart))
 served_standing state request settled mine =
@@ -407,16 +402,8 @@ ended_waits : (h : ℕ) (status : HartStatus) (ordered : Option Request) (raised
 ended_waits h status ordered raised none not_raised =
     nothing h status ordered None raised None (record { no_section = refl; not_raised = not_raised; not_ordered = none; not_held = refl })
 
-same_request : (one other : Request) → Some one ≡ Some other → one ≡ other
+pub same_request : (one other : Request) → Some one ≡ Some other → one ≡ other
 same_request one other same = cc
-
-pub is_rolled : (state : ModelState) (h : ℕ) (section : Section) (cause : Cause) → MustRollBack state h section cause →
-    IsInside state h section
-is_rolled state h section Long must = must.inside
-is_rolled state h section Call must = must.is_short.inside
-is_rolled state h section Mixed must = must.goes_on.is_short.inside
-is_rolled state h section Lines must = must.wants.goes.goes_on.is_short.inside
-is_rolled state h section Room must = must.wants.goes.goes_on.is_short.inside
 
 miss_waits : (state : ModelState) (h line : ℕ) (need : Need) (hart : Hart) → status_of state.committed h ≡ Running →
     has_request state h ≡ false →
@@ -483,11 +470,6 @@ deed_waits state h (Continues armed) continues sound = armed_waits state h armed
 deed_waits state h (LetsGo armed) lets_go sound = let_go_waits state h armed _ lets_go.is_armed
 
 -- an armed hart still waits for nothing after its deed
-pub candidate_armed : (pc : Option ℕ) (had_watch : Bool) (candidate : Option Swap) (hart : Hart) →
-    (after_candidate pc had_watch candidate hart).armed ≡ hart.armed
-candidate_armed pc had_watch None hart = refl
-candidate_armed pc had_watch (Some swap) hart = refl
-
 pub live_unarmed : (state : ModelState) (h : ℕ) (section : Section) → Rested state → section_of state h ≡ Some section → armed_of state h ≡ None
 live_unarmed state h section rested live = by (rested h)
   where

@@ -1,5 +1,5 @@
 -- what is committed in a state that can be reached is what a run of its program comes to
-use Rattle.std.proofs.Common.{◌∙◌, ℕ, List, [], ◌∷◌, refl, sym, subst}
+use Rattle.std.proofs.Common.{◌∙◌, ℕ, List, [], refl, sym, subst}
 use Rattle.std.proofs.lemmas.List.FromFn.{length-map-range_with_len}
 use Rattle.el_base.specs.declared.config.Config.{Config}
 use Rattle.el_model.proofs.Laws.Folds.{serial_run}
@@ -7,17 +7,11 @@ use Rattle.el_model.specs.Next.{entries_from}
 use Rattle.chronicle.specs.Serial.{serial}
 use Rattle.el_model.specs.State.{begin}
 use Rattle.elf_image.specs.Program.{Program}
-use Rattle.rv_flat.proofs.Laws.RunsAfter.{keeps_bytes}
+use Rattle.rv_flat.proofs.Laws.RunsAfter.{run_bytes}
 use Rattle.rv_flat.specs.FlatState.{FlatState, first_view, start}
-use Rattle.rv_flat.specs.Memory.{AreBytes}
 use Rattle.rv_flat.specs.Run.{run}
-use Rattle.rv_flat.specs.Step.{flat}
 use Rattle.section_view.proofs.Laws.Shapes.{run_shape}
 use Rattle.section_view.specs.Laws.{CommittedIsOfItsProgram, IsOfProgram}
-
-run_bytes : (state : FlatState) (harts : List ℕ) → AreBytes state.bytes → AreBytes (run state harts).bytes
-run_bytes state [] are = are
-run_bytes state (hart ∷ harts) are = run_bytes (flat state hart) harts (keeps_bytes state hart are)
 
 first_is : (program : Program) (config : Config) → IsOfProgram program (begin program config).committed
 unfolding begin start

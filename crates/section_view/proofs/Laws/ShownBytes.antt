@@ -4,6 +4,7 @@ use Rattle.std.specs.Prelude.{slice_index, unwrap_or}
 use Rattle.std.proofs.lemmas.Bool.Decides.{nat_tests}
 use Rattle.residency.specs.Residency.{Way}
 use Rattle.core_step.specs.Port.{byte_of}
+use Rattle.core_step.proofs.Laws.Bytes.{stored_inside, stored_outside}
 use Rattle.elf_image.specs.Program.{code_word}
 use Rattle.el_model.specs.State.{Section}
 use Rattle.el_model.specs.Upcoming.{next_execution}
@@ -22,7 +23,7 @@ use Rattle.rv_flat.specs.Run.{alone}
 use Rattle.rv_flat.specs.Step.{action_of, execution_of}
 use Rattle.run_laws.proofs.Laws.Shown.{lock_at, puts_word, swap_stores, word_piece}
 use Rattle.run_laws.specs.PrivateRun.{IsCoveredRun, IsOutsideWord}
-use Rattle.section_view.proofs.Laws.Bytes.{put_bytes-here, stored_inside, stored_outside}
+use Rattle.section_view.proofs.Laws.Bytes.{put_bytes-here}
 use Rattle.section_view.proofs.Laws.Shapes.{alone_shape, comes_to}
 use Rattle.section_view.specs.KeptRun.{KeepsRun, held_over, section_byte}
 use Rattle.section_view.specs.Laws.{ComesTo, SectionsDoAsShown, SectionsShowTheirBytes}

@@ -2,9 +2,9 @@
 use Rattle.std.proofs.Common.{◌≡◌, ◌∙◌, ℕ, ◌≤◌, ◌==◌, ◌&&◌, not, Bool, true, false, List, None, is_some, refl, ap, sym, arith}
 use Rattle.std.proofs.lemmas.Bool.Decides.{nat_tests}
 use Rattle.bus_order.proofs.Laws.LookUps.{number_of_test}
-use Rattle.residency.proofs.Laws.MarkLemmas.{has_marks-cleared}
 use Rattle.residency.specs.Cache.{cleared, has_marks}
 use Rattle.residency.specs.Residency.{Way}
+use Rattle.residency.proofs.Laws.Unmarked.{unmarked-cleared}
 use Rattle.el_model.specs.Plain.{armed_count}
 use Rattle.el_model.specs.State.{Hart, ModelState, hart_of, is_live, new_hart}
 use Rattle.snoop.specs.Agent.{agent_at}
@@ -59,7 +59,7 @@ tells_nothing = record { live = refl; arms = refl }
 pub tells_cleared : (hart : Hart) (cache : List (List Way)) → is_some hart.section ≡ false → hart.armed ≡ None → hart.cache ≡ cleared cache →
     TellsSection hart
 tells_cleared hart cache section armed is = record {
-  live = section ∙ rw (armed, is) (sym (lives_unarmed (cleared cache) 0 refl ∙ has_marks-cleared cache));
+  live = section ∙ rw (armed, is) (sym (lives_unarmed (cleared cache) 0 refl ∙ unmarked-cleared cache));
   arms = rw armed refl;
 }
 

@@ -29,6 +29,7 @@ use Rattle.el_model.proofs.Laws.BusEvents.{bus_events_are_told_once, met_becomes
 use Rattle.el_model.proofs.Laws.Harts.{hart_of-past}
 use Rattle.el_model.proofs.Laws.Restoring.{loser_lives}
 use Rattle.el_model.proofs.Laws.Tests.{by_hart}
+use Rattle.el_model.proofs.Laws.HartParts.{beaten_armed, claim_armed}
 use Rattle.mail.specs.Mailbox.{Marker, Message, Probe}
 use Rattle.rv_flat.specs.FlatState.{view_of}
 use Rattle.run_laws.proofs.Laws.EventsBeside.{AllArmed}
@@ -40,7 +41,7 @@ use Rattle.section_laws.proofs.Laws.ArmedCounts.{armed_sections_are_short}
 use Rattle.section_laws.proofs.Laws.Moves.{freed_is_armed}
 use Rattle.section_laws.proofs.Laws.Numbered.{requests_are_numbered}
 use Rattle.stamp.specs.Stamps.{Stamp}
-use Rattle.section_laws.proofs.Laws.Waiting.{Rested, always_settled, claim_armed, live_unarmed, rested_in}
+use Rattle.section_laws.proofs.Laws.Waiting.{Rested, always_settled, live_unarmed, rested_in}
 use Rattle.step_laws.specs.LettingGo as letting_go
 use Rattle.step_laws.specs.LettingGo.{BusEventsLetHartsGo, freed_of_outcome}
 
@@ -178,20 +179,10 @@ try_last : (hart : Hart) (last : Bool) →
 try_last hart true = refl
 try_last hart false = refl
 
-try_armed : (hart : Hart) (last : Bool) →
-    (if last then record hart { tries = 0; fallback = true } else record hart { tries = hart.tries + 1 }).armed ≡ hart.armed
-try_armed hart true = refl
-try_armed hart false = refl
-
 beaten_last : (mode : Mode) (stamp : Option Stamp) (hart : Hart) → (beaten mode stamp hart).last_lr ≡ hart.last_lr
 beaten_last Tlr stamp hart = refl
 beaten_last Sle stamp hart = try_last (out_of_section hart) (hart.tries + 1 == most_tries)
 beaten_last Plain stamp hart = try_last (out_of_section hart) (hart.tries + 1 == most_tries)
-
-beaten_armed : (mode : Mode) (stamp : Option Stamp) (hart : Hart) → (beaten mode stamp hart).armed ≡ None
-beaten_armed Tlr stamp hart = refl
-beaten_armed Sle stamp hart = try_armed (out_of_section hart) (hart.tries + 1 == most_tries)
-beaten_armed Plain stamp hart = try_armed (out_of_section hart) (hart.tries + 1 == most_tries)
 
 loser_unarmed : (state : ModelState) (by g : ℕ) {start : Start} {winner : ℕ} {stamp : Option Stamp} → Rested state →
     LosesWhere state by start g winner stamp → armed_of state g ≡ None

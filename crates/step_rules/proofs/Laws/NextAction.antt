@@ -25,10 +25,7 @@ use Rattle.rv_word.specs.declared.insn.Insn.{Insn}
 use Rattle.step_rules.proofs.Origins.{ComesOf, Facts, comes, facts_of}
 use Rattle.step_rules.specs.Actions.{IsNext, conditional_by, exchange_by, is_call_or_stop, quiet, releases, reserved_by, stores_in, swap_by, swap_over}
 use Rattle.step_rules.specs.declared.upcoming.Exchange as exchanges
-
-none_either : {A : Type 0} (b : Bool) (found : Option A) → found ≡ None → (if b then found else None) ≡ None
-none_either true found none = none
-none_either false found none = refl
+use Rattle.el_base.proofs.Laws.Options.{none_either}
 
 and_false : (b : Bool) → (b && false) ≡ false
 and_false true = refl

@@ -2,6 +2,7 @@
 use Rattle.std.proofs.Common.{◌≡◌, ℕ, zero, suc, ◌+◌, ◌/◌, ◌%◌, ◌≤◌, ◌<◌, ◌^◌, true, List, [], ◌∷◌, ◌++◌, length, get_or, drop, None, refl, sym, ap, ◌∙◌, append_assoc, arith, IsTrue}
 use Rattle.std.proofs.lemmas.Bool.Decides.{nat_tests}
 use Rattle.std.proofs.lemmas.List.{drop-drop}
+use Rattle.std.proofs.Math.Seq.{drop-cons}
 use Rattle.byteorder.specs.Endian.{little_bytes, little_number}
 use Rattle.byteorder.specs.Numbers.{little_number-reads_back}
 use Rattle.el_base.specs.Config.{within}
@@ -19,12 +20,13 @@ use Rattle.el_base.specs.declared.outcomes.Why.{Why}
 use Rattle.el_base.specs.declared.outcomes.Why.TheVariants.{Behind, Retained, Locked}
 use Rattle.el_base.proofs.Laws.HartIds.{hart_id-number, hart_id-of_hart}
 use Rattle.el_base.proofs.Laws.Lines.{line_addr-number, line_addr-of_line}
+use Rattle.el_base.proofs.Laws.ListLaws.{four_in_front}
 use Rattle.trace_file.specs.Faults.{fields_fault}
 use Rattle.trace_file.specs.Fields.{byte_field, fields_of, freed_field, is_blocking, is_cause, is_line, losers_field, number_field, widths}
 use Rattle.trace_file.specs.Outcomes.{IsRecordable, blocking_byte, cause_code, freed_bytes, losers_bytes, most_committed, most_let_go, outcome_spelling, why_code}
 use Rattle.trace_file.specs.Reading.{cause_at, freed_in, losers_in, outcome_in, why_at}
 use Rattle.trace_file.proofs.FieldRows.{first_known}
-use Rattle.trace_file.proofs.Heads.{IsBytes, bytes_behind, cell, four_bytes, front}
+use Rattle.trace_file.proofs.Heads.{IsBytes, bytes_behind, four_bytes}
 use Rattle.trace_file.proofs.Nibbles.{counts_small, freed_again, freed_below, freed_spelled, losers_again, losers_below, losers_spelled, nibbles_small}
 
 -- ---- codes
@@ -79,12 +81,12 @@ blocking_parts harts byte passes = grind (arith, nat_tests)
 -- ---- what is read spells itself
 
 one_byte : (bytes : List ℕ) (byte : ℕ) → 1 ≤ length bytes → byte ≡ get_or bytes 0 0 → byte ∷ drop 1 bytes ≡ bytes
-one_byte bytes byte long is = ap (λ (x : ℕ). x ∷ drop 1 bytes) is ∙ sym (cell bytes 0 (omega arith))
+one_byte bytes byte long is = ap (λ (x : ℕ). x ∷ drop 1 bytes) is ∙ sym (drop-cons bytes 0 0 (omega arith))
 
 four_cells : (cells bytes : List ℕ) → 4 ≤ length bytes →
     cells ≡ get_or bytes 0 0 ∷ get_or bytes 1 0 ∷ get_or bytes 2 0 ∷ get_or bytes 3 0 ∷ [] →
     cells ++ drop 4 bytes ≡ bytes
-four_cells cells bytes long are = ap (λ (l : List ℕ). l ++ drop 4 bytes) are ∙ sym (front bytes long)
+four_cells cells bytes long are = ap (λ (l : List ℕ). l ++ drop 4 bytes) are ∙ sym (four_in_front bytes long)
 
 both_parts : (lost freed bytes : List ℕ) → lost ++ drop 4 bytes ≡ bytes → freed ++ drop 4 (drop 4 bytes) ≡ drop 4 bytes →
     (lost ++ freed) ++ drop 8 bytes ≡ bytes

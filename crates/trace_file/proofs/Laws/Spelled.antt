@@ -16,6 +16,7 @@ use Rattle.el_base.specs.declared.config.TheConstants.{MAX_STEPS}
 use Rattle.el_base.specs.declared.hart_id.TheConstants.{MAX_HARTS}
 use Rattle.el_base.specs.Firsts.{some_if}
 use Rattle.el_base.proofs.Laws.Ranges.{Ranges, ranges, at_most}
+use Rattle.el_base.proofs.Laws.Options.{both_none}
 use Rattle.el_base.specs.declared.events.Event.{Event}
 use Rattle.el_base.specs.declared.config.Config.{Config}
 use Rattle.el_base.specs.declared.config.Mode.{Mode}
@@ -31,7 +32,6 @@ use Rattle.trace_file.specs.Fields.{is_event}
 use Rattle.trace_file.specs.Faults.{field, byte_fault, magic_fault, version_fault, settings_fault, number_fault, head_fault, number_at, mode_at, is_mode, is_few, is_version, event_fault, end_fault, events_fault, entries_fault, body_fault, trace_fault, config_at}
 use Rattle.trace_file.specs.Reading.{entries_in, event_in, events_at, recorded_at}
 use Rattle.trace_file.proofs.EntryLaws.{entries_again, event_back, event_passes}
-use Rattle.trace_file.proofs.FieldRows.{both_none}
 
 -- ---- fields without a fault
 

@@ -1,7 +1,7 @@
 use Rattle.std.proofs.Common.{arith}
 use Rattle.drive.proofs.Recordings.{all_agree, first_differs, followed, none_compared, one_compared}
-use Rattle.drive.proofs.Laws.Steps.{one_left}
 use Rattle.drive.proofs.following.follow_recorded.Goals as goal
+use Rattle.machine.proofs.Laws.Continued.{one_left}
 
 pub loop-place-init : goal.loop-place-init
 loop-place-init c = none_compared _ _ _

@@ -7,10 +7,10 @@ use Rattle.el_base.specs.declared.outcomes.Outcome.TheVariants.{Committed}
 use Rattle.elf_image.specs.Program.{Program}
 use Rattle.rv_flat.specs.FlatState.{FlatState}
 use Rattle.rv_flat.specs.Run.{run}
+use Rattle.rv_flat.proofs.Laws.StepLaws.{start_harts}
 use Rattle.std.specs.Prelude.{replicate}
 use Rattle.run_check.specs.Certified.{IsHistoryOf}
 use Rattle.run_check.proofs.Laws.ReachedStates.{reached_is_state}
-use Rattle.file_vectors.proofs.Starts.{start_harts}
 use Rattle.file_vectors.proofs.certificates.nine_steps.Goals as goal
 
 abbrev committed : HartId → Entry

@@ -13,9 +13,9 @@ use Rattle.chronicle.specs.Serial.{serial}
 use Rattle.elf_image.specs.Program.{Program}
 use Rattle.rv_flat.specs.FlatState.{FlatState}
 use Rattle.rv_flat.specs.Run.{run}
+use Rattle.rv_flat.proofs.Laws.StepLaws.{start_harts}
 use Rattle.run_check.specs.Certified.{IsHistoryOf}
 use Rattle.run_check.proofs.Laws.ReachedStates.{reached_is_state}
-use Rattle.file_vectors.proofs.Starts.{start_harts}
 use Rattle.file_vectors.proofs.certificates.two_freed.Goals as goal
 
 -- two instructions of hart 0 and one of hart 1

@@ -1,9 +1,10 @@
 -- one event after another
-use Rattle.lab.proofs.Following.{one_followed, one_left, tries_more}
+use Rattle.lab.proofs.Following.{tries_more}
 use Rattle.lab.proofs.Telling.{told_more}
 use Rattle.lab.proofs.follow.watch.Goals as goal
 use Rattle.lab.specs.Lines.{facts_in}
 use Rattle.lab.specs.Swaps.{swaps_in}
+use Rattle.machine.proofs.Laws.Continued.{one_followed, one_left}
 
 pub make-requires-clause-step_left : goal.make-requires-clause-step_left
 make-requires-clause-step_left c =

@@ -1,11 +1,12 @@
 use Rattle.std.proofs.Common.{List, ℕ, length, ap, ◌∙◌}
 use Rattle.std.specs.List.{flat_map, range_with_len}
-use Rattle.report.proofs.Putting.{put_then, same_puts}
+use Rattle.report.proofs.Putting.{put_then}
 use Rattle.report.specs.PlaceText.{view_line}
 use Rattle.report.specs.Text.{last_line}
 use Rattle.rv_flat.specs.FlatState.{view_of}
 use Rattle.step_back.specs.Standing.{serial_to, state_here}
 use Rattle.report.proofs.places.put_place.Goals as goal
+use Rattle.report.proofs.Laws.Puts.{same_puts}
 
 pub returns : goal.returns
 returns g c =

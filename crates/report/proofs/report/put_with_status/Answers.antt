@@ -1,10 +1,10 @@
 use Rattle.std.proofs.Common.{[], ◌∷◌, ◌++◌, ap, map, sym, ◌∙◌}
 use Rattle.std.specs.Fmt.{decimal}
 use Rattle.std.specs.Prelude.{codes}
-use Rattle.report.proofs.Putting.{same_puts}
 use Rattle.report.specs.Line.{bytes_of, eight_digits, line}
 use Rattle.report.specs.Text.{status_words}
 use Rattle.report.proofs.report.put_with_status.Goals as goal
+use Rattle.report.proofs.Laws.Puts.{same_puts}
 
 pub returns-in-Trapped : goal.returns-in-Trapped
 returns-in-Trapped g c =

@@ -1,8 +1,9 @@
 use Rattle.std.proofs.Common.{◌++◌, ap}
 use Rattle.std.specs.List.{flat_map, range_with_len}
-use Rattle.report.proofs.Putting.{failed_puts, put_stopped, put_then, put_then_part, same_puts}
+use Rattle.report.proofs.Putting.{failed_puts, put_stopped, put_then, put_then_part}
 use Rattle.report.specs.TimesText.{losses_of, time_at, times_text, total_line}
 use Rattle.report.proofs.times.put_times.Goals as goal
+use Rattle.report.proofs.Laws.Puts.{same_puts}
 
 pub returns-in_err-put_loss_lines : goal.returns-in_err-put_loss_lines
 unfolding times_text

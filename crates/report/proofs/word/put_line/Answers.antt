@@ -2,8 +2,9 @@ use Rattle.std.proofs.Common.{ℕ, List, [], ◌∷◌}
 use Rattle.std.specs.List.{flat_map}
 use Rattle.report.specs.Line.{bytes_of, spaced}
 use Rattle.report.specs.declared.word.Word.{Word}
-use Rattle.report.proofs.Putting.{failed_puts, line_of_words, put_stopped, put_then, put_then_part, same_part, same_puts}
+use Rattle.report.proofs.Putting.{failed_puts, line_of_words, put_stopped, put_then, put_then_part, same_part}
 use Rattle.report.proofs.word.put_line.Goals as goal
+use Rattle.report.proofs.Laws.Puts.{same_puts}
 
 abbrev text : List Word → List ℕ
 text words = flat_map (λ word. spaced (bytes_of word)) words

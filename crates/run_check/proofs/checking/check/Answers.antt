@@ -1,7 +1,7 @@
 use Rattle.std.proofs.Common.{◌≡◌, ◌<◌, length, sym, ap, subst, ◌∙◌, arith}
 use Rattle.rv_flat.specs.FlatState.{FlatState}
+use Rattle.rv_flat.proofs.Laws.StepLaws.{start_harts}
 use Rattle.run_check.specs.Spelling.{hart_in}
-use Rattle.run_check.proofs.Runs.{start_harts}
 use Rattle.run_check.proofs.RulesSame.{hart_below}
 use Rattle.run_check.proofs.checking.check.Goals as goal
 

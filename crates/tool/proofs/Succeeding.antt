@@ -1,5 +1,5 @@
 -- How a run ends, one hart after another.
-use Rattle.std.proofs.Common.{◌≡◌, ℕ, ◌+◌, ◌<◌, true, false, ◌&&◌, [], length, take, ◌∙◌, ap, take_all, ◌≤◌, sym, arith}
+use Rattle.std.proofs.Common.{◌≡◌, ℕ, ◌+◌, ◌<◌, true, false, ◌&&◌, length, take, ◌∙◌, ap, take_all, ◌≤◌, sym, arith}
 use Rattle.std.proofs.lemmas.List.Folds.{list_all_at, list_all_more}
 use Rattle.chronicle.specs.Serial.{serial}
 use Rattle.machine.specs.Story.{Story, committed}

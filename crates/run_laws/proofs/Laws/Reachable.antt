@@ -1,5 +1,5 @@
 -- in every state that can be reached live and armed sections run covered, and other harts change nothing that they show
-use Rattle.std.proofs.Common.{◌≡◌, ◌≢◌, ◌∙◌, ◌+◌, ◌⊎◌, ℕ, true, List, [], None, Some, is_some, replicate, refl, ap, sym, subst, inl, inr}
+use Rattle.std.proofs.Common.{◌≡◌, ◌≢◌, ◌∙◌, ◌+◌, ◌⊎◌, ℕ, true, List, None, Some, is_some, replicate, refl, ap, sym, subst, inl, inr}
 use Rattle.el_base.specs.Freed.{count_in, order_of}
 use Rattle.el_base.specs.declared.config.Config.{Config}
 use Rattle.el_base.specs.declared.events.Event.{Event}

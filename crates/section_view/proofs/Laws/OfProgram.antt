@@ -1,5 +1,5 @@
 -- what is committed in a state that can be reached is what a run of its program comes to
-use Rattle.std.proofs.Common.{◌∙◌, ℕ, List, [], refl, sym, subst}
+use Rattle.std.proofs.Common.{◌∙◌, ℕ, List, refl, sym, subst}
 use Rattle.std.proofs.lemmas.List.FromFn.{length-map-range_with_len}
 use Rattle.el_base.specs.declared.config.Config.{Config}
 use Rattle.el_model.proofs.Laws.Folds.{serial_run}

@@ -7,6 +7,7 @@ use Rattle.std.proofs.lemmas.Bool.Decides.{nat_tests}
 use Rattle.std.proofs.lemmas.List.{length-map}
 use Rattle.std.proofs.lemmas.List.Sums.{sum_by-cons}
 use Rattle.el_base.specs.declared.line.LineAddr.{LineAddr}
+use Rattle.el_base.proofs.Laws.Cases.{none_if_not_some}
 use Rattle.moesi.specs.declared.letter.Letter.{Letter}
 use Rattle.moesi.specs.declared.letter.Letter.TheVariants.{I}
 use Rattle.line_pool.specs.declared.slot.Slot.{Slot}
@@ -33,7 +34,6 @@ use Rattle.residency.proofs.Laws.ResidencyLemmas.{evicted_in-some}
 use Rattle.cache_sets.proofs.Shown.{length-with, set_at-with_same, set_of_shown, sum-map}
 use Rattle.cache_sets.proofs.Slots.{count-shown, out-at, owner-at}
 use Rattle.cache_sets.proofs.Totals.{total-filled}
-use Rattle.residency.proofs.Laws.WellFormedLemmas.{none_from}
 
 -- a sum over what lines show
 total-shown : (f : Way → ℕ) (cache : List (List code.Line)) → marks_of_all.total f (residency_of cache) ≡ total (λ l. f (shown_line l)) cache
@@ -93,7 +93,7 @@ module _ {ways owner marks writes : ℕ} {sets : List Set} {v : Slotted} (line :
   leaves_some =
       none_of ways (set_of (residency_of cache) line.number) line.number (option_map shown_line gone)
       (it_leaves.evicted ∙ ap (evicted_in ways) (sym (set_of_shown cache line.number))) has_room
-      (none_from (way_of (residency_of cache) line.number) not_there)
+      (none_if_not_some (way_of (residency_of cache) line.number) not_there)
 
   held : (l : code.Line) → gone ≡ Some l → (is_out before l.slot ≡ true) × (owner_of l.slot ≡ owner)
   held l same =

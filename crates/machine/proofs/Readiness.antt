@@ -13,6 +13,7 @@ use Rattle.el_base.specs.declared.events.Event.{Event}
 use Rattle.el_base.specs.declared.events.Kind.{Kind}
 use Rattle.el_base.specs.declared.events.Kind.TheVariants.{Step, Order, Serve, Deliver}
 use Rattle.el_base.specs.declared.hart_id.HartId.{HartId}
+use Rattle.el_base.proofs.Laws.Cases.{none_if_not_some}
 use Rattle.el_model.proofs.Laws.Deeds.{step_deed}
 use Rattle.el_model.specs.Deliver.{deliver_next, deliver_turn}
 use Rattle.el_model.specs.Next.{is_over, next, status_turn, step_turn}
@@ -141,14 +142,10 @@ split_at state n below =
     ∙ ap (λ m. option_or (find (gets_on state) (events_of n)) (find (gets_on state) (flat_map events_of (count_up m (drop (n + 1) state.harts)))))
     (omega arith)
 
-none_there : (found : Option Event) → is_some found ≡ false → found ≡ None
-none_there None none = refl
-none_there (Some event) none = absurd (cc)
-
 pub none_more : (state : ModelState) (n : ℕ) (found : Option Event) → n < length state.harts →
     ready_event state ≡ find (gets_on state) (events_from state n) → found ≡ find (gets_on state) (events_of n) → is_some found ≡ false →
     ready_event state ≡ find (gets_on state) (events_from state (n + 1))
-none_more state n found below so_far is none = so_far ∙ split_at state n below ∙ or_none _ _ (sym is ∙ none_there found none)
+none_more state n found below so_far is none = so_far ∙ split_at state n below ∙ or_none _ _ (sym is ∙ none_if_not_some found none)
 
 or_there : (found one other : Option Event) → found ≡ one → is_some found ≡ true → found ≡ option_or one other
 or_there None one other is some = absurd (cc)

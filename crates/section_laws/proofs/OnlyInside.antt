@@ -7,6 +7,7 @@ use Rattle.residency.specs.Residency.{Way, is_marked}
 use Rattle.residency.proofs.Laws.Unmarked.{unmarked-cleared, unmarked-empty, unmarked-filled_with, unmarked-lettered, unmarked-touched, unmarked-without_line}
 use Rattle.el_base.specs.declared.outcomes.Need.{Need}
 use Rattle.el_base.specs.declared.outcomes.Need.TheVariants.{Read, Write}
+use Rattle.el_base.proofs.Laws.Cases.{some_none}
 use Rattle.el_model.specs.Deed.{Arms, Begins, Buffers, Commits, Continues, Deed, Elides, LetsGo, Misses, Rests, RollsBack, Runs, Waits, hart_after}
 use Rattle.el_model.specs.Plain.{after_access, after_candidate, after_touch, candidate_of}
 use Rattle.el_model.specs.Serve.{given_up, others_cache, own_copy, with_claim}
@@ -19,9 +20,6 @@ use Rattle.section_laws.proofs.Laws.EachKept.{EachKept, always_each}
 
 abbrev pub Holds : Hart → Type 0
 Holds hart = HasBitsOnlyInside hart.section hart.armed hart.cache
-
-some_live : {A X : Type 0} {x : A} → Some x ≡ None → X
-some_live wrong = absurd (cc)
 
 committed_set : (set : List Way) → list_any is_marked (map committed_way set) ≡ false
 committed_set [] = refl
@@ -51,7 +49,7 @@ others_unmarked false Read cache line bare = given_unmarked Read cache line bare
 claim_holds : (live : Option Section) (request : Request) (hart : Hart) → hart.section ≡ live →
     (live ≡ None → hart.armed ≡ None → has_marks hart.cache ≡ false) → Holds (with_claim (is_some live) request hart)
 claim_holds None request hart is bare none unarmed = bare refl unarmed
-claim_holds (Some section) request hart is bare none unarmed = some_live (sym is ∙ none)
+claim_holds (Some section) request hart is bare none unarmed = some_none (sym is ∙ none)
 
 -- a deed
 access_unmarked : (cache : List (List Way)) (line : ℕ) (need : Need) → has_marks cache ≡ false →
@@ -74,13 +72,13 @@ deed_holds state h Waits hart now = now
 deed_holds state h (Misses line need) hart now = now
 deed_holds state h (Runs touch) hart now =
     candidate_holds _ _ (candidate_of state h) _ (λ none unarmed. touch_unmarked hart.cache touch (now none unarmed))
-deed_holds state h (Begins swap) hart now = λ none unarmed. some_live none
-deed_holds state h (Buffers section touch) hart now = λ none unarmed. some_live none
+deed_holds state h (Begins swap) hart now = λ none unarmed. some_none none
+deed_holds state h (Buffers section touch) hart now = λ none unarmed. some_none none
 deed_holds state h (Commits section) hart now = λ none unarmed. unmarked-committed hart.cache
 deed_holds state h (RollsBack section cause) hart now = λ none unarmed. unmarked-cleared hart.cache
-deed_holds state h (Arms word) hart now = λ none unarmed. some_live unarmed
-deed_holds state h (Elides armed swap) hart now = λ none unarmed. some_live none
-deed_holds state h (Continues armed) hart now = λ none unarmed. some_live unarmed
+deed_holds state h (Arms word) hart now = λ none unarmed. some_none unarmed
+deed_holds state h (Elides armed swap) hart now = λ none unarmed. some_none none
+deed_holds state h (Continues armed) hart now = λ none unarmed. some_none unarmed
 deed_holds state h (LetsGo armed) hart now = λ none unarmed. unmarked-cleared hart.cache
 
 pub kept : EachKept Holds

@@ -1,10 +1,11 @@
 -- what a served request does to the copies of its line, and to the other lines
-use Rattle.std.proofs.Common.{◌≡◌, ◌≢◌, ◌∙◌, ℕ, Bool, true, false, List, [], ◌∷◌, Option, None, Some, is_some, option_map, refl, ap, sym, subst, inl, inr, ◌⊎◌, arith}
+use Rattle.std.proofs.Common.{◌≡◌, ◌≢◌, ◌∙◌, ℕ, Bool, true, false, List, [], ◌∷◌, Option, None, Some, option_map, refl, ap, sym, subst, inl, inr, ◌⊎◌, arith}
 use Rattle.residency.specs.Cache.{filled_with, is_resident, letter_in, letter_of, lettered, way_of}
 use Rattle.residency.specs.Residency.{Way, with_letter}
 use Rattle.residency.proofs.Laws.CacheLemmas.{way_of-filled_with_same, way_of-lettered_other, way_of-lettered_same, way_of-without_line_same}
 use Rattle.el_base.specs.declared.outcomes.Need.{Need}
 use Rattle.el_base.specs.declared.outcomes.Need.TheVariants.{Read, Write}
+use Rattle.el_base.proofs.Laws.Cases.{clash, none_if_not_some}
 use Rattle.el_model.specs.Serve.{kept_letter, others_cache, own_copy}
 use Rattle.el_model.proofs.Laws.Tests.{by_test}
 use Rattle.moesi.specs.Letters.{filled_of, may_write, on_read_of}
@@ -28,17 +29,11 @@ on_read_owner E is = absurd (cc)
 on_read_owner S is = absurd (cc)
 on_read_owner I is = absurd (cc)
 
-wrong : {X : Type 0} {b : Bool} → b ≡ false → b ≡ true → X
-wrong without with_it = never (sym without ∙ with_it)
-  where
-    never : {X : Type 0} → false ≡ true → X
-    never is = absurd (cc)
-
 read_steady : (way : Way) (letter : Letter) → letter ≡ way.letter → way.write ≡ false → Steady way (with_letter (on_read_of letter) way)
 read_steady way letter is unwritten = record {
-  write = λ may. wrong (on_read_shared letter) may;
+  write = λ may. clash (on_read_shared letter) may;
   owner = λ owns. on_read_owner way.letter (ap on_read_of (sym is) ∙ owns);
-  owned = λ was wrote. wrong unwritten wrote;
+  owned = λ was wrote. clash unwritten wrote;
 }
 
 unwritten_some : (way : Option Way) (w : Way) → way ≡ Some w → NotWritten way → w.write ≡ false
@@ -110,7 +105,7 @@ modified_owned (Some way) is = λ wrote. ap may_write is
 
 new_owned : (letter : Letter) (way : Option Way) → IsNew letter way → IsOwned way
 new_owned letter None new = tt
-new_owned letter (Some way) (is, write) = λ wrote. wrong write wrote
+new_owned letter (Some way) (is, write) = λ wrote. clash write wrote
 
 pub steady_owned : (old new : Option Way) → SteadyWay old new → IsOwned old → IsOwned new
 steady_owned old None steady owned = tt
@@ -142,10 +137,6 @@ shared_fill (Some own) (Some other) letter (is, write) = record {
     never : S ≡ O → ⊥
     never same = absurd (cc)
 
-not_resident : (way : Option Way) → is_some way ≡ false → way ≡ None
-not_resident None none = refl
-not_resident (Some way) none = absurd (cc)
-
 pub own_together : (ways : ℕ) (others : Bool) (need : Need) (cache other : List (List Way)) (line : ℕ) →
     (others ≡ false → is_resident other line ≡ false) → MayBeTogether (way_of cache line) (way_of other line) →
     MayBeTogether (way_of (own_copy ways others need cache line) line) (way_of (others_cache (is_resident cache line) need other line) line)
@@ -164,6 +155,6 @@ own_together ways others Read cache other line absent now = by (is_resident cach
         (shared_fill (way_of (own_copy ways others Read cache line) line) (way_of other line) (letter_of other line)
         (subst (λ letter. IsNew letter (way_of (own_copy ways others Read cache line) line)) (ap (filled_of Read) which) new))
     by false is false which =
-        let none = not_resident (way_of other line) (absent which) in
+        let none = none_if_not_some (way_of other line) (absent which) in
         rw (way_of-lettered_same other line (on_read_of (letter_of other line)))
         (rw none (together_none (way_of (own_copy ways others Read cache line) line)))

@@ -2,14 +2,15 @@
 use Rattle.std.proofs.Common.{◌≡◌, ◌∙◌, ℕ, false, None, option_map, ap, refl, sym}
 use Rattle.moesi.specs.declared.letter.Letter.{Letter}
 use Rattle.residency.specs.Cache.{is_resident, way_of}
-use Rattle.residency.proofs.Laws.AbsentWays.{lettered_absent, not_there, without_absent}
+use Rattle.residency.proofs.Laws.AbsentWays.{lettered_absent, without_absent}
 use Rattle.cache_sets.specs.Cached.{Cached, bytes_of, copy_in, copy_with_letter}
 use Rattle.cache_sets.specs.Calls.{IsLettered, IsWithout}
+use Rattle.el_base.proofs.Laws.Cases.{none_if_not_some}
 
 pub no_copy : (cached : Cached) (line : ℕ) → is_resident cached.residency line ≡ false → copy_in cached line ≡ None
 no_copy cached line absent =
     ap (λ way. option_map (λ w. record { letter = w.letter; bytes = bytes_of cached line }) way)
-    (not_there (way_of cached.residency line) absent)
+    (none_if_not_some (way_of cached.residency line) absent)
 
 -- so a cache is what it is after either
 pub stays_without : (cached : Cached) (line : ℕ) → is_resident cached.residency line ≡ false → IsWithout cached cached line

@@ -19,6 +19,7 @@ use Rattle.residency.proofs.Laws.ResidencyLemmas.{evicted_in-some, uncounted, li
 use Rattle.residency.proofs.Laws.ResidencyLemmas.{sum_by-touched_in, way_in-changed_in_other, way_in-changed_in_same, way_in-dropped_other, way_in-dropped_same}
 use Rattle.residency.proofs.Laws.ResidencyLemmas.{way_in-filled_in_same, way_in-map, way_in-touched_in}
 use Rattle.el_base.specs.declared.outcomes.Need.TheVariants.{Read, Write}
+use Rattle.el_base.proofs.Laws.Cases.{none_if_not_some}
 use Rattle.residency.proofs.Laws.CacheLemmas.{line-with_bit, length-with_set, set_of-with_set_other, set_of-with_set_same}
 use Rattle.residency.specs.Keyed.{count_of}
 use Rattle.residency.proofs.Laws.KeyedLemmas.{length-sum_by, mapped}
@@ -160,10 +161,6 @@ filled_before : (ways : ℕ) (set : List Way) (new : Way) (l : ℕ) (way : Way) 
 filled_before ways set new l way other is =
     left_before set (evicted_in ways set) l way (grind (arith, nat_tests))
 
-pub none_from : (way : Option Way) → is_some way ≡ false → way ≡ None
-none_from None none = refl
-none_from (Some way) none = absurd cc
-
 one_of : (way : Option Way) → is_some way ≡ true → option_map_or (λ w. suc zero) way 0 ≡ 1
 one_of None some = absurd cc
 one_of (Some way) some = refl
@@ -186,7 +183,7 @@ fits-filled : (ways : ℕ) (cache : List (List Way)) (line : ℕ) (letter : Lett
 fits-filled ways cache line letter room absent some kept =
     let old = set_of cache line in
     let new = filled_in ways old (fresh line letter) in
-    let none : way_in old line ≡ None = none_from (way_in old line) absent in
+    let none : way_in old line ≡ None = none_if_not_some (way_in old line) absent in
     let sums : (f : Way → ℕ) → sum_by f new + option_map_or f (evicted_in ways old) 0 ≡ sum_by f old + f (fresh line letter) =
     λ f. sum_by-filled_in f ways old (fresh line letter) (kept.once line) in
     let own : (l : ℕ) → l ≡ line → count_of line_of old l ≡ 0 =

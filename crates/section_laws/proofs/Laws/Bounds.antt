@@ -7,6 +7,7 @@ use Rattle.std.proofs.lemmas.Bool.Decides.{nat_tests}
 use Rattle.std.specs.List.{count_by}
 use Rattle.std.proofs.lemmas.List.{length-replicate}
 use Rattle.std.proofs.lemmas.List.Sums.{sum_by-cons}
+use Rattle.std.proofs.lemmas.Option.{same_Some}
 use Rattle.bus_order.specs.Order.{Request, removed, request_of}
 use Rattle.bus_order.proofs.Laws.LookUps.{request_of_appended_own, request_of_in_front_of_own}
 use Rattle.bus_order.proofs.Laws.LookUps.{request_of_removed_other, request_of_removed_own}
@@ -22,6 +23,7 @@ use Rattle.el_base.specs.declared.events.Event.{Event}
 use Rattle.el_base.specs.declared.outcomes.Need.{Need}
 use Rattle.el_base.specs.declared.outcomes.Need.TheVariants.{Read, Write}
 use Rattle.el_base.proofs.Laws.Ranges.{at_least, ranges}
+use Rattle.el_base.proofs.Laws.Cases.{none_some, some_none}
 use Rattle.elf_image.specs.Program.{Program}
 use Rattle.el_model.specs.BusEvent.{IsBusEvent, Nothing, Places, Serves, Start, StartsWhere, Takes, having_taken}
 use Rattle.el_model.specs.BusEvent.{order_after, order_at, started}
@@ -63,12 +65,6 @@ pub record IsBounded (config : Config) (cache : List (List Way)) (raised ordered
 -- of each hart of the machine, with these requests in order
 abbrev Within : Config → ℕ → (ℕ → Option Request) → ℕ → Hart → Type 0
 Within config count ordered h hart = h < count → IsBounded config hart.cache hart.raised (ordered h)
-
-some_none : {A X : Type 0} {x : A} → Some x ≡ None → X
-some_none wrong = absurd (cc)
-
-none_some : {A X : Type 0} {x : A} → None ≡ Some x → X
-none_some wrong = absurd (cc)
 
 -- a hart that waits for nothing
 free_bounded : (config : Config) (cache : List (List Way)) (raised ordered : Option Request) → raised ≡ None → ordered ≡ None →
@@ -150,14 +146,11 @@ inside_place state h section request now room = record {
   spare = λ write is. not_full state h request.need now room.not_full write;
 }
 
-same_request : (one other : Request) → Some one ≡ Some other → one ≡ other
-same_request one other same = cc
-
 missed_bounded : (state : ModelState) (h : ℕ) (request : Request) → ordered_of state h ≡ None → IsConfigured state.config (cache_of state h) →
     HasPlace state.config (cache_of state h) request → IsBounded state.config (cache_of state h) (Some request) (ordered_of state h)
 missed_bounded state h request free now place = record {
   cache_is = now;
-  for_raised = λ other is. subst (HasPlace state.config (cache_of state h)) (same_request request other is) place;
+  for_raised = λ other is. subst (HasPlace state.config (cache_of state h)) (same_Some request other is) place;
   for_ordered = λ other is. some_none (sym is ∙ free);
 }
 

@@ -6,9 +6,10 @@ use Rattle.residency.specs.Cache.{committed_way, empty_cache, filled_with, is_re
 use Rattle.residency.specs.Residency.{Way, changed_in, dropped, evicted_in, left_in, to_front, touched_in, way_in, with_bit, with_letter, without_bits}
 use Rattle.residency.proofs.Laws.ResidencyLemmas.{way_in-dropped_same}
 use Rattle.residency.proofs.Laws.CacheLemmas.{line-with_bit}
-use Rattle.bus_order.proofs.Laws.LookUps.{number_of_test}
 use Rattle.el_base.specs.declared.outcomes.Need.{Need}
 use Rattle.el_base.specs.declared.outcomes.Need.TheVariants.{Read, Write}
+use Rattle.el_base.proofs.Laws.Cases.{none_if_not_some}
+use Rattle.el_base.proofs.Laws.Tests.{number_of_test}
 use Rattle.el_model.specs.Deed.{Arms, Begins, Buffers, Commits, Continues, Deed, Elides, LetsGo, Misses, Rests, RollsBack, Runs, Waits, hart_after}
 use Rattle.el_model.specs.InSection.{covered, is_covered}
 use Rattle.el_model.specs.Plain.{after_access, after_candidate, after_touch, candidate_of}
@@ -129,16 +130,13 @@ once_marked cache line need = once_with cache line _ (once_changed (with_bit nee
 once_without : (cache : List (List Way)) (line : ℕ) → AreOnce cache → AreOnce (without_line cache line)
 once_without cache line = once_with cache line _ (once_dropped (set_of cache line) line)
 
-none_from : (way : Option Way) → is_some way ≡ false → way ≡ None
-none_from None none = refl
-none_from (Some way) none = absurd (cc)
-
 once_filled : (ways : ℕ) (cache : List (List Way)) (line : ℕ) (letter : Letter) → is_resident cache line ≡ false → AreOnce cache →
     AreOnce (filled_with ways cache line letter)
 once_filled ways cache line letter new =
     once_with cache line _
     (λ once. (
-      absent_left (set_of cache line) (evicted_in ways (set_of cache line)) line (none_from (way_of cache line) new),
+      absent_left (set_of cache line) (evicted_in ways (set_of cache line)) line
+          (none_if_not_some (way_of cache line) new),
       once_left (set_of cache line) (evicted_in ways (set_of cache line)) once,
     ))
 

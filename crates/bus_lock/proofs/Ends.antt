@@ -1,6 +1,6 @@
 -- The rule holds of a new lock, and what it says of one that is closed.
 use Rattle.std.proofs.Common.{◌≡◌, ◌≢◌, ℕ, zero, suc, ◌⊎◌, Bool, true, false, Option, Some, List, [], ◌∷◌, length, sym}
-use Rattle.std.proofs.Common.{refl, ap, ◌∙◌, subst, inl, ⊎_elim, arith}
+use Rattle.std.proofs.Common.{refl, ap, ◌∙◌, subst, inl, ⊎_elim, arith, true≢false}
 use mathlib.Core.Logic.{dite}
 use mathlib.Core.Option.{some, some-injective, some-ne-none}
 use native.Mathlib.Decide.{ℕ_discrete}
@@ -12,7 +12,6 @@ use Rattle.bus_lock.specs.Passes.{Account, AreThePlaces, below, times}
 use Rattle.bus_lock.specs.Rule.{Fits, Ticketed, apart, made}
 use Rattle.bus_lock.specs.Steps.{at_first, at_rest}
 use Rattle.bus_lock.proofs.Laws.Beginnings.{prefix_self}
-use Rattle.bus_lock.proofs.Keeps.{true≢false}
 use Rattle.bus_lock.proofs.Parts.{seen_alone}
 use Rattle.bus_lock.proofs.Sums.{total_alone}
 

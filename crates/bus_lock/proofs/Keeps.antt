@@ -1,7 +1,8 @@
 -- Each step of the lock keeps its rule.
 use Rattle.std.proofs.Common.{◌≡◌, ◌≢◌, ℕ, zero, suc, ◌+◌, ◌==◌, ◌<◌, ◌≤◌, ◌⊎◌, Bool, true, false, Option, Some, List}
 use Rattle.std.proofs.Common.{[], ◌∷◌, ◌++◌, length, get_or, set, sym, refl, ap, ◌∙◌, subst, inl, inr, ⊎_elim, arith}
-use Rattle.std.proofs.Common.{length-append}
+use Rattle.std.proofs.Common.{length-append, true≢false}
+use Rattle.std.proofs.lemmas.Option.{same_Some}
 use mathlib.Core.List.{IsPrefix}
 use mathlib.Core.Logic.{dite}
 use mathlib.Core.Option.{none, some, some-injective, some-ne-none}
@@ -20,16 +21,10 @@ use Rattle.bus_lock.specs.Steps.{drawn, looked, noted, opened}
 use Rattle.bus_lock.proofs.Laws.Beginnings.{prefix_onward, prefix_self}
 use Rattle.bus_lock.proofs.Sums.{below_one_more, times_append, total_set}
 
-pub true≢false : true ≡ false → ⊥
-true≢false e = absurd cc
-
 pub inside : {A : Type 0} (l : List A) (i : ℕ) (a : A) → get_elem? l i ≡ some a → i < length l
 inside [] i a at = absurd (some-ne-none a (sym at))
 inside (x ∷ xs) zero a at = omega arith
 inside (x ∷ xs) (suc i) a at = let rest = inside xs i a at in omega (arith, rest)
-
-pub Some-injective : {A : Type 0} (a b : A) → Some a ≡ Some b → a ≡ b
-Some-injective a b e = cc
 
 module _ {M : Type 0} (entries : M → List Entry) (opening : M → List ℕ) (begins : List ℕ) (begun : ℕ) where
   abbrev pub Rule : State (Option M) View → Type 0
@@ -357,7 +352,7 @@ module _ {M : Type 0} (entries : M → List Entry) (opening : M → List ℕ) (b
             (next_place ∙ (ap (λ (m : ℕ). m + 1) at_end ∙ sym one_more)))
             (inr (id, w, set_here s.views id w (inside s.views id v at), turn)))
             (λ miss. absurd (miss hit)),
-        λ (x : M) is. let e : value ≡ x = Some-injective value x (sym is_said ∙ some-injective said (Some x) is) in
+        λ (x : M) is. let e : value ≡ x = same_Some value x (sym is_said ∙ some-injective said (Some x) is) in
             ap (λ (x : M). (record v { seen = entries x; places = v.places ++ length v.seen ∷ [] }, c)) e,
       )
 

@@ -1,7 +1,7 @@
 -- A pass that is split, joined and told what its other half has seen keeps the rule.
 use Rattle.std.proofs.Common.{◌≡◌, ◌≢◌, ℕ, zero, suc, ◌+◌, ◌-◌, ◌<◌, ◌≤◌, ◌⊎◌, Bool, true, false, nat_lt, Option, List}
 use Rattle.std.proofs.Common.{[], ◌∷◌, ◌++◌, length, take, set, sym, refl, ap, ◌∙◌, subst, inl, inr, ⊎_elim, arith}
-use Rattle.std.proofs.Common.{length-append}
+use Rattle.std.proofs.Common.{length-append, true≢false}
 use Rattle.std.proofs.Math.Seq.{take-append_seam}
 use Rattle.std.proofs.lemmas.Bool.Decides.{nat_tests}
 use mathlib.Core.List.{IsPrefix}
@@ -18,7 +18,7 @@ use Rattle.bus_lock.specs.Passes.{below, longer}
 use Rattle.bus_lock.specs.Rule.{Fits, IsKnown, IsOut, Ticketed, apart, made, total}
 use Rattle.bus_lock.specs.Steps.{joined, learned, left_half, right_half, spent}
 use Rattle.bus_lock.proofs.Laws.Beginnings.{prefix_self, prefix_shorter, prefix_whole}
-use Rattle.bus_lock.proofs.Keeps.{inside, moved, true≢false, value_stays}
+use Rattle.bus_lock.proofs.Keeps.{inside, moved, value_stays}
 use Rattle.bus_lock.proofs.Shares.{apart_halves, apart_more, apart_swap, apart_whole}
 use Rattle.bus_lock.proofs.Sums.{below_one, times_append, total_holds, total_last, total_set}
 

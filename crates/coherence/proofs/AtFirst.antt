@@ -1,5 +1,5 @@
 -- before the first event no cache has a line, and main memory has the program's bytes
-use Rattle.std.proofs.Common.{◌≡◌, ◌∙◌, ◌<◌, ◌≤◌, ◌+◌, ◌-◌, ◌/◌, ◌%◌, arith, zero-add, ℕ, zero, suc, Bool, true, false, List, [], length, map, replicate, Option, None, is_some, ap, refl, sym}
+use Rattle.std.proofs.Common.{◌≡◌, ◌∙◌, ◌<◌, ◌≤◌, ◌+◌, ◌-◌, ◌/◌, ◌%◌, arith, zero-add, ℕ, zero, suc, false, List, [], length, map, replicate, Option, None, is_some, ap, refl, sym}
 use Rattle.std.specs.List.{range_with_len}
 use Rattle.std.specs.Prelude.{slice_index_or}
 use Rattle.std.proofs.lemmas.List.FromFn.{get_or-map-range_with_len, length-map-range_with_len}
@@ -9,9 +9,9 @@ use Rattle.residency.specs.Residency.{Way, way_in}
 use Rattle.coherence.specs.Beginning.{bytes_at_first, line_in}
 use Rattle.coherence.specs.Caches.{AreCoherent, cache_at, copies_of}
 use Rattle.coherence.specs.Line.{Coherent}
-use Rattle.coherence.proofs.Laws.LineLaws.{none_is}
 use Rattle.cache_sets.proofs.Laws.AbsentLines.{no_copy}
 use Rattle.elf_image.specs.Program.{Program}
+use Rattle.el_base.proofs.Laws.Cases.{none_some, not_both}
 
 abbrev no_set : List Way
 no_set = []
@@ -39,14 +39,11 @@ no_copies harts ways sets line h = no_copy (cache_at (replicate harts (empty_cac
 uncopied : (bytes behind : List ℕ) (copies : ℕ → Option Copy) → ((h : ℕ) → copies h ≡ None) → behind ≡ bytes →
     Coherent bytes copies behind
 uncopied bytes behind copies none is = record {
-  same = λ h copy there. none_is copy (sym (none h) ∙ there);
-  alone = λ g h one other first second may. none_is one (sym (none g) ∙ first);
-  owner = λ g h one other first second dirty dirty'. none_is one (sym (none g) ∙ first);
+  same = λ h copy there. none_some (sym (none h) ∙ there);
+  alone = λ g h one other first second may. none_some (sym (none g) ∙ first);
+  owner = λ g h one other first second dirty dirty'. none_some (sym (none g) ∙ first);
   memory = λ clean. is;
 }
-
-not_both : {X : Type 0} (b : Bool) → b ≡ false → b ≡ true → X
-not_both b is_false is_true = absurd (cc)
 
 pub first_coherent : (program : Program) (first count harts ways sets : ℕ) (lines : List (List ℕ)) (caches : List Cached) →
     first ≡ program.base / 64 → lines ≡ map (line_in program.bytes) (range_with_len 0 count) →
@@ -60,7 +57,7 @@ first_coherent program first count harts ways sets lines caches first_is lines_a
           (get_or-map-range_with_len (line_in program.bytes) 0 count (line - first) (line - program.base / 64) []
           (below line there.from there.below) (zero-add (line - first) ∙ ap (λ n. line - n) first_is));
       inside = λ h line resident.
-          not_both (is_resident (cache_at (replicate harts (empty_cached ways sets)) h).residency line) (nobody harts ways sets h line) resident;
+          not_both resident (nobody harts ways sets h line);
     })
   where
     below : (line : ℕ) → first ≤ line → line < first + length (map (line_in program.bytes) (range_with_len 0 count)) → line - first < count

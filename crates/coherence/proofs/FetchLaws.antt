@@ -12,11 +12,12 @@ use Rattle.cache_sets.proofs.Laws.AbsentLines.{no_copy}
 use Rattle.coherence.specs.Caches.{GivesUp, OthersGiveUp, cache_at, copies_of, no_cache, others_from, others_have}
 use Rattle.coherence.specs.Line.{Coherent, IsFound}
 use Rattle.coherence.proofs.Laws.GivenUp.{beyond}
-use Rattle.coherence.proofs.Laws.LineLaws.{as_read, found_bytes, left_cache, none_is, read_served, write_served}
+use Rattle.coherence.proofs.Laws.LineLaws.{as_read, found_bytes, left_cache, read_served, write_served}
 use Rattle.coherence.proofs.Laws.Owners.{letter_is}
 use Rattle.coherence.proofs.Stays.{nothing_given_up}
 use Rattle.el_base.specs.declared.outcomes.Need.{Need}
 use Rattle.el_base.specs.declared.outcomes.Need.TheVariants.{Read, Write}
+use Rattle.el_base.proofs.Laws.Cases.{none_some}
 use Rattle.moesi.specs.Letters.{filled_of, is_dirty, on_read_of}
 
 -- every other cache gives the line up, those past the last hart too
@@ -171,7 +172,7 @@ line_left need h line old mid cache bytes told behind after evicted gone fetch i
 pub left_other : (need : Need) (h line : ℕ) (old mid : List Cached) (cache : Cached) (bytes : List ℕ) (evicted : Option Evicted)
     (gone : Evicted) → Fetch need h line old mid cache bytes evicted → evicted ≡ Some gone → gone.line.number ≢ line
 left_other need h line old mid cache bytes evicted gone fetch is same =
-    none_is _
+    none_some
     (sym (no_copy (cache_at old h) line fetch.absent)
     ∙ (ap (λ l. copy_in (cache_at old h) l) (sym same)
     ∙ (sym (ap (λ c. copy_in c gone.line.number) fetch.gave.own) ∙ fetch.filled.left gone is)))

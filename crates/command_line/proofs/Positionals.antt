@@ -1,5 +1,6 @@
 -- what a positional word does to the walk of `clap`
-use Rattle.std.proofs.Common.{◌≡◌, ◌∙◌, ℕ, ◌&&◌, ◌||◌, Bool, true, false, List, [], ◌∷◌, Option, None, Some, refl, ap, sym, subst}
+use Rattle.std.proofs.Common.{◌≡◌, ◌∙◌, ℕ, Bool, true, false, List, [], ◌∷◌, Option, None, Some, refl, ap, sym, subst}
+use Rattle.std.proofs.Math.Bool.{and-false, or-false}
 use Rattle.clap.specs.Faults.{settle_fault, step_fault}
 use Rattle.clap.specs.Kinds.{Kinds}
 use Rattle.clap.specs.Walk.{Held, Text, Walk, arg_by_index, to_positional, walked}
@@ -10,14 +11,6 @@ use Rattle.command_line.proofs.Looks.{LooksLike}
 use Rattle.command_line.proofs.Rules.{IsKnown, Reads, built_rules, next_place, single}
 use Rattle.command_line.proofs.Uses.{Fails, IsKnownLast, Repeats, Settles, holds, with_last}
 use Rattle.command_line.proofs.Walking.{Continues, Gives, after_word, at, built_shape, by_settling, gives_as, goes_on, named, next_word, stops, turn, word_too_many}
-
-pub no_several : (b : Bool) → (b && false) ≡ false
-no_several true = refl
-no_several false = refl
-
-or_no : (b : Bool) → (b || false) ≡ b
-or_no true = refl
-or_no false = refl
 
 -- the word goes to a positional, whatever it looks like
 pub record IsWord (form : Form) (held : Held) (place : ℕ) (trailing : Bool) (word : Text) : Type 0 where
@@ -52,14 +45,14 @@ module _ (form : Form) (done : List Field) (last : Option Field) (place : ℕ) (
 
   module _ (name : Text) (found : arg_by_index (built_rules form) place ≡ Some (single name None (Some place) true)) where
     at_place : step_kinds ≡ settle_fault (built_rules form) false (holds done last)
-    at_place = rw found (rw (no_several _) refl)
+    at_place = rw found (rw (and-false _) refl)
 
     moved : Settles (built_rules form) done last
         → to_positional (built_rules form) (arg_by_index (built_rules form) place) word before (holds done last)
         ≡ read_word (with_last done last) name word place trailing
     moved settled =
         ap (λ a. to_positional (built_rules form) a word before (holds done last)) found
-        ∙ rw (no_several _, or_no trailing) (ap (λ (held : Held). at (clap.pushed name word held) clap.idle (next_place place) trailing) settled.held)
+        ∙ rw (and-false _, or-false trailing) (ap (λ (held : Held). at (clap.pushed name word held) clap.idle (next_place place) trailing) settled.held)
 
   -- what comes after a positional word of this name
   abbrev pub WordContinues : List Field → Text → List Text → Option (List Piece) → Type 0

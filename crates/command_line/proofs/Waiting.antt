@@ -2,6 +2,7 @@
 use Rattle.std.proofs.Common.{◌≡◌, ℕ, Bool, true, false, List, [], ◌∷◌, Option, None, Some, refl, sym, subst}
 use Rattle.std.specs.Str.{IsUtf8}
 use Rattle.std.proofs.lemmas.Slice.Eq.{bytes_eq-Decides}
+use Rattle.std.proofs.Math.Bool.{and-false}
 use Rattle.clap.specs.Faults.{settle_fault}
 use Rattle.clap.specs.Kinds.{Kinds}
 use Rattle.clap.specs.Walk.{Held, Text, Waiting, Walk, walked}
@@ -11,7 +12,6 @@ use Rattle.command_line.specs.Pieces.{Piece, Look, End, Long, Short, Plain, is_a
 use Rattle.command_line.proofs.Looks.{LooksLike}
 use Rattle.command_line.proofs.Options.{attached_kinds, flag_kinds, named_kinds, short_fails, unknown_fails}
 use Rattle.command_line.proofs.Options.{valued_flag_fails, wants}
-use Rattle.command_line.proofs.Positionals.{no_several}
 use Rattle.command_line.proofs.Rules.{IsKnown, Reads, built_rules}
 use Rattle.command_line.proofs.Rows.{rows_of_fields}
 use Rattle.command_line.proofs.Uses.{Fails, first_fails, holds}
@@ -50,7 +50,7 @@ module _ (form : Form) (done : List Field) (place : ℕ) (name : Text) (known : 
   -- after `--` no word is its value
   after_end_fails : (names : List Text) (word : Text) → Reads (built_rules form) place names → Fails (turn form (wants done name place true) word)
   after_end_fails [] word reads none = let kinds = rw reads at none in cc
-  after_end_fails (other ∷ names) word reads none = let kinds = rw reads.0 at none in starved (rw (no_several _) at kinds)
+  after_end_fails (other ∷ names) word reads none = let kinds = rw reads.0 at none in starved (rw (and-false _) at kinds)
 
   pub wants_after_end : (names words : List Text) → Reads (built_rules form) place names → Gives form (wants done name place true) words None
   wants_after_end names [] reads = wants_ends true

@@ -3,7 +3,7 @@ use Rattle.std.proofs.Common.{◌≡◌, ◌≢◌, ◌∙◌, ◌↔◌, ℕ, z
 use Rattle.std.proofs.Common.{Option, None, Some, refl, ap, sym, subst, arith, inl, inr}
 use Rattle.std.proofs.lemmas.Bool.{cases_order}
 use Rattle.std.proofs.lemmas.List.{same_lists}
-use Rattle.std.proofs.lemmas.Option.{slice_get-get_or, slice_get_read}
+use Rattle.std.proofs.lemmas.Option.{same_Some, slice_get-get_or, slice_get_read}
 use Rattle.std.proofs.Math.Seq.{take-length}
 use Rattle.std.specs.Prelude.{slice_get}
 use Rattle.drive.specs.Recording.{IsFirstDifference}
@@ -14,9 +14,6 @@ use Rattle.el_model.specs.State.{ModelState}
 use Rattle.el_model.proofs.Laws.Folds.{length-outcomes_from}
 use Rattle.machine.proofs.Laws.Continued.{nothing_more, one_followed, state_of_continued}
 use Rattle.machine.specs.Story.{Story, continued, state_of}
-
-same_Some : {X : Type 0} {x y : X} → Some x ≡ Some y → x ≡ y
-same_Some is = cc
 
 -- what comes of the event at a place
 found_at : (state : ModelState) (events : List Event) (place : ℕ) (event : Event) → place < length events →
@@ -49,13 +46,13 @@ compared_more recorded found place wanted outcome None None was is more so_far =
     ]
 compared_more recorded found place wanted outcome None (Some first) was is more so_far =
     let apart : wanted ≢ outcome = λ same. let none = more.agrees.1 (refl, same) in absurd (cc) in
-    let first_is : first ≡ place = same_Some (more.here refl apart) in
+    let first_is : first ≡ place = same_Some _ _ (more.here refl apart) in
     rw first_is
-    (omega arith, record { here = λ same. apart (same_Some (sym was ∙ same ∙ is)); before = so_far })
+    (omega arith, record { here = λ same. apart (same_Some _ _ (sym was ∙ same ∙ is)); before = so_far })
 compared_more recorded found place wanted outcome (Some earlier) None was is more so_far =
     let kept = more.earlier earlier refl in absurd (cc)
 compared_more recorded found place wanted outcome (Some earlier) (Some first) was is more (within, difference) =
-    let first_is : first ≡ earlier = same_Some (more.earlier earlier refl) in
+    let first_is : first ≡ earlier = same_Some _ _ (more.earlier earlier refl) in
     rw first_is (omega (arith, within), difference)
 
 -- so many events were made, and compared
@@ -103,7 +100,7 @@ all_same recorded found each compared =
     same_lists recorded found each
     (λ place d within.
     let inside : place < length found = omega (arith, within, each) in
-    same_Some
+    same_Some _ _
     (sym (slice_get-get_or recorded place d (omega (arith, inside, each))) ∙ compared place inside
     ∙ slice_get-get_or found place d inside))
 
@@ -120,7 +117,7 @@ difference recorded found None each compared place = (
   λ first. absurd (first.here (ap (λ list. slice_get list place) (all_same recorded found each compared))),
 )
 difference recorded found (Some one) each (within, first) place = (
-  λ is. subst (IsFirstDifference recorded found) (same_Some is) first,
+  λ is. subst (IsFirstDifference recorded found) (same_Some _ _ is) first,
   λ other. ap Some (same_place recorded found one place first other),
 )
 

@@ -1,5 +1,6 @@
 -- the laws that are offered to the crates above; every other file here is private
 pub mod BitSets
+pub mod Cases
 pub mod FreedOrder
 pub mod HartIds
 pub mod Lines
@@ -9,3 +10,4 @@ pub mod Ranges
 pub mod SameLosers
 pub mod Kinds
 pub mod Options
+pub mod Tests

@@ -4,6 +4,7 @@ use Rattle.std.specs.Prelude.{◌&&◌, if◌then◌else◌, nat_lt}
 use Rattle.std.proofs.lemmas.Bool.Decides.{nat_tests}
 use Rattle.el_base.specs.declared.outcomes.Outcome.{Outcome}
 use Rattle.el_base.specs.declared.outcomes.Outcome.TheVariants as outcomes
+use Rattle.el_base.proofs.Laws.Tests.{first_of_both, second_of_both}
 use Rattle.el_model.specs.Armed.{ArmedRule, Continues, Elides, LetsGo, armed_rule, armed_turn, by_armed_rule, completes, exchange_rule, is_quiet}
 use Rattle.el_model.specs.Armed.{may_grow, most_armed, shown_armed}
 use Rattle.el_model.specs.State.{Armed, ModelState, Turn}
@@ -12,7 +13,6 @@ use Rattle.engine.specs.Acting.{ActsArmed}
 use Rattle.engine.specs.Armed.{ArmedSomewhere, FollowsArmed, FollowsArmedSomewhere}
 use Rattle.engine.specs.Parts.{Parts}
 use Rattle.engine.specs.Turns.{TakesTurn}
-use Rattle.run_laws.proofs.Laws.Tests.{first_of_both, second_of_both}
 use Rattle.section_laws.proofs.Laws.ArmedBits.{completing}
 
 -- what the rule says, the turn is

@@ -1,6 +1,6 @@
 -- an instruction of a section may be buffered
-use Rattle.std.proofs.Common.{◌≡◌, ◌∙◌, ℕ, ◌+◌, ◌%◌, ◌<◌, slice_index, ◌≤◌, ◌++◌, [], ◌∷◌, Bool, true}
-use Rattle.std.proofs.Common.{false, List, Option, Some, None, is_some, not, ◌||◌, inl, inr, refl, ap, sym, subst, arith}
+use Rattle.std.proofs.Common.{◌≡◌, ◌∙◌, ℕ, ◌+◌, ◌%◌, ◌<◌, slice_index, ◌≤◌, ◌++◌, [], ◌∷◌, true}
+use Rattle.std.proofs.Common.{List, Option, Some, None, is_some, ◌||◌, inl, inr, refl, ap, sym, subst, arith}
 use Rattle.residency.proofs.Laws.MarkLemmas.{write_bits_of-touched}
 use Rattle.residency.specs.Cache.{bit_in, has_bit, is_resident, way_of, write_bits_of}
 use Rattle.cache_sets.specs.Cached.{Cached, cached_byte, copy_in}
@@ -20,6 +20,7 @@ use Rattle.el_base.specs.declared.hart_id.HartId.{HartId}
 use Rattle.el_base.specs.declared.line.TheConstants.{LINE_BYTES}
 use Rattle.el_base.specs.declared.outcomes.Need.TheVariants.{Read, Write}
 use Rattle.el_base.specs.declared.outcomes.Outcome.TheVariants.{Buffered}
+use Rattle.el_base.proofs.Laws.Tests.{unrefused}
 use Rattle.coherence.proofs.Laws.Fetched.{copy_resident}
 use Rattle.coherence.proofs.Laws.Owners.{copy_is}
 use Rattle.el_model.specs.Upcoming.{Touch, overlaps}
@@ -57,16 +58,12 @@ use Rattle.step_rules.proofs.Laws.NextAction as next
 use Rattle.step_rules.specs.Actions.{is_call_or_stop}
 
 -- what is touched is in the hart's cache
-refused_not : (permits wanted : Bool) → (not permits || wanted) ≡ false → permits ≡ true
-refused_not true wanted is = refl
-refused_not false wanted is = absurd (cc)
-
 pub is_there : (from : ModelState) (h : ℕ) (section : Section) (touch : Option Touch) → MayBuffer from h section touch →
     IsThere (cache_of from h) touch
 is_there from h section None may = tt
 is_there from h section (Some touch) may = elim may.coverable [
   | inl had ↦ covered_there (cache_of from h) touch.line touch.need had
-  | inr (room, granted) ↦ permitted_there (cache_of from h) touch.line touch.need (refused_not _ _ granted)
+  | inr (room, granted) ↦ permitted_there (cache_of from h) touch.line touch.need (unrefused _ _ granted)
 ]
 
 -- what is kept, over a cache in which it has its bit

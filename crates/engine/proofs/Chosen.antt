@@ -6,11 +6,11 @@ use Rattle.cached_step.specs.CacheRun.{permitted}
 use Rattle.core_step.specs.Run.{lacking}
 use Rattle.el_base.specs.Line.{line_number}
 use Rattle.el_base.specs.declared.outcomes.Need.{Need}
+use Rattle.el_base.proofs.Laws.Cases.{none_some}
 use Rattle.el_model.specs.Conflicts.{is_wanted_to_write}
 use Rattle.el_model.specs.Plain.{Arms, Begins, Misses, Runs, elidable_reserve, elidable_swap, may_elide, plain_rule}
 use Rattle.el_model.specs.State.{ModelState, cache_of, hart_of}
 use Rattle.el_model.specs.Upcoming.{Swap, Touch, next_reserved, next_swap, next_touch, touch_of}
-use Rattle.coherence.proofs.Laws.LineLaws.{none_is}
 use Rattle.engine.proofs.Misses.{freed_here}
 use Rattle.engine.proofs.PlainRules.{ArmsAt, BeginsAt, TouchesLine, TouchesWord, arms_word, begins_swap, lacks_none, misses_touch, runs_touch, same_touch}
 use Rattle.engine.proofs.PlainRules.{swapping_rule, swapping_same}
@@ -29,7 +29,7 @@ use Rattle.step_rules.specs.Rules.{touching_rule}
 
 if_some : {A : Type 0} (b : Bool) (found : Option A) (swap : A) → (if b then found else None) ≡ Some swap → found ≡ Some swap
 if_some true found swap is = is
-if_some false found swap is = none_is swap is
+if_some false found swap is = none_some is
 
 if_touches : (b : Bool) (found : Option Swap) (touch : Option Touch) → TouchesWord found touch → TouchesWord (if b then found else None) touch
 if_touches true found touch touches = touches

@@ -1,5 +1,6 @@
 -- a cache as it gets the bit of what is touched
-use Rattle.std.proofs.Common.{◌≡◌, ℕ, ◌||◌, Bool, true, false, List, Option, Some, None, is_some, refl, ap, if◌then◌else◌}
+use Rattle.std.proofs.Common.{◌≡◌, ℕ, ◌||◌, true, List, Option, Some, None, is_some, refl, ap, if◌then◌else◌}
+use Rattle.std.proofs.lemmas.Bool.{or_left}
 use Rattle.residency.proofs.Laws.MarkLemmas.{has_marks-bit}
 use Rattle.residency.proofs.Laws.WellFormedLemmas.{well_formed-marked, well_formed-touched}
 use Rattle.residency.specs.Cache.{bit_in, has_marks, is_resident, letter_in, letter_of, marked, read_bit, touched, way_of, write_bit}
@@ -51,10 +52,6 @@ permitted_there cache line need may = by (way_of cache line) need may
     by (Some way) need is = refl
 
 -- and has its bit then
-either : (first second : Bool) → first ≡ true → (first || second) ≡ true
-either true second is = refl
-either false second is = absurd (cc)
-
 pub has_its_bit : (cache : List (List Way)) (touch : Option Touch) → IsThere cache touch → HasItsBit (with_its_bit cache touch) touch
 has_its_bit cache None there = tt
 has_its_bit cache (Some touch) there =
@@ -93,4 +90,4 @@ marked_covered cache (Some touch) hold marked =
 pub marks_covered : (cache : List (List Way)) (touch : Option Touch) (line : ℕ) → read_bit cache line ≡ true → has_marks (covered cache touch) ≡ true
 marks_covered cache touch line read =
     has_marks-bit (covered cache touch) line
-    (either (read_bit (covered cache touch) line) (write_bit (covered cache touch) line) (bits_covered cache touch line Read read))
+    (or_left (read_bit (covered cache touch) line) (write_bit (covered cache touch) line) (bits_covered cache touch line Read read))

@@ -1,6 +1,7 @@
 -- the acquire of an armed section has been elided: the parts are in the definition's state
 use Rattle.std.proofs.Common.{◌≡◌, ◌∙◌, ℕ, suc, ◌+◌, ◌≤◌, ◌<◌, true, length, None, Some, is_some, refl, ap, sym, subst, arith}
 use Rattle.std.specs.Prelude.{slice_set}
+use Rattle.std.proofs.lemmas.Option.{same_Some}
 use Rattle.residency.specs.Cache.{has_marks, is_resident, marked, touched}
 use Rattle.cache_sets.specs.Slotted.{Slotted}
 use Rattle.el_base.specs.Line.{line_number}
@@ -15,7 +16,6 @@ use Rattle.el_model.specs.Upcoming.{Swap}
 use Rattle.engine.proofs.AfterBegan.{began_stepped, entered, has_bit_now, nothing_marked, opened_state, state_began}
 use Rattle.engine.proofs.ArmedRules.{elides_at}
 use Rattle.engine.proofs.ArmedSteps.{held_nothing, stepped_armed}
-use Rattle.coherence.proofs.Laws.LineLaws.{some_is}
 use Rattle.engine.proofs.Buffered.{committed_beside}
 use Rattle.engine.proofs.LentThere.{inside_caches}
 use Rattle.engine.proofs.Framed.{holds_none, told_copies, told_same}
@@ -144,7 +144,7 @@ module _ (old : Parts) (hart : HartId) (armed : Armed) (swap : Swap) (from : Mod
             (shows (with_hart from h (entered swap (hart_of from h))) noted_back.shows)
 
         reserved_is : kept ≡ record { armed = armed; old = (keeps_private old h from armed follows.acts).old }
-        reserved_is = some_is kept _ (sym kept_is ∙ (keeps_private old h from armed follows.acts).is)
+        reserved_is = same_Some kept _ (sym kept_is ∙ (keeps_private old h from armed follows.acts).is)
 
         own_now : IsOfHart old.pool (state_began from h swap) h own
         own_now =

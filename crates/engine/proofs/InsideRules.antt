@@ -1,5 +1,6 @@
 -- what the rule of a hart with a live section says
-use Rattle.std.proofs.Common.{◌≡◌, ◌∙◌, ℕ, Bool, true, false, Option, Some, None, not, refl, ap, subst, ◌==◌, ◌||◌, if◌then◌else◌, inl, inr}
+use Rattle.std.proofs.Common.{◌≡◌, ◌∙◌, ℕ, Bool, Option, Some, None, not, refl, ap, subst, ◌==◌, ◌||◌, if◌then◌else◌, inl, inr}
+use Rattle.std.proofs.lemmas.Bool.{not-false, not-true}
 use Rattle.residency.specs.Cache.{letter_of, room_of, write_bits_of}
 use Rattle.el_base.specs.declared.outcomes.Cause.TheVariants.{Room, Lines, Long, Call, Mixed}
 use Rattle.el_base.specs.declared.outcomes.Need.{Need}
@@ -25,14 +26,6 @@ Says state h section Commits = MayCommit state h section
 Says state h section (Buffers touch) = deeds.MayBuffer state h section touch
 Says state h section (Misses line need) = HasRoom state h section (record { line = line; need = need })
 
-not_true : (b : Bool) → not b ≡ true → b ≡ false
-not_true true is = absurd (cc)
-not_true false is = refl
-
-not_false : (b : Bool) → not b ≡ false → b ≡ true
-not_false true is = refl
-not_false false is = absurd (cc)
-
 bit_says : (state : ModelState) (h : ℕ) (section : Section) (touch : Touch) → GoesFurther state h section →
     next_touch (shown_in state h section) h ≡ Some touch → Says state h section (bit_rule state h touch)
 bit_says state h section touch goes is =
@@ -44,9 +37,9 @@ bit_says state h section touch goes is =
     (λ full. record { touch = touch; wants = wants; full = full })
     (λ not_full.
     by_test (Says state h section) (not (room_of state.config.ways (cache_of state h) touch.line)) (RollsBack Room) _
-    (λ no_room. record { touch = touch; wants = wants; no_room = not_true _ no_room })
+    (λ no_room. record { touch = touch; wants = wants; no_room = not-true _ no_room })
     (λ has_room.
-    let room : HasRoom state h section touch = record { wants = wants; not_full = not_full; room = not_false _ has_room } in
+    let room : HasRoom state h section touch = record { wants = wants; not_full = not_full; room = not-false _ has_room } in
     by_test (Says state h section) (is_refused state h touch) (Misses touch.line touch.need) (Buffers (Some touch))
     (λ refused. room)
     (λ granted. record { goes = goes; touches = is; coverable = inr (room, granted) }))))

@@ -1,5 +1,6 @@
 -- what a hart keeps of its armed section, and what comes next in it
 use Rattle.std.proofs.Common.{◌≡◌, ◌∙◌, ℕ, ◌<◌, ◌≤◌, true, length, None, Some, refl, ap, sym, subst, arith}
+use Rattle.std.proofs.lemmas.Bool.{or_left}
 use Rattle.residency.specs.Cache.{is_resident, read_bit, write_bit}
 use Rattle.el_base.specs.Line.{line_number}
 use Rattle.el_base.specs.declared.outcomes.Need.TheVariants.{Read}
@@ -14,7 +15,6 @@ use Rattle.engine.specs.Acting.{ActsArmed, cache_in, freed, next_action}
 use Rattle.engine.specs.Parts.{IsOfHart, KeepsReserved, Parts, StandsAs, own_at, present_at}
 use Rattle.hart_state.specs.Own.{HasOwn}
 use Rattle.run_laws.proofs.Laws.ButAView.{armed_runs_keep_all_but_a_view}
-use Rattle.run_laws.proofs.Laws.Tests.{or_left}
 use Rattle.run_laws.specs.PrivateRun.{IsArmedRun}
 use Rattle.rv_alu.specs.Loaded.{loaded}
 use Rattle.rv_alu.specs.declared.action.Action.{Action}

@@ -1,7 +1,7 @@
 -- what is kept of an armed section
 use Rattle.std.proofs.Common.{◌≡◌, ℕ, Option, Some, None, ap, refl}
 use Rattle.std.specs.Prelude.{option_map}
-use Rattle.coherence.proofs.Laws.LineLaws.{some_is}
+use Rattle.std.proofs.lemmas.Option.{same_Some}
 use Rattle.el_model.specs.State.{Armed, Section}
 use Rattle.engine.specs.Parts.{StandsAs}
 use Rattle.reg_mark.specs.declared.marked.Marked.{Marked}
@@ -16,7 +16,7 @@ pub record IsKeptAs (kept : Option Reserved) (armed : Armed) : Type 0 where
 pub kept_as : (kept : Option Reserved) (armed : Armed) → option_map (λ reserved. reserved.armed) kept ≡ Some armed → IsKeptAs kept armed
 kept_as None armed is = absurd (cc)
 kept_as (Some reserved) armed is =
-    record { old = reserved.old; is = ap (λ a. Some (record { armed = a; old = reserved.old })) (some_is reserved.armed armed is) }
+    record { old = reserved.old; is = ap (λ a. Some (record { armed = a; old = reserved.old })) (same_Some reserved.armed armed is) }
 
 -- none is kept where the hart is not armed
 pub none_reserved : (kept : Option Reserved) → option_map (λ reserved. reserved.armed) kept ≡ None → kept ≡ None

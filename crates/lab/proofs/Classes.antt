@@ -6,6 +6,7 @@ use Rattle.std.specs.List.{AllByRecursion, IsDistinct, list_any, range_with_len}
 use Rattle.std.proofs.lemmas.Bool.Decides.{nat_tests}
 use Rattle.std.proofs.lemmas.List.Elements.{All-head, All-tail}
 use Rattle.std.proofs.lemmas.List.Sums.{sum_by-cons}
+use Rattle.std.proofs.lemmas.Bool.{and_parts}
 use Rattle.chronicle.specs.Tally.{nothing}
 use Rattle.chronicle.specs.declared.tally.Tally.{Tally}
 use Rattle.el_model.specs.Next.{entries_from}
@@ -51,13 +52,9 @@ abbrev counted : Try → Tally
 counted try = record (of_end try.ended) { began = 1 }
 
 -- acquires that are the same are one
-and_both : (a b : Bool) → (a && b) ≡ true → (a ≡ true) × (b ≡ true)
-and_both true b e = (refl, e)
-and_both false b e = absurd cc
-
 pub acquire_is : (a b : Acquire) → same_acquire a b ≡ true → a ≡ b
 acquire_is a b same =
-    let both = and_both (a.pc == b.pc) (a.word == b.word) same in
+    let both = and_parts (a.pc == b.pc) (a.word == b.word) same in
     let pc : a.pc ≡ b.pc = grind (arith, nat_tests, both.0) in
     let word : a.word ≡ b.word = grind (arith, nat_tests, both.1) in
     ap (λ n. record { pc = n; word = a.word }) pc ∙ ap (λ n. record { pc = b.pc; word = n }) word

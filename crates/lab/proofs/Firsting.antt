@@ -7,6 +7,12 @@ use Rattle.std.proofs.lemmas.List.Elements.{filter-append}
 use Rattle.std.proofs.lemmas.Map.Views.{any-filter_same}
 use Rattle.lab.specs.Firsts.{firsts}
 
+pub or_flip : (a b : Bool) → (a || (b || false)) ≡ cond b true a
+or_flip true true = refl
+or_flip true false = refl
+or_flip false true = refl
+or_flip false false = refl
+
 or_same : (a b c : Bool) → (a ≡ false → b ≡ c) → (a || b) ≡ (a || c)
 or_same true b c same = refl
 or_same false b c same = same refl

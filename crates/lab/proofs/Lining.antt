@@ -1,5 +1,5 @@
 -- lines that are put behind others, and what an event tells of lines
-use Rattle.std.proofs.Common.{◌≡◌, ◌∙◌, ℕ, zero, suc, ◌+◌, ◌<◌, ◌≤◌, ◌==◌, ◌||◌, nat_eq, Bool, true, false, cond, List, [], ◌∷◌, ◌++◌, Option, Some, None, length, take, get_or, refl, ap, subst, sym, arith, append-nil, append_assoc, eq-eqb}
+use Rattle.std.proofs.Common.{◌≡◌, ◌∙◌, ℕ, suc, ◌+◌, ◌<◌, ◌≤◌, ◌==◌, ◌||◌, nat_eq, Bool, true, false, cond, List, [], ◌∷◌, ◌++◌, Option, Some, None, length, take, get_or, refl, ap, subst, sym, arith, append-nil, append_assoc, eq-eqb}
 use Rattle.std.specs.Prelude.{filter_map}
 use Rattle.std.specs.Cmp.{IsEquivalence}
 use Rattle.cache_sets.specs.Slotted.{Slotted}
@@ -13,6 +13,7 @@ use Rattle.std.proofs.lemmas.List.{take_all, take_more}
 use Rattle.std.proofs.lemmas.List.Elements.{filter_map-append}
 use Rattle.std.proofs.lemmas.List.Folds.{list_any-append, list_any_more}
 use Rattle.std.proofs.lemmas.Map.Keys.{IsDistinct-push}
+use Rattle.std.proofs.Math.Bool.{or-false}
 use Rattle.el_base.proofs.Laws.HartIds.{hart_id-of_hart}
 use Rattle.el_base.proofs.Laws.Lines.{line_addr-of_line}
 use Rattle.el_base.specs.HartId.{hart_id}
@@ -26,11 +27,13 @@ use Rattle.el_base.specs.declared.losers.Losers.{Losers}
 use Rattle.el_base.specs.declared.freed.Freed.{Freed}
 use Rattle.el_base.specs.declared.outcomes.Outcome.{Outcome}
 use Rattle.el_base.specs.declared.outcomes.Outcome.TheVariants as outcomes
+use Rattle.el_base.proofs.Laws.Tests.{number_of_test}
+use Rattle.el_base.proofs.Laws.ListLaws.{range_more}
 use Rattle.el_model.proofs.Laws.Coming.{by_their_rules}
 use Rattle.el_model.specs.Next.{next}
 use Rattle.el_model.specs.State.{ModelState, cache_of, ordered_of}
 use Rattle.engine.specs.MainMemory.{back_by, back_for, if_dirty, leaving_line, line_written_back}
-use Rattle.lab.proofs.Firsting.{firsts_push}
+use Rattle.lab.proofs.Firsting.{firsts_push, or_flip}
 use Rattle.lab.proofs.Noting.{line_back}
 use Rattle.lab.specs.Firsts.{firsts}
 use Rattle.lab.specs.LineRows.{AreLinesOf, AreSeenLines, all_lines, has_line, is_line, is_on, same_line, with_line}
@@ -41,12 +44,6 @@ use Rattle.lab.specs.declared.lines.LineFact.TheVariants.{Lost, Owner}
 use Rattle.machine.proofs.Laws.Continued.{state_of_continued}
 use Rattle.machine.specs.Story.{Story, continued, state_of}
 use Rattle.snoop.specs.Shows.{Kept, Shows}
-
-or_flip : (a b : Bool) → (a || (b || false)) ≡ cond b true a
-or_flip true true = refl
-or_flip true false = refl
-or_flip false true = refl
-or_flip false false = refl
 
 -- a line that was new is seen from then on
 pub line_seen_more : {S : Type 0} (lines : List LineAddr) (old new : HashSet ℕ S) (line : LineAddr) (number : ℕ) → AreSeenLines lines old →
@@ -62,14 +59,11 @@ line_seen_more lines old new line number seen updated =
 turned : (a b : ℕ) → (a == b) ≡ (b == a)
 turned a b = grind (arith, nat_tests)
 
-number_is : (a b : ℕ) → (a == b) ≡ true → a ≡ b
-number_is a b e = grind (arith, nat_tests, e)
-
 same_line_is : IsEquivalence same_line
 same_line_is = record {
   refl = λ x. eq-eqb x.number x.number refl;
   symm = λ x y. turned x.number y.number;
-  congr = λ x y z same. ap (λ n. n == z.number) (number_is x.number y.number same);
+  congr = λ x y z same. ap (λ n. n == z.number) (number_of_test x.number y.number same);
 }
 
 has_turned : (line : LineAddr) (lines : List LineAddr) → list_any (same_line line) lines ≡ has_line lines line.number
@@ -83,10 +77,6 @@ or_known true b known = refl
 or_known false true known = known refl
 or_known false false known = refl
 
-or_false : (b : Bool) → (b || false) ≡ b
-or_false true = refl
-or_false false = refl
-
 -- what lines have after one more was put
 has_with : (line : LineAddr) (lines : List LineAddr) (number : ℕ) →
     has_line (with_line line lines) number ≡ (has_line lines number || (line.number == number))
@@ -99,10 +89,10 @@ has_with line lines number = by (has_line lines line.number) refl
         has_line (cond b lines (lines ++ line ∷ [])) number ≡ (has_line lines number || (line.number == number))
     by true e =
         or_known (has_line lines number) (line.number == number)
-        (λ same. ap (has_line lines) (sym (number_is line.number number same)) ∙ e)
+        (λ same. ap (has_line lines) (sym (number_of_test line.number number same)) ∙ e)
     by false e =
         list_any-append test lines (line ∷ [])
-        ∙ ap (λ b. has_line lines number || b) (or_false (line.number == number))
+        ∙ ap (λ b. has_line lines number || b) (or-false (line.number == number))
 
 once_with : (line : LineAddr) (lines : List LineAddr) → IsDistinct same_line lines → IsDistinct same_line (with_line line lines)
 once_with line lines once = by (has_line lines line.number) refl
@@ -135,7 +125,7 @@ line_passed facts place fact lines below here is are = record {
   once = are.once;
   each = λ number.
       are.each number
-      ∙ sym (or_false (list_any (is_on number) (take place facts)))
+      ∙ sym (or-false (list_any (is_on number) (take place facts)))
       ∙ ap (λ o. list_any (is_on number) (take place facts) || is_line number o) (sym is)
       ∙ ap (λ (f : Fact). list_any (is_on number) (take place facts) || is_on number f) here
       ∙ sym (list_any_more (is_on number) facts place fact below);
@@ -180,10 +170,6 @@ lines_in_order facts place lines past order =
     order ∙ ap (λ (l : List Fact). firsts same_line (all_lines l)) (take_all place facts past)
 
 -- what a loss tells
-range_more : (from n end : ℕ) → end ≡ from + n → range_with_len from (suc n) ≡ range_with_len from n ++ end ∷ []
-range_more from zero end is = ap (λ (m : ℕ). m ∷ []) (omega (arith, is))
-range_more from (suc n) end is = ap (λ (l : List ℕ). from ∷ l) (range_more (from + 1) n end (omega (arith, is)))
-
 losses_below-more : (place : ℕ) (after : ModelState) (winner : ℕ → Option ℕ) (n : ℕ) →
     losses_below place after winner (n + 1) ≡ losses_below place after winner n ++ loss_facts place after n (winner n)
 losses_below-more place after winner n =

@@ -1,5 +1,5 @@
 -- the sections that are live in the list are those of the state
-use Rattle.std.proofs.Common.{◌≡◌, ◌≢◌, ℕ, ◌∙◌, ◌==◌, ◌⊎◌, inl, inr, true, false, Bool, cond, List, [], Option, Some, None, map, refl, ap, eq-eqb}
+use Rattle.std.proofs.Common.{◌≡◌, ◌≢◌, ℕ, ◌∙◌, ◌==◌, ◌⊎◌, inl, inr, true, false, Bool, cond, List, [], Option, Some, None, map, refl, ap}
 use Rattle.std.specs.Prelude.{IsSome, is_some}
 use Rattle.std.proofs.lemmas.List.Elements.{All-append, All-map, All-nil, All-cons, All-weaker}
 use Rattle.el_base.specs.Winners.{winner_over}
@@ -7,6 +7,7 @@ use Rattle.el_base.specs.declared.events.Event.{Event}
 use Rattle.el_base.specs.declared.hart_id.HartId.{HartId}
 use Rattle.el_base.specs.declared.outcomes.Outcome.{Outcome}
 use Rattle.el_base.specs.declared.outcomes.Outcome.TheVariants as outcomes
+use Rattle.el_base.proofs.Laws.Tests.{same_test}
 use Rattle.el_model.proofs.Laws.Coming.{by_their_rules}
 use Rattle.el_model.specs.Armed.{Elides}
 use Rattle.el_model.specs.Causes.{GoesArmed, GoesOutside}
@@ -51,9 +52,6 @@ own_part : (own : Bool) (ended : Ended) → own ≡ true → cond own ended Live
 own_part true ended is live = live
 own_part false ended is live = absurd cc
 
-same_is : (a b : ℕ) → a ≡ b → (a == b) ≡ true
-same_is a b same = eq-eqb a b same
-
 -- one event: what ends a section is told by its outcome
 module _ (state : ModelState) (place : ℕ) (event : Event) where
   moment : Moment
@@ -68,7 +66,7 @@ module _ (state : ModelState) (place : ℕ) (event : Event) where
       EndsIt event (next state event).outcome h ⊎ IsSome (winner_over (next state event).outcome h) → ⊥
   not_ended h live (inl it) =
       let own : own_end place (ran_in state h) (next state event).outcome ≡ Live =
-      own_part (event.hart.number == h) _ (same_is event.hart.number h it.own) (live_first _ _ live) in
+      own_part (event.hart.number == h) _ (same_test event.hart.number h it.own) (live_first _ _ live) in
       elim it.how [
         | inl is ↦ absurd_of (no_commit place (ran_in state h) (next state event).outcome own) is
         | inr is ↦ absurd_of (no_rollback place (ran_in state h) (next state event).outcome own) is

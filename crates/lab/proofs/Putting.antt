@@ -1,5 +1,5 @@
 -- keys that are put behind others, each once
-use Rattle.std.proofs.Common.{◌≡◌, ◌∙◌, ℕ, ◌+◌, ◌<◌, ◌≤◌, ◌||◌, Bool, true, false, cond, List, [], ◌∷◌, ◌++◌, length, map, take, get_or, refl, ap, append-nil, append_assoc, sym, subst, arith}
+use Rattle.std.proofs.Common.{◌≡◌, ◌∙◌, ℕ, ◌+◌, ◌<◌, ◌≤◌, Bool, true, false, cond, List, [], ◌∷◌, ◌++◌, length, map, take, get_or, refl, ap, append-nil, append_assoc, sym, subst, arith}
 use Rattle.std.specs.HashSet.{HashSet, contains}
 use Rattle.std.specs.List.{IsDistinct, list_any}
 use Rattle.std.proofs.lemmas.Bool.Decides.{nat_tests}
@@ -7,8 +7,9 @@ use Rattle.std.proofs.lemmas.List.{map-append, take_all, take_more}
 use Rattle.std.proofs.lemmas.List.Elements.{All-more, All-weaker}
 use Rattle.std.proofs.lemmas.List.Folds.{list_any-append}
 use Rattle.std.proofs.lemmas.Map.Keys.{IsDistinct-push}
+use Rattle.std.proofs.lemmas.Bool.{or_left, or_right}
 use Rattle.lab.proofs.Classes.{same_is}
-use Rattle.lab.proofs.Firsting.{any_of_firsts, firsts_push}
+use Rattle.lab.proofs.Firsting.{any_of_firsts, firsts_push, or_flip}
 use Rattle.lab.specs.Firsts.{firsts}
 use Rattle.lab.specs.Locks.{AreAcquiresOf, AreAmong, AreOnlyOf, AreSeen, all_acquires, same_acquire, same_pair, with_acquire}
 use Rattle.lab.specs.declared.swaps.PlainSwap.{PlainSwap}
@@ -17,12 +18,6 @@ use Rattle.lab.specs.declared.tries.Try.{Try}
 
 same_flip : (a b : Acquire) → same_acquire a b ≡ same_acquire b a
 same_flip a b = grind (arith, nat_tests)
-
-or_flip : (a b : Bool) → (a || (b || false)) ≡ cond b true a
-or_flip true true = refl
-or_flip true false = refl
-or_flip false true = refl
-or_flip false false = refl
 
 -- an acquire that was new is seen from then on
 pub seen_more : {S : Type 0} (acquires : List Acquire) (old new : HashSet (ℕ × ℕ) S) (acquire other : Acquire) → AreSeen acquires old →
@@ -34,14 +29,6 @@ seen_more acquires old new acquire other seen updated =
     ∙ ap (λ b. cond b true (list_any (same_acquire other) acquires)) (same_flip acquire other)
     ∙ sym (or_flip (list_any (same_acquire other) acquires) (same_acquire other acquire))
     ∙ sym (list_any-append (same_acquire other) acquires (acquire ∷ []))
-
-or_left : (a b : Bool) → a ≡ true → (a || b) ≡ true
-or_left true b e = refl
-or_left false b e = absurd cc
-
-or_right : (a b : Bool) → b ≡ true → (a || b) ≡ true
-or_right true b e = refl
-or_right false b e = e
 
 -- what is among acquires stays so
 longer : (acquires : List Acquire) (acquire other : Acquire) → list_any (same_acquire other) acquires ≡ true →

@@ -5,6 +5,7 @@ use Rattle.std.proofs.lemmas.Bool.Decides.{nat_tests}
 use Rattle.std.proofs.lemmas.List.{get_or-replicate, length-replicate, length-take-le, take_more}
 use Rattle.std.proofs.lemmas.List.Elements.{All-push, All-weaker}
 use Rattle.std.proofs.lemmas.List.Sums.{count_by-le-length, sum_by_push}
+use Rattle.std.proofs.lemmas.Bool.{and_right}
 use Rattle.lab_page.specs.Bars.{AreBars, IsBarAt, bar_at, begins, begins_as, with_piece}
 use Rattle.lab_page.specs.Kinds.{kind_number}
 use Rattle.lab_page.specs.declared.bars.Bar.{Bar}
@@ -93,11 +94,6 @@ bar_put hart column pieces piece bar begun was = record {
         get_or-set_other bar.counts (kind_number piece.kind) kind (slice_index bar.counts (kind_number piece.kind) + 1) 0 other in
         omega (arith, here, was.counted kind small, counted_more hart column kind pieces piece, none)
 
--- a test that fails behind another one
-both_false : (a b : Bool) → b ≡ false → (a && b) ≡ false
-both_false true b e = e
-both_false false b e = refl
-
 -- the bars with a piece of the hart more
 pub bars_put : (hart width : ℕ) (pieces : List Piece) (piece : Piece) (bars : List Bar) → piece.hart.number ≡ hart →
     piece.first < width → AreBars hart width pieces bars →
@@ -119,7 +115,7 @@ bars_put hart width pieces piece bars own inside was = record {
         (bar_put hart piece.first pieces piece (bar_at bars piece.first) begun (was.each piece.first inside)))
     by column below false e =
         let other : column ≢ piece.first = grind (arith, nat_tests, e) in
-        let not_begun : begins hart column piece ≡ false = both_false (piece.hart.number == hart) (piece.first == column) e in
+        let not_begun : begins hart column piece ≡ false = and_right (piece.hart.number == hart) (piece.first == column) e in
         subst (λ bar. IsBarAt hart column (pieces ++ piece ∷ []) bar)
         (sym (get_or-set_other bars piece.first column (with_piece (bar_at bars piece.first) piece) (record { last = 0; counts = [] }) other))
         (bar_passed hart column pieces piece (bar_at bars column) not_begun (was.each column below))
@@ -195,5 +191,5 @@ piece_passed hart width place pieces piece bars inside here other are =
         let own : piece.hart.number ≡ hart = grind (arith, nat_tests, p) in
         let first : piece.first ≡ column = grind (arith, nat_tests, q) in
         absurd (other own (omega (arith, first, below, are.columns)))
-    none column below true false p q = both_false (piece.hart.number == hart) (piece.first == column) q
+    none column below true false p q = and_right (piece.hart.number == hart) (piece.first == column) q
     none column below false b p q = ap (λ a. a && (piece.first == column)) p

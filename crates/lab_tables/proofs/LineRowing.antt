@@ -4,6 +4,7 @@ use Rattle.std.specs.Prelude.{count_by, filter, slice_get}
 use Rattle.std.specs.Global.{Vec}
 use Rattle.std.proofs.lemmas.List.{map-append, take_all, take_more}
 use Rattle.std.proofs.lemmas.List.Sums.{sum_by-cons}
+use Rattle.std.proofs.Math.Bool.{and-false}
 use Rattle.el_base.proofs.Laws.HartIds.{same_hart}
 use Rattle.el_base.specs.declared.hart_id.HartId.{HartId}
 use Rattle.el_base.specs.declared.line.LineAddr.{LineAddr}
@@ -44,10 +45,6 @@ not_counted : (winner loser : HartId) (what : LineFact) → is_lost what ≡ fal
 not_counted winner loser (Lost by of) e = absurd cc
 not_counted winner loser _ e = refl
 
-and_false : (a : Bool) → (a && false) ≡ false
-and_false true = refl
-and_false false = refl
-
 counts_of_losses : (winner loser : HartId) (line : ℕ) (facts : List Fact) →
     count_by (counts_on (counted.Lost winner loser) line) (filter is_loss facts)
     ≡ count_by (counts_on (counted.Lost winner loser) line) facts
@@ -66,7 +63,7 @@ counts_of_losses winner loser line (fact ∷ facts) = by (is_loss fact) refl (co
         let f : Fact → ℕ = λ x. cond (counts_on (counted.Lost winner loser) line x) 1 0 in
         let no : f fact ≡ 0 =
         ap (λ b. cond (is_on line fact && b) 1 0) (not_counted winner loser fact.what e)
-        ∙ ap (λ b. cond b 1 0) (and_false (is_on line fact)) in
+        ∙ ap (λ b. cond b 1 0) (and-false (is_on line fact)) in
         omega (arith, sum_by-cons f fact facts, no, rest)
 
 -- what is shown of all is how often one hart beat another

@@ -1,15 +1,12 @@
 -- what holds of each element of a list by its place, and of one put behind it
-use Rattle.std.proofs.Common.{◌≡◌, ℕ, zero, suc, ◌<◌, ◌≤◌, ◌⊎◌, List, [], ◌∷◌, ◌++◌, None, Some, ap, get_or, inl, inr, length, refl, subst, arith}
-use Rattle.std.specs.Prelude.{slice_get, unwrap_or}
-use Rattle.std.proofs.lemmas.Option.{slice_get_cases}
-
-some_is : {X : Type 0} (x y : X) → Some x ≡ Some y → x ≡ y
-some_is x y e = ap (λ o. unwrap_or o x) e
+use Rattle.std.proofs.Common.{◌≡◌, ℕ, zero, suc, ◌<◌, ◌≤◌, ◌⊎◌, List, [], ◌∷◌, ◌++◌, None, Some, get_or, inl, inr, length, refl, subst, arith}
+use Rattle.std.specs.Prelude.{slice_get}
+use Rattle.std.proofs.lemmas.Option.{same_Some, slice_get_cases}
 
 pub each_pushed : {X : Type 0} (P : ℕ → X → Type 0) (xs : List X) (x : X) →
     ((i : ℕ) (y : X) → slice_get xs i ≡ Some y → P i y) → ((n : ℕ) → n ≡ length xs → P n x) →
     (i : ℕ) (y : X) → slice_get (xs ++ x ∷ []) i ≡ Some y → P i y
-each_pushed P [] x each last zero y e = subst (P 0) (some_is x y e) (last 0 refl)
+each_pushed P [] x each last zero y e = subst (P 0) (same_Some x y e) (last 0 refl)
 each_pushed P [] x each last (suc i) y e = absurd cc
 each_pushed P (z ∷ xs) x each last zero y e = each zero y e
 each_pushed P (z ∷ xs) x each last (suc i) y e =

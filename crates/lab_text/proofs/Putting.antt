@@ -1,18 +1,15 @@
 -- items that are put behind others, hart by hart or register by register
-use Rattle.std.proofs.Common.{◌≡◌, ◌∙◌, ℕ, zero, suc, ◌+◌, List, [], ◌∷◌, ◌++◌, ap, sym, arith, append-nil, append_assoc}
+use Rattle.std.proofs.Common.{◌≡◌, ◌∙◌, ℕ, suc, ◌+◌, List, [], ◌∷◌, ◌++◌, ap, sym, arith, append-nil, append_assoc}
 use Rattle.std.specs.List.{flat_map, range_with_len}
 use Rattle.std.proofs.lemmas.Grind.{flat_map-append}
 use Rattle.el_base.proofs.Laws.HartIds.{hart_id-of_hart}
 use Rattle.el_base.specs.HartId.{hart_id}
 use Rattle.el_base.specs.declared.hart_id.HartId.{HartId}
+use Rattle.el_base.proofs.Laws.ListLaws.{range_more}
 
 -- a hart is the hart of its number
 pub hart_back : (hart : HartId) → hart_id hart.number ≡ hart
 hart_back hart = hart_id-of_hart hart
-
-range_more : (from n end : ℕ) → end ≡ from + n → range_with_len from (suc n) ≡ range_with_len from n ++ end ∷ []
-range_more from zero end is = ap (λ (m : ℕ). m ∷ []) (omega (arith, is))
-range_more from (suc n) end is = ap (λ (l : List ℕ). from ∷ l) (range_more (from + 1) n end (omega (arith, is)))
 
 -- what each number below the next one tells is what each below this one tells, and what this one does
 pub each_more : {A : Type 0} (f : ℕ → List A) (n : ℕ) →

@@ -1,6 +1,7 @@
 -- what one event keeps of live sections, by the laws of the machine's definition
 use Rattle.std.proofs.Common.{◌≡◌, ◌∙◌, ◌⊎◌, ℕ, [], ◌∷◌, ap, inl, inr, refl, subst, sym}
 use Rattle.std.specs.Prelude.{IsSome}
+use Rattle.std.proofs.lemmas.Option.{same_Some}
 use Rattle.chronicle.specs.Chronicle.{events}
 use Rattle.el_base.specs.declared.config.Mode.TheVariants.{Tlr}
 use Rattle.el_base.specs.declared.events.Event.{Event}
@@ -16,7 +17,6 @@ use Rattle.progress_laws.proofs.Laws.LineOfLeast.{line_of_least_stamp_moves_on}
 use Rattle.removal_laws.proofs.Laws.Beating.{losers_lose_to_earlier}
 use Rattle.removal_laws.proofs.Laws.Clocks.{stamps_are_kept}
 use Rattle.removal_laws.proofs.Laws.Promises.{least_stamp_never_loses}
-use Rattle.section_laws.proofs.Laws.Bits.{some_same}
 use Rattle.run_laws.proofs.Laws.Releasing.{releases_commit}
 use Rattle.step_laws.proofs.Laws.Losing.{what_ends_a_section}
 use Rattle.step_laws.proofs.Laws.Survivors.{survivors_keep_what_they_show}
@@ -42,7 +42,7 @@ ends story room event given h live over =
 head : (story : Story) (event : Event) → story.config.mode ≡ Tlr → HeadOfLeastIsServed (made story event)
 head story event removal h line first waits is_first kind own =
     let on = line_of_least_stamp_moves_on story.program story.config (events story.entries) h line removal waits in
-    on.served event kind (own ∙ ap (λ request. request.hart) (some_same (sym is_first ∙ on.is_head)))
+    on.served event kind (own ∙ ap (λ request. request.hart) (same_Some _ _ (sym is_first ∙ on.is_head)))
 
 release : (story : Story) (event : Event) → ReleasesTakeEffect story.config.long (made story event)
 release story event section step live free short comes =

@@ -6,11 +6,13 @@ use Rattle.std.specs.Prelude.{nat_lt}
 use Rattle.std.proofs.lemmas.Bool.{ltb-true, ltb-false}
 use Rattle.bus_order.specs.Order.{IsOneEach, Request, first_of}
 use Rattle.bus_order.proofs.Laws.LookUps.{first_of_appended_other, first_of_appended_own, first_of_in_front_of_other}
-use Rattle.bus_order.proofs.Laws.LookUps.{first_of_in_front_of_own, number_of_test, own_test}
+use Rattle.bus_order.proofs.Laws.LookUps.{first_of_in_front_of_own}
 use Rattle.bus_order.proofs.Laws.Queues.{first_of_removed_other, hart_of_request_of}
 use Rattle.std.proofs.lemmas.Bool.{cases_eq}
 use Rattle.el_base.specs.declared.config.Mode.{Mode}
 use Rattle.el_base.specs.declared.config.Mode.TheVariants.{Plain, Sle, Tlr}
+use Rattle.el_base.proofs.Laws.Cases.{false_true}
+use Rattle.el_base.proofs.Laws.Tests.{false_between, number_of_test, own_test}
 use Rattle.el_base.proofs.Laws.Options.{none_from}
 use Rattle.el_model.specs.BusEvent.{IsBusEvent, Nothing, Places, Serves, Start, StartsWhere, Takes, as_faced}
 use Rattle.el_model.specs.BusEvent.{faced_head, having_taken, order_after}
@@ -32,7 +34,6 @@ use Rattle.section_laws.proofs.Laws.Bits.{Fewer, fewer_same}
 use Rattle.policy.specs.Winners.{wins_of}
 use Rattle.section_laws.proofs.Laws.Moves.{moved, taken_keeps}
 use Rattle.stamp.specs.Stamps.{Stamp}
-use Rattle.progress_laws.proofs.Laws.Cases.{false_true}
 
 -- without stamps each request wins
 each_wins : (mode : Mode) (request section : Option Stamp) → has_stamps mode ≡ false → wins_of mode request section ≡ true
@@ -41,14 +42,10 @@ each_wins Sle request section stampless = refl
 each_wins Plain request section stampless = refl
 
 -- a hart without a section meets nothing
-not_met : (other meets : Bool) → ((other && false) && meets) ≡ false
-not_met true meets = refl
-not_met false meets = refl
-
 pub dead_unmet : (head : Request) (h : ℕ) (hart : Hart) → hart.section ≡ None → conflicts head h hart ≡ false
 dead_unmet head h hart dead =
     ap (λ section. (not (head.hart == h) && is_some section) && meets_bit hart head.line head.need) dead
-    ∙ not_met (not (head.hart == h)) (meets_bit hart head.line head.need)
+    ∙ false_between (not (head.hart == h)) (meets_bit hart head.line head.need)
 
 own_unmet : (head : Request) (h : ℕ) (hart : Hart) → (h == head.hart) ≡ true → conflicts head h hart ≡ false
 own_unmet head h hart is =

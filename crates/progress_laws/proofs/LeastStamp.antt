@@ -3,7 +3,7 @@ use Rattle.std.proofs.Common.{◌≡◌, ◌∙◌, ℕ, zero, suc, ◌<◌, Boo
 use Rattle.std.proofs.lemmas.Bool.{cases_eq}
 use Rattle.stamp.specs.Stamps.{Stamp, is_before, less_of}
 use Rattle.stamp.proofs.Laws.StampOrder.{less_strict}
-use Rattle.progress_laws.proofs.Laws.Cases.{true_false}
+use Rattle.el_base.proofs.Laws.Cases.{true_false}
 
 -- the least stamp below a limit
 pub record Least (stamp : ℕ → Option Stamp) (n : ℕ) : Type 0 where

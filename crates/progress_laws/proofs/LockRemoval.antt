@@ -1,14 +1,13 @@
 -- in lock removal, where every hart that runs waits and no message is under way, no section retains the line of the least stamp
 use Rattle.std.proofs.Common.{◌≡◌, ◌≢◌, ◌∙◌, ◌≤◌, ◌↔◌, ℕ, Bool, true, false, List, [], ◌∷◌}
 use Rattle.std.proofs.Common.{Option, None, Some, is_some, length, refl, ap, sym, inl, inr, ◌⊎◌, if◌then◌else◌}
+use Rattle.std.proofs.lemmas.Bool.{false_from_ne_true}
 use Rattle.bus_order.specs.Order.{Request}
-use Rattle.bus_order.proofs.Laws.LookUps.{own_test}
 use Rattle.el_model.specs.Conflicts.{conflicts_with, retains, stamp_in}
 use Rattle.el_model.specs.Next.{is_over}
 use Rattle.el_model.specs.State.{ModelState, for_line, hart_of, head_of, is_live, ordered_of, ordered_on}
 use Rattle.mail.specs.Mailbox.{Marker, Message, Probe, has_message}
 use Rattle.progress_laws.proofs.AllWait.{OnlyWaits, gets_on_or_waits}
-use Rattle.progress_laws.proofs.Laws.Cases.{false_true, none_some, unless}
 use Rattle.progress_laws.proofs.Laws.GettingOn.{GetsOn, Orderly, line_gets_on, live_runs, ordered_runs}
 use Rattle.progress_laws.proofs.LeastStamp.{Least, NoStamp, least_below}
 use Rattle.progress_laws.proofs.Over.{not_stuck, over_stopped}
@@ -21,6 +20,8 @@ use Rattle.rv_alu.specs.declared.view.HartStatus.TheVariants.{Running}
 use Rattle.rv_flat.specs.FlatState.{status_of}
 use Rattle.stamp.specs.Stamps.{Stamp, is_before, less_of}
 use Rattle.stamp.proofs.Laws.StampOrder.{less_strict}
+use Rattle.el_base.proofs.Laws.Cases.{false_true, none_some}
+use Rattle.el_base.proofs.Laws.Tests.{own_test}
 
 abbrev NoMail : ModelState → Type 0
 NoMail state = (h : ℕ) → (hart_of state h).mail ≡ []
@@ -123,7 +124,7 @@ module _ (state : ModelState) (facts : Facts Everywhere state) (orderly : Orderl
   none_gets_on none h running =
       let found = (waits h).waits running in
       line_gets_on state h found.0 orderly found.1
-      (λ g. unless (retains state g found.0.line) (λ retained. none_live none g (retainer_live state g found.0.line retained)))
+      (λ g. false_from_ne_true (retains state g found.0.line) (λ retained. none_live none g (retainer_live state g found.0.line retained)))
 
 pub removal_gets_on : (state : ModelState) → Facts Everywhere state → Orderly state → (h : ℕ) →
     status_of state.committed h ≡ Running → GetsOn state

@@ -11,6 +11,8 @@ use Rattle.residency.proofs.Laws.MarkLemmas.{no_marks}
 use Rattle.el_base.specs.Line.{line_number}
 use Rattle.el_base.specs.declared.outcomes.Need.{Need}
 use Rattle.el_base.specs.declared.outcomes.Need.TheVariants.{Read, Write}
+use Rattle.el_base.proofs.Laws.Cases.{false_true, true_false}
+use Rattle.el_base.proofs.Laws.Tests.{first_not, second_not}
 use Rattle.el_model.specs.Conflicts.{conflicts, conflicts_with, is_asked, is_wanted, is_wanted_to_write, is_write, meets_bit, writes}
 use Rattle.el_model.specs.Deed.{Arms, Begins, Buffers, Commits, Continues, Deed, DoesWhere, Elides, IsCoverable, LetsGo}
 use Rattle.el_model.specs.Deed.{MayBuffer, Misses, Rests, RollsBack, Runs, Waits, hart_after, permits}
@@ -26,11 +28,10 @@ use Rattle.section_laws.proofs.Laws.Bits.{Fewer, NoMore, fewer_same, no_more_mar
 use Rattle.section_laws.proofs.Laws.Bits.{no_more_twice}
 use Rattle.section_laws.specs.EachHart.{HasNoOtherBit}
 use Rattle.section_laws.proofs.Laws.ArmedBits as bits
-use Rattle.section_laws.proofs.Laws.FreeLines.{first_not, not_met, second_not}
+use Rattle.section_laws.proofs.Laws.FreeLines.{not_met}
 use Rattle.el_model.proofs.Laws.EachHart.{Each, each_but}
 use Rattle.el_model.proofs.Laws.HartParts.{candidate_section}
 use Rattle.el_model.proofs.Laws.Orders.{head_line}
-use Rattle.progress_laws.proofs.Laws.Cases.{false_true, true_false}
 
 -- what nobody else asks of a line, its head does not ask
 asked_first : (counts : Request → Bool) (order : List Request) (h line : ℕ) (head : Request) → is_asked counts order h line ≡ false →

@@ -3,6 +3,8 @@ use Rattle.std.proofs.Common.{◌≡◌, ◌↔◌, ◌≢◌, ◌∙◌, ℕ, z
 use Rattle.std.specs.Prelude.{slice_index_or}
 use Rattle.el_base.specs.declared.events.Kind.{Kind}
 use Rattle.el_base.specs.declared.events.Kind.TheVariants.{Step, Order, Serve, Deliver}
+use Rattle.el_base.proofs.Laws.Cases.{true_false}
+use Rattle.el_base.proofs.Laws.Tests.{first_of_both, second_of_both}
 use Rattle.el_model.specs.Deliver.{deliver_next, deliver_turn}
 use Rattle.el_model.specs.Next.{all_stopped, has_stopped, is_over, kind_turn, next, step_turn}
 use Rattle.el_model.specs.Order.{order_raised, order_turn}
@@ -16,8 +18,6 @@ use Rattle.rv_alu.specs.declared.view.HartStatus.TheVariants.{Exited, Running, T
 use Rattle.rv_alu.specs.declared.view.HartView.{HartView}
 use Rattle.rv_flat.specs.FlatState.{no_hart, status_of}
 use Rattle.section_laws.proofs.Laws.Waiting.{Sound}
-use Rattle.progress_laws.proofs.Laws.Cases.{true_false}
-use Rattle.section_laws.proofs.Laws.Bits.{first_of_both, second_of_both}
 
 -- where all have stopped, no hart runs
 stopped_not_running : (status : HartStatus) → has_stopped status ≡ true → status ≢ Running

@@ -1,10 +1,11 @@
 -- the section of the hart with the least stamp ends by a commit or by a rollback of its own
 use Rattle.std.proofs.Common.{◌≡◌, ◌∙◌, ◌==◌, ◌&&◌, ℕ, true, false, Option, None, Some, is_some, refl, ap}
-use Rattle.bus_order.proofs.Laws.LookUps.{own_test}
 use Rattle.el_base.specs.declared.config.Mode.{Mode}
 use Rattle.el_model.specs.BusEvent.{IsBusEvent}
 use Rattle.el_model.specs.Deed.{Arms, Begins, Buffers, Commits, Continues, Deed, Elides, LetsGo, Misses, Rests, RollsBack, Runs, Waits, hart_after, outcome_of}
 use Rattle.el_base.specs.Winners.{winner_over}
+use Rattle.el_base.proofs.Laws.Cases.{clash}
+use Rattle.el_base.proofs.Laws.Tests.{own_test}
 use Rattle.el_model.specs.Losses.{HartsAreNumbered, Standing, restored, standing_of}
 use Rattle.el_model.specs.Next.{after, step_turn}
 use Rattle.el_model.specs.Plain.{candidate_of}
@@ -14,7 +15,6 @@ use Rattle.el_model.proofs.Laws.Deeds.{step_deed}
 use Rattle.el_model.proofs.Laws.Restoring.{bus_restores}
 use Rattle.removal_laws.specs.Laws.{LeastEndsItsOwnSection}
 use Rattle.removal_laws.proofs.Laws.Attempts.{candidate_keeps}
-use Rattle.section_laws.proofs.Laws.Bits.{clash}
 use Rattle.removal_laws.proofs.Laws.Clocks.{closes_it}
 use Rattle.removal_laws.proofs.Laws.Facing.{live_below}
 use Rattle.removal_laws.proofs.Laws.Promises.{least_stamp_never_loses}

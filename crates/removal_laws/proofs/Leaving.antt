@@ -3,7 +3,6 @@ use Rattle.std.proofs.Common.{◌≡◌, ◌≢◌, ◌∙◌, ◌==◌, ℕ, Bo
 use Rattle.std.specs.Prelude.{nat_lt}
 use Rattle.std.proofs.lemmas.Bool.{cases_eq, ltb-true, ltb-false}
 use Rattle.bus_order.specs.Order.{Request}
-use Rattle.bus_order.proofs.Laws.LookUps.{number_of_test, other_test, own_test}
 use Rattle.residency.specs.Cache.{is_resident, touched, way_of}
 use Rattle.defer_list.specs.HartSet.{excluded, has}
 use Rattle.defer_list.proofs.Laws.LookUps.{has_excluded_other, has_excluded_own}
@@ -13,8 +12,10 @@ use Rattle.el_model.proofs.Laws.Harts.{hart_of-each_hart, hart_of-each_hart_past
 use Rattle.mail.specs.Mailbox.{Marker, Message, Probe, has_message, without_markers, without_probe}
 use Rattle.mail.proofs.Laws.LookUps.{has_without_markers_marker, has_without_markers_probe, has_without_probe_other, has_without_probe_own}
 use Rattle.removal_laws.specs.Facts.{IsLinked, Knows}
-use Rattle.section_laws.proofs.Laws.Bits.{Fewer, NoMore, clash, no_more_marked, no_more_others, no_more_own, no_more_touched}
+use Rattle.section_laws.proofs.Laws.Bits.{Fewer, NoMore, no_more_marked, no_more_others, no_more_own, no_more_touched}
 use Rattle.section_laws.proofs.Laws.Bits.{no_more_twice}
+use Rattle.el_base.proofs.Laws.Cases.{clash}
+use Rattle.el_base.proofs.Laws.Tests.{number_of_test, other_test, own_test}
 
 -- as the request of a hart h on a line is served: h has no links any more and nobody knows of it, and the rest stays
 pub record Left (h line g : ℕ) (old new : Hart) : Type 0 where

@@ -2,10 +2,12 @@
 use Rattle.std.proofs.Common.{◌≡◌, ◌≢◌, ◌∙◌, ◌<◌, ℕ, true, length, None, Some, is_some, refl, ap, sym, inl, inr, ◌⊎◌, arith, subst}
 use Rattle.std.proofs.Math.ListN.{length-set}
 use Rattle.std.proofs.lemmas.Bool.{cases_eq}
+use Rattle.std.proofs.lemmas.Option.{same_Some}
 use Rattle.bus_order.specs.Order.{Request, queue_of}
 use Rattle.residency.specs.Cache.{has_bit}
 use Rattle.defer_list.specs.HartSet.{has}
 use Rattle.el_base.specs.declared.outcomes.Need.TheVariants.{Write}
+use Rattle.el_base.proofs.Laws.Cases.{clash, some_none}
 use Rattle.el_model.specs.BusEvent.{order_at}
 use Rattle.el_model.specs.Conflicts.{conflicts_with}
 use Rattle.el_model.specs.Order.{Place, unraised}
@@ -13,7 +15,7 @@ use Rattle.el_model.specs.State.{Hart, ModelState, cache_of, for_line, hart_of, 
 use Rattle.el_model.proofs.Laws.Harts.{hart_of-with_hart_other, hart_of-with_hart_same, with_hart_kept}
 use Rattle.el_model.proofs.Laws.Orders.{head_line, placed_own}
 use Rattle.removal_laws.specs.Facts.{IsChained, IsLinked, IsWaiting, Knows, Messages, Retaining}
-use Rattle.section_laws.proofs.Laws.Bits.{Fewer, clash, fewer_bit, fewer_same, some_none, some_same}
+use Rattle.section_laws.proofs.Laws.Bits.{Fewer, fewer_bit, fewer_same}
 use Rattle.removal_laws.proofs.Grounds.{Grounds, Standing}
 use Rattle.removal_laws.proofs.Kept.{chained_kept, may_kept, retained_before}
 use Rattle.section_laws.proofs.Laws.OrderedHarts.{AreBelow}
@@ -163,7 +165,7 @@ module _ (state : ModelState) (request : Request) (place : Place) (grounds : Gro
             has_bit (cache_of (base state request place) h) found.line ≡ true → (h ≡ request.hart) ⊎
             (h ≡ request.hart → ⊥) → found.need ≡ Write
         ordered_by h found is live bit (inl same) =
-            let e : request ≡ found = some_same (sym own_ordered ∙ ap (ordered_of (base state request place)) (sym same) ∙ is) in
+            let e : request ≡ found = same_Some _ _ (sym own_ordered ∙ ap (ordered_of (base state request place)) (sym same) ∙ is) in
             standing.retaining.raised h found (ap (raised_of state) same ∙ ordering.raised ∙ ap Some e) (live_before found.line h live)
             (bit_before found.line h live bit)
         ordered_by h found is live bit (inr apart) =
@@ -173,7 +175,7 @@ module _ (state : ModelState) (request : Request) (place : Place) (grounds : Gro
             is_live (base state request place) h ≡ true → has_bit (cache_of (base state request place) h) found.line ≡ true →
             (h ≡ request.hart) ⊎ (h ≡ request.hart → ⊥) → head_of (base state request place) found.line ≡ Some found
         first_by h found is_on is live bit (inl same) =
-            let e : request ≡ found = some_same (sym own_ordered ∙ ap (ordered_of (base state request place)) (sym same) ∙ is) in
+            let e : request ≡ found = same_Some _ _ (sym own_ordered ∙ ap (ordered_of (base state request place)) (sym same) ∙ is) in
             subst (λ r. head_of (base state request place) r.line ≡ Some r) e
             (own_first (subst on (ap (λ r. r.line) (sym e)) is_on) (subst (λ k. is_live state k ≡ true) same (live_before found.line h live))
             (subst (λ k. has_bit (cache_of state k) request.line ≡ true) same

@@ -2,7 +2,8 @@
 use Rattle.std.proofs.Common.{◌≡◌, ◌≢◌, ◌∙◌, ◌<◌, ◌++◌, ◌&&◌, ℕ, true, false, [], ◌∷◌, length, Option, None, Some, is_some, refl, ap, sym, inl, inr, ◌⊎◌, subst, if◌then◌else◌}
 use Rattle.std.specs.Option.{option_or}
 use Rattle.std.proofs.Math.ListN.{length-set}
-use Rattle.std.proofs.lemmas.Bool.{cases_eq}
+use Rattle.std.proofs.lemmas.Bool.{and_from, cases_eq}
+use Rattle.std.proofs.lemmas.Option.{same_Some}
 use Rattle.bus_order.specs.Order.{Request, appended, first_of, queue_of, request_of, tail_of}
 use Rattle.bus_order.proofs.Laws.LookUps.{first_of_appended_other, first_of_appended_own, first_of_in_front_of_other, first_of_in_front_of_own}
 use Rattle.bus_order.proofs.Laws.Queues.{hart_of_request_of, queue_of_appended_other, queue_of_appended_own, queue_of_in_front_of_other, queue_of_in_front_of_own, request_of_first_of, request_of_tail_of}
@@ -11,6 +12,8 @@ use Rattle.el_base.specs.declared.config.Mode.{Mode}
 use Rattle.el_base.specs.declared.config.Mode.TheVariants.{Plain, Sle, Tlr}
 use Rattle.el_base.specs.declared.outcomes.Need.{Need}
 use Rattle.el_base.specs.declared.outcomes.Need.TheVariants.{Read, Write}
+use Rattle.el_base.proofs.Laws.Cases.{clash, some_none}
+use Rattle.el_base.proofs.Laws.Tests.{first_of_both, second_of_both}
 use Rattle.el_base.proofs.Laws.Options.{none_from}
 use Rattle.el_model.specs.Conflicts.{conflicts_with, meets_bit, retains}
 use Rattle.el_model.specs.Armed.{let_go}
@@ -21,8 +24,7 @@ use Rattle.el_model.proofs.Laws.Harts.{hart_of-with_hart_same}
 use Rattle.el_model.proofs.Laws.Keeps.{frame_let_go, keeps_marking}
 use Rattle.el_model.proofs.Laws.Tests.{by_test}
 use Rattle.removal_laws.specs.Facts.{Everywhere, IsChained, IsLinked, MayPrecede, Messages}
-use Rattle.section_laws.proofs.Laws.Bits.{Fewer, both, clash, fewer_bit, fewer_twice, first_of_both, in_the_way}
-use Rattle.section_laws.proofs.Laws.Bits.{second_of_both, some_none, some_same}
+use Rattle.section_laws.proofs.Laws.Bits.{Fewer, fewer_bit, fewer_twice, in_the_way}
 use Rattle.removal_laws.proofs.Faced.{Facing, FirstOn, Other, all_let_go, met_fewer, met_stands}
 use Rattle.removal_laws.proofs.Laws.Facing.{faced_retains}
 use Rattle.removal_laws.proofs.Grounds.{Grounds, Standing}
@@ -70,7 +72,7 @@ linked_by : (state : ModelState) (last : Option Request) (h : ℕ) (found : Requ
     IsLinked (hart_of (marked_by state last h) h) found.hart
 linked_by state None h found mode is exists = absurd (cc)
 linked_by state (Some last) h found mode is exists =
-    rw (ap (λ r. r.hart) (sym (some_same is))) (linked_one state.config.mode state last.hart h mode exists)
+    rw (ap (λ r. r.hart) (sym (same_Some _ _ is))) (linked_one state.config.mode state last.hart h mode exists)
 
 posted_to : (state : ModelState) (h : ℕ) (former : Option Request) → state.config.mode ≡ Tlr →
     ((found : Request) → former ≡ Some found → MayPrecede state found.hart h) → AllPosted state (marking state h former)
@@ -81,8 +83,8 @@ linked_to : (state : ModelState) (h : ℕ) (former : Option Request) (found : Re
     found.hart < length state.harts → IsLinked (hart_of (marking state h former) found.hart) h
 linked_to state h None found mode is exists = absurd (cc)
 linked_to state h (Some former) found mode is exists =
-    subst (λ r. IsLinked (hart_of (marked_from state.config.mode state h former.hart) r.hart) h) (some_same is)
-    (linked_one state.config.mode state h former.hart mode (subst (λ r. r.hart < length state.harts) (sym (some_same is)) exists))
+    subst (λ r. IsLinked (hart_of (marked_from state.config.mode state h former.hart) r.hart) h) (same_Some _ _ is)
+    (linked_one state.config.mode state h former.hart mode (subst (λ r. r.hart < length state.harts) (sym (same_Some _ _ is)) exists))
 
 -- what is said of the other lines and of one is said of all
 pub all_chained : (state : ModelState) (line : ℕ) → Messages (Other line) state →
@@ -158,7 +160,7 @@ module _ (state : ModelState) (request : Request) (grounds : Grounds state) (ord
         retaining =
             retaining_posted Everywhere (base state request Behind) final posts
             (base_retaining state request Behind grounds ordering standing Everywhere (λ line on. behind_head has_head line)
-            (λ on live bit. clash no_bit (both live bit)));
+            (λ on live bit. clash no_bit (and_from _ _ live bit)));
       }
 
   -- alone on its line
@@ -194,7 +196,7 @@ module _ (state : ModelState) (request : Request) (grounds : Grounds state) (ord
           by : (h ≡ request.hart) ⊎ (h ≡ request.hart → ⊥) → head_of (base state request Alone) found.line ≡ Some found
           by (inl same) =
               let mine = own_ordered state request Alone grounds ordering standing in
-              let e : request ≡ found = some_same (sym mine ∙ ap (ordered_of (base state request Alone)) (sym same) ∙ is) in
+              let e : request ≡ found = same_Some _ _ (sym mine ∙ ap (ordered_of (base state request Alone)) (sym same) ∙ is) in
               subst (λ r. head_of (base state request Alone) r.line ≡ Some r) e
               (first_of_appended_own state.order request ∙ alone_first (head_of state request.line) no_head)
           by (inr apart) =
@@ -336,7 +338,7 @@ module _ (state : ModelState) (request : Request) (grounds : Grounds state) (ord
 
       by : (h ≡ request.hart) ⊎ (h ≡ request.hart → ⊥) → head_of front found.line ≡ Some found
       by (inl same) =
-          let e : request ≡ found = some_same (sym front_facing.ordered ∙ ap (ordered_of front) (sym same) ∙ is) in
+          let e : request ≡ found = same_Some _ _ (sym front_facing.ordered ∙ ap (ordered_of front) (sym same) ∙ is) in
           subst (λ r. head_of front r.line ≡ Some r) e front_facing.first
       by (inr apart) = tie apart (sym (other_ordered state request InFront grounds ordering standing h apart) ∙ in_base)
 

@@ -1,6 +1,5 @@
 -- a hart that is posted messages, sees a stamp, loses its section or has its armed one let go, and nothing else
 use Rattle.std.proofs.Common.{◌≡◌, ◌∙◌, ◌≤◌, ◌==◌, ℕ, Bool, true, false, List, [], ◌∷◌, map, Option, refl, sym, inl, inr, ◌⊎◌, arith, subst, if◌then◌else◌}
-use Rattle.bus_order.proofs.Laws.LookUps.{number_of_test, own_test}
 use Rattle.defer_list.specs.HartSet.{has}
 use Rattle.el_model.specs.Armed.{let_go_hart}
 use Rattle.el_model.specs.Attempts.{see}
@@ -14,6 +13,7 @@ use Rattle.removal_laws.specs.Facts.{IsLinked, Knows, MayPrecede}
 use Rattle.section_laws.proofs.Laws.Bits.{Fewer, fewer_ended, fewer_same, fewer_twice, no_less, no_more_cleared}
 use Rattle.section_laws.proofs.Laws.Moves.{seen_grows}
 use Rattle.stamp.specs.Stamps.{Stamp}
+use Rattle.el_base.proofs.Laws.Tests.{number_of_test, own_test}
 
 -- what is in a box after a message was posted
 pub still_there : (box : List Message) (new message : Message) → has_message box message ≡ true → has_message (posted box new) message ≡ true

@@ -1,7 +1,6 @@
 -- what a delivered message changes of each hart
 use Rattle.std.proofs.Common.{◌≡◌, ◌≤◌, ◌==◌, ℕ, Bool, true, false, List, [], ◌∷◌, length, map, Some, refl, ap, inl, inr, ◌⊎◌, subst, if◌then◌else◌}
 use Rattle.bus_order.specs.Order.{Request}
-use Rattle.bus_order.proofs.Laws.LookUps.{number_of_test, own_test}
 use Rattle.defer_list.specs.HartSet.{has}
 use Rattle.el_model.specs.Conflicts.{conflicts_with}
 use Rattle.el_model.specs.State.{Hart, ModelState, hart_of, head_of, ordered_on, post_all}
@@ -15,6 +14,7 @@ use Rattle.removal_laws.proofs.Kept.{Owed, OwedOf, messages_moved, retaining_tri
 use Rattle.removal_laws.proofs.Posting.{still_there, there_or_new}
 use Rattle.el_model.proofs.Laws.EachHart.{Each}
 use Rattle.stamp.specs.Stamps.{is_before}
+use Rattle.el_base.proofs.Laws.Tests.{number_of_test, own_test}
 
 -- the links, origins and entries of a hart, after a message was taken and others were posted; `Up` and `Told` tell of the
 -- entries that are new

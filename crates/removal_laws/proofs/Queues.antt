@@ -5,7 +5,7 @@ use Rattle.bus_order.specs.Order.{Request, first_of, queue_of, tail_of}
 use Rattle.bus_order.proofs.Laws.LookUps.{or_nothing}
 use Rattle.el_model.specs.State.{ModelState, hart_of}
 use Rattle.removal_laws.specs.Facts.{AreLinked, IsChained, IsLinked}
-use Rattle.section_laws.proofs.Laws.Bits.{some_none}
+use Rattle.el_base.proofs.Laws.Cases.{some_none}
 
 -- the hart of the last of these requests, or of the one before them
 abbrev pub last_hart : ℕ → List Request → ℕ

@@ -2,10 +2,12 @@
 use Rattle.std.proofs.Common.{◌≡◌, ◌∙◌, ◌≤◌, ℕ, Bool, true, false, length, Option, None, Some, is_some}
 use Rattle.std.proofs.Common.{ap, sym, inl, inr, ◌⊎◌, subst}
 use Rattle.std.proofs.lemmas.Bool.{cases_eq}
+use Rattle.std.proofs.lemmas.Option.{same_Some}
 use Rattle.bus_order.specs.Order.{Request, removed, request_of}
 use Rattle.bus_order.proofs.Laws.LookUps.{request_of_removed_other}
 use Rattle.bus_order.proofs.Laws.LookUps.{request_of_removed_own}
 use Rattle.el_base.specs.declared.events.Event.{Event}
+use Rattle.el_base.proofs.Laws.Cases.{some_none}
 use Rattle.el_model.specs.BusEvent.{IsBusEvent, Nothing, Places, Serves, Start, StartsWhere, Takes, having_taken}
 use Rattle.el_model.specs.BusEvent.{order_after, order_at, started}
 use Rattle.el_model.specs.Deed.{Arms, Begins, Buffers, Commits, Continues, Deed, DoesWhere, Elides, LetsGo, Misses, Rests, RollsBack, Runs, Waits, hart_after}
@@ -18,7 +20,6 @@ use Rattle.el_model.proofs.Laws.BusEvents.{by_event}
 use Rattle.el_model.proofs.Laws.Deeds.{is_rolled, step_deed}
 use Rattle.el_model.proofs.Laws.Harts.{hart_of-past}
 use Rattle.el_model.proofs.Laws.Tests.{by_hart}
-use Rattle.section_laws.proofs.Laws.Bits.{some_none, some_same}
 use Rattle.el_model.proofs.Laws.EachHart.{Each}
 use Rattle.el_model.proofs.Laws.Orders.{placed_own}
 use Rattle.section_laws.proofs.Laws.Moves.{Moves, moved, step_keeps, taken_keeps}
@@ -88,7 +89,8 @@ started_stamped state by (Places request place) sound now may h =
       raised_is = λ other is. some_none (sym is);
       ordered_is = λ other is.
           subst (λ r. r.stamp ≡ (hart_of state request.hart).attempt)
-          (some_same (sym (placed_own state request place (free_of_order state request.hart request sound mine)) ∙ is))
+          (same_Some _ _
+          (sym (placed_own state request place (free_of_order state request.hart request sound mine)) ∙ is))
           ((now request.hart).raised_is request mine);
     }))
     (λ apart. rw (order_other state request place h apart) (now h))
@@ -144,7 +146,7 @@ deed_stamped : (state : ModelState) (h : ℕ) (deed : Deed) → DoesWhere state 
 deed_stamped state h Rests does now = now h
 deed_stamped state h Waits does now = now h
 deed_stamped state h (Misses line need) does now = record {
-  raised_is = λ request is. sym (ap (λ r. r.stamp) (some_same is));
+  raised_is = λ request is. sym (ap (λ r. r.stamp) (same_Some _ _ is));
   ordered_is = (now h).ordered_is;
 }
 deed_stamped state h (Runs touch) does now = candidate_stamped (ordered_of state h) _ _ (candidate_of state h) _ (now h)

@@ -1,12 +1,15 @@
 -- what holds still holds after a request is served, with the face of the next head
 use Rattle.std.proofs.Common.{◌≡◌, ◌≢◌, ◌∙◌, ◌==◌, ℕ, Bool, true, false, List, [], ◌∷◌, length, Option, None, Some, is_some, refl, ap, sym, inl, inr, ◌⊎◌, arith, subst, if◌then◌else◌}
 use Rattle.std.proofs.lemmas.Bool.{cases_eq}
+use Rattle.std.proofs.lemmas.Option.{same_Some}
 use Rattle.bus_order.specs.Order.{IsOneEach, Request, first_of, queue_of, removed, request_of}
-use Rattle.bus_order.proofs.Laws.LookUps.{own_test, request_of_removed_other, request_of_removed_own}
+use Rattle.bus_order.proofs.Laws.LookUps.{request_of_removed_other, request_of_removed_own}
 use Rattle.bus_order.proofs.Laws.Orders.{one_each_removed}
 use Rattle.bus_order.proofs.Laws.Queues.{first_of_removed_other, hart_of_request_of, queue_of_removed, queue_of_removed_other, queue_of_removed_own, request_of_first_of}
 use Rattle.residency.specs.Cache.{has_bit}
 use Rattle.el_base.specs.declared.outcomes.Why.TheVariants.{Behind}
+use Rattle.el_base.proofs.Laws.Cases.{clash, some_none}
+use Rattle.el_base.proofs.Laws.Tests.{own_test}
 use Rattle.el_model.specs.Conflicts.{conflicts_with, retains}
 use Rattle.el_model.specs.Face.{met, met_if}
 use Rattle.el_model.specs.Serve.{Blocks, Free, Obstacle, obstacle_to, serve_ordered, serve_past, served}
@@ -14,7 +17,7 @@ use Rattle.el_model.specs.State.{ModelState, cache_of, for_line, hart_of, head_o
 use Rattle.el_model.proofs.Laws.Keeps.{keeps_served}
 use Rattle.el_model.proofs.Laws.Orders.{head_line}
 use Rattle.removal_laws.specs.Facts.{AreLinked, Everywhere, IsChained, IsLinked, IsWaiting, MayRetain, Messages, Retaining}
-use Rattle.section_laws.proofs.Laws.Bits.{clash, fewer_bit, some_none, some_same}
+use Rattle.section_laws.proofs.Laws.Bits.{fewer_bit}
 use Rattle.removal_laws.proofs.Faced.{Facing, FirstOn, Other, met_fewer, met_stands}
 use Rattle.removal_laws.proofs.Grounds.{Grounds, Standing}
 use Rattle.removal_laws.proofs.Kept.{may_kept, retained_before}
@@ -118,7 +121,7 @@ module _ (state : ModelState) (request : Request) (grounds : Grounds state) (ser
           (chained_rest state head.hart others (subst (IsChained state) is (standing.messages.chained request.line tt)))
         where
           same_head : first_of state.order request.line ≡ Some head → head ≡ request
-          same_head found = some_same (sym found ∙ serving.first)
+          same_head found = same_Some _ _ (sym found ∙ serving.first)
 
       by : (line ≡ request.line) ⊎ (line ≡ request.line → ⊥) → IsChained state (removed (queue_of state.order line) request.hart)
       by (inl same) = rw same (own (queue_of state.order request.line) refl)
@@ -163,7 +166,7 @@ module _ (state : ModelState) (request : Request) (grounds : Grounds state) (ser
   head_apart : (line : ℕ) (head : Request) → line ≢ request.line → head_of state line ≡ Some head → head.hart ≢ request.hart
   head_apart line head apart is same =
       let found = request_of_first_of state.order line head grounds.once.once is in
-      let e : head ≡ request = some_same (sym found ∙ ap (request_of state.order) same ∙ serving.ordered) in
+      let e : head ≡ request = same_Some _ _ (sym found ∙ ap (request_of state.order) same ∙ serving.ordered) in
       apart (sym (head_line state line head is) ∙ ap (λ r. r.line) e)
 
   live_before : (g : ℕ) (found : Request) → g ≢ request.hart → is_live after g ≡ true → is_live state g ≡ true
@@ -212,7 +215,7 @@ module _ (state : ModelState) (request : Request) (grounds : Grounds state) (ser
   no_bit_there g found line is live bit =
       let was = waited g found is in
       let first = standing.retaining.first g found tt was.was (live_before g found was.apart live) (bit_before g found was.apart live bit) in
-      let e : found ≡ request = some_same (sym first ∙ ap (head_of state) line ∙ serving.first) in
+      let e : found ≡ request = same_Some _ _ (sym first ∙ ap (head_of state) line ∙ serving.first) in
       absurd (was.apart (sym (hart_of_request_of state.order g found was.was) ∙ ap (λ r. r.hart) e))
 
   once_after : IsOneEach after.order

@@ -2,8 +2,8 @@
 use Rattle.std.proofs.Common.{◌≡◌, ◌≢◌, ◌∙◌, ◌≤◌, ◌+◌, ◌==◌, ◌&&◌, ◌||◌, ℕ, Bool, true, false, not, List, [], ◌∷◌, length, Option, None, Some, is_some, refl, ap, sym, inl, inr, ◌⊎◌, subst, if◌then◌else◌}
 use Rattle.std.proofs.Math.ListN.{length-set}
 use Rattle.std.proofs.lemmas.Bool.{cases_eq}
+use Rattle.std.proofs.lemmas.Option.{same_Some}
 use Rattle.bus_order.specs.Order.{Request, first_of}
-use Rattle.bus_order.proofs.Laws.LookUps.{other_test}
 use Rattle.residency.specs.Cache.{bit_in, has_bit, has_marks, marked, read_bit, touched, way_of, write_bit}
 use Rattle.residency.specs.Residency.{Way}
 use Rattle.residency.proofs.Laws.CacheLemmas.{way_of-touched}
@@ -12,6 +12,8 @@ use Rattle.defer_list.specs.HartSet.{has}
 use Rattle.el_base.specs.Line.{line_number}
 use Rattle.el_base.specs.declared.outcomes.Need.{Need}
 use Rattle.el_base.specs.declared.outcomes.Need.TheVariants.{Read, Write}
+use Rattle.el_base.proofs.Laws.Cases.{clash, some_none}
+use Rattle.el_base.proofs.Laws.Tests.{other_test, second_not}
 use Rattle.el_model.specs.Conflicts.{conflicts_with, is_asked, is_wanted, is_wanted_to_write, is_write, meets_bit}
 use Rattle.el_model.specs.Deed.{Arms, Begins, Buffers, Commits, Continues, Deed, DoesWhere, Elides, IsCoverable, LetsGo, MayElide, Misses, Rests, RollsBack, Runs, Waits, done, hart_after, permits}
 use Rattle.el_model.specs.InSection.{covered, is_covered}
@@ -23,8 +25,8 @@ use Rattle.el_model.proofs.Laws.Deeds.{step_deed}
 use Rattle.el_model.proofs.Laws.Harts.{hart_of-past, with_hart_kept}
 use Rattle.mail.specs.Mailbox.{Marker, Message, Probe, has_message}
 use Rattle.removal_laws.specs.Facts.{Everywhere}
-use Rattle.section_laws.proofs.Laws.Bits.{Meets, NoBitMore, clash, in_the_way, meets, meets_no_more, no_more_marked}
-use Rattle.section_laws.proofs.Laws.Bits.{no_more_touched, no_more_twice, some_none, some_same, write_of_read_marked}
+use Rattle.section_laws.proofs.Laws.Bits.{Meets, NoBitMore, in_the_way, meets, meets_no_more, no_more_marked}
+use Rattle.section_laws.proofs.Laws.Bits.{no_more_touched, no_more_twice, write_of_read_marked}
 use Rattle.section_laws.proofs.Laws.ArmedBits.{completing}
 use Rattle.section_laws.proofs.Laws.Bits.{either, no_less}
 use Rattle.section_laws.specs.EachHart.{HasNoOtherBit}
@@ -33,7 +35,6 @@ use Rattle.removal_laws.proofs.Kept.{Moved, may_kept, messages_moved}
 use Rattle.el_model.proofs.Laws.EachHart.{Each, each_but}
 use Rattle.el_model.proofs.Laws.Orders.{head_line}
 use Rattle.el_model.proofs.Laws.Conflicts.{loser_lives}
-use Rattle.section_laws.proofs.Laws.FreeLines.{second_not}
 use Rattle.section_laws.proofs.Laws.Waiting.{no_request}
 
 -- a hart's mailbox and sets
@@ -133,7 +134,7 @@ asked_not counts (request ∷ order) h line head none is apart =
         (request.line == line) ≡ here → (((here && not (request.hart == h)) && counts request) || is_asked counts order h line) ≡ false →
         (if here then Some request else first_of order line) ≡ Some head → counts head ≡ false
     by rest true same none found =
-        let e : request ≡ head = some_same found in
+        let e : request ≡ head = same_Some _ _ found in
         subst (λ r. counts r ≡ false) e
         (counted (not (request.hart == h)) (counts request)
         (ap not (other_test request.hart h (λ own. apart (ap (λ r. r.hart) (sym e) ∙ own))))
@@ -312,7 +313,7 @@ deed_stepped state h (Misses line need) (inr misses) grounds standing =
     record {
       retained = λ l is. (missed_aside (head_of state l) h (hart_of state h) _ is, record { attempt = refl; seen = no_less (hart_of state h).seen });
       raised = λ request is live bit.
-          let e = some_same is in
+          let e = same_Some _ _ is in
           subst (λ r. r.need ≡ Write) e
           (missed_write (hart_of state h).cache line need misses.room.wants.uncovered
           (subst (λ r. has_bit (hart_of state h).cache r.line ≡ true) (sym e) bit));

@@ -1,12 +1,15 @@
 -- what holds still holds after a probe is delivered, and so after any message
 use Rattle.std.proofs.Common.{◌≡◌, ◌≢◌, ◌∙◌, ◌<◌, ◌==◌, ◌&&◌, ℕ, Bool, true, false, not, List, [], ◌∷◌, length, Option, None, Some, is_some, refl, ap, sym, inl, inr, ◌⊎◌, arith, subst}
 use Rattle.std.proofs.Math.ListN.{length-set}
+use Rattle.std.proofs.lemmas.Option.{same_Some}
+use Rattle.std.proofs.lemmas.Bool.{and_from}
 use Rattle.bus_order.specs.Order.{Request}
-use Rattle.bus_order.proofs.Laws.LookUps.{other_test, own_test}
 use Rattle.defer_list.specs.HartSet.{has, included}
 use Rattle.defer_list.proofs.Laws.LookUps.{has_included_own}
 use Rattle.el_base.specs.declared.config.Mode.{Mode}
 use Rattle.el_base.specs.declared.config.Mode.TheVariants.{Plain, Sle, Tlr}
+use Rattle.el_base.proofs.Laws.Tests.{first_of_both, other_test, own_test}
+use Rattle.el_base.proofs.Laws.Cases.{clash}
 use Rattle.el_model.specs.Attempts.{see}
 use Rattle.el_model.specs.Conflicts.{conflicts_with, retains, stamp_in}
 use Rattle.el_model.specs.Deliver.{after_probe, deliver_next, deliver_turn, delivered, forwarded, forwards_on, loses_to_origin, taken, told_of}
@@ -19,8 +22,7 @@ use Rattle.mail.specs.Mailbox.{Marker, Message, Probe, has_message, posted}
 use Rattle.mail.proofs.Laws.LookUps.{has_posted_own}
 use Rattle.mail.proofs.Laws.OnceEach.{first_there}
 use Rattle.removal_laws.specs.Facts.{IsLinked, Knows, MayBeKnown}
-use Rattle.section_laws.proofs.Laws.Bits.{both, clash, fewer_ended, fewer_same, first_of_both, meets}
-use Rattle.section_laws.proofs.Laws.Bits.{some_same}
+use Rattle.section_laws.proofs.Laws.Bits.{fewer_ended, fewer_same, meets}
 use Rattle.removal_laws.proofs.Laws.Delivering.{Entry, NoEntry, marker_stands, more_has, new_or_had, own_line}
 use Rattle.removal_laws.proofs.Grounds.{Grounds, Standing}
 use Rattle.removal_laws.proofs.Kept.{OwedOf, retained_before}
@@ -254,8 +256,10 @@ module _ (state : ModelState) (h origin : ℕ) (others : List Message) (mail : (
       has (hart_of state h).upstream g ≡ true → ordered_on state h line ≡ Some own → forwards_on first h origin found g ≡ true
   forwards_if None waiting own g line found on apart up mine = absurd (cc)
   forwards_if (Some asked) waiting own g line found on apart up mine =
-      let line_is : line ≡ asked.line = sym on ∙ ap (λ r. r.line) (sym (some_same found)) in
-      both (both (ap not (other_test g origin apart)) (subst (λ hart. has hart.upstream g ≡ true) (sym at_first) up))
+      let line_is : line ≡ asked.line = sym on ∙ ap (λ r. r.line) (sym (same_Some _ _ found)) in
+      and_from _ _
+      (and_from _ _ (ap not (other_test g origin apart))
+      (subst (λ hart. has hart.upstream g ≡ true) (sym at_first) up))
       (subst (λ l. is_some (ordered_on first h l) ≡ true) line_is (ap is_some mine))
 
   probe_owed : OwedOf probe_final h origin
@@ -303,8 +307,8 @@ module _ (state : ModelState) (h origin : ℕ) (others : List Message) (mail : (
       is_before waiting.stamp (hart_of state h).attempt ≡ false
   not_less None waiting line found on here kept = absurd (cc)
   not_less (Some asked) waiting line found on here kept =
-      let line_is : line ≡ asked.line = sym on ∙ ap (λ r. r.line) (sym (some_same found)) in
-      let same : asked ≡ waiting = some_same found in
+      let line_is : line ≡ asked.line = sym on ∙ ap (λ r. r.line) (sym (same_Some _ _ found)) in
+      let same : asked ≡ waiting = same_Some _ _ found in
       subst (λ r. is_before r.stamp (hart_of state h).attempt ≡ false) same
       (subst (λ hart. is_before asked.stamp hart.attempt ≡ false) at_first
       (second_is (retains first h asked.line) (is_before asked.stamp (hart_of first h).attempt)

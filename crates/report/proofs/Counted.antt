@@ -16,7 +16,7 @@ use Rattle.el_base.specs.declared.outcomes.Cause.TheVariants.{Room, Lines, Long,
 use Rattle.el_base.specs.declared.outcomes.Outcome.{Outcome}
 use Rattle.el_base.specs.declared.outcomes.Outcome.TheVariants.{Idle, Stalled, Missed, Ran, Began, Buffered}
 use Rattle.el_base.specs.declared.outcomes.Outcome.TheVariants.{Committed, RolledBack, Ordered, Served, Blocked, Delivered, Armed, LetGo}
-use Rattle.report.proofs.Losing.{same_number, other_number}
+use Rattle.el_base.proofs.Laws.Tests.{apart_by_test, number_of_test}
 use Rattle.report.proofs.Putting.{pieces_more}
 use Rattle.report.specs.Counting.{HasRoom, tally_at, with_loss}
 
@@ -65,12 +65,12 @@ own_counted : (tallies : List Tally) (number hart : ℕ) (own : Tally) (outcome 
     own ≡ plus (tally_at tallies number) (of_outcome outcome) → (b : Bool) → (number == hart) ≡ b →
     tally_at (set tallies number own) hart ≡ cond b (plus (tally_at tallies hart) (of_outcome outcome)) (tally_at tallies hart)
 own_counted tallies number hart own outcome there counted true e =
-    let same = same_number number hart e in
+    let same = number_of_test number hart e in
     get_or-set_at tallies number hart own nothing (sym same) there
     ∙ counted
     ∙ ap (λ n. plus (tally_at tallies n) (of_outcome outcome)) same
 own_counted tallies number hart own outcome there counted false e =
-    get_or-set_other tallies number hart own nothing (λ same. other_number number hart e (sym same))
+    get_or-set_other tallies number hart own nothing (λ same. apart_by_test number hart e (sym same))
 
 pub own_then_losses : (tallies now : List Tally) (entry : Entry) (own : Tally) → entry.event.hart.number < length tallies →
     own ≡ plus (tally_at tallies entry.event.hart.number) (of_outcome entry.outcome) →

@@ -6,17 +6,12 @@ use Rattle.std.proofs.lemmas.List.{get_or-set_other}
 use Rattle.chronicle.specs.Tally.{nothing}
 use Rattle.chronicle.specs.declared.tally.Tally.{Tally}
 use Rattle.report.specs.Counting.{tally_at, with_loss}
+use Rattle.el_base.proofs.Laws.Tests.{apart_by_test, number_of_test}
 
 -- the losers among the first harts are counted, and no other
 abbrev pub CountedBelow : (ℕ → Bool) → List Tally → List Tally → ℕ → Type 0
 CountedBelow lost before now number =
     (hart : ℕ) → hart < 8 → tally_at now hart ≡ with_loss (tally_at before hart) (nat_lt hart number && lost hart)
-
-pub same_number : (a b : ℕ) → (a == b) ≡ true → a ≡ b
-same_number a b e = grind (arith, nat_tests)
-
-pub other_number : (a b : ℕ) → (a == b) ≡ false → a ≢ b
-other_number a b e = grind (arith, nat_tests)
 
 not_below : (hart number : ℕ) (lost : Bool) → hart ≡ number → (nat_lt hart number && lost) ≡ false
 not_below hart number lost same = grind (arith, nat_tests)
@@ -41,9 +36,9 @@ loser_passed lost before now number counted here hart small =
   where
     by : (b : Bool) → (hart == number) ≡ b → (nat_lt hart number && lost hart) ≡ (nat_lt hart (number + 1) && lost hart)
     by true e =
-        let same = same_number hart number e in
+        let same = number_of_test hart number e in
         not_below hart number (lost hart) same ∙ sym (now_below hart number (lost hart) same ∙ ap lost same ∙ here)
-    by false e = still_below hart number (lost hart) (other_number hart number e)
+    by false e = still_below hart number (lost hart) (apart_by_test hart number e)
 
 pub loser_counted : (lost : ℕ → Bool) (before now : List Tally) (number : ℕ) → CountedBelow lost before now number →
     number < length now → number < 8 → lost number ≡ true →
@@ -58,14 +53,14 @@ loser_counted lost before now number counted there within here hart small = by (
         tally_at (set now number (record (tally_at now number) { conflict = (tally_at now number).conflict + 1 })) hart
         ≡ with_loss (tally_at before hart) (nat_lt hart (number + 1) && lost hart)
     by true e =
-        let same = same_number hart number e in
+        let same = number_of_test hart number e in
         let old = counted hart small ∙ ap (with_loss (tally_at before hart)) (not_below hart number (lost hart) same) in
         get_or-set_at now number hart (more (tally_at now number)) nothing same there
         ∙ ap (λ n. more (tally_at now n)) (sym same)
         ∙ ap more old
         ∙ sym (ap (with_loss (tally_at before hart)) (now_below hart number (lost hart) same ∙ ap lost same ∙ here))
     by false e =
-        let other = other_number hart number e in
+        let other = apart_by_test hart number e in
         get_or-set_other now number hart (more (tally_at now number)) nothing other
         ∙ counted hart small
         ∙ ap (with_loss (tally_at before hart)) (still_below hart number (lost hart) other)

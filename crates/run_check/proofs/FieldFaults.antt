@@ -7,6 +7,7 @@ use Rattle.el_base.specs.Config.{within}
 use Rattle.el_base.specs.Firsts.{first_of, some_if}
 use Rattle.el_base.specs.declared.file_fault.FileFault.{FileFault}
 use Rattle.el_base.specs.declared.hart_id.TheConstants.{MAX_HARTS}
+use Rattle.el_base.proofs.Laws.Tests.{same_unless_other}
 use Rattle.el_base.proofs.Laws.Options.{both_none, cond_none, or_none}
 use Rattle.run_check.specs.declared.fault.FaultKind.{FaultKind}
 use Rattle.run_check.specs.declared.fault.FaultKind.TheVariants as kinds
@@ -117,13 +118,10 @@ view_passes file views hart whole right =
 
 -- ---- the other fields
 
-same_of : (x wanted : ℕ) → not (x == wanted) ≡ false → x ≡ wanted
-same_of x wanted e = grind (arith, nat_tests)
-
 wrong_none : (file : List ℕ) (place wanted : ℕ) (kind : FaultKind) → wrong file place wanted kind ≡ None →
     get_or file place 0 ≡ wanted
 wrong_none file place wanted kind none =
-    same_of (get_or file place 0) wanted (if_none (not (get_or file place 0 == wanted)) kind place none)
+    same_unless_other (get_or file place 0) wanted (if_none (not (get_or file place 0 == wanted)) kind place none)
 
 pub record HeadRight (file : List ℕ) : Type 0 where
   pub first : get_or file 0 0 ≡ 0x45

@@ -2,8 +2,8 @@
 use Rattle.std.proofs.Common.{◌≡◌, ℕ, zero, suc, ◌+◌, ◌-◌, ◌*◌, ◌≤◌, ◌<◌, Bool, true, false, cond, List, [], ◌∷◌, ◌++◌}
 use Rattle.std.proofs.Common.{length, map, get_or, take, drop, Some, None, refl, sym, ap, ◌∙◌, arith, inl, inr}
 use Rattle.std.specs.List.{flat_map, range_with_len}
-use Rattle.std.specs.Prelude.{◌==◌, ◌||◌}
-use Rattle.std.proofs.lemmas.Bool.{cases_lt}
+use Rattle.std.specs.Prelude.{◌==◌}
+use Rattle.std.proofs.lemmas.Bool.{cases_lt, or_parts}
 use Rattle.std.proofs.lemmas.Bool.Decides.{nat_tests}
 use Rattle.std.proofs.lemmas.List.{append-nil, drop_all, get_or_past, length-take-le, length-drop}
 use Rattle.std.proofs.lemmas.List.FromFn.{fill_by_all, get_or-map-range_with_len, length-map-range_with_len}
@@ -131,10 +131,6 @@ status_spelled (suc zero) number pc right = refl
 status_spelled (suc (suc zero)) number pc right = refl
 status_spelled (suc (suc (suc status))) number pc right = absurd (grind (arith, nat_tests))
 
-neither : (a b : Bool) → (a || b) ≡ false → (a ≡ false) × (b ≡ false)
-neither true b e = absurd cc
-neither false b e = (refl, e)
-
 -- x1 to x31 are the 31 numbers behind the pc
 registers_behind : (file : List ℕ) (place : ℕ) →
     drop 1 (registers_at file place) ≡ map (λ k. number_at file (place + 4 + 4 * k)) (range_with_len 0 31)
@@ -151,7 +147,7 @@ view_piece : (file : List ℕ) (place : ℕ) → IsBytes file → place + 138 �
     take 138 (drop place file) ≡ view_bytes (view_at file place)
 unfolding view_at
 view_piece file place fits long right =
-    let wrongs = neither (reservation_wrong (get_or file (place + 128) 0) (number_at file (place + 129))) _ right in
+    let wrongs = or_parts (reservation_wrong (get_or file (place + 128) 0) (number_at file (place + 129))) _ right in
     let reserved : take 5 (drop (place + 128) file)
     ≡ reserved_bytes (reserved_at (get_or file (place + 128) 0) (number_at file (place + 129))) =
     piece_sum (place + 128) 1 4 file
@@ -334,7 +330,7 @@ registers_small file place register fits =
 view_is : (file : List ℕ) (place : ℕ) → IsBytes file → view_wrong file place ≡ false → IsView (view_at file place)
 unfolding view_at
 view_is file place fits right =
-    let wrongs = neither (reservation_wrong (get_or file (place + 128) 0) (number_at file (place + 129))) _ right in
+    let wrongs = or_parts (reservation_wrong (get_or file (place + 128) 0) (number_at file (place + 129))) _ right in
     record {
       pc = number_small file place fits;
       registers = length-map-range_with_len (register_at file place) 0 32;

@@ -1,10 +1,10 @@
 -- The certificate of a history and of the state that a run of its serial order reaches holds.
-use Rattle.std.proofs.Common.{◌≡◌, ◌≢◌, ℕ, zero, suc, ◌+◌, ◌-◌, ◌*◌, ◌/◌, ◌%◌, ◌≤◌, ◌<◌, Bool, true, false, not, cond}
+use Rattle.std.proofs.Common.{◌≡◌, ◌≢◌, ℕ, zero, suc, ◌+◌, ◌-◌, ◌*◌, ◌/◌, ◌%◌, ◌≤◌, ◌<◌, Bool, true, false, cond}
 use Rattle.std.proofs.Common.{◌==◌, List, [], ◌∷◌, ◌++◌, length, get_or, drop, Option, Some, None, refl, sym, ap, subst}
 use Rattle.std.proofs.Common.{◌∙◌, arith, inl, inr}
 use Rattle.std.specs.Str.{bytes_eq}
 use Rattle.std.proofs.lemmas.Slice.Eq.{bytes_eq-Decides}
-use Rattle.std.proofs.lemmas.Bool.{cases_lt}
+use Rattle.std.proofs.lemmas.Bool.{cases_lt, not-false}
 use Rattle.std.proofs.lemmas.Bool.Decides.{nat_tests}
 use Rattle.std.proofs.lemmas.List.{append-nil, get_or-drop, get_or-take}
 use Rattle.std.specs.Prelude.{All}
@@ -151,16 +151,12 @@ found_below program memory (suc end) small =
 bytes_same : (xs ys : List ℕ) → bytes_eq xs ys ≡ true → xs ≡ ys
 bytes_same xs ys is = (bytes_eq-Decides xs ys).0 is
 
-not_false : (b : Bool) → not b ≡ false → b ≡ true
-not_false true e = refl
-not_false false e = absurd cc
-
 -- two lines that compare as equal have the same bytes
 same_line : (program : Program) (memory : List ℕ) (index : ℕ) → changed program memory index ≡ false →
     line_of_memory memory index ≡ line_of_memory program.bytes index
 same_line program memory index is =
     bytes_same (line_of_memory memory index) (line_of_memory program.bytes index)
-    (not_false (bytes_eq (line_of_memory memory index) (line_of_memory program.bytes index)) is)
+    (not-false (bytes_eq (line_of_memory memory index) (line_of_memory program.bytes index)) is)
 
 byte_of_line : (memory : List ℕ) (index at : ℕ) → at < 64 →
     get_or (line_of_memory memory index) at 0 ≡ get_or memory (64 * index + at) 0

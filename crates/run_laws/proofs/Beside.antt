@@ -6,6 +6,7 @@ use Rattle.residency.specs.Cache.{has_bit, write_bit}
 use Rattle.residency.specs.Residency.{Way}
 use Rattle.el_base.specs.Line.{line_number}
 use Rattle.el_base.specs.declared.outcomes.Need.TheVariants as needs
+use Rattle.el_base.proofs.Laws.Cases.{not_both}
 use Rattle.el_model.specs.State.{Armed, Section}
 use Rattle.el_model.specs.Upcoming.{next_touch}
 use Rattle.rv_alu.specs.Loaded.{loaded}
@@ -23,7 +24,6 @@ use Rattle.run_laws.proofs.Laws.Bits.{KeepsBits, covered_kept, same_bits}
 use Rattle.run_laws.proofs.Laws.Restored.{put_back}
 use Rattle.run_laws.proofs.Laws.Shown.{keeps_line, keeps_outside, puts_word, unwritten_shown, word_there}
 use Rattle.run_laws.proofs.Laws.Alike.{alone_base, alone_more}
-use Rattle.run_laws.proofs.Laws.Tests.{not_both}
 use Rattle.run_laws.proofs.Laws.Reserving.{acquires_at, armed_memory}
 use Rattle.run_laws.proofs.Laws.WordStores.{StoresWord}
 use Rattle.run_laws.specs.PrivateRun.{IsArmedRun, IsOutsideWord, IsChangeBeside, IsCoveredRun}

@@ -1,5 +1,4 @@
 -- the laws that are offered to the crates above; every other file here is private
-pub mod Tests
 pub mod Touches
 pub mod Alike
 pub mod WordStores

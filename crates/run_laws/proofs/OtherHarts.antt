@@ -2,6 +2,7 @@
 use Rattle.std.proofs.Common.{◌≡◌, ◌≢◌, ◌∙◌, ℕ, true, List, [], ◌∷◌, ◌++◌, None, Some, is_some, refl, ap, sym, subst, inl, inr, ◌⊎◌}
 use Rattle.el_base.specs.declared.config.Config.{Config}
 use Rattle.el_base.specs.declared.events.Event.{Event}
+use Rattle.el_base.proofs.Laws.Cases.{not_both}
 use Rattle.elf_image.specs.Program.{Program}
 use Rattle.el_model.specs.Next.{after, kind_turn, next, state_after}
 use Rattle.el_model.specs.State.{ModelState, Section, armed_of, begin, cache_of, hart_of, section_of}
@@ -15,7 +16,6 @@ use Rattle.run_laws.proofs.Laws.Kept.{IsKept, other_kept}
 use Rattle.run_laws.proofs.Laws.Reachable.{live_sections_run_covered, other_harts_change_nothing_covered}
 use Rattle.run_laws.proofs.Laws.Reached.{state_after-last}
 use Rattle.run_laws.proofs.Laws.Survival.{survives}
-use Rattle.run_laws.proofs.Laws.Tests.{not_both}
 use Rattle.run_laws.specs.Laws.{AreOfOthers, OtherHartsChangeNothingShown, SectionsSurviveOtherHarts}
 use Rattle.run_laws.specs.PrivateRun.{IsChangeBeside}
 

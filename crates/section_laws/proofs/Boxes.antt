@@ -5,7 +5,6 @@ use Rattle.std.specs.List.{count_by}
 use Rattle.std.proofs.lemmas.Bool.{cases_eq}
 use Rattle.std.proofs.lemmas.List.Sums.{sum_by-cons}
 use Rattle.residency.proofs.Laws.MarkLemmas.{one_if}
-use Rattle.bus_order.proofs.Laws.LookUps.{number_of_test, own_test}
 use Rattle.defer_list.specs.HartSet as sets
 use Rattle.defer_list.specs.HartSet.{excluded, has, included}
 use Rattle.defer_list.proofs.Laws.LookUps.{has_excluded_other, has_excluded_own, has_included_other}
@@ -16,6 +15,7 @@ use Rattle.mail.proofs.Laws.LookUps.{has_posted_other}
 use Rattle.mail.proofs.Laws.OnceEach.{count_of, count_of_cons, once_each_none, once_each_posted, once_each_without_oldest, same_is_one}
 use Rattle.mail.proofs.Laws.OnceEach.{first_there}
 use Rattle.section_laws.specs.Messages.{IsMailbox, IsOther, IsSetOfOthers, named, origins, senders}
+use Rattle.el_base.proofs.Laws.Tests.{number_of_test, own_test}
 
 -- a mailbox without messages, and a set without harts
 pub no_mail : (count h : ℕ) → IsMailbox count h []

@@ -9,6 +9,7 @@ use Rattle.el_base.specs.declared.config.Config.{Config}
 use Rattle.el_base.specs.declared.config.Mode.{Mode}
 use Rattle.el_base.specs.declared.config.Mode.TheVariants.{Plain, Sle, Tlr}
 use Rattle.el_base.specs.declared.events.Event.{Event}
+use Rattle.el_base.proofs.Laws.Cases.{none_some, some_none}
 use Rattle.elf_image.specs.Program.{Program}
 use Rattle.el_model.specs.BusEvent.{Becomes, IsAbsent, IsAnswered, IsBehind, IsDeferred, IsForwarded, IsLetGo, IsPassed}
 use Rattle.el_model.specs.BusEvent.{IsPosted, IsSent, IsToldOn, LosesIt}
@@ -62,9 +63,6 @@ record Mailed (count : ℕ) (state : ModelState) : Type 0 where
   once : Once state
   below : AreBelow count state.order
   each : Each (Holds count) state
-
-some_none : {A X : Type 0} {x : A} → Some x ≡ None → X
-some_none wrong = absurd (cc)
 
 -- a request of a hart that has none in order, and one that is there
 apart_from : (order : List Request) (h : ℕ) (request : Request) → request_of order request.hart ≡ Some request → request_of order h ≡ None →
@@ -216,9 +214,6 @@ next_mailed count state event now =
           (order_keeps state event (below_kept (length state.harts)) now.once.sound (subst (λ n. AreBelow n state.order) (sym many) now.below));
       each = next_holds count state event now;
     }
-
-none_some : {A X : Type 0} {x : A} → None ≡ Some x → X
-none_some wrong = absurd (cc)
 
 record HasNoMessages (hart : Hart) : Type 0 where
   mail : hart.mail ≡ []

@@ -4,6 +4,7 @@ use Rattle.bus_order.specs.Order.{Request}
 use Rattle.residency.specs.Cache.{has_marks}
 use Rattle.residency.proofs.Laws.Unmarked.{unmarked-cleared, unmarked-empty, unmarked-touched}
 use Rattle.residency.proofs.Laws.MarkLemmas.{has_marks-committed}
+use Rattle.el_base.proofs.Laws.Cases.{some_none}
 use Rattle.el_model.specs.Deed.{Arms, Begins, Buffers, Commits, Continues, Deed, Elides, LetsGo, Misses, Rests, RollsBack, Runs, Waits, hart_after}
 use Rattle.el_model.specs.Plain.{after_candidate, candidate_of}
 use Rattle.el_model.specs.Serve.{with_claim}
@@ -17,14 +18,11 @@ use Rattle.section_laws.proofs.Laws.EachKept.{EachKept, always_each}
 abbrev pub Holds : Hart → Type 0
 Holds hart = HasBitsOnlyInside hart.section hart.armed hart.cache
 
-some_live : {A X : Type 0} {x : A} → Some x ≡ None → X
-some_live wrong = absurd (cc)
-
 -- a request is served
 claim_holds : (live : Option Section) (request : Request) (hart : Hart) → hart.section ≡ live →
     (live ≡ None → hart.armed ≡ None → has_marks hart.cache ≡ false) → Holds (with_claim (is_some live) request hart)
 claim_holds None request hart is bare none unarmed = bare refl unarmed
-claim_holds (Some section) request hart is bare none unarmed = some_live (sym is ∙ none)
+claim_holds (Some section) request hart is bare none unarmed = some_none (sym is ∙ none)
 
 -- a deed
 candidate_holds : (pc : Option ℕ) (had_watch : Bool) (candidate : Option Swap) (hart : Hart) → Holds hart →
@@ -38,13 +36,13 @@ deed_holds state h Waits hart now = now
 deed_holds state h (Misses line need) hart now = now
 deed_holds state h (Runs touch) hart now =
     candidate_holds _ _ (candidate_of state h) _ (λ none unarmed. touch_unmarked hart.cache touch (now none unarmed))
-deed_holds state h (Begins swap) hart now = λ none unarmed. some_live none
-deed_holds state h (Buffers section touch) hart now = λ none unarmed. some_live none
+deed_holds state h (Begins swap) hart now = λ none unarmed. some_none none
+deed_holds state h (Buffers section touch) hart now = λ none unarmed. some_none none
 deed_holds state h (Commits section) hart now = λ none unarmed. has_marks-committed hart.cache
 deed_holds state h (RollsBack section cause) hart now = λ none unarmed. unmarked-cleared hart.cache
-deed_holds state h (Arms word) hart now = λ none unarmed. some_live unarmed
-deed_holds state h (Elides armed swap) hart now = λ none unarmed. some_live none
-deed_holds state h (Continues armed) hart now = λ none unarmed. some_live unarmed
+deed_holds state h (Arms word) hart now = λ none unarmed. some_none unarmed
+deed_holds state h (Elides armed swap) hart now = λ none unarmed. some_none none
+deed_holds state h (Continues armed) hart now = λ none unarmed. some_none unarmed
 deed_holds state h (LetsGo armed) hart now = λ none unarmed. unmarked-cleared hart.cache
 
 pub kept : EachKept Holds

@@ -5,6 +5,7 @@ use Rattle.residency.specs.Residency.{Way, with_letter}
 use Rattle.residency.proofs.Laws.CacheLemmas.{way_of-filled_with_same, way_of-lettered_other, way_of-lettered_same, way_of-without_line_same}
 use Rattle.el_base.specs.declared.outcomes.Need.{Need}
 use Rattle.el_base.specs.declared.outcomes.Need.TheVariants.{Read, Write}
+use Rattle.el_base.proofs.Laws.Cases.{clash}
 use Rattle.el_base.proofs.Laws.Options.{none_from}
 use Rattle.el_model.specs.Serve.{kept_letter, others_cache, own_copy}
 use Rattle.el_model.proofs.Laws.Tests.{by_test}
@@ -29,17 +30,11 @@ on_read_owner E is = absurd (cc)
 on_read_owner S is = absurd (cc)
 on_read_owner I is = absurd (cc)
 
-wrong : {X : Type 0} {b : Bool} → b ≡ false → b ≡ true → X
-wrong without with_it = never (sym without ∙ with_it)
-  where
-    never : {X : Type 0} → false ≡ true → X
-    never is = absurd (cc)
-
 read_steady : (way : Way) (letter : Letter) → letter ≡ way.letter → way.write ≡ false → Steady way (with_letter (on_read_of letter) way)
 read_steady way letter is unwritten = record {
-  write = λ may. wrong (on_read_shared letter) may;
+  write = λ may. clash (on_read_shared letter) may;
   owner = λ owns. on_read_owner way.letter (ap on_read_of (sym is) ∙ owns);
-  owned = λ was wrote. wrong unwritten wrote;
+  owned = λ was wrote. clash unwritten wrote;
 }
 
 unwritten_some : (way : Option Way) (w : Way) → way ≡ Some w → NotWritten way → w.write ≡ false
@@ -111,7 +106,7 @@ modified_owned (Some way) is = λ wrote. ap may_write is
 
 new_owned : (letter : Letter) (way : Option Way) → IsNew letter way → IsOwned way
 new_owned letter None new = tt
-new_owned letter (Some way) (is, write) = λ wrote. wrong write wrote
+new_owned letter (Some way) (is, write) = λ wrote. clash write wrote
 
 pub steady_owned : (old new : Option Way) → SteadyWay old new → IsOwned old → IsOwned new
 steady_owned old None steady owned = tt

@@ -1,10 +1,12 @@
 -- what a change of a cache may do to its ways without harm to other caches
 use Rattle.std.proofs.Common.{◌≡◌, ◌≢◌, ◌∙◌, ◌<◌, ℕ, Bool, true, false, List, [], ◌∷◌, length, Option, None, Some, option_map, refl, ap, sym, inl, inr, ◌⊎◌, arith}
 use Rattle.std.proofs.lemmas.Bool.{cases_eq}
+use Rattle.std.proofs.lemmas.Option.{same_Some}
 use Rattle.residency.specs.Cache.{cleared, committed, committed_way, evicted_by, filled_with, lettered, marked, set_number, set_of, touched, way_of, without_line}
 use Rattle.residency.specs.Residency.{Way, filled_in, way_in, with_bit, with_letter, without_bits}
 use Rattle.residency.proofs.Laws.CacheLemmas.{set_of-with_set_other, way_of-cleared, way_of-committed, way_of-filled_with_evicted, way_of-filled_with_other, way_of-lettered_other, way_of-lettered_same, way_of-marked_other, way_of-marked_same, way_of-touched, way_of-without_line_other, way_of-without_line_same}
 use Rattle.el_base.specs.declared.outcomes.Need.{Need}
+use Rattle.el_base.proofs.Laws.Cases.{none_some}
 use Rattle.moesi.specs.Letters.{may_write}
 use Rattle.moesi.specs.declared.letter.Letter.{Letter}
 use Rattle.moesi.specs.declared.letter.Letter.TheVariants.{O}
@@ -96,12 +98,6 @@ steady_without_line cache line l = at (cases_eq l line)
     at (inr other) = rw (way_of-without_line_other cache line l other) (same_way (way_of cache l))
 
 -- what a fill does to the other lines: a way stays as it is, or leaves
-none_some : {A X : Type 0} {x : A} → None ≡ Some x → X
-none_some wrong = absurd (cc)
-
-same_some : {A : Type 0} (x y : A) → Some x ≡ Some y → x ≡ y
-same_some x y same = cc
-
 abbrev pub StaysOrLeaves : Option Way → Option Way → Type 0
 StaysOrLeaves old new = (new ≡ old) ⊎ (new ≡ None)
 
@@ -124,7 +120,7 @@ filled_by ways cache line l letter some other (Some gone) is = by_line (cases_eq
     by_line (inl same) = by_set same (cases_eq (set_number cache l) (set_number cache line))
     by_line (inr apart) =
         inl (way_of-filled_with_other ways cache line l letter other
-        (λ found here same. apart (same ∙ ap (λ way. way.line) (same_some found gone (sym here ∙ is)))))
+        (λ found here same. apart (same ∙ ap (λ way. way.line) (same_Some found gone (sym here ∙ is)))))
 
 pub other_filled : (ways : ℕ) (cache : List (List Way)) (line l : ℕ) (letter : Letter) → l ≢ line →
     StaysOrLeaves (way_of cache l) (way_of (filled_with ways cache line letter) l)

@@ -1,7 +1,8 @@
 -- the views of other harts after a hart's own steps: they have lost their reservations of words on the lines that it wrote
 use Rattle.std.proofs.Common.{◌≡◌, ◌≢◌, ◌<◌, ◌∙◌, ◌||◌, ◌==◌, ℕ, zero, suc, Bool, true, false, Option, None, Some, arith, refl, ap, sym, if◌then◌else◌}
-use Rattle.bus_order.proofs.Laws.LookUps.{number_of_test, own_test}
+use Rattle.std.proofs.lemmas.Bool.{or_left, or_right}
 use Rattle.el_base.specs.Line.{line_number}
+use Rattle.el_base.proofs.Laws.Tests.{number_of_test, own_test}
 use Rattle.rv_alu.specs.declared.footprint.Access.{Access}
 use Rattle.rv_alu.specs.declared.footprint.Access.TheVariants.{Nothing, Read, Write, Trap, Exit}
 use Rattle.rv_alu.specs.declared.view.HartView.{HartView}
@@ -10,7 +11,6 @@ use Rattle.rv_flat.specs.FlatState.{FlatState, view_of}
 use Rattle.rv_flat.specs.Laws.{footprint_of, seen_after, written_line}
 use Rattle.rv_flat.specs.Run.{alone}
 use Rattle.rv_flat.specs.Step.{flat}
-use Rattle.run_laws.proofs.Laws.Tests.{or_left, or_right}
 use Rattle.section_view.proofs.Laws.Beginning.{or_cases}
 use Rattle.section_view.specs.KeptRun.{WroteLine}
 use Rattle.section_view.specs.Release.{reserved_beside, view_unreserved_on}

@@ -2,17 +2,16 @@
 use Rattle.std.proofs.Common.{◌≡◌, ◌∙◌, ℕ, ◌+◌, ◌≤◌, Bool, true, false, not, ◌&&◌, ◌==◌, List, [], ◌∷◌, length, Option, is_some}
 use Rattle.std.proofs.Common.{refl, ap, sym, if◌then◌else◌}
 use Rattle.bus_order.specs.Order.{Request}
-use Rattle.bus_order.proofs.Laws.LookUps.{own_test}
 use Rattle.residency.specs.Cache.{cleared}
 use Rattle.el_base.specs.declared.config.Mode.{Mode}
 use Rattle.el_base.specs.declared.config.Mode.TheVariants.{Plain, Sle, Tlr}
+use Rattle.el_base.proofs.Laws.Tests.{false_between, own_test}
 use Rattle.el_model.specs.Conflicts.{meets_bit, wins_over}
 use Rattle.el_model.specs.Face.{Fate, LosesTo, Stays, Unmet, after_fate, deferring, deferring_fate, fate_at, fate_of, winning_stamp}
 use Rattle.el_model.specs.Plain.{armed_count}
 use Rattle.el_model.specs.RollBack.{beaten, most_tries, out_of_section}
 use Rattle.el_model.specs.State.{Hart, ModelState, new_hart, post_all}
 use Rattle.el_model.proofs.Laws.Harts.{hart_of-past}
-use Rattle.el_model.proofs.Laws.Losing.{no_section_meets}
 use Rattle.el_model.proofs.Laws.HartParts.{beaten_armed}
 use Rattle.mail.specs.Mailbox.{Message, posted}
 use Rattle.snoop.proofs.Laws.Living.{TellsSection, live_unarmed, tells_cleared, tells_yet}
@@ -142,4 +141,4 @@ own_unmet state head hart =
 pub past_unmet : (state : ModelState) (head : Request) (h : ℕ) → length state.harts ≤ h → fate_at state head h ≡ Unmet
 past_unmet state head h past =
     ap (fate_of state head h) (hart_of-past state h past)
-    ∙ unmet_by state head (new_hart 0) _ (no_section_meets (not (head.hart == h)) (meets_bit (new_hart 0) head.line head.need))
+    ∙ unmet_by state head (new_hart 0) _ (false_between (not (head.hart == h)) (meets_bit (new_hart 0) head.line head.need))

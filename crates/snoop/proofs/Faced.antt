@@ -1,10 +1,10 @@
 -- a face, as the bus shows it and as it is ready after it
 use Rattle.std.proofs.Common.{◌≡◌, ◌≢◌, ◌∙◌, ℕ, ◌<◌, cond, List, length, refl, ap, sym, subst, arith, inl, inr}
 use Rattle.std.proofs.lemmas.Bool.{cases_eq}
-use Rattle.bus_order.proofs.Laws.LookUps.{other_test, own_test}
 use Rattle.bus_order.specs.Order.{Request}
 use Rattle.coherence.specs.Lent.{slotted_at}
 use Rattle.el_base.specs.Losers.{losers_of}
+use Rattle.el_base.proofs.Laws.Tests.{other_test, own_test}
 use Rattle.el_model.specs.Face.{after_fate, fate_at, face_losers, fate_of, faced, faced_hart, markers_for, winner_in}
 use Rattle.el_model.specs.State.{Hart, ModelState, cache_of, each_hart, hart_of, post_all}
 use Rattle.snoop.proofs.AfterFate.{fate_agent, fate_cache, fate_tells, loser_unarmed, own_unmet, post_all_armed, post_all_cache, post_all_section}

@@ -3,11 +3,11 @@ use Rattle.std.proofs.Common.{◌≡◌, ◌≢◌, ◌∙◌, ℕ, ◌+◌, ◌
 use Rattle.std.specs.Prelude.{IfSome, slice_index_or}
 use Rattle.std.proofs.lemmas.Bool.{cases_eq, cases_lt}
 use Rattle.std.proofs.lemmas.List.{get_or_default, get_or_past}
-use Rattle.bus_order.proofs.Laws.LookUps.{other_test, own_test}
 use Rattle.el_base.proofs.Laws.MadeLosers.{beaten_by-beyond, beaten_by-losers_of}
 use Rattle.el_base.proofs.Laws.SameLosers.{same_losers}
 use Rattle.el_base.specs.Losers.{beaten_by, losers_of}
 use Rattle.el_base.specs.declared.losers.Losers.{Losers}
+use Rattle.el_base.proofs.Laws.Tests.{other_test, own_test}
 use Rattle.el_model.specs.Face.{Fate, Unmet, winner_in}
 use Rattle.snoop.specs.Fates.{fate_in, numbered_fate}
 use Rattle.snoop.specs.declared.fates.Fate as fates

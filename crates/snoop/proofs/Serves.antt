@@ -4,7 +4,7 @@ use Rattle.std.proofs.Common.{Option, Some, None, is_some, refl, ap, sym, subst,
 use Rattle.std.specs.List.{list_any}
 use Rattle.std.proofs.lemmas.Bool.{cases_eq, cases_lt}
 use Rattle.bus_order.specs.Order.{IsOneEach, Request, removed, request_of}
-use Rattle.bus_order.proofs.Laws.LookUps.{other_test, own_test, request_of_removed_other, request_of_removed_own}
+use Rattle.bus_order.proofs.Laws.LookUps.{request_of_removed_other, request_of_removed_own}
 use Rattle.bus_order.proofs.Laws.Orders.{one_each_removed}
 use Rattle.residency.specs.Cache.{has_bit, has_marks, is_resident, marked, room_of, touched}
 use Rattle.cache_sets.specs.Cached.{Cached}
@@ -19,6 +19,8 @@ use Rattle.coherence.specs.Served.{Copies, StaysCoherent, lines_after}
 use Rattle.coherence.proofs.Laws.Offered.{length-lent, lent_at}
 use Rattle.el_base.specs.declared.outcomes.Need.{Need}
 use Rattle.el_base.specs.declared.outcomes.Need.TheVariants.{Write}
+use Rattle.el_base.proofs.Laws.Tests.{other_test, own_test}
+use Rattle.el_base.proofs.Laws.Cases.{false_true}
 use Rattle.el_base.proofs.Laws.Options.{none_nor_some}
 use Rattle.el_model.specs.Conflicts.{meets_bit}
 use Rattle.el_model.specs.Serve.{Free, bystander, obstacle_to, others_cache, others_have, own_copy, served}
@@ -422,9 +424,6 @@ raised_after live request g agent =
       | inr other ↦ ap (λ (a : Agent). a.raised) (at_other g request.hart _ _ other)
     ]
 
-no_room : false ≡ true → ⊥
-no_room is = absurd (cc)
-
 pub serve_ready : (bus new : Kept) (request : Request) (before after : Pooled) → IsReady bus → request_of bus.order request.hart ≡ Some request →
     Serves request before after bus new → IsReady new
 serve_ready bus new request before after ready ordered serves = ready_after bus new ready (record {
@@ -480,5 +479,5 @@ serve_ready bus new request before after ready ordered serves = ready_after bus 
         ∙ elim (cases_lt g (length bus.copies.caches)) [
           | inl below ↦ others_room (slotted_at bus.copies.caches g).ways _ request.need (slotted_at bus.copies.caches g).residency request.line line
               (ready.well_formed g below) had
-          | inr past ↦ absurd (no_room (ap (λ cache. room_of cache.ways cache.residency line) (sym (beyond bus.copies.caches g past)) ∙ had))
+          | inr past ↦ absurd (false_true (ap (λ cache. room_of cache.ways cache.residency line) (sym (beyond bus.copies.caches g past)) ∙ had))
         ]

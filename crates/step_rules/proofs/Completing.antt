@@ -1,7 +1,7 @@
 -- the rule of an SC that succeeds in an armed section
 use Rattle.std.proofs.Common.{◌≡◌, ◌∙◌, ℕ, Bool, true, false, ◌&&◌, ◌==◌, not, Some, refl, ap, sym, if◌then◌else◌}
-use Rattle.bus_order.proofs.Laws.LookUps.{number_of_test}
 use Rattle.el_base.specs.Line.{line_number}
+use Rattle.el_base.proofs.Laws.Tests.{number_of_test}
 use Rattle.el_model.specs.Armed.{ArmedRule, exchange_rule}
 use Rattle.el_model.specs.Conflicts.{is_wanted_to_write}
 use Rattle.el_model.specs.State.{ModelState}

@@ -1,21 +1,15 @@
 -- Counting an event in the rows of all harts.
-use Rattle.std.proofs.Common.{◌≡◌, ◌≢◌, ℕ, ◌+◌, ◌<◌, ◌≤◌, ◌==◌, Bool, true, false, List, length, set, None, refl, subst, sym, ◌∙◌, arith}
-use Rattle.std.proofs.lemmas.Bool.Decides.{nat_tests}
+use Rattle.std.proofs.Common.{◌≡◌, ℕ, ◌+◌, ◌<◌, ◌≤◌, ◌==◌, Bool, true, false, List, length, set, None, refl, subst, sym, ◌∙◌, arith}
 use Rattle.std.proofs.lemmas.Grind.{get_or-set_at}
 use Rattle.std.proofs.lemmas.List.{get_or-set_other, length-set}
 use Rattle.el_base.specs.Winners.{winner_over}
 use Rattle.el_base.specs.declared.entries.Entry.{Entry}
+use Rattle.el_base.proofs.Laws.Tests.{apart_by_test, number_of_test}
 use Rattle.timetable.specs.Counting.{Follows, after_others}
 use Rattle.timetable.specs.Rows.{no_row, row_at}
 use Rattle.timetable.specs.Unsettled.{freed_by}
 use Rattle.timetable.specs.declared.hart_times.HartTimes.{HartTimes}
 use Rattle.timetable.proofs.Counting.{event_follows}
-
-same_hart : (a b : ℕ) → (a == b) ≡ true → a ≡ b
-same_hart a b e = grind (arith, nat_tests)
-
-other_hart : (a b : ℕ) → (a == b) ≡ false → a ≢ b
-other_hart a b e = grind (arith, nat_tests)
 
 -- the event is counted in the rows of the first harts, and in no other
 pub record CountedBelow (entry : Entry) (before now : List HartTimes) (number : ℕ) : Type 0 where
@@ -41,12 +35,12 @@ one_more_counted entry before now number new small so_far follows = record {
   where
     by : (h : ℕ) → h < number + 1 → (b : Bool) → (h == number) ≡ b → Follows h entry (row_at before h) (row_at (set now number new) h)
     by h below true e =
-        let same = same_hart h number e in
+        let same = number_of_test h number e in
         subst (λ row. Follows h entry (row_at before h) row) (sym (get_or-set_at now number h new no_row same (omega (arith, small, so_far.places))))
         (subst (λ row. Follows h entry row new) (so_far.rest h (omega (arith, same)))
         (subst (λ n. Follows n entry (row_at now n) new) (sym same) follows))
     by h below false e =
-        let other = other_hart h number e in
+        let other = apart_by_test h number e in
         subst (λ row. Follows h entry (row_at before h) row) (sym (get_or-set_other now number h new no_row other))
         (so_far.counted h (grind (arith, below, other)))
 
@@ -65,10 +59,10 @@ own_counted entry rows new there places kept bound follows h below = by (entry.e
   where
     by : (b : Bool) → (entry.event.hart.number == h) ≡ b → Follows h entry (row_at rows h) (row_at (set rows entry.event.hart.number new) h)
     by true e =
-        let same = same_hart entry.event.hart.number h e in
+        let same = number_of_test entry.event.hart.number h e in
         subst (λ row. Follows h entry (row_at rows h) row) (sym (get_or-set_at rows entry.event.hart.number h new no_row (sym same) there))
         (subst (λ n. Follows n entry (row_at rows n) new) same follows)
     by false e =
-        let other = other_hart entry.event.hart.number h e in
+        let other = apart_by_test entry.event.hart.number h e in
         subst (λ row. Follows h entry (row_at rows h) row) (sym (get_or-set_other rows entry.event.hart.number h new no_row (λ same. other (sym same))))
         (stays h entry (row_at rows h) e (places h below) (kept h) (bound h))

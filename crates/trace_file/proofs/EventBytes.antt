@@ -1,29 +1,23 @@
 -- Events as bytes.
-use Rattle.std.proofs.Common.{◌≡◌, ℕ, zero, suc, ◌-◌, ◌≤◌, Bool, true, false, not, List, length, take, drop, get_or, ap, sym, ◌∙◌, cond, Some, None, IsTrue, refl, arith}
-use Rattle.std.specs.Prelude.{All}
+use Rattle.std.proofs.Common.{◌≡◌, ℕ, zero, suc, ◌-◌, ◌≤◌, Bool, not, List, length, take, drop, get_or, ap, sym, ◌∙◌, None, IsTrue, refl, arith}
+use Rattle.std.specs.Prelude.{All, nat_lt}
 use Rattle.std.specs.List.{position, position_or_len}
 use Rattle.std.proofs.lemmas.List.Sums.{fails_before_first}
-use Rattle.std.proofs.lemmas.Bool.{ltb-false}
+use Rattle.std.proofs.lemmas.Bool.{ltb-false, not-false}
 use Rattle.std.proofs.lemmas.List.{take_rest}
 use Rattle.std.proofs.Math.Seq.{take-length}
 use Rattle.el_base.specs.Kinds.{kind_number}
 use Rattle.el_base.specs.declared.events.Kind.{Kind}
 use Rattle.el_base.specs.declared.events.Kind.TheVariants.{Step, Order, Serve, Deliver}
+use Rattle.el_base.proofs.Laws.Options.{cond_none}
 use Rattle.trace_file.specs.Reading.{kind_at}
-
-not_false : (b : Bool) → not b ≡ false → b ≡ true
-not_false true e = refl
-not_false false e = absurd cc
-
-at_end : {X : Type 0} (b : Bool) (x : X) → cond b (Some x) None ≡ None → b ≡ false
-at_end true x e = absurd cc
-at_end false x e = refl
 
 -- where no element fails a test, each passes it
 pub none_fails : (test : ℕ → Bool) (xs : List ℕ) → position (λ x. not (test x)) xs ≡ None → All (λ x. IsTrue (test x)) xs
 none_fails test xs none k d within =
-    let past : length xs ≤ position_or_len (λ x. not (test x)) xs = ltb-false _ _ (at_end _ _ none) in
-    not_false (test (get_or xs k d)) (fails_before_first (λ x. not (test x)) xs k d (omega arith))
+    let apart = cond_none (nat_lt (position_or_len (λ x. not (test x)) xs) (length xs)) _ _ none in
+    let past : length xs ≤ position_or_len (λ x. not (test x)) xs = ltb-false _ _ apart.0 in
+    not-false (test (get_or xs k d)) (fails_before_first (λ x. not (test x)) xs k d (omega arith))
 
 pub all_taken : (count : ℕ) (xs : List ℕ) → length xs ≡ count → take count xs ≡ xs
 all_taken count xs is = ap (λ (n : ℕ). take n xs) (sym is) ∙ take-length xs

@@ -1,6 +1,6 @@
 -- Fields that stand one behind the other.
 use Rattle.std.proofs.Common.{◌≡◌, ℕ, ◌+◌, ◌≤◌, Bool, true, false, not, ltb, List, [], ◌∷◌, ◌++◌, length, drop, None, refl, sym, ap, ◌∙◌, arith}
-use Rattle.std.proofs.lemmas.Bool.{le-ltb, ltb-false}
+use Rattle.std.proofs.lemmas.Bool.{le-ltb, ltb-false, not-false}
 use Rattle.std.proofs.lemmas.List.{drop_at, drop-drop, length-append, length-drop}
 use Rattle.el_base.specs.Firsts.{some_if}
 use Rattle.el_base.proofs.Laws.Options.{both_none, cond_none, or_none}
@@ -8,7 +8,7 @@ use Rattle.trace_file.specs.FaultKinds.{fault_of}
 use Rattle.trace_file.specs.Fields.{Field, widths}
 use Rattle.trace_file.specs.Faults.{field_fault, fields_fault}
 use Rattle.trace_file.specs.declared.fault.FaultKind.TheVariants.{Short}
-use Rattle.trace_file.proofs.Heads.{if_none, not_true}
+use Rattle.trace_file.proofs.Heads.{if_none}
 
 -- ---- fields without a fault
 
@@ -18,7 +18,7 @@ pub field_known : (place : ℕ) (bytes : List ℕ) (one : Field) → field_fault
 unfolding field_fault
 field_known place bytes one none =
     let e = cond_none (ltb (length bytes) one.width) (fault_of Short (place + length bytes)) _ none in
-    (ltb-false (length bytes) one.width e.0, not_true (one.passes bytes) (if_none (not (one.passes bytes)) one.kind place e.1))
+    (ltb-false (length bytes) one.width e.0, not-false (one.passes bytes) (if_none (not (one.passes bytes)) one.kind place e.1))
 
 pub first_known : (place : ℕ) (bytes : List ℕ) (first : Field) (fields : List Field) →
     fields_fault place bytes (first ∷ fields) ≡ None →

@@ -1,7 +1,7 @@
 -- A head without a fault is spelled by what stands in it.
 use Rattle.std.proofs.Common.{◌≡◌, ℕ, ◌+◌, ◌*◌, ◌/◌, ◌%◌, ◌≤◌, ◌<◌, Bool, true, false, not, ◌==◌, ltb, List, [], ◌∷◌, ◌++◌, length, get_or, drop, zero, suc, Option, None, refl, sym, ap, ◌∙◌, arith}
 use Rattle.std.proofs.Math.Seq.{drop-cons}
-use Rattle.std.proofs.lemmas.Bool.{ltb-false}
+use Rattle.std.proofs.lemmas.Bool.{ltb-false, not-false}
 use Rattle.std.proofs.lemmas.List.{get_or-drop, length-drop, drop-drop}
 use Rattle.std.proofs.lemmas.Bool.Decides.{nat_tests}
 use Rattle.el_base.specs.Config.{allows}
@@ -12,6 +12,7 @@ use Rattle.el_base.specs.declared.file_fault.FileFault.{FileFault}
 use Rattle.trace_file.specs.declared.fault.FaultKind.{FaultKind}
 use Rattle.trace_file.specs.declared.fault.FaultKind.TheVariants.{Short, Magic, Config as config_kind}
 use Rattle.el_base.specs.Modes.{mode_number}
+use Rattle.el_base.proofs.Laws.Tests.{same_unless_other}
 use Rattle.el_base.proofs.Laws.Options.{cond_none, or_none}
 use Rattle.el_base.proofs.Laws.ListLaws.{four_in_front}
 use Rattle.trace_file.specs.Spelling.{head}
@@ -66,13 +67,10 @@ field_none file end fault none =
     let e = cond_none (ltb (length file) end) (fault_of Short (length file)) fault none in
     (ltb-false (length file) end e.0, e.1)
 
-same_of : (x wanted : ℕ) → not (x == wanted) ≡ false → x ≡ wanted
-same_of x wanted e = grind (arith, nat_tests)
-
 wrong_none : (file : List ℕ) (place wanted : ℕ) (kind : FaultKind) → wrong file place wanted kind ≡ None →
     get_or file place 0 ≡ wanted
 wrong_none file place wanted kind none =
-    same_of (get_or file place 0) wanted (if_none (not (get_or file place 0 == wanted)) kind place none)
+    same_unless_other (get_or file place 0) wanted (if_none (not (get_or file place 0 == wanted)) kind place none)
 
 magic_none : (file : List ℕ) → magic_fault file ≡ None →
     (get_or file 0 0 ≡ 0x45) × (get_or file 1 0 ≡ 0x4c) × (get_or file 2 0 ≡ 0x54) × (get_or file 3 0 ≡ 0x52)
@@ -98,17 +96,13 @@ mode_again (suc zero) small = refl
 mode_again (suc (suc zero)) small = refl
 mode_again (suc (suc (suc n))) small = absurd (omega arith)
 
-pub not_true : (b : Bool) → not b ≡ false → b ≡ true
-not_true true e = refl
-not_true false e = absurd cc
-
 -- a field without a fault passes its test
 pub byte_passed : (file : List ℕ) (place : ℕ) (test : ℕ → Bool) → byte_fault file place test ≡ None → test (get_or file place 0) ≡ true
 unfolding byte_fault
 byte_passed file place test none =
     let passed = test (get_or file place 0) in
     let e = field_none file (place + 1) (some_if (not passed) (fault_of config_kind place)) none in
-    not_true passed (if_none (not passed) config_kind place e.1)
+    not-false passed (if_none (not passed) config_kind place e.1)
 
 pub number_passed : (file : List ℕ) (place : ℕ) (test : ℕ → Bool) → number_fault file place test ≡ None →
     (place + 4 ≤ length file) × (test (number_at file place) ≡ true)
@@ -116,7 +110,7 @@ unfolding number_fault
 number_passed file place test none =
     let passed = test (number_at file place) in
     let e = field_none file (place + 4) (some_if (not passed) (fault_of config_kind place)) none in
-    (e.0, not_true passed (if_none (not passed) config_kind place e.1))
+    (e.0, not-false passed (if_none (not passed) config_kind place e.1))
 
 at_most_two : (n : ℕ) → is_mode n ≡ true → n ≤ 2
 at_most_two n known = grind (arith, nat_tests)

@@ -2,7 +2,7 @@
 use Rattle.std.proofs.Common.{◌≡◌, ◌≢◌, ℕ, ◌+◌, ◌≤◌, ◌<◌, Bool, true, false, not, ◌==◌, ltb, List, [], ◌∷◌, ◌++◌, length, map, get_or, take, drop, Option, Some, None, IsTrue, refl, sym, ap, ◌∙◌, arith}
 use Rattle.std.specs.Prelude.{All}
 use Rattle.std.specs.Option.{option_map}
-use Rattle.std.proofs.lemmas.Bool.{ltb-false}
+use Rattle.std.proofs.lemmas.Bool.{ltb-false, not-false}
 use Rattle.std.proofs.lemmas.Bool.Decides.{nat_tests}
 use Rattle.std.proofs.lemmas.List.{length-drop, length-map}
 use Rattle.std.proofs.lemmas.List.Elements.{All-cons, All-head, All-tail}
@@ -24,7 +24,7 @@ use Rattle.trace_file.specs.Faults.{byte_fault, magic_fault, version_fault, sett
 use Rattle.trace_file.specs.Reading.{entries_at, event_in, events_at, recorded_at}
 use Rattle.trace_file.proofs.EventBytes.{none_fails, all_taken}
 use Rattle.trace_file.proofs.EntryLaws.{entries_spelled, event_spelled}
-use Rattle.trace_file.proofs.Heads.{IsBytes, bytes_behind, byte_passed, number_passed, not_true, if_none, field_none, head_spelled}
+use Rattle.trace_file.proofs.Heads.{IsBytes, bytes_behind, byte_passed, number_passed, if_none, field_none, head_spelled}
 
 -- ---- the configuration
 
@@ -86,7 +86,7 @@ head_known file fits none =
     let version = field_none file 5 (some_if (not known) (fault_of Version 4)) h1.0 in
     let r = settings_within file h2.0 in
     record {
-      version = not_true known (if_none (not known) Version 4 version.1);
+      version = not-false known (if_none (not known) Version 4 version.1);
       spelled = head_spelled file fits number.0 h0.0 h2.0;
       ranges = r;
       few = few_of (number_at file 14) (number_at file 18) number.1;

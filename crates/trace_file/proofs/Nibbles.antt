@@ -1,7 +1,7 @@
 -- Four bits a hart: what bytes say of losers and freed harts, and the bytes that say it.
 use Rattle.std.proofs.Common.{◌≡◌, ℕ, zero, suc, ◌/◌, ◌%◌, ◌≤◌, ◌<◌, ◌==◌, ◌&&◌, Bool, true, false, List, [], ◌∷◌, ◌++◌, get_or, Option, Some, None, refl, sym, ap, ◌∙◌, min, arith}
 use Rattle.std.specs.Prelude.{IfSome, IsTrue, if◌then◌else◌, nat_lt, nat_le}
-use Rattle.std.proofs.lemmas.Bool.{ltb-true, ltb-false, lt-ltb}
+use Rattle.std.proofs.lemmas.Bool.{ltb-true, ltb-false, lt-ltb, and_parts, and_right, and_left, and_from}
 use Rattle.std.proofs.lemmas.Bool.Decides.{nat_tests}
 use Rattle.std.proofs.lemmas.List.{get_or_append_left}
 use Rattle.el_base.specs.Freed.{count_in, freed_of}
@@ -18,21 +18,6 @@ use Rattle.trace_file.specs.Reading.{freed_in, losers_in}
 
 -- ---- tests of each number below one
 
-both_true : (a b : Bool) → (a && b) ≡ true → (a ≡ true) × (b ≡ true)
-both_true true true is = (refl, refl)
-both_true true false is = absurd (cc)
-both_true false b is = absurd (cc)
-
-last_false : (a b : Bool) → b ≡ false → (a && b) ≡ false
-last_false true b is = is
-last_false false b is = refl
-
-first_false : (a b : Bool) → a ≡ false → (a && b) ≡ false
-first_false a b is = rw is refl
-
-two_true : (a b : Bool) → a ≡ true → b ≡ true → (a && b) ≡ true
-two_true a b first second = rw first second
-
 last_or_lower : (n : ℕ) (test : ℕ → Bool) (h : ℕ) (last : Bool) → (n == h) ≡ last → h < suc n → test n ≡ true →
     (h < n → test h ≡ true) → test h ≡ true
 last_or_lower n test h true is low passes lower =
@@ -45,22 +30,22 @@ last_or_lower n test h false other low passes lower =
 pub each_below : (n : ℕ) (test : ℕ → Bool) (h : ℕ) → all_below n test ≡ true → h < n → test h ≡ true
 each_below zero test h all low = absurd (omega arith)
 each_below (suc n) test h all low =
-    last_or_lower n test h (n == h) refl low (both_true (all_below n test) (test n) all).1
-    (each_below n test h (both_true (all_below n test) (test n) all).0)
+    last_or_lower n test h (n == h) refl low (and_parts (all_below n test) (test n) all).1
+    (each_below n test h (and_parts (all_below n test) (test n) all).0)
 
 pub all_from_each : (n : ℕ) (test : ℕ → Bool) → ((h : ℕ) → h < n → test h ≡ true) → all_below n test ≡ true
 all_from_each zero test each = refl
 all_from_each (suc n) test each =
-    two_true (all_below n test) (test n) (all_from_each n test (λ h low. each h (omega arith))) (each n (omega arith))
+    and_from (all_below n test) (test n) (all_from_each n test (λ h low. each h (omega arith))) (each n (omega arith))
 
 last_or_lower_fails : (n : ℕ) (test : ℕ → Bool) (h : ℕ) (last : Bool) → (n == h) ≡ last → h < suc n → test h ≡ false →
     (h < n → all_below n test ≡ false) → (all_below n test && test n) ≡ false
 last_or_lower_fails n test h true is low fails lower =
     let same : n ≡ h = grind (arith, nat_tests) in
-    last_false (all_below n test) (test n) (ap test same ∙ fails)
+    and_right (all_below n test) (test n) (ap test same ∙ fails)
 last_or_lower_fails n test h false other low fails lower =
     let below : h < n = grind (arith, nat_tests) in
-    first_false (all_below n test) (test n) (lower below)
+    and_left (all_below n test) (test n) (lower below)
 
 pub one_fails : (n : ℕ) (test : ℕ → Bool) (h : ℕ) → h < n → test h ≡ false → all_below n test ≡ false
 one_fails zero test h low fails = absurd (omega arith)

@@ -5,18 +5,9 @@ use Rattle.std.specs.Option.{option_or}
 use Rattle.std.proofs.lemmas.Bool.Decides.{nat_tests}
 use Rattle.std.proofs.lemmas.List.Folds.{find-append}
 use Rattle.el_base.proofs.Laws.ListLaws.{find_of_filter_kept, find_of_filter_gone}
+use Rattle.el_base.proofs.Laws.Tests.{other_test, own_test}
 use Rattle.bus_order.specs.Order.{Request, first_of, tail_of, request_of, appended, in_front_of, removed}
 use Rattle.bus_order.proofs.Words.{first_of_find, request_of_find, removed_filter}
-
--- a test of two numbers, by whether they are one
-pub own_test : (a : ℕ) → (a == a) ≡ true
-own_test a = grind (arith, nat_tests)
-
-pub other_test : (a b : ℕ) → a ≢ b → (a == b) ≡ false
-other_test a b differ = grind (arith, nat_tests)
-
-pub number_of_test : (a b : ℕ) → (a == b) ≡ true → a ≡ b
-number_of_test a b test = grind (arith, nat_tests)
 
 -- where nothing is found behind, what is found in front is all
 pub or_nothing : {A : Type 0} (found : Option A) → option_or found None ≡ found

@@ -4,8 +4,9 @@ use Rattle.std.specs.List.{find, filter}
 use Rattle.std.specs.Option.{option_or}
 use Rattle.std.proofs.lemmas.List.Elements.{filter-append}
 use Rattle.el_base.proofs.Laws.ListLaws.{find_of_filter_kept, filter_of_filter, find_passes}
+use Rattle.el_base.proofs.Laws.Tests.{number_of_test, other_test, own_test}
 use Rattle.bus_order.specs.Order.{Request, first_of, tail_of, request_of, appended, in_front_of, removed, queue_of, IsOneEach}
-use Rattle.bus_order.proofs.Laws.LookUps.{own_test, other_test, number_of_test, or_nothing}
+use Rattle.bus_order.proofs.Laws.LookUps.{or_nothing}
 use Rattle.bus_order.proofs.Laws.Orders.{count_of_absent, count_of_queue_of, absent_by_count, one_each_rest, one_each_queue_of, alone_in_front, removed_absent}
 use Rattle.bus_order.proofs.Words.{first_of_find, tail_of_find, request_of_find, queue_of_filter, removed_filter}
 

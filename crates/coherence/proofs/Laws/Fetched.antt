@@ -3,6 +3,7 @@ use Rattle.std.proofs.Common.{◌≡◌, ◌≢◌, ◌∙◌, ◌⊎◌, ◌<�
 use Rattle.std.specs.Prelude.{slice_index_or, slice_set}
 use Rattle.std.proofs.lemmas.Bool.{cases_eq}
 use Rattle.std.proofs.lemmas.List.{get_or_read_under, get_or-set_other, get_or-set_same, length-set}
+use Rattle.std.proofs.lemmas.Option.{same_Some}
 use Rattle.residency.specs.Cache.{evicted_by, filled_with, is_resident, way_of}
 use Rattle.cache_sets.specs.Cached.{Cached, Copy, bytes_of, copy_in}
 use Rattle.cache_sets.specs.Calls.{IsFilledWith}
@@ -15,10 +16,11 @@ use Rattle.coherence.specs.Line.{Coherent, IsFound}
 use Rattle.coherence.specs.Writing.{GoneIsInMemory}
 use Rattle.coherence.specs.Served.{IsFetched, lines_after, victim_of, with_copy_back, with_line_back, written_back}
 use Rattle.coherence.proofs.FetchLaws.{Fetch, fetched_aside, fetched_own, fetched_rest, given_up_at, left_other, line_fetched, line_left, other_new, own_new}
-use Rattle.coherence.proofs.Laws.LineLaws.{none_is, same_line, some_is}
+use Rattle.coherence.proofs.Laws.LineLaws.{same_line}
 use Rattle.coherence.proofs.Laws.Owners.{copy_is}
 use Rattle.el_base.specs.declared.outcomes.Need.{Need}
 use Rattle.el_base.specs.declared.outcomes.Need.TheVariants.{Read, Write}
+use Rattle.el_base.proofs.Laws.Cases.{none_some}
 use Rattle.el_model.specs.Serve.{given_up}
 use Rattle.line_pool.specs.Pooled.{Pooled}
 use Rattle.moesi.specs.declared.letter.Letter.{Letter}
@@ -63,7 +65,7 @@ copy_resident cached line copy there = by (way_of cached.residency line) there
   where
     by : (way : Option Way) → option_map {U = Copy} (λ w. record { letter = w.letter; bytes = bytes_of cached line }) way ≡ Some copy →
         is_some way ≡ true
-    by None is = none_is copy is
+    by None is = none_some is
     by (Some way) is = refl
 
 -- a line that left was in memory
@@ -121,11 +123,12 @@ each_fetched need h line first lines old mid cache bytes told evicted fetch foun
 
     apart : (found : Option Evicted) → evicted ≡ found → l ≢ line →
         Coherent (told l) (copies_of (slice_set mid h cache) l) (behind_of first (written_back first lines evicted) l)
-    apart None is other = rest other (λ gone some. none_is gone (sym is ∙ some))
+    apart None is other = rest other (λ gone some. none_some (sym is ∙ some))
     apart (Some gone) is other =
         elim (cases_eq l gone.line.number) [
           | inl same ↦ left gone is same
-          | inr differs ↦ rest other (λ g some. subst (λ e. l ≢ e.line.number) (some_is gone g (sym is ∙ some)) differs)
+          | inr differs ↦
+              rest other (λ g some. subst (λ e. l ≢ e.line.number) (same_Some gone g (sym is ∙ some)) differs)
         ]
 
 -- a line that a cache has is in memory
@@ -149,18 +152,18 @@ inside_fetched need h line first lines old mid cache bytes told evicted fetch co
 
     gone_or_not : (found : Option Evicted) → evicted ≡ found →
         ((gone : Evicted) → evicted ≡ Some gone → l ≢ gone.line.number) ⊎ ((gone : Evicted) × (evicted ≡ Some gone) × (l ≡ gone.line.number))
-    gone_or_not None is = inl (λ gone some. none_is gone (sym is ∙ some))
+    gone_or_not None is = inl (λ gone some. none_some (sym is ∙ some))
     gone_or_not (Some gone) is =
         elim (cases_eq l gone.line.number) [
           | inl same ↦ inr (gone, is, same)
-          | inr differs ↦ inl (λ e some. subst (λ x. l ≢ x.line.number) (some_is gone e (sym is ∙ some)) differs)
+          | inr differs ↦ inl (λ e some. subst (λ x. l ≢ x.line.number) (same_Some gone e (sym is ∙ some)) differs)
         ]
 
     mine : g ≡ h → ((gone : Evicted) → evicted ≡ Some gone → l ≢ gone.line.number)
         ⊎ ((gone : Evicted) × (evicted ≡ Some gone) × (l ≡ gone.line.number)) → l ≢ line → IsInMemory first (length lines) l
     mine own (inl stays) other = was (fetched_rest need h line l g old mid cache bytes evicted fetch other stays)
     mine own (inr (gone, is, same)) other =
-        none_is _
+        none_some
         (sym (fetch.filled.gone gone is)
         ∙ (sym (ap (λ c. copy_in c gone.line.number) (own_new need h line old mid cache bytes evicted fetch))
         ∙ (sym (ap (λ k. copy_in (cache_at (slice_set mid h cache) k) gone.line.number) own)

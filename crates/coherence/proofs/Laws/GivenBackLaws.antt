@@ -15,10 +15,11 @@ use Rattle.coherence.proofs.FetchLaws.{other_new}
 use Rattle.coherence.proofs.Laws.Fetched.{copy_resident}
 use Rattle.coherence.proofs.Laws.GivenUp.{beyond}
 use Rattle.coherence.proofs.KeptLaws.{coherent_same_copies, same_copies_at}
-use Rattle.coherence.proofs.Laws.LineLaws.{none_is, same_line, stored}
+use Rattle.coherence.proofs.Laws.LineLaws.{same_line, stored}
 use Rattle.coherence.proofs.Laws.Owners.{copy_is}
 use Rattle.moesi.specs.Letters.{may_write}
 use Rattle.moesi.specs.declared.letter.Letter.TheVariants.{M}
+use Rattle.el_base.proofs.Laws.Cases.{none_some}
 
 -- the bytes of a line whose copy was kept are those that it had
 pub kept_bytes : (bytes : List ℕ) (copies : ℕ → Option Copy) (behind : List ℕ) (h : ℕ) (copy : Option Copy) → Coherent bytes copies behind →
@@ -31,7 +32,7 @@ only_inside : (caches : List Cached) (h line : ℕ) (was : Copy) → copy_in (ca
 only_inside caches h line was there =
     elim (cases_lt h (length caches)) [
       | inl inside ↦ inside
-      | inr outside ↦ none_is was (sym (ap (λ c. copy_in c line) (beyond caches h outside)) ∙ there)
+      | inr outside ↦ none_some (sym (ap (λ c. copy_in c line) (beyond caches h outside)) ∙ there)
     ]
 
 -- each line of memory

@@ -1,12 +1,14 @@
 -- what becomes of one line keeps its copies and main memory telling one thing
 use Rattle.std.proofs.Common.{◌≡◌, ◌≢◌, ◌∙◌, ℕ, Bool, true, false, List, Option, None, Some, option_map, refl, ap, sym, inl, inr, if◌then◌else◌}
 use Rattle.std.proofs.lemmas.Bool.{cases_eq}
+use Rattle.std.proofs.lemmas.Option.{same_Some}
 use Rattle.cache_sets.specs.Cached.{Copy, copy_with_letter}
 use Rattle.coherence.specs.Line.{Coherent, InCopy, InMemory, IsClean, IsFound}
 use Rattle.moesi.specs.Letters.{filled_of, is_dirty, may_write, on_read_of}
 use Rattle.moesi.specs.declared.letter.Letter.{Letter}
 use Rattle.moesi.specs.declared.letter.Letter.TheVariants.{M, O, E, S, I}
 use Rattle.el_base.specs.declared.outcomes.Need.TheVariants.{Read}
+use Rattle.el_base.proofs.Laws.Cases.{none_some, not_both}
 
 -- the bytes that are found are those of the line
 pub found_bytes : (bytes : List ℕ) (copies : ℕ → Option Copy) (behind found : List ℕ) → Coherent bytes copies behind →
@@ -14,28 +16,19 @@ pub found_bytes : (bytes : List ℕ) (copies : ℕ → Option Copy) (behind foun
 found_bytes bytes copies behind found coherent (InCopy h copy there is) = sym is ∙ coherent.same h copy there
 found_bytes bytes copies behind found coherent (InMemory clean is) = sym is ∙ coherent.memory clean
 
-pub some_is : {A : Type 0} (x y : A) → Some x ≡ Some y → x ≡ y
-some_is x y same = cc
-
-pub none_is : {A : Type 0} {X : Type 0} (x : A) → None ≡ Some x → X
-none_is x same = absurd (cc)
-
 -- a write was served: the hart has the only copy
 pub write_served : (bytes : List ℕ) (behind : List ℕ) (h : ℕ) (new : ℕ → Option Copy) (own : Copy) →
     new h ≡ Some own → own.letter ≡ M → own.bytes ≡ bytes → ((g : ℕ) → g ≢ h → new g ≡ None) → Coherent bytes new behind
 write_served bytes behind h new own here letter has others = record {
-  same = λ g copy there. ap (λ c. c.bytes) (some_is copy own (sym there ∙ (ap new (only g copy there) ∙ here))) ∙ has;
+  same = λ g copy there. ap (λ c. c.bytes) (same_Some copy own (sym there ∙ (ap new (only g copy there) ∙ here))) ∙ has;
   alone = λ f g one other first second may. only f one first ∙ sym (only g other second);
   owner = λ f g one other first second dirty dirty'. only f one first ∙ sym (only g other second);
-  memory = λ clean. absurd (not_both (is_dirty own.letter) (clean h own here) (ap is_dirty letter));
+  memory = λ clean. not_both (ap is_dirty letter) (clean h own here);
 }
   where
     only : (g : ℕ) (copy : Copy) → new g ≡ Some copy → g ≡ h
     only g copy there =
-        elim (cases_eq g h) [ inl same ↦ same | inr other ↦ none_is copy (sym (others g other) ∙ there) ]
-
-    not_both : (b : Bool) → b ≡ false → b ≡ true → ⊥
-    not_both b no_ yes_ = absurd (cc)
+        elim (cases_eq g h) [ inl same ↦ same | inr other ↦ none_some (sym (others g other) ∙ there) ]
 
 -- a read was served to a hart that had no copy
 pub record IsRead (h : ℕ) (bytes : List ℕ) (shared : Bool) (old new : ℕ → Option Copy) : Type 0 where
@@ -56,13 +49,13 @@ after_read : (h : ℕ) (bytes : List ℕ) (shared : Bool) (old new : ℕ → Opt
     (g : ℕ) (copy : Copy) → new g ≡ Some copy → AfterRead h bytes shared old g copy
 after_read h bytes shared old new read g copy there =
     elim (cases_eq g h) [
-      | inl same ↦ Own same (some_is copy _ (sym there ∙ (ap new same ∙ read.here)))
+      | inl same ↦ Own same (same_Some copy _ (sym there ∙ (ap new same ∙ read.here)))
       | inr other ↦ was (old g) refl other (sym (read.others g other) ∙ there)
     ]
   where
     was : (before : Option Copy) → old g ≡ before → g ≢ h → option_map as_read before ≡ Some copy → AfterRead h bytes shared old g copy
-    was None is other same = none_is copy same
-    was (Some before) is other same = Other other before is (some_is copy (as_read before) (sym same))
+    was None is other same = none_some same
+    was (Some before) is other same = Other other before is (same_Some copy (as_read before) (sym same))
 
 -- a letter that a read has met may not be written, and main memory is behind it as before
 read_only : (letter : Letter) → may_write (on_read_of letter) ≡ true → ⊥
@@ -87,9 +80,6 @@ written_unshared : (shared : Bool) → may_write (filled_of Read shared) ≡ tru
 written_unshared true may = absurd (cc)
 written_unshared false may = refl
 
-both : {X : Type 0} (b : Bool) → b ≡ false → b ≡ true → X
-both b no_ yes_ = absurd (cc)
-
 read_same : (bytes : List ℕ) (behind : List ℕ) (h : ℕ) (shared : Bool) (old : ℕ → Option Copy) → Coherent bytes old behind →
     (g : ℕ) (copy : Copy) → AfterRead h bytes shared old g copy → copy.bytes ≡ bytes
 read_same bytes behind h shared old coherent g copy (Own same is) = ap (λ c. c.bytes) is
@@ -101,7 +91,7 @@ read_alone : (bytes : List ℕ) (h : ℕ) (shared : Bool) (old new : ℕ → Opt
     may_write one.letter ≡ true → f ≡ g
 read_alone bytes h shared old new read f g one other (Own same is) (Own same' is') may = same ∙ sym same'
 read_alone bytes h shared old new read f g one other (Own same is) (Other apart before there is') may =
-    none_is before (sym (read.unshared (written_unshared shared (sym (ap (λ c. may_write c.letter) is) ∙ may)) g) ∙ there)
+    none_some (sym (read.unshared (written_unshared shared (sym (ap (λ c. may_write c.letter) is) ∙ may)) g) ∙ there)
 read_alone bytes h shared old new read f g one other (Other apart before there is) second may =
     absurd (read_only before.letter (sym (ap (λ c. may_write c.letter) is) ∙ may))
 
@@ -109,9 +99,9 @@ read_owner : (bytes : List ℕ) (behind : List ℕ) (h : ℕ) (shared : Bool) (o
     (f g : ℕ) (one other : Copy) → AfterRead h bytes shared old f one → AfterRead h bytes shared old g other →
     is_dirty one.letter ≡ true → is_dirty other.letter ≡ true → f ≡ g
 read_owner bytes behind h shared old coherent f g one other (Own same is) second dirty dirty' =
-    both (is_dirty one.letter) (ap (λ c. is_dirty c.letter) is ∙ filled_clean shared) dirty
+    not_both dirty (ap (λ c. is_dirty c.letter) is ∙ filled_clean shared)
 read_owner bytes behind h shared old coherent f g one other (Other apart before there is) (Own same is') dirty dirty' =
-    both (is_dirty other.letter) (ap (λ c. is_dirty c.letter) is' ∙ filled_clean shared) dirty'
+    not_both dirty' (ap (λ c. is_dirty c.letter) is' ∙ filled_clean shared)
 read_owner bytes behind h shared old coherent f g one other (Other apart before there is) (Other apart' before' there' is') dirty dirty' =
     coherent.owner f g before before' there there' (was_dirty one before is dirty) (was_dirty other before' is' dirty')
   where
@@ -122,7 +112,7 @@ clean_before_read : (h : ℕ) (bytes : List ℕ) (shared : Bool) (old new : ℕ 
     IsClean old
 clean_before_read h bytes shared old new read clean g copy there =
     elim (cases_eq g h) [
-      | inl same ↦ none_is copy (sym read.absent ∙ (sym (ap old same) ∙ there))
+      | inl same ↦ none_some (sym read.absent ∙ (sym (ap old same) ∙ there))
       | inr other ↦
           sym (still_dirty copy.letter) ∙ clean g (as_read copy) (read.others g other ∙ ap (λ before. option_map as_read before) there)
     ]
@@ -151,7 +141,7 @@ was_there : (h : ℕ) (left : Copy) (old new : ℕ → Option Copy) (behind afte
     (g : ℕ) (copy : Copy) → new g ≡ Some copy → (g ≢ h) × (old g ≡ Some copy)
 was_there h left old new behind after has_left g copy there =
     elim (cases_eq g h) [
-      | inl same ↦ none_is copy (sym has_left.gone ∙ (sym (ap new same) ∙ there))
+      | inl same ↦ none_some (sym has_left.gone ∙ (sym (ap new same) ∙ there))
       | inr other ↦ (other, sym (has_left.others g other) ∙ there)
     ]
 
@@ -163,7 +153,8 @@ written_back bytes behind after h left old new coherent has_left clean false dir
     coherent.memory
     (λ g copy there.
     elim (cases_eq g h) [
-      | inl same ↦ ap (λ c. is_dirty c.letter) (some_is copy left (sym there ∙ (ap old same ∙ has_left.there))) ∙ dirty
+      | inl same ↦
+          ap (λ c. is_dirty c.letter) (same_Some copy left (sym there ∙ (ap old same ∙ has_left.there))) ∙ dirty
       | inr other ↦ clean g copy (has_left.others g other ∙ there)
     ])
 

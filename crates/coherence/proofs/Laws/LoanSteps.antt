@@ -1,5 +1,6 @@
 -- what is done to a lent cache in turn, as one change
 use Rattle.std.proofs.Common.{◌≡◌, ◌∙◌, ℕ, Bool, true, false, List, Option, Some, option_map, ap, refl, sym, if◌then◌else◌}
+use Rattle.std.proofs.lemmas.Option.{same_Some}
 use Rattle.residency.specs.Cache.{letter_of, write_bit}
 use Rattle.cache_sets.specs.Cached.{Cached, Copy, bytes_of, copy_in, copy_with_bytes, copy_with_letter}
 use Rattle.cache_sets.specs.Calls.{IsCommitted, IsLettered, IsTouched, IsWritten}
@@ -15,9 +16,6 @@ use Rattle.moesi.specs.declared.letter.Letter.TheVariants.{M}
 -- a change that leaves all copies, as of their order or bits
 pub unchanged_back : (old new : Cached) → ((l : ℕ) → copy_in new l ≡ copy_in old l) → IsGivenBack old new
 unchanged_back old new same = record { each = λ l. Kept (same l) }
-
-some_is : {A : Type 0} {x y : A} → Some x ≡ Some y → x ≡ y
-some_is same = cc
 
 copy_then : (before between after : Option Copy) → IsCopyBack before between → IsCopyBack between after → IsCopyBack before after
 copy_then before between after first (Kept same) = by first
@@ -65,7 +63,7 @@ may_still old mid line same may =
 -- the bytes of a copy
 pub bytes_is : (cached : Cached) (line : ℕ) (copy : Copy) → copy_in cached line ≡ Some copy → bytes_of cached line ≡ copy.bytes
 bytes_is cached line copy there =
-    ap (λ c. c.bytes) (some_is (sym (copy_is cached line (copy_resident cached line copy there)) ∙ there))
+    ap (λ c. c.bytes) (same_Some _ _ (sym (copy_is cached line (copy_resident cached line copy there)) ∙ there))
 
 -- before and after it the order and the bits may change
 pub stored_then_same : (old mid new : Cached) (line : ℕ) (bytes : List ℕ) → IsStoredIn old mid line bytes →

@@ -1,6 +1,7 @@
 -- the copy that main memory may be behind, where there is one
-use Rattle.std.proofs.Common.{◌≡◌, ◌∙◌, ◌<◌, ◌≤◌, arith, cond, inl, inr, ℕ, Bool, true, false, List, length, Option, None, Some, is_some, option_map, ap, refl, sym}
+use Rattle.std.proofs.Common.{◌≡◌, ◌∙◌, ◌<◌, ◌≤◌, arith, inl, inr, ℕ, Bool, true, false, List, length, Option, None, Some, is_some, option_map, ap, refl, sym}
 use Rattle.std.specs.List.{position, position_or_len}
+use Rattle.std.specs.Prelude.{nat_lt}
 use Rattle.std.proofs.lemmas.Bool.{cases_lt, ltb-false}
 use Rattle.std.proofs.lemmas.List.{get_or_past}
 use Rattle.std.proofs.lemmas.List.Sums.{fails_before_first}
@@ -15,6 +16,7 @@ use Rattle.coherence.specs.Line.{InCopy, InMemory, IsClean, IsFound}
 use Rattle.coherence.proofs.Laws.Offered.{lent_at}
 use Rattle.line_pool.specs.Pooled.{Pooled}
 use Rattle.moesi.specs.Letters.{is_dirty}
+use Rattle.el_base.proofs.Laws.Options.{cond_none}
 
 -- a copy is its letter and its bytes
 pub copy_is : (cached : Cached) (line : ℕ) → is_resident cached.residency line ≡ true →
@@ -52,13 +54,10 @@ abbrev owns : ℕ → Slotted → Bool
 owns line cache = is_dirty (letter_of cache.residency line)
 
 -- where no cache is found, none has such a copy
-at_end : {X : Type 0} (b : Bool) (x : X) → cond b (Some x) None ≡ None → b ≡ false
-at_end true x e = absurd cc
-at_end false x e = refl
-
 none_owns : (caches : List Slotted) (h line : ℕ) → position (owns line) caches ≡ None → owns line (slotted_at caches h) ≡ false
 none_owns caches h line none =
-    let past : length caches ≤ position_or_len (owns line) caches = ltb-false _ _ (at_end _ _ none) in
+    let apart = cond_none (nat_lt (position_or_len (owns line) caches) (length caches)) _ _ none in
+    let past : length caches ≤ position_or_len (owns line) caches = ltb-false _ _ apart.0 in
     elim (cases_lt h (length caches)) [
       | inl inside ↦ fails_before_first (owns line) caches h no_slotted (omega arith)
       | inr outside ↦ ap (owns line) (get_or_past caches h no_slotted outside)

@@ -10,10 +10,10 @@ use Rattle.computed_runs.proofs.Given.{event, stamp}
 use Rattle.computed_runs.proofs.Rows.ChainOfFour as chain
 use Rattle.el_model.specs.Conflicts.{retains}
 use Rattle.el_base.specs.Winners.{winner_over}
+use Rattle.el_base.proofs.Laws.Cases.{true_false}
 use Rattle.el_model.specs.Next.{next, outcomes_from, state_after}
 use Rattle.el_model.specs.State.{ModelState, head_of, is_live, numbers_of}
 use Rattle.removal_laws.specs.Laws.{closes, is_served}
-use Rattle.progress_laws.proofs.Laws.Cases.{true_false}
 
 abbrev waiting : ModelState
 waiting = state_after chain.first chain.ordering

@@ -15,10 +15,10 @@ use Rattle.el_base.specs.declared.events.Kind.TheVariants.{Deliver, Order, Serve
 use Rattle.el_base.specs.declared.outcomes.Need.TheVariants.{Read, Write}
 use Rattle.el_base.specs.declared.outcomes.Outcome.TheVariants.{Began, Blocked, Buffered, Missed, Ran}
 use Rattle.el_base.specs.declared.outcomes.Why.TheVariants.{Behind}
+use Rattle.el_base.proofs.Laws.Cases.{true_false}
 use Rattle.el_model.specs.Next.{after, next, outcomes, state_after}
 use Rattle.el_model.specs.State.{ModelState, hart_of, head_of}
 use Rattle.elf_image.specs.Program.{Program}
-use Rattle.progress_laws.proofs.Laws.Cases.{true_false}
 use Rattle.progress_laws.proofs.Laws.LineOfLeast.{line_of_least_stamp_moves_on}
 use Rattle.progress_laws.specs.LeastStamp.{LeastWaits, MovesOn, is_about}
 use Rattle.removal_laws.specs.Laws.{HasLeast, attempt_of, is_served}

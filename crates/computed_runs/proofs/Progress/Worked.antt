@@ -7,6 +7,7 @@ use Rattle.el_base.specs.declared.events.Event.{Event}
 use Rattle.el_base.specs.declared.events.Kind.TheVariants.{Step, Order, Serve, Deliver}
 use Rattle.el_base.specs.declared.outcomes.Outcome.TheVariants.{Blocked}
 use Rattle.el_base.specs.declared.outcomes.Why.TheVariants.{Retained}
+use Rattle.el_base.proofs.Laws.Cases.{true_false}
 use Rattle.el_model.specs.Next.{has_stopped, is_over, next, state_after}
 use Rattle.el_model.specs.State.{ModelState, hart_of, head_of}
 use Rattle.computed_runs.proofs.Computing.{computing}
@@ -16,7 +17,6 @@ use Rattle.computed_runs.proofs.Rows.Given.{machine_of, settings, store_word, us
 use Rattle.mail.specs.Mailbox.{Marker, Probe}
 use Rattle.progress_laws.specs.Ready.{gets_on, is_progress, ready_event}
 use Rattle.rv_flat.specs.FlatState.{status_of}
-use Rattle.progress_laws.proofs.Laws.Cases.{true_false}
 
 -- four harts in lock removal: hart 1 has written a line in its section, and harts 2, 3 and 0 wait for it in this order, each with a
 -- marker of the one before it

@@ -7,15 +7,15 @@ use Rattle.el_base.specs.declared.events.Kind.TheVariants.{Deliver, Serve}
 use Rattle.el_base.specs.declared.outcomes.Need.TheVariants.{Write}
 use Rattle.computed_runs.proofs.Computing.{computing}
 use Rattle.computed_runs.proofs.Given.{event, request, stamp}
-use Rattle.el_model.proofs.Laws.Losing.{no_section_meets}
 use Rattle.computed_runs.proofs.Rows.ChainOfFour.{first, ordering}
 use Rattle.el_model.specs.Conflicts.{retains}
 use Rattle.el_base.specs.Winners.{winner_over}
+use Rattle.el_base.proofs.Laws.Cases.{some_none}
+use Rattle.el_base.proofs.Laws.Tests.{false_between as no_section_meets}
 use Rattle.el_model.specs.Next.{next, state_after}
 use Rattle.el_model.specs.State.{ModelState, hart_of, is_live}
 use Rattle.mail.specs.Mailbox.{Marker, Probe, has_message}
 use Rattle.removal_laws.specs.Laws.{IsDelivered, LosesToEarlier, WaitsWithLeast, attempt_of}
-use Rattle.section_laws.proofs.Laws.Bits.{some_none}
 use Rattle.stamp.specs.Stamps.{Stamp, is_before, less_of}
 
 -- all three have ordered their requests, and no message is delivered yet

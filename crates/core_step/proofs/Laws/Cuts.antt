@@ -4,6 +4,7 @@ use Rattle.std.proofs.Math.Arith.{mod-mul}
 use Rattle.std.proofs.Math.Nat.{div-div-eq-div-mul, pow-suc}
 use Rattle.rv_alu.specs.Footprint.{IsSize}
 use Rattle.rv_alu.specs.Loaded.{loaded}
+use Rattle.el_base.proofs.Laws.Tests.{pow_256_pos}
 
 -- a shift by whole bytes
 power : (place : ℕ) → place ≤ 4 → 2 ^ (8 * place) ≡ 256 ^ place
@@ -16,10 +17,6 @@ power (suc (suc (suc (suc (suc n))))) h = absurd (omega arith)
 
 pub byte_shift : (shift place : ℕ) → place ≤ 4 → shift ≡ 8 * place → 2 ^ shift ≡ 256 ^ place
 byte_shift shift place h is = ap (λ n. 2 ^ n) is ∙ power place h
-
-some_bytes : (n : ℕ) → zero < 256 ^ n
-some_bytes zero = omega arith
-some_bytes (suc n) = let more : zero < 256 ^ n = some_bytes n in rw pow-suc (omega arith)
 
 -- bytes from an address on, so many
 abbrev AreBytes : (ℕ → ℕ) → ℕ → ℕ → Type 0
@@ -37,7 +34,7 @@ loaded-low byte start (suc len) (suc n) bytes h =
     let rest : ℕ = loaded byte (start + 1) n in
     let low : rest % 256 ^ len ≡ loaded byte (start + 1) len = loaded-low byte (start + 1) len n (bytes-rest byte start n bytes) (omega arith) in
     let split : (byte start + 256 * rest) % (256 ^ len * 256) ≡ (byte start + 256 * rest) / 256 % 256 ^ len * 256 + (byte start + 256 * rest) % 256 =
-    mod-mul (byte start + 256 * rest) (some_bytes len) (lit< tt) in
+    mod-mul (byte start + 256 * rest) (pow_256_pos len) (lit< tt) in
     let over : (byte start + 256 * rest) / 256 ≡ rest = omega arith in
     let under : (byte start + 256 * rest) % 256 ≡ byte start = omega arith in
     ap (λ power. (byte start + 256 * rest) % power) (pow-suc 256 len) ∙ split

@@ -2,12 +2,7 @@
 use Rattle.std.proofs.Common.{◌≡◌, ◌≢◌, ℕ, ◌==◌, Bool, true, false, cond, List, [], ◌∷◌, refl, ap, sym, ◌∙◌, arith}
 use Rattle.std.proofs.lemmas.Bool.Decides.{nat_tests}
 use Rattle.defer_list.specs.HartSet.{has, included, excluded}
-
-own_test : (a : ℕ) → (a == a) ≡ true
-own_test a = grind (arith, nat_tests)
-
-other_test : (a b : ℕ) → a ≢ b → (a == b) ≡ false
-other_test a b differ = grind (arith, nat_tests)
+use Rattle.el_base.proofs.Laws.Tests.{other_test, own_test}
 
 pub has_included_own : (harts : List ℕ) (hart : ℕ) → has (included harts hart) hart ≡ true
 has_included_own harts hart = step (has harts hart) refl

@@ -1,14 +1,11 @@
 -- The order of the harts that an event let go, hart by hart.
 use Rattle.std.specs.List.{flat_map, range_with_len}
-use Rattle.std.proofs.Common.{◌≡◌, ℕ, ◌+◌, List, [], ◌∷◌, ◌++◌, length, replicate, append-nil, length-append, refl, ap, ◌∙◌, zero, suc, arith}
+use Rattle.std.proofs.Common.{◌≡◌, ℕ, ◌+◌, List, [], ◌∷◌, ◌++◌, length, replicate, append-nil, length-append, refl, ap, ◌∙◌, suc, arith}
 use Rattle.std.proofs.lemmas.Grind.{flat_map-append}
 use Rattle.std.proofs.lemmas.List.{length-replicate}
 use Rattle.el_base.specs.Freed.{count_in, no_one_freed, order_below, order_of}
 use Rattle.el_base.specs.declared.freed.Freed.{Freed}
-
-range_more : (from n end : ℕ) → end ≡ from + n → range_with_len from (suc n) ≡ range_with_len from n ++ end ∷ []
-range_more from zero end is = ap (λ (m : ℕ). m ∷ []) (omega (arith, is))
-range_more from (suc n) end is = ap (λ (l : List ℕ). from ∷ l) (range_more (from + 1) n end (omega (arith, is)))
+use Rattle.el_base.proofs.Laws.ListLaws.{range_more}
 
 -- one hart more
 pub order_below-more : (n : ℕ) (freed : Freed) →

@@ -2,6 +2,7 @@
 use Rattle.std.proofs.Common.{◌≡◌, ℕ, zero, suc, ◌+◌, ◌<◌, ◌≤◌, ◌==◌, nat_lt, Bool, true, false, not, cond, List, [], ◌∷◌, ◌++◌, length, map, reverse, take, drop, None, Some, refl, ap, sym, ◌∙◌, le_refl, arith}
 use Rattle.std.proofs.Common.{◌⊎◌, inl, inr, get_or}
 use Rattle.std.specs.List.{find, filter, list_any, count_by, prefix_len, position, position_or_len, slice_get, insert, remove}
+use Rattle.std.specs.List.{range_with_len}
 use Rattle.std.specs.Option.{option_map, unwrap_or}
 use Rattle.std.proofs.lemmas.List.{reverse-append}
 use Rattle.std.proofs.lemmas.List.Sums.{sum_by-cons, prefix_len-le-length}
@@ -13,6 +14,11 @@ use Rattle.std.proofs.Math.Seq.{drop-cons}
 pub choice_of_images : {A B : Type 0} (h : A → B) (b : Bool) (x y : A) → cond b (h x) (h y) ≡ h (cond b x y)
 choice_of_images h true x y = refl
 choice_of_images h false x y = refl
+
+-- one number more at the end
+pub range_more : (from n end : ℕ) → end ≡ from + n → range_with_len from (suc n) ≡ range_with_len from n ++ end ∷ []
+range_more from zero end is = ap (λ (m : ℕ). m ∷ []) (omega (arith, is))
+range_more from (suc n) end is = ap (λ (l : List ℕ). from ∷ l) (range_more (from + 1) n end (omega (arith, is)))
 
 -- there is nothing past the end
 pub nothing_past : {X : Type 0} (xs : List X) (i : ℕ) → length xs ≤ i → slice_get xs i ≡ None

@@ -3,9 +3,9 @@ use Rattle.std.proofs.Common.{◌≡◌, ◌≢◌, ◌∙◌, ℕ, suc, ◌+◌
 use Rattle.std.proofs.Common.{Option, None, Some, is_some, length}
 use Rattle.std.proofs.Common.{map, filter, refl, ap, sym, subst, arith, if◌then◌else◌}
 use Rattle.std.specs.Prelude.{nat_lt}
-use Rattle.std.proofs.lemmas.Bool.{ltb-true, ltb-false}
+use Rattle.std.proofs.lemmas.Bool.{ltb-true, ltb-false, not-true}
+use Rattle.std.proofs.lemmas.Option.{same_Some}
 use Rattle.bus_order.specs.Order.{Request, tail_of}
-use Rattle.bus_order.proofs.Laws.LookUps.{number_of_test, other_test, own_test}
 use Rattle.defer_list.specs.HartSet.{has, included}
 use Rattle.el_base.proofs.Laws.MadeLosers.{unnamed_by_map}
 use Rattle.chronicle.specs.Serial.{taking_effect}
@@ -19,6 +19,8 @@ use Rattle.el_base.specs.declared.events.Event.{Event}
 use Rattle.el_base.specs.declared.events.Kind.{Kind}
 use Rattle.el_base.specs.declared.events.Kind.TheVariants as kinds
 use Rattle.el_base.specs.declared.outcomes.Outcome.TheVariants.{Delivered, Ordered, Served}
+use Rattle.el_base.proofs.Laws.Cases.{none_some}
+use Rattle.el_base.proofs.Laws.Tests.{apart_by_test, number_of_test, other_test, own_test}
 use Rattle.el_model.specs.BusEvent.{AtFace, AtProbe, Becomes, Forwards, IsAbsent, IsAnswered, IsBehind, IsBusEvent, IsDeferred, IsForwarded, IsLetGo, IsOfBus}
 use Rattle.el_model.specs.BusEvent.{IsPassed, IsPosted, IsSent, IsToldOn, LosesIt, MayPlace, MayServe, Nothing, Places, Sees, Serves, Start}
 use Rattle.el_model.specs.BusEvent.{Starts, Takes, TellsOn, as_faced, as_met, faced_head, freed_in, having_taken, started}
@@ -43,12 +45,6 @@ use Rattle.mail.specs.Mailbox.{Message, Marker, Probe, posted}
 use Rattle.rv_flat.specs.FlatState.{view_of}
 use Rattle.rv_flat.specs.Run.{run}
 use Rattle.stamp.specs.Stamps.{is_before}
-
-none_some : {A X : Type 0} {x : A} → None ≡ Some x → X
-none_some wrong = absurd (cc)
-
-some_same : {A : Type 0} {x y : A} → Some x ≡ Some y → x ≡ y
-some_same same = cc
 
 module _ (state : ModelState) (by : ℕ) (start : Start) where
   -- a hart that has lost nothing so far
@@ -275,9 +271,9 @@ module _ (state : ModelState) (by : ℕ) (request : Request) where
   placed_faced : (place : Place) (head : Request) → faced_head state (Places request place) ≡ Some head →
       placed state request place ≡ met (before_face state request place) head
   unfolding placed
-  placed_faced InFront head is = ap (met (before_face state request InFront)) (some_same is)
+  placed_faced InFront head is = ap (met (before_face state request InFront)) (same_Some _ _ is)
   placed_faced Behind head is = absurd (cc)
-  placed_faced Alone head is = ap (met (before_face state request Alone)) (some_same is)
+  placed_faced Alone head is = ap (met (before_face state request Alone)) (same_Some _ _ is)
 
   placed_freed : (place : Place) → freed_at state request place ≡ freed_in state by (Places request place)
   placed_freed InFront = refl
@@ -364,7 +360,7 @@ serve_event state by request may (Some head) is =
       becomes = faced_becomes state by (Serves request) head is (served_started state by request);
       of_bus = tt;
       names = λ h. refl;
-      faces = λ found is_found. ap (met after) (some_same (sym is ∙ is_found));
+      faces = λ found is_found. ap (met after) (same_Some _ _ (sym is ∙ is_found));
       order = met_order after (Some head) ∙ served_order state request;
       config = frame.config;
       committed =
@@ -404,13 +400,6 @@ ordered_event state by (Some request) is = past_event state by request is (obsta
 both_true : {X : Type 0} (a b : Bool) → (a && b) ≡ true → (a ≡ true → b ≡ true → X) → X
 both_true true b is use_both = use_both refl is
 both_true false b is use_both = absurd (cc)
-
-not_true : (a : Bool) → not a ≡ true → a ≡ false
-not_true false is = refl
-not_true true is = absurd (cc)
-
-apart_by_test : (g h : ℕ) → (g == h) ≡ false → g ≢ h
-apart_by_test g h test same = let e = sym test ∙ ap (λ k. k == h) same ∙ own_test h in absurd (cc)
 
 is_there : {A : Type 0} (found : Option A) → is_some found ≡ true → (x : A) × (found ≡ Some x)
 is_there None is = absurd (cc)
@@ -498,7 +487,7 @@ module _ (state : ModelState) (by sender : ℕ) (others : List Message) (mail_is
         own = own;
         own_is = own_is;
         exists = below;
-        apart = apart_by_test origin sender (not_true (origin == sender) apart);
+        apart = apart_by_test origin sender (not-true (origin == sender) apart);
         told = sym (ap (λ told. has told origin) (taken_same state by (Marker sender) others mail_is (λ hart. hart.told) refl by)) ∙ told;
         waits = waits;
       }))
@@ -601,7 +590,7 @@ module _ (state : ModelState) (by origin : ℕ) (others : List Message) (mail_is
         new = new;
         request = request;
         waits = is;
-        apart = apart_by_test h origin (not_true (h == origin) apart);
+        apart = apart_by_test h origin (not-true (h == origin) apart);
         before = sym (ap (λ upstream. has upstream h) (taken_same state by (Probe origin) others mail_is (λ hart. hart.upstream) refl by)) ∙ before;
         own = own;
       }))

@@ -1,11 +1,14 @@
 -- a step is one deed of its hart, in the frame
 use Rattle.std.proofs.Common.{◌≡◌, ◌≢◌, ◌∙◌, ℕ, zero, suc, Bool, true, false, not, List, [], ◌∷◌, Option, None, Some, is_some, refl, ap, sym, inl, inr, if◌then◌else◌, ◌==◌, ◌&&◌}
 use Rattle.std.specs.Prelude.{◌⊎◌, slice_index_or, slice_set}
+use Rattle.std.proofs.lemmas.Option.{same_Some}
+use Rattle.std.proofs.lemmas.Bool.{and_parts, not-false, not-true}
 use Rattle.residency.specs.Cache.{letter_of, room_of}
 use Rattle.el_base.specs.Line.{line_number}
 use Rattle.el_base.specs.declared.outcomes.Cause.{Cause}
 use Rattle.el_base.specs.declared.outcomes.Cause.TheVariants.{Room, Lines, Long, Call, Mixed}
 use Rattle.el_base.specs.declared.outcomes.Need.TheVariants as needs
+use Rattle.el_base.proofs.Laws.Cases.{none_some}
 use Rattle.el_model.specs.Armed as rules
 use Rattle.el_model.specs.Armed.{ArmedRule, armed_turn, by_armed_rule, completes, exchange_rule, is_quiet, may_grow, quiet_rule, shown_armed}
 use Rattle.el_model.specs.Conflicts.{is_wanted_to_write}
@@ -98,14 +101,6 @@ begins : (state : ModelState) (h : ℕ) (swap : Swap) → deeds.MayBegin state h
 unfolding by_plain_rule
 begins state h swap may = record { deed = deeds.Begins swap; where_it = may; turn_is = refl }
 
-not_true : (b : Bool) → not b ≡ true → b ≡ false
-not_true true is = absurd (cc)
-not_true false is = refl
-
-not_false : (b : Bool) → not b ≡ false → b ≡ true
-not_false true is = refl
-not_false false is = absurd (cc)
-
 -- the swap that may be elided is one
 elidable_is : (state : ModelState) (h : ℕ) (swap : Swap) (trusted : Bool) →
     may_elide state.config.mode (hart_of state h) (view_of state.committed h).pc ≡ trusted →
@@ -145,12 +140,6 @@ swap_reserves_not state h word swap elidable reserving =
     true_false : true ≡ false → ⊥
     true_false same = absurd (cc)
 
-none_some : {A : Type 0} {x : A} → None ≡ Some x → ⊥
-none_some same = absurd (cc)
-
-some_same : {A : Type 0} {x y : A} → Some x ≡ Some y → x ≡ y
-some_same is = cc
-
 arms : (state : ModelState) (h word : ℕ) → deeds.MayArm state h word → Outside state h (outside.Arms word)
 unfolding by_plain_rule
 arms state h word may = record { deed = deeds.Arms word; where_it = may; turn_is = refl }
@@ -174,7 +163,7 @@ reserve_deed state h out unelided (Some word) is =
       unelided = unelided;
       unarming =
           λ other is_other.
-          ap (is_open state h) (some_same (sym (reserving_found state h other is_other) ∙ is)) ∙ closed;
+          ap (is_open state h) (same_Some _ _ (sym (reserving_found state h other is_other) ∙ is)) ∙ closed;
     })
     (next_touch state.committed h) refl)
 
@@ -187,13 +176,13 @@ swap_deed state h out (Some swap) is =
     let elidable = elidable_is state h swap _ refl is in
     let line = line_number swap.word in
     by_test (Outside state h) (not (may_read (letter_of (cache_of state h) line))) (outside.Misses line needs.Read) _
-    (λ refused. acquire_misses state h swap out elidable (inl (not_true _ refused)))
+    (λ refused. acquire_misses state h swap out elidable (inl (not-true _ refused)))
     (λ readable.
     by_test (Outside state h) (not (changes_word swap)) (outside.touch_rule state h (next_touch state.committed h)) _
     (λ same.
     touch_deed state h out
     (record {
-      unelided = λ other is_other. ap changes_word (some_same (sym (elidable_found state h other is_other) ∙ is)) ∙ not_true _ same;
+      unelided = λ other is_other. ap changes_word (same_Some _ _ (sym (elidable_found state h other is_other) ∙ is)) ∙ not-true _ same;
       unarming = λ word reserving. absurd (swap_reserves_not state h word swap elidable reserving);
     })
     (next_touch state.committed h) refl)
@@ -205,8 +194,8 @@ swap_deed state h out (Some swap) is =
     (record {
       outside = out;
       elidable = elidable;
-      changes = not_false _ changes;
-      readable = not_false _ readable;
+      changes = not-false _ changes;
+      readable = not-false _ readable;
       unwanted = unwanted;
     }))))
 
@@ -231,10 +220,6 @@ elides : (state : ModelState) (h : ℕ) (armed : Armed) (swap : Swap) → deeds.
 unfolding by_armed_rule
 elides state h armed swap may = record { deed = deeds.Elides armed swap; where_it = may; turn_is = refl }
 
-both_true : (left right : Bool) → (left && right) ≡ true → (left ≡ true) × (right ≡ true)
-both_true true right is = (refl, is)
-both_true false right is = absurd (cc)
-
 -- an SC that succeeds is not quiet
 conditional_is_loud : (a b c d : Bool) → b ≡ true → ((not a && not b && not c) && d) ≡ false
 conditional_is_loud true true c d is = refl
@@ -247,7 +232,7 @@ quiet_deed state h armed is none =
     let shown = shown_armed state h armed in
     by_test (WhileArmed state h armed) (is_quiet shown h && may_grow state armed) rules.Continues rules.LetsGo
     (λ both.
-    let parts = both_true _ _ both in
+    let parts = and_parts _ _ both in
     continues state h armed (record { is_armed = is; quiet = parts.0; grows = parts.1 }))
     (λ ends.
     lets_go state h armed
@@ -264,7 +249,7 @@ exchange_deed state h armed is (Some swap) found =
     lets_go state h armed
     (record {
       is_armed = is;
-      incomplete = λ other next. ap (completes state h armed) (some_same (sym next ∙ found)) ∙ incomplete;
+      incomplete = λ other next. ap (completes state h armed) (same_Some _ _ (sym next ∙ found)) ∙ incomplete;
       ends =
           conditional_is_loud (is_some (next_touch shown h)) (is_store_conditional (next_insn shown h)) (calls_or_stops shown h)
           (may_grow state armed) (chosen (is_store_conditional (next_insn shown h)) _ swap found);
@@ -319,9 +304,9 @@ bit_deed state h section touch goes is =
     (λ full. rolls_back state h section Lines (record { touch = touch; wants = wants; full = full }))
     (λ not_full.
     by_test (Inside state h section) (not (room_of state.config.ways (cache_of state h) touch.line)) (inside.RollsBack Room) _
-    (λ no_room. rolls_back state h section Room (record { touch = touch; wants = wants; no_room = not_true _ no_room }))
+    (λ no_room. rolls_back state h section Room (record { touch = touch; wants = wants; no_room = not-true _ no_room }))
     (λ has_room.
-    let room : HasRoom state h section touch = record { wants = wants; not_full = not_full; room = not_false _ has_room } in
+    let room : HasRoom state h section touch = record { wants = wants; not_full = not_full; room = not-false _ has_room } in
     by_test (Inside state h section) (is_refused state h touch) (inside.Misses touch.line touch.need) (inside.Buffers (Some touch))
     (λ refused. misses_inside state h section touch room refused)
     (λ granted.

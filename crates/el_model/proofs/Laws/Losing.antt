@@ -7,6 +7,7 @@ use Rattle.bus_order.specs.Order.{Request}
 use Rattle.defer_list.specs.HartSet.{has}
 use Rattle.el_base.specs.declared.config.Mode.{Mode}
 use Rattle.el_base.specs.declared.config.Mode.TheVariants.{Plain, Sle, Tlr}
+use Rattle.el_base.proofs.Laws.Tests.{false_between}
 use Rattle.el_model.specs.Conflicts.{conflicts, earlier, least_such, meets_bit, stamp_in, told_winner, wins_over}
 use Rattle.el_model.specs.Face.{Fate, LosesTo, Unmet, deferring_fate, fate_of, told_fate, winner_in}
 use Rattle.el_model.specs.Losses.{Standing, lost_in, standing_of}
@@ -46,16 +47,12 @@ own_is_unmet state head h hart own =
     let same : (head.hart == h) ≡ true = grind arith in
     unmet_if state head h hart _ (rw same refl)
 
-pub no_section_meets : (other meets : Bool) → ((other && false) && meets) ≡ false
-no_section_meets true meets = refl
-no_section_meets false meets = refl
-
 pub outside_is_unmet : (state : ModelState) (head : Request) (h : ℕ) (hart : Hart) → hart.section ≡ None →
     fate_of state head h hart ≡ Unmet
 outside_is_unmet state head h hart none =
     unmet_if state head h hart _
     (ap (λ section. (not (head.hart == h) && is_some section) && meets_bit hart head.line head.need) none
-    ∙ no_section_meets (not (head.hart == h)) (meets_bit hart head.line head.need))
+    ∙ false_between (not (head.hart == h)) (meets_bit hart head.line head.need))
 
 -- the hart that wins over a told section is one of the machine's
 earlier_below : (stamp : ℕ → Option Stamp) (limit origin : ℕ) (other : Option ℕ) → origin < limit → IfSome other (λ o. o < limit) →

@@ -8,6 +8,7 @@ use Rattle.el_base.proofs.Laws.MadeLosers.{beaten_by-losers_of, unnamed_by_map}
 use Rattle.el_base.specs.Winners.{winner_over}
 use Rattle.el_base.specs.declared.events.Event.{Event}
 use Rattle.el_base.specs.declared.events.Kind.TheVariants as kinds
+use Rattle.el_base.proofs.Laws.Tests.{false_between}
 use Rattle.el_model.specs.BusEvent.{AtFace, AtProbe, Becomes, IsAbsent, IsBusEvent, IsLetGo, IsSent, LosesIt, LosesWhere, Nothing, Places, Sees, Serves, Start, Starts, StartsWhere, Takes}
 use Rattle.el_model.specs.BusEvent.{as_faced, faced_head, having_taken, started}
 use Rattle.el_model.specs.Conflicts.{conflicts_with, meets_bit}
@@ -19,7 +20,7 @@ use Rattle.el_model.specs.Order.{Alone, Behind, InFront}
 use Rattle.el_model.specs.Serve.{bystander, served_hart, with_claim}
 use Rattle.el_model.specs.State.{Hart, ModelState, Turn, hart_of, head_of, section_of}
 use Rattle.el_model.proofs.Laws.BusEvents.{bus_events_are_told_once, frame_as_faced, freed_becomes_at}
-use Rattle.el_model.proofs.Laws.Losing.{beaten_stands, fate_below, no_section_meets, outside_is_unmet}
+use Rattle.el_model.proofs.Laws.Losing.{beaten_stands, fate_below, outside_is_unmet}
 use Rattle.el_model.proofs.Laws.Orders.{served_order}
 use Rattle.el_model.proofs.Laws.Tests.{by_test}
 use Rattle.mail.specs.Mailbox.{Marker, Message, Probe}
@@ -153,7 +154,7 @@ no_loss state h request none loses =
     conflicts_not None h hart none = refl
     conflicts_not (Some head) h hart none =
         ap (λ section. (not (head.hart == h) && is_some section) && meets_bit hart head.line head.need) none
-        ∙ no_section_meets (not (head.hart == h)) (meets_bit hart head.line head.need)
+        ∙ false_between (not (head.hart == h)) (meets_bit hart head.line head.need)
 
 pub loser_lives : (state : ModelState) (by : ℕ) {start : Start} {h winner : ℕ} {stamp : Option Stamp} →
     LosesWhere state by start h winner stamp →

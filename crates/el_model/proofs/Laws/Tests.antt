@@ -1,6 +1,6 @@
 -- how a choice by a test is taken apart
 use Rattle.std.proofs.Common.{◌≡◌, ◌≢◌, ◌∙◌, ◌==◌, ℕ, Bool, true, false, refl, sym, ap, if◌then◌else◌}
-use Rattle.bus_order.proofs.Laws.LookUps.{number_of_test, own_test}
+use Rattle.el_base.proofs.Laws.Tests.{number_of_test, own_test}
 
 -- what holds of both branches, each where its test says so, holds of the choice
 pub by_test : {A : Type 0} (P : A → Type 0) (test : Bool) (x y : A) → (test ≡ true → P x) → (test ≡ false → P y) →

@@ -1,15 +1,16 @@
 -- an action that is a swap, a store conditional that succeeds, or a load reserved
 use Rattle.std.proofs.Common.{◌≡◌, ◌∙◌, ℕ, ◌%◌, ◌≤◌, Bool, true, false, Option, Some, None, refl, ap, sym, subst}
 use Rattle.std.specs.Prelude.{if◌then◌else◌}
+use Rattle.std.proofs.lemmas.Option.{same_Some}
 use Rattle.residency.specs.Cache.{is_resident}
 use Rattle.cache_sets.specs.Cached.{Cached}
 use Rattle.cached_step.specs.CacheRun.{permitted}
 use Rattle.coherence.proofs.Laws.GivenBackLaws.{writable_there}
-use Rattle.coherence.proofs.Laws.LineLaws.{none_is, some_is}
 use Rattle.core_step.proofs.Laws.Runs.{is_permitted}
 use Rattle.core_step.specs.Run.{IsAligned, lacking}
 use Rattle.el_base.specs.Line.{line_number}
 use Rattle.el_base.specs.declared.outcomes.Need.TheVariants.{Write}
+use Rattle.el_base.proofs.Laws.Cases.{none_some}
 use Rattle.el_model.specs.Upcoming.{Swap, is_swap_op, touch_of}
 use Rattle.engine.proofs.PlainRules.{TouchesWord}
 use Rattle.rv_alu.specs.Footprint.{IsInPlace, footprint}
@@ -39,10 +40,10 @@ swap_action byte (actions.Amo op rd address source) swap is =
       op = op;
       rd = rd;
       source = source;
-      is = ap (λ a. actions.Amo op rd a source) (sym word ∙ ap (λ s. s.word) (some_is found swap same));
+      is = ap (λ a. actions.Amo op rd a source) (sym word ∙ ap (λ s. s.word) (same_Some found swap same));
     }
-    by false found word same = none_is swap same
-swap_action byte _ swap is = none_is swap is
+    by false found word same = none_some same
+swap_action byte _ swap is = none_some is
 
 -- it is a store conditional to the exchange's word
 pub record IsConditionalOf (action : Action) (swap : Swap) : Type 0 where
@@ -51,9 +52,9 @@ pub record IsConditionalOf (action : Action) (swap : Swap) : Type 0 where
 
 pub conditional_action : (byte : ℕ → ℕ) (action : Action) (swap : Swap) → conditional_by byte action ≡ Some swap → IsConditionalOf action swap
 conditional_action byte (actions.StoreConditional rd address value) swap is =
-    let same = some_is (record { word = address; old = loaded byte address 4; new = value }) swap is in
+    let same = same_Some (record { word = address; old = loaded byte address 4; new = value }) swap is in
     record { rd = rd; is = ap (λ s. actions.StoreConditional rd s.word s.new) same }
-conditional_action byte _ swap is = none_is swap is
+conditional_action byte _ swap is = none_some is
 
 -- it is a load reserved of the word
 pub record IsReserveOf (action : Action) (word : ℕ) : Type 0 where
@@ -61,13 +62,13 @@ pub record IsReserveOf (action : Action) (word : ℕ) : Type 0 where
   pub is : action ≡ actions.LoadReserved rd word
 
 pub reserve_action : (action : Action) (word : ℕ) → reserved_by action ≡ Some word → IsReserveOf action word
-reserve_action (actions.LoadReserved rd address) word is = record { rd = rd; is = ap (actions.LoadReserved rd) (some_is address word is) }
-reserve_action _ word is = none_is word is
+reserve_action (actions.LoadReserved rd address) word is = record { rd = rd; is = ap (actions.LoadReserved rd) (same_Some address word is) }
+reserve_action _ word is = none_some is
 
 pub same_reserve : (action : Action) (word : ℕ) (rd : Reg) (address : ℕ) → IsReserveOf action word →
     action ≡ actions.LoadReserved rd address → actions.LoadReserved rd word ≡ action
 same_reserve action word rd address of is =
-    ap (actions.LoadReserved rd) (sym (some_is address word (ap reserved_by (sym is ∙ of.is)))) ∙ sym is
+    ap (actions.LoadReserved rd) (sym (same_Some address word (ap reserved_by (sym is ∙ of.is)))) ∙ sym is
 
 -- what a swap touches is its word's line
 pub touches_word : (byte : ℕ → ℕ) (action : Action) (swap : Option Swap) → swap_by byte action ≡ swap →
@@ -89,7 +90,7 @@ exchange_writes byte (actions.Amo op rd address source) swap is =
     ap footprint (swap_action byte (actions.Amo op rd address source) swap is).is
 exchange_writes byte (actions.StoreConditional rd address value) swap is =
     ap footprint (conditional_action byte (actions.StoreConditional rd address value) swap is).is
-exchange_writes byte _ swap is = none_is swap is
+exchange_writes byte _ swap is = none_some is
 
 -- its word lies in memory
 pub exchanged_from : (span : Span) (room : ℕ) (byte : ℕ → ℕ) (action : Action) (swap : Swap) → IsInPlace span room action →
@@ -98,7 +99,7 @@ exchanged_from span room byte (actions.Amo op rd address source) swap place is =
     (subst (IsInPlace span room) (swap_action byte (actions.Amo op rd address source) swap is).is place).from_base
 exchanged_from span room byte (actions.StoreConditional rd address value) swap place is =
     (subst (IsInPlace span room) (conditional_action byte (actions.StoreConditional rd address value) swap is).is place).from_base
-exchanged_from span room byte _ swap place is = none_is swap is
+exchanged_from span room byte _ swap place is = none_some is
 
 -- a word whose line may be written there lies on a line that is there
 pub written_there : (cache : Cached) (action : Action) (word : ℕ) → footprint action ≡ accesses.Write word 4 →

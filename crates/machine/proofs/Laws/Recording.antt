@@ -5,6 +5,7 @@ use Rattle.std.specs.Prelude.{All, IfSome}
 use Rattle.std.proofs.lemmas.Bool.{cases_lt}
 use Rattle.std.proofs.lemmas.Bool.Decides.{nat_tests}
 use Rattle.std.proofs.lemmas.List.Elements.{All-cons, All-nil}
+use Rattle.std.proofs.lemmas.Option.{same_Some}
 use Rattle.bus_order.proofs.Laws.Orders.{one_each_removed}
 use Rattle.bus_order.proofs.Laws.Queues.{request_of_first_of}
 use Rattle.bus_order.specs.Order.{IsOneEach, Request}
@@ -27,6 +28,7 @@ use Rattle.el_base.specs.declared.losers.Losers.{Losers}
 use Rattle.el_base.specs.declared.outcomes.Outcome.{Outcome}
 use Rattle.el_base.specs.declared.outcomes.Why.{Why}
 use Rattle.el_base.specs.declared.outcomes.Why.TheVariants.{Behind, Retained, Locked}
+use Rattle.el_base.proofs.Laws.Tests.{false_between, second_of_both}
 use Rattle.el_model.proofs.Laws.Deeds.{step_deed}
 use Rattle.el_model.proofs.Laws.Folds.{state_after-append}
 use Rattle.el_model.proofs.Laws.FromStart.{kept_after, next_config}
@@ -53,7 +55,6 @@ use Rattle.elf_image.specs.Program.{Program}
 use Rattle.machine.specs.Recording.{AreAmong, AreFreedAmong, CanBeRecorded, OutcomesCanBeRecorded}
 use Rattle.mail.specs.Mailbox.{Marker, Message, Probe}
 use Rattle.section_laws.proofs.Laws.ArmedCounts.{armed_sections_are_short}
-use Rattle.section_laws.proofs.Laws.Bits.{second_of_both, some_same}
 use Rattle.removal_laws.proofs.Laws.Delivering.{own_line}
 use Rattle.removal_laws.proofs.Laws.Facing.{least_passes}
 use Rattle.section_laws.proofs.Laws.Bounds.{Bounded, always_bounded}
@@ -154,7 +155,7 @@ origin_wins state h origin limit (Some request) below is loses = λ loser winner
     by loser winner (loser == h) (named_by_map (λ g. if g == h then Some origin else None) loser winner named)
   where
     by : (loser winner : ℕ) (own : Bool) → (if own then Some origin else None) ≡ Some winner → winner < limit
-    by loser winner true named = subst (λ w. w < limit) (some_same named) (below origin request is)
+    by loser winner true named = subst (λ w. w < limit) (same_Some _ _ named) (below origin request is)
     by loser winner false named = absurd (cc)
 
 message_winners : (state : ModelState) (h : ℕ) (message : Message) (limit : ℕ) → AreBelow limit state.order →
@@ -201,16 +202,12 @@ obstacle_below state request once below =
     (first_below _ limit 0 state.harts (omega arith)) tt))
 
 -- who is let go is armed, and so a hart of the machine
-unarmed_not : (one other : Bool) → ((one && false) && other) ≡ false
-unarmed_not true other = refl
-unarmed_not false other = refl
-
 none_past : (state : ModelState) (head : Request) (h : ℕ) → length state.harts ≤ h → freed_count head h (hart_of state h) ≡ 0
 none_past state head h past =
     let hart = new_hart 0 in
     ap (λ k. freed_count head h k) (hart_of-past state h past)
     ∙ ap (λ test. if test then armed_count hart.armed else 0)
-    (unarmed_not (is_write head && not (head.hart == h)) (has_bit hart.cache head.line))
+    (false_between (is_write head && not (head.hart == h)) (has_bit hart.cache head.line))
 
 freed_among : (state : ModelState) (head : Request) → AreFreedAmong (length state.harts) (freed_by state head)
 freed_among state head h past = by (cases_lt h 8)

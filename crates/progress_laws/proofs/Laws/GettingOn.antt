@@ -2,13 +2,14 @@
 use Rattle.std.proofs.Common.{◌≡◌, ◌∙◌, ℕ, ◌<◌, ◌==◌, true, false, ◌&&◌, not, ◌≢◌}
 use Rattle.std.proofs.Common.{List, ◌∷◌, Option, None, Some, is_some, length, refl, ap, sym, inl, inr, ◌⊎◌}
 use Rattle.bus_order.specs.Order.{IsOneEach, Request}
-use Rattle.bus_order.proofs.Laws.LookUps.{own_test}
 use Rattle.bus_order.proofs.Laws.Queues.{line_of_first_of, request_of_first_of}
 use Rattle.el_base.specs.declared.config.Config.{Config}
 use Rattle.el_base.specs.declared.events.Event.{Event}
 use Rattle.el_base.specs.declared.events.Kind.{Kind}
 use Rattle.el_base.specs.declared.events.Kind.TheVariants.{Step, Order, Serve, Deliver}
 use Rattle.el_base.specs.declared.outcomes.Why.TheVariants.{Behind, Retained, Locked}
+use Rattle.el_base.proofs.Laws.Cases.{some_none, true_false}
+use Rattle.el_base.proofs.Laws.Tests.{own_test, second_of_both}
 use Rattle.elf_image.specs.Program.{Program}
 use Rattle.el_model.specs.Conflicts.{holder_of, retainer_of, retains}
 use Rattle.el_model.specs.Deed.{Arms, Begins, Buffers, Commits, Continues, Deed, DoesWhere, Elides, LetsGo, Misses, Rests, RollsBack, Runs, Waits, outcome_of}
@@ -31,8 +32,6 @@ use Rattle.section_laws.proofs.Laws.FreeLines.{has_head}
 use Rattle.section_laws.proofs.Laws.Lengths.{AsMany, first_as_many, next_as_many, runs_exists}
 use Rattle.section_laws.proofs.Laws.Numbered.{one_ordered_request_each}
 use Rattle.section_laws.proofs.Laws.Waiting.{Sound, always_sound}
-use Rattle.progress_laws.proofs.Laws.Cases.{some_none, true_false}
-use Rattle.section_laws.proofs.Laws.Bits.{second_of_both}
 
 -- an event of one of the machine's harts is progress
 pub record GetsOn (state : ModelState) : Type 0 where

@@ -6,6 +6,7 @@ use Rattle.std.specs.List.{list_any}
 use Rattle.bus_order.specs.Order.{Request}
 use Rattle.el_base.specs.declared.events.Event.{Event}
 use Rattle.el_base.specs.declared.events.Kind.TheVariants as kinds
+use Rattle.el_base.proofs.Laws.Cases.{false_true, true_false}
 use Rattle.el_model.specs.Deed.{Arms, Begins, Buffers, Commits, Continues, Elides, LetsGo, Misses, Rests, RollsBack, Runs, Waits}
 use Rattle.el_model.specs.Deed.{Deed, DoesWhere, done, hart_after}
 use Rattle.el_model.specs.Next.{after, kind_turn, next}
@@ -16,7 +17,6 @@ use Rattle.el_model.proofs.Laws.Deeds.{step_deed}
 use Rattle.el_model.proofs.Laws.Harts.{hart_of-with_hart_same}
 use Rattle.mail.specs.Mailbox.{Marker, Message, Probe, has_message, same_message}
 use Rattle.mail.proofs.Laws.OnceEach.{same_is_one}
-use Rattle.progress_laws.proofs.Laws.Cases.{false_true, true_false}
 use Rattle.progress_laws.proofs.Laws.GettingOn.{Orderly, always_orderly, deed_gets_on, held_runs, holds_only}
 use Rattle.progress_laws.specs.LeastStamp.{EndsHold, LeastWaits, LineOfLeastStampMovesOn, is_about}
 use Rattle.progress_laws.specs.Ready.{is_progress}

@@ -5,6 +5,7 @@ use Rattle.el_base.specs.declared.config.Config.{Config}
 use Rattle.el_base.specs.declared.config.Mode.{Mode}
 use Rattle.el_base.specs.declared.config.Mode.TheVariants.{Plain, Sle, Tlr}
 use Rattle.el_base.specs.declared.events.Event.{Event}
+use Rattle.el_base.proofs.Laws.Cases.{false_true, none_some}
 use Rattle.elf_image.specs.Program.{Program}
 use Rattle.el_model.specs.Attempts.{opened}
 use Rattle.el_model.specs.Deed.{Arms, Begins, Buffers, Commits, Continues, Deed, DoesWhere, Elides, LetsGo, Misses, Rests, RollsBack, Runs, Waits, hart_after}
@@ -69,9 +70,6 @@ own_bus =
     attempts_kept (λ h section clock attempt. (stamp : Stamp) → attempt ≡ Some stamp → IsOwn h clock stamp)
     (record { lost = λ h section clock attempt now. now })
 
-none_some : {A X : Type 0} {x : A} → None ≡ Some x → X
-none_some wrong = absurd (cc)
-
 own_opened : (mode : Mode) (h clock : ℕ) (attempt : Option Stamp) → ((stamp : Stamp) → attempt ≡ Some stamp → IsOwn h clock stamp) →
     (stamp : Stamp) → opened mode h clock attempt ≡ Some stamp → IsOwn h clock stamp
 own_opened Tlr h clock None own stamp is =
@@ -133,13 +131,10 @@ pub record AllOpen (state : ModelState) : Type 0 where
   pub mode : state.config.mode ≡ Tlr
   pub open_each : Each Open state
 
-not_live : {X : Type 0} → false ≡ true → X
-not_live wrong = absurd (cc)
-
 open_bus : BusKept Open
 open_bus =
     attempts_kept (λ h section clock attempt. is_some section ≡ true → is_some attempt ≡ true)
-    (record { lost = λ h section clock attempt now live. not_live live })
+    (record { lost = λ h section clock attempt now live. false_true live })
 
 opened_open : (mode : Mode) (h clock : ℕ) (attempt : Option Stamp) → mode ≡ Tlr → is_some (opened mode h clock attempt) ≡ true
 opened_open Tlr h clock None is = refl
@@ -159,8 +154,8 @@ open_deed state h (Begins swap) does now =
     λ live. opened_open state.config.mode h (hart_of state h).clock (hart_of state h).attempt now.mode
 open_deed state h (Buffers section touch) does now =
     λ live. now.open_each h (ap is_some does.goes.goes_on.is_short.inside.live)
-open_deed state h (Commits section) does now = λ live. not_live live
-open_deed state h (RollsBack section cause) does now = λ live. not_live live
+open_deed state h (Commits section) does now = λ live. false_true live
+open_deed state h (RollsBack section cause) does now = λ live. false_true live
 open_deed state h (Arms word) does now = now.open_each h
 open_deed state h (Elides armed swap) does now =
     λ live. opened_open state.config.mode h (hart_of state h).clock (hart_of state h).attempt now.mode
@@ -182,5 +177,5 @@ always_open program config events mode =
     kept_after AllOpen next_open (begin program config) events
     (record {
       mode = begin_mode program config mode;
-      open_each = λ h live. not_live (sym (ap is_some (fresh program config h).no_section) ∙ live);
+      open_each = λ h live. false_true (sym (ap is_some (fresh program config h).no_section) ∙ live);
     })

@@ -1,8 +1,8 @@
 -- the losers of an event lost to harts that wait with less stamps
 use Rattle.std.proofs.Common.{◌≡◌, ◌∙◌, ◌≤◌, ◌&&◌, ℕ, true, Option, None, Some, refl, ap, sym, inl, inr}
 use Rattle.std.proofs.Common.{◌⊎◌, subst, arith, if◌then◌else◌}
+use Rattle.std.proofs.lemmas.Option.{same_Some}
 use Rattle.bus_order.specs.Order.{Request, first_of, removed, request_of}
-use Rattle.bus_order.proofs.Laws.LookUps.{own_test}
 use Rattle.bus_order.proofs.Laws.Orders.{one_each_removed}
 use Rattle.bus_order.proofs.Laws.Queues.{request_of_first_of}
 use Rattle.defer_list.specs.HartSet.{has}
@@ -10,6 +10,8 @@ use Rattle.el_base.proofs.Laws.MadeLosers.{named_by_map}
 use Rattle.el_base.specs.Winners.{winner_over}
 use Rattle.el_base.specs.declared.config.Mode.TheVariants.{Tlr}
 use Rattle.el_base.specs.declared.events.Event.{Event}
+use Rattle.el_base.proofs.Laws.Cases.{none_some}
+use Rattle.el_base.proofs.Laws.Tests.{own_test, second_of_both}
 use Rattle.el_model.specs.BusEvent.{AtFace, AtProbe, Becomes, IsAbsent, IsBusEvent, IsLetGo, IsSent, LosesIt, LosesWhere}
 use Rattle.el_model.specs.BusEvent.{Nothing, Places, Sees, Serves}
 use Rattle.el_model.specs.BusEvent.{Start, Starts, StartsWhere, Takes, as_faced, faced_head, order_after}
@@ -30,15 +32,11 @@ use Rattle.removal_laws.proofs.Laws.Delivering.{own_line}
 use Rattle.removal_laws.proofs.Laws.Facing.{FateIs, Lost, fate_is, least_passes, saw_clock}
 use Rattle.removal_laws.proofs.Requests.{raised_own}
 use Rattle.removal_laws.proofs.Laws.Throughout.{always_holds}
-use Rattle.section_laws.proofs.Laws.Bits.{second_of_both, some_same}
 use Rattle.section_laws.proofs.Laws.EachKept.{BusKept, becomes_keeps, turn_keeps}
 use Rattle.section_laws.proofs.Laws.Moves.{seen_grows}
 use Rattle.section_laws.proofs.Laws.Numbered.{Once}
 use Rattle.section_laws.proofs.Laws.Waiting.{free_of_order}
 use Rattle.stamp.specs.Stamps.{Stamp, is_before}
-
-none_some : {A X : Type 0} {x : A} → None ≡ Some x → X
-none_some wrong = absurd (cc)
 
 -- an event of the bus opens and closes no attempt
 pub same_attempts : (state : ModelState) → BusKept (λ g hart. hart.attempt ≡ attempt_of state g)
@@ -67,7 +65,7 @@ becomes_beaten state by start g winner mode is (Sees head lost hart defers befor
     }
 becomes_beaten state by start g winner mode is (LosesIt found stamp hart loses before) = record {
   stamp = stamp;
-  loses = subst (λ w. LosesWhere state by start g w stamp) (some_same is) loses;
+  loses = subst (λ w. LosesWhere state by start g w stamp) (same_Some _ _ is) loses;
   saw = λ at at_is. subst (λ m. at.clock ≤ (beaten m stamp hart).seen) (sym mode) (saw_clock hart.seen stamp at at_is);
 }
 
@@ -88,11 +86,11 @@ head_ordered : (state : ModelState) (by : ℕ) (start : Start) (head : Request) 
     faced_head state start ≡ Some head → request_of (order_after state start) head.hart ≡ Some head
 head_ordered state by Nothing head once where_it is = none_some is
 head_ordered state by (Places request InFront) head once may is =
-    subst (λ r. request_of (order_after state (Places request InFront)) r.hart ≡ Some r) (some_same is)
+    subst (λ r. request_of (order_after state (Places request InFront)) r.hart ≡ Some r) (same_Some _ _ is)
     (placed_own state request InFront (placed_head state by request once may.raised))
 head_ordered state by (Places request Behind) head once may is = none_some is
 head_ordered state by (Places request Alone) head once may is =
-    subst (λ r. request_of (order_after state (Places request Alone)) r.hart ≡ Some r) (some_same is)
+    subst (λ r. request_of (order_after state (Places request Alone)) r.hart ≡ Some r) (same_Some _ _ is)
     (placed_own state request Alone (placed_head state by request once may.raised))
 head_ordered state by (Serves request) head once may is =
     request_of_first_of (removed state.order request.hart) request.line head (one_each_removed state.order request.hart once.once)

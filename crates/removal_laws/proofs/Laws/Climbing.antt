@@ -1,21 +1,23 @@
 -- a request with the least stamp is told of up the queue of its line, and to each section that would retain the line
 use Rattle.std.proofs.Common.{◌≡◌, ◌≢◌, ◌∙◌, ◌==◌, ℕ, Bool, true, false, List, [], ◌∷◌, Option, None, Some, refl, ap, sym, inl, inr, ◌⊎◌, subst, if◌then◌else◌}
-use Rattle.std.proofs.lemmas.Bool.{cases_eq}
+use Rattle.std.proofs.lemmas.Bool.{cases_eq, or_right}
+use Rattle.std.proofs.lemmas.Option.{same_Some}
 use Rattle.bus_order.specs.Order.{IsOneEach, Request, queue_of, request_of}
-use Rattle.bus_order.proofs.Laws.LookUps.{number_of_test, other_test, own_test}
 use Rattle.bus_order.proofs.Laws.Orders.{alone_in_front, one_each_rest}
 use Rattle.bus_order.proofs.Laws.Queues.{hart_of_request_of}
 use Rattle.residency.specs.Cache.{has_bit, read_bit}
 use Rattle.defer_list.specs.HartSet.{has}
 use Rattle.el_base.specs.declared.outcomes.Need.{Need}
 use Rattle.el_base.specs.declared.outcomes.Need.TheVariants.{Read, Write}
+use Rattle.el_base.proofs.Laws.Cases.{clash, some_none}
+use Rattle.el_base.proofs.Laws.Tests.{number_of_test, other_test, own_test}
 use Rattle.el_model.specs.Conflicts.{conflicts_with, meets_bit, retains}
 use Rattle.el_model.specs.Next.{after}
 use Rattle.el_model.specs.State.{Hart, ModelState, cache_of, for_line, hart_of, head_of, ordered_of, ordered_on}
 use Rattle.el_model.proofs.Laws.Orders.{head_line}
 use Rattle.removal_laws.specs.Facts.{AreLinked, Everywhere, Facts, IsChained, IsLinked, Knows}
 use Rattle.removal_laws.specs.Laws.{IsDelivered, LeastStampIsNotRetained, WaitsWithLeast}
-use Rattle.section_laws.proofs.Laws.Bits.{Meets, clash, meets, or_second, some_none, some_same}
+use Rattle.section_laws.proofs.Laws.Bits.{Meets, meets}
 use Rattle.removal_laws.proofs.Laws.Delivering.{own_line}
 use Rattle.removal_laws.proofs.Queues.{IsHead, head_is}
 use Rattle.removal_laws.proofs.Laws.Throughout.{always_holds, facts_hold_throughout}
@@ -61,7 +63,7 @@ queue_has (request ∷ order) h line found is on =
         request_of (if here then request ∷ queue_of order line else queue_of order line) h ≡ Some found
     by rest true same true here is = ap (λ b. if b then Some request else request_of (queue_of order line) h) same ∙ is
     by rest true same false apart is =
-        clash apart (ap (λ r. r.line == line) (some_same is) ∙ ap (λ l. l == line) on ∙ own_test line)
+        clash apart (ap (λ r. r.line == line) (same_Some _ _ is) ∙ ap (λ l. l == line) on ∙ own_test line)
     by rest false other true here is = ap (λ b. if b then Some request else request_of (queue_of order line) h) other ∙ rest is
     by rest false other false apart is = rest is
 
@@ -108,14 +110,14 @@ module _ (state : ModelState) (h line : ℕ) (request : Request) (once : IsOneEa
   -- a section that retained the line would have been told of h too, or be that of h
   met_bit : (hart : Hart) (need : Need) → meets_bit hart line need ≡ true → has_bit hart.cache line ≡ true
   met_bit hart Write bit = bit
-  met_bit hart Read bit = or_second (read_bit hart.cache line) bit
+  met_bit hart Read bit = or_right (read_bit hart.cache line) _ bit
 
   not_own : {X : Type 0} (head : Request) → head_of state line ≡ Some head → Meets head h (hart_of state h) → X
   not_own head is it =
       let mine = own_line line (ordered_of state h) request waits.waits in
       let bit = met_bit (hart_of state h) head.need (subst (λ l. meets_bit (hart_of state h) l head.need ≡ true) (head_line state line head is) it.bit) in
       let first = facts.retaining.first h request tt mine.0 it.live (subst (λ l. has_bit (cache_of state h) l ≡ true) (sym mine.1) bit) in
-      let e : head ≡ request = some_same (sym is ∙ ap (head_of state) (sym mine.1) ∙ first) in
+      let e : head ≡ request = same_Some _ _ (sym is ∙ ap (head_of state) (sym mine.1) ∙ first) in
       absurd (it.other (ap (λ r. r.hart) e ∙ hart_of_request_of state.order h request mine.0))
 
   told_retainer : (g : ℕ) (head : Request) → ordered_on state head.hart line ≡ Some head → IsLinked (hart_of state head.hart) g → g ≢ h →
@@ -134,7 +136,7 @@ module _ (state : ModelState) (h line : ℕ) (request : Request) (once : IsOneEa
       some_none (sym (queue_has state.order h line request mine.0 mine.1) ∙ ap (λ queue. request_of queue h) none)
   head_told (first ∷ others) queue head is =
       let mine = own_line line (ordered_of state h) request waits.waits in
-      let e : first ≡ head = some_same (sym (subst (λ q. IsHead q (head_of state line)) queue (head_is state.order line)) ∙ is) in
+      let e : first ≡ head = same_Some _ _ (sym (subst (λ q. IsHead q (head_of state line)) queue (head_is state.order line)) ∙ is) in
       let ordered = subst (AreOrdered state.order line) queue (queue_ordered state.order line once) in
       let linked = subst (IsChained state) queue (facts.messages.chained line tt) in
       let there = subst (λ q. request_of q h ≡ Some request) queue (queue_has state.order h line request mine.0 mine.1) in (

@@ -1,12 +1,12 @@
 -- clocks only grow, and as an attempt closes its hart's clock becomes greater than all that it was and had seen
 use Rattle.std.proofs.Common.{◌≡◌, ◌∙◌, ◌<◌, ◌≤◌, ◌==◌, ◌&&◌, ◌||◌, ℕ, Bool, true, false, List, [], ◌∷◌, Option, None, Some, is_some, length, refl, ap, sym, arith}
 use Rattle.bus_order.specs.Order.{Request}
-use Rattle.bus_order.proofs.Laws.LookUps.{number_of_test, own_test}
 use Rattle.el_base.specs.declared.config.Mode.{Mode}
 use Rattle.el_base.specs.declared.config.Mode.TheVariants.{Plain, Sle, Tlr}
 use Rattle.el_base.specs.declared.events.Event.{Event}
 use Rattle.el_base.specs.declared.outcomes.Outcome.{Outcome}
 use Rattle.el_base.specs.declared.outcomes.Outcome.TheVariants as outcomes
+use Rattle.el_base.proofs.Laws.Tests.{number_of_test, own_test}
 use Rattle.el_model.specs.Attempts.{closed_clock, opened}
 use Rattle.el_model.specs.BusEvent.{IsOfBus}
 use Rattle.el_model.specs.Deed.{Arms, Begins, Buffers, Commits, Continues, Deed, DoesWhere, Elides, LetsGo, Misses, Rests, RollsBack, Runs, Waits, done, hart_after, outcome_of}

@@ -1,9 +1,9 @@
 -- what holds still holds after a message is delivered
 use Rattle.std.proofs.Common.{◌≡◌, ◌≢◌, ◌∙◌, ◌<◌, ◌==◌, ◌&&◌, ℕ, Bool, true, false, not, List, ◌∷◌, length, map, Option, None, Some, is_some, refl, ap, sym, inl, inr, ◌⊎◌, arith, subst, if◌then◌else◌}
 use Rattle.std.proofs.Math.ListN.{length-set}
-use Rattle.std.proofs.lemmas.Bool.{cases_eq}
+use Rattle.std.proofs.lemmas.Bool.{cases_eq, and_from}
+use Rattle.std.proofs.lemmas.Option.{same_Some}
 use Rattle.bus_order.specs.Order.{Request}
-use Rattle.bus_order.proofs.Laws.LookUps.{number_of_test, other_test, own_test}
 use Rattle.defer_list.specs.HartSet.{has, included}
 use Rattle.defer_list.proofs.Laws.LookUps.{has_included_other, has_included_own}
 use Rattle.el_model.specs.Deliver.{taken, told_on}
@@ -12,12 +12,14 @@ use Rattle.el_model.proofs.Laws.Harts.{hart_of-with_hart_other, hart_of-with_har
 use Rattle.mail.specs.Mailbox.{Marker, Message, Probe, has_message}
 use Rattle.mail.proofs.Laws.OnceEach.{first_there}
 use Rattle.removal_laws.specs.Facts.{IsLinked, IsWaiting, Knows, MayBeKnown, MayPrecede}
-use Rattle.section_laws.proofs.Laws.Bits.{both, clash, fewer_same, first_of_both, second_of_both, some_same}
+use Rattle.section_laws.proofs.Laws.Bits.{fewer_same}
 use Rattle.removal_laws.proofs.Laws.Facing.{has_number, passed, passes}
 use Rattle.removal_laws.proofs.Grounds.{Grounds, Standing}
 use Rattle.removal_laws.proofs.Kept.{Owed}
 use Rattle.removal_laws.proofs.Probing.{Took, all_known, all_probed, debts_stand, first_or_later, later_there, took_nothing}
 use Rattle.el_model.proofs.Laws.EachHart.{Each, each_but, each_with}
+use Rattle.el_base.proofs.Laws.Tests.{first_of_both, number_of_test, other_test, own_test, second_of_both}
+use Rattle.el_base.proofs.Laws.Cases.{clash}
 use Rattle.el_model.proofs.Laws.BusEvents.{with_mail}
 
 -- a set with one hart more
@@ -50,7 +52,7 @@ own_line line (Some own) request is = by (own.line == line) refl is
   where
     by : (same : Bool) → (own.line == line) ≡ same → (if same then Some own else None) ≡ Some request →
         (Some own ≡ Some request) × (request.line ≡ line)
-    by true same is = (is, ap (λ r. r.line) (sym (some_same is)) ∙ number_of_test own.line line same)
+    by true same is = (is, ap (λ r. r.line) (sym (same_Some _ _ is)) ∙ number_of_test own.line line same)
     by false apart is = absurd (cc)
 
 module _ (state : ModelState) (h sender : ℕ) (others : List Message) (mail : (hart_of state h).mail ≡ Marker sender ∷ others) (grounds : Grounds state)
@@ -193,11 +195,12 @@ module _ (state : ModelState) (h sender : ℕ) (others : List Message) (mail : (
       has (told_on first h sender found) origin ≡ true
   told_member None own request origin line is on told apart waits below = absurd (cc)
   told_member (Some mine) own request origin line is on told apart waits below =
-      let line_is : line ≡ mine.line = sym on ∙ ap (λ r. r.line) (sym (some_same is)) in
+      let line_is : line ≡ mine.line = sym on ∙ ap (λ r. r.line) (sym (same_Some _ _ is)) in
       passes (λ o. not (o == sender) && has (hart_of first h).told o && is_some (ordered_on first o mine.line)) (numbers_of first) origin
       (has_number first origin (rw first_count below))
-      (both
-      (both (ap not (other_test origin sender (λ same. apart (sym same)))) (subst (λ hart. has hart.told origin ≡ true) (sym at_first) told))
+      (and_from _ _
+      (and_from _ _ (ap not (other_test origin sender (λ same. apart (sym same))))
+      (subst (λ hart. has hart.told origin ≡ true) (sym at_first) told))
       (subst (λ l. is_some (ordered_on first origin l) ≡ true) line_is (ap is_some waits)))
 
   marker_owed : Owed marker_final h sender

@@ -2,10 +2,12 @@
 use Rattle.std.proofs.Common.{◌≡◌, ◌∙◌, ◌<◌, ◌≤◌, ◌+◌, ◌==◌, ◌&&◌, ℕ, zero, suc, Bool, true, false, List, [], ◌∷◌, length, filter, Option, None, Some, is_some, refl, ap, sym, inl, inr, ◌⊎◌, arith, subst, if◌then◌else◌}
 use Rattle.std.specs.Prelude.{nat_lt}
 use Rattle.std.proofs.lemmas.Bool.{ltb-true, ltb-false}
+use Rattle.std.proofs.lemmas.Option.{same_Some}
 use Rattle.bus_order.specs.Order.{Request}
-use Rattle.bus_order.proofs.Laws.LookUps.{number_of_test, own_test}
 use Rattle.defer_list.specs.HartSet.{has}
 use Rattle.el_base.specs.declared.config.Mode.TheVariants.{Tlr}
+use Rattle.el_base.proofs.Laws.Cases.{clash, some_none}
+use Rattle.el_base.proofs.Laws.Tests.{number_of_test, own_test}
 use Rattle.el_model.specs.Attempts.{see, seen_after}
 use Rattle.el_model.specs.Conflicts.{conflicts, conflicts_with, earlier, least_such, retains, stamp_in, told_winner, wins_over}
 use Rattle.el_model.specs.Face.{Fate, LosesTo, Stays, Unmet, after_fate, deferring, deferring_fate, faced, faced_hart, fate_at, fate_of, markers_for, stays, told_fate, winning_stamp}
@@ -14,7 +16,7 @@ use Rattle.el_model.specs.State.{Hart, ModelState, count_up, for_line, hart_of, 
 use Rattle.el_model.proofs.Laws.Harts.{hart_of-each_hart, hart_of-each_hart_past, hart_of-past}
 use Rattle.el_model.proofs.Laws.Tests.{by_test}
 use Rattle.removal_laws.specs.Facts.{IsLinked, IsWaiting, MayPrecede, MayRetain}
-use Rattle.section_laws.proofs.Laws.Bits.{clash, meets, some_none, some_same}
+use Rattle.section_laws.proofs.Laws.Bits.{meets}
 use Rattle.removal_laws.proofs.Posting.{Posted, all_linked, all_marked, losing, posted_twice, seeing, unchanged}
 use Rattle.el_model.proofs.Laws.EachHart.{Each, each_after}
 use Rattle.stamp.specs.Stamps.{Stamp, is_before}
@@ -93,12 +95,12 @@ least_passes test stamp (first ∷ others) h is = by (least_passes test stamp ot
     one : (less : Bool) (other : ℕ) → (least_such test stamp others ≡ Some h → test h ≡ true) → least_such test stamp others ≡ Some other →
         test first ≡ true → (if less then Some other else Some first) ≡ Some h → test h ≡ true
     one true other rest found holds is = rest (found ∙ is)
-    one false other rest found holds is = subst (λ k. test k ≡ true) (some_same is) holds
+    one false other rest found holds is = subst (λ k. test k ≡ true) (same_Some _ _ is) holds
 
     taken : (least_such test stamp others ≡ Some h → test h ≡ true) → test first ≡ true → (other : Option ℕ) →
         least_such test stamp others ≡ other →
         earlier stamp (Some first) other ≡ Some h → test h ≡ true
-    taken rest holds None found is = subst (λ k. test k ≡ true) (some_same is) holds
+    taken rest holds None found is = subst (λ k. test k ≡ true) (same_Some _ _ is) holds
     taken rest holds (Some other) found is = one (is_before (stamp other) (stamp first)) other rest found holds is
 
     by : (least_such test stamp others ≡ Some h → test h ≡ true) → (chosen : Bool) → test first ≡ chosen →
@@ -284,12 +286,12 @@ face_may state head g mode first exists exists_head is =
     let it = meets head g (hart_of state g) now.stayed.meets_it in
     record {
       link = λ other is_head.
-          subst (λ r. IsLinked (hart_of (faced state head) r.hart) g) (some_same (sym first ∙ is_head))
+          subst (λ r. IsLinked (hart_of (faced state head) r.hart) g) (same_Some _ _ (sym first ∙ is_head))
           (face_links state head g mode exists_head (live_below state g it.live) (stays_if state head g mode now.stayed));
       seen = λ other stamp is_head stamp_is.
-          rw now.hart_is (saw_clock _ head.stamp stamp (ap (λ r. r.stamp) (some_same (sym first ∙ is_head)) ∙ stamp_is));
+          rw now.hart_is (saw_clock _ head.stamp stamp (ap (λ r. r.stamp) (same_Some _ _ (sym first ∙ is_head)) ∙ stamp_is));
       not_after_head = λ other is_head.
-          rw now.hart_is (subst (λ r. is_before r.stamp (hart_of state g).attempt ≡ false) (some_same (sym first ∙ is_head)) now.stayed.not_after);
+          rw now.hart_is (subst (λ r. is_before r.stamp (hart_of state g).attempt ≡ false) (same_Some _ _ (sym first ∙ is_head)) now.stayed.not_after);
       not_after_told = λ origin request told on.
           rw now.hart_is
           (told_before origin request now.stayed (subst (λ hart. has hart.told origin ≡ true) now.hart_is told) on (some_below origin request on));

@@ -2,8 +2,8 @@
 -- a head that nothing is in the way of is served
 use Rattle.std.proofs.Common.{◌≡◌, ◌∙◌, ◌==◌, ◌&&◌, ℕ, true, false, not, Option, None, Some, refl, ap, sym, inl, inr, ◌⊎◌, arith, subst, if◌then◌else◌}
 use Rattle.std.proofs.lemmas.Bool.{cases_eq}
+use Rattle.std.proofs.lemmas.Option.{same_Some}
 use Rattle.bus_order.specs.Order.{Request}
-use Rattle.bus_order.proofs.Laws.LookUps.{number_of_test, own_test}
 use Rattle.bus_order.proofs.Laws.Queues.{request_of_first_of}
 use Rattle.el_base.specs.declared.events.Event.{Event}
 use Rattle.el_base.specs.declared.events.Kind.{Kind}
@@ -11,6 +11,8 @@ use Rattle.el_base.specs.declared.events.Kind.TheVariants as kinds
 use Rattle.el_base.specs.declared.outcomes.Why.TheVariants.{Behind, Locked, Retained}
 use Rattle.el_model.specs.Conflicts.{holder_of, retainer_of, retains}
 use Rattle.el_base.specs.Winners.{winner_over}
+use Rattle.el_base.proofs.Laws.Cases.{clash, some_none}
+use Rattle.el_base.proofs.Laws.Tests.{number_of_test, own_test, second_of_both}
 use Rattle.el_model.specs.Next.{after, kind_turn, next}
 use Rattle.el_model.specs.Serve.{Free, Obstacle, blocks_if, obstacle_to, other_head, serve_ordered, serve_past, serve_turn}
 use Rattle.el_model.specs.State.{ModelState, hart_of, head_of, is_held, numbers_of, ordered_of, section_of}
@@ -20,7 +22,6 @@ use Rattle.el_model.proofs.Laws.Conflicts.{first_passes, none_first}
 use Rattle.removal_laws.specs.Facts.{Everywhere, Facts}
 use Rattle.removal_laws.specs.Laws.{HasLeast, HeadIsServed, IsLocked, LaterThanDeferredHeads, LaterThanWinners, LeastStampNeverLoses, LosesToEarlier, attempt_of, is_served}
 use Rattle.removal_laws.proofs.Laws.Beating.{next_beats, same_attempts, step_names}
-use Rattle.section_laws.proofs.Laws.Bits.{clash, second_of_both, some_none, some_same}
 use Rattle.removal_laws.proofs.Laws.Climbing.{least_stamp_is_not_retained}
 use Rattle.removal_laws.proofs.Laws.Clocks.{later_from}
 use Rattle.removal_laws.proofs.Grounds.{Grounds, facts_of}
@@ -46,7 +47,7 @@ least_after_none state h winner stamp (Some other) least is less = by (cases_eq 
   where
     by : {X : Type 0} → (winner ≡ h) ⊎ (winner ≡ h → ⊥) → X
     by (inl same) =
-        let e : stamp ≡ other = some_same (sym least.attempt ∙ ap (attempt_of state) (sym same) ∙ is) in
+        let e : stamp ≡ other = same_Some _ _ (sym least.attempt ∙ ap (attempt_of state) (sym same) ∙ is) in
         clash (less_strict.irreflexive stamp) (subst (λ s. less_of s stamp ≡ true) (sym e) less)
     by (inr apart) = clash (less_strict.asymmetric stamp other (least.least winner other apart is)) less
 
@@ -79,7 +80,7 @@ later_than_winners program config events between afterwards event closing g winn
     let now = always_holds program config events mode in
     let new = next_holds state event now in
     let beats = next_beats state event now.grounds.opened.mode now.grounds.once g winner lost in
-    let same : beats.request ≡ request = some_same (sym beats.waits ∙ waits) in
+    let same : beats.request ≡ request = same_Some _ _ (sym beats.waits ∙ waits) in
     let saw = beats.seen stamp (ap (λ r. r.stamp) same ∙ stamp_is) in
     let later_is =
     (later_from (next state event).state between afterwards closing g later new.grounds.own new.grounds.opened closed is).than_seen in

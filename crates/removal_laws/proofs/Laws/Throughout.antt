@@ -1,11 +1,12 @@
 -- the facts hold of every state that can be reached in lock removal
-use Rattle.std.proofs.Common.{◌≡◌, ◌∙◌, ℕ, true, false, List, [], None, refl, sym, inl, inr, subst}
+use Rattle.std.proofs.Common.{◌≡◌, ◌∙◌, ℕ, true, List, [], None, refl, sym, inl, inr, subst}
 use Rattle.defer_list.specs.HartSet.{has}
 use Rattle.el_base.specs.declared.config.Config.{Config}
 use Rattle.el_base.specs.declared.config.Mode.TheVariants.{Tlr}
 use Rattle.el_base.specs.declared.events.Event.{Event}
 use Rattle.el_base.specs.declared.events.Kind.{Kind}
 use Rattle.el_base.specs.declared.events.Kind.TheVariants as kinds
+use Rattle.el_base.proofs.Laws.Cases.{false_true, some_none}
 use Rattle.elf_image.specs.Program.{Program}
 use Rattle.el_model.specs.Next.{after, kind_turn, next}
 use Rattle.el_model.specs.Order.{order_turn}
@@ -17,7 +18,6 @@ use Rattle.mail.specs.Mailbox.{Marker, Probe, has_message}
 use Rattle.removal_laws.specs.Facts.{IsLinked, Knows}
 use Rattle.removal_laws.specs.Laws.{FactsHoldThroughout}
 use Rattle.removal_laws.proofs.Laws.Attempts.{always_open, first_own}
-use Rattle.section_laws.proofs.Laws.Bits.{some_none}
 use Rattle.removal_laws.proofs.Grounds.{Grounds, Standing, facts_of, next_grounds}
 use Rattle.removal_laws.proofs.Placing.{ordered_stands}
 use Rattle.removal_laws.proofs.Serving.{taken_stands}
@@ -59,16 +59,14 @@ fresh program config h =
     all_first IsFresh program.harts (new_hart config.sets) (new_hart 0)
     (record { mail = refl; told = refl; upstream = refl; raised = refl }) (record { mail = refl; told = refl; upstream = refl; raised = refl }) h
 
-nothing : {X : Type 0} → false ≡ true → X
-nothing wrong = absurd (cc)
-
 unlinked : {X : Type 0} (hart : Hart) (before : ℕ) → IsFresh hart → IsLinked hart before → X
-unlinked hart before fresh (inl sent) = nothing (subst (λ box. has_message box (Marker before) ≡ true) fresh.mail sent)
-unlinked hart before fresh (inr is) = nothing (subst (λ harts. has harts before ≡ true) fresh.upstream is)
+unlinked hart before fresh (inl sent) =
+    false_true (subst (λ box. has_message box (Marker before) ≡ true) fresh.mail sent)
+unlinked hart before fresh (inr is) = false_true (subst (λ harts. has harts before ≡ true) fresh.upstream is)
 
 unknown : {X : Type 0} (hart : Hart) (origin : ℕ) → IsFresh hart → Knows hart origin → X
-unknown hart origin fresh (inl sent) = nothing (subst (λ box. has_message box (Probe origin) ≡ true) fresh.mail sent)
-unknown hart origin fresh (inr is) = nothing (subst (λ harts. has harts origin ≡ true) fresh.told is)
+unknown hart origin fresh (inl sent) = false_true (subst (λ box. has_message box (Probe origin) ≡ true) fresh.mail sent)
+unknown hart origin fresh (inr is) = false_true (subst (λ harts. has harts origin ≡ true) fresh.told is)
 
 first_holds : (program : Program) (config : Config) → config.mode ≡ Tlr → Holding (begin program config)
 unfolding begin

@@ -4,10 +4,8 @@ use Rattle.std.proofs.lemmas.List.{set-get_or}
 use Rattle.moesi.specs.declared.letter.Letter.{Letter}
 use Rattle.residency.specs.Cache.{is_resident, lettered, set_number, set_of, way_of, without_line}
 use Rattle.residency.specs.Residency.{Way, changed_in, dropped, way_in, with_letter}
+use Rattle.el_base.proofs.Laws.Cases.{some_none}
 use Rattle.el_base.proofs.Laws.Options.{none_from}
-
-some_not_none : {X : Type 0} (way : Way) → Some way ≡ None → X
-some_not_none way is = absurd (cc)
 
 dropped_absent : (set : List Way) (line : ℕ) → way_in set line ≡ None → dropped set line ≡ set
 dropped_absent [] line absent = refl
@@ -15,7 +13,7 @@ dropped_absent (way ∷ ways) line absent = by (way.line == line) absent (λ non
   where
     by : (same : Bool) → (if same then Some way else way_in ways line) ≡ None → (way_in ways line ≡ None → dropped ways line ≡ ways) →
         (if same then dropped ways line else way ∷ dropped ways line) ≡ way ∷ ways
-    by true none others = some_not_none way none
+    by true none others = some_none none
     by false none others = ap (λ rest. way ∷ rest) (others none)
 
 changed_absent : (change : Way → Way) (set : List Way) (line : ℕ) → way_in set line ≡ None → changed_in change set line ≡ set
@@ -25,7 +23,7 @@ changed_absent change (way ∷ ways) line absent = by (way.line == line) absent 
     by : (same : Bool) → (if same then Some way else way_in ways line) ≡ None →
         (way_in ways line ≡ None → changed_in change ways line ≡ ways) →
         (if same then change way ∷ changed_in change ways line else way ∷ changed_in change ways line) ≡ way ∷ ways
-    by true none others = some_not_none way none
+    by true none others = some_none none
     by false none others = ap (λ rest. way ∷ rest) (others none)
 
 pub without_absent : (cache : List (List Way)) (line : ℕ) → is_resident cache line ≡ false → without_line cache line ≡ cache

@@ -1,28 +1,18 @@
 -- A cache without bits gets none but by a mark: what is touched, changes its letter, comes or leaves has none after it either.
-use Rattle.std.proofs.Common.{◌≡◌, ℕ, zero, suc, Bool, true, false, ◌||◌, List, [], ◌∷◌, Option, None, Some, refl, if◌then◌else◌, ◌==◌}
+use Rattle.std.proofs.Common.{◌≡◌, ℕ, zero, suc, Bool, true, false, List, [], ◌∷◌, Option, None, Some, refl, if◌then◌else◌, ◌==◌}
 use Rattle.std.specs.List.{list_any}
 use Rattle.std.specs.Prelude.{map, slice_index_or, slice_set}
+use Rattle.std.proofs.lemmas.Bool.{or_from}
 use Rattle.moesi.specs.declared.letter.Letter.{Letter}
 use Rattle.residency.specs.Residency.{Way, changed_in, dropped, evicted_in, filled_in, is_marked, left_in, to_front, touched_in, way_in, with_letter, without_bits}
 use Rattle.residency.specs.Cache.{cleared, empty_cache, filled_with, has_marks, lettered, set_number, set_of, touched, without_line}
+use Rattle.el_base.proofs.Laws.Tests.{first_not, second_not}
 
 abbrev pub IsBare : List Way → Type 0
 IsBare set = list_any is_marked set ≡ false
 
--- a choice where neither is true
-neither : (a b : Bool) → a ≡ false → b ≡ false → (a || b) ≡ false
-neither a b first second = rw first second
-
-first_not : (a b : Bool) → (a || b) ≡ false → a ≡ false
-first_not true b is = is
-first_not false b is = refl
-
-second_not : (a b : Bool) → (a || b) ≡ false → b ≡ false
-second_not true b is = absurd (cc)
-second_not false b is = is
-
 bare_cons : (way : Way) (ways : List Way) → is_marked way ≡ false → IsBare ways → IsBare (way ∷ ways)
-bare_cons way ways none others = neither (is_marked way) (list_any is_marked ways) none others
+bare_cons way ways none others = or_from (is_marked way) (list_any is_marked ways) none others
 
 -- the way of a line
 abbrev IsBareWay : Option Way → Type 0
@@ -79,9 +69,9 @@ bare_at (set ∷ sets) (suc place) bare = bare_at sets place (second_not (list_a
 bare_set : (cache : List (List Way)) (place : ℕ) (set : List Way) → IsBare set → has_marks cache ≡ false →
     has_marks (slice_set cache place set) ≡ false
 bare_set [] place set new bare = bare
-bare_set (first ∷ sets) zero set new bare = neither _ _ new (second_not (list_any is_marked first) _ bare)
+bare_set (first ∷ sets) zero set new bare = or_from _ _ new (second_not (list_any is_marked first) _ bare)
 bare_set (first ∷ sets) (suc place) set new bare =
-    neither _ _ (first_not (list_any is_marked first) _ bare)
+    or_from _ _ (first_not (list_any is_marked first) _ bare)
     (bare_set sets place set new (second_not (list_any is_marked first) _ bare))
 
 pub unmarked-touched : (cache : List (List Way)) (line : ℕ) → has_marks cache ≡ false → has_marks (touched cache line) ≡ false
@@ -112,7 +102,7 @@ bare_cleared_in (way ∷ ways) = bare_cons (without_bits way) (map without_bits 
 
 pub unmarked-cleared : (cache : List (List Way)) → has_marks (cleared cache) ≡ false
 unmarked-cleared [] = refl
-unmarked-cleared (set ∷ sets) = neither _ _ (bare_cleared_in set) (unmarked-cleared sets)
+unmarked-cleared (set ∷ sets) = or_from _ _ (bare_cleared_in set) (unmarked-cleared sets)
 
 pub unmarked-empty : (sets : ℕ) → has_marks (empty_cache sets) ≡ false
 unmarked-empty zero = refl

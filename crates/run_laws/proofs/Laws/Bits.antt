@@ -2,15 +2,15 @@
 use Rattle.std.proofs.Common.{◌≡◌, ◌≢◌, ◌∙◌, ◌==◌, ◌||◌, ℕ, zero, suc, Bool, true, false, List, [], ◌∷◌, Option, None, Some, is_some, refl, ap, sym, inl, inr, ◌⊎◌, if◌then◌else◌, option_map}
 use Rattle.std.specs.Prelude.{slice_index_or}
 use Rattle.std.specs.Option.{option_or}
-use Rattle.std.proofs.lemmas.Bool.{cases_eq}
+use Rattle.std.proofs.lemmas.Bool.{cases_eq, or_right}
 use Rattle.bus_order.specs.Order.{Request}
-use Rattle.bus_order.proofs.Laws.LookUps.{own_test, other_test}
 use Rattle.residency.specs.Cache.{bit_in, evicted_by, filled_with, is_resident, lettered, marked, set_number, set_of, touched, way_of}
 use Rattle.residency.specs.Residency.{Way, filled_in, is_marked, victim_in, way_in, with_bit, with_letter}
 use Rattle.residency.proofs.Laws.CacheLemmas.{set_of-with_set_other, way_of-filled_with_other, way_of-lettered_other, way_of-lettered_same, way_of-marked_other, way_of-marked_same, way_of-touched, way_of-without_line_other}
 use Rattle.residency.proofs.Laws.ResidencyLemmas.{evicted_in-victim, victim_in-unmarked}
 use Rattle.el_base.specs.declared.outcomes.Need.{Need}
 use Rattle.el_base.specs.declared.outcomes.Need.TheVariants.{Read, Write}
+use Rattle.el_base.proofs.Laws.Tests.{other_test, own_test}
 use Rattle.el_model.specs.InSection.{covered, is_covered}
 use Rattle.el_model.specs.Serve.{others_cache, own_copy, with_claim}
 use Rattle.el_model.specs.State.{Armed, Hart, Section}
@@ -20,7 +20,6 @@ use Rattle.moesi.specs.declared.letter.Letter.{Letter}
 use Rattle.rv_flat.specs.FlatState.{FlatState}
 use Rattle.section_laws.specs.Once.{AreOnce, IsOnce}
 use Rattle.section_laws.proofs.Laws.OnceEach.{once_at}
-use Rattle.run_laws.proofs.Laws.Tests.{or_right}
 use Rattle.run_laws.specs.PrivateRun.{HasItsBit, IsAcquire, IsArmedRun, IsCoveredRun, IsCoveredStep}
 
 -- each bit on a line is kept

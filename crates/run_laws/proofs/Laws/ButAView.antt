@@ -19,9 +19,9 @@ use Rattle.rv_flat.specs.Step.{appended_by, flat}
 use Rattle.run_laws.proofs.Laws.Alike.{alone_more, no_call}
 use Rattle.run_laws.proofs.Laws.Reserving.{IsSilent, keeps_memory, silent_at}
 use Rattle.run_laws.proofs.Laws.Shown.{running_footprint}
-use Rattle.run_laws.proofs.Laws.Tests.{first_not}
 use Rattle.run_laws.specs.Laws.{ArmedRunsKeepAllButAView}
 use Rattle.run_laws.specs.PrivateRun.{IsArmedRun, KeepsAllButAView, KeepsAllButViews}
+use Rattle.el_base.proofs.Laws.Tests.{first_not}
 
 pub same_but_views : (state : FlatState) → KeepsAllButViews state state
 same_but_views state = record { base = refl; bytes = refl; code = refl; output = refl; harts = refl }

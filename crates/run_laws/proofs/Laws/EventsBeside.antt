@@ -3,6 +3,7 @@ use Rattle.std.proofs.Common.{◌≡◌, ◌≢◌, ◌∙◌, ℕ, true, false,
 use Rattle.residency.specs.Cache.{bit_in, has_bit, letter_in, way_of, write_bit}
 use Rattle.residency.specs.Residency.{Way}
 use Rattle.el_base.specs.declared.outcomes.Need.TheVariants.{Read, Write}
+use Rattle.el_base.proofs.Laws.Cases.{not_both}
 use Rattle.el_model.specs.Deed.{Arms, Begins, Buffers, Commits, Continues, Deed, DoesWhere, Elides, IsPermitted, LetsGo, MayRun, Misses, Rests, RollsBack, Runs, Waits, committed_after}
 use Rattle.el_model.specs.State.{Armed, Hart, ModelState, Section, cache_of}
 use Rattle.el_model.specs.Upcoming.{Touch}
@@ -13,7 +14,6 @@ use Rattle.rv_flat.specs.Run.{alone}
 use Rattle.section_laws.specs.Coherence.{AreCoherent, MayBeTogether}
 use Rattle.el_model.proofs.Laws.EachHart.{Each}
 use Rattle.run_laws.proofs.Beside.{WritesElsewhere, armed_beside, commit_beside, same_beside, step_beside}
-use Rattle.run_laws.proofs.Laws.Tests.{not_both}
 use Rattle.run_laws.proofs.Laws.WordStores.{releases}
 use Rattle.run_laws.specs.PrivateRun.{IsArmedRun, IsChangeBeside, IsCoveredRun}
 

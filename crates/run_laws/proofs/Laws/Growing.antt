@@ -1,11 +1,12 @@
 -- a section that begins has a covered run, and one more instruction of a section is covered too; so of an armed section
-use Rattle.std.proofs.Common.{◌≡◌, ◌∙◌, ◌≤◌, ◌<◌, ◌+◌, ◌||◌, not, ℕ, zero, suc, Bool, true, false, List, Option, None, Some, is_some, refl, ap, sym, subst, inl, inr, ◌⊎◌, arith}
-use Rattle.std.proofs.lemmas.Bool.{cases_eq}
+use Rattle.std.proofs.Common.{◌≡◌, ◌∙◌, ◌≤◌, ◌<◌, ◌+◌, ℕ, zero, suc, true, false, List, Option, None, Some, is_some, refl, ap, sym, subst, inl, inr, ◌⊎◌, arith}
+use Rattle.std.proofs.lemmas.Bool.{cases_eq, or_left}
 use Rattle.residency.specs.Cache.{bit_in, letter_in, marked, read_bit, touched, way_of, write_bit}
 use Rattle.residency.specs.Residency.{Way}
 use Rattle.el_base.specs.Line.{line_number}
 use Rattle.el_base.specs.declared.outcomes.Need.{Need}
 use Rattle.el_base.specs.declared.outcomes.Need.TheVariants.{Read, Write}
+use Rattle.el_base.proofs.Laws.Tests.{first_of_both, second_not, unrefused}
 use Rattle.el_model.specs.Armed.{is_quiet}
 use Rattle.el_model.specs.Deed.{IsCoverable, MayArm, MayBegin, MayBuffer, MayContinue, MayElide, permits}
 use Rattle.el_model.specs.InSection.{covered, is_covered}
@@ -29,7 +30,6 @@ use Rattle.rv_flat.specs.Step.{flat}
 use Rattle.run_laws.proofs.Laws.Bits.{KeepsBits, acquire_kept, bits_covered, bits_marked, bits_touched, bits_twice, covered_kept, marked_has_bit, step_kept}
 use Rattle.run_laws.proofs.Laws.Alike.{alone_more}
 use Rattle.run_laws.proofs.Laws.Reserving.{acquires_at, quiet_of, reserves}
-use Rattle.run_laws.proofs.Laws.Tests.{first_of_both, or_left, second_not}
 use Rattle.run_laws.specs.PrivateRun.{HasItsBit, IsAcquire, IsArmedRun, IsCoveredRun, IsCoveredStep}
 use Rattle.section_laws.proofs.Laws.ArmedBits.{completing}
 
@@ -172,10 +172,6 @@ pub own_covered : (cache : List (List Way)) (line : ℕ) (need : Need) → bit_i
     is_covered cache line need ≡ true
 own_covered cache line Read bit = or_left (read_bit cache line) (write_bit cache line) bit
 own_covered cache line Write bit = bit
-
-unrefused : (a b : Bool) → (not a || b) ≡ false → a ≡ true
-unrefused true b is = refl
-unrefused false b is = absurd (cc)
 
 now_covered : (state : ModelState) (h : ℕ) (section : Section) (touch : Option Touch) → IsCoverable state h section touch →
     HasItsBit (covered (cache_of state h) touch) touch

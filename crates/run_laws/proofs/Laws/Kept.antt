@@ -1,11 +1,13 @@
 -- every event keeps the private run of each live section covered, and that of each armed one
 use Rattle.std.proofs.Common.{◌≡◌, ◌≢◌, ◌∙◌, ℕ, true, false, List, Option, None, Some, is_some, refl, ap, sym, subst, inl, inr, ◌⊎◌}
+use Rattle.std.proofs.lemmas.Option.{same_Some}
 use Rattle.bus_order.specs.Order.{IsOneEach, Request}
 use Rattle.residency.specs.Cache.{bit_in, is_resident, way_of}
 use Rattle.el_base.specs.Freed.{count_in}
 use Rattle.el_base.specs.declared.events.Kind.{Kind}
 use Rattle.el_base.specs.declared.outcomes.Need.{Need}
 use Rattle.el_base.specs.declared.outcomes.Need.TheVariants.{Write}
+use Rattle.el_base.proofs.Laws.Cases.{none_some, not_both}
 use Rattle.el_model.specs.Armed.{let_go_hart}
 use Rattle.el_model.specs.BusEvent.{Becomes, IsAbsent, IsBusEvent, IsLetGo, IsSent, LosesIt, Nothing, Places, Sees, Serves, Start, Starts}
 use Rattle.el_model.specs.BusEvent.{StartsWhere, Takes, freed_in, having_taken, started}
@@ -39,14 +41,7 @@ use Rattle.run_laws.proofs.Laws.EventsBeside.{AllArmed, AllCovered, ArmedCovered
 use Rattle.run_laws.proofs.Laws.Growing.{arming_run, begun_run, buffered_run, continued_run, elided_run}
 use Rattle.run_laws.proofs.Laws.LettingGo.{IsGone, bus_beside, frees_armed, spared_or_gone, was_armed}
 use Rattle.run_laws.proofs.Laws.Survival.{armed_survives, survives}
-use Rattle.run_laws.proofs.Laws.Tests.{not_both}
 use Rattle.run_laws.specs.PrivateRun.{IsArmedRun, IsCoveredRun}
-
-none_some : {A X : Type 0} {x : A} → None ≡ Some x → X
-none_some wrong = absurd (cc)
-
-same_some : {A : Type 0} (x y : A) → Some x ≡ Some y → x ≡ y
-same_some x y same = cc
 
 -- after an event of the bus a hart's section has ended, or it is as it was and has kept its bits
 abbrev pub IsKept : ModelState → ℕ → Hart → Type 0
@@ -169,15 +164,15 @@ own_covered state h (Misses line need) does each armed_runs section is = each h 
 own_covered state h (Runs touch) does each armed_runs section is =
     none_some (sym does.outside.no_section ∙ sym (candidate_section _ _ (candidate_of state h) _) ∙ is)
 own_covered state h (Begins swap) does each armed_runs section is =
-    subst (IsCoveredRun state.committed h _) (same_some _ section is) (begun_run state h swap does)
+    subst (IsCoveredRun state.committed h _) (same_Some _ section is) (begun_run state h swap does)
 own_covered state h (Buffers before touch) does each armed_runs section is =
-    subst (IsCoveredRun state.committed h (covered (cache_of state h) touch)) (same_some _ section is)
+    subst (IsCoveredRun state.committed h (covered (cache_of state h) touch)) (same_Some _ section is)
     (buffered_run state h before touch does (each h before does.goes.goes_on.is_short.inside.live))
 own_covered state h (Commits before) does each armed_runs section is = none_some is
 own_covered state h (RollsBack before cause) does each armed_runs section is = none_some is
 own_covered state h (Arms word) does each armed_runs section is = none_some (sym does.outside.no_section ∙ is)
 own_covered state h (Elides armed swap) does each armed_runs section is =
-    subst (IsCoveredRun state.committed h _) (same_some _ section is)
+    subst (IsCoveredRun state.committed h _) (same_Some _ section is)
     (elided_run state h armed swap does (armed_runs h armed does.is_armed.armed_is))
 own_covered state h (Continues armed) does each armed_runs section is = none_some (sym does.is_armed.no_section ∙ is)
 own_covered state h (LetsGo armed) does each armed_runs section is = none_some (sym does.is_armed.no_section ∙ is)
@@ -196,10 +191,10 @@ own_armed state h (Buffers section touch) does each armed is =
 own_armed state h (Commits section) does each armed is = none_some is
 own_armed state h (RollsBack section cause) does each armed is = none_some is
 own_armed state h (Arms word) does each armed is =
-    subst (IsArmedRun state.committed h _) (same_some _ armed is) (arming_run state h word does)
+    subst (IsArmedRun state.committed h _) (same_Some _ armed is) (arming_run state h word does)
 own_armed state h (Elides before swap) does each armed is = none_some is
 own_armed state h (Continues before) does each armed is =
-    subst (IsArmedRun state.committed h _) (same_some _ armed is)
+    subst (IsArmedRun state.committed h _) (same_Some _ armed is)
     (continued_run state h before does (each h before does.is_armed.armed_is))
 own_armed state h (LetsGo before) does each armed is = none_some is
 

@@ -9,6 +9,7 @@ use Rattle.el_base.proofs.Laws.FreedOrder.{order_below-more}
 use Rattle.el_base.proofs.Laws.MadeLosers.{count_in-beyond, none_in_no_one}
 use Rattle.el_base.specs.Freed.{count_in, order_below, order_of}
 use Rattle.el_base.specs.declared.freed.Freed.{Freed}
+use Rattle.el_base.proofs.Laws.Cases.{clash}
 use Rattle.el_model.specs.Armed.{freed_by, freed_count, freed_hart, is_freed, let_go, let_go_hart}
 use Rattle.el_model.specs.BusEvent.{Becomes, Frees, IsBusEvent, Start, as_met, faced_head, freed_in}
 use Rattle.el_model.specs.Face.{freed_if, met}
@@ -22,7 +23,6 @@ use Rattle.el_model.proofs.Laws.HartParts.{claim_armed}
 use Rattle.rv_flat.proofs.Laws.StepLaws.{run_append}
 use Rattle.rv_flat.specs.FlatState.{FlatState, view_of}
 use Rattle.rv_flat.specs.Run.{alone, run}
-use Rattle.section_laws.proofs.Laws.Bits.{clash}
 use Rattle.section_laws.proofs.Laws.EachKept.{BusKept, becomes_keeps}
 use Rattle.section_laws.proofs.Laws.Moves.{Moves, faced_keeps, freed_is_armed}
 use Rattle.section_laws.proofs.Laws.SerialLength.{freed_at_most}

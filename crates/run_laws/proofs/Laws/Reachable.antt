@@ -4,6 +4,7 @@ use Rattle.el_base.specs.Freed.{count_in, order_of}
 use Rattle.el_base.specs.declared.config.Config.{Config}
 use Rattle.el_base.specs.declared.events.Event.{Event}
 use Rattle.el_base.specs.declared.events.Kind.{Kind}
+use Rattle.el_base.proofs.Laws.Cases.{not_both}
 use Rattle.elf_image.specs.Program.{Program}
 use Rattle.el_model.specs.BusEvent.{IsBusEvent, freed_in}
 use Rattle.el_model.specs.Deed.{Arms, Begins, Buffers, Commits, Continues, Deed, Elides, LetsGo, Misses, Rests, RollsBack, Runs, Waits, committed_after}
@@ -24,7 +25,6 @@ use Rattle.run_laws.proofs.Laws.EventsBeside.{AllArmed, AllCovered, Sound, deed_
 use Rattle.run_laws.proofs.Laws.Kept.{kind_armed, kind_covered}
 use Rattle.run_laws.proofs.Laws.LettingGo.{IsGone, bus_beside, let_go_beside, let_go_memory, spared_or_gone}
 use Rattle.run_laws.proofs.Laws.Reached.{kept_along}
-use Rattle.run_laws.proofs.Laws.Tests.{not_both}
 use Rattle.run_laws.specs.Laws.{ArmedSectionsRunCovered, LettingGoChangesNothingBeside, LettingGoLeavesMemory, LiveSectionsRunCovered}
 use Rattle.run_laws.specs.Laws.{OtherHartsChangeNothingCovered}
 use Rattle.run_laws.specs.PrivateRun.{IsChangeBeside}

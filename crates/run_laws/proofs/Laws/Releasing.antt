@@ -1,9 +1,9 @@
 -- a section that comes to its release commits
 use Rattle.std.proofs.Common.{◌≡◌, ◌∙◌, ◌==◌, ℕ, true, false, List, None, Some, refl, ap, sym, if◌then◌else◌}
-use Rattle.bus_order.proofs.Laws.LookUps.{other_test}
 use Rattle.el_base.specs.declared.config.Config.{Config}
 use Rattle.el_base.specs.declared.events.Event.{Event}
 use Rattle.el_base.specs.declared.events.Kind.TheVariants as kinds
+use Rattle.el_base.proofs.Laws.Tests.{other_test}
 use Rattle.elf_image.specs.Program.{Program}
 use Rattle.el_model.specs.InSection.{Commits, by_section_rule, section_rule, section_turn, shown_in}
 use Rattle.el_model.specs.Next.{after, going_turn, kind_turn, next, stalled, status_turn, step_turn}

@@ -2,6 +2,8 @@
 use Rattle.std.proofs.Common.{◌≡◌, ◌∙◌, ◌≤◌, ◌<◌, ◌+◌, ◌%◌, ◌&&◌, ◌==◌, ℕ, zero, suc, Bool, true, false, not, List, Option, None, Some, is_some, refl}
 use Rattle.std.proofs.Common.{ap, sym, subst, arith, if◌then◌else◌}
 use Rattle.std.specs.Prelude.{MatchOption}
+use Rattle.std.proofs.lemmas.Option.{same_Some}
+use Rattle.std.proofs.lemmas.Bool.{not-true}
 use Rattle.residency.specs.Residency.{Way}
 use Rattle.elf_image.specs.Program.{code_word}
 use Rattle.el_model.specs.Armed.{is_quiet}
@@ -33,9 +35,9 @@ use Rattle.rv_word.specs.declared.insn.Insn.{Insn}
 use Rattle.rv_word.specs.declared.insn.Insn.TheVariants as insns
 use Rattle.rv_word.specs.declared.reg.Reg.{Reg}
 use Rattle.run_laws.proofs.Laws.Alike.{alone_base, alone_more}
-use Rattle.run_laws.proofs.Laws.Tests.{first_of_both, second_of_both}
 use Rattle.run_laws.proofs.Laws.WordStores.{StoresWord, acquires, stores_word, writes_store}
 use Rattle.run_laws.specs.PrivateRun.{IsAcquire, IsArmedRun}
+use Rattle.el_base.proofs.Laws.Tests.{first_of_both, second_of_both}
 use Rattle.el_base.proofs.Laws.Options.{none_from}
 
 -- the word at a pc is an LR
@@ -114,16 +116,13 @@ reserve_no_call : (insn : Option Insn) → is_load_reserved insn ≡ true → ca
 reserve_no_call (Some (insns.Lr rd rs1 aq rl)) is = refl
 reserve_no_call _ is = absurd (cc)
 
-same_some : {A : Type 0} (x y : A) → Some x ≡ Some y → x ≡ y
-same_some x y same = cc
-
 -- where an access reads
 IsReadAt : Access → ℕ → Type 0
 IsReadAt access from = (len : ℕ) × (access ≡ Read from len)
 
 read_from : (access : Access) (from : ℕ) → read_at access ≡ Some from → IsReadAt access from
 unfolding IsReadAt
-read_from (Read address len) from is = (len, ap (λ a. Read a len) (same_some address from is))
+read_from (Read address len) from is = (len, ap (λ a. Read a len) (same_Some address from is))
 read_from Nothing from is = absurd (cc)
 read_from (Write address len) from is = absurd (cc)
 read_from (Trap cause) from is = absurd (cc)
@@ -161,19 +160,15 @@ pub record Quiet (state : FlatState) (h : ℕ) : Type 0 where
   pub no_conditional : is_store_conditional (next_insn state h) ≡ false
   pub goes_on : calls_or_stops state h ≡ false
 
-not_so : (b : Bool) → not b ≡ true → b ≡ false
-not_so true is = absurd (cc)
-not_so false is = refl
-
 pub quiet_of : (state : FlatState) (h : ℕ) → is_quiet state h ≡ true → Quiet state h
 quiet_of state h is =
     let first = first_of_both (not (is_some (next_touch state h)) && not (is_store_conditional (next_insn state h))) (not (calls_or_stops state h)) is in
     record {
       untouched =
           none_from (next_touch state h)
-          (not_so (is_some (next_touch state h)) (first_of_both (not (is_some (next_touch state h))) _ first));
-      no_conditional = not_so (is_store_conditional (next_insn state h)) (second_of_both (not (is_some (next_touch state h))) _ first);
-      goes_on = not_so (calls_or_stops state h)
+          (not-true (is_some (next_touch state h)) (first_of_both (not (is_some (next_touch state h))) _ first));
+      no_conditional = not-true (is_store_conditional (next_insn state h)) (second_of_both (not (is_some (next_touch state h))) _ first);
+      goes_on = not-true (calls_or_stops state h)
           (second_of_both (not (is_some (next_touch state h)) && not (is_store_conditional (next_insn state h))) (not (calls_or_stops state h)) is);
     }
 
@@ -286,7 +281,7 @@ completes_by state h swap is = by (is_store_conditional (next_insn state h)) ref
         swap_of state store ≡ Some swap → Completes state h swap
     found conditional None none is = absurd (cc)
     found conditional (Some store) stores is =
-        let same = same_some _ swap is in
+        let same = same_Some _ swap is in
         record {
           conditional = conditional;
           stores =

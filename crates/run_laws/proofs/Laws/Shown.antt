@@ -6,6 +6,7 @@ use Rattle.residency.specs.Cache.{write_bit}
 use Rattle.residency.specs.Residency.{Way}
 use Rattle.el_base.specs.Line.{line_number}
 use Rattle.el_base.specs.declared.outcomes.Need.TheVariants as needs
+use Rattle.el_base.proofs.Laws.Cases.{not_both}
 use Rattle.el_model.specs.State.{Section}
 use Rattle.el_model.specs.Upcoming.{Touch, next_access, next_store, next_touch, overlaps, touch_of}
 use Rattle.rv_alu.proofs.Laws.Executions.{loaded-same}
@@ -23,7 +24,6 @@ use Rattle.rv_flat.specs.Memory.{byte_in, put_bytes}
 use Rattle.rv_flat.specs.Run.{alone}
 use Rattle.rv_flat.specs.Step.{flat, stored_by}
 use Rattle.run_laws.proofs.Laws.Alike.{alone_base, alone_more}
-use Rattle.run_laws.proofs.Laws.Tests.{not_both}
 use Rattle.run_laws.proofs.Laws.Reserving.{AcquiresAt, acquires_at}
 use Rattle.run_laws.proofs.Laws.WordStores.{StoresWord}
 use Rattle.run_laws.specs.Laws.{CoveredRunsShowTheirOwn}

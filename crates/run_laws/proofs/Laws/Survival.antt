@@ -2,11 +2,12 @@
 use Rattle.std.proofs.Common.{◌≡◌, ◌≤◌, ◌<◌, ◌+◌, ◌∙◌, ◌&&◌, ◌||◌, ℕ, zero, suc, Bool, true, false, not, List, None, Some, is_some, arith, refl, ap}
 use Rattle.std.proofs.Common.{sym, subst, if◌then◌else◌}
 use Rattle.std.specs.Prelude.{nat_lt}
-use Rattle.std.proofs.lemmas.Bool.{ltb-false, ltb-true}
+use Rattle.std.proofs.lemmas.Bool.{ltb-false, ltb-true, or_left}
 use Rattle.residency.specs.Cache.{has_bit, read_bit, write_bit}
 use Rattle.residency.specs.Residency.{Way}
 use Rattle.elf_image.specs.Program.{code_word}
 use Rattle.el_base.specs.Line.{line_number}
+use Rattle.el_base.proofs.Laws.Tests.{first_not, second_not}
 use Rattle.el_model.specs.Armed.{is_quiet}
 use Rattle.el_model.specs.State.{Armed, Section}
 use Rattle.el_model.specs.Upcoming.{Swap, calls, calls_or_stops, is_load_reserved, is_store_conditional, is_swap, next_access, next_conditional}
@@ -26,7 +27,6 @@ use Rattle.rv_word.specs.Decoding.{decoded}
 use Rattle.run_laws.proofs.Laws.Alike.{AlikeAt, DidAlike, SamePlaces, alike_more, alike_runs, alone_base, did_alike, same_access, same_execution}
 use Rattle.run_laws.proofs.Laws.Alike.{same_insn, same_span}
 use Rattle.run_laws.proofs.Laws.Reserving.{Completes, IsReserve, Quiet, Reserves, completes_by, lr-reserved, quiet_of, reserve_insn, reserves}
-use Rattle.run_laws.proofs.Laws.Tests.{first_not, or_left, second_not}
 use Rattle.run_laws.proofs.Laws.Touches.{IsOnBit, SameOnBits, agree_there, on_bit}
 use Rattle.run_laws.proofs.Laws.WordStores.{Acquires, IsAtomic, acquires, swap_insn}
 use Rattle.run_laws.specs.Laws.{ArmedRunsSurvive, CoveredRunsSurvive}

@@ -2,6 +2,7 @@
 -- with bits agree there
 use Rattle.std.proofs.Common.{◌≡◌, ◌≤◌, ◌<◌, ◌+◌, ◌-◌, ◌%◌, ◌∙◌, ℕ, true, List, Option, None, Some, arith, ap}
 use Rattle.std.specs.Prelude.{slice_index}
+use Rattle.std.proofs.lemmas.Bool.{or_right}
 use Rattle.residency.specs.Cache.{has_bit, read_bit}
 use Rattle.residency.specs.Residency.{Way}
 use Rattle.el_base.specs.Line.{line_number}
@@ -18,7 +19,6 @@ use Rattle.rv_flat.specs.FlatState.{FlatState, span_of, view_of}
 use Rattle.rv_flat.specs.Laws.{IsInOneLine}
 use Rattle.rv_flat.specs.Memory.{byte_in}
 use Rattle.rv_flat.proofs.Laws.StepLaws.{one_line-touched}
-use Rattle.run_laws.proofs.Laws.Tests.{or_right}
 use Rattle.run_laws.specs.PrivateRun.{HasItsBit}
 
 -- the line of what is touched has a bit

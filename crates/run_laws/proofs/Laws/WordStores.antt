@@ -1,7 +1,6 @@
 -- the two instructions of a lock: the swap that acquires it, and the store or swap that releases it; each stores a word
 use Rattle.std.proofs.Common.{◌≡◌, ◌∙◌, ℕ, ℤ, Bool, true, false, ◌||◌, Option, None, Some, refl, ap, sym, if◌then◌else◌, ◌==◌}
 use Rattle.std.specs.Prelude.{MatchOption}
-use Rattle.bus_order.proofs.Laws.LookUps.{number_of_test}
 use Rattle.elf_image.specs.Program.{code_word}
 use Rattle.el_model.specs.Upcoming.{Swap, calls, calls_or_stops, gives_back, is_release, is_swap, is_word, is_word_store, next_access, next_execution, next_store, next_swap, stops, swap_of}
 use Rattle.rv_alu.proofs.Laws.Executions.{amo-action, store-action}
@@ -20,7 +19,7 @@ use Rattle.rv_word.specs.declared.insn.Insn.TheVariants as insns
 use Rattle.rv_word.specs.declared.insn.StoreWidth.{StoreWidth}
 use Rattle.rv_word.specs.declared.insn.StoreWidth.TheVariants as widths
 use Rattle.rv_word.specs.declared.reg.Reg.{Reg}
-use Rattle.run_laws.proofs.Laws.Tests.{first_of_both, second_of_both}
+use Rattle.el_base.proofs.Laws.Tests.{first_of_both, number_of_test, second_of_both}
 
 -- what is stored is what is written
 pub writes_store : (state : FlatState) (h : ℕ) (store : Store) → next_store state h ≡ Some store →

@@ -7,6 +7,7 @@ use Rattle.std.proofs.Math.Arith.{mod-mul}
 use Rattle.std.proofs.Math.Nat.{pow-suc}
 use Rattle.rv_alu.specs.Loaded.{loaded}
 use Rattle.rv_flat.specs.Memory.{AreBytes, byte_in, put_bytes}
+use Rattle.el_base.proofs.Laws.Tests.{pow_256_pos}
 
 -- one byte less is to be put after the first one
 pub put_bytes_more : (bytes : List ℕ) (place n m value : ℕ) → n ≡ suc m →
@@ -47,13 +48,9 @@ pub put_bytes-bytes : (bytes : List ℕ) (place n value : ℕ) → AreBytes byte
 put_bytes-bytes bytes place zero value h = h
 put_bytes-bytes bytes place (suc n) value h = put_bytes-bytes (slice_set bytes place (value % 256)) (place + 1) n (value / 256) (set-bytes bytes place value h)
 
-some_bytes : (n : ℕ) → zero < 256 ^ n
-some_bytes zero = omega arith
-some_bytes (suc n) = let more : zero < 256 ^ n = some_bytes n in rw pow-suc (omega arith)
-
 digits : (n value : ℕ) → value % 256 + 256 * (value / 256 % 256 ^ n) ≡ value % 256 ^ suc n
 digits n value =
-    let split : value % (256 ^ n * 256) ≡ value / 256 % 256 ^ n * 256 + value % 256 = mod-mul value (some_bytes n) (lit< tt) in
+    let split : value % (256 ^ n * 256) ≡ value / 256 % 256 ^ n * 256 + value % 256 = mod-mul value (pow_256_pos n) (lit< tt) in
     rw pow-suc (omega arith)
 
 -- what is loaded where a number was just put is the number's low bytes

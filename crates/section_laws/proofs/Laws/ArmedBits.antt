@@ -1,13 +1,14 @@
 -- an armed section has read the line of its word alone, and its hart has no live section
-use Rattle.std.proofs.Common.{◌≡◌, ◌∙◌, ◌||◌, ◌⊎◌, ℕ, Bool, true, false, List, Option, None, Some, is_some, refl, ap, sym, subst, inl, inr, ◌&&◌, ◌==◌, not}
-use Rattle.std.proofs.lemmas.Bool.{cases_eq}
+use Rattle.std.proofs.Common.{◌≡◌, ◌∙◌, ◌⊎◌, ℕ, Bool, true, false, List, Option, None, Some, is_some, refl, ap, sym, subst, inl, inr, ◌&&◌, ◌==◌, not}
+use Rattle.std.proofs.lemmas.Bool.{cases_eq, false_from_ne_true, or_parts}
 use Rattle.bus_order.specs.Order.{Request}
-use Rattle.bus_order.proofs.Laws.LookUps.{number_of_test}
 use Rattle.residency.specs.Cache.{bit_in, has_marks, is_resident, marked, read_bit, touched, way_of, write_bit}
 use Rattle.residency.specs.Residency.{Way}
 use Rattle.residency.proofs.Laws.MarkLemmas.{no_marks}
 use Rattle.el_base.specs.Line.{line_number}
 use Rattle.el_base.specs.declared.outcomes.Need.TheVariants.{Read, Write}
+use Rattle.el_base.proofs.Laws.Cases.{clash, none_some, some_none}
+use Rattle.el_base.proofs.Laws.Tests.{first_of_both, number_of_test, second_of_both}
 use Rattle.el_model.specs.Deed.{Arms, Begins, Buffers, Commits, Continues, Deed, DoesWhere, Elides, LetsGo, Misses, Rests, RollsBack, Runs, Waits, hart_after}
 use Rattle.el_model.specs.Armed.{completes}
 use Rattle.el_model.specs.Conflicts.{is_wanted_to_write}
@@ -17,8 +18,8 @@ use Rattle.el_model.specs.Serve.{others_have, own_copy, with_claim}
 use Rattle.el_model.specs.State.{Armed, Hart, ModelState, Section, cache_of, hart_of}
 use Rattle.el_model.proofs.Laws.HartParts.{candidate_armed}
 use Rattle.section_laws.specs.EachHart.{HasNoOtherBit}
-use Rattle.section_laws.proofs.Laws.Bits.{NoBitMore, clash, no_more_marked, no_more_others, no_more_own, no_more_touched, no_more_twice, unless}
-use Rattle.section_laws.proofs.Laws.Bits.{first_of_both, second_of_both, some_none, write_of_read_marked}
+use Rattle.section_laws.proofs.Laws.Bits.{NoBitMore, no_more_marked, no_more_others, no_more_own, no_more_touched, no_more_twice}
+use Rattle.section_laws.proofs.Laws.Bits.{write_of_read_marked}
 use Rattle.section_laws.proofs.Laws.EachKept.{BusKept, EachKept}
 use Rattle.section_laws.proofs.OnlyInside as inside
 
@@ -33,32 +34,27 @@ Alone hart = (armed : Armed) → hart.armed ≡ Some armed → ReadsAlone armed.
 abbrev pub Holds : Hart → Type 0
 Holds hart = inside.Holds hart × Alone hart
 
-none_some : {A X : Type 0} {x : A} → None ≡ Some x → X
-none_some wrong = absurd (cc)
-
 pub same_word : {one other : Armed} → Some one ≡ Some other → one.word ≡ other.word
 same_word {one} {other} is = let same : one ≡ other = cc in ap (λ armed. armed.word) same
 
 -- a cache with no more bits
 fewer_bits : (word : ℕ) (old new : List (List Way)) → ((line : ℕ) → NoBitMore old new line) → HasNoOtherBit word old → HasNoOtherBit word new
 fewer_bits word old new no_more was = record {
-  unwritten = λ line. unless (write_bit new line) (λ is. clash (was.unwritten line) ((no_more line).write is));
-  alone = λ line other. unless (read_bit new line) (λ is. clash (was.alone line other) ((no_more line).read is));
+  unwritten = λ line.
+      false_from_ne_true (write_bit new line) (λ is. clash (was.unwritten line) ((no_more line).write is));
+  alone = λ line other.
+      false_from_ne_true (read_bit new line) (λ is. clash (was.alone line other) ((no_more line).read is));
 }
 
 -- a cache without bits, as a hart arms
-neither : (a b : Bool) → (a || b) ≡ false → (a ≡ false) × (b ≡ false)
-neither true b is = absurd (cc)
-neither false b is = (refl, is)
-
 armed_bits : (cache : List (List Way)) (word : ℕ) → has_marks cache ≡ false →
     HasNoOtherBit word (touched (marked cache (line_number word) Read) (line_number word))
 armed_bits cache word bare = record {
   unwritten = λ line.
-      unless (write_bit new line)
+      false_from_ne_true (write_bit new line)
       (λ is. clash (none line).1 (old_write line (cases_eq line (line_number word)) ((no_more_touched reads (line_number word) line).write is)));
   alone = λ line other.
-      unless (read_bit new line)
+      false_from_ne_true (read_bit new line)
       (λ is.
       clash (none line).0
       ((no_more_marked cache (line_number word) line Read other).read ((no_more_touched reads (line_number word) line).read is)));
@@ -71,7 +67,7 @@ armed_bits cache word bare = record {
     new = touched (marked cache (line_number word) Read) (line_number word)
 
     none : (line : ℕ) → (read_bit cache line ≡ false) × (write_bit cache line ≡ false)
-    none line = neither (read_bit cache line) (write_bit cache line) (no_marks cache line bare)
+    none line = or_parts (read_bit cache line) (write_bit cache line) (no_marks cache line bare)
 
     old_write : (line : ℕ) → (line ≡ line_number word) ⊎ (line ≡ line_number word → ⊥) →
         bit_in Write (way_of (marked cache (line_number word) Read) line) ≡ true → write_bit cache line ≡ true

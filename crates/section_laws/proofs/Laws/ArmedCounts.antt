@@ -1,11 +1,13 @@
 -- an armed section has from 1 to 15 instructions, and fewer than a section may have
-use Rattle.std.proofs.Common.{◌≡◌, ◌∙◌, ◌≤◌, ◌&&◌, ℕ, suc, Bool, true, false, None, Some, is_some, refl, ap, sym, subst, arith}
+use Rattle.std.proofs.Common.{◌≡◌, ◌∙◌, ◌≤◌, ℕ, suc, true, Some, is_some, refl, ap, sym, subst, arith}
 use Rattle.std.specs.Prelude.{nat_lt}
-use Rattle.std.proofs.lemmas.Bool.{ltb-true}
+use Rattle.std.proofs.lemmas.Bool.{and_parts, ltb-true}
+use Rattle.std.proofs.lemmas.Option.{same_Some}
 use Rattle.el_base.proofs.Laws.Ranges.{at_least, ranges}
 use Rattle.el_base.specs.Config.{IsInRange}
 use Rattle.el_base.specs.declared.config.Config.{Config}
 use Rattle.el_base.specs.declared.events.Event.{Event}
+use Rattle.el_base.proofs.Laws.Cases.{none_some}
 use Rattle.elf_image.specs.Program.{Program}
 use Rattle.el_model.specs.Armed.{may_grow}
 use Rattle.el_model.specs.Deed.{Arms, Begins, Buffers, Commits, Continues, Deed, DoesWhere, Elides, LetsGo, Misses, Rests, RollsBack, Runs, Waits, hart_after}
@@ -22,12 +24,6 @@ use Rattle.section_laws.proofs.Laws.EachKept.{BusKept, event_keeps}
 
 abbrev Short : ℕ → Hart → Type 0
 Short long hart = (armed : Armed) → hart.armed ≡ Some armed → IsShortArmed long armed
-
-none_some : {A X : Type 0} {x : A} → None ≡ Some x → X
-none_some wrong = absurd (cc)
-
-same_some : {A : Type 0} {x y : A} → Some x ≡ Some y → x ≡ y
-same_some is = cc
 
 kept : (long : ℕ) → BusKept (λ h hart. Short long hart)
 kept long = record {
@@ -47,14 +43,10 @@ kept long = record {
 }
 
 -- one more instruction
-both : (a b : Bool) → (a && b) ≡ true → (a ≡ true) × (b ≡ true)
-both true b is = (refl, is)
-both false b is = absurd (cc)
-
 grown : (state : ModelState) (long : ℕ) (armed : Armed) → state.config.long ≡ long → may_grow state armed ≡ true → IsShortArmed long armed →
     IsShortArmed long (record armed { count = suc armed.count })
 grown state long armed is grows now =
-    let tests = both (nat_lt armed.count 15) (nat_lt (suc armed.count) state.config.long) grows in
+    let tests = and_parts (nat_lt armed.count 15) (nat_lt (suc armed.count) state.config.long) grows in
     let few = ltb-true armed.count 15 tests.0 in
     let below = ltb-true (suc armed.count) state.config.long tests.1 in
     record { some = omega arith; few = omega (arith, few); within = omega (arith, below, is) }
@@ -71,11 +63,11 @@ deed_short state long h (Buffers section touch) is two does now = now
 deed_short state long h (Commits section) is two does now = λ armed found. none_some found
 deed_short state long h (RollsBack section cause) is two does now = λ armed found. none_some found
 deed_short state long h (Arms word) is two does now = λ armed found.
-    subst (IsShortArmed long) (same_some found)
+    subst (IsShortArmed long) (same_Some _ _ found)
     (record { some = omega arith; few = omega arith; within = omega (arith, two) })
 deed_short state long h (Elides armed swap) is two does now = λ other found. none_some found
 deed_short state long h (Continues before) is two continues now = λ armed found.
-    subst (IsShortArmed long) (same_some found)
+    subst (IsShortArmed long) (same_Some _ _ found)
     (grown state long before is continues.grows (now before continues.is_armed.armed_is))
 deed_short state long h (LetsGo armed) is two does now = λ other found. none_some found
 

@@ -1,13 +1,14 @@
 -- which sections meet a request, and how a change of a cache leaves no bit more
 use Rattle.std.proofs.Common.{◌≡◌, ◌≢◌, ◌∙◌, ◌≤◌, ◌==◌, ◌&&◌, ◌||◌, ℕ, Bool, true, false, not, List, [], ◌∷◌, Option, None, Some, is_some, option_map, refl, ap, sym, inl, inr, ◌⊎◌, arith}
-use Rattle.std.proofs.lemmas.Bool.{cases_eq}
+use Rattle.std.proofs.lemmas.Bool.{and_from, cases_eq, or_left, or_right}
 use Rattle.bus_order.specs.Order.{Request}
-use Rattle.bus_order.proofs.Laws.LookUps.{other_test, own_test}
 use Rattle.residency.specs.Cache.{bit_in, cleared, filled_with, has_bit, is_resident, letter_of, lettered, marked, touched, way_of, without_line}
 use Rattle.residency.specs.Residency.{Way, with_bit, with_letter, without_bits}
 use Rattle.residency.proofs.Laws.CacheLemmas.{way_of-cleared, way_of-filled_with_same, way_of-lettered_other, way_of-lettered_same, way_of-marked_other, way_of-marked_same, way_of-touched, way_of-without_line_other, way_of-without_line_same}
 use Rattle.el_base.specs.declared.outcomes.Need.{Need}
 use Rattle.el_base.specs.declared.outcomes.Need.TheVariants.{Read, Write}
+use Rattle.el_base.proofs.Laws.Tests.{first_of_both, other_test, own_test, second_of_both}
+use Rattle.el_base.proofs.Laws.Cases.{clash}
 use Rattle.el_model.specs.Conflicts.{conflicts, meets_bit}
 use Rattle.el_model.specs.Serve.{given_up, kept_letter, others_cache, own_copy}
 use Rattle.el_model.specs.State.{Hart}
@@ -16,47 +17,12 @@ use Rattle.moesi.specs.Letters.{filled_of, on_read_of}
 use Rattle.moesi.specs.declared.letter.Letter.{Letter}
 use Rattle.section_laws.proofs.Steady.{StaysOrLeaves, other_filled}
 
--- tests
-pub both : {a b : Bool} → a ≡ true → b ≡ true → (a && b) ≡ true
-both {a} {b} first second = rw first second
-
-pub first_of_both : (a b : Bool) → (a && b) ≡ true → a ≡ true
-first_of_both true b is = refl
-first_of_both false b is = absurd (cc)
-
-pub second_of_both : (a b : Bool) → (a && b) ≡ true → b ≡ true
-second_of_both true b is = is
-second_of_both false b is = absurd (cc)
-
 pub either : (a b : Bool) → (a || b) ≡ true → (a ≡ true) ⊎ (b ≡ true)
 either true b is = inl refl
 either false b is = inr is
 
-pub or_first : {a : Bool} (b : Bool) → a ≡ true → (a || b) ≡ true
-or_first {a} b is = rw is refl
-
-pub or_second : (a : Bool) {b : Bool} → b ≡ true → (a || b) ≡ true
-or_second true is = refl
-or_second false is = is
-
-pub clash : {X : Type 0} {b : Bool} → b ≡ false → b ≡ true → X
-clash without with_it = never (sym without ∙ with_it)
-  where
-    never : {X : Type 0} → false ≡ true → X
-    never is = absurd (cc)
-
-pub unless : (b : Bool) → (b ≡ true → ⊥) → b ≡ false
-unless true never = absurd (never refl)
-unless false never = refl
-
 pub no_less : (n : ℕ) → n ≤ n
 no_less n = omega arith
-
-pub some_none : {A X : Type 0} {x : A} → Some x ≡ None → X
-some_none wrong = absurd (cc)
-
-pub some_same : {A : Type 0} {x y : A} → Some x ≡ Some y → x ≡ y
-some_same is = cc
 
 -- a section that meets a request: it is live, another hart's, and has a bit in the way
 pub record Meets (request : Request) (h : ℕ) (hart : Hart) : Type 0 where
@@ -74,7 +40,7 @@ meets request h hart is =
     }
 
 pub in_the_way : (request : Request) (h : ℕ) (hart : Hart) → Meets request h hart → conflicts request h hart ≡ true
-in_the_way request h hart it = both (both (ap not (other_test request.hart h it.other)) it.live) it.bit
+in_the_way request h hart it = and_from _ _ (and_from _ _ (ap not (other_test request.hart h it.other)) it.live) it.bit
 
 -- a way has no bit more than another
 pub record NoMore (old new : Option Way) : Type 0 where
@@ -96,8 +62,8 @@ pub no_more_any : (old new : Option Way) → NoMore old new → (bit_in Read new
 no_more_any old new no_more is = by (either (bit_in Read new) (bit_in Write new) is)
   where
     by : (bit_in Read new ≡ true) ⊎ (bit_in Write new ≡ true) → (bit_in Read old || bit_in Write old) ≡ true
-    by (inl read) = or_first (bit_in Write old) (no_more.read read)
-    by (inr write) = or_second (bit_in Read old) (no_more.write write)
+    by (inl read) = or_left _ (bit_in Write old) (no_more.read read)
+    by (inr write) = or_right (bit_in Read old) _ (no_more.write write)
 
 -- what the words of a cache do
 abbrev pub NoBitMore : List (List Way) → List (List Way) → ℕ → Type 0

@@ -7,6 +7,7 @@ use Rattle.std.proofs.lemmas.Bool.Decides.{nat_tests}
 use Rattle.std.specs.List.{count_by}
 use Rattle.std.proofs.lemmas.List.{length-replicate}
 use Rattle.std.proofs.lemmas.List.Sums.{sum_by-cons}
+use Rattle.std.proofs.lemmas.Option.{same_Some}
 use Rattle.bus_order.specs.Order.{Request, removed, request_of}
 use Rattle.bus_order.proofs.Laws.LookUps.{request_of_removed_other, request_of_removed_own}
 use Rattle.bus_order.proofs.Laws.Queues.{hart_of_request_of}
@@ -22,6 +23,7 @@ use Rattle.el_base.specs.declared.events.Event.{Event}
 use Rattle.el_base.specs.declared.outcomes.Need.{Need}
 use Rattle.el_base.specs.declared.outcomes.Need.TheVariants.{Read, Write}
 use Rattle.el_base.proofs.Laws.Ranges.{at_least, ranges}
+use Rattle.el_base.proofs.Laws.Cases.{none_some, some_none}
 use Rattle.elf_image.specs.Program.{Program}
 use Rattle.el_model.specs.BusEvent.{IsBusEvent, Nothing, Places, Serves, Start, StartsWhere, Takes, having_taken}
 use Rattle.el_model.specs.BusEvent.{order_after, order_at, started}
@@ -51,7 +53,7 @@ use Rattle.section_laws.proofs.OnlyInside as inside
 use Rattle.section_laws.proofs.Laws.OrderedHarts.{AreBelow, below_kept}
 use Rattle.section_laws.proofs.Laws.ServedCaches.{own_after}
 use Rattle.section_laws.proofs.Laws.Waiting.{Rested, Sound, always_settled, always_sound, free_of_order, next_settled, no_request}
-use Rattle.section_laws.proofs.Laws.Waiting.{order_other, rested_in, same_request, settled_by, sound_in}
+use Rattle.section_laws.proofs.Laws.Waiting.{order_other, rested_in, settled_by, sound_in}
 
 -- a hart's cache with what it has left for the hart's request, raised or ordered
 pub record IsBounded (config : Config) (cache : List (List Way)) (raised ordered : Option Request) : Type 0 where
@@ -62,12 +64,6 @@ pub record IsBounded (config : Config) (cache : List (List Way)) (raised ordered
 -- of each hart of the machine, with these requests in order
 abbrev Within : Config → ℕ → (ℕ → Option Request) → ℕ → Hart → Type 0
 Within config count ordered h hart = h < count → IsBounded config hart.cache hart.raised (ordered h)
-
-some_none : {A X : Type 0} {x : A} → Some x ≡ None → X
-some_none wrong = absurd (cc)
-
-none_some : {A X : Type 0} {x : A} → None ≡ Some x → X
-none_some wrong = absurd (cc)
 
 -- a hart that waits for nothing
 free_bounded : (config : Config) (cache : List (List Way)) (raised ordered : Option Request) → raised ≡ None → ordered ≡ None →
@@ -153,7 +149,7 @@ missed_bounded : (state : ModelState) (h : ℕ) (request : Request) → ordered_
     HasPlace state.config (cache_of state h) request → IsBounded state.config (cache_of state h) (Some request) (ordered_of state h)
 missed_bounded state h request free now place = record {
   cache_is = now;
-  for_raised = λ other is. subst (HasPlace state.config (cache_of state h)) (same_request request other is) place;
+  for_raised = λ other is. subst (HasPlace state.config (cache_of state h)) (same_Some request other is) place;
   for_ordered = λ other is. some_none (sym is ∙ free);
 }
 

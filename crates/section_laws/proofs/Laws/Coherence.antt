@@ -7,7 +7,6 @@ use Rattle.std.specs.Prelude.{nat_lt}
 use Rattle.std.proofs.lemmas.Bool.{cases_eq, ltb-true, ltb-false}
 use Rattle.std.proofs.lemmas.Bool.Decides.{nat_tests}
 use Rattle.bus_order.specs.Order.{Request}
-use Rattle.bus_order.proofs.Laws.LookUps.{number_of_test, other_test}
 use Rattle.residency.specs.Cache.{bit_in, is_resident, letter_in, letter_of, marked, touched, way_of}
 use Rattle.residency.specs.Residency.{Way, way_in, with_bit, with_letter}
 use Rattle.residency.proofs.Laws.CacheLemmas.{way_of-touched}
@@ -16,6 +15,7 @@ use Rattle.el_base.specs.declared.config.Config.{Config}
 use Rattle.el_base.specs.declared.events.Event.{Event}
 use Rattle.el_base.specs.declared.outcomes.Need.{Need}
 use Rattle.el_base.specs.declared.outcomes.Need.TheVariants.{Read, Write}
+use Rattle.el_base.proofs.Laws.Tests.{number_of_test, other_test}
 use Rattle.elf_image.specs.Program.{Program}
 use Rattle.el_model.specs.BusEvent.{Becomes, IsBusEvent, Nothing, Places, Serves, Start, StartsWhere, Takes}
 use Rattle.el_model.specs.BusEvent.{having_taken, started}

@@ -1,13 +1,15 @@
 -- a hart whose section, where one is live, was live before and has no bit more on a line meets no more requests there
 use Rattle.std.proofs.Common.{◌≡◌, ◌≢◌, ℕ, false, Option, None, Some, is_some, refl, ap, sym, subst}
+use Rattle.std.proofs.lemmas.Bool.{false_from_ne_true}
 use Rattle.bus_order.specs.Order.{Request}
 use Rattle.residency.specs.Cache.{way_of}
 use Rattle.el_model.specs.Conflicts.{conflicts, conflicts_with}
 use Rattle.el_model.specs.Serve.{bystander, served_hart, with_claim}
 use Rattle.el_model.specs.State.{Hart, ModelState, Section}
-use Rattle.section_laws.proofs.Laws.Bits.{Fewer, NoBitMore, clash, fewer_conflicts, fewer_ended, unless}
+use Rattle.section_laws.proofs.Laws.Bits.{Fewer, NoBitMore, fewer_conflicts, fewer_ended}
 use Rattle.section_laws.proofs.Laws.Bits.{no_more_cleared, no_more_marked, no_more_others, no_more_own, no_more_touched, no_more_twice}
 use Rattle.section_laws.proofs.Laws.Moves.{Moves}
+use Rattle.el_base.proofs.Laws.Cases.{clash}
 
 -- the moves of an event of the bus
 pub fewer_moves : (line : ℕ) (start : ℕ → Hart) → Moves (λ h hart. Fewer line (start h) hart)
@@ -30,7 +32,7 @@ pub fewer_unmet : (head : Option Request) (h line : ℕ) (old new : Hart) → ((
     Fewer line old new → conflicts_with head h old ≡ false → conflicts_with head h new ≡ false
 fewer_unmet None h line old new own fewer unmet = refl
 fewer_unmet (Some head) h line old new own fewer unmet =
-    unless (conflicts head h new)
+    false_from_ne_true (conflicts head h new)
     (λ met. clash unmet (fewer_conflicts head h old new (subst (λ l. Fewer l old new) (sym (own head refl)) fewer) met))
 
 -- a request is served: on another line

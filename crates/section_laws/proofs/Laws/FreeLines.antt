@@ -1,15 +1,15 @@
 -- where nothing is in the way of a read, no other hart's section has written its line
-use Rattle.std.proofs.Common.{◌≡◌, ◌≢◌, ◌∙◌, ◌<◌, ◌+◌, ◌==◌, ℕ, zero, suc, Bool, true, false, ◌&&◌, ◌||◌, not, List, [], ◌∷◌, length, Option, None, Some, is_some, refl, ap, sym, arith, if◌then◌else◌}
+use Rattle.std.proofs.Common.{◌≡◌, ◌≢◌, ◌∙◌, ◌<◌, ◌+◌, ◌==◌, ℕ, zero, suc, Bool, true, false, ◌&&◌, not, List, [], ◌∷◌, length, Option, None, Some, is_some, refl, ap, sym, arith, if◌then◌else◌}
 use Rattle.std.specs.List.{list_any}
 use Rattle.std.proofs.lemmas.Bool.Decides.{nat_tests}
 use Rattle.bus_order.specs.Order.{IsOneEach, Request, first_of, request_of}
-use Rattle.bus_order.proofs.Laws.LookUps.{number_of_test, other_test}
 use Rattle.bus_order.proofs.Laws.Queues.{hart_of_request_of, request_of_first_of}
 use Rattle.residency.specs.Cache.{bit_in, has_marks, set_number, set_of, way_of}
 use Rattle.residency.specs.Residency.{Way, is_marked, way_in}
 use Rattle.residency.proofs.Laws.Unmarked.{bare_at}
 use Rattle.el_base.specs.declared.outcomes.Need.TheVariants.{Read, Write}
 use Rattle.el_base.specs.declared.outcomes.Why.{Why}
+use Rattle.el_base.proofs.Laws.Tests.{first_not, number_of_test, other_test, second_not}
 use Rattle.el_model.specs.Conflicts.{conflicts_with, first_such, meets_bit, retainer_of, retains}
 use Rattle.el_model.specs.Serve.{Free, Obstacle, blocks_if, obstacle_to, other_head}
 use Rattle.el_model.specs.State.{Armed, Hart, ModelState, Section, armed_of, cache_of, count_up, hart_of, head_of, ordered_of, section_of}
@@ -20,14 +20,6 @@ use Rattle.section_laws.proofs.Laws.SectionSteps.{live_exists}
 abbrev pub NotWritten : Option Way → Type 0
 NotWritten None = Unit {0}
 NotWritten (Some way) = way.write ≡ false
-
-pub first_not : (a b : Bool) → (a || b) ≡ false → a ≡ false
-first_not true b is = is
-first_not false b is = refl
-
-pub second_not : (a b : Bool) → (a || b) ≡ false → b ≡ false
-second_not true b is = absurd (cc)
-second_not false b is = is
 
 unmarked_in : (set : List Way) (line : ℕ) → list_any is_marked set ≡ false → NotWritten (way_in set line)
 unmarked_in [] line bare = tt

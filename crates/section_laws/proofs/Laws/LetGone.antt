@@ -2,9 +2,10 @@
 use Rattle.std.proofs.Common.{◌≡◌, ◌≢◌, ◌∙◌, ◌==◌, ◌&&◌, ◌||◌, ◌⊎◌, ℕ, Bool, true, false, not, List, [], ◌∷◌, Option, None, Some, is_some, option_map}
 use Rattle.std.proofs.Common.{refl, ap, sym, subst, inl, inr, if◌then◌else◌}
 use Rattle.std.specs.Option.{option_or}
-use Rattle.std.proofs.lemmas.Bool.{cases_eq}
+use Rattle.std.proofs.lemmas.Bool.{cases_eq, false_from_ne_true}
+use Rattle.std.proofs.lemmas.Option.{same_Some}
 use Rattle.bus_order.specs.Order.{IsOneEach, Request, first_of, removed}
-use Rattle.bus_order.proofs.Laws.LookUps.{first_of_appended_other, first_of_appended_own, first_of_in_front_of_other, first_of_in_front_of_own, other_test}
+use Rattle.bus_order.proofs.Laws.LookUps.{first_of_appended_other, first_of_appended_own, first_of_in_front_of_other, first_of_in_front_of_own}
 use Rattle.bus_order.proofs.Laws.Queues.{first_of_removed_other, hart_of_request_of, line_of_first_of}
 use Rattle.residency.specs.Cache.{bit_in, has_bit, is_resident, letter_in, letter_of, lettered, marked, read_bit, touched, way_of, write_bit}
 use Rattle.residency.specs.Residency.{Way, with_bit, with_letter}
@@ -14,6 +15,8 @@ use Rattle.el_base.specs.declared.config.Config.{Config}
 use Rattle.el_base.specs.declared.events.Event.{Event}
 use Rattle.el_base.specs.declared.outcomes.Need.{Need}
 use Rattle.el_base.specs.declared.outcomes.Need.TheVariants.{Read, Write}
+use Rattle.el_base.proofs.Laws.Cases.{clash, none_some, some_none}
+use Rattle.el_base.proofs.Laws.Tests.{other_test}
 use Rattle.elf_image.specs.Program.{Program}
 use Rattle.el_model.specs.Armed.{freed_hart, is_freed, let_go, let_go_hart}
 use Rattle.el_model.specs.BusEvent.{IsBusEvent, Nothing, Places, Serves, Start, StartsWhere, Takes, as_met, faced_head, having_taken}
@@ -42,21 +45,12 @@ use Rattle.rv_flat.specs.FlatState.{status_of, view_of}
 use Rattle.section_laws.specs.Laws.{ArmedHartsWaitForNothing, ArmedSectionsHaveOneReadBit, NoHartIsLiveAndArmed, OrderedWritesMeetNoArmedHart}
 use Rattle.section_laws.specs.Waiting.{RunsWithNothing}
 use Rattle.section_laws.proofs.Laws.ArmedBits as bits
+use Rattle.section_laws.proofs.Laws.Bits.{NoBitMore, no_more_any, no_more_others, no_more_same}
 use Rattle.section_laws.proofs.Laws.ArmedBits.{same_word}
-use Rattle.section_laws.proofs.Laws.Bits.{NoBitMore, clash, no_more_any, no_more_others, no_more_same, unless}
 use Rattle.section_laws.proofs.Laws.Coherence as coherence
 use Rattle.section_laws.proofs.Laws.FreeLines.{head_is, not_blocked}
 use Rattle.section_laws.proofs.Laws.Moves.{Moves, faced_keeps, moved, step_keeps, taken_keeps}
 use Rattle.section_laws.proofs.Laws.Waiting.{Rested, live_unarmed, none_freed, unarmed_ordered}
-
-none_some : {A X : Type 0} {x : A} → None ≡ Some x → X
-none_some wrong = absurd (cc)
-
-some_none : {A X : Type 0} {x : A} → Some x ≡ None → X
-some_none wrong = absurd (cc)
-
-same_some : {A : Type 0} {x y : A} → Some x ≡ Some y → x ≡ y
-same_some is = cc
 
 -- a head lets no hart go
 abbrev pub Unfreed : Request → ℕ → Hart → Type 0
@@ -220,7 +214,7 @@ unasked (request ∷ order) h line head is none =
         ((here && not (request.hart == h) && is_write request) || is_asked is_write order h line) ≡ false →
         (is_write head && not (head.hart == h)) ≡ false
     by true rest is none =
-        subst (λ r. (is_write r && not (r.hart == h)) ≡ false) (same_some is)
+        subst (λ r. (is_write r && not (r.hart == h)) ≡ false) (same_Some _ _ is)
         (first (not (request.hart == h)) (is_write request) (is_asked is_write order h line) none)
     by false rest is none = rest is none
 
@@ -480,7 +474,7 @@ no_hart_is_live_and_armed program config events h armed is =
 
 pub ordered_writes_meet_no_armed_hart : OrderedWritesMeetNoArmedHart
 ordered_writes_meet_no_armed_hart program config events line head h armed found write apart is =
-    unless (has_bit (cache_of state h) line)
+    false_from_ne_true (has_bit (cache_of state h) line)
     (λ bit.
     clash ((always_guarded program config events).gone line head found h)
     (all_four (is_write head) (not (head.hart == h)) (is_some (armed_of state h)) (has_bit (cache_of state h) head.line) (ap writes write)

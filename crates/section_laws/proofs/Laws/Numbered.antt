@@ -10,6 +10,7 @@ use Rattle.el_base.specs.Config.{IsInRange}
 use Rattle.el_base.specs.declared.config.Config.{Config}
 use Rattle.el_base.proofs.Laws.Ranges.{harts_in_range}
 use Rattle.el_base.specs.declared.events.Event.{Event}
+use Rattle.el_base.proofs.Laws.Cases.{some_none}
 use Rattle.elf_image.specs.Program.{Program}
 use Rattle.el_model.specs.BusEvent.{Nothing, Places, Serves, Start, StartsWhere, Takes, order_after, order_at}
 use Rattle.el_model.specs.Losses.{AreNumbered, HartsAreNumbered}
@@ -39,9 +40,6 @@ pub record KeptInOrder (P : List Request → Type 0) (count : ℕ) : Type 0 wher
   pub placed_before : (order : List Request) (request : Request) → request.hart < count → request_of order request.hart ≡ None → P order →
       P (in_front_of order request)
   pub taken_out : (order : List Request) (h : ℕ) → P order → P (removed order h)
-
-some_none : {A X : Type 0} {x : A} → Some x ≡ None → X
-some_none wrong = absurd (cc)
 
 -- a hart with a raised request is one of the machine's
 raised_below : (state : ModelState) (h : ℕ) (request : Request) → raised_of state h ≡ Some request → (below : Bool) →

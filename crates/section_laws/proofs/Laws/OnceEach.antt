@@ -124,7 +124,8 @@ once_filled : (ways : ℕ) (cache : List (List Way)) (line : ℕ) (letter : Lett
 once_filled ways cache line letter new =
     once_with cache line _
     (λ once. (
-      absent_left (set_of cache line) (evicted_in ways (set_of cache line)) line (none_from (way_of cache line) new),
+      absent_left (set_of cache line) (evicted_in ways (set_of cache line)) line
+          (none_from (way_of cache line) new),
       once_left (set_of cache line) (evicted_in ways (set_of cache line)) once,
     ))
 

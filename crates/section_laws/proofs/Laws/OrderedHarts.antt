@@ -1,15 +1,13 @@
 -- an ordered request is of a hart of the machine
-use Rattle.std.proofs.Common.{◌≡◌, ◌∙◌, ◌<◌, ℕ, List, None, Some, ap, sym, inl, inr}
+use Rattle.std.proofs.Common.{◌≡◌, ◌∙◌, ◌<◌, ℕ, List, Some, ap, sym, inl, inr}
 use Rattle.std.proofs.lemmas.Bool.{cases_eq}
 use Rattle.bus_order.specs.Order.{Request, removed, request_of}
 use Rattle.bus_order.proofs.Laws.LookUps.{request_of_appended_other, request_of_in_front_of_other, request_of_removed_other, request_of_removed_own}
 use Rattle.section_laws.proofs.Laws.Numbered.{KeptInOrder}
+use Rattle.el_base.proofs.Laws.Cases.{none_some}
 
 abbrev pub AreBelow : ℕ → List Request → Type 0
 AreBelow count order = (h : ℕ) (request : Request) → request_of order h ≡ Some request → h < count
-
-none_some : {A X : Type 0} {x : A} → None ≡ Some x → X
-none_some wrong = absurd (cc)
 
 pub below_kept : (count : ℕ) → KeptInOrder (AreBelow count) count
 below_kept count = record {

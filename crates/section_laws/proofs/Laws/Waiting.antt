@@ -2,6 +2,7 @@
 use Rattle.std.proofs.Common.{◌≡◌, ◌≢◌, ◌∙◌, ℕ, ◌≤◌, ◌+◌, Bool, true, false, ◌||◌, List, Option, None, Some, is_some, length, refl, ap, sym, subst}
 use Rattle.std.proofs.Common.{inl, inr, ◌⊎◌}
 use Rattle.std.proofs.lemmas.Bool.{cases_eq}
+use Rattle.std.proofs.lemmas.Option.{same_Some}
 use Rattle.bus_order.specs.Order.{Request, removed, request_of}
 use Rattle.bus_order.proofs.Laws.LookUps.{request_of_appended_other, request_of_in_front_of_other, request_of_removed_other, request_of_removed_own}
 use Rattle.bus_order.proofs.Laws.Queues.{hart_of_request_of}
@@ -9,6 +10,7 @@ use Rattle.el_base.proofs.Laws.FreedOrder.{no_one_in_order}
 use Rattle.el_base.specs.declared.config.Config.{Config}
 use Rattle.el_base.specs.declared.outcomes.Need.{Need}
 use Rattle.el_base.specs.declared.events.Event.{Event}
+use Rattle.el_base.proofs.Laws.Cases.{some_none}
 use Rattle.elf_image.specs.Program.{Program}
 use Rattle.el_model.specs.Armed.{freed_hart, is_freed, let_go, let_go_hart}
 use Rattle.el_model.specs.BusEvent.{IsBusEvent, Nothing, Places, Serves, Start, StartsWhere, Takes, as_met, faced_head, having_taken}
@@ -67,9 +69,6 @@ rested_in state settled h = (settled h).1
 
 pub settled_by : (state : ModelState) → Sound state → Rested state → Settled state
 settled_by state sound rested h = (sound h, rested h)
-
-some_none : {A X : Type 0} {x : A} → Some x ≡ None → X
-some_none wrong = absurd (cc)
 
 -- a hart that has nothing
 nothing : (h : ℕ) (status : HartStatus) (ordered : Option Request) (section : Option Section) (raised : Option Request) (held : Option ℕ) →
@@ -402,16 +401,13 @@ ended_waits : (h : ℕ) (status : HartStatus) (ordered : Option Request) (raised
 ended_waits h status ordered raised none not_raised =
     nothing h status ordered None raised None (record { no_section = refl; not_raised = not_raised; not_ordered = none; not_held = refl })
 
-pub same_request : (one other : Request) → Some one ≡ Some other → one ≡ other
-same_request one other same = cc
-
 miss_waits : (state : ModelState) (h line : ℕ) (need : Need) (hart : Hart) → status_of state.committed h ≡ Running →
     has_request state h ≡ false →
     WaitsForOne h (status_of state.committed h) (ordered_of state h) hart.section
     (Some (record { hart = h; line = line; need = need; stamp = hart.attempt })) None
 miss_waits state h line need hart running free =
     free_waits h _ _ hart.section _ running (no_request state h free).not_ordered
-    (λ request is. sym (ap (λ r. r.hart) (same_request _ request is)))
+    (λ request is. sym (ap (λ r. r.hart) (same_Some _ request is)))
 
 candidate_waits : (h : ℕ) (status : HartStatus) (ordered : Option Request) (pc : Option ℕ) (had_watch : Bool) (candidate : Option Swap) (hart : Hart) →
     WaitsForOne h status ordered hart.section hart.raised hart.held →

@@ -2,9 +2,11 @@
 use Rattle.std.proofs.Common.{◌≡◌, ◌<◌, ◌+◌, ◌∙◌, ◌||◌, ◌==◌, ℕ, false, true, List, [], None, Some, arith, ap, refl, sym, subst}
 use Rattle.std.proofs.Common.{inl, inr, ◌⊎◌}
 use Rattle.std.specs.Prelude.{slice_index}
-use Rattle.bus_order.proofs.Laws.LookUps.{number_of_test, own_test}
+use Rattle.std.proofs.lemmas.Option.{same_Some}
 use Rattle.residency.specs.Residency.{Way}
 use Rattle.el_base.specs.Line.{line_number}
+use Rattle.el_base.proofs.Laws.Cases.{none_some}
+use Rattle.el_base.proofs.Laws.Tests.{number_of_test, own_test}
 use Rattle.el_model.specs.State.{Armed}
 use Rattle.el_model.specs.Upcoming.{Swap, next_access, next_conditional, touch_of}
 use Rattle.rv_alu.specs.Execution.{perform, put_of, release_of, view_after}
@@ -28,8 +30,8 @@ use Rattle.run_laws.proofs.Laws.Reserving.{armed_memory, completes_by, quiet_of,
 use Rattle.run_laws.proofs.Laws.Shown.{keeps_outside, running_footprint}
 use Rattle.run_laws.proofs.Laws.WordStores.{StoresWord}
 use Rattle.run_laws.specs.PrivateRun.{IsArmedRun, IsOutsideWord}
-use Rattle.section_view.proofs.Laws.Beginning.{line_is, next_is, or_cases, word_written}
-use Rattle.section_view.proofs.Laws.GoingOn.{none_some, view_after_step, written_last, written_since, written_store}
+use Rattle.section_view.proofs.Laws.Beginning.{next_is, or_cases, word_written}
+use Rattle.section_view.proofs.Laws.GoingOn.{view_after_step, written_last, written_since, written_store}
 use Rattle.section_view.proofs.Laws.Shapes.{armed_comes_to}
 use Rattle.section_view.proofs.Laws.ShownBytes.{does_alike}
 use Rattle.section_view.specs.ArmedLaws.{ArmedSectionsBegin, ArmedSectionsElide, ArmedSectionsGoOn, IsElided}
@@ -110,7 +112,7 @@ module _ (committed : FlatState) (h : ℕ) (cache : List (List Way)) (armed : Ar
             is_written armed.word [] line ≡ true
         by (inl last) =
             let there : line_number armed.word ≡ line =
-            line_is _ line (sym (word_written (alone committed h armed.count) h armed.word swap.new runs stores) ∙ last) in
+            same_Some _ line (sym (word_written (alone committed h armed.count) h armed.word swap.new runs stores) ∙ last) in
             subst (λ line. is_written armed.word [] line ≡ true) there
             (ap (λ test. test || holds [] (line_number armed.word)) (own_test (line_number armed.word)))
         by (inr before) = none_some (sym (wrote_none before.step before.before) ∙ before.writes)

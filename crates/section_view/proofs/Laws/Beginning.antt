@@ -1,7 +1,8 @@
 -- a section begins with the view after its swap and a hold of nothing
 use Rattle.std.proofs.Common.{◌≡◌, ◌+◌, ◌∙◌, ◌||◌, ◌==◌, ℕ, Bool, true, false, [], None, Some, arith, refl, ap, sym, subst}
-use Rattle.bus_order.proofs.Laws.LookUps.{number_of_test, own_test}
+use Rattle.std.proofs.lemmas.Option.{same_Some}
 use Rattle.el_base.specs.Line.{line_number}
+use Rattle.el_base.proofs.Laws.Tests.{number_of_test, own_test}
 use Rattle.el_model.specs.Upcoming.{Swap, next_execution, next_swap}
 use Rattle.rv_alu.specs.Execution.{Store, perform, put_of, release_of, store_in, view_after}
 use Rattle.rv_alu.specs.Loaded.{loaded}
@@ -42,9 +43,6 @@ pub word_written : (state : FlatState) (h word value : ℕ) → status_of state 
     written_line (footprint_of state h) ≡ Some (line_number word)
 word_written state h word value runs stores = ap written_line (running_footprint state h runs ∙ stores.writes)
 
-pub line_is : (line other : ℕ) → Some line ≡ Some other → line ≡ other
-line_is line other same = cc
-
 pub or_cases : {X : Type 0} (a b : Bool) → (a || b) ≡ true → (a ≡ true → X) → (b ≡ true → X) → X
 or_cases true b is left right = left refl
 or_cases false b is left right = right is
@@ -70,7 +68,7 @@ module _ (committed : FlatState) (h : ℕ) (swap : Swap) (runs : status_of commi
       let none : wrote.step ≡ 0 = let before = wrote.before in omega arith in
       let written : written_line (footprint_of committed h) ≡ Some line =
       subst (λ n. written_line (footprint_of (alone committed h n) h) ≡ Some line) none wrote.writes in
-      let same : line_number swap.word ≡ line = line_is _ line (sym (word_written committed h swap.word swap.new runs first.stores) ∙ written) in
+      let same : line_number swap.word ≡ line = same_Some _ line (sym (word_written committed h swap.word swap.new runs first.stores) ∙ written) in
       subst (λ line. is_written swap.word [] line ≡ true) same (ap (λ test. test || holds [] (line_number swap.word)) (own_test (line_number swap.word)))
 
   lock_first : (line : ℕ) → is_written swap.word [] line ≡ true → WroteLine committed h 1 line

@@ -1,9 +1,11 @@
 -- a section takes effect at its release
 use Rattle.std.proofs.Common.{◌≡◌, ◌≢◌, ◌≤◌, ◌+◌, ◌-◌, ◌%◌, ◌^◌, ◌∙◌, ◌==◌, ℕ, true, List, Some, length, arith, ap, sym, subst, inl, inr, ◌⊎◌}
 use Rattle.std.specs.Prelude.{slice_index, unwrap_or}
-use Rattle.bus_order.proofs.Laws.LookUps.{own_test}
+use Rattle.std.proofs.lemmas.Option.{same_Some}
+use Rattle.std.proofs.lemmas.Bool.{or_left}
 use Rattle.residency.specs.Residency.{Way}
 use Rattle.el_base.specs.Line.{line_number}
+use Rattle.el_base.proofs.Laws.Tests.{own_test}
 use Rattle.elf_image.specs.Program.{code_word}
 use Rattle.el_model.specs.State.{Section}
 use Rattle.el_model.specs.Upcoming.{is_release, next_execution}
@@ -23,10 +25,9 @@ use Rattle.run_laws.proofs.Laws.Restored.{put_back}
 use Rattle.run_laws.proofs.Laws.Shown.{keeps_outside, puts_word, shows_its_own, word_piece}
 use Rattle.run_laws.proofs.Laws.Alike.{alone_more}
 use Rattle.run_laws.proofs.Laws.Reserving.{acquires_at}
-use Rattle.run_laws.proofs.Laws.Tests.{or_left}
 use Rattle.run_laws.proofs.Laws.WordStores.{StoresWord, releases}
 use Rattle.run_laws.specs.PrivateRun.{IsCoveredRun, IsOutsideWord}
-use Rattle.section_view.proofs.Laws.Beginning.{line_is, word_written}
+use Rattle.section_view.proofs.Laws.Beginning.{word_written}
 use Rattle.section_view.proofs.Laws.GoingOn.{written_before, written_since}
 use Rattle.section_view.proofs.Lines.{line_bytes, same_line}
 use Rattle.section_view.proofs.OthersViews.{has_written, others_after, same_lines, unreserved_same}
@@ -91,7 +92,7 @@ module _ (committed : FlatState) (h : ℕ) (cache : List (List Way)) (section : 
           is_written section.word hold line ≡ true
       by (inl is) =
           let same : line_number section.word ≡ line =
-          line_is _ line (sym (word_written (alone committed h section.count) h section.word section.old runs stores) ∙ is) in
+          same_Some _ line (sym (word_written (alone committed h section.count) h section.word section.old runs stores) ∙ is) in
           or_left (line == line_number section.word) (holds hold line) (subst (λ line. (line == line_number section.word) ≡ true) same (own_test _))
       by (inr before) = (keeps.written line).0 before
 

@@ -2,13 +2,15 @@
 use Rattle.std.proofs.Common.{◌≡◌, ◌≤◌, ◌<◌, ◌+◌, ◌-◌, ◌*◌, ◌%◌, ◌∙◌, ◌==◌, ℕ, Bool, true, false, List, Option, None, Some, length, nat_le, nat_lt}
 use Rattle.std.proofs.Common.{arith, refl, ap, sym, subst, inl, inr, ◌⊎◌}
 use Rattle.std.specs.Prelude.{MatchOption, slice_index}
-use Rattle.std.proofs.lemmas.Bool.{cases_eq}
+use Rattle.std.proofs.lemmas.Bool.{cases_eq, or_left, or_right}
 use Rattle.std.proofs.lemmas.Bool.Decides.{nat_tests}
+use Rattle.std.proofs.lemmas.Option.{same_Some}
 use Rattle.residency.specs.Cache.{write_bit}
 use Rattle.residency.specs.Residency.{Way}
 use Rattle.core_step.specs.Port.{byte_of}
 use Rattle.el_base.specs.Line.{line_number}
 use Rattle.el_base.specs.declared.line.TheConstants.{LINE_BYTES}
+use Rattle.el_base.proofs.Laws.Cases.{none_some}
 use Rattle.el_model.specs.State.{Section}
 use Rattle.el_model.specs.Upcoming.{next_access, next_execution, next_store, overlaps, touch_of}
 use Rattle.rv_alu.specs.Execution.{Store, store_in, view_after}
@@ -26,10 +28,9 @@ use Rattle.rv_flat.specs.Run.{alone}
 use Rattle.rv_flat.specs.Step.{flat, stored_by}
 use Rattle.run_laws.proofs.Laws.Shown.{running_footprint}
 use Rattle.run_laws.proofs.Laws.Alike.{alone_more}
-use Rattle.run_laws.proofs.Laws.Tests.{or_left, or_right}
 use Rattle.run_laws.proofs.Laws.WordStores.{writes_store}
 use Rattle.run_laws.specs.PrivateRun.{HasItsBit, IsCoveredRun, IsCoveredStep, IsOutsideWord}
-use Rattle.section_view.proofs.Laws.Beginning.{line_is, or_cases}
+use Rattle.section_view.proofs.Laws.Beginning.{or_cases}
 use Rattle.section_view.proofs.Laws.Bytes.{put_bytes-here}
 use Rattle.section_view.proofs.Laws.Shapes.{alone_shape}
 use Rattle.section_view.proofs.Laws.ShownBytes.{do_as_shown}
@@ -154,12 +155,6 @@ view_after_step committed h n view is runs =
     ap (view_after (next_execution shown h)) is ∙ sym (own_view shown h (runs-exists shown h runs) runs)
     ∙ sym (ap (λ state. view_of state h) (alone_more committed h n))
 
-some_is : {X : Type 0} (left right : X) → Some left ≡ Some right → left ≡ right
-some_is left right same = cc
-
-pub none_some : {X A : Type 0} {a : A} → None ≡ Some a → X
-none_some wrong = absurd (cc)
-
 module _ (committed : FlatState) (h : ℕ) (cache now : List (List Way)) (section : Section) (view : HartView) (old new : Held)
     (run : IsCoveredRun committed h cache section) (keeps : KeepsRun committed h section view old.entries)
     (step : IsCoveredStep (alone committed h section.count) h section.word now) where
@@ -235,7 +230,7 @@ module _ (committed : FlatState) (h : ℕ) (cache now : List (List Way)) (sectio
     held_byte place byte is_held = by (put_at store old new stored (committed.base + place))
       where
         by : IsPutAt store old new (committed.base + place) → slice_index (alone committed h (section.count + 1)).bytes place ≡ byte
-        by (Covered low high there) = covered_byte place low high ∙ some_is _ byte (sym there ∙ is_held)
+        by (Covered low high there) = covered_byte place low high ∙ same_Some _ byte (sym there ∙ is_held)
         by (Kept out same) = kept_byte place out ∙ keeps.held_byte place byte (sym same ∙ is_held)
 
     unheld_byte : (place : ℕ) → held new.entries (committed.base + place) ≡ None → IsOutsideWord section.word (committed.base + place) →
@@ -263,7 +258,7 @@ module _ (committed : FlatState) (h : ℕ) (cache now : List (List Way)) (sectio
         by : (written_line (footprint_of (alone committed h section.count) h) ≡ Some line) ⊎ WroteLine committed h section.count line →
             is_written section.word new.entries line ≡ true
         by (inl last) =
-            let same = line_is _ line (sym (a_store (alone committed h section.count) h store runs is) ∙ last) in
+            let same = same_Some _ line (sym (a_store (alone committed h section.count) h store runs is) ∙ last) in
             or_right (line == line_number section.word) (holds new.entries line) (ap (holds new.entries) (sym same) ∙ stored.put.there)
         by (inr before) =
             or_cases (line == line_number section.word) (holds old.entries line) ((keeps.written line).0 before)

@@ -1,5 +1,6 @@
 -- the actions of a swap and of a release
 use Rattle.std.proofs.Common.{◌≡◌, ◌∙◌, ℕ, Bool, true, Option, None, Some, refl, ap, sym}
+use Rattle.std.proofs.lemmas.Option.{same_Some}
 use Rattle.elf_image.specs.Program.{code_word}
 use Rattle.el_model.specs.Upcoming.{is_release, is_swap, is_swap_op, is_word_store, next_execution}
 use Rattle.rv_alu.proofs.Laws.Executions.{amo-action, store-action}
@@ -18,11 +19,11 @@ use Rattle.rv_word.specs.declared.insn.AmoOp.TheVariants as amos
 use Rattle.rv_word.specs.declared.insn.Insn.TheVariants as insns
 use Rattle.rv_word.specs.declared.insn.StoreWidth.TheVariants as widths
 use Rattle.rv_word.specs.declared.reg.Reg.{Reg}
-use Rattle.run_laws.proofs.Laws.Tests.{first_of_both}
 use Rattle.run_laws.proofs.Laws.WordStores.{IsWordStore, StoresWord, acquires, releases, swap_insn, word_store_insn}
 use Rattle.section_view.proofs.Laws.Beginning.{next_is, or_cases}
 use Rattle.section_view.specs.Laws.{ReleasesStoreTheirWord, SwapsAct}
 use Rattle.section_view.specs.Release.{ByStore, BySwap, IsReleaseAction, released_view}
+use Rattle.el_base.proofs.Laws.Tests.{first_of_both}
 
 -- what a swap that comes next does
 swap_acts : (word : Option ℕ) (state : FlatState) (view : HartView) (op : AmoOp) (rd rs1 rs2 : Reg) (aq rl : Bool) (from len : ℕ) →
@@ -46,9 +47,6 @@ store_acts state view word len found writes =
     (store-action found.word widths.Word found.rs1 found.rs2 found.offset view (span_of state) (room_of state) word len found.means
     (rw found.here at writes)).2
 
-same_store : (left right : Store) → Some left ≡ Some right → left ≡ right
-same_store left right same = cc
-
 swap_op : (op : AmoOp) → is_swap_op op ≡ true → op ≡ amos.Swap
 swap_op amos.Swap is = refl
 swap_op _ is = absurd (cc)
@@ -66,7 +64,7 @@ by_store state h word old stores is =
     let value = get view.regs found.rs2.number in
     let acts : action_of state view ≡ actions.Store word 4 value = store_acts state view word 4 found stores.writes in
     let does = next_is state h (actions.Store word 4 value) acts in
-    let same : value ≡ old = ap (λ store. store.value) (same_store _ _ (ap store_in (sym does) ∙ stores.stores)) in
+    let same : value ≡ old = ap (λ store. store.value) (same_Some _ _ (ap store_in (sym does) ∙ stores.stores)) in
     let means : next_insn state h ≡ Some (insns.Store widths.Word found.rs1 found.rs2 found.offset) = ap insn_at found.here ∙ found.means in
     record {
       acts = ByStore (acts ∙ ap (actions.Store word 4) same);
@@ -87,7 +85,7 @@ by_swap state h word old stores is =
     swap_acts (code_word state.code view.pc) state view found.op found.rd found.rs1 found.rs2 found.aq found.rl word 4 refl means stores.writes
     ∙ ap (λ op. actions.Amo op found.rd word value) swaps in
     let does = next_is state h (actions.Amo amos.Swap found.rd word value) acts in
-    let same : value ≡ old = ap (λ store. store.value) (same_store _ _ (ap store_in (sym does) ∙ stores.stores)) in
+    let same : value ≡ old = ap (λ store. store.value) (same_Some _ _ (ap store_in (sym does) ∙ stores.stores)) in
     record {
       acts = BySwap found.rd (acts ∙ ap (actions.Amo amos.Swap found.rd word) same);
       view =

@@ -20,10 +20,10 @@ use Rattle.run_laws.proofs.Laws.Alike.{no_call}
 use Rattle.run_laws.proofs.Laws.Alike.{alone_more}
 use Rattle.run_laws.proofs.Laws.ButAView.{armed_runs_keep_all_but_a_view}
 use Rattle.run_laws.proofs.Laws.Reserving.{acquires_at, silent_at}
-use Rattle.run_laws.proofs.Laws.Tests.{first_not}
 use Rattle.run_laws.specs.PrivateRun.{IsAcquire, IsCoveredRun}
 use Rattle.section_view.specs.ArmedLaws.{ArmedSectionsComeTo}
 use Rattle.section_view.specs.Laws.{ComesTo, SectionsComeTo}
+use Rattle.el_base.proofs.Laws.Tests.{first_not}
 
 -- memory lies at the same place and has the same size, and the code and the number of harts are the same
 pub record SameShape (old new : FlatState) : Type 0 where

@@ -2,10 +2,11 @@
 use Rattle.std.proofs.Common.{◌≡◌, ◌≤◌, ◌<◌, ◌+◌, ◌∙◌, ◌⊎◌, ℕ, zero, suc, Bool, true, false, List, None, Some, arith, ap, sym, refl, subst}
 use Rattle.std.proofs.Common.{inl, inr}
 use Rattle.std.specs.Prelude.{slice_index}
-use Rattle.std.proofs.lemmas.Bool.{cases_lt}
+use Rattle.std.proofs.lemmas.Bool.{cases_lt, or_left, or_right}
 use Rattle.residency.specs.Cache.{has_bit, read_bit, write_bit}
 use Rattle.residency.specs.Residency.{Way}
 use Rattle.el_base.specs.Line.{line_number}
+use Rattle.el_base.proofs.Laws.Tests.{first_not, second_not}
 use Rattle.el_model.specs.State.{Armed, Section}
 use Rattle.el_model.specs.Upcoming.{Swap, calls, next_access, next_execution, next_touch, stops}
 use Rattle.rv_alu.proofs.Laws.Executions.{loaded-same}
@@ -19,7 +20,6 @@ use Rattle.run_laws.proofs.Laws.Alike.{SamePlaces, same_access}
 use Rattle.run_laws.proofs.Laws.Shown.{running_footprint, unwritten_shown}
 use Rattle.run_laws.proofs.Laws.Reserving.{AcquiresAt, acquires_at, reserves}
 use Rattle.run_laws.proofs.Laws.Survival.{armed_runs_survive, survives}
-use Rattle.run_laws.proofs.Laws.Tests.{first_not, or_left, or_right, second_not}
 use Rattle.run_laws.proofs.Laws.Touches.{IsOnBit, agree_there}
 use Rattle.run_laws.specs.PrivateRun.{IsAcquire, IsArmedRun, IsChangeBeside, IsCoveredRun, IsOutsideWord, ShowsTheSame}
 use Rattle.section_view.specs.ArmedLaws.{KeptArmedRunsSurvive}

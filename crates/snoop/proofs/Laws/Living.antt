@@ -1,7 +1,7 @@
 -- who has a live section: what the bus keeps of it tells what the definition says
 use Rattle.std.proofs.Common.{◌≡◌, ◌∙◌, ℕ, ◌≤◌, ◌==◌, ◌&&◌, not, Bool, true, false, List, None, is_some, refl, ap, sym, arith}
 use Rattle.std.proofs.lemmas.Bool.Decides.{nat_tests}
-use Rattle.bus_order.proofs.Laws.LookUps.{number_of_test}
+use Rattle.std.proofs.Math.Bool.{and-false, and-true}
 use Rattle.residency.specs.Cache.{cleared, has_marks}
 use Rattle.residency.specs.Residency.{Way}
 use Rattle.residency.proofs.Laws.Unmarked.{unmarked-cleared}
@@ -9,24 +9,17 @@ use Rattle.el_model.specs.Plain.{armed_count}
 use Rattle.el_model.specs.State.{Hart, ModelState, hart_of, is_live, new_hart}
 use Rattle.snoop.specs.Agent.{agent_at}
 use Rattle.snoop.specs.Shows.{Kept, Shows, lives, lives_at}
-
-and_true : (b : Bool) → (b && true) ≡ b
-and_true true = refl
-and_true false = refl
-
-and_false : (b : Bool) → (b && false) ≡ false
-and_false true = refl
-and_false false = refl
+use Rattle.el_base.proofs.Laws.Tests.{number_of_test}
 
 -- where a hart is not armed, some line has a bit exactly where it has a live section
 pub lives_unarmed : (cache : List (List Way)) (count : ℕ) → count ≡ 0 → lives cache count ≡ has_marks cache
-lives_unarmed cache count none = ap (lives cache) none ∙ and_true (has_marks cache)
+lives_unarmed cache count none = ap (lives cache) none ∙ and-true (has_marks cache)
 
 -- an armed hart has no live section
 pub lives_armed : (cache : List (List Way)) (count : ℕ) → 1 ≤ count → lives cache count ≡ false
 lives_armed cache count some =
     let armed : (count == 0) ≡ false = grind (arith, nat_tests) in
-    ap (λ none. has_marks cache && none) armed ∙ and_false (has_marks cache)
+    ap (λ none. has_marks cache && none) armed ∙ and-false (has_marks cache)
 
 -- for an armed hart the bits are no matter
 pub lives_alike : (one other : List (List Way)) (count : ℕ) → (count ≡ 0 → has_marks one ≡ has_marks other) → lives one count ≡ lives other count
@@ -34,7 +27,7 @@ lives_alike one other count alike = by (count == 0) refl
   where
     by : (test : Bool) → (count == 0) ≡ test → (has_marks one && test) ≡ (has_marks other && test)
     by true none = ap (λ marks. marks && true) (alike (number_of_test count 0 none))
-    by false some = and_false (has_marks one) ∙ sym (and_false (has_marks other))
+    by false some = and-false (has_marks one) ∙ sym (and-false (has_marks other))
 
 -- a hart of which the bus tells whether it has a live section: it has one exactly where some line of its cache has a bit and it is not
 -- armed, and an armed one has run an instruction
@@ -74,7 +67,7 @@ live_unarmed hart told live = number_of_test (armed_count hart.armed) 0 (second 
 -- and an armed one has none
 pub armed_lifeless : (hart : Hart) → TellsSection hart → is_some hart.armed ≡ true → is_some hart.section ≡ false
 armed_lifeless hart told armed =
-    told.live ∙ ap (λ none. has_marks hart.cache && none) (not_true _ (sym told.arms ∙ armed)) ∙ and_false (has_marks hart.cache)
+    told.live ∙ ap (λ none. has_marks hart.cache && none) (not_true _ (sym told.arms ∙ armed)) ∙ and-false (has_marks hart.cache)
   where
     not_true : (b : Bool) → not b ≡ true → b ≡ false
     not_true true is = absurd (cc)

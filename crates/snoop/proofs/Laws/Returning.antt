@@ -15,7 +15,6 @@ use Rattle.coherence.specs.GivenBack.{copies_with}
 use Rattle.coherence.specs.Lent.{LeavesOwner, no_slotted, slotted_at}
 use Rattle.coherence.specs.Served.{TellsOf}
 use Rattle.coherence.proofs.Laws.Offered.{caches_back, lent_back}
-use Rattle.coherence.proofs.Laws.LineLaws.{none_is}
 use Rattle.el_model.specs.Plain.{armed_count}
 use Rattle.el_model.specs.State.{Hart, ModelState, armed_of, hart_of}
 use Rattle.el_model.proofs.Laws.Harts.{hart_of-with_hart_other, hart_of-with_hart_same}
@@ -27,6 +26,7 @@ use Rattle.snoop.specs.Agent.{agent_at, agent_of}
 use Rattle.snoop.specs.Asking.{HasNoRequest}
 use Rattle.snoop.specs.Returned.{IsReturned, IsReturnedAs, returned, state_with}
 use Rattle.snoop.specs.Shows.{CanBeServed, IsReady, Kept, Shows, Tells, has_room_in, lent_copies, lives}
+use Rattle.el_base.proofs.Laws.Cases.{none_some}
 
 -- the caches after one was given back
 returned_same : (bus : Kept) (h : ℕ) (cache : Slotted) → h < length bus.copies.caches → slotted_at (returned bus h cache).copies.caches h ≡ cache
@@ -96,8 +96,8 @@ pub unasked_returned : (bus : Kept) (h : ℕ) (cache : Slotted) → HasNoRequest
     IsReturned bus h cache
 unasked_returned bus h cache no_request well_formed = record {
   well_formed = well_formed;
-  raised = λ request is. none_is request (sym no_request.none_raised ∙ is);
-  ordered = λ request is. none_is request (sym no_request.none_ordered ∙ is);
+  raised = λ request is. none_some (sym no_request.none_raised ∙ is);
+  ordered = λ request is. none_some (sym no_request.none_ordered ∙ is);
 }
 
 -- what a pool and the caches tell after a hart's cache was changed in it, which left those of the other harts

@@ -4,18 +4,12 @@ use Rattle.std.proofs.lemmas.Bool.Decides.{nat_tests}
 use Rattle.std.proofs.lemmas.List.Elements.{filter-append}
 use Rattle.std.specs.List.{filter, range_with_len}
 use Rattle.el_base.specs.declared.entries.Entry.{Entry}
+use Rattle.el_base.proofs.Laws.Tests.{other_test, same_test}
 use Rattle.elf_image.specs.Program.{Program}
 use Rattle.step_back.specs.Standing.{ComesTo, HasNoNext, IsNext, Standing, comes_to, pc_at, places_of}
 
--- the test decides
-equal : (n m : ℕ) → n ≡ m → (n == m) ≡ true
-equal n m same = grind (arith, nat_tests, same)
-
-apart : (n m : ℕ) → n ≢ m → (n == m) ≡ false
-apart n m differ = grind (arith, nat_tests, differ)
-
 passes : (here before pc : ℕ) → here ≡ pc → before ≢ pc → ((here == pc) && not (before == pc)) ≡ true
-passes here before pc there moved = rw (equal here pc there, apart before pc moved) refl
+passes here before pc there moved = rw (same_test here pc there, other_test before pc moved) refl
 
 fails : (here before pc : ℕ) → (here ≡ pc → before ≢ pc → ⊥) → ((here == pc) && not (before == pc)) ≡ false
 fails here before pc none = go (here == pc) (before == pc) refl refl

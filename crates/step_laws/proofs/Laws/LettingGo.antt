@@ -4,7 +4,6 @@ use Rattle.std.proofs.Common.{Bool, true, false, List, [], ◌∷◌, ◌++◌, 
 use Rattle.std.proofs.Common.{replicate, refl, ap, sym, subst, inl, inr, arith, if◌then◌else◌}
 use Rattle.std.specs.Prelude.{nat_lt}
 use Rattle.std.proofs.lemmas.Bool.{ltb-false, ltb-true}
-use Rattle.bus_order.proofs.Laws.LookUps.{other_test, own_test}
 use Rattle.bus_order.specs.Order.{Request}
 use Rattle.chronicle.specs.Serial.{taking_effect}
 use Rattle.el_base.proofs.Laws.FreedOrder.{order_below-more}
@@ -15,6 +14,8 @@ use Rattle.el_base.specs.declared.config.Mode.TheVariants.{Plain, Sle, Tlr}
 use Rattle.el_base.specs.declared.freed.Freed.{Freed}
 use Rattle.el_base.specs.declared.outcomes.Outcome.{Outcome}
 use Rattle.el_base.specs.declared.outcomes.Outcome.TheVariants as outcomes
+use Rattle.el_base.proofs.Laws.Cases.{none_some, not_both}
+use Rattle.el_base.proofs.Laws.Tests.{other_test, own_test}
 use Rattle.el_model.specs.Armed.{freed_count}
 use Rattle.el_model.specs.BusEvent.{Becomes, Frees, IsAbsent, IsBusEvent, IsLetGo, IsOfBus, IsSent}
 use Rattle.el_model.specs.BusEvent.{LosesIt, LosesWhere, Nothing, Places, Sees, Serves, Start, Starts}
@@ -35,7 +36,6 @@ use Rattle.rv_flat.specs.FlatState.{view_of}
 use Rattle.run_laws.proofs.Laws.EventsBeside.{AllArmed}
 use Rattle.run_laws.proofs.Laws.LettingGo.{IsGone, bus_leaves, spared_or_gone, was_armed}
 use Rattle.run_laws.proofs.Laws.Reachable.{armed_sections_run_covered}
-use Rattle.run_laws.proofs.Laws.Tests.{not_both}
 use Rattle.section_laws.specs.EachHart.{IsShortArmed}
 use Rattle.section_laws.proofs.Laws.ArmedCounts.{armed_sections_are_short}
 use Rattle.section_laws.proofs.Laws.Moves.{freed_is_armed}
@@ -44,9 +44,6 @@ use Rattle.stamp.specs.Stamps.{Stamp}
 use Rattle.section_laws.proofs.Laws.Waiting.{Rested, always_settled, live_unarmed, rested_in}
 use Rattle.step_laws.specs.LettingGo as letting_go
 use Rattle.step_laws.specs.LettingGo.{BusEventsLetHartsGo, freed_of_outcome}
-
-none_some : {A X : Type 0} {x : A} → None ≡ Some x → X
-none_some wrong = absurd (cc)
 
 -- how often a hart stands in a list
 abbrev one_if : Bool → ℕ

@@ -9,6 +9,7 @@ use Rattle.el_base.specs.declared.outcomes.Outcome.TheVariants as outcomes
 use Rattle.el_model.specs.BusEvent.{IsBusEvent}
 use Rattle.el_model.specs.Deed.{Arms, Begins, Buffers, Commits, Continues, Deed, Elides, LetsGo, Misses, Rests, RollsBack, Runs, Waits, hart_after, outcome_of}
 use Rattle.el_base.specs.Winners.{winner_over}
+use Rattle.el_base.proofs.Laws.Cases.{none_some, not_both}
 use Rattle.el_model.specs.Losses.{HartsAreNumbered, restored, standing_of}
 use Rattle.el_model.specs.Next.{after, kind_turn, next, step_turn}
 use Rattle.el_model.specs.Plain.{candidate_of}
@@ -19,15 +20,11 @@ use Rattle.el_model.proofs.Laws.Losing.{lost_section}
 use Rattle.el_model.proofs.Laws.Restoring.{bus_restores, losers_restored, unnamed_outside}
 use Rattle.removal_laws.proofs.Laws.Attempts.{candidate_keeps}
 use Rattle.removal_laws.proofs.Laws.Facing.{live_below}
-use Rattle.run_laws.proofs.Laws.Tests.{not_both}
 use Rattle.section_laws.specs.Sections.{is_committed, is_rolled_back}
 use Rattle.el_model.proofs.Laws.EachHart.{each_with}
 use Rattle.section_laws.proofs.Laws.Numbered.{requests_are_numbered}
 use Rattle.section_laws.proofs.Laws.SectionSteps.{live_exists}
 use Rattle.step_laws.specs.Losing.{EndsItself, IsBeaten, LosesItsSection, OnlyLiveSectionsLose, WhatEndsASection}
-
-none_some : {A X : Type 0} {x : A} → None ≡ Some x → X
-none_some wrong = absurd (cc)
 
 winner_small : (outcome : Outcome) (h winner : ℕ) → winner_over outcome h ≡ Some winner → winner < 8
 winner_small outcomes.Idle h winner names = none_some names

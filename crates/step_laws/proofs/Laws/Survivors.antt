@@ -8,6 +8,7 @@ use Rattle.elf_image.specs.Program.{Program}
 use Rattle.el_model.specs.Next.{after, next}
 use Rattle.el_model.specs.BusEvent.{IsBusEvent, freed_in}
 use Rattle.el_base.specs.Freed.{count_in}
+use Rattle.el_base.proofs.Laws.Cases.{not_both}
 use Rattle.el_model.specs.State.{ModelState, Section, Turn, armed_of, cache_of, hart_of, is_live, section_of}
 use Rattle.el_model.proofs.Laws.BusEvents.{by_event}
 use Rattle.rv_flat.specs.Memory.{AreBytes}
@@ -17,7 +18,6 @@ use Rattle.run_laws.proofs.Laws.EventsBeside.{AllArmed}
 use Rattle.run_laws.proofs.Laws.LettingGo.{IsGone, bus_beside, spared_or_gone}
 use Rattle.run_laws.proofs.Laws.Reachable.{armed_sections_run_covered, live_sections_run_covered, other_harts_change_nothing_covered}
 use Rattle.run_laws.proofs.Laws.Survival.{survives}
-use Rattle.run_laws.proofs.Laws.Tests.{not_both}
 use Rattle.run_laws.specs.PrivateRun.{IsChangeBeside}
 use Rattle.section_laws.proofs.Laws.Numbered.{one_ordered_request_each}
 use Rattle.section_laws.proofs.Laws.OnceEach.{no_set_has_a_line_twice}

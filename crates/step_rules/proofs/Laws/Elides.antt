@@ -1,13 +1,13 @@
 -- the rule of a hart outside of a section, by what its next action is
 use Rattle.std.proofs.Common.{◌≡◌, ◌∙◌, ◌≤◌, ℕ, Bool, true, false, Option, None, Some, refl, ap, subst, sym}
 use Rattle.std.specs.Prelude.{if◌then◌else◌}
+use Rattle.std.proofs.lemmas.Option.{same_Some}
 use Rattle.elf_image.specs.Program.{code_word}
 use Rattle.el_model.specs.Plain.{may_elide, plain_rule, reserve_rule, swap_rule, touch_rule}
 use Rattle.el_model.specs.State.{ModelState, hart_of}
 use Rattle.el_model.specs.Upcoming.{Swap, is_swap_op, next_reserved, next_swap, next_touch}
 use Rattle.rv_alu.proofs.Laws.Footprints.{fits}
 use Rattle.rv_alu.specs.Action.{action_at, insn_action_of}
-use Rattle.coherence.proofs.Laws.LineLaws.{none_is, some_is}
 use Rattle.rv_alu.specs.Footprint.{IsInPlace}
 use Rattle.rv_alu.specs.Loaded.{loaded}
 use Rattle.rv_alu.specs.declared.action.Action.{Action}
@@ -22,6 +22,7 @@ use Rattle.step_rules.proofs.Laws.NextAction.{next_reserved as reserved_next, ne
 use Rattle.step_rules.specs.Actions.{IsNext, reserved_by, swap_by, swap_over}
 use Rattle.step_rules.specs.Rules.{MayElide, acquiring_rule}
 use Rattle.step_rules.specs.declared.upcoming.Exchange as exchanges
+use Rattle.el_base.proofs.Laws.Cases.{none_some}
 
 -- a hart's next action is in its place
 in_place_at : (word : Option ℕ) (view : HartView) (span : Span) (room : ℕ) → IsInPlace span room (action_at word view span room)
@@ -39,9 +40,9 @@ swap_from span room byte (actions.Amo op rd address source) swap place is =
     by (is_swap_op op) (record { word = address; old = loaded byte address 4; new = source }) place.from_base is
   where
     by : (b : Bool) (found : Swap) → span.base ≤ found.word → (if b then Some found else None) ≡ Some swap → span.base ≤ swap.word
-    by true found from same = subst (λ s. span.base ≤ s.word) (some_is found swap same) from
-    by false found from same = none_is swap same
-swap_from span room byte _ swap place is = none_is swap is
+    by true found from same = subst (λ s. span.base ≤ s.word) (same_Some found swap same) from
+    by false found from same = none_some same
+swap_from span room byte _ swap place is = none_some is
 
 next_in_place : (action : Action) (flat : FlatState) (h : ℕ) → IsNext action flat h → IsInPlace (span_of flat) (room_of flat) action
 next_in_place action flat h next =
@@ -57,8 +58,8 @@ exchange_from action flat h exchange next is =
 -- the word that an LR reserves does too
 reserved_from : (span : Span) (room : ℕ) (action : Action) (word : ℕ) → IsInPlace span room action → reserved_by action ≡ Some word →
     span.base ≤ word
-reserved_from span room (actions.LoadReserved rd address) word place is = subst (λ w. span.base ≤ w) (some_is address word is) place.from_base
-reserved_from span room _ word place is = none_is word is
+reserved_from span room (actions.LoadReserved rd address) word place is = subst (λ w. span.base ≤ w) (same_Some address word is) place.from_base
+reserved_from span room _ word place is = none_some is
 
 pub reserve_from : (action : Action) (flat : FlatState) (h word : ℕ) → IsNext action flat h → Some word ≡ next_reserved flat h → flat.base ≤ word
 reserve_from action flat h word next is =

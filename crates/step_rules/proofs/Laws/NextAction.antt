@@ -1,6 +1,7 @@
 -- what a hart's next action tells of its next instruction
 use Rattle.std.proofs.Common.{◌≡◌, ◌∙◌, ℕ, Bool, true, false, Option, None, Some, refl, ap, sym}
 use Rattle.std.specs.Prelude.{◌&&◌, ◌||◌, ◌==◌, if◌then◌else◌, is_some, not, option_map}
+use Rattle.std.proofs.Math.Bool.{and-false, or-false, or-true}
 use Rattle.elf_image.specs.Program.{code_word}
 use Rattle.el_model.specs.Armed.{is_quiet}
 use Rattle.el_model.specs.Upcoming as model
@@ -26,18 +27,7 @@ use Rattle.step_rules.proofs.Origins.{ComesOf, Facts, comes, facts_of}
 use Rattle.step_rules.specs.Actions.{IsNext, conditional_by, exchange_by, is_call_or_stop, quiet, releases, reserved_by, stores_in, swap_by, swap_over}
 use Rattle.step_rules.specs.declared.upcoming.Exchange as exchanges
 use Rattle.el_base.proofs.Laws.Options.{none_either}
-
-and_false : (b : Bool) → (b && false) ≡ false
-and_false true = refl
-and_false false = refl
-
-or_true : (b : Bool) → (b || true) ≡ true
-or_true true = refl
-or_true false = refl
-
-or_false : (b : Bool) → (b || false) ≡ b
-or_false true = refl
-or_false false = refl
+use Rattle.el_base.proofs.Laws.Tests.{second_not}
 
 -- what holds of an action for each reason holds of what comes next at a word of code
 at_word : (P : Option Insn → Action → Type 0) → P None (actions.Trap illegal_instruction) → P None (actions.Trap instruction_access_fault) →
@@ -135,7 +125,7 @@ exchange_is : (flat : FlatState) (view : HartView) (insn : Insn) (action : Actio
     then swap_of flat (store_in (perform action view (byte_in flat.base flat.bytes))) else None)
 exchange_is flat view insn (actions.Trap cause) of = sym (none_either (is_swap (Some insn) || is_store_conditional (Some insn)) None refl)
 exchange_is flat view insn (actions.Amo op rd address source) of =
-    rw (swap_fact insn of, conditional_fact insn of, or_false (is_swap_op op)) (sym (swap_amo flat op address source (byte_in flat.base flat.bytes) _))
+    rw (swap_fact insn of, conditional_fact insn of, or-false (is_swap_op op)) (sym (swap_amo flat op address source (byte_in flat.base flat.bytes) _))
 exchange_is flat view insn _ of = rw (swap_fact insn of, conditional_fact insn of) refl
 
 pub next_exchange : (action : Action) (flat : FlatState) (h : ℕ) → IsNext action flat h →
@@ -199,10 +189,6 @@ reserving_is : (view : HartView) (byte : ℕ → ℕ) (insn : Insn) (action : Ac
 reserving_is view byte insn (actions.Trap cause) of goes = absurd (cc)
 reserving_is view byte insn _ of goes = rw (reserve_fact insn of) refl
 
-second_not : (a b : Bool) → (a || b) ≡ false → b ≡ false
-second_not true b is = absurd (cc)
-second_not false b is = is
-
 pub reserves_going : (action : Action) (flat : FlatState) (h : ℕ) → IsNext action flat h → model.calls_or_stops flat h ≡ false →
     is_some (reserved_by action) ≡ is_load_reserved (next_insn flat h)
 unfolding executed
@@ -219,7 +205,7 @@ quiet_is : (view : HartView) (byte : ℕ → ℕ) (insn : Insn) (action : Action
     quiet action
     ≡ (not (is_some (touch_of (footprint action))) && not (is_store_conditional (Some insn)) && not (is_call insn || stops (perform action view byte)))
 quiet_is view byte insn (actions.Trap cause) of =
-    rw (or_true (is_call insn), and_false (not (is_store_conditional (Some insn)))) refl
+    rw (or-true (is_call insn), and-false (not (is_store_conditional (Some insn)))) refl
 quiet_is view byte insn (actions.Fail rd) of = rw (conditional_fact insn of) refl
 quiet_is view byte insn (actions.Append address len) of = refl
 quiet_is view byte insn (actions.Load width rd address) of = refl
@@ -252,10 +238,10 @@ release_is : (word old : ℕ) (view : HartView) (byte : ℕ → ℕ) (insn : Ins
     releases word old action
     ≡ ((is_word_store (Some insn) || is_swap (Some insn)) && gives_back word old (store_in (perform action view byte)))
 release_is word old view byte insn (actions.Store address len value) of =
-    rw (word_store_fact insn of, swap_fact insn of, or_false (len == 4)) refl
+    rw (word_store_fact insn of, swap_fact insn of, or-false (len == 4)) refl
 release_is word old view byte insn (actions.Amo op rd address source) of =
     rw (word_store_fact insn of, swap_fact insn of) (release_amo op (address == word) source old _)
-release_is word old view byte insn (actions.Trap cause) of = sym (and_false (is_word_store (Some insn) || is_swap (Some insn)))
+release_is word old view byte insn (actions.Trap cause) of = sym (and-false (is_word_store (Some insn) || is_swap (Some insn)))
 release_is word old view byte insn _ of = rw (word_store_fact insn of, swap_fact insn of) refl
 
 pub next_release : (action : Action) (flat : FlatState) (h word old : ℕ) → IsNext action flat h →
@@ -289,7 +275,7 @@ next_store_to_word action flat h word next =
 -- whether it is a call, or stops its hart
 call_is : (view : HartView) (byte : ℕ → ℕ) (insn : Insn) (action : Action) → ComesOf insn action →
     is_call_or_stop action ≡ (is_call insn || stops (perform action view byte))
-call_is view byte insn (actions.Trap cause) of = sym (or_true (is_call insn))
+call_is view byte insn (actions.Trap cause) of = sym (or-true (is_call insn))
 call_is view byte insn _ of = rw (call_fact insn of) refl
 
 pub next_call_or_stop : (action : Action) (flat : FlatState) (h : ℕ) → IsNext action flat h →

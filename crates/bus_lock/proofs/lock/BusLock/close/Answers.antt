@@ -1,8 +1,8 @@
 use Rattle.std.proofs.Common.{ap, sym, refl, subst, ◌∙◌}
 use Rattle.std.specs.Option.{IsSome}
+use Rattle.std.proofs.lemmas.Option.{same_Some as Some-injective}
 use Rattle.bus_lock.specs.Locks.{boxed}
 use Rattle.bus_lock.proofs.Ends.{Ends, closes}
-use Rattle.bus_lock.proofs.Keeps.{Some-injective}
 use Rattle.bus_lock.proofs.lock.BusLock.close.Goals as goal
 
 pub unwrap-home-requires : goal.unwrap-home-requires

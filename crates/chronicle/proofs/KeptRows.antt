@@ -1,17 +1,15 @@
 -- What rows keep, as rows and outcomes are added.
 use Rattle.std.proofs.Common.{◌≡◌, ◌∙◌, ℕ, suc, ◌+◌, ◌<◌, refl, ap, ap₂, sym, arith}
-use Rattle.std.specs.Prelude.{List, [], ◌∷◌, ◌++◌, All, length, get_or, map, take}
-use Rattle.std.proofs.lemmas.List.{get_or_append_left, get_or_push, map-append, map_more}
+use Rattle.std.specs.Prelude.{List, [], ◌∷◌, ◌++◌, All, length, get_or, map}
+use Rattle.std.proofs.lemmas.List.{get_or_append_left, get_or_push, map-append}
 use Rattle.el_base.specs.declared.entries.Entry.{Entry}
 use Rattle.el_base.specs.declared.events.Event.{Event}
 use Rattle.el_base.specs.declared.outcomes.Outcome.{Outcome}
 use Rattle.el_base.specs.declared.outcomes.Outcome.TheVariants as outcomes
 use Rattle.chronicle.specs.Chronicle.{Chronicle}
 use Rattle.chronicle.specs.Rows.{IsAmong, entry_of}
-use Rattle.chronicle.specs.Tally.{of_entry, plus, tally_of}
 use Rattle.chronicle.specs.declared.rows.Row.{Row}
 use Rattle.chronicle.specs.declared.rows.Row.TheVariants.{Listed, Short}
-use Rattle.chronicle.proofs.Laws.Tallies.{tally_of-push}
 
 -- another outcome in the list leaves the entries of rows as they are
 entry_stays : (long : List Outcome) (outcome : Outcome) (row : Row) → IsAmong (length long) row →
@@ -51,13 +49,3 @@ entry_listed old long longer rows more places entry place outcome row before her
     ∙ listed long entry.outcome rows entry.event place (sym here) among)
     ∙ ap {B = Chronicle} (λ (c : Chronicle). record { entries = c.entries ++ entry ∷ []; places = c.places })
     (sym before)
-
--- a row more adds what its entry counts for
-pub tally_of_row : (hart : ℕ) (long : List Outcome) (rows : List Row) (place : ℕ) (row : Row) → place < length rows →
-    row ≡ get_or rows place row →
-    plus (tally_of hart (map (entry_of long) (take place rows))) (of_entry hart (entry_of long row))
-    ≡ tally_of hart (map (entry_of long) (take (place + 1) rows))
-tally_of_row hart long rows place row within here =
-    sym (tally_of-push hart (map (entry_of long) (take place rows)) (entry_of long row))
-    ∙ ap (λ (r : Row). tally_of hart (map (entry_of long) (take place rows) ++ entry_of long r ∷ [])) here
-    ∙ ap (λ entries. tally_of hart entries) (sym (map_more (entry_of long) rows place row within))

@@ -1,3 +1,5 @@
 pub mod Laws
 mod KeptRows
 mod Worked
+mod Counted
+mod Losing

@@ -2,3 +2,4 @@ pub mod Chronicle
 pub mod Rows
 pub mod Serial
 pub mod Tally
+pub mod Counting

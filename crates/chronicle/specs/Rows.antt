@@ -4,17 +4,18 @@ use Rattle.el_base.specs.declared.entries.Entry.{Entry}
 use Rattle.el_base.specs.declared.outcomes.Outcome.{Outcome}
 use Rattle.el_base.specs.declared.outcomes.Outcome.TheVariants as outcomes
 use Rattle.chronicle.specs.declared.rows.Brief.{Brief}
-use Rattle.chronicle.specs.declared.rows.Brief.TheVariants.{Armed, Began, Buffered, Idle, Ran, Stalled}
+use Rattle.chronicle.specs.declared.rows.Brief.TheVariants.{Armed, Began, Blocked, Buffered, Idle, Ran, Stalled}
 use Rattle.chronicle.specs.declared.rows.Row.{Row}
 use Rattle.chronicle.specs.declared.rows.Row.TheVariants.{Listed, Short}
 
--- the outcome of this name
+-- the outcome that a brief one is
 abbrev pub outcome_of : Brief → Outcome
 outcome_of Idle = outcomes.Idle
 outcome_of Stalled = outcomes.Stalled
 outcome_of Ran = outcomes.Ran
 outcome_of Began = outcomes.Began
 outcome_of Buffered = outcomes.Buffered
+outcome_of (Blocked why by) = outcomes.Blocked why by
 outcome_of Armed = outcomes.Armed
 
 -- the entry that a row keeps beside a list of outcomes

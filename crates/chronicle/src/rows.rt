@@ -3,10 +3,10 @@
 ghost use Rattle.std.specs.Prelude.{◌≡◌, ◌↔◌, Some, length};
 ghost use Rattle.chronicle.specs.Rows.{IsAmong, entry_of, outcome_of};
 
-use el_base::{Entry, Event, Outcome};
+use el_base::{Entry, Event, HartId, Outcome, Why};
 use std::mem::size_of;
 
-/// An outcome that says no more than its name, as most of a run's do.
+/// An outcome that says at most two bytes beside its name, as most of a run's do.
 #[derive(Clone, Copy)]
 pub enum Brief {
     Idle,
@@ -14,11 +14,12 @@ pub enum Brief {
     Ran,
     Began,
     Buffered,
+    Blocked { why: Why, by: HartId },
     Armed,
 }
 
 impl Brief {
-    /// The outcome by its name alone, or `None` where it says more.
+    /// The outcome where it is brief, or `None` where it says more.
     #[inline(always)]
     pub fn of(outcome: Outcome) -> Option<Brief>
         ensures { (brief : Brief) → (result ≡ Some brief) ↔ (outcome_of brief ≡ outcome) }
@@ -29,19 +30,19 @@ impl Brief {
             Outcome::Ran => Some(Brief::Ran),
             Outcome::Began => Some(Brief::Began),
             Outcome::Buffered => Some(Brief::Buffered),
+            Outcome::Blocked { why, by } => Some(Brief::Blocked { why, by }),
             Outcome::Armed => Some(Brief::Armed),
             Outcome::Missed { .. }
             | Outcome::Committed { .. }
             | Outcome::RolledBack { .. }
             | Outcome::Ordered { .. }
             | Outcome::Served { .. }
-            | Outcome::Blocked { .. }
             | Outcome::Delivered { .. }
             | Outcome::LetGo { .. } => None,
         }
     }
 
-    /// The outcome of this name.
+    /// The outcome that this is.
     fn outcome(self) -> Outcome
         ensures { result ≡ outcome_of self }
     {
@@ -51,12 +52,13 @@ impl Brief {
             Brief::Ran => Outcome::Ran,
             Brief::Began => Outcome::Began,
             Brief::Buffered => Outcome::Buffered,
+            Brief::Blocked { why, by } => Outcome::Blocked { why, by },
             Brief::Armed => Outcome::Armed,
         }
     }
 }
 
-/// An entry as it is kept. An outcome that says more than its name lies in a list of such outcomes, at `place`.
+/// An entry as it is kept. An outcome that is not brief lies in a list of such outcomes, at `place`.
 #[derive(Clone, Copy)]
 pub enum Row {
     Short { event: Event, outcome: Brief },
@@ -64,9 +66,9 @@ pub enum Row {
 }
 
 // Most steps of a run take a row alone, so its size is what a run pays the system for.
-const _: () = prove!(size_of::<Row>() == 8);
+const _: () = prove!(size_of::<Brief>() == 3);
 
-const _: () = prove!(size_of::<Outcome>() == 12);
+const _: () = prove!(size_of::<Row>() == 8);
 
 impl Row {
     /// The entry that is kept in the row, beside the list of outcomes.

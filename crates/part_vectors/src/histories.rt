@@ -213,3 +213,41 @@ fn what_was_let_go_counts_in_the_serial_order(rt: HostRuntime) -> Result<(), Fai
     );
     Ok(())
 }
+
+/// Each hart has a tally of its own, the last of eight too, and a commit counts with all of its instructions, as many
+/// as one can have.
+#[test]
+fn each_hart_has_a_tally(rt: HostRuntime) -> Result<(), Fail> {
+    let (first, last) = (hart(0), hart(7));
+    let both = Losers::none().with(last, first).with(first, last);
+    let (why, count) = (Why::Locked, 4_294_967_295);
+    let events = [
+        (Kind::Deliver, last, Outcome::Delivered { losers: both }),
+        (Kind::Step, first, Outcome::Committed { count }),
+        (Kind::Serve, last, Outcome::Blocked { why, by: first }),
+    ];
+    let history = history_of(&rt, rt.alloc(), 3, &events)?;
+    let of_first = Tally {
+        committed: 1,
+        instr: 4_294_967_295,
+        conflict: 1,
+        ..Tally::default()
+    };
+    let of_last = Tally {
+        conflict: 1,
+        blocked: 1,
+        ..Tally::default()
+    };
+    assert_eq!(rt; history.serial_len(), 4_294_967_295);
+    assert_eq!(rt;
+        [history.tally(first), history.tally(last)],
+        [of_first, of_last]
+    );
+    assert_eq!(rt; history.tally(hart(6)), Tally::default());
+    assert!(rt; history.length() > 2);
+    assert_eq!(rt;
+        history.entry(2).outcome,
+        Outcome::Blocked { why, by: first }
+    );
+    Ok(())
+}

@@ -1,7 +1,5 @@
 pub mod Laws
-mod Counted
 mod EachHart
-mod Losing
 mod Putting
 mod Reporting
 mod Finding

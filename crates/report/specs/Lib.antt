@@ -1,4 +1,3 @@
-pub mod Counting
 pub mod Line
 pub mod PlaceText
 pub mod Puts

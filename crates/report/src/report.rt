@@ -4,13 +4,11 @@ ghost use Rattle.el_io.specs.Counts.{one_more};
 ghost use Rattle.el_io.specs.Sink.{TookAll, TookPart};
 ghost use Rattle.machine.specs.Story.{committed};
 ghost use Rattle.chronicle.specs.Tally.{tally_of};
-ghost use Rattle.report.specs.Counting.{tally_at};
 ghost use Rattle.report.specs.Line.{bytes_of, line};
 ghost use Rattle.report.specs.Puts.{Puts};
 ghost use Rattle.report.specs.Text.{count_words, first_line, hart_line, hart_lines, last_line, report_of, status_words};
 ghost use Rattle.rv_flat.specs.FlatState.{status_of};
 
-use crate::tallies::{Tallies, counts_of};
 use crate::word::{Word, put_line};
 use chronicle::Tally;
 use el_base::{Chronicled, Config, HartId};
@@ -43,10 +41,9 @@ fn put_report<S: Sink>(sink: &mut S, machine: &Machine) -> Result<(), Failed>
         (report_of machine.now) }
 {
     let history = machine.history();
-    let counts = counts_of(history);
     put_first_line(sink, machine.config(), history.length())?;
-    put_hart_lines(sink, machine, &counts.tallies)?;
-    put_last_line(sink, counts.steps, machine.output().len() as u64)
+    put_hart_lines(sink, machine)?;
+    put_last_line(sink, history.serial_len(), machine.output().len() as u64)
 }
 
 #[tactic(auto, unfolding(crate::specs::Text::first_line))]
@@ -66,29 +63,22 @@ fn put_first_line<S: Sink>(sink: &mut S, config: Config, events: u32) -> Result<
     put_line(sink, "elide", &words, &[])
 }
 
-/// Puts the line of each hart of a machine with these tallies.
-fn put_hart_lines<S: Sink>(sink: &mut S, machine: &Machine, tallies: &Tallies) -> Result<(), Failed>
-    requires { (hart : ℕ) → hart < 8 → tally_at tallies.now hart ≡ tally_of hart machine.now.entries }
+/// Puts the line of each hart of a machine.
+fn put_hart_lines<S: Sink>(sink: &mut S, machine: &Machine) -> Result<(), Failed>
     ensures { Puts result
         (record { taken = S.taken sink.old; faults = S.faults sink.old })
         (record { taken = S.taken sink.new; faults = S.faults sink.new })
         (hart_lines machine.now.config.harts machine.now.entries (status_of (committed machine.now))) }
 {
     for number in 0..machine.config().harts {
-        put_line_of(sink, machine, tallies, HartId { number })?;
+        put_line_of(sink, machine, HartId { number })?;
     }
     Ok(())
 }
 
-/// Puts the line of a hart of a machine with these tallies.
-fn put_line_of<S: Sink>(
-    sink: &mut S,
-    machine: &Machine,
-    tallies: &Tallies,
-    hart: HartId,
-) -> Result<(), Failed>
-    requires exists { hart.number < machine.now.config.harts }
-    requires tallied { tally_at tallies.now hart.number ≡ tally_of hart.number machine.now.entries }
+/// Puts the line of a hart of a machine.
+fn put_line_of<S: Sink>(sink: &mut S, machine: &Machine, hart: HartId) -> Result<(), Failed>
+    requires { hart.number < machine.now.config.harts }
     ensures { Puts result
         (record { taken = S.taken sink.old; faults = S.faults sink.old })
         (record { taken = S.taken sink.new; faults = S.faults sink.new })
@@ -96,7 +86,7 @@ fn put_line_of<S: Sink>(
         (status_of (committed machine.now) hart.number)) }
 {
     let status = machine.hart(hart).status;
-    put_hart_line(sink, hart.number, tallies[hart.number as usize], status)
+    put_hart_line(sink, hart.number, machine.history().tally(hart), status)
 }
 
 /// Puts the line of a hart: its number, what the events count for in its line, and how it stands.

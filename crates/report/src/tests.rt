@@ -1,11 +1,7 @@
 use super::*;
 use crate::report::put_hart_line;
-use crate::tallies::counts_of;
-use chronicle::{History, Tally};
-use el_base::{
-    Cause, Config, Entry, Event, Freed, HartId, Kind, LineAddr, Losers, Mode, Need, Outcome, Why,
-    line_of,
-};
+use chronicle::Tally;
+use el_base::{Config, Event, HartId, Kind, Mode};
 use el_io::{Failed, MemSink, SureSink};
 use elf_image::load;
 use machine::Machine;
@@ -248,95 +244,6 @@ fn each_number_stands_behind_its_name(rt: HostRuntime) -> Result<(), Fail> {
         b"hart 6 ran 18446744073709551615 began 2 committed 3 instr 44 conflict 5 room 6 lines 7 \
         long 8 call 9 mixed 10 missed 11 stalled 12 blocked 13 trap 7 at deadbeef\n";
     assert_eq!(rt; sink.taken(), text.as_slice());
-    Ok(())
-}
-
-/// Two harts whose sections meet at one line, and each way in which a section can end: one pass says of
-/// each hart what its own events and its losses count for. An armed section that is let go counts for the
-/// serial order alone.
-#[test]
-fn one_pass_counts_for_every_hart(rt: HostRuntime) -> Result<(), Fail> {
-    let first = HartId::new(0).ok_or("no hart 0")?;
-    let last = HartId::new(7).ok_or("no hart 7")?;
-    let line: LineAddr = line_of(0x1_0040);
-    let need = Need::Write;
-    let why = Why::Retained;
-    let losers = Losers::none().with(first, last);
-    let freed = Freed::none().with(first, 2);
-    let both = Losers::none().with(last, first).with(first, last);
-    let outcomes = [
-        (last, Outcome::Missed { line, need }),
-        (last, Outcome::Ordered { losers, freed }),
-        (last, Outcome::Blocked { why, by: first }),
-        (last, Outcome::Served { losers, freed }),
-        (last, Outcome::Delivered { losers: both }),
-        (first, Outcome::Stalled),
-        (first, Outcome::Idle),
-        (first, Outcome::Began),
-        (first, Outcome::Buffered),
-        (first, Outcome::Committed { count: 4 }),
-        (first, Outcome::Ran),
-        (first, Outcome::Armed),
-        (first, Outcome::LetGo { count: 3 }),
-        (
-            first,
-            Outcome::Committed {
-                count: 4_294_967_295,
-            },
-        ),
-        (last, Outcome::RolledBack { cause: Cause::Room }),
-        (
-            last,
-            Outcome::RolledBack {
-                cause: Cause::Lines,
-            },
-        ),
-        (last, Outcome::RolledBack { cause: Cause::Long }),
-        (last, Outcome::RolledBack { cause: Cause::Call }),
-        (
-            last,
-            Outcome::RolledBack {
-                cause: Cause::Mixed,
-            },
-        ),
-    ];
-    let mut history = History::make(rt.alloc(), 19)?;
-    for (hart, outcome) in outcomes {
-        assert!(rt; history.spare() >= 1);
-        let kind = Kind::Step;
-        history.push(Entry {
-            event: Event { kind, hart },
-            outcome,
-        });
-    }
-    let counts = counts_of(&history);
-    let tallies = counts.tallies;
-    assert_eq!(rt; counts.steps, 4_294_967_307);
-    let of_first = Tally {
-        ran: 1,
-        began: 1,
-        committed: 2,
-        instr: 4_294_967_299,
-        conflict: 3,
-        stalled: 1,
-        ..Tally::default()
-    };
-    let of_last = Tally {
-        conflict: 1,
-        room: 1,
-        lines: 1,
-        long: 1,
-        call: 1,
-        mixed: 1,
-        missed: 1,
-        blocked: 1,
-        ..Tally::default()
-    };
-    assert_eq!(rt; tallies[0], of_first);
-    assert_eq!(rt; tallies[7], of_last);
-    for tally in &tallies[1..7] {
-        assert_eq!(rt; *tally, Tally::default());
-    }
     Ok(())
 }
 

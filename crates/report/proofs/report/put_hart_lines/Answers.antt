@@ -1,18 +1,10 @@
-use Rattle.std.proofs.Common.{◌≤◌, ap, arith}
-use Rattle.el_base.proofs.Laws.Ranges.{at_most, ranges}
+use Rattle.std.proofs.Common.{ap, arith}
 use Rattle.el_base.specs.declared.config.Config.{Config}
 use Rattle.machine.specs.Story.{committed}
 use Rattle.report.proofs.EachHart.{each_done, each_failed, each_more}
 use Rattle.report.proofs.Putting.{failed_puts}
 use Rattle.report.proofs.Reporting.{line_at}
 use Rattle.report.proofs.report.put_hart_lines.Goals as goal
-
-pub put_line_of-requires-clause-tallied : goal.put_line_of-requires-clause-tallied
-put_line_of-requires-clause-tallied g c =
-    let few : c.args.machine.now.config.harts ≤ 8 =
-    at_most 1 8 c.args.machine.now.config.harts (ranges c.args.machine.now.config c.config-number-end.ensures.in_range).harts in
-    let harts = ap (λ (config : Config). config.harts) c.config-number-end.ensures.exact in
-    c.requires c.loop-number.number (omega (arith, c.loop-number-test.true, harts, few))
 
 pub returns-in_err-put_line_of : goal.returns-in_err-put_line_of
 returns-in_err-put_line_of g c =

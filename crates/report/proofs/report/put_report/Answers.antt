@@ -1,14 +1,9 @@
 use Rattle.std.proofs.Common.{length, ap, ◌∙◌}
 use Rattle.chronicle.specs.Chronicle.{Chronicle}
 use Rattle.chronicle.specs.Serial.{serial}
-use Rattle.chronicle.specs.Tally.{tally_of}
 use Rattle.report.proofs.Putting.{failed_puts}
 use Rattle.report.proofs.Reporting.{report_put, report_stopped_at_first, report_stopped_at_hart}
 use Rattle.report.proofs.report.put_report.Goals as goal
-
-pub put_hart_lines-requires : goal.put_hart_lines-requires
-put_hart_lines-requires g c hart small =
-    c.counts_of-counts.ensures.tallies hart small ∙ ap (λ (history : Chronicle). tally_of hart history.entries) c.history-history.ensures.exact
 
 pub returns-in_err-put_first_line : goal.returns-in_err-put_first_line
 returns-in_err-put_first_line g c =
@@ -27,6 +22,6 @@ pub returns : goal.returns
 returns g c =
     report_put c.put_last_line.result _ _ _ _ c.args.machine.now _ _ _ _ c.config.ensures.exact
     (c.length.ensures ∙ ap (λ (history : Chronicle). length history.entries) c.history-history.ensures.exact)
-    (c.counts_of-counts.ensures.steps ∙ ap (λ (history : Chronicle). length (serial history.entries)) c.history-history.ensures.exact)
+    (c.serial_len.ensures ∙ ap (λ (history : Chronicle). length (serial history.entries)) c.history-history.ensures.exact)
     (ap length c.output.ensures.exact)
     c.in_ok-put_first_line.ensures c.in_ok-put_hart_lines.ensures c.put_last_line.ensures

@@ -1,8 +1,8 @@
 use Rattle.std.proofs.Common.{◌≡◌, length}
 use Rattle.std.specs.Prelude.{is_some}
 use Rattle.el_base.specs.Losers.{beaten_by}
-use Rattle.report.proofs.Losing.{CountedBelow}
-use Rattle.report.proofs.tallies.count_losers.Given as goal
+use Rattle.chronicle.proofs.Losing.{CountedBelow}
+use Rattle.chronicle.proofs.counts.count_losers.Given as goal
 
 abbrev pub invariant-loop-number : goal.invariant-loop-number
 invariant-loop-number l = record {

@@ -1,7 +1,7 @@
 use Rattle.std.proofs.Common.{arith}
-use Rattle.report.proofs.Counted.{entry_small, idle_counted, idle_small, own_then_losses, room_for_losses}
-use Rattle.report.specs.Counting.{tally_at}
-use Rattle.report.proofs.tallies.count.Goals as goal
+use Rattle.chronicle.proofs.Counted.{entry_small, idle_counted, idle_small, own_then_losses, room_for_losses}
+use Rattle.chronicle.specs.Counting.{tally_at}
+use Rattle.chronicle.proofs.counts.count.Goals as goal
 
 pub count_losses-requires : goal.count_losses-requires
 count_losses-requires c =

@@ -1,6 +1,6 @@
 use Rattle.std.proofs.Common.{rules}
 use Rattle.chronicle.proofs.KeptRows.{entry_listed}
-use Rattle.chronicle.proofs.history.History.push_listed.Goals as goal
+use Rattle.chronicle.proofs.entries.Entries.push_listed.Goals as goal
 
 pub returns : goal.returns
 returns c =

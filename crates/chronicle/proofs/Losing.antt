@@ -5,7 +5,7 @@ use Rattle.std.proofs.lemmas.Grind.{get_or-set_at}
 use Rattle.std.proofs.lemmas.List.{get_or-set_other}
 use Rattle.chronicle.specs.Tally.{nothing}
 use Rattle.chronicle.specs.declared.tally.Tally.{Tally}
-use Rattle.report.specs.Counting.{tally_at, with_loss}
+use Rattle.chronicle.specs.Counting.{tally_at, with_loss}
 use Rattle.el_base.proofs.Laws.Tests.{apart_by_test, number_of_test}
 
 -- the losers among the first harts are counted, and no other

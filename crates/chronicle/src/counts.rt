@@ -1,42 +1,58 @@
-//! What the events of a history count for, in one pass.
-ghost use Rattle.std.specs.Prelude.{◌≡◌, ℕ, ◌+◌, ◌<◌, ◌≤◌, ◌^◌, is_some, length};
-ghost use Rattle.chronicle.specs.Serial.{most_effects, serial, taking_effect};
-ghost use Rattle.chronicle.specs.Tally.{IsTallyOf, has_lost, of_entry, of_outcome, plus, tally_of};
-ghost use Rattle.el_base.specs.Losers.{beaten_by};
-ghost use Rattle.report.specs.Counting.{HasRoom, tally_at, with_loss};
+//! What the entries of a history count for, one after another.
 
-use chronicle::{History, Tally};
-use el_base::{Cause, Chronicled, Entry, HartId, Losers, MAX_HARTS, Outcome};
+ghost use Rattle.std.specs.Prelude.{◌≡◌, [], ℕ, ◌+◌, ◌<◌, ◌≤◌, ◌^◌, is_some, length};
+ghost use Rattle.chronicle.specs.Counting.{HasRoom, IsCounted, tally_at, with_loss};
+ghost use Rattle.chronicle.specs.Serial.{most_effects, taking_effect};
+ghost use Rattle.chronicle.specs.Tally.{IsTallyOf, has_lost, of_entry, of_outcome, plus};
+ghost use Rattle.el_base.specs.Losers.{beaten_by};
+
+use crate::tally::Tally;
+use el_base::{Cause, Entry, HartId, Losers, MAX_HARTS, Outcome};
 
 /// A tally for each hart that a machine can have, by its number.
-pub(crate) type Tallies = [Tally; MAX_HARTS as usize];
+pub type Tallies = [Tally; MAX_HARTS as usize];
 
-/// What the events of a history count for.
+/// What some entries count for.
 #[derive(Clone, Copy)]
-pub(crate) struct Counts {
+pub struct Counts {
     /// The tally of each hart.
-    pub(crate) tallies: Tallies,
+    pub tallies: Tallies,
     /// The length of the serial order.
-    pub(crate) steps: u64,
+    pub steps: u64,
 }
 
-/// What the events of a history count for.
-pub(crate) fn counts_of(history: &History) -> Counts
-    ensures tallies { (hart : ℕ) → hart < 8 → tally_at result.tallies hart ≡ tally_of hart history.now.entries }
-    ensures steps { result.steps ≡ length (serial history.now.entries) }
-{
-    let mut tallies = [Tally::default(); MAX_HARTS as usize];
-    let mut steps = 0;
-    for place in 0..history.length() {
-        steps += count(&mut tallies, history.entry(place));
+impl Counts {
+    /// What no entries count for.
+    pub fn none() -> Counts
+        ensures { IsCounted [] result }
+    {
+        Counts {
+            tallies: [Tally::default(); MAX_HARTS as usize],
+            steps: 0,
+        }
     }
-    Counts { tallies, steps }
+
+    /// Counts an entry more.
+    #[inline(always)]
+    pub fn count(&mut self, entry: Entry)
+        requires tallies { (hart : ℕ) → hart < 8 → HasRoom (tally_at self.old.tallies hart) }
+        requires steps { self.old.steps + most_effects < 2 ^ 64 }
+        ensures tallies { (hart : ℕ) → hart < 8 →
+            tally_at self.new.tallies hart ≡ plus (tally_at self.old.tallies hart) (of_entry hart entry) }
+        ensures small { (hart : ℕ) → IsTallyOf 1 (of_entry hart entry) }
+        ensures steps { self.new.steps
+            ≡ self.old.steps + length (taking_effect entry.event.hart.number entry.outcome) }
+        ensures few { length (taking_effect entry.event.hart.number entry.outcome) ≤ most_effects }
+    {
+        self.steps += count(&mut self.tallies, entry);
+    }
 }
 
 /// Counts an event, for its hart and for the harts whose sections lost in it, and says how many
 /// instructions took effect in it.
 ///
 /// An idle event counts for nothing, and is seen first: where harts seldom wait, most events are idle.
+#[inline(always)]
 fn count(tallies: &mut Tallies, entry: Entry) -> u64
     requires { (hart : ℕ) → hart < 8 → HasRoom (tally_at tallies.old hart) }
     ensures exact { (hart : ℕ) → hart < 8 →
@@ -55,7 +71,7 @@ fn count(tallies: &mut Tallies, entry: Entry) -> u64
 }
 
 /// Counts an event of a hart's own by its outcome, and says how many instructions took effect in it.
-#[tactic(auto, unfolding(chronicle::specs::Tally::plus, chronicle::specs::Tally::IsTallyOf, crate::specs::Counting::HasRoom))]
+#[tactic(auto, unfolding(crate::specs::Tally::plus, crate::specs::Tally::IsTallyOf, crate::specs::Counting::HasRoom))]
 fn count_own(tally: &mut Tally, outcome: Outcome) -> u64
     requires { HasRoom tally.old }
     ensures exact { tally.new ≡ plus tally.old (of_outcome outcome) }
@@ -113,6 +129,9 @@ fn count_losers(tallies: &mut Tallies, losers: Losers)
     ensures { (hart : ℕ) → hart < 8 →
         tally_at tallies.new hart ≡ with_loss (tally_at tallies.old hart) (is_some (beaten_by losers hart)) }
 {
+    if losers == Losers::none() {
+        return;
+    }
     for number in 0..MAX_HARTS {
         if losers.winner_of(HartId { number }).is_some() {
             tallies[number as usize].conflict += 1;

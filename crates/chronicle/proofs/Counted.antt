@@ -1,14 +1,16 @@
 -- Counting an event.
 use Rattle.std.proofs.Common.{◌≡◌, ℕ, ◌+◌, ◌*◌, ◌^◌, ◌<◌, ◌≤◌, ◌==◌, Bool, true, false, ◌&&◌}
-use Rattle.std.proofs.Common.{IsTrue, List, [], ◌∷◌, get_or, length, set, take, cond, refl, ap, sym, subst, ◌∙◌, arith}
-use Rattle.std.specs.Prelude.{nat_le, nat_lt, slice_get, Some}
-use Rattle.std.specs.List.{list_all}
+use Rattle.std.proofs.Common.{IsTrue, List, [], ◌∷◌, get_or, ◌++◌, length, set, cond, refl, ap, sym, subst, ◌∙◌, append-nil, arith}
+use Rattle.std.specs.Prelude.{nat_le, nat_lt}
+use Rattle.std.specs.List.{flat_map, list_all}
 use Rattle.std.proofs.lemmas.Bool.Decides.{nat_tests}
-use Rattle.std.proofs.lemmas.Grind.{get_or-set_at}
+use Rattle.std.proofs.lemmas.Grind.{flat_map-append, get_or-set_at}
 use Rattle.std.proofs.lemmas.List.{get_or-replicate, get_or-set_other, length-append}
-use Rattle.std.proofs.lemmas.Option.{get_or_from_slice_get, slice_get_within}
+use Rattle.chronicle.proofs.Laws.Tallies.{no_tally, none_small, plus_small, tally_of-push}
+use Rattle.chronicle.specs.Chronicle.{Chronicle, spare_of}
 use Rattle.chronicle.specs.Serial.{most_effects, serial, taking_effect}
-use Rattle.chronicle.specs.Tally.{has_lost, nothing, numbers, of_entry, of_outcome, plus, IsTallyOf}
+use Rattle.chronicle.specs.Tally.{has_lost, nothing, numbers, of_entry, of_outcome, plus, tally_of, IsTallyOf}
+use Rattle.chronicle.specs.declared.counts.Counts.{Counts}
 use Rattle.chronicle.specs.declared.tally.Tally.{Tally}
 use Rattle.chronicle.proofs.Laws.Tallies.{plus_nothing}
 use Rattle.el_base.specs.declared.entries.Entry.{Entry}
@@ -17,8 +19,7 @@ use Rattle.el_base.specs.declared.outcomes.Outcome.{Outcome}
 use Rattle.el_base.specs.declared.outcomes.Outcome.TheVariants.{Idle, Stalled, Missed, Ran, Began, Buffered}
 use Rattle.el_base.specs.declared.outcomes.Outcome.TheVariants.{Committed, RolledBack, Ordered, Served, Blocked, Delivered, Armed, LetGo}
 use Rattle.el_base.proofs.Laws.Tests.{apart_by_test, number_of_test}
-use Rattle.report.proofs.Putting.{pieces_more}
-use Rattle.report.specs.Counting.{HasRoom, tally_at, with_loss}
+use Rattle.chronicle.specs.Counting.{HasRoom, IsCounted, KeepsCounts, tally_at, with_loss}
 
 -- no outcome counts as a conflict of its own hart
 no_conflict : (outcome : Outcome) → (of_outcome outcome).conflict ≡ 0
@@ -170,11 +171,72 @@ pub first_tallies : (tally : Tally) (hart : ℕ) → hart < 8 →
 first_tallies tally hart small = get_or-replicate 8 hart tally nothing small
 
 -- one entry more adds the instructions that took effect in it
-pub serial_more : (entries : List Entry) (place : ℕ) (entry : Entry) → slice_get entries place ≡ Some entry →
-    length (serial (take place entries)) + length (taking_effect entry.event.hart.number entry.outcome)
-    ≡ length (serial (take (place + 1) entries))
-serial_more entries place entry here =
+pub serial_more : (entries : List Entry) (entry : Entry) →
+    length (serial (entries ++ entry ∷ []))
+    ≡ length (serial entries) + length (taking_effect entry.event.hart.number entry.outcome)
+serial_more entries entry =
     let effects : Entry → List ℕ = λ e. taking_effect e.event.hart.number e.outcome in
-    ap (λ e. length (serial (take place entries)) + length (effects e)) (sym (get_or_from_slice_get entries place entry entry here))
-    ∙ sym (length-append (serial (take place entries)) (effects (get_or entries place entry)))
-    ∙ ap length (pieces_more effects entries place entry (slice_get_within entries place entry here))
+    ap length (flat_map-append effects entries (entry ∷ []))
+    ∙ length-append (serial entries) (flat_map effects (entry ∷ []))
+    ∙ ap (λ n. length (serial entries) + n) (ap length (append-nil (effects entry)))
+
+-- the counts of no entries
+pub none_counted : (tally : Tally) (counts : Counts) → tally ≡ nothing →
+    counts
+    ≡ record { tallies = tally ∷ tally ∷ tally ∷ tally ∷ tally ∷ tally ∷ tally ∷ tally ∷ []; steps = 0 } →
+    IsCounted [] counts
+none_counted tally counts none is =
+    subst (IsCounted []) (sym is)
+    (record {
+      tallies = λ hart small. first_tallies tally hart small ∙ none ∙ no_tally hart;
+      steps = refl;
+      few = omega arith;
+      small = λ hart. subst (λ t. IsTallyOf 0 t) (no_tally hart) none_small;
+    })
+
+-- the counts of some entries and one more
+pub one_counted : (entries : List Entry) (entry : Entry) (old new : Counts) → IsCounted entries old →
+    ((hart : ℕ) → hart < 8 → tally_at new.tallies hart ≡ plus (tally_at old.tallies hart) (of_entry hart entry)) →
+    ((hart : ℕ) → IsTallyOf 1 (of_entry hart entry)) →
+    new.steps ≡ old.steps + length (taking_effect entry.event.hart.number entry.outcome) →
+    length (taking_effect entry.event.hart.number entry.outcome) ≤ most_effects →
+    IsCounted (entries ++ entry ∷ []) new
+one_counted entries entry old new counted tallies small steps few =
+    let more : (hart : ℕ) → tally_of hart (entries ++ entry ∷ []) ≡ plus (tally_of hart entries) (of_entry hart entry) =
+    λ hart. tally_of-push hart entries entry in
+    let count : length (entries ++ entry ∷ []) ≡ length entries + 1 = length-append entries (entry ∷ []) in
+    record {
+      tallies = λ hart below.
+          tallies hart below ∙ ap (λ t. plus t (of_entry hart entry)) (counted.tallies hart below) ∙ sym (more hart);
+      steps = steps ∙ ap (λ n. n + length (taking_effect entry.event.hart.number entry.outcome)) counted.steps
+          ∙ sym (serial_more entries entry);
+      few = let before = counted.few in omega (arith, count, before, steps, few);
+      small = λ hart.
+          subst (λ t. IsTallyOf (length (entries ++ entry ∷ [])) t) (sym (more hart))
+          (subst (λ n. IsTallyOf n (plus (tally_of hart entries) (of_entry hart entry))) (sym count)
+          (plus_small (length entries) (tally_of hart entries) (of_entry hart entry) (counted.small hart) (small hart)));
+    }
+
+-- counts of entries of a history that has a place left can take one more
+pub room_for_one : (history : Chronicle) (counts : Counts) → KeepsCounts history counts → 1 ≤ spare_of history →
+    (hart : ℕ) → hart < 8 → HasRoom (tally_at counts.tallies hart)
+room_for_one history counts keeps left hart below =
+    let few = keeps.few_places in
+    subst HasRoom (sym (keeps.counted.tallies hart below))
+    (tally_has_room (length history.entries) (tally_of hart history.entries) (omega (arith, few, left))
+    (keeps.counted.small hart))
+
+-- a history with an entry more keeps its counts
+pub keeps_more : (old new : Chronicle) (before after : Counts) (entry : Entry) → KeepsCounts old before →
+    1 ≤ spare_of old → new ≡ record old { entries = old.entries ++ entry ∷ [] } →
+    ((hart : ℕ) → hart < 8 → tally_at after.tallies hart ≡ plus (tally_at before.tallies hart) (of_entry hart entry)) →
+    ((hart : ℕ) → IsTallyOf 1 (of_entry hart entry)) →
+    after.steps ≡ before.steps + length (taking_effect entry.event.hart.number entry.outcome) →
+    length (taking_effect entry.event.hart.number entry.outcome) ≤ most_effects → KeepsCounts new after
+keeps_more old new before after entry keeps left more tallies small steps few =
+    subst (λ history. KeepsCounts history after) (sym more)
+    (record {
+      within = let within = keeps.within in omega (arith, within, left, length-append old.entries (entry ∷ []));
+      few_places = keeps.few_places;
+      counted = one_counted old.entries entry before after keeps.counted tallies small steps few;
+    })

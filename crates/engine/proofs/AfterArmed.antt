@@ -1,11 +1,13 @@
 -- a hart has armed: the parts are in the definition's state
-use Rattle.std.proofs.Common.{◌≡◌, ◌∙◌, ℕ, ◌<◌, ◌%◌, true, length, None, Some, is_some, refl, ap, sym, subst, arith}
+use Rattle.std.proofs.Common.{◌≡◌, ◌≢◌, ◌∙◌, ℕ, ◌<◌, ◌%◌, true, length, None, Some, is_some}
+use Rattle.std.proofs.Common.{refl, ap, sym, subst, arith}
 use Rattle.std.specs.Prelude.{slice_set}
 use Rattle.std.proofs.lemmas.List.{get_or-set_other, get_or-set_same, length-set}
 use Rattle.residency.specs.Cache.{is_resident}
 use Rattle.cache_sets.specs.Slotted.{Slotted}
 use Rattle.coherence.specs.Lent.{slotted_at}
 use Rattle.el_base.specs.Line.{line_number}
+use Rattle.el_base.specs.declared.config.Mode.TheVariants.{Plain}
 use Rattle.el_base.specs.declared.hart_id.HartId.{HartId}
 use Rattle.el_base.specs.declared.outcomes.Outcome.TheVariants as outcomes
 use Rattle.el_model.proofs.Laws.Harts.{hart_of-with_hart_same}
@@ -74,10 +76,11 @@ module _ (old : Parts) (bus : Kept) (hart : HartId) (from : ModelState) (acts : 
         marked_cache bus h (line_number word) cache from _ (noted_of from h word) (now_of from h word) noted_armed marks refl
         (ap is_some acts.no_section) (omega arith)
 
-    pub armed_ready : IsReady (returned bus h cache)
-    armed_ready =
+    pub armed_ready : from.config.mode ≢ Plain → IsReady (returned bus h cache)
+    armed_ready elides =
         ready_between bus from _ h cache (noted_of from h word) inside_bus noted.ready noted_armed refl refl acts.may.free
         (marked_formed bus h (line_number word) cache inside_bus noted.ready marks)
+        (λ plain. absurd (elides (sym noted_armed.shows.mode ∙ plain)))
 
     abbrev state : ModelState
     state = with_hart from h (now_of from h word)

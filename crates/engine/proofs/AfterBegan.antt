@@ -17,7 +17,7 @@ use Rattle.el_model.specs.Attempts.{open_attempt}
 use Rattle.el_model.specs.Plain.{Begins, armed_count, began_hart, by_plain_rule, plain_rule}
 use Rattle.el_model.specs.State.{Hart, ModelState, cache_of, hart_of, with_hart}
 use Rattle.el_model.specs.Upcoming.{Swap}
-use Rattle.engine.proofs.Chosen.{lock_there, next, own_cache, swap_found}
+use Rattle.engine.proofs.Chosen.{begins_not_plain, lock_there, next, own_cache, swap_found}
 use Rattle.engine.proofs.Framed.{beside_same, holds_none, told_copies, told_same}
 use Rattle.engine.proofs.Others.{IsSeenAs, seen_same}
 use Rattle.engine.proofs.Outsiders.{step_is}
@@ -138,6 +138,8 @@ module _ (parts : Parts) (h : ℕ) (state : ModelState) (action : Action) (acts 
   entered_ready =
       ready_between parts.bus state _ h cache _ (has_cache parts h state acts) acts.may.ready (freed_between parts h state acts.may) refl refl
       acts.may.free (marked_formed parts.bus h (line_number swap.word) cache (has_cache parts h state acts) acts.may.ready read)
+      (λ plain.
+      absurd (begins_not_plain parts h state action acts is swap rule (sym acts.may.is_in.shows.mode ∙ plain)))
 
   pub entered_told : Tells parts.pool (returned parts.bus h cache) (line_of state.committed)
   entered_told = told_same parts.pool parts.bus h cache _ acts.may.is_in.told (has_cache parts h state acts) read.keeps

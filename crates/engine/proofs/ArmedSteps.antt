@@ -5,7 +5,7 @@ use Rattle.std.proofs.lemmas.Bool.Decides.{nat_tests}
 use Rattle.std.proofs.lemmas.List.{get_or-set_other, get_or-set_same, length-set}
 use Rattle.residency.proofs.Laws.WellFormedLemmas.{well_formed-cleared}
 use Rattle.residency.proofs.Laws.Unmarked.{unmarked-cleared}
-use Rattle.residency.specs.Cache.{cleared}
+use Rattle.residency.specs.Cache.{cleared, has_marks}
 use Rattle.cache_sets.specs.Slotted.{Slotted}
 use Rattle.coherence.specs.Beginning.{line_of}
 use Rattle.residency.specs.WellFormed.{IsWellFormed}
@@ -121,6 +121,7 @@ module _ (old : Parts) (hart : HartId) (armed : Armed) (from : ModelState) (foll
       may.free
       (subst (λ ways. IsWellFormed ways cache.residency) (sym over.covers.ways)
       (subst (IsWellFormed (sets_in old h).ways) (sym same_residency) formed))
+      (λ plain. ap has_marks same_residency ∙ may.ready.unmarked plain h)
 
   continued_told : Tells pool (returned old.bus h cache) (line_of from.committed)
   continued_told =
@@ -276,6 +277,7 @@ module _ (old : Parts) (hart : HartId) (armed : Armed) (from : ModelState) (foll
       ready_between old.bus from _ g cache (held_nothing from g) inside may.ready (freed_between old g from may) refl refl may.free
       (subst (λ ways. IsWellFormed ways cache.residency) (sym clears.ways)
       (subst (IsWellFormed (sets_in old g).ways) (sym clears.residency) formed))
+      (λ plain. ap has_marks clears.residency ∙ unmarked-cleared (sets_in old g).residency)
 
   keeps_rest : KeepsAllButAView g from.committed (alone from.committed g armed.count)
   keeps_rest = armed_runs_keep_all_but_a_view from.committed g _ armed (keeps_private old g from armed follows.acts).run

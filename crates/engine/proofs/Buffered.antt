@@ -8,6 +8,7 @@ use Rattle.cache_sets.specs.Cached.{cached_byte}
 use Rattle.cache_sets.specs.Slotted.{Slotted, lent}
 use Rattle.coherence.specs.Lent.{no_slotted}
 use Rattle.residency.specs.WellFormed.{IsWellFormed}
+use Rattle.el_base.specs.Line.{line_number}
 use Rattle.el_base.specs.declared.hart_id.HartId.{HartId}
 use Rattle.el_model.proofs.Laws.Harts.{hart_of-with_hart_same}
 use Rattle.el_model.specs.InSection.{Buffers, buffered_hart, covered, section_turn}
@@ -22,7 +23,8 @@ use Rattle.engine.proofs.KeptLive.{next_inside}
 use Rattle.engine.proofs.Misses as misses
 use Rattle.engine.proofs.Misses.{freed_here}
 use Rattle.engine.proofs.Others.{IsSeenAs, seen_same}
-use Rattle.engine.proofs.Stepped.{HasStepped, IsCacheOf, StaysInPlace, after_step, freed_between, ready_between, shows_between, stays_in_place}
+use Rattle.engine.proofs.Stepped.{HasStepped, IsCacheOf, StaysInPlace, after_step, freed_between, read_not_plain}
+use Rattle.engine.proofs.Stepped.{ready_between, shows_between, stays_in_place}
 use Rattle.engine.specs.Acting.{MayAct, freed, next_action, sets_in}
 use Rattle.engine.specs.Covered.{HasItsBitNow, IsTouchedThere}
 use Rattle.engine.specs.Inside.{FollowsRule}
@@ -158,6 +160,9 @@ module _ (old : Parts) (hart : HartId) (from : ModelState) (section : Section) (
       ready_between old.bus from (freed from h) h cache _ inside may.ready (freed_between old h from may) refl refl may.free
       (subst (λ ways. IsWellFormed ways cache.residency) (sym is_cache.ways)
       (subst (IsWellFormed (sets_in old h).ways) (sym residency_then) (formed_covered (sets_in old h).ways (cache_of from h) touch formed)))
+      (λ plain.
+      absurd (read_not_plain old.bus h (line_number section.word) (cache_of from h) may.ready can.kept.cache
+      can.kept.run.read plain))
 
   pub buffered_in : IsIn (with_own old h pool cache (buffered_own new (own_at old.harts h))) (section_turn from h section).state
   buffered_in =

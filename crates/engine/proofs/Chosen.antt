@@ -1,15 +1,17 @@
 -- what the rule of a step outside of a section tells of its action
-use Rattle.std.proofs.Common.{◌≡◌, ◌∙◌, ℕ, Bool, true, false, Option, Some, None, ap, sym}
+use Rattle.std.proofs.Common.{◌≡◌, ◌≢◌, ◌∙◌, ℕ, Bool, true, false, Option, Some, None, ap, sym}
 use Rattle.std.specs.Prelude.{if◌then◌else◌}
 use Rattle.residency.specs.Cache.{is_resident}
 use Rattle.cached_step.specs.CacheRun.{permitted}
 use Rattle.core_step.specs.Run.{lacking}
 use Rattle.el_base.specs.Line.{line_number}
+use Rattle.el_base.specs.declared.config.Mode.{Mode}
+use Rattle.el_base.specs.declared.config.Mode.TheVariants.{Plain, Sle, Tlr}
 use Rattle.el_base.specs.declared.outcomes.Need.{Need}
 use Rattle.el_base.proofs.Laws.Cases.{none_some}
 use Rattle.el_model.specs.Conflicts.{is_wanted_to_write}
 use Rattle.el_model.specs.Plain.{Arms, Begins, Misses, Runs, elidable_reserve, elidable_swap, may_elide, plain_rule}
-use Rattle.el_model.specs.State.{ModelState, cache_of, hart_of}
+use Rattle.el_model.specs.State.{Hart, ModelState, cache_of, hart_of}
 use Rattle.el_model.specs.Upcoming.{Swap, Touch, next_reserved, next_swap, next_touch, touch_of}
 use Rattle.engine.proofs.Misses.{freed_here}
 use Rattle.engine.proofs.PlainRules.{ArmsAt, BeginsAt, TouchesLine, TouchesWord, arms_word, begins_swap, lacks_none, misses_touch, runs_touch, same_touch}
@@ -30,6 +32,13 @@ use Rattle.step_rules.specs.Rules.{touching_rule}
 if_some : {A : Type 0} (b : Bool) (found : Option A) (swap : A) → (if b then found else None) ≡ Some swap → found ≡ Some swap
 if_some true found swap is = is
 if_some false found swap is = none_some is
+
+-- what may be elided is so in no plain mode
+elided_not_plain : {A : Type 0} (mode : Mode) (hart : Hart) (pc : ℕ) (found : Option A) (x : A) →
+    (if may_elide mode hart pc then found else None) ≡ Some x → mode ≢ Plain
+elided_not_plain Plain hart pc found x is plain = none_some is
+elided_not_plain Sle hart pc found x is plain = absurd (cc)
+elided_not_plain Tlr hart pc found x is plain = absurd (cc)
 
 if_touches : (b : Bool) (found : Option Swap) (touch : Option Touch) → TouchesWord found touch → TouchesWord (if b then found else None) touch
 if_touches true found touch touches = touches
@@ -88,6 +97,10 @@ module _ (parts : Parts) (h : ℕ) (state : ModelState) (action : Action) (acts 
       if_some (may_elide state.config.mode (hart_of state h) (view_of state.committed h).pc) (next_swap state.committed h) swap
       (begins_at swap rule).found_is
 
+  pub begins_not_plain : (swap : Swap) → plain_rule state h ≡ Begins swap → state.config.mode ≢ Plain
+  begins_not_plain swap rule =
+      elided_not_plain state.config.mode (hart_of state h) _ _ swap (begins_at swap rule).found_is
+
   pub lock_there : (swap : Swap) → plain_rule state h ≡ Begins swap → is_resident (cache_in parts h).residency (line_number swap.word) ≡ true
   lock_there swap rule = readable_there (cache_in parts h).residency (line_number swap.word) (begins_at swap rule).may
 
@@ -101,6 +114,10 @@ module _ (parts : Parts) (h : ℕ) (state : ModelState) (action : Action) (acts 
   reserve_found word rule =
       if_some (may_elide state.config.mode (hart_of state h) (view_of state.committed h).pc) (next_reserved state.committed h) word
       (arms_at word rule).reserve_is
+
+  pub arms_not_plain : (word : ℕ) → plain_rule state h ≡ Arms word → state.config.mode ≢ Plain
+  arms_not_plain word rule =
+      elided_not_plain state.config.mode (hart_of state h) _ _ word (arms_at word rule).reserve_is
 
   pub reserves_next : (word : ℕ) → plain_rule state h ≡ Arms word → IsReserveOf action word
   reserves_next word rule = reserve_action action word (reserve_next action state.committed h next ∙ reserve_found word rule)

@@ -371,7 +371,9 @@ module _ (parts : Parts) (bus : Kept) (h : ℕ) (from : ModelState) (section : S
       (unasked_returned bus h cache free_then
       (subst (λ ways. IsWellFormed ways cache.residency) (sym at.over.committed.ways)
       (subst (IsWellFormed (sets_in parts h).ways) (sym at.over.committed.residency)
-      (well_formed-committed (sets_in parts h).ways (sets_in parts h).residency (may.ready.well_formed h (inside_caches parts h from may))))))
+      (well_formed-committed (sets_in parts h).ways (sets_in parts h).residency
+      (may.ready.well_formed h (inside_caches parts h from may)))))
+      (λ plain. ap has_marks at.over.committed.residency ∙ has_marks-committed (sets_in parts h).residency))
 
   -- what the hart keeps then
   own_then : IsOfHart pool (state_then from h section) h (committed_own after (own_at parts.harts h))

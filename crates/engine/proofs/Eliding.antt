@@ -22,7 +22,7 @@ use Rattle.engine.proofs.Framed.{holds_none, told_copies, told_same}
 use Rattle.engine.proofs.KeptLive.{same_action}
 use Rattle.engine.proofs.KeptPrivate.{keeps_private, next_private, word_line_there}
 use Rattle.engine.proofs.Stepped.{IsBetween, IsCacheOf, IsNoted, free_between, freed_between, marked_cache, marked_formed, noted_between}
-use Rattle.engine.proofs.Stepped.{ready_between, returned_between, stays_in_place}
+use Rattle.engine.proofs.Stepped.{read_not_plain, ready_between, returned_between, stays_in_place}
 use Rattle.engine.proofs.Laws.Swaps.{IsConditionalOf, conditional_action}
 use Rattle.engine.specs.Acting.{next_action, sets_in}
 use Rattle.engine.specs.Armed.{FollowsArmed}
@@ -108,8 +108,11 @@ module _ (old : Parts) (hart : HartId) (armed : Armed) (swap : Swap) (from : Mod
     pub marked_ready : IsReady (returned old.bus h cache)
     marked_ready =
         let may = follows.acts.may in
+        let k = keeps_private old h from armed follows.acts in
         ready_between old.bus from _ h cache (held_nothing from h) inside_cache may.ready (freed_between old h from may) refl refl may.free
         (marked_formed old.bus h (line_number swap.word) cache inside_cache may.ready marks)
+        (λ plain.
+        absurd (read_not_plain old.bus h (line_number armed.word) (cache_of from h) may.ready k.cache k.run.read plain))
 
     bits : has_marks (marked_of from h swap).cache ≡ true
     bits =

@@ -182,9 +182,12 @@ module _ (parts : Parts) (h : ℕ) (state : ModelState) (action : Action) (acts 
 
   pub ran_ready : HasNoRequest parts.bus h → IsReady (returned parts.bus h cache)
   ran_ready none_asked =
+      let form =
+      stays_in_form (cache_in parts h) after action _ (acts.may.ready.well_formed h (has_cache parts h state acts))
+      over.has_run in
       ready_returned parts.bus h cache (has_cache parts h state acts) acts.may.ready
-      (unasked_returned parts.bus h cache none_asked
-      (stays_in_form (cache_in parts h) after action _ (acts.may.ready.well_formed h (has_cache parts h state acts)) over.has_run).well_formed)
+      (unasked_returned parts.bus h cache none_asked form.well_formed
+      (λ plain. form.marks ∙ none_marked parts h state acts))
 
 -- the bytes that an action appends are there, and are those of memory
 append_there : (parts : Parts) (h address len : ℕ) → lacking (permitted (cache_in parts h)) (footprint (actions.Append address len)) ≡ None →

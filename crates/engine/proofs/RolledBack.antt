@@ -207,6 +207,7 @@ rolled_ready parts bus h from cache may ready shows clears =
     ready_between bus from _ h cache _ inside ready is refl refl may.free
     (subst (λ ways. IsWellFormed ways cache.residency) (sym clears.ways)
     (subst (IsWellFormed (slotted_at bus.copies.caches h).ways) (sym clears.residency) formed))
+    (λ plain. ap has_marks clears.residency ∙ unmarked-cleared (slotted_at bus.copies.caches h).residency)
 
 pub rolled_in : (old : Parts) (pool : Pooled) (bus : Kept) (hart : HartId) (from : ModelState) (section : Section) (cache : Slotted) (cause : Cause) →
     FollowsRule old hart.number from section (RollsBack cause) →

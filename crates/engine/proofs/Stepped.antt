@@ -1,15 +1,19 @@
 -- a step of a hart, and the parts after it
-use Rattle.std.proofs.Common.{◌≡◌, ◌≢◌, ◌∙◌, ℕ, ◌+◌, ◌≤◌, ◌<◌, if◌then◌else◌, false, length, Some, None, is_some, refl, ap, sym, subst, inl, inr}
+use Rattle.std.proofs.Common.{◌≡◌, ◌≢◌, ◌∙◌, ℕ, ◌+◌, ◌≤◌, ◌<◌, ◌||◌, if◌then◌else◌, false, true, List, length}
+use Rattle.std.proofs.Common.{Option, Some, None, is_some, refl, ap, sym, subst, inl, inr}
 use Rattle.std.specs.Prelude.{◌==◌, not, slice_set}
 use Rattle.std.proofs.lemmas.Bool.{cases_eq}
 use Rattle.std.proofs.lemmas.List.{length-set, set-set}
 use Rattle.bus_order.specs.Order.{request_of}
 use Rattle.residency.proofs.Laws.WellFormedLemmas.{well_formed-marked, well_formed-touched}
-use Rattle.residency.specs.Cache.{marked, touched}
+use Rattle.residency.proofs.Laws.MarkLemmas.{no_marks}
+use Rattle.residency.specs.Cache.{has_marks, marked, read_bit, touched, write_bit}
+use Rattle.residency.specs.Residency.{Way}
 use Rattle.cache_sets.specs.Slotted.{Slotted}
 use Rattle.residency.specs.WellFormed.{IsWellFormed}
 use Rattle.coherence.specs.Beginning.{line_of}
 use Rattle.coherence.specs.Lent.{slotted_at}
+use Rattle.el_base.specs.declared.config.Mode.TheVariants.{Plain}
 use Rattle.el_base.specs.declared.events.Event.{Event}
 use Rattle.el_base.specs.declared.events.Kind.TheVariants as kinds
 use Rattle.el_base.specs.declared.hart_id.HartId.{HartId}
@@ -291,13 +295,25 @@ free_between bus from between h hart is raised order free =
       none_ordered = ap (λ requests. request_of requests h) (is.shows.order ∙ order) ∙ none.1;
     }
 
--- so the bus is ready with any well-formed cache
+-- so the bus is ready with any well-formed cache that in the plain mode has no bit
 pub ready_between : (bus : Kept) (from between : ModelState) (h : ℕ) (cache : Slotted) (hart : Hart) → h < length bus.copies.caches →
     IsReady bus → IsBetween bus from between h hart → hart.raised ≡ raised_of from h → between.order ≡ from.order → has_request from h ≡ false →
-    IsWellFormed cache.ways cache.residency → IsReady (returned bus h cache)
-ready_between bus from between h cache hart inside ready is raised order free formed =
+    IsWellFormed cache.ways cache.residency → (bus.mode ≡ Plain → has_marks cache.residency ≡ false) →
+    IsReady (returned bus h cache)
+ready_between bus from between h cache hart inside ready is raised order free formed unmarked =
     ready_returned bus h cache inside ready
-    (unasked_returned bus h cache (free_between bus from between h hart is raised order free) formed)
+    (unasked_returned bus h cache (free_between bus from between h hart is raised order free) formed unmarked)
+
+-- a line that was read in a section is so in no plain mode
+pub read_not_plain : (bus : Kept) (h line : ℕ) (cache : List (List Way)) → IsReady bus →
+    (slotted_at bus.copies.caches h).residency ≡ cache → read_bit cache line ≡ true → bus.mode ≢ Plain
+read_not_plain bus h line cache ready is read plain =
+    true_false
+    (sym (ap (λ first. first || write_bit cache line) read)
+    ∙ no_marks cache line (ap has_marks (sym is) ∙ ready.unmarked plain h))
+  where
+    true_false : true ≡ false → ⊥
+    true_false same = absurd (cc)
 
 -- a line got the read bit in the cache of a hart, and became the most recent one, as the hart became another
 pub marked_cache : (bus : Kept) (h line : ℕ) (cache : Slotted) (from between : ModelState) (hart now : Hart) → IsBetween bus from between h hart →

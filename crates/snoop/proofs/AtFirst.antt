@@ -1,9 +1,10 @@
 -- what the bus shows before the first event
-use Rattle.std.proofs.Common.{◌≡◌, ◌∙◌, ◌<◌, ◌≤◌, ℕ, zero, suc, ◌*◌, true, [], length, replicate, Option, None, Some, refl, ap, sym, subst, arith}
+use Rattle.std.proofs.Common.{◌≡◌, ◌∙◌, ◌<◌, ◌≤◌, ℕ, zero, suc, ◌*◌, true, false, [], length, replicate, Option, None, Some, refl, ap, sym, subst, arith}
 use Rattle.std.specs.Prelude.{slice_index_or}
 use Rattle.std.proofs.lemmas.Bool.Decides.{nat_tests}
 use Rattle.std.proofs.lemmas.List.{length-replicate}
 use Rattle.bus_order.specs.Order.{Request, request_of}
+use Rattle.residency.specs.Cache.{has_marks}
 use Rattle.cache_sets.specs.Cached.{empty_cached}
 use Rattle.residency.specs.WellFormed.{IsWellFormed}
 use Rattle.residency.proofs.Laws.WellFormedLemmas.{well_formed-empty_cache}
@@ -110,6 +111,10 @@ ready_first program config bus in_range new = record {
   once = λ hart. rw new.order (omega arith);
   one_request = λ h request is. absurd (not_some _ request (none_raised h) is);
   few_armed = λ h. subst (λ agents. (agent_at agents h).armed ≤ 15) (sym new.agents) (none_armed config.harts h);
+  unmarked = λ plain h.
+      ap has_marks (sym (residency_at no_pool bus.copies.caches h))
+      ∙ ap (λ caches. has_marks (cache_at caches h).residency) new.caches
+      ∙ none_marked config.harts config.ways config.sets h;
 }
   where
     well_formed_new : (harts ways sets h : ℕ) → 0 < sets → h < harts →
@@ -127,6 +132,12 @@ ready_first program config bus in_range new = record {
     none_armed zero h = omega arith
     none_armed (suc harts) zero = omega arith
     none_armed (suc harts) (suc h) = none_armed harts h
+
+    none_marked : (harts ways sets h : ℕ) →
+        has_marks (cache_at (replicate harts (empty_cached ways sets)) h).residency ≡ false
+    none_marked zero ways sets h = refl
+    none_marked (suc harts) ways sets zero = unmarked-empty sets
+    none_marked (suc harts) ways sets (suc h) = none_marked harts ways sets h
 
     none_raised : (h : ℕ) → (agent_at bus.agents h).raised ≡ None
     none_raised h = ap (λ agents. (agent_at agents h).raised) new.agents ∙ asked_nothing config.harts h

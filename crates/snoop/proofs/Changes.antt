@@ -4,7 +4,8 @@ use Rattle.std.proofs.lemmas.Bool.{cases_eq, cases_lt}
 use Rattle.bus_order.specs.Order.{IsOneEach}
 use Rattle.cache_sets.specs.Slotted.{Slotted}
 use Rattle.coherence.specs.Lent.{slotted_at}
-use Rattle.snoop.proofs.Lent.{cleared_room, cleared_well_formed, clears_one, lies_in_yet, stays_same, stays_twice}
+use Rattle.snoop.proofs.Lent.{cleared_room, cleared_unmarked, cleared_well_formed, clears_one, lies_in_yet, stays_same}
+use Rattle.snoop.proofs.Lent.{stays_twice}
 use Rattle.snoop.proofs.Ready.{ready_after}
 use Rattle.snoop.proofs.Showing.{agent_other, agent_same, count_with_agent}
 use Rattle.snoop.specs.Agent.{Agent, agent_at}
@@ -118,6 +119,7 @@ pub changed_ready : {becomes : ℕ → Agent → Agent} {clears : ℕ → Bool} 
     ((h : ℕ) (agent : Agent) → (becomes h agent).raised ≡ agent.raised) →
     ((h : ℕ) (agent : Agent) → agent.armed ≤ 15 → (becomes h agent).armed ≤ 15) → IsReady old → IsReady new
 changed_ready {becomes} {clears} {number} {old} {new} changed raises few ready = ready_after old new ready (record {
+  mode = changed.mode;
   agent_each = changed.count;
   cache_each = changed.stays.caches;
   well_formed = λ h below. elim (cases_lt h number) [
@@ -135,6 +137,14 @@ changed_ready {becomes} {clears} {number} {old} {new} changed raises few ready =
   few_armed = λ h. elim (cases_lt h number) [
     | inl below ↦ subst (λ agent. agent.armed ≤ 15) (sym (changed.agents h below)) (few h (agent_at old.agents h) (ready.few_armed h))
     | inr past ↦ subst (λ agent. agent.armed ≤ 15) (sym (changed.other_agents h past)) (ready.few_armed h)
+  ];
+  unmarked = λ h none. elim (cases_lt h number) [
+    | inl below ↦
+        cleared_unmarked (clears h) (slotted_at old.copies.caches h) (slotted_at new.copies.caches h)
+        (changed.caches h below) none
+    | inr past ↦
+        cleared_unmarked false (slotted_at old.copies.caches h) (slotted_at new.copies.caches h)
+        (changed.other_caches h past) none
   ];
 })
   where

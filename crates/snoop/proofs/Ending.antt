@@ -1,6 +1,6 @@
 -- a bus of which one section has ended is ready
 use Rattle.std.proofs.Common.{ℕ, refl}
-use Rattle.snoop.proofs.Lent.{ClearsOne, clears_one, lies_in_yet, one_room, one_well_formed}
+use Rattle.snoop.proofs.Lent.{ClearsOne, clears_one, lies_in_yet, one_room, one_unmarked, one_well_formed}
 use Rattle.snoop.proofs.Ready.{ready_after}
 use Rattle.snoop.specs.Changing.{IsClearedAt}
 use Rattle.snoop.specs.Shows.{Holding, IsReady, Kept}
@@ -8,6 +8,7 @@ use Rattle.snoop.specs.Shows.{Holding, IsReady, Kept}
 pub ready_ended : (bus : Kept) (copies : Holding) (h : ℕ) → IsReady bus → IsClearedAt h bus.copies copies →
     IsReady (record bus { copies = copies })
 ready_ended bus copies h ready ended = ready_after bus (record bus { copies = copies }) ready (record {
+  mode = refl;
   agent_each = refl;
   cache_each = cleared.stays.caches;
   well_formed = one_well_formed cleared ready.well_formed;
@@ -16,6 +17,7 @@ ready_ended bus copies h ready ended = ready_after bus (record bus { copies = co
   raised = λ g asked is. record { is = is; room = one_room cleared g asked.line };
   ordered = λ g asked is. record { is = is; room = one_room cleared g asked.line };
   few_armed = ready.few_armed;
+  unmarked = one_unmarked cleared;
 })
   where
     cleared : ClearsOne h bus.copies copies

@@ -1,20 +1,27 @@
 -- the fates of sections, as the code finds them and as the definition has them
-use Rattle.std.proofs.Common.{◌≡◌, ◌∙◌, ℕ, suc, ◌+◌, ◌<◌, List, [], ◌∷◌, ◌++◌, length, length-append, drop, Option, None, refl, ap, sym, arith, inl, inr}
+use Rattle.std.proofs.Common.{◌≡◌, ◌∙◌, ℕ, suc, ◌+◌, ◌<◌, ◌==◌, ◌&&◌, not, Bool, true, false, List, [], ◌∷◌, ◌++◌}
+use Rattle.std.proofs.Common.{length, length-append, drop, Option, None, refl, ap, sym, arith, inl, inr}
 use Rattle.std.specs.Prelude.{slice_index_or}
 use Rattle.std.proofs.Math.ListN.{drop_of_length-le, get_or-append}
 use Rattle.std.proofs.Math.Seq.{drop-cons, get_or-append_seam}
 use Rattle.std.proofs.lemmas.Bool.{cases_eq, cases_lt}
-use Rattle.el_model.specs.Conflicts.{least_such, told_winner}
+use Rattle.el_base.proofs.Laws.Tests.{false_between}
+use Rattle.el_model.specs.Conflicts.{conflicts, least_such, meets_bit, told_winner, wins_over}
 use Rattle.bus_order.specs.Order.{Request}
 use Rattle.el_model.specs.State.{Hart, ModelState, count_up, hart_of}
 use Rattle.snoop.proofs.AfterFate.{past_unmet}
 use Rattle.snoop.proofs.LosersBelow.{past_fates}
+use Rattle.snoop.proofs.Laws.Living.{lives_shown}
 use Rattle.snoop.specs.Agent.{Agent, agent_at, agent_of, new_agent}
+use Rattle.el_base.specs.declared.config.Mode.TheVariants.{Plain}
 use Rattle.el_model.specs.Face.{fate_at}
+use Rattle.policy.specs.Winners.{wins_of}
+use Rattle.snoop.specs.Deciding.{DecidesIn}
 use Rattle.snoop.specs.declared.fates.Fate as fates
 use Rattle.snoop.specs.declared.fates.Fate.TheVariants as declared
 use Rattle.snoop.specs.Fates.{earlier_told, fate_in, numbered_fate, is_earlier_told, stamp_on, told_from}
-use Rattle.snoop.specs.Shows.{Kept, Shows}
+use Rattle.snoop.specs.Shows.{IsReady, Kept, Shows}
+use Rattle.stamp.specs.Stamps.{Stamp}
 
 -- past the last hart no origin was told
 pub none_told : (agent : Agent) (order : List Request) (line from : ℕ) (agents : List Agent) → from ≡ length agents →
@@ -44,6 +51,28 @@ winner_is_told bus state h line shows =
     ap (λ agent. told_from agent bus.order line 0 bus.agents) (shows.agents h)
     ∙ ap (λ order. told_from (agent_of (hart_of state h)) order line 0 bus.agents) shows.order
     ∙ told_by_harts (agent_of (hart_of state h)) state.order line 0 bus.agents state.harts shows.agent_each
+
+-- in the plain mode no head meets a section
+pub plain_unmet : (bus : Kept) (state : ModelState) (head : Request) (h : ℕ) → IsReady bus → Shows bus state →
+    bus.mode ≡ Plain → conflicts head h (hart_of state h) ≡ false
+plain_unmet bus state head h ready shows plain =
+    ap (λ live. (not (head.hart == h) && live) && meets_bit (hart_of state h) head.line head.need)
+    (sym (lives_shown bus state h shows)
+    ∙ ap (λ marks. marks && ((agent_at bus.agents h).armed == 0)) (ready.unmarked plain h))
+    ∙ false_between (not (head.hart == h)) (meets_bit (hart_of state h) head.line head.need)
+
+-- so where one does, the policy answers as the definition does
+pub wins_where_met : (bus : Kept) (state : ModelState) (head : Request) (h : ℕ)
+    (beats : Option Stamp → Option Stamp → Bool) → IsReady bus → Shows bus state → DecidesIn bus.mode beats → conflicts head h (hart_of state h) ≡ true →
+    beats head.stamp (agent_at bus.agents h).attempt ≡ wins_over state.config.mode head.stamp (hart_of state h)
+wins_where_met bus state head h beats ready shows decides met =
+    decides (λ plain. true_false (sym met ∙ plain_unmet bus state head h ready shows plain)) head.stamp
+    (agent_at bus.agents h).attempt
+    ∙ ap (λ agent. wins_of bus.mode head.stamp agent.attempt) (shows.agents h)
+    ∙ ap (λ mode. wins_over mode head.stamp (hart_of state h)) shows.mode
+  where
+    true_false : true ≡ false → ⊥
+    true_false same = absurd (cc)
 
 -- the fates of the harts below a number
 pub record FatesBelow (bus : Kept) (head : Request) (number : ℕ) (fates : List fates.Fate) : Type 0 where

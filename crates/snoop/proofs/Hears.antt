@@ -25,10 +25,10 @@ use Rattle.mail.specs.Mailbox.{Probe, posted}
 use Rattle.snoop.specs.Agent.{Agent, agent_at, agent_of, agent_posted, with_agent}
 use Rattle.snoop.specs.Delivering.{Forwards, IsForwarded, IsLostTo, agent_heard, asks_on}
 use Rattle.snoop.specs.Settled.{in_removal}
-use Rattle.snoop.specs.Shows.{IsReady, Kept, LiesIn, LiesWhere, Shows, has_room_in}
+use Rattle.snoop.specs.Shows.{IsReady, IsUnmarked, Kept, LiesIn, LiesWhere, Shows, has_room_in}
 use Rattle.snoop.proofs.AfterFate.{beaten_agent, beaten_cache, beaten_tells, beaten_upstream}
 use Rattle.snoop.proofs.Laws.Living.{TellsSection, live_unarmed, tells, tells_yet}
-use Rattle.snoop.proofs.Lent.{ClearsOne, clears_one, lies_in_yet, one_room, one_well_formed}
+use Rattle.snoop.proofs.Lent.{ClearsOne, clears_one, lies_in_yet, one_room, one_unmarked, one_well_formed}
 use Rattle.snoop.proofs.Ready.{asks_agent, few_armed_yet, ready_after}
 use Rattle.snoop.proofs.Showing.{agent_other, agent_past, agent_same, count_with_agent, lies_yet, shows_agent, shows_each}
 
@@ -139,6 +139,7 @@ lost_shows bus new state h origin request shows inside loses lost =
 pub lost_ready : (bus new : Kept) (h origin : ℕ) (request : Option Request) → IsReady bus → h < length bus.agents →
     IsLostTo h origin request bus new → IsReady new
 lost_ready bus new h origin request ready inside lost = ready_after bus new ready (record {
+  mode = lost.mode;
   agent_each = ap length lost.agents ∙ count_with_agent bus.agents h _;
   cache_each = cleared_one.stays.caches;
   well_formed = one_well_formed cleared_one ready.well_formed;
@@ -155,6 +156,7 @@ lost_ready bus new h origin request ready inside lost = ready_after bus new read
       subst (λ agents. (agent_at agents g).armed ≤ 15) (sym lost.agents)
       (few_armed_yet bus.agents h (agent_heard origin (in_removal bus.mode (stamp_in request)) (agent_at bus.agents h)) ready.few_armed
       (ready.few_armed h) g);
+  unmarked = one_unmarked cleared_one;
 })
   where
     cleared_one : ClearsOne h bus.copies new.copies
@@ -256,6 +258,7 @@ forward_shows bus new before told h origin request shows order upstream forward 
 
 pub forward_ready : (bus new : Kept) (h origin : ℕ) (request : Option Request) → IsReady bus → IsForwarded h origin request bus new → IsReady new
 forward_ready bus new h origin request ready forward = ready_after bus new ready (record {
+  mode = forward.mode;
   agent_each = count;
   cache_each = ap (λ copies. length copies.caches) forward.copies;
   well_formed = subst
@@ -277,6 +280,7 @@ forward_ready bus new h origin request ready forward = ready_after bus new ready
         subst (λ (a : Agent). a.armed ≤ 15)
         (agent_past bus.agents g past ∙ sym (agent_past new.agents g (omega (arith, past, count)))) (ready.few_armed g)
   ];
+  unmarked = λ g none. subst (λ copies. IsUnmarked copies g) (sym forward.copies) none;
 })
   where
     count : length new.agents ≡ length bus.agents

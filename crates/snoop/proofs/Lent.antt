@@ -1,8 +1,9 @@
 -- what is seen of the caches through any pool, and what stays as one of them has no bits any more
 use Rattle.std.proofs.Common.{◌≡◌, ◌≢◌, ◌∙◌, ◌<◌, ◌≤◌, ℕ, zero, suc, Bool, true, false, List, [], ◌∷◌, length, refl, ap, sym, subst, inl, inr, arith}
 use Rattle.std.proofs.lemmas.Bool.{cases_eq}
-use Rattle.residency.specs.Cache.{cleared, room_of}
+use Rattle.residency.specs.Cache.{cleared, has_marks, room_of}
 use Rattle.residency.specs.WellFormed.{IsWellFormed}
+use Rattle.residency.proofs.Laws.Unmarked.{unmarked-cleared}
 use Rattle.residency.proofs.Laws.WellFormedLemmas.{well_formed-cleared}
 use Rattle.cache_sets.specs.Cached.{Cached}
 use Rattle.cache_sets.specs.Slotted.{Slotted}
@@ -13,7 +14,7 @@ use Rattle.coherence.proofs.Laws.RoomLaws.{room_after_clear}
 use Rattle.coherence.proofs.Laws.Offered.{length-lent, lent_at}
 use Rattle.line_pool.specs.Pooled.{Pooled}
 use Rattle.snoop.specs.Changing.{ClearedIf, IsClearedAt, StaysLent}
-use Rattle.snoop.specs.Shows.{Holding, LiesIn, has_room_in, lent_copies}
+use Rattle.snoop.specs.Shows.{Holding, IsUnmarked, LiesIn, has_room_in, lent_copies}
 
 -- a pool of nothing
 abbrev pub no_pool : Pooled
@@ -92,7 +93,7 @@ lies_in_yet line stays has = record {
   below = let e = stays.first in let f = stays.lines in rw (e, f) has.below;
 }
 
--- a cache without bits is well formed as before, and has as much room
+-- a cache whose bits are gone is well formed as before, has as much room, and gets no bit
 pub cleared_well_formed : (clears : Bool) (old new : Slotted) → ClearedIf clears old new → IsWellFormed old.ways old.residency →
     IsWellFormed new.ways new.residency
 cleared_well_formed true old new cleared formed =
@@ -104,6 +105,11 @@ pub cleared_room : (clears : Bool) (old new : Slotted) (line : ℕ) → ClearedI
 cleared_room true old new line cleared room =
     rw (cleared.ways, cleared.residency) (room_after_clear old.ways old.residency line room)
 cleared_room false old new line kept room = rw (kept.ways, kept.residency) room
+
+pub cleared_unmarked : (clears : Bool) (old new : Slotted) → ClearedIf clears old new →
+    has_marks old.residency ≡ false → has_marks new.residency ≡ false
+cleared_unmarked true old new cleared none = rw cleared.residency (unmarked-cleared old.residency)
+cleared_unmarked false old new kept none = rw kept.residency none
 
 pub one_well_formed : {h : ℕ} {old new : Holding} → ClearsOne h old new →
     ((g : ℕ) → g < length old.caches → IsWellFormed (slotted_at old.caches g).ways (slotted_at old.caches g).residency) →
@@ -123,4 +129,12 @@ one_room {h} {old} {new} clears g line had = elim (cases_eq g h) [
       cleared_room true (slotted_at old.caches g) (slotted_at new.caches g) line
       (subst (λ k. ClearedIf true (slotted_at old.caches k) (slotted_at new.caches k)) (sym same) clears.own) had
   | inr other ↦ cleared_room false (slotted_at old.caches g) (slotted_at new.caches g) line (clears.others g other) had
+]
+
+pub one_unmarked : {h : ℕ} {old new : Holding} → ClearsOne h old new → (g : ℕ) → IsUnmarked old g → IsUnmarked new g
+one_unmarked {h} {old} {new} clears g none = elim (cases_eq g h) [
+  | inl same ↦
+      cleared_unmarked true (slotted_at old.caches g) (slotted_at new.caches g)
+      (subst (λ k. ClearedIf true (slotted_at old.caches k) (slotted_at new.caches k)) (sym same) clears.own) none
+  | inr other ↦ cleared_unmarked false (slotted_at old.caches g) (slotted_at new.caches g) (clears.others g other) none
 ]

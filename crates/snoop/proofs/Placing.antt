@@ -87,6 +87,7 @@ ready_ordered bus request order ready raised placed = record {
       placed.others h before.0 ∙ ready.one_request h other before.1;
   few_armed = few_armed_yet bus.agents request.hart (record (agent_at bus.agents request.hart) { raised = None }) ready.few_armed
       (ready.few_armed request.hart);
+  unmarked = ready.unmarked;
 }
   where
     count : length (with_agent bus.agents request.hart (record (agent_at bus.agents request.hart) { raised = None })) ≡ length bus.agents

@@ -35,6 +35,7 @@ ready_raised bus request ready inside none in_memory room = record {
     | inr apart ↦ ready.one_request h other (before h other apart is)
   ];
   few_armed = few_armed_yet bus.agents request.hart (raising bus request) ready.few_armed (ready.few_armed request.hart);
+  unmarked = ready.unmarked;
 }
   where
     count : length (with_agent bus.agents request.hart (raising bus request)) ≡ length bus.agents

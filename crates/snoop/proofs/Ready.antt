@@ -5,7 +5,7 @@ use Rattle.bus_order.specs.Order.{IsOneEach, Request, request_of}
 use Rattle.residency.specs.WellFormed.{IsWellFormed}
 use Rattle.coherence.specs.Lent.{slotted_at}
 use Rattle.snoop.specs.Agent.{Agent, agent_at, with_agent}
-use Rattle.snoop.specs.Shows.{CanBeServed, IsReady, Kept, LiesIn, has_room_in}
+use Rattle.snoop.specs.Shows.{CanBeServed, IsReady, IsUnmarked, Kept, LiesIn, has_room_in}
 use Rattle.snoop.proofs.Showing.{agent_other, agent_past, agent_same, count_with_agent}
 
 -- a request that stands after a call stood before it, and where there was room for it there is
@@ -13,8 +13,9 @@ pub record Stood (bus new : Kept) (h : ℕ) (before : Option Request) (request :
   pub is : before ≡ Some request
   pub room : has_room_in bus.copies h request.line ≡ true → has_room_in new.copies h request.line ≡ true
 
--- no request is new
+-- no request is new, nor a bit in a cache without any
 pub record AsksNoMore (bus new : Kept) : Type 0 where
+  pub mode : new.mode ≡ bus.mode
   pub agent_each : length new.agents ≡ length bus.agents
   pub cache_each : length new.copies.caches ≡ length bus.copies.caches
   pub well_formed : (h : ℕ) → h < length new.copies.caches → IsWellFormed (slotted_at new.copies.caches h).ways (slotted_at new.copies.caches h).residency
@@ -23,6 +24,7 @@ pub record AsksNoMore (bus new : Kept) : Type 0 where
   pub raised : (h : ℕ) (request : Request) → (agent_at new.agents h).raised ≡ Some request → Stood bus new h (agent_at bus.agents h).raised request
   pub ordered : (h : ℕ) (request : Request) → request_of new.order h ≡ Some request → Stood bus new h (request_of bus.order h) request
   pub few_armed : (h : ℕ) → (agent_at new.agents h).armed ≤ 15
+  pub unmarked : (h : ℕ) → IsUnmarked bus.copies h → IsUnmarked new.copies h
 
 pub served_yet : (bus new : Kept) (h : ℕ) (request : Request) → length new.agents ≡ length bus.agents →
     (LiesIn bus.copies request.line → LiesIn new.copies request.line) →
@@ -47,6 +49,7 @@ ready_after bus new ready after = record {
   once = after.once;
   one_request = λ h request is. none h (request_of new.order h) refl (ready.one_request h request (after.raised h request is).is);
   few_armed = after.few_armed;
+  unmarked = λ plain h. after.unmarked h (ready.unmarked (sym after.mode ∙ plain) h);
 }
   where
     none : (h : ℕ) (found : Option Request) → request_of new.order h ≡ found → request_of bus.order h ≡ None → request_of new.order h ≡ None
@@ -77,6 +80,7 @@ pub asks_agent : (bus : Kept) (h : ℕ) (agent : Agent) → IsReady bus →
     ((request : Request) → agent.raised ≡ Some request → (agent_at bus.agents h).raised ≡ Some request) → agent.armed ≤ 15 →
     AsksNoMore bus (record bus { agents = with_agent bus.agents h agent })
 asks_agent bus h agent ready raises few = record {
+  mode = refl;
   agent_each = count_with_agent bus.agents h agent;
   cache_each = refl;
   well_formed = ready.well_formed;
@@ -85,6 +89,7 @@ asks_agent bus h agent ready raises few = record {
   raised = λ g request is. record { is = before g request is; room = λ room. room };
   ordered = λ g request is. record { is = is; room = λ room. room };
   few_armed = few_armed_yet bus.agents h agent ready.few_armed few;
+  unmarked = λ g none. none;
 }
   where
     before : (g : ℕ) (request : Request) → (agent_at (with_agent bus.agents h agent) g).raised ≡ Some request →

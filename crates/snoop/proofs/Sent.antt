@@ -150,6 +150,7 @@ posted_count Plain known to agents = refl
 -- messages ask nothing of the bus
 pub sent_ready : (bus : Kept) (known : List fates.Fate) (to : ℕ) → IsReady bus → IsReady (record bus { agents = sent_in bus.mode known to bus.agents })
 sent_ready bus known to ready = ready_after bus (record bus { agents = sent_in bus.mode known to bus.agents }) ready (record {
+  mode = refl;
   agent_each = posted_count bus.mode known to bus.agents;
   cache_each = refl;
   well_formed = ready.well_formed;
@@ -162,4 +163,5 @@ sent_ready bus known to ready = ready_after bus (record bus { agents = sent_in b
   ordered = λ h request is. record { is = is; room = λ room. room };
   few_armed = λ h.
       subst (λ n. n ≤ 15) (sym (posted_kept (λ agent. agent.armed) bus.mode known to bus.agents h (λ message agent. refl))) (ready.few_armed h);
+  unmarked = λ h none. none;
 })

@@ -31,13 +31,14 @@ use Rattle.el_model.proofs.Laws.HartParts.{claim_armed, claim_section}
 use Rattle.snoop.specs.Agent.{Agent, agent_at, agent_forgetting, agent_of, agent_served}
 use Rattle.snoop.specs.Serving.{CopiesClaim, CopiesServe, Serves, agent_after_serve, agent_claiming}
 use Rattle.line_pool.specs.Pooled.{Pooled}
-use Rattle.snoop.specs.Shows.{CanBeServed, Holding, IsReady, Kept, Shows, TellsIn, has_room_in, lent_copies, lives, lives_at}
+use Rattle.snoop.specs.Shows.{CanBeServed, Holding, IsReady, IsUnmarked, Kept, Shows, TellsIn, has_room_in}
+use Rattle.snoop.specs.Shows.{lent_copies, lives, lives_at}
 use Rattle.section_laws.proofs.Laws.FreeLines.{unmet as section_unmet}
 use Rattle.snoop.proofs.Lent.{beyond, count_by_pools, residency_at, ways_at}
 use Rattle.snoop.proofs.Laws.Living.{TellsSection, lives_alike, lives_shown, lives_unarmed}
 use Rattle.snoop.proofs.Ready.{ready_after}
 use Rattle.section_laws.proofs.Laws.ServedCaches.{others_room, others_well_formed, own_after, own_after_well_formed}
-use Rattle.snoop.proofs.ServedMarks.{others_marks, own_after_marks}
+use Rattle.snoop.proofs.ServedMarks.{others_marks, others_unmarked, own_after_marks}
 use Rattle.snoop.proofs.Showing.{ShowsEach, agent_past, lies_yet, shows_each}
 
 -- a hart that the test takes for another, and one that it takes for itself
@@ -318,6 +319,32 @@ served_marks bus new state request before after ready shows ordered free serves 
         own_after_marks (slotted_at bus.copies.caches request.hart).ways _ request.need
         (slotted_at bus.copies.caches request.hart).residency request.line well can.room
 
+-- and one without bits has none, which is of a hart without a live section
+serve_unmarked : (bus new : Kept) (request : Request) (before after : Pooled) → IsReady bus →
+    request_of bus.order request.hart ≡ Some request → Serves request before after bus new → (g : ℕ) →
+    IsUnmarked bus.copies g → IsUnmarked new.copies g
+serve_unmarked bus new request before after ready ordered serves g none =
+    elim (cases_eq g request.hart) [
+      | inl same ↦ subst (IsUnmarked new.copies) (sym same) (own (subst (IsUnmarked bus.copies) same none))
+      | inr other ↦ ap has_marks (serve_others bus new request before after serves g other)
+          ∙ others_unmarked _ request.need (slotted_at bus.copies.caches g).residency request.line none
+    ]
+  where
+    can : CanBeServed bus request.hart request
+    can = ready.ordered request.hart request ordered
+
+    own : IsUnmarked bus.copies request.hart → IsUnmarked new.copies request.hart
+    own bare =
+        ap has_marks (serve_own bus new request before after serves)
+        ∙ ap
+        (λ marks. has_marks (claimed_cache (marks && ((agent_at bus.agents request.hart).armed == 0)) request.line
+        request.need (own_filled before bus request)))
+        bare
+        ∙ own_after_marks (slotted_at bus.copies.caches request.hart).ways _ request.need
+        (slotted_at bus.copies.caches request.hart).residency request.line
+        (ready.well_formed request.hart (omega (arith, can.hart_exists, ready.each))) can.room
+        ∙ bare
+
 -- it tells of each hart whether it has a live section
 served_tells : (bus new : Kept) (state : ModelState) (request : Request) (before after : Pooled) → IsReady bus →
     Shows bus state → request_of bus.order request.hart ≡ Some request →
@@ -427,6 +454,7 @@ raised_after live request g agent =
 pub serve_ready : (bus new : Kept) (request : Request) (before after : Pooled) → IsReady bus → request_of bus.order request.hart ≡ Some request →
     Serves request before after bus new → IsReady new
 serve_ready bus new request before after ready ordered serves = ready_after bus new ready (record {
+  mode = serves.mode;
   agent_each = serves.agents.count;
   cache_each = stays.caches;
   well_formed = λ g below.
@@ -459,6 +487,7 @@ serve_ready bus new request before after ready ordered serves = ready_after bus 
         subst (λ (a : Agent). a.armed ≤ 15)
         (agent_past bus.agents g past ∙ sym (agent_past new.agents g (omega (arith, past, serves.agents.count)))) (ready.few_armed g)
   ];
+  unmarked = serve_unmarked bus new request before after ready ordered serves;
 })
   where
     stays : ServeStays before after bus.copies new.copies

@@ -11,17 +11,19 @@ use Rattle.residency.specs.WellFormed.{IsWellFormed}
 use Rattle.coherence.specs.Lent.{slotted_at}
 use Rattle.el_base.specs.declared.config.Mode.{Mode}
 use Rattle.el_base.proofs.Laws.Options.{none_nor_some}
+use Rattle.el_base.specs.declared.config.Mode.TheVariants.{Plain}
 use Rattle.snoop.proofs.Ready.{few_armed_yet, served_yet}
 use Rattle.snoop.proofs.Showing.{agent_other, agent_same, count_with_agent}
 use Rattle.snoop.specs.Agent.{Agent, agent_at, with_agent}
-use Rattle.snoop.specs.Shows.{CanBeServed, Holding, IsReady, Kept}
+use Rattle.snoop.specs.Shows.{CanBeServed, Holding, IsReady, IsUnmarked, Kept}
 
 pub ready_at_rest : (mode : Mode) (copies : Holding) (agents : List Agent) → length agents ≤ 8 →
     length copies.caches ≡ length agents →
     ((h : ℕ) → h < length copies.caches → IsWellFormed (slotted_at copies.caches h).ways (slotted_at copies.caches h).residency) →
     ((h : ℕ) → (agent_at agents h).raised ≡ None) → ((h : ℕ) → (agent_at agents h).armed ≤ 15) →
+    (mode ≡ Plain → (h : ℕ) → IsUnmarked copies h) →
     IsReady (record { mode = mode; copies = copies; agents = agents; order = [] })
-ready_at_rest mode copies agents few each formed none few_armed = record {
+ready_at_rest mode copies agents few each formed none few_armed unmarked = record {
   few = few;
   each = each;
   well_formed = formed;
@@ -30,6 +32,7 @@ ready_at_rest mode copies agents few each formed none few_armed = record {
   once = one_each_none;
   one_request = λ h request is. refl;
   few_armed = few_armed;
+  unmarked = unmarked;
 }
 
 -- one agent more that has raised no request
@@ -73,6 +76,7 @@ ready_raised bus request ready none can = record {
   ];
   few_armed = few_armed_yet bus.agents request.hart (record (agent_at bus.agents request.hart) { raised = Some request }) ready.few_armed
       (ready.few_armed request.hart);
+  unmarked = ready.unmarked;
 }
   where
     count : length (with_raised bus.agents request) ≡ length bus.agents

@@ -1,6 +1,7 @@
 pub mod Agent
 pub mod Fates
 pub mod Settled
+pub mod Deciding
 pub mod Shows
 pub mod Changing
 pub mod LettingGo

@@ -1,5 +1,6 @@
 -- what the bus keeps, and the state of the machine's definition that it shows
-use Rattle.std.specs.Prelude.{ℕ, ◌≡◌, ◌<◌, ◌≤◌, ◌*◌, ◌==◌, ◌&&◌, Bool, true, not, List, None, Some, is_some, length}
+use Rattle.std.specs.Prelude.{ℕ, ◌≡◌, ◌<◌, ◌≤◌, ◌*◌, ◌==◌, ◌&&◌, Bool, false, true, not, List, None, Some, is_some}
+use Rattle.std.specs.Prelude.{length}
 use Rattle.bus_order.specs.Order.{IsOneEach, Request, request_of}
 use Rattle.residency.specs.Cache.{has_marks, room_of}
 use Rattle.residency.specs.Residency.{Way}
@@ -10,6 +11,7 @@ use Rattle.coherence.specs.Lent.{IsLentTo, lent_all, slotted_at}
 use Rattle.coherence.specs.Served.{Copies, TellsOf, caches_of}
 use Rattle.coherence.specs.declared.hierarchy.Hierarchy as hierarchies
 use Rattle.el_base.specs.declared.config.Mode.{Mode}
+use Rattle.el_base.specs.declared.config.Mode.TheVariants.{Plain}
 use Rattle.el_base.specs.declared.line.TheConstants.{LINE_BYTES}
 use Rattle.el_model.specs.Plain.{armed_count}
 use Rattle.el_model.specs.State.{ModelState, armed_of, cache_of, hart_of, is_live}
@@ -38,6 +40,10 @@ LiesIn holding line = IsInMemory holding.first (length holding.lines) line
 -- a hart's cache has room for a line
 abbrev pub has_room_in : Holding → ℕ → ℕ → Bool
 has_room_in holding h line = room_of (slotted_at holding.caches h).ways (slotted_at holding.caches h).residency line
+
+-- no line of a hart's cache has a bit
+abbrev pub IsUnmarked : Holding → ℕ → Type 0
+IsUnmarked holding h = has_marks (slotted_at holding.caches h).residency ≡ false
 
 -- what the bus keeps
 pub record Kept : Type 0 where
@@ -83,8 +89,8 @@ pub record CanBeServed (bus : Kept) (h : ℕ) (request : Request) : Type 0 where
   pub in_memory : LiesIn bus.copies request.line
   pub room : has_room_in bus.copies h request.line ≡ true
 
--- what each call of the bus needs, and leaves: each request can be served, a hart has at most one, and an armed section has run 15
--- instructions at most
+-- what each call of the bus needs, and leaves: each request can be served, a hart has at most one, an armed section has
+-- run 15 instructions at most, and in the plain mode no line has a bit
 pub record IsReady (bus : Kept) : Type 0 where
   pub few : length bus.agents ≤ 8
   pub each : length bus.copies.caches ≡ length bus.agents
@@ -94,6 +100,7 @@ pub record IsReady (bus : Kept) : Type 0 where
   pub once : IsOneEach bus.order
   pub one_request : (h : ℕ) (request : Request) → (agent_at bus.agents h).raised ≡ Some request → request_of bus.order h ≡ None
   pub few_armed : (h : ℕ) → (agent_at bus.agents h).armed ≤ 15
+  pub unmarked : bus.mode ≡ Plain → (h : ℕ) → IsUnmarked bus.copies h
 
 -- a pool lends these caches, and they and main memory tell these bytes of each line
 pub record TellsIn (pool : Pooled) (holding : Holding) (bytes : ℕ → List ℕ) : Type 0 where

@@ -1,17 +1,16 @@
 //! The head of a line meets the sections of other harts.
 
-ghost use Rattle.std.specs.Prelude.{◌≡◌, ◌≤◌, Option, None, length};
+ghost use Rattle.std.specs.Prelude.{◌≡◌, ◌≤◌, None, length};
 ghost use Rattle.bus_order.specs.Order.{numbered};
 ghost use Rattle.el_base.specs.Freed.{no_one_freed};
 ghost use Rattle.el_base.specs.Losers.{losers_of};
 ghost use Rattle.el_model.specs.Armed.{freed_by};
 ghost use Rattle.el_model.specs.Face.{face_losers, faced, met, met_losers};
 ghost use Rattle.el_model.specs.State.{ModelState};
-ghost use Rattle.policy.specs.Winners.{wins_of};
+ghost use Rattle.snoop.specs.Deciding.{DecidesIn};
 ghost use Rattle.snoop.specs.LettingGo.{KeepsBytes};
 ghost use Rattle.snoop.specs.Settled.{sent_in};
 ghost use Rattle.snoop.specs.Shows.{IsReady, Shows, StaysTold, kept};
-ghost use Rattle.stamp.specs.Stamps as stamps;
 
 use crate::bus::Bus;
 use crate::fates::Fate;
@@ -46,8 +45,7 @@ impl Bus {
     /// the live ones then.
     pub(crate) fn meet<P: Policy>(&mut self, head: Request, policy: &P) -> Met
         requires ready { IsReady (kept self.old) }
-        requires policy { (request holder : Option stamps.Stamp) →
-            P.beats policy.now request holder ≡ wins_of (kept self.old).mode request holder }
+        requires policy { DecidesIn (kept self.old).mode (P.beats policy.now) }
         ensures ready { IsReady (kept self.new) }
         ensures shows { (state : ModelState) → Shows (kept self.old) state →
             KeepsBytes state.committed (met state (numbered head)).committed →
@@ -83,8 +81,7 @@ impl Bus {
     /// is settled by what stands before any section is lost.
     fn face<P: Policy>(&mut self, head: Request, policy: &P) -> Losers
         requires ready { IsReady (kept self.old) }
-        requires policy { (request holder : Option stamps.Stamp) →
-            P.beats policy.now request holder ≡ wins_of (kept self.old).mode request holder }
+        requires policy { DecidesIn (kept self.old).mode (P.beats policy.now) }
         ensures ready { IsReady (kept self.new) }
         ensures shows { (state : ModelState) → Shows (kept self.old) state →
             Shows (kept self.new) (faced state (numbered head)) }

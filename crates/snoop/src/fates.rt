@@ -1,12 +1,12 @@
 //! What becomes of each section as the head of a line is faced.
 
-ghost use Rattle.std.specs.Prelude.{◌≡◌, ◌<◌, ℕ, Option, Some, length};
+ghost use Rattle.std.specs.Prelude.{◌≡◌, ◌<◌, ℕ, Some, length};
 ghost use Rattle.bus_order.specs.Order.{numbered};
 ghost use Rattle.el_model.specs.Conflicts.{earlier, told_winner};
 ghost use Rattle.el_model.specs.Face.{deferring_fate, fate_at, told_fate};
 ghost use Rattle.el_model.specs.State.{ModelState, hart_of};
-ghost use Rattle.policy.specs.Winners.{wins_of};
 ghost use Rattle.snoop.specs.Agent.{agent_at};
+ghost use Rattle.snoop.specs.Deciding.{DecidesIn};
 ghost use Rattle.snoop.specs.Fates.{earlier_told, fate_in, number_of, numbered_fate, stamp_on};
 ghost use Rattle.snoop.specs.Shows.{IsReady, Shows, kept};
 ghost use Rattle.stamp.specs.Stamps as stamps;
@@ -135,11 +135,11 @@ impl Bus {
     }
 
     /// What becomes of a hart's section as the head of a line is faced.
+    #[tactic(auto, using(crate::proofs::Facing::wins_where_met))]
     fn fate<P: Policy>(&self, head: Request, hart: HartId, policy: &P) -> Fate
         requires hart_exists { hart.number < length (kept self.now).agents }
         requires ready { IsReady (kept self.now) }
-        requires policy { (request holder : Option stamps.Stamp) →
-            P.beats policy.now request holder ≡ wins_of (kept self.now).mode request holder }
+        requires policy { DecidesIn (kept self.now).mode (P.beats policy.now) }
         ensures { (state : ModelState) → Shows (kept self.now) state →
             numbered_fate result ≡ fate_at state (numbered head) hart.number }
     {
@@ -156,8 +156,7 @@ impl Bus {
     #[tactic(auto, using(crate::proofs::Facing::no_fates))]
     pub(crate) fn fates<P: Policy>(&self, head: Request, policy: &P) -> ArrayVec<Fate, 8>
         requires ready { IsReady (kept self.now) }
-        requires policy { (request holder : Option stamps.Stamp) →
-            P.beats policy.now request holder ≡ wins_of (kept self.now).mode request holder }
+        requires policy { DecidesIn (kept self.now).mode (P.beats policy.now) }
         ensures count { length result.items ≡ length (kept self.now).agents }
         ensures each { (state : ModelState) → Shows (kept self.now) state →
             (h : ℕ) → fate_in result.items h ≡ fate_at state (numbered head) h }

@@ -1,6 +1,6 @@
 //! A raised request takes its place in the order.
 
-ghost use Rattle.std.specs.Prelude.{◌≡◌, ◌<◌, None, Option, Some, length};
+ghost use Rattle.std.specs.Prelude.{◌≡◌, ◌<◌, None, Some, length};
 ghost use Rattle.bus_order.specs.Order.{numbered};
 ghost use Rattle.el_model.specs.Order.{
   Alone,
@@ -17,12 +17,11 @@ ghost use Rattle.el_model.specs.Order.{
   placed_last,
 };
 ghost use Rattle.el_model.specs.State.{ModelState};
-ghost use Rattle.policy.specs.Winners.{wins_of};
 ghost use Rattle.snoop.specs.Agent.{agent_at};
+ghost use Rattle.snoop.specs.Deciding.{DecidesIn};
 ghost use Rattle.snoop.specs.LettingGo.{KeepsBytes};
 ghost use Rattle.snoop.specs.Places.{definition_place};
 ghost use Rattle.snoop.specs.Shows.{IsReady, Shows, StaysTold, kept};
-ghost use Rattle.stamp.specs.Stamps as stamps;
 
 use crate::agents::{post, unraise};
 use crate::bus::Bus;
@@ -143,8 +142,7 @@ impl Bus {
     fn place<P: Policy>(&mut self, request: Request, policy: &P) -> Met
         requires ready { IsReady (kept self.old) }
         requires raised { (agent_at (kept self.old).agents request.hart.number).raised ≡ Some (numbered request) }
-        requires policy { (request holder : Option stamps.Stamp) →
-            P.beats policy.now request holder ≡ wins_of (kept self.old).mode request holder }
+        requires policy { DecidesIn (kept self.old).mode (P.beats policy.now) }
         ensures ready { IsReady (kept self.new) }
         ensures shows { (state : ModelState) → Shows (kept self.old) state →
             KeepsBytes state.committed (placed state (numbered request) (place_for state (numbered request))).committed →
@@ -176,7 +174,8 @@ impl Bus {
     /// hart's own live section has a bit there, else behind them. Where it is the first of its line then, it is met:
     /// if it is to write, each armed section that has read the line is let go, and the live sections that conflict
     /// with it lose or stay. The outcome tells which sections lost, and who was let go, with the number of
-    /// instructions. It is `Idle` exactly where the hart has raised no request.
+    /// instructions. It is `Idle` exactly where the hart has raised no request. In the plain mode the policy is never
+    /// asked.
     ///
     /// In lock removal a request that goes in front sends the hart of the former first one a marker, and the
     /// hart of the former last one sends one to the hart of a request that goes behind.
@@ -184,8 +183,7 @@ impl Bus {
     pub fn order<P: Policy>(&mut self, hart: HartId, policy: &P) -> Outcome
         requires hart_exists { hart.number < length (kept self.old).agents }
         requires ready { IsReady (kept self.old) }
-        requires policy { (request holder : Option stamps.Stamp) →
-            P.beats policy.now request holder ≡ wins_of (kept self.old).mode request holder }
+        requires policy { DecidesIn (kept self.old).mode (P.beats policy.now) }
         ensures ready { IsReady (kept self.new) }
         ensures state { (state : ModelState) → Shows (kept self.old) state →
             KeepsBytes state.committed (order_turn state hart.number).state.committed →

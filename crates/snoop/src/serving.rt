@@ -1,6 +1,6 @@
 //! An ordered request is served, or something is in its way.
 
-ghost use Rattle.std.specs.Prelude.{◌≡◌, ◌<◌, ℕ, List, Option, Some, length, true};
+ghost use Rattle.std.specs.Prelude.{◌≡◌, ◌<◌, ℕ, List, Some, length, true};
 ghost use Rattle.std.specs.Option.{option_map};
 ghost use Rattle.bus_order.specs.Order.{numbered, removed, request_of};
 ghost use Rattle.coherence.specs.Lent.{IsLentTo, LeavesHolds};
@@ -9,12 +9,11 @@ ghost use Rattle.el_model.specs.Serve as serving;
 ghost use Rattle.el_model.specs.Serve.{Free};
 ghost use Rattle.el_model.specs.Face.{freed_if, met_if, met_losers_if};
 ghost use Rattle.el_model.specs.State.{ModelState, head_of};
-ghost use Rattle.policy.specs.Winners.{wins_of};
+ghost use Rattle.snoop.specs.Deciding.{DecidesIn};
 ghost use Rattle.snoop.specs.LettingGo.{KeepsBytes};
 ghost use Rattle.snoop.specs.MainMemory.{lines_served};
 ghost use Rattle.snoop.specs.Serving.{AgentsServe, CopiesClaim, CopiesServe, Serves};
 ghost use Rattle.snoop.specs.Shows.{IsReady, IsTold, Shows, StaysTold, Tells, kept, lent_copies};
-ghost use Rattle.stamp.specs.Stamps as stamps;
 
 use crate::agents::{claim, forget};
 use crate::bus::Bus;
@@ -33,14 +32,14 @@ impl Bus {
     /// section gets its bit on the line, and a hart without one holds the line until its next step. The next request
     /// of the line, if there is one, is met, as by `order`, and the outcome tells which sections lost, and who was let
     /// go, with the number of instructions. `Blocked` tells the first thing that is in the way, with its hart, and then
-    /// nothing changes. It is `Idle` exactly where the hart has nothing in the order.
+    /// nothing changes. It is `Idle` exactly where the hart has nothing in the order. In the plain mode the policy is
+    /// never asked.
     #[tactic(auto, unfolding(el_model::specs::Serve::serve_turn))]
     pub fn serve<P: Policy>(&mut self, pool: &mut Pool, hart: HartId, policy: &P) -> Outcome
         requires hart_exists { hart.number < length (kept self.old).agents }
         requires ready { IsReady (kept self.old) }
         requires told { IsTold pool.old (kept self.old) }
-        requires policy { (request holder : Option stamps.Stamp) →
-            P.beats policy.now request holder ≡ wins_of (kept self.old).mode request holder }
+        requires policy { DecidesIn (kept self.old).mode (P.beats policy.now) }
         ensures ready { IsReady (kept self.new) }
         ensures told { (bytes : ℕ → List ℕ) →
             Tells pool.old (kept self.old) bytes → Tells pool.new (kept self.new) bytes }
@@ -63,8 +62,7 @@ impl Bus {
         requires ready { IsReady (kept self.old) }
         requires told { IsTold pool.old (kept self.old) }
         requires ordered { request_of (kept self.old).order request.hart.number ≡ Some (numbered request) }
-        requires policy { (request holder : Option stamps.Stamp) →
-            P.beats policy.now request holder ≡ wins_of (kept self.old).mode request holder }
+        requires policy { DecidesIn (kept self.old).mode (P.beats policy.now) }
         ensures ready { IsReady (kept self.new) }
         ensures told { (bytes : ℕ → List ℕ) →
             Tells pool.old (kept self.old) bytes → Tells pool.new (kept self.new) bytes }
@@ -94,8 +92,7 @@ impl Bus {
         requires ordered { request_of (kept self.old).order request.hart.number ≡ Some (numbered request) }
         requires free { (state : ModelState) → Shows (kept self.old) state →
             serving.obstacle_to state (numbered request) ≡ Free }
-        requires policy { (request holder : Option stamps.Stamp) →
-            P.beats policy.now request holder ≡ wins_of (kept self.old).mode request holder }
+        requires policy { DecidesIn (kept self.old).mode (P.beats policy.now) }
         ensures ready { IsReady (kept self.new) }
         ensures told { (bytes : ℕ → List ℕ) →
             Tells pool.old (kept self.old) bytes → Tells pool.new (kept self.new) bytes }
@@ -117,8 +114,7 @@ impl Bus {
     /// The head of a line is met, if there is one.
     fn meet_head<P: Policy>(&mut self, line: LineAddr, policy: &P) -> Met
         requires ready { IsReady (kept self.old) }
-        requires policy { (request holder : Option stamps.Stamp) →
-            P.beats policy.now request holder ≡ wins_of (kept self.old).mode request holder }
+        requires policy { DecidesIn (kept self.old).mode (P.beats policy.now) }
         ensures ready { IsReady (kept self.new) }
         ensures state { (state : ModelState) → Shows (kept self.old) state →
             KeepsBytes state.committed (met_if state (head_of state line.number)).committed →

@@ -104,17 +104,22 @@ struct Memory {
     ghost lent: { IsLentTo pool (caches_of hierarchy) },
 }
 
-/// Main memory and four caches, of which those of these harts have read the line in a section.
-fn read_by(alloc: Global, mode: Mode, readers: &[u8]) -> Result<Memory, Fail>
-    ensures { IfOk result (λ memory. IsCoherent (shown_copies memory.pool memory.hierarchy)) }
-{
-    let config = Config {
+/// Four harts in this mode.
+fn four_harts(mode: Mode) -> Config {
+    Config {
         harts: 4,
         mode,
         sets: 1,
         ways: 2,
         ..Config::usual()
-    };
+    }
+}
+
+/// Main memory and four caches, of which those of these harts have read the line in a section.
+fn read_by(alloc: Global, mode: Mode, readers: &[u8]) -> Result<Memory, Fail>
+    ensures { IfOk result (λ memory. IsCoherent (shown_copies memory.pool memory.hierarchy)) }
+{
+    let config = four_harts(mode);
     let image = image(alloc, &config)?;
     let pool = pool(alloc, &config)?;
     let hierarchy = Hierarchy::make(alloc, &image, &config)?;
@@ -183,10 +188,14 @@ fn well_formed(hierarchy: &Hierarchy)
     }
 }
 
-/// The bus of four harts that have asked for nothing yet.
+/// The bus of four harts that have asked for nothing yet. In the plain mode none has read the line, nor was told.
 fn made(alloc: Global, mode: Mode, readers: &[u8], told: bool) -> Result<Rig, Fail>
     ensures { IfOk result (λ rig. IsTold rig.pool (kept rig.bus)) }
 {
+    match mode {
+        Mode::Plain => return first_rig(alloc, &four_harts(mode)),
+        Mode::Sle | Mode::Tlr => (),
+    }
     let Memory { hierarchy, pool } = read_by(alloc, mode, readers)?;
     let agents = agents(alloc, mode, told)?;
     if hierarchy.harts() != 4 || agents.len() != 4 {

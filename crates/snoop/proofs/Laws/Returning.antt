@@ -1,20 +1,23 @@
 -- a lent cache is given back: the bus is ready again, and shows what was done
-use Rattle.std.proofs.Common.{◌≡◌, ◌≢◌, ◌∙◌, ℕ, ◌<◌, ◌==◌, List, true, not, length, ap, sym, subst, inl, inr, arith}
+use Rattle.std.proofs.Common.{◌≡◌, ◌≢◌, ◌∙◌, ℕ, ◌<◌, ◌==◌, List, false, true, not, length, ap, sym, subst}
+use Rattle.std.proofs.Common.{inl, inr, arith}
 use Rattle.std.specs.Prelude.{slice_set}
 use Rattle.std.proofs.lemmas.Bool.{cases_eq}
 use Rattle.std.proofs.lemmas.List.{get_or-set_other, get_or-set_same, length-set}
 use Rattle.bus_order.specs.Order.{Request, request_of}
-use Rattle.residency.specs.Cache.{room_of, touched}
+use Rattle.residency.specs.Cache.{has_marks, room_of, touched}
 use Rattle.cache_sets.specs.Cached.{Cached}
 use Rattle.cache_sets.specs.Slotted.{IsLent, Slotted, lent}
 use Rattle.cache_sets.specs.Calls.{IsLettered, IsTouched}
 use Rattle.residency.specs.WellFormed.{IsWellFormed}
+use Rattle.residency.proofs.Laws.Unmarked.{unmarked-lettered, unmarked-touched}
 use Rattle.residency.proofs.Laws.WellFormedLemmas.{well_formed-lettered, well_formed-touched}
 use Rattle.coherence.specs.Caches.{AreCoherent}
 use Rattle.coherence.specs.GivenBack.{copies_with}
 use Rattle.coherence.specs.Lent.{LeavesOwner, no_slotted, slotted_at}
 use Rattle.coherence.specs.Served.{TellsOf}
 use Rattle.coherence.proofs.Laws.Offered.{caches_back, lent_back}
+use Rattle.el_base.specs.declared.config.Mode.TheVariants.{Plain}
 use Rattle.el_model.specs.Plain.{armed_count}
 use Rattle.el_model.specs.State.{Hart, ModelState, armed_of, hart_of}
 use Rattle.el_model.proofs.Laws.Harts.{hart_of-with_hart_other, hart_of-with_hart_same}
@@ -67,6 +70,15 @@ ready_returned bus h cache inside ready back = record {
   once = ready.once;
   one_request = ready.one_request;
   few_armed = ready.few_armed;
+  unmarked = λ plain g. elim (cases_eq g h) [
+    | inl own ↦
+        subst (λ (c : Slotted). has_marks c.residency ≡ false)
+        (sym (ap (slotted_at (returned bus h cache).copies.caches) own ∙ returned_same bus h cache inside))
+        (back.unmarked plain)
+    | inr other ↦
+        subst (λ (c : Slotted). has_marks c.residency ≡ false) (sym (returned_other bus h g cache other))
+        (ready.unmarked plain g)
+  ];
 }
   where
     still : (g : ℕ) (request : Request) → CanBeServed bus g request → has_room_in (returned bus h cache).copies g request.line ≡ true →
@@ -91,13 +103,21 @@ well_formed_by_calls old between new line well_formed touches letters =
     (well_formed-lettered old.ways (touched old.residency line) line M (λ same. cc)
     (well_formed-touched old.ways old.residency line well_formed))
 
+-- and one without bits as it was
+pub unmarked_by_calls : (old between new : Cached) (line : ℕ) → has_marks old.residency ≡ false →
+    IsTouched old between line → IsLettered between new line M → has_marks new.residency ≡ false
+unmarked_by_calls old between new line none touches letters =
+    rw (letters.residency, touches.residency)
+    (unmarked-lettered (touched old.residency line) line M (unmarked-touched old.residency line none))
+
 -- a hart that waits for nothing gives back a cache
 pub unasked_returned : (bus : Kept) (h : ℕ) (cache : Slotted) → HasNoRequest bus h → IsWellFormed cache.ways cache.residency →
-    IsReturned bus h cache
-unasked_returned bus h cache no_request well_formed = record {
+    (bus.mode ≡ Plain → has_marks cache.residency ≡ false) → IsReturned bus h cache
+unasked_returned bus h cache no_request well_formed unmarked = record {
   well_formed = well_formed;
   raised = λ request is. none_some (sym no_request.none_raised ∙ is);
   ordered = λ request is. none_some (sym no_request.none_ordered ∙ is);
+  unmarked = unmarked;
 }
 
 -- what a pool and the caches tell after a hart's cache was changed in it, which left those of the other harts

@@ -7,7 +7,7 @@ use Rattle.core_step.proofs.Laws.Runs.{aligned}
 use Rattle.core_step.specs.Run.{IsAligned}
 use Rattle.el_model.specs.Plain.{Arms, by_plain_rule}
 use Rattle.engine.proofs.AfterArmed.{armed_in, armed_ready, arms_outcome, inside_bus, still_there}
-use Rattle.engine.proofs.Chosen.{reserved_there, reserves_next}
+use Rattle.engine.proofs.Chosen.{arms_not_plain, reserved_there, reserves_next}
 use Rattle.engine.proofs.StandsOutside.{no_armed, no_live, runs}
 use Rattle.engine.proofs.Stepped.{IsNoted, set_in}
 use Rattle.engine.proofs.Laws.Swaps.{reserve_aligned, same_reserve}
@@ -93,7 +93,9 @@ returns c =
     record {
       ready =
           subst IsReady (sym (ap (λ p. p.bus) c.mark_read.ensures.new_is))
-          (armed_ready old bus c.args.hart c.requires.some.from c.requires.some.acts c.args.word noted cache marks);
+          (armed_ready old bus c.args.hart c.requires.some.from c.requires.some.acts c.args.word noted cache marks
+          (arms_not_plain old h c.requires.some.from c.args.action c.requires.some.acts c.requires.action c.args.word
+          (c.requires.arms c.requires.some.from c.requires.some.acts)));
       state = λ from acts.
           let rule = c.requires.arms from acts in
           let of = reserves_next old h from c.args.action acts c.requires.action c.args.word rule in

@@ -1,6 +1,6 @@
 -- the bus is ready again after the store, and tells what was stored
-use Rattle.std.proofs.Common.{◌≡◌, ◌≢◌, ◌∙◌, ◌<◌, ℕ, ap, length, option_map, subst, sym, true}
-use Rattle.residency.specs.Cache.{is_resident, letter_of}
+use Rattle.std.proofs.Common.{◌≡◌, ◌≢◌, ◌∙◌, ◌<◌, ℕ, ap, false, length, option_map, subst, sym, true}
+use Rattle.residency.specs.Cache.{has_marks, is_resident, letter_of}
 use Rattle.residency.specs.WellFormed.{IsWellFormed}
 use Rattle.cache_sets.specs.Cached.{copy_with_letter}
 use Rattle.cache_sets.specs.Calls.{IsTouched}
@@ -17,7 +17,8 @@ use Rattle.line_pool.specs.Pooled.{Pooled}
 use Rattle.line_pool.specs.Pooled as pools
 use Rattle.moesi.specs.Letters.{may_write}
 use Rattle.moesi.specs.declared.letter.Letter.TheVariants.{M}
-use Rattle.snoop.proofs.Laws.Returning.{ready_returned, told_returned, unasked_returned, well_formed_by_calls}
+use Rattle.snoop.proofs.Laws.Returning.{ready_returned, told_returned, unasked_returned, unmarked_by_calls}
+use Rattle.snoop.proofs.Laws.Returning.{well_formed_by_calls}
 use Rattle.snoop.proofs.tests.writing_back.put.Goals as goal
 use Rattle.snoop.specs.Shows.{kept, lent_copies}
 
@@ -62,6 +63,11 @@ invariant_of-rig c =
           ready_returned bus h modified c.requires.hart_exists c.args.rig.now.ready
           (unasked_returned bus h modified c.requires.no_request
           (well_formed_by_calls (lent pool own) (lent pool c.touch.new.self) (lent pool modified) c.args.line.number formed
+          (c.touch.ensures.touched pool) (c.set_letter.ensures.lettered pool))
+          (λ plain.
+          unmarked_by_calls (lent pool own) (lent pool c.touch.new.self) (lent pool modified) c.args.line.number
+          (subst (λ (cache : Slotted). has_marks cache.residency ≡ false) (sym c.sets_mut-cache.ensures.value)
+          (c.args.rig.now.ready.unmarked plain h))
           (c.touch.ensures.touched pool) (c.set_letter.ensures.lettered pool)));
     }
 

@@ -1,5 +1,5 @@
 -- a round robin, one event after another
-use Rattle.std.proofs.Common.{◌≡◌, ℕ, ◌+◌, ◌-◌, ◌*◌, ◌/◌, ◌%◌, ◌<◌, ◌≤◌, ◌⊎◌, [], ◌∷◌, ◌++◌, take}
+use Rattle.std.proofs.Common.{◌≡◌, ℕ, suc, ◌+◌, ◌-◌, ◌*◌, ◌/◌, ◌%◌, ◌<◌, ◌≤◌, ◌⊎◌, [], ◌∷◌, ◌++◌, take}
 use Rattle.std.proofs.Common.{false, true, refl, ◌∙◌, ap, sym, subst, arith, length-append, inl, inr}
 use Rattle.std.specs.Prelude.{IsTrue}
 use Rattle.drive.specs.Drivers.{GoesRound, MakesRoundRobin}
@@ -13,7 +13,7 @@ use Rattle.drive.specs.Turns.{IsAtItsEnd}
 use Rattle.el_model.specs.Next.{is_over, state_after}
 use Rattle.machine.proofs.Laws.Continued.{continued_more, continued_twice, left_of_continued, nothing_more, state_of_continued}
 use Rattle.machine.proofs.Laws.Continued.{going_more}
-use Rattle.machine.specs.Resting.{bus_events}
+use Rattle.machine.specs.Resting.{bus_events, turn_events}
 use Rattle.machine.specs.Story.{Story, continued, left_of, state_of}
 
 pub none_made : (story : Story) → GoesRound story story 0
@@ -129,3 +129,18 @@ three_made before now later turns hart round runs left own more same =
     next_of_turn before second later turns 3 (4 * turns + 4) deliver served (omega arith) (omega arith) refl own
     (ap is_over (same 2) ∙ runs) (omega (arith, left, second_left))
     (more ∙ sym (continued_twice now (order ∷ serve ∷ []) (deliver ∷ [])))
+
+-- all events of a turn, made at once
+pub turn_made : (before now later : Story) (turns : ℕ) (hart : HartId) → GoesRound before now (4 * turns) →
+    is_over (state_of now) ≡ false → 4 ≤ left_of now → hart.number ≡ turns % before.config.harts →
+    later ≡ continued now (turn_events hart) →
+    ((made : ℕ) → state_of (continued now (take made (turn_events hart))) ≡ state_of now) →
+    GoesRound before later (4 * turns + 4)
+turn_made before now later turns hart round runs left own more same =
+    let step : Event = record { kind = kinds.Step; hart = hart } in
+    let first : Story = continued now (step ∷ []) in
+    let first_left = left_of_continued now (step ∷ []) in
+    let stepped = first_of_turn before now first turns step round refl own runs (omega (arith, left)) refl in
+    three_made before first later turns hart stepped (ap is_over (same 1) ∙ runs) (omega (arith, left, first_left)) own
+    (more ∙ sym (continued_twice now (step ∷ []) (bus_events hart)))
+    (λ made. ap state_of (continued_twice now (step ∷ []) (take made (bus_events hart))) ∙ same (suc made) ∙ sym (same 1))

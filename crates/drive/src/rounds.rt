@@ -3,7 +3,7 @@ ghost use Rattle.drive.specs.Drivers.{GoesRound, MakesRoundRobin};
 ghost use Rattle.drive.specs.Turns.{IsAtItsEnd};
 ghost use Rattle.el_base.specs.Kinds.{kind_number};
 ghost use Rattle.el_model.specs.Next.{is_over};
-ghost use Rattle.machine.specs.Resting.{bus_events};
+ghost use Rattle.machine.specs.Resting.{bus_events, turn_events};
 ghost use Rattle.machine.specs.Story.{Story, continued, left_of, state_of};
 
 use el_base::{Event, HartId, Kind};
@@ -47,6 +47,9 @@ fn make_turn(machine: &mut Machine, hart: HartId) -> bool
     ensures ended { (before : Story) (turns : ℕ) → GoesRound before machine.old (4 * turns) →
         hart.number ≡ turns % before.config.harts → result ≡ false → MakesRoundRobin before machine.new }
 {
+    if wait(machine, hart) {
+        return true;
+    }
     if !make(machine, Kind::Step, hart) {
         return false;
     }
@@ -54,6 +57,24 @@ fn make_turn(machine: &mut Machine, hart: HartId) -> bool
         return true;
     }
     make_on_bus(machine, hart)
+}
+
+/// Makes a hart's turn at once, where the hart waits in all of it and a step is left for each of its events. It answers
+/// whether it made it.
+#[inline(always)]
+fn wait(machine: &mut Machine, hart: HartId) -> bool
+    requires hart_exists { hart.number < machine.old.config.harts }
+    ensures runs { result ≡ true → is_over (state_of machine.old) ≡ false }
+    ensures steps_left { result ≡ true → 4 ≤ left_of machine.old }
+    ensures goes_on { result ≡ true → machine.new ≡ continued machine.old (turn_events hart) }
+    ensures throughout { result ≡ true → (made : ℕ) →
+        state_of (continued machine.old (take made (turn_events hart))) ≡ state_of machine.old }
+    ensures left { result ≡ false → machine.new ≡ machine.old }
+{
+    if machine.steps_left() < 4 {
+        return false;
+    }
+    machine.wait(hart)
 }
 
 /// Makes the events of the bus in a hart's turn at once, where some hart runs, a step is left for each of them, and they

@@ -3,3 +3,4 @@ pub mod BusEvents
 pub mod NothingFound
 pub mod Places
 pub mod Swaps
+pub mod Waiting

@@ -48,7 +48,7 @@ stopped_outcome parts state h below is stopped =
     ap (λ turn. turn.outcome) (sym (stopped_turn state h (λ running. stopped (sym (status_is parts state h below is) ∙ running))))
 
 -- one that waits for a request stalls
-stalled_turn : (state : ModelState) (h : ℕ) → status_of state.committed h ≡ Running → has_request state h ≡ true →
+pub stalled_turn : (state : ModelState) (h : ℕ) → status_of state.committed h ≡ Running → has_request state h ≡ true →
     step_turn state h ≡ stalled state
 unfolding step_turn
 stalled_turn state h running waits =

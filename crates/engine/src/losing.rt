@@ -1,6 +1,6 @@
 //! What an event of the bus leaves to the harts: sections that are lost by conflicts, and armed ones that are let go.
 
-ghost use Rattle.std.specs.Prelude.{◌≡◌, ◌≤◌, ◌<◌, ℕ, IsSome, None, Option, Some, false, length};
+ghost use Rattle.std.specs.Prelude.{◌≡◌, ◌≤◌, ◌<◌, ℕ, IsSome, None, Option, Some, length, true};
 ghost use Rattle.std.specs.Option.{option_map};
 ghost use Rattle.el_base.specs.Freed.{count_in};
 ghost use Rattle.el_base.specs.Losers.{beaten_by};
@@ -84,15 +84,12 @@ fn freed_by(outcome: Outcome) -> Freed
     }
 }
 
-/// Whether an outcome is one that may tell of sections that were lost or let go.
+/// Whether an outcome names no hart that has lost its section, and none that was let go.
 #[tactic(auto, using(el_base::proofs::Laws::MadeLosers::none_in_no_one))]
-fn may_tell_of_harts(outcome: Outcome) -> bool
-    ensures { result ≡ false → TellsOfNobody outcome }
+fn tells_of_nobody(outcome: Outcome) -> bool
+    ensures { result ≡ true → TellsOfNobody outcome }
 {
-    match outcome {
-        Outcome::Ordered { .. } | Outcome::Served { .. } | Outcome::Delivered { .. } => true,
-        _ => false,
-    }
+    outcome.losers() == Losers::none() && freed_by(outcome) == Freed::none()
 }
 
 /// What an event of the bus leaves to the harts, by its outcome: a hart that it names among its losers loses its section,
@@ -110,7 +107,7 @@ pub(crate) fn restore_by(pool: &mut Pool, harts: &mut Vec<HartState>, mode: Mode
     ensures lent { LendsHolds pool.new harts.new.items }
     ensures kept { LeavesKept (winner_over outcome) pool.old pool.new }
 {
-    if may_tell_of_harts(outcome) {
+    if !tells_of_nobody(outcome) {
         restore_all(pool, harts, mode, outcome.losers(), freed_by(outcome));
     }
 }

@@ -1,13 +1,13 @@
-//! Events of the bus that find nothing to do.
+//! Events that leave all as it is: those of the bus that find nothing to do, and the whole turn of a hart that waits.
 
 ghost use Rattle.std.specs.Prelude.{◌≡◌, ◌<◌, length};
 ghost use Rattle.el_model.specs.State.{ModelState};
 ghost use Rattle.engine.specs.Parts.{IsIn, parts};
 ghost use Rattle.engine.specs.Reached.{Stands};
-ghost use Rattle.engine.specs.Resting.{finds_nothing, is_quiet};
+ghost use Rattle.engine.specs.Resting.{finds_nothing, is_quiet, is_still, waiting_of};
 
 use crate::engine::Engine;
-use el_base::{Event, HartId, Kind};
+use el_base::{Event, HartId, Kind, Outcome};
 
 impl Engine {
     /// Whether an event of the bus finds nothing to do, as most of a run do: the hart has raised nothing that an order
@@ -40,5 +40,33 @@ impl Engine {
         self.bus.agent(hart).raised().is_none()
             && self.bus.requests().of(hart).is_none()
             && !self.bus.agent(hart).has_mail()
+    }
+
+    /// What comes of a serve in the turn of a hart that waits in all of it: it runs, has raised nothing, no message has come
+    /// to it, and something is in the way of its request in the order. `None` where it does not wait so.
+    #[inline(always)]
+    pub fn waiting(&self, hart: HartId) -> Option<Outcome>
+        requires hart_exists { hart.number < length (parts self.now).harts }
+        requires stands { Stands (parts self.now) }
+        ensures { (state : ModelState) → IsIn (parts self.now) state → result ≡ waiting_of state hart.number }
+    {
+        let request = self.bus.requests().of(hart)?;
+        if self.is_still(hart) {
+            self.bus.blocked(request)
+        } else {
+            None
+        }
+    }
+
+    /// Whether a hart runs, has raised nothing, and no message has come to it.
+    #[inline(always)]
+    #[tactic(auto, using(crate::proofs::Laws::BusEvents::hart_exists))]
+    fn is_still(&self, hart: HartId) -> bool
+        requires hart_exists { hart.number < length (parts self.now).harts }
+        requires stands { Stands (parts self.now) }
+        ensures { (state : ModelState) → IsIn (parts self.now) state → result ≡ is_still state hart.number }
+    {
+        let agent = self.bus.agent(hart);
+        self.runs(hart) && agent.raised().is_none() && !agent.has_mail()
     }
 }

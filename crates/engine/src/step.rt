@@ -78,7 +78,7 @@ impl Engine {
     }
 
     /// Whether a hart has not stopped, by its committed view.
-    fn runs(&self, hart: HartId) -> bool
+    pub(crate) fn runs(&self, hart: HartId) -> bool
         requires { hart.number < length (parts self.now).harts }
         ensures { (result ≡ true) ↔ ((committed_at (parts self.now).harts hart.number).status ≡ Running) }
     {

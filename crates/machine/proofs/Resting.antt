@@ -1,63 +1,99 @@
--- events that find nothing to do: the machine stands after them, in the state that it was in
-use Rattle.std.proofs.Common.{◌≡◌, ◌∙◌, ℕ, zero, suc, ◌≤◌, ◌<◌, true, List, [], ◌∷◌, ◌++◌, ap, refl, sym, take}
+-- events that leave all as it is: the machine stands after them, in the state that it was in
+use Rattle.std.proofs.Common.{◌≡◌, ◌∙◌, ℕ, zero, suc, ◌≤◌, ◌<◌, true, false, List, [], ◌∷◌, ◌++◌, Some, ap, refl, subst, sym, take}
+use Rattle.std.proofs.lemmas.Bool.{false_from_ne_true}
 use Rattle.el_base.specs.declared.events.Event.{Event}
 use Rattle.el_base.specs.declared.hart_id.HartId.{HartId}
 use Rattle.el_base.specs.declared.outcomes.Outcome.{Outcome}
 use Rattle.el_base.specs.declared.outcomes.Outcome.TheVariants.{Idle}
-use Rattle.el_model.specs.Next.{state_after}
-use Rattle.el_model.specs.State.{ModelState}
-use Rattle.engine.proofs.Laws.NothingFound.{quiet_each, resting_lines, resting_outcome, resting_state, rests}
-use Rattle.engine.specs.Parts.{Parts}
-use Rattle.engine.specs.Resting.{finds_nothing, is_quiet}
+use Rattle.el_model.specs.Next.{is_over, next, state_after}
+use Rattle.el_model.specs.State.{ModelState, Turn}
+use Rattle.engine.proofs.Laws.NothingFound.{quiet_each}
+use Rattle.engine.proofs.Laws.Waiting.{nothing_leaves, waits_as, waits_throughout}
+use Rattle.engine.specs.Parts.{IsIn, Parts}
+use Rattle.engine.specs.Resting.{Leaves, finds_nothing, is_quiet, waiting_of}
 use Rattle.machine.proofs.GoesOn.{stands_on}
 use Rattle.machine.proofs.Laws.Continued.{continued_more, state_of_continued}
-use Rattle.machine.specs.Resting.{bus_events}
+use Rattle.machine.specs.Resting.{bus_events, turn_events}
+use Rattle.progress_laws.proofs.Laws.Over.{over_stopped}
 use Rattle.machine.specs.Stands.{Stands}
 use Rattle.machine.specs.Story.{Story, continued, left_of, state_of}
 
--- a machine stands after one of them
-pub stands_idle : (story : Story) (parts : Parts) (room : ℕ) (event : Event) → Stands story parts room →
-    event.hart.number < story.config.harts → 1 ≤ left_of story → finds_nothing (state_of story) event ≡ true →
-    Stands (record story { entries = story.entries ++ record { event = event; outcome = Idle } ∷ [] }) parts room
-stands_idle story parts room event stands below left nothing =
-    stands_on story parts parts room event Idle stands below left stands.ready
-    (resting_state parts (state_of story) event nothing stands.is_in) (resting_outcome (state_of story) event nothing)
-    (resting_lines (state_of story) event parts.bus.copies.lines nothing)
+-- a machine stands after an event that leaves all as it is
+pub stands_left : (story : Story) (parts : Parts) (room : ℕ) (event : Event) (outcome : Outcome) → Stands story parts room →
+    event.hart.number < story.config.harts → 1 ≤ left_of story → Leaves (state_of story) event outcome →
+    Stands (record story { entries = story.entries ++ record { event = event; outcome = outcome } ∷ [] }) parts room
+stands_left story parts room event outcome stands below left leaves =
+    stands_on story parts parts room event outcome stands below left stands.ready
+    (subst (λ (turn : Turn). IsIn parts turn.state) (sym leaves.turn) stands.is_in)
+    (ap (λ (turn : Turn). turn.outcome) (sym leaves.turn))
+    (leaves.lines parts.bus.copies.lines)
 
-pub told_idle : (story : Story) (event : Event) → finds_nothing (state_of story) event ≡ true →
-    record story { entries = story.entries ++ record { event = event; outcome = Idle } ∷ [] }
+pub told_left : (story : Story) (event : Event) (outcome : Outcome) → Leaves (state_of story) event outcome →
+    record story { entries = story.entries ++ record { event = event; outcome = outcome } ∷ [] }
     ≡ continued story (event ∷ [])
-told_idle story event nothing =
+told_left story event outcome leaves =
     ap (λ (o : Outcome). record story { entries = story.entries ++ record { event = event; outcome = o } ∷ [] })
-    (resting_outcome (state_of story) event nothing)
+    (ap (λ (turn : Turn). turn.outcome) (sym leaves.turn))
 
--- each of some events finds nothing
-abbrev FindNothing : ModelState → List Event → Type 0
-FindNothing state [] = Unit {0}
-FindNothing state (event ∷ events) = (finds_nothing state event ≡ true) × FindNothing state events
+-- each of some events leaves the state
+abbrev LeaveIt : ModelState → List Event → Type 0
+LeaveIt state [] = Unit {0}
+LeaveIt state (event ∷ events) = ((next state event).state ≡ state) × LeaveIt state events
 
--- they leave the state, and so do the first ones of them
-after_all : (state : ModelState) (events : List Event) (made : ℕ) → FindNothing state events →
+left_by : (state : ModelState) (event : Event) (outcome : Outcome) → Leaves state event outcome → (next state event).state ≡ state
+left_by state event outcome leaves = ap (λ (turn : Turn). turn.state) leaves.turn
+
+-- so do the first ones of them
+after_all : (state : ModelState) (events : List Event) (made : ℕ) → LeaveIt state events →
     state_after state (take made events) ≡ state
 after_all state events zero all = refl
 after_all state [] (suc made) all = refl
 after_all state (event ∷ events) (suc made) all =
-    ap (λ turn. state_after turn.state (take made events)) (rests state event all.0) ∙ after_all state events made all.1
+    ap (λ s. state_after s (take made events)) all.0 ∙ after_all state events made all.1
 
-pub same_after : (story : Story) (event : Event) → finds_nothing (state_of story) event ≡ true →
+pub same_after : (story : Story) (event : Event) (outcome : Outcome) → Leaves (state_of story) event outcome →
     state_of (continued story (event ∷ [])) ≡ state_of story
-same_after story event nothing =
-    state_of_continued story (event ∷ []) ∙ after_all (state_of story) (event ∷ []) 1 (nothing, tt)
+same_after story event outcome leaves =
+    state_of_continued story (event ∷ [])
+    ∙ after_all (state_of story) (event ∷ []) 1 (left_by (state_of story) event outcome leaves, tt)
 
 pub throughout : (story : Story) (hart : HartId) → is_quiet (state_of story) hart.number ≡ true → (made : ℕ) →
     state_of (continued story (take made (bus_events hart))) ≡ state_of story
 throughout story hart quiet made =
     let each = quiet_each (state_of story) hart.number quiet in
+    let left : (event : Event) → finds_nothing (state_of story) event ≡ true → (next (state_of story) event).state ≡ state_of story =
+    λ event nothing. left_by (state_of story) event Idle (nothing_leaves (state_of story) event nothing) in
     state_of_continued story (take made (bus_events hart))
-    ∙ after_all (state_of story) (bus_events hart) made (each.0, (each.1, (each.2, tt)))
+    ∙ after_all (state_of story) (bus_events hart) made (left _ each.0, (left _ each.1, (left _ each.2, tt)))
+
+-- all events of a turn in which a hart waits
+pub throughout_turn : (story : Story) (hart : HartId) (blocked : Outcome) →
+    waiting_of (state_of story) hart.number ≡ Some blocked → (made : ℕ) →
+    state_of (continued story (take made (turn_events hart))) ≡ state_of story
+throughout_turn story hart blocked waits made =
+    let each = waits_throughout (state_of story) hart blocked waits in
+    state_of_continued story (take made (turn_events hart))
+    ∙ after_all (state_of story) (turn_events hart) made
+    (left_by _ _ _ each.step, (left_by _ _ _ each.order, (left_by _ _ _ each.serve, (left_by _ _ _ each.deliver, tt))))
+
+-- what leaves a state leaves one that is the same
+pub left_still : (before now : ModelState) (event : Event) (outcome : Outcome) → now ≡ before → Leaves before event outcome →
+    Leaves now event outcome
+left_still before now event outcome same leaves = subst (λ state. Leaves state event outcome) (sym same) leaves
+
+-- where a hart waits, not every hart has stopped
+pub runs_then : (state : ModelState) (h : ℕ) (blocked : Outcome) → waiting_of state h ≡ Some blocked → is_over state ≡ false
+runs_then state h blocked waits =
+    false_from_ne_true (is_over state) (λ over. over_stopped state h over (waits_as state h blocked waits).running)
 
 -- one after another, they are the events of the bus in a turn
 pub three_made : (story first second third : Story) (a b c : Event) → first ≡ continued story (a ∷ []) →
     second ≡ continued first (b ∷ []) → third ≡ continued second (c ∷ []) → third ≡ continued story (a ∷ b ∷ c ∷ [])
 three_made story first second third a b c one two three =
     continued_more story second third (a ∷ b ∷ []) c (continued_more story first second (a ∷ []) b one two) three
+
+pub four_made : (story first second third fourth : Story) (a b c d : Event) → first ≡ continued story (a ∷ []) →
+    second ≡ continued first (b ∷ []) → third ≡ continued second (c ∷ []) → fourth ≡ continued third (d ∷ []) →
+    fourth ≡ continued story (a ∷ b ∷ c ∷ d ∷ [])
+four_made story first second third fourth a b c d one two three four =
+    continued_more story third fourth (a ∷ b ∷ c ∷ []) d (three_made story first second third a b c one two three) four

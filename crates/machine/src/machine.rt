@@ -21,6 +21,7 @@ ghost use Rattle.std.specs.Prelude.{
   IsSome,
   false,
   option_map,
+  is_some,
   true,
   take,
 };
@@ -34,7 +35,7 @@ ghost use Rattle.el_model.specs.State.{armed_of, cache_of, hart_of, ordered_of, 
 ghost use Rattle.elf_image.specs.Program.{IsProgram};
 ghost use Rattle.engine.specs.Parts.{parts};
 ghost use Rattle.engine.specs.Reached.{Begins};
-ghost use Rattle.engine.specs.Resting.{finds_nothing, is_quiet};
+ghost use Rattle.engine.specs.Resting.{Leaves, finds_nothing, is_quiet, waiting_of};
 ghost use Rattle.hart_state.specs.Own.{HasOwn};
 ghost use Rattle.coherence.specs.Beginning.{line_of};
 ghost use Rattle.line_pool.specs.Pooled.{Pooled};
@@ -51,7 +52,7 @@ ghost use Rattle.machine.specs.Promises.{
   change,
 };
 ghost use Rattle.machine.specs.Recording.{CanBeRecorded};
-ghost use Rattle.machine.specs.Resting.{bus_events};
+ghost use Rattle.machine.specs.Resting.{bus_events, turn_events};
 ghost use Rattle.machine.specs.Story.{IsOneRun, committed, continued, history_of, left_of, memory_of, state_of};
 ghost use Rattle.reg_mark.specs.Marks.{committed_of};
 ghost use Rattle.rv_alu.specs.Footprint.{IsInPlace};
@@ -199,6 +200,31 @@ impl Machine {
         true
     }
 
+    /// Makes the four events of a hart's turn where it waits in all of them: its step stalls, there is nothing to place,
+    /// something is in the way of its request, and no message has come to it. It says whether it made them. They leave
+    /// the state as it is.
+    #[inline(always)]
+    pub fn wait(&mut self, hart: HartId) -> bool
+        requires hart_exists { hart.number < self.old.config.harts }
+        requires steps_left { 4 ≤ left_of self.old }
+        ensures exact { result ≡ is_some (waiting_of (state_of self.old) hart.number) }
+        ensures made { result ≡ true → self.new ≡ continued self.old (turn_events hart) }
+        ensures left { result ≡ false → self.new ≡ self.old }
+        ensures runs { result ≡ true → is_over (state_of self.old) ≡ false }
+        ensures throughout { result ≡ true → (made : ℕ) →
+            state_of (continued self.old (take made (turn_events hart))) ≡ state_of self.old }
+        ensures one_run { IsOneRun self.new }
+    {
+        let Some(blocked) = self.engine.waiting(hart) else {
+            return false;
+        };
+        self.leave(Kind::Step, hart, Outcome::Stalled);
+        self.leave(Kind::Order, hart, Outcome::Idle);
+        self.leave(Kind::Serve, hart, blocked);
+        self.leave(Kind::Deliver, hart, Outcome::Idle);
+        true
+    }
+
     /// Makes an event that finds nothing to do.
     #[inline(always)]
     fn idle(&mut self, kind: Kind, hart: HartId)
@@ -209,9 +235,22 @@ impl Machine {
         ensures same_state { state_of self.new ≡ state_of self.old }
         ensures one_run { IsOneRun self.new }
     {
+        self.leave(kind, hart, Outcome::Idle);
+    }
+
+    /// Makes an event that leaves the state as it is, with its outcome.
+    #[inline(always)]
+    fn leave(&mut self, kind: Kind, hart: HartId, outcome: Outcome)
+        requires hart_exists { hart.number < self.old.config.harts }
+        requires step_left { 1 ≤ left_of self.old }
+        requires leaves { Leaves (state_of self.old) (record { kind = kind; hart = hart }) outcome }
+        ensures goes_on { self.new ≡ continued self.old (record { kind = kind; hart = hart } ∷ []) }
+        ensures same_state { state_of self.new ≡ state_of self.old }
+        ensures one_run { IsOneRun self.new }
+    {
         self.history.push(Entry {
             event: Event { kind, hart },
-            outcome: Outcome::Idle,
+            outcome,
         });
     }
 

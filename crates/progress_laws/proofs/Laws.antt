@@ -2,3 +2,4 @@
 pub mod GettingOn
 pub mod LineOfLeast
 pub mod EveryMode
+pub mod Over

@@ -2,7 +2,6 @@ pub mod Laws
 mod Ready
 mod Faced
 mod NewBits
-mod Over
 mod AllWait
 mod WithoutStamps
 mod LeastStamp

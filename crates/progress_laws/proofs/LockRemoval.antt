@@ -10,7 +10,7 @@ use Rattle.mail.specs.Mailbox.{Marker, Message, Probe, has_message}
 use Rattle.progress_laws.proofs.AllWait.{OnlyWaits, gets_on_or_waits}
 use Rattle.progress_laws.proofs.Laws.GettingOn.{GetsOn, Orderly, line_gets_on, live_runs, ordered_runs}
 use Rattle.progress_laws.proofs.LeastStamp.{Least, NoStamp, least_below}
-use Rattle.progress_laws.proofs.Over.{not_stuck, over_stopped}
+use Rattle.progress_laws.proofs.Laws.Over.{not_stuck, over_stopped}
 use Rattle.progress_laws.specs.Ready.{ready_event}
 use Rattle.removal_laws.specs.Facts.{Everywhere, Facts, IsWaiting}
 use Rattle.removal_laws.specs.Laws.{IsDelivered, WaitsWithLeast, attempt_of}

@@ -14,7 +14,7 @@ use Rattle.progress_laws.proofs.Faced.{NoneRetains, bus_unretained}
 use Rattle.progress_laws.proofs.AllWait.{OnlyWaits, gets_on_or_waits}
 use Rattle.progress_laws.proofs.Laws.GettingOn.{GetsOn, Orderly, always_orderly, line_gets_on}
 use Rattle.progress_laws.proofs.NewBits.{step_unretained}
-use Rattle.progress_laws.proofs.Over.{not_stuck}
+use Rattle.progress_laws.proofs.Laws.Over.{not_stuck}
 use Rattle.progress_laws.specs.Laws.{NoSectionRetainsWithoutStamps}
 use Rattle.progress_laws.specs.Ready.{ready_event}
 use Rattle.rv_alu.specs.declared.view.HartStatus.TheVariants.{Running}

@@ -1,7 +1,7 @@
 use super::*;
 use crate::report::put_hart_line;
-use chronicle::Tally;
-use el_base::{Config, Event, HartId, Kind, Mode};
+use chronicle::{History, Tally};
+use el_base::{Config, Entry, Event, Freed, HartId, Kind, Losers, Mode, Outcome};
 use el_io::{Failed, MemSink, SureSink};
 use elf_image::load;
 use machine::Machine;

@@ -1,7 +1,10 @@
 -- what is in the way of a request, by numbers
-use Rattle.std.specs.Prelude.{ℕ, Option}
+use Rattle.std.specs.Prelude.{ℕ, Option, Some, None}
 use Rattle.bus_order.specs.Order.{Request}
+use Rattle.el_base.specs.HartId.{hart_id}
 use Rattle.el_base.specs.declared.hart_id.HartId.{HartId}
+use Rattle.el_base.specs.declared.outcomes.Outcome.{Outcome}
+use Rattle.el_base.specs.declared.outcomes.Outcome.TheVariants.{Blocked}
 use Rattle.el_model.specs.Conflicts.{conflicts, first_such}
 use Rattle.el_model.specs.Serve as serving
 use Rattle.el_model.specs.State.{ModelState, hart_of, numbers_of}
@@ -18,3 +21,8 @@ numbered_obstacle (Blocks why by) = serving.Blocks why by.number
 -- the least hart whose section conflicts with a request
 abbrev pub first_conflict_of : ModelState → Request → Option ℕ
 first_conflict_of state request = first_such (λ h. conflicts request h (hart_of state h)) (numbers_of state)
+
+-- what a serve comes to that something is in the way of, and none where nothing is
+abbrev pub blocked_by : serving.Obstacle → Option Outcome
+blocked_by serving.Free = None
+blocked_by (serving.Blocks why by) = Some (Blocked why (hart_id by))

@@ -6,12 +6,12 @@ ghost use Rattle.bus_order.specs.Order.{numbered};
 ghost use Rattle.el_model.specs.Conflicts as model;
 ghost use Rattle.el_model.specs.Serve as serving;
 ghost use Rattle.el_model.specs.State.{ModelState, hart_of, head_of, is_held, numbers_of};
-ghost use Rattle.snoop.specs.Obstacles.{first_conflict_of, numbered_obstacle, number_of};
+ghost use Rattle.snoop.specs.Obstacles.{blocked_by, first_conflict_of, numbered_obstacle, number_of};
 ghost use Rattle.snoop.specs.Shows.{IsReady, Shows, kept};
 
 use crate::bus::Bus;
 use bus_order::Request;
-use el_base::{HartId, LineAddr, Why};
+use el_base::{HartId, LineAddr, Outcome, Why};
 
 /// What is in the way of a request: nothing, or a hart.
 #[derive(Clone, Copy)]
@@ -21,6 +21,18 @@ pub(crate) enum Obstacle {
 }
 
 impl Bus {
+    /// What a serve of an ordered request comes to where something is in its way, and `None` where nothing is.
+    pub fn blocked(&self, request: Request) -> Option<Outcome>
+        requires ready { IsReady (kept self.now) }
+        ensures { (state : ModelState) → Shows (kept self.now) state →
+            result ≡ blocked_by (serving.obstacle_to state (numbered request)) }
+    {
+        match self.obstacle_to(request) {
+            Obstacle::Free => None,
+            Obstacle::Blocks { why, by } => Some(Outcome::Blocked { why, by }),
+        }
+    }
+
     /// The first of these that holds of an ordered request: another hart's request for its line comes first, a
     /// section retains the line, or another hart holds it.
     pub(crate) fn obstacle_to(&self, request: Request) -> Obstacle

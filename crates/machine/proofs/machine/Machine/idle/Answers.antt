@@ -1,29 +1,6 @@
--- the machine stands after an event that finds nothing
-use Rattle.std.proofs.Common.{◌≡◌, ◌∙◌, [], ◌∷◌, true, ap, refl, sym, subst}
-use Rattle.el_base.specs.declared.events.Event.{Event}
-use Rattle.engine.specs.Resting.{finds_nothing}
-use Rattle.machine.proofs.GoesOn.{one_run}
-use Rattle.machine.proofs.Resting.{same_after, stands_idle, told_idle}
-use Rattle.machine.specs.Story.{Story, continued, state_of}
+-- an event that finds nothing leaves all as it is
+use Rattle.engine.proofs.Laws.Waiting.{nothing_leaves}
 use Rattle.machine.proofs.machine.Machine.idle.Goals as goal
 
-pub invariant_of-self : goal.invariant_of-self
-invariant_of-self c =
-    let below = rw (← c.self.view_is) at c.requires.hart_exists in
-    let left = rw (← c.self.view_is) at c.requires.step_left in
-    let nothing = rw (← c.self.view_is) at c.requires.nothing in
-    rw c.push.ensures (stands_idle _ _ _ _ c.self.invariant below left nothing)
-
-pub returns-clause-goes_on : goal.returns-clause-goes_on
-returns-clause-goes_on c =
-    let event : Event = record { kind = c.args.kind; hart = c.args.hart } in
-    let nothing = rw (← c.self.view_is) at c.requires.nothing in
-    rw c.push.ensures
-    (told_idle _ event nothing ∙ ap (λ story. continued story (event ∷ [])) c.self.view_is)
-
-pub returns-clause-same_state : goal.returns-clause-same_state
-returns-clause-same_state c =
-    ap state_of (returns-clause-goes_on c) ∙ same_after c.args.self.now _ c.requires.nothing
-
-pub returns-clause-one_run : goal.returns-clause-one_run
-returns-clause-one_run c = one_run _ _ _ _ (invariant_of-self c) refl
+pub leave-requires-clause-leaves : goal.leave-requires-clause-leaves
+leave-requires-clause-leaves c = nothing_leaves _ _ c.requires.nothing

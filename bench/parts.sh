@@ -1,10 +1,10 @@
 #!/bin/sh
-# Prints what one call of each part costs, in nanoseconds: the best of seven runs of the program `parts`, less the
+# Prints what one call of each part costs, in nanoseconds: the best of seven runs of the program `part_timing`, less the
 # best of seven that make no call, by the number of calls. The time is the process's own processor time. A touch comes
 # without its look-up, and a fill without the questions whether the line is there and whether there is room for it.
 set -eu
 cd "$(dirname "$0")/.."
-(cd crates/parts && rt run > /dev/null) # builds the program, also where a source has changed since
+(cd crates/part_timing && rt run > /dev/null) # builds the program, also where a source has changed since
 PYTHONPATH=bench python3 - <<'PYTHON'
 import timing
 
@@ -12,7 +12,7 @@ CALLS = 20_000_000
 
 
 def seconds(part, count):
-    return timing.best(["crates/parts/out/parts", part, str(count)], runs=7)[0]
+    return timing.best(["crates/part_timing/out/part_timing", part, str(count)], runs=7)[0]
 
 
 def nanoseconds(part):

@@ -22,9 +22,9 @@ use Rattle.engine.proofs.Stepped.{HasStepped, IsBetween, IsCacheOf, IsNoted, aft
 use Rattle.engine.proofs.Stepped.{ready_between, shows_between, stays_in_place}
 use Rattle.engine.specs.Acting.{ActsOutside, next_action, sets_in}
 use Rattle.engine.specs.Beginning.{IsReadMarked}
-use Rattle.engine.specs.Parts.{IsIn, IsOfHart, KeepsSectionOf, Parts, own_at}
+use Rattle.engine.specs.Parts.{IsInState, IsOfHart, KeepsSectionOf, Parts, own_at}
 use Rattle.hart_state.specs.Deeds.{armed_own}
-use Rattle.hart_state.specs.Own.{HasOwn, Own, new_own}
+use Rattle.hart_state.specs.Own.{HasOwn, OwnState, new_own}
 use Rattle.rv_alu.specs.Loaded.{loaded}
 use Rattle.rv_alu.specs.declared.action.Action.TheVariants as actions
 use Rattle.rv_flat.specs.FlatState.{no_hart, view_of}
@@ -35,7 +35,7 @@ use Rattle.section_view.specs.ArmedLaws.{reserved_view}
 use Rattle.section_view.specs.KeptRun.{KeepsArmed}
 use Rattle.snoop.proofs.Laws.Living.{lives_armed}
 use Rattle.snoop.specs.Returned.{returned}
-use Rattle.snoop.specs.Shows.{IsReady, Kept}
+use Rattle.snoop.specs.Shows.{IsReady, BusState}
 
 pub arms_outcome : (from : ModelState) (h word : ℕ) → outcomes.Armed ≡ (by_plain_rule from h (Arms word)).outcome
 unfolding by_plain_rule
@@ -48,7 +48,7 @@ now_of from h word = arming_hart word (hart_of from h)
 abbrev noted_of : ModelState → ℕ → ℕ → Hart
 noted_of from h word = record (hart_of from h) { held = None; armed = Some (record { count = 1; word = word }) }
 
-module _ (old : Parts) (bus : Kept) (hart : HartId) (from : ModelState) (acts : ActsOutside old hart.number from) (word : ℕ)
+module _ (old : Parts) (bus : BusState) (hart : HartId) (from : ModelState) (acts : ActsOutside old hart.number from) (word : ℕ)
     (noted : IsNoted old.bus bus hart.number 1) where
   abbrev h : ℕ
   h = hart.number
@@ -87,7 +87,7 @@ module _ (old : Parts) (bus : Kept) (hart : HartId) (from : ModelState) (acts : 
 
     module _ (found : ℕ) (rd : Reg) (is : actions.LoadReserved rd word ≡ next_action old h) (rule : plain_rule from h ≡ Arms word)
         (tells : found ≡ loaded (byte_in from.committed.base from.committed.bytes) word 4) (aligned : word % 4 ≡ 0) where
-      abbrev own : Own
+      abbrev own : OwnState
       own = armed_own word found rd.number (own_at old.harts h)
 
       own_now : IsOfHart old.pool state h own
@@ -141,7 +141,7 @@ module _ (old : Parts) (bus : Kept) (hart : HartId) (from : ModelState) (acts : 
                 (seen_same (own_at old.harts g) (view_of from.committed g) (acts.may.is_in.harts g exists).view);
           }
 
-      pub armed_in : IsIn (record old { bus = returned bus h cache; harts = slice_set old.harts h own }) (by_plain_rule from h (Arms word)).state
+      pub armed_in : IsInState (record old { bus = returned bus h cache; harts = slice_set old.harts h own }) (by_plain_rule from h (Arms word)).state
       unfolding by_plain_rule
       armed_in =
           after_turn old _ hart from (by_plain_rule from h (Arms word)) acts.may (step_is old hart from (Arms word) acts rule)

@@ -26,10 +26,10 @@ use Rattle.engine.proofs.Stepped.{HasStepped, IsCacheOf, after_turn, freed_betwe
 use Rattle.engine.proofs.Stepped.{stays_in_place}
 use Rattle.engine.specs.Acting.{ActsOutside, MayAct, next_action, sets_in}
 use Rattle.engine.specs.Beginning.{BeganIn, IsReadMarked}
-use Rattle.engine.specs.Parts.{IsIn, IsOfHart, KeepsSectionOf, Parts, own_at, present_at}
+use Rattle.engine.specs.Parts.{IsInState, IsOfHart, KeepsSectionOf, Parts, own_at, present_at}
 use Rattle.hart_state.proofs.Laws.Harts.{began_is}
 use Rattle.hart_state.specs.Deeds.{began_own}
-use Rattle.hart_state.specs.Own.{HasOwn, Own, new_own}
+use Rattle.hart_state.specs.Own.{HasOwn, OwnState, new_own}
 use Rattle.pair_table.specs.Predictor.{unwatched}
 use Rattle.rv_alu.specs.Execution.{put_of, release_of}
 use Rattle.rv_alu.specs.declared.action.Action.{Action}
@@ -44,7 +44,7 @@ use Rattle.section_view.specs.Laws.{begun}
 use Rattle.snoop.proofs.Laws.Living.{lives_unarmed}
 use Rattle.snoop.specs.Agent.{agent_of}
 use Rattle.snoop.specs.Returned.{returned}
-use Rattle.snoop.specs.Shows.{IsReady, Kept, Shows, Tells}
+use Rattle.snoop.specs.Shows.{IsReady, BusState, Shows, Tells}
 use Rattle.write_hold.proofs.Laws.LookUps.{held_nothing}
 use Rattle.write_hold.specs.Held.{Entry, held}
 
@@ -86,7 +86,7 @@ opened_state state h swap below =
     (set-set state.harts h (entered swap (hart_of state h)) (began_hart state.config.mode h swap (hart_of state h)))
 
 -- where the hart keeps what is its own then, and the bus shows the state, the parts have come to be in it
-pub began_stepped : (old : Parts) (h : ℕ) (state : ModelState) (swap : Swap) (bus : Kept) (own : Own) → MayAct old h state →
+pub began_stepped : (old : Parts) (h : ℕ) (state : ModelState) (swap : Swap) (bus : BusState) (own : OwnState) → MayAct old h state →
     Shows bus (state_began state h swap) → Tells old.pool bus (line_of state.committed) → IsOfHart old.pool (state_began state h swap) h own →
     HasStepped old (record old { bus = bus; harts = slice_set old.harts h own }) h (state_began state h swap)
 began_stepped old h state swap bus own may shows told is =
@@ -201,8 +201,8 @@ module _ (parts : Parts) (hart : HartId) (state : ModelState) (acts : ActsOutsid
         lent = (is_own parts h state acts).lent;
       }
 
-  pub began_in : (bus : Kept) → Shows bus (state_began state h swap) → Tells parts.pool bus (line_of state.committed) →
-      IsIn (record parts {
+  pub began_in : (bus : BusState) → Shows bus (state_began state h swap) → Tells parts.pool bus (line_of state.committed) →
+      IsInState (record parts {
         bus = bus;
         harts = slice_set parts.harts h (began_own swap.word swap.old swap.new rd.number (own_at parts.harts h));
       }) (by_plain_rule state h (Begins swap)).state
@@ -214,18 +214,18 @@ module _ (parts : Parts) (hart : HartId) (state : ModelState) (acts : ActsOutsid
       own_began)
 
 -- the parts after both calls
-pub after_began : (old mid : Parts) (bus : Kept) (hart : HartId) (state : ModelState) (acts : ActsOutside old hart.number state) (swap : Swap)
+pub after_began : (old mid : Parts) (bus : BusState) (hart : HartId) (state : ModelState) (acts : ActsOutside old hart.number state) (swap : Swap)
     (op : AmoOp) (rd : Reg) (address source : ℕ) → actions.Amo op rd address source ≡ next_action old hart.number →
     plain_rule state hart.number ≡ Begins swap → swap.word % 4 ≡ 0 → BeganIn old mid hart.number swap rd.number →
     bus.copies ≡ mid.bus.copies →
     ((from : ModelState) → Shows mid.bus from →
     Shows bus (with_hart from hart.number (open_attempt from.config.mode hart.number (hart_of from hart.number)))) →
-    IsIn (record mid { bus = bus }) (by_plain_rule state hart.number (Begins swap)).state
+    IsInState (record mid { bus = bus }) (by_plain_rule state hart.number (Begins swap)).state
 after_began old mid bus hart state acts swap op rd address source is rule aligned began copies shows =
     let h = hart.number in
     let before = with_hart state h (entered swap (hart_of state h)) in
     let entered_now = entered_shows old h state (actions.Amo op rd address source) acts is swap rule began.cache began.marked in
-    subst (λ p. IsIn (record p { bus = bus }) (by_plain_rule state h (Begins swap)).state) (sym began.new_is)
+    subst (λ p. IsInState (record p { bus = bus }) (by_plain_rule state h (Begins swap)).state) (sym began.new_is)
     (began_in old hart state acts swap op rd address source is rule aligned bus
     (subst (Shows bus) (opened_state state h swap (inside old h state acts))
     (shows before (subst (λ p. Shows p.bus before) (sym began.new_is) entered_now)))

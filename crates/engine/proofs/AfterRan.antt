@@ -26,11 +26,11 @@ use Rattle.engine.proofs.StandsOutside.{has_cache, has_own, idle, inside, is_own
 use Rattle.engine.specs.Acting.{ActsOutside, cache_in, next_action, sets_in}
 use Rattle.engine.specs.Effect.{piece_in, unreserved_on}
 use Rattle.engine.specs.Outside.{HasRunOver, execution_in}
-use Rattle.engine.specs.Parts.{IsIn, IsOfHart, KeepsReserved, KeepsSectionOf, Parts, StandsAs, hold_owner, own_at, present_at, room_in}
+use Rattle.engine.specs.Parts.{IsInState, IsOfHart, KeepsReserved, KeepsSectionOf, Parts, StandsAs, hold_owner, own_at, present_at, room_in}
 use Rattle.hart_state.proofs.Laws.Harts.{ran_is, written_is}
 use Rattle.hart_state.specs.Deeds.{ran_own, unreserved_own}
 use Rattle.hart_state.specs.Lending.{with_view}
-use Rattle.hart_state.specs.Own.{HasOwn, Own, new_own}
+use Rattle.hart_state.specs.Own.{HasOwn, OwnState, new_own}
 use Rattle.line_pool.specs.Pooled.{Pooled}
 use Rattle.reg_mark.specs.Marks.{checkpoint_or, committed_of}
 use Rattle.rv_alu.specs.Execution.{Execution, Store, append_in, store_in, view_after}
@@ -46,7 +46,7 @@ use Rattle.snoop.specs.Returned.{returned}
 use Rattle.write_hold.specs.Slotted.{IsLent}
 
 -- what the hart keeps then
-abbrev pub own_ran : Parts → ℕ → ModelState → Action → Own
+abbrev pub own_ran : Parts → ℕ → ModelState → Action → OwnState
 own_ran parts h state action =
     with_view (ran_own state h (own_at parts.harts h)) (view_after (execution_in parts h action) (present_at parts.harts h))
 
@@ -65,12 +65,12 @@ no_checkpoint parts h state action acts =
     ap (λ section. section.marks.mark) (ran_kept state h (own_at parts.harts h)) ∙ (idle parts h state acts).unmarked
 
 -- each hart but one, after a store of the one, if it made one
-length-unreserved : (line : Option ℕ) (harts : List Own) → length (unreserved_on line harts) ≡ length harts
+length-unreserved : (line : Option ℕ) (harts : List OwnState) → length (unreserved_on line harts) ≡ length harts
 length-unreserved None harts = refl
 length-unreserved (Some line) harts = length-map harts (unreserved_own line)
 
 other_view : (state : FlatState) (h g : ℕ) (execution : Execution) (line : Option ℕ) → store_line (store_in execution) ≡ line → g ≢ h →
-    g < length state.harts → (own : Own) → (harts : List Own) → g < length harts → own ≡ own_at harts g →
+    g < length state.harts → (own : OwnState) → (harts : List OwnState) → g < length harts → own ≡ own_at harts g →
     committed_of own.section.marks ≡ view_of state g →
     IsSeenAs own (own_at (unreserved_on line harts) g)
     (view_of (applied state h (view_of state h) execution) g)
@@ -190,7 +190,7 @@ module _ (parts : Parts) (hart : HartId) (state : ModelState) (action : Action) 
       other (subst (λ n. g < n) acts.may.is_in.view_each there) (own_at parts.harts g) parts.harts there refl
       (acts.may.is_in.harts g there).view))))))
 
-  pub ran_in : IsIn (parts_ran parts hart.number state action pool cache) (state_ran state hart.number action)
+  pub ran_in : IsInState (parts_ran parts hart.number state action pool cache) (state_ran state hart.number action)
   ran_in =
       let was = acts.may.is_in in
       let keeps = keeps_shape state.committed hart.number in

@@ -27,10 +27,10 @@ use Rattle.engine.proofs.Stepped.{ready_between, returned_between, runs, shows_c
 use Rattle.engine.specs.Acting.{MayAct, next_action, sets_in}
 use Rattle.engine.specs.Armed.{FollowsArmed}
 use Rattle.engine.specs.Private.{RanOver, kept_of}
-use Rattle.engine.specs.Parts.{IsIn, IsOfHart, KeepsReserved, KeepsSectionOf, Parts, StandsAs, own_at, present_at}
+use Rattle.engine.specs.Parts.{IsInState, IsOfHart, KeepsReserved, KeepsSectionOf, Parts, StandsAs, own_at, present_at}
 use Rattle.engine.proofs.KeptLive.{same_action}
 use Rattle.hart_state.specs.Deeds.{buffered_own, let_go_own}
-use Rattle.hart_state.specs.Own.{HasOwn, Own, new_own}
+use Rattle.hart_state.specs.Own.{HasOwn, OwnState, new_own}
 use Rattle.line_pool.specs.Pooled.{Pooled}
 use Rattle.reg_mark.specs.Marks.{committed_of}
 use Rattle.run_laws.proofs.Laws.ButAView.{armed_runs_keep_all_but_a_view}
@@ -48,12 +48,12 @@ use Rattle.section_view.specs.KeptRun.{KeepsArmed}
 use Rattle.snoop.proofs.Laws.Living.{lives_armed, lives_unarmed}
 use Rattle.snoop.specs.Agent.{agent_of}
 use Rattle.snoop.specs.Returned.{returned}
-use Rattle.snoop.specs.Shows.{IsReady, Kept, Shows, Tells}
+use Rattle.snoop.specs.Shows.{IsReady, BusState, Shows, Tells}
 
 -- the parts are in the state after a hart with an armed section has stepped, where it is this one
 pub stepped_armed : (old new : Parts) (hart : HartId) (from : ModelState) (armed : Armed) (rule : ArmedRule) (state : ModelState) →
     FollowsArmed old hart.number armed rule from → (by_armed_rule from hart.number armed rule).state ≡ state →
-    StaysInPlace from.committed state.committed → HasStepped old new hart.number state → IsIn new (armed_turn from hart.number armed).state
+    StaysInPlace from.committed state.committed → HasStepped old new hart.number state → IsInState new (armed_turn from hart.number armed).state
 stepped_armed old new hart from armed rule state follows is stays stepped =
     let turn = ap (λ t. t.state) (turn_is from hart.number armed rule follows.rule_is) ∙ is in
     after_turn old new hart from (armed_turn from hart.number armed) follows.acts.may (armed_turn_is old hart from armed follows.acts)
@@ -61,7 +61,7 @@ stepped_armed old new hart from armed rule state follows is stays stepped =
     (subst (HasStepped old new hart.number) (sym turn) stepped)
 
 -- one hart keeps something new, and the others what they kept
-others_kept : (old : Parts) (h : ℕ) (from : ModelState) (own : Own) (committed : FlatState) → MayAct old h from →
+others_kept : (old : Parts) (h : ℕ) (from : ModelState) (own : OwnState) (committed : FlatState) → MayAct old h from →
     ((g : ℕ) → g ≢ h → view_of committed g ≡ view_of from.committed g) → (g : ℕ) → g ≢ h → g < length old.harts →
     IsSeenAs (own_at old.harts g) (own_at (slice_set old.harts h own) g) (view_of committed g)
 others_kept old h from own committed may same g other exists =
@@ -135,8 +135,8 @@ module _ (old : Parts) (hart : HartId) (armed : Armed) (from : ModelState) (foll
   abbrev state : ModelState
   state = with_hart from h now
 
-  module _ (bus : Kept) (noted : IsNoted (returned old.bus h cache) bus h (armed.count + 1)) where
-    abbrev own : Own
+  module _ (bus : BusState) (noted : IsNoted (returned old.bus h cache) bus h (armed.count + 1)) where
+    abbrev own : OwnState
     own = buffered_own section (own_at old.harts h)
 
     abbrev kept : Reserved
@@ -215,7 +215,7 @@ module _ (old : Parts) (hart : HartId) (armed : Armed) (from : ModelState) (foll
         }
 
     pub continued_in :
-        IsIn (record old { pool = pool; bus = bus; harts = slice_set old.harts h own }) (armed_turn from h armed).state
+        IsInState (record old { pool = pool; bus = bus; harts = slice_set old.harts h own }) (armed_turn from h armed).state
     continued_in =
         let may = follows.acts.may in
         stepped_armed old _ hart from armed Continues state follows (by_continues from h armed) (stays_in_place from.committed)
@@ -282,8 +282,8 @@ module _ (old : Parts) (hart : HartId) (armed : Armed) (from : ModelState) (foll
   keeps_rest : KeepsAllButAView g from.committed (alone from.committed g armed.count)
   keeps_rest = armed_runs_keep_all_but_a_view from.committed g _ armed (keeps_private old g from armed follows.acts).run
 
-  module _ (bus : Kept) (noted : IsNoted (returned old.bus g cache) bus g 0) where
-    abbrev freed_own_now : Own
+  module _ (bus : BusState) (noted : IsNoted (returned old.bus g cache) bus g 0) where
+    abbrev freed_own_now : OwnState
     freed_own_now = let_go_own (own_at old.harts g)
 
     freed_shows : Shows bus (state_freed from g armed)
@@ -322,7 +322,7 @@ module _ (old : Parts) (hart : HartId) (armed : Armed) (from : ModelState) (foll
         }
 
     pub let_go_in :
-        IsIn (record old { bus = bus; harts = slice_set old.harts g freed_own_now }) (armed_turn from g armed).state
+        IsInState (record old { bus = bus; harts = slice_set old.harts g freed_own_now }) (armed_turn from g armed).state
     let_go_in =
         let may = follows.acts.may in
         stepped_armed old _ hart from armed LetsGo (state_freed from g armed) follows (by_lets_go from g armed)

@@ -28,7 +28,7 @@ use Rattle.engine.proofs.Stepped.{ready_between, shows_between, stays_in_place}
 use Rattle.engine.specs.Acting.{MayAct, freed, next_action, sets_in}
 use Rattle.engine.specs.Covered.{HasItsBitNow, IsTouchedThere}
 use Rattle.engine.specs.Inside.{FollowsRule}
-use Rattle.engine.specs.Parts.{IsIn, IsOfHart, KeepsReserved, KeepsSection, KeepsSectionOf, Parts, StandsAs, own_at}
+use Rattle.engine.specs.Parts.{IsInState, IsOfHart, KeepsReserved, KeepsSection, KeepsSectionOf, Parts, StandsAs, own_at}
 use Rattle.engine.specs.Private.{IsLentStill, MayRunPrivately, RanOver, kept_of, with_own}
 use Rattle.hart_state.proofs.Laws.Harts.{buffered_is}
 use Rattle.hart_state.specs.Deeds.{buffered_own}
@@ -164,7 +164,7 @@ module _ (old : Parts) (hart : HartId) (from : ModelState) (section : Section) (
       absurd (read_not_plain old.bus h (line_number section.word) (cache_of from h) may.ready can.kept.cache
       can.kept.run.read plain))
 
-  pub buffered_in : IsIn (with_own old h pool cache (buffered_own new (own_at old.harts h))) (section_turn from h section).state
+  pub buffered_in : IsInState (with_own old h pool cache (buffered_own new (own_at old.harts h))) (section_turn from h section).state
   buffered_in =
       let own = buffered_own new (own_at old.harts h) in
       let then_parts = with_own old h pool cache own in

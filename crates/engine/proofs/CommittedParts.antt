@@ -49,12 +49,12 @@ use Rattle.engine.proofs.Stepped.{HasStepped, IsBetween, StaysInPlace, after_ste
 use Rattle.engine.proofs.Steps.{asks_nothing}
 use Rattle.engine.specs.Acting.{MayAct, cache_in, freed, next_action, sets_in}
 use Rattle.engine.specs.Inside.{FollowsRule}
-use Rattle.engine.specs.Parts.{IsIn, IsOfHart, KeepsReserved, KeepsSectionOf, Parts, StandsAs, hold_owner, own_at}
+use Rattle.engine.specs.Parts.{IsInState, IsOfHart, KeepsReserved, KeepsSectionOf, Parts, StandsAs, hold_owner, own_at}
 use Rattle.engine.specs.Reached.{IsReached}
 use Rattle.engine.specs.Unreserved.{AreUnreserved, line_among, unreserved_beside, unreserved_line, written_by}
 use Rattle.hart_state.proofs.Laws.Harts.{committed_is}
 use Rattle.hart_state.specs.Deeds.{committed_own, unreserved_own}
-use Rattle.hart_state.specs.Own.{HasOwn, Own, new_own}
+use Rattle.hart_state.specs.Own.{HasOwn, OwnState, new_own}
 use Rattle.moesi.specs.Letters.{may_write}
 use Rattle.moesi.specs.declared.letter.Letter.TheVariants.{M}
 use Rattle.line_pool.specs.Pooled.{Pooled}
@@ -81,7 +81,7 @@ use Rattle.snoop.proofs.Laws.Returning.{ready_returned, shows_returned, unasked_
 use Rattle.snoop.specs.Agent.{agent_of}
 use Rattle.snoop.specs.Asking.{HasNoRequest}
 use Rattle.snoop.specs.Returned.{returned}
-use Rattle.snoop.specs.Shows.{Holding, IsReady, Kept, Shows, Tells, lent_copies}
+use Rattle.snoop.specs.Shows.{Holding, IsReady, BusState, Shows, Tells, lent_copies}
 use Rattle.write_hold.specs.Held.{Entry, holds, seen_at}
 
 -- what is committed then, and the hart
@@ -235,7 +235,7 @@ agent_then from h none =
     ap (λ armed. record (agent_of (close_attempt (record (hart_of from h) { held = None }))) { armed = armed_count armed }) (sym none)
 
 -- a hart that loses its reservation where it is of a word on one of these lines
-seen_by : (lines : ℕ → Bool) (reserved : Option ℕ) (own : Own) → (committed_of own.section.marks).reserved ≡ reserved →
+seen_by : (lines : ℕ → Bool) (reserved : Option ℕ) (own : OwnState) → (committed_of own.section.marks).reserved ≡ reserved →
     IsSeenAs own (unreserved_line (line_among lines reserved) own) (view_unreserved_on lines (committed_of own.section.marks))
 seen_by lines None own is =
     let view = committed_of own.section.marks in
@@ -259,12 +259,12 @@ seen_by lines (Some word) own is = by (lines (line_number word)) refl
         (ap (λ r. record view { reserved = r })
         (is ∙ sym (ap (reserved_beside lines) is ∙ ap (λ test. if test then None else Some word) here)))
 
-seen_beside : (lines : ℕ → Bool) (own : Own) →
+seen_beside : (lines : ℕ → Bool) (own : OwnState) →
     IsSeenAs own (unreserved_beside lines own) (view_unreserved_on lines (committed_of own.section.marks))
 seen_beside lines own = seen_by lines (committed_of own.section.marks).reserved own refl
 
 -- the hart's cache as its section commits, and what the bus shows then
-pub record CommitsAt (parts : Parts) (bus : Kept) (h : ℕ) (from : ModelState) (section : Section) (action : Action) (after : SectionState)
+pub record CommitsAt (parts : Parts) (bus : BusState) (h : ℕ) (from : ModelState) (section : Section) (action : Action) (after : SectionState)
     (pool : Pooled) (cache : Slotted) : Type 0 where
   pub follows : FollowsRule parts h from section Commits
   pub next : action ≡ next_action parts h
@@ -272,7 +272,7 @@ pub record CommitsAt (parts : Parts) (bus : Kept) (h : ℕ) (from : ModelState) 
   pub copies : bus.copies ≡ parts.bus.copies
   pub over : CommitsOver parts.pool pool (sets_in parts h) cache (kept_of parts h) after action
 
-module _ (parts : Parts) (bus : Kept) (h : ℕ) (from : ModelState) (section : Section) (action : Action) (after : SectionState) (pool : Pooled)
+module _ (parts : Parts) (bus : BusState) (h : ℕ) (from : ModelState) (section : Section) (action : Action) (after : SectionState) (pool : Pooled)
     (cache : Slotted) (at : CommitsAt parts bus h from section action after pool cache) where
   abbrev may : MayAct parts h from
   may = at.follows.inside.may
@@ -408,7 +408,7 @@ module _ (parts : Parts) (bus : Kept) (h : ℕ) (from : ModelState) (section : S
       }
 
   -- and the others
-  others_then : (g : ℕ) (own : Own) → g ≢ h → g < length parts.harts →
+  others_then : (g : ℕ) (own : OwnState) → g ≢ h → g < length parts.harts →
       own ≡ unreserved_beside (is_written section.word (hold_in parts.pool (kept_of parts h)).entries) (own_at parts.harts g) →
       IsSeenAs (own_at parts.harts g) own (view_of (done_of from h section) g)
   others_then g own other exists is =
@@ -422,7 +422,7 @@ module _ (parts : Parts) (bus : Kept) (h : ℕ) (from : ModelState) (section : S
       (seen_beside lines (own_at parts.harts g))))
 
   -- so the parts are in the state after it
-  pub stepped : (unreserved : List Own) (own : Own) → AreUnreserved h (written_by parts.pool (own_at parts.harts h)) parts.harts unreserved →
+  pub stepped : (unreserved : List OwnState) (own : OwnState) → AreUnreserved h (written_by parts.pool (own_at parts.harts h)) parts.harts unreserved →
       own ≡ committed_own after (own_at parts.harts h) →
       HasStepped parts (record parts { pool = pool; bus = returned bus h cache; harts = slice_set unreserved h own }) h (state_then from h section)
   stepped unreserved own lost is =
@@ -449,11 +449,11 @@ module _ (parts : Parts) (bus : Kept) (h : ℕ) (from : ModelState) (section : S
   pub stays : StaysInPlace from.committed (done_of from h section)
   stays = record { base = effects.base; size = effects.size; code = effects.code; harts = effects.harts; output = effects.output }
 
-pub commits_in : (parts : Parts) (bus : Kept) (hart : HartId) (from : ModelState) (section : Section) (action : Action) (after : SectionState)
-    (pool : Pooled) (cache : Slotted) (unreserved : List Own) (own : Own) → CommitsAt parts bus hart.number from section action after pool cache →
+pub commits_in : (parts : Parts) (bus : BusState) (hart : HartId) (from : ModelState) (section : Section) (action : Action) (after : SectionState)
+    (pool : Pooled) (cache : Slotted) (unreserved : List OwnState) (own : OwnState) → CommitsAt parts bus hart.number from section action after pool cache →
     AreUnreserved hart.number (written_by parts.pool (own_at parts.harts hart.number)) parts.harts unreserved →
     own ≡ committed_own after (own_at parts.harts hart.number) →
-    IsIn (record parts { pool = pool; bus = returned bus hart.number cache; harts = slice_set unreserved hart.number own })
+    IsInState (record parts { pool = pool; bus = returned bus hart.number cache; harts = slice_set unreserved hart.number own })
     (section_turn from hart.number section).state
 commits_in parts bus hart from section action after pool cache unreserved own at lost is =
     let h = hart.number in
@@ -471,7 +471,7 @@ pub record IsBeforeCommit (parts mid : Parts) (h : ℕ) : Type 0 where
   pub own : own_at mid.harts h ≡ own_at parts.harts h
 
 -- what holds of a pool, a cache and what a hart keeps, holds of them in such parts
-of_those : (parts mid : Parts) (h : ℕ) → IsBeforeCommit parts mid h → (P : Pooled → Slotted → Own → Type 0) →
+of_those : (parts mid : Parts) (h : ℕ) → IsBeforeCommit parts mid h → (P : Pooled → Slotted → OwnState → Type 0) →
     P parts.pool (sets_in parts h) (own_at parts.harts h) → P mid.pool (sets_in mid h) (own_at mid.harts h)
 of_those parts mid h before P holds =
     subst (λ own. P mid.pool (sets_in mid h) own) (sym before.own)

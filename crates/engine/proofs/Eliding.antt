@@ -27,9 +27,9 @@ use Rattle.engine.proofs.Laws.Swaps.{IsConditionalOf, conditional_action}
 use Rattle.engine.specs.Acting.{next_action, sets_in}
 use Rattle.engine.specs.Armed.{FollowsArmed}
 use Rattle.engine.specs.Beginning.{IsReadMarked}
-use Rattle.engine.specs.Parts.{IsIn, IsOfHart, KeepsSectionOf, Parts, own_at, present_at}
+use Rattle.engine.specs.Parts.{IsInState, IsOfHart, KeepsSectionOf, Parts, own_at, present_at}
 use Rattle.hart_state.specs.Deeds.{elided_own}
-use Rattle.hart_state.specs.Own.{HasOwn, Own}
+use Rattle.hart_state.specs.Own.{HasOwn, OwnState}
 use Rattle.pair_table.specs.Predictor.{unwatched}
 use Rattle.rv_alu.specs.Execution.{put_of, release_of}
 use Rattle.rv_alu.specs.declared.action.Action.{Action}
@@ -43,7 +43,7 @@ use Rattle.section_view.specs.KeptRun.{KeepsRun}
 use Rattle.snoop.proofs.Laws.Living.{lives_unarmed}
 use Rattle.snoop.specs.Asking.{HasNoRequest}
 use Rattle.snoop.specs.Returned.{returned}
-use Rattle.snoop.specs.Shows.{IsReady, Kept, Shows}
+use Rattle.snoop.specs.Shows.{IsReady, BusState, Shows}
 use Rattle.step_rules.proofs.Laws.NextAction.{next_conditional}
 use Rattle.write_hold.proofs.Laws.LookUps.{held_nothing as held_nothing_at}
 use Rattle.write_hold.specs.Held.{held}
@@ -121,7 +121,7 @@ module _ (old : Parts) (hart : HartId) (armed : Armed) (swap : Swap) (from : Mod
         (has_bit_now (sets_in old h).ways (line_number swap.word) (sets_in old h).residency
         (follows.acts.may.ready.well_formed h inside_cache) line_there)
 
-    module _ (mid : Kept) (noted : IsNoted (returned old.bus h cache) mid h 0) where
+    module _ (mid : BusState) (noted : IsNoted (returned old.bus h cache) mid h 0) where
       noted_back : IsBetween mid from (with_hart from h (entered swap (hart_of from h))) h (entered swap (hart_of from h))
       noted_back =
           noted_between (returned old.bus h cache) mid from _ h 0 (marked_of from h swap) (entered swap (hart_of from h)) marked_back noted refl refl
@@ -134,11 +134,11 @@ module _ (old : Parts) (hart : HartId) (armed : Armed) (swap : Swap) (from : Mod
       waits_not =
           free_between mid from _ h (entered swap (hart_of from h)) noted_back refl refl follows.acts.may.free
 
-      module _ (bus : Kept) (same : bus.copies ≡ mid.copies) (shows : (state : ModelState) → Shows mid state →
+      module _ (bus : BusState) (same : bus.copies ≡ mid.copies) (shows : (state : ModelState) → Shows mid state →
           Shows bus (with_hart state h (open_attempt state.config.mode h (hart_of state h)))) (rd : Reg) (address value : ℕ)
           (is : actions.StoreConditional rd address value ≡ next_action old h) (kept : Reserved)
           (kept_is : (own_at old.harts h).section.armed ≡ Some kept) where
-        abbrev own : Own
+        abbrev own : OwnState
         own = elided_own kept swap.new rd.number (own_at old.harts h)
 
         shown : Shows bus (state_began from h swap)
@@ -204,7 +204,7 @@ module _ (old : Parts) (hart : HartId) (armed : Armed) (swap : Swap) (from : Mod
             one_more : (n : ℕ) → suc n ≡ n + 1
             one_more n = omega arith
 
-        pub elided_in : IsIn (record old { bus = bus; harts = slice_set old.harts h own }) (armed_turn from h armed).state
+        pub elided_in : IsInState (record old { bus = bus; harts = slice_set old.harts h own }) (armed_turn from h armed).state
         elided_in =
             stepped_armed old _ hart from armed (Elides swap) (state_began from h swap) follows (by_elides from h armed swap)
             (stays_in_place from.committed)

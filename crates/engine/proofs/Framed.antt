@@ -14,9 +14,9 @@ use Rattle.coherence.specs.Lent.{IsLentTo, LeavesOwner, lent_all, slotted_at}
 use Rattle.coherence.specs.Served.{TellsOf}
 use Rattle.el_model.specs.State.{ModelState, Section, cache_of, section_of}
 use Rattle.engine.specs.Lent.{KeepsCopies}
-use Rattle.engine.specs.Parts.{IsIn, IsOfHart, KeepsSectionOf, Parts, hold_owner}
+use Rattle.engine.specs.Parts.{IsInState, IsOfHart, KeepsSectionOf, Parts, hold_owner}
 use Rattle.engine.specs.Private.{with_own}
-use Rattle.hart_state.specs.Own.{Own}
+use Rattle.hart_state.specs.Own.{OwnState}
 use Rattle.line_pool.specs.Pooled.{Pooled}
 use Rattle.residency.specs.Cache.{cleared}
 use Rattle.section_ctl.specs.Lent.{LeavesBeside}
@@ -24,7 +24,7 @@ use Rattle.section_ctl.specs.State.{SectionState}
 use Rattle.section_view.specs.KeptRun.{HoldsMarked, KeepsRun}
 use Rattle.snoop.proofs.Laws.Returning.{told_returned}
 use Rattle.snoop.specs.Returned.{returned}
-use Rattle.snoop.specs.Shows.{Kept, Tells, TellsIn, lent_copies}
+use Rattle.snoop.specs.Shows.{BusState, Tells, TellsIn, lent_copies}
 use Rattle.write_hold.proofs.Laws.{lent-alike}
 use Rattle.write_hold.specs.Held.{Held}
 use Rattle.write_hold.specs.Slotted.{IsLent, Slotted, lent, lent_entry, slots_of}
@@ -58,7 +58,7 @@ section_left old new state h (Some section) kept same keeps = record {
   marked = subst (λ (held : Held). HoldsMarked (cache_of state h) held.entries) (sym same) keeps.marked;
 }
 
-pub own_left : (old new : Pooled) (state : ModelState) (h : ℕ) (own : Own) → LeavesOwner (hold_owner h) old new → IsOfHart old state h own →
+pub own_left : (old new : Pooled) (state : ModelState) (h : ℕ) (own : OwnState) → LeavesOwner (hold_owner h) old new → IsOfHart old state h own →
     IsOfHart new state h own
 own_left old new state h own leaves is =
     let mine = subst (λ owner. LeavesOwner owner old new) (sym is.owner) leaves in
@@ -85,7 +85,7 @@ pub beside_same : (h : ℕ) (pool : Pooled) → LeavesBeside h (hold_owner h) po
 beside_same h pool owner apart other = leaves_owner-same owner pool
 
 -- a hart's cache is given back to such a pool: what it and main memory tell with the other caches is told
-pub told_back : (old new : Pooled) (bus : Kept) (h : ℕ) (cache : caches.Slotted) (bytes told : ℕ → List ℕ) → Tells old bus bytes →
+pub told_back : (old new : Pooled) (bus : BusState) (h : ℕ) (cache : caches.Slotted) (bytes told : ℕ → List ℕ) → Tells old bus bytes →
     h < length bus.copies.caches → cache.owner ≡ (slotted_at bus.copies.caches h).owner → caches.IsLent new cache →
     LeavesBeside h (hold_owner h) old new → TellsOf (copies_with (lent_copies old bus.copies) h (caches.lent new cache)) told →
     Tells new (returned bus h cache) told
@@ -113,7 +113,7 @@ module _ (old new : Pooled) (all : List caches.Slotted) (owed : IsLentTo old all
     each = λ g within. is_lent-owner old new (slotted_at all g) (left_at g within) (owed.each g within);
   }
 
-pub told_left : (old new : Pooled) (bus : Kept) (bytes : ℕ → List ℕ) → ((g : ℕ) → g < 8 → LeavesOwner g old new) → Tells old bus bytes →
+pub told_left : (old new : Pooled) (bus : BusState) (bytes : ℕ → List ℕ) → ((g : ℕ) → g < 8 → LeavesOwner g old new) → Tells old bus bytes →
     Tells new bus bytes
 told_left old new bus bytes leaves tells = record {
   lent = lent_left old new bus.copies.caches tells.lent leaves;
@@ -123,13 +123,13 @@ told_left old new bus bytes leaves tells = record {
 }
 
 -- a pool, a cache and what one hart keeps were put into the parts
-pub put_own : (old : Parts) (h i : ℕ) (pool : Pooled) (cache : caches.Slotted) (own now : Own) → i ≡ h → own ≡ now →
+pub put_own : (old : Parts) (h i : ℕ) (pool : Pooled) (cache : caches.Slotted) (own now : OwnState) → i ≡ h → own ≡ now →
     record old { pool = pool; bus = returned old.bus h cache; harts = slice_set old.harts i own } ≡ with_own old h pool cache now
 put_own old h i pool cache own now at is =
     ap (λ n. record old { pool = pool; bus = returned old.bus h cache; harts = slice_set old.harts n own }) at ∙ ap (with_own old h pool cache) is
 
 -- a cache is given back to such a pool, and no copy in it has changed
-pub told_moved : (old new : Pooled) (bus : Kept) (h : ℕ) (cache : caches.Slotted) (bytes : ℕ → List ℕ) → Tells old bus bytes →
+pub told_moved : (old new : Pooled) (bus : BusState) (h : ℕ) (cache : caches.Slotted) (bytes : ℕ → List ℕ) → Tells old bus bytes →
     h < length bus.copies.caches → cache.owner ≡ (slotted_at bus.copies.caches h).owner → caches.IsLent new cache →
     LeavesBeside h (hold_owner h) old new →
     ((line : ℕ) → copy_in (caches.lent new cache) line ≡ copy_in (caches.lent old (slotted_at bus.copies.caches h)) line) →
@@ -140,18 +140,18 @@ told_moved old new bus h cache bytes tells inside owner kept leaves same =
     (λ line. same line ∙ ap (λ c. copy_in c line) (sym (lent_at old bus.copies.caches h))))
 
 -- a cache is given back of which no copy has changed
-pub told_same : (pool : Pooled) (bus : Kept) (h : ℕ) (cache : caches.Slotted) (bytes : ℕ → List ℕ) → Tells pool bus bytes →
+pub told_same : (pool : Pooled) (bus : BusState) (h : ℕ) (cache : caches.Slotted) (bytes : ℕ → List ℕ) → Tells pool bus bytes →
     h < length bus.copies.caches → KeepsCopies (slotted_at bus.copies.caches h) cache → Tells pool (returned bus h cache) bytes
 told_same pool bus h cache bytes tells inside keeps =
     told_moved pool pool bus h cache bytes tells inside keeps.owner (keeps.lent pool (tells.lent.each h inside)) (beside_same h pool)
     (keeps.copies pool)
 
 -- the copies are as they were
-pub told_copies : (pool : Pooled) (old new : Kept) (bytes : ℕ → List ℕ) → new.copies ≡ old.copies → Tells pool old bytes → Tells pool new bytes
+pub told_copies : (pool : Pooled) (old new : BusState) (bytes : ℕ → List ℕ) → new.copies ≡ old.copies → Tells pool old bytes → Tells pool new bytes
 told_copies pool old new bytes same tells = subst (λ copies. TellsIn pool copies bytes) (sym same) tells
 
 -- caches and main memory tell the bytes of memory, and the pool lends a hart's cache
-pub tells_memory : (parts : Parts) (state : ModelState) → IsIn parts state → TellsMemory (lent_copies parts.pool parts.bus.copies) state.committed
+pub tells_memory : (parts : Parts) (state : ModelState) → IsInState parts state → TellsMemory (lent_copies parts.pool parts.bus.copies) state.committed
 tells_memory parts state is = record {
   placed = record { first = is.shows.memory.first; size = is.shows.memory.lines };
   bytes = is.told.told;
@@ -172,7 +172,7 @@ cleared_there old new clears lends owner = record {
 }
 
 -- a cache was given back twice
-pub given_twice : (old : Parts) (h : ℕ) (mid : caches.Slotted) (pool : Pooled) (cache : caches.Slotted) (own : Own) →
+pub given_twice : (old : Parts) (h : ℕ) (mid : caches.Slotted) (pool : Pooled) (cache : caches.Slotted) (own : OwnState) →
     with_own (record old { bus = returned old.bus h mid }) h pool cache own ≡ with_own old h pool cache own
 given_twice old h mid pool cache own =
     ap (λ list. record (with_own old h pool cache own) {

@@ -9,7 +9,7 @@ use Rattle.el_base.specs.declared.line.TheConstants.{LINE_BYTES}
 use Rattle.engine.proofs.Bytes.{same_piece}
 use Rattle.engine.specs.Effect.{piece_in, unreserved_on}
 use Rattle.hart_state.specs.Deeds.{unreserved_own}
-use Rattle.hart_state.specs.Own.{Own}
+use Rattle.hart_state.specs.Own.{OwnState}
 use Rattle.reg_mark.specs.Marks.{unmarked, views_unreserved}
 use Rattle.reg_mark.specs.declared.marked.Marked.{Marked}
 use Rattle.rv_alu.proofs.Laws.Executions.{store_ends_reservation, unreserved-none}
@@ -53,12 +53,12 @@ same_marks line marks none free =
     ∙ ap unmarked (unreserved-none line marks.present free)
     ∙ sym (ap (λ mark. record marks { mark = mark }) none)
 
-nothing_lost : (line : ℕ) (own : Own) → own.section.marks.mark ≡ None → own.section.marks.present.reserved ≡ None →
+nothing_lost : (line : ℕ) (own : OwnState) → own.section.marks.mark ≡ None → own.section.marks.present.reserved ≡ None →
     unreserved_own line own ≡ own
 nothing_lost line own none free =
     ap (λ marks. record own { section = record own.section { marks = marks } }) (same_marks line own.section.marks none free)
 
-own_set : (store : Option Store) (harts : List Own) (h : ℕ) (own : Own) → own.section.marks.mark ≡ None →
+own_set : (store : Option Store) (harts : List OwnState) (h : ℕ) (own : OwnState) → own.section.marks.mark ≡ None →
     OnSome store (own.section.marks.present.reserved ≡ None) →
     unreserved_on (store_line store) (slice_set harts h own) ≡ slice_set (unreserved_on (store_line store) harts) h own
 own_set None harts h own none free = refl
@@ -67,7 +67,7 @@ own_set (Some store) harts h own none free =
     ∙ ap (slice_set (map (unreserved_own (line_number store.address)) harts) h) (nothing_lost (line_number store.address) own none free)
 
 -- others' reservations end after the hart has its new view, as before it
-pub harts_after : (action : Action) (view : HartView) (byte : ℕ → ℕ) (harts : List Own) (h : ℕ) (own : Own) → own.section.marks.mark ≡ None →
+pub harts_after : (action : Action) (view : HartView) (byte : ℕ → ℕ) (harts : List OwnState) (h : ℕ) (own : OwnState) → own.section.marks.mark ≡ None →
     own.section.marks.present ≡ view_after (perform action view byte) view →
     unreserved_on (written_line (footprint action)) (slice_set harts h own)
     ≡ slice_set (unreserved_on (written_line (footprint action)) harts) h own

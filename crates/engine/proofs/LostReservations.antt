@@ -6,10 +6,10 @@ use Rattle.std.proofs.lemmas.Bool.Decides.{nat_tests}
 use Rattle.std.proofs.lemmas.List.{get_or-set_other, get_or-set_same, length-set}
 use Rattle.engine.specs.Parts.{own_at}
 use Rattle.engine.specs.Unreserved.{AreUnreservedBelow, unreserved_beside}
-use Rattle.hart_state.specs.Own.{new_own, Own}
+use Rattle.hart_state.specs.Own.{new_own, OwnState}
 use Rattle.rv_flat.specs.FlatState.{no_hart}
 
-module _ (number h : ℕ) (lines : ℕ → Bool) (old new next : List Own) (so_far : AreUnreservedBelow number h lines old new)
+module _ (number h : ℕ) (lines : ℕ → Bool) (old new next : List OwnState) (so_far : AreUnreservedBelow number h lines old new)
     (inside : number < length new) where
   -- the hart itself is left out
   itself : number ≡ h → next ≡ new → AreUnreservedBelow (number + 1) h lines old next

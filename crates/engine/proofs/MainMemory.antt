@@ -25,7 +25,7 @@ use Rattle.moesi.specs.Letters.{is_dirty}
 use Rattle.moesi.specs.declared.letter.Letter.TheVariants.{I}
 use Rattle.rv_flat.specs.FlatState.{FlatState}
 use Rattle.snoop.specs.MainMemory.{lines_for, lines_served}
-use Rattle.snoop.specs.Shows.{Kept, Shows, Tells, lent_copies}
+use Rattle.snoop.specs.Shows.{BusState, Shows, Tells, lent_copies}
 
 -- a line without a copy has the letter I
 no_letter : (cached : Cached) (line : ℕ) → copy_in cached line ≡ None → letter_of cached.residency line ≡ I
@@ -45,14 +45,14 @@ put_back flat first line bytes lines true first_is bytes_are =
 put_back flat first line bytes lines false first_is bytes_are = refl
 
 -- a hart's cache with the bytes of a pool is that of the state
-abbrev lent_to : Pooled → Kept → ℕ → Cached
+abbrev lent_to : Pooled → BusState → ℕ → Cached
 lent_to pool bus h = cache_at (lent_copies pool bus.copies).caches h
 
-cache_is : (pool : Pooled) (bus : Kept) (state : ModelState) (h : ℕ) → Shows bus state → (lent_to pool bus h).residency ≡ cache_of state h
+cache_is : (pool : Pooled) (bus : BusState) (state : ModelState) (h : ℕ) → Shows bus state → (lent_to pool bus h).residency ≡ cache_of state h
 cache_is pool bus state h shows = ap (λ (c : Cached). c.residency) (lent_at pool bus.copies.caches h) ∙ shows.caches h
 
 -- a copy that leaves a cache has the committed bytes
-left_lines : (pool : Pooled) (bus : Kept) (state : ModelState) (h : ℕ) → Shows bus state → Tells pool bus (line_of state.committed) →
+left_lines : (pool : Pooled) (bus : BusState) (state : ModelState) (h : ℕ) → Shows bus state → Tells pool bus (line_of state.committed) →
     (line : Option ℕ) → with_line_back (lent_to pool bus h) bus.copies.first bus.copies.lines line
     ≡ with_committed state.committed bus.copies.lines (if_dirty (cache_of state h) line)
 left_lines pool bus state h shows told None = refl
@@ -74,14 +74,14 @@ left_lines pool bus state h shows told (Some line) = by (copy_in (lent_to pool b
         (ap (λ cache. letter_of cache line) (sym (cache_is pool bus state h shows)) ∙ letter_is (lent_to pool bus h) line copy there))
 
 -- the line that leaves is the definition's
-leaves : (pool : Pooled) (bus : Kept) (state : ModelState) (h line : ℕ) → Shows bus state → h < length state.harts →
+leaves : (pool : Pooled) (bus : BusState) (state : ModelState) (h line : ℕ) → Shows bus state → h < length state.harts →
     victim_of (lent_to pool bus h) line ≡ leaving_line state.config.ways (cache_of state h) line
 leaves pool bus state h line shows below =
     ap (λ ways. leaving_line ways (lent_to pool bus h).residency line)
     (ap (λ (c : Cached). c.ways) (lent_at pool bus.copies.caches h) ∙ shows.ways h below)
     ∙ ap (λ cache. leaving_line state.config.ways cache line) (cache_is pool bus state h shows)
 
-for_request : (pool : Pooled) (bus : Kept) (state : ModelState) (h : ℕ) → Shows bus state → Tells pool bus (line_of state.committed) →
+for_request : (pool : Pooled) (bus : BusState) (state : ModelState) (h : ℕ) → Shows bus state → Tells pool bus (line_of state.committed) →
     h < length state.harts → (asked : Option Request) →
     lines_for (lent_copies pool bus.copies) h asked ≡ with_committed state.committed bus.copies.lines (back_for state h asked)
 unfolding lines_after
@@ -91,7 +91,7 @@ for_request pool bus state h shows told below (Some request) =
     ∙ ap (λ line. with_committed state.committed bus.copies.lines (if_dirty (cache_of state h) line))
     (leaves pool bus state h request.line shows below)
 
-as_outcome : (pool : Pooled) (bus : Kept) (state : ModelState) (h : ℕ) → Shows bus state → Tells pool bus (line_of state.committed) →
+as_outcome : (pool : Pooled) (bus : BusState) (state : ModelState) (h : ℕ) → Shows bus state → Tells pool bus (line_of state.committed) →
     h < length state.harts → (outcome : Outcome) →
     lines_served pool bus h outcome ≡ with_committed state.committed bus.copies.lines (back_as state h outcome)
 as_outcome pool bus state h shows told below (outcomes.Served losers freed) =
@@ -112,7 +112,7 @@ as_outcome pool bus state h shows told below outcomes.Armed = refl
 as_outcome pool bus state h shows told below (outcomes.LetGo count) = refl
 
 -- a request that is served
-pub served_lines : (pool : Pooled) (bus : Kept) (state : ModelState) (event : Event) (outcome : Outcome) → Shows bus state →
+pub served_lines : (pool : Pooled) (bus : BusState) (state : ModelState) (event : Event) (outcome : Outcome) → Shows bus state →
     Tells pool bus (line_of state.committed) →
     event.hart.number < length state.harts → event.kind ≡ kinds.Serve → outcome ≡ (next state event).outcome →
     lines_served pool bus event.hart.number outcome ≡ lines_from state event bus.copies.lines

@@ -9,9 +9,9 @@ use Rattle.el_model.specs.State.{Hart, ModelState, hart_of, with_hart}
 use Rattle.engine.proofs.Standing.{IsSameHart, with_bus}
 use Rattle.engine.specs.Acting.{MayAct, freed}
 use Rattle.engine.specs.Missing.{MayMiss}
-use Rattle.engine.specs.Parts.{IsIn, Parts}
+use Rattle.engine.specs.Parts.{IsInState, Parts}
 use Rattle.snoop.specs.Agent.{agent_at}
-use Rattle.snoop.specs.Shows.{Kept, Shows}
+use Rattle.snoop.specs.Shows.{BusState, Shows}
 
 -- the hart is there, in the state too
 pub freed_each : (parts : Parts) (state : ModelState) (h : ℕ) → MayAct parts h state → length parts.harts ≡ length state.harts
@@ -57,14 +57,14 @@ missed_is state h line need below =
     ap (λ hart. with_hart (freed state h) h (missed_hart h line need hart)) (freed_here state h below)
     ∙ freed_then state h (missed_hart h line need (hart_of state h))
 
-pub after_missed : (old : Parts) (bus : Kept) (state : ModelState) (h line : ℕ) (need : Need) → MayAct old h state →
+pub after_missed : (old : Parts) (bus : BusState) (state : ModelState) (h line : ℕ) (need : Need) → MayAct old h state →
     bus.copies ≡ old.bus.copies →
     ((from : ModelState) → Shows old.bus from → Shows bus (with_hart from h (missed_hart h line need (hart_of from h)))) →
-    IsIn (record old { bus = bus }) (missed state h line need).state
+    IsInState (record old { bus = bus }) (missed state h line need).state
 after_missed old bus state h line need may copies shows =
     let from = freed state h in
     let hart = missed_hart h line need (hart_of from h) in
-    subst (IsIn (record old { bus = bus })) (missed_is state h line need (is_there old state h may))
+    subst (IsInState (record old { bus = bus })) (missed_is state h line need (is_there old state h may))
     (with_bus old bus from (with_hart from h hart) may.is_in (keeps_with_hart from h hart)
     (same_each from h hart
     (record { section = refl; armed = refl; last_lr = refl; cache = refl; predictor = refl; fallback = refl; tries = refl }))

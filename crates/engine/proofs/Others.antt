@@ -8,10 +8,10 @@ use Rattle.el_model.specs.Next.{next}
 use Rattle.el_model.specs.State.{Hart, ModelState, Section, armed_of, cache_of, hart_of, section_of}
 use Rattle.engine.proofs.Reaching.{other_step_beside, runs_armed, survives_event}
 use Rattle.engine.specs.Acting.{freed}
-use Rattle.engine.specs.Parts.{IsIn, IsOfHart, KeepsReserved, KeepsSection, KeepsSectionOf, Parts, StandsAs, own_at}
+use Rattle.engine.specs.Parts.{IsInState, IsOfHart, KeepsReserved, KeepsSection, KeepsSectionOf, Parts, StandsAs, own_at}
 use Rattle.engine.specs.Reached.{IsReached}
 use Rattle.hart_state.specs.Deeds.{unreserved_own}
-use Rattle.hart_state.specs.Own.{HasOwn, Own}
+use Rattle.hart_state.specs.Own.{HasOwn, OwnState}
 use Rattle.line_pool.specs.Pooled.{Pooled}
 use Rattle.reg_mark.proofs.Laws.Views.{committed_unreserved}
 use Rattle.reg_mark.specs.Marks.{committed_of, views_unreserved}
@@ -35,13 +35,13 @@ pub record KeepsPresent (old new : Marked) : Type 0 where
   pub present : IsSome old.mark → new.present ≡ old.present
 
 -- what a hart keeps, but that its committed view is this one now
-pub record IsSeenAs (old new : Own) (committed : HartView) : Type 0 where
+pub record IsSeenAs (old new : OwnState) (committed : HartView) : Type 0 where
   pub rest : new ≡ record old { section = record old.section { marks = new.section.marks } }
   pub marks : KeepsPresent old.section.marks new.section.marks
   pub view : committed_of new.section.marks ≡ committed
 
 -- where a section survives, the same present view and the same hold keep it
-keeps_section : (pool : Pooled) (state new : ModelState) (g : ℕ) (section : Section) (old own : Own) → Survives state new g section →
+keeps_section : (pool : Pooled) (state new : ModelState) (g : ℕ) (section : Section) (old own : OwnState) → Survives state new g section →
     KeepsSection pool state g section old.section → KeepsPresent old.section.marks own.section.marks → own.section.hold ≡ old.section.hold →
     IsSome old.section.marks.mark → KeepsSection pool new g section own.section
 keeps_section pool state new g section old own survives keeps marks hold marked =
@@ -76,7 +76,7 @@ stands_still (Some section) None hold old new marks stands = record {
 stands_still (Some section) (Some reserved) hold old new marks stands = absurd stands
 
 -- what a hart keeps is that of its part of the definition's hart, but that its committed view may have changed
-has_still : (old own : Own) (before after : Hart) (view : HartView) → after ≡ before → IsSeenAs old own view → HasOwn old before → HasOwn own after
+has_still : (old own : OwnState) (before after : Hart) (view : HartView) → after ≡ before → IsSeenAs old own view → HasOwn old before → HasOwn own after
 has_still old own before after view same seen has = subst (HasOwn own) (sym same) (subst (λ o. HasOwn o before) (sym seen.rest) (record {
   section = has.section;
   armed = has.armed;
@@ -98,7 +98,7 @@ marked_armed None reserved hold marks stands = stands.mark
 marked_armed (Some section) reserved hold marks stands = absurd stands
 
 -- by whether a section is live
-kept_by : (pool : Pooled) (live : Option Section) (from before new : ModelState) (g : ℕ) (old own : Own) →
+kept_by : (pool : Pooled) (live : Option Section) (from before new : ModelState) (g : ℕ) (old own : OwnState) →
     ((section : Section) → live ≡ Some section → Survives from new g section) → KeepsSectionOf pool before g live old.section →
     before.committed ≡ from.committed → cache_of before g ≡ cache_of from g →
     StandsAs old.section.marks old.section.hold live old.section.armed →
@@ -113,7 +113,7 @@ kept_by pool (Some section) from before new g old own survives keeps committed c
     seen.marks (ap (λ o. o.section.hold) seen.rest) (marked_live old.section.armed section old.section.hold old.section.marks stands)
 
 -- an armed section that stays armed is kept by the same present view
-reserved_by : (reserved : Option Reserved) (from : ModelState) (new : FlatState) (g : ℕ) (old own : Own) →
+reserved_by : (reserved : Option Reserved) (from : ModelState) (new : FlatState) (g : ℕ) (old own : OwnState) →
     ((r : Reserved) → reserved ≡ Some r →
     KeepsArmed from.committed g r.armed r.old old.section.marks.present → KeepsArmed new g r.armed r.old old.section.marks.present) →
     KeepsReserved from.committed g reserved old.section.marks.present → StandsAs old.section.marks old.section.hold old.section.live reserved →
@@ -124,8 +124,8 @@ reserved_by (Some reserved) from new g old own survive keeps stands marks =
     (sym (marks.present (marked_armed old.section.live reserved old.section.hold old.section.marks stands))) (survive reserved refl keeps)
 
 -- after a step of one hart, what another keeps is what it kept, but that its committed view is that of the state after it
-pub others_stay : (parts : Parts) (from : ModelState) (event : Event) (g : ℕ) (own : Own) → IsReached from →
-    IsIn parts (freed from event.hart.number) → event.kind ≡ kinds.Step → g ≢ event.hart.number → g < length parts.harts →
+pub others_stay : (parts : Parts) (from : ModelState) (event : Event) (g : ℕ) (own : OwnState) → IsReached from →
+    IsInState parts (freed from event.hart.number) → event.kind ≡ kinds.Step → g ≢ event.hart.number → g < length parts.harts →
     IsSeenAs (own_at parts.harts g) own (view_of (next from event).state.committed g) → IsOfHart parts.pool (next from event).state g own
 others_stay parts from event g own reached is step other exists seen = record {
   part = has_still old own (hart_of before g) (hart_of new g) _ (same ∙ sym was_same) seen was.part;
@@ -147,7 +147,7 @@ others_stay parts from event g own reached is step other exists seen = record {
     before : ModelState
     before = freed from event.hart.number
 
-    old : Own
+    old : OwnState
     old = own_at parts.harts g
 
     was : IsOfHart parts.pool before g old
@@ -181,7 +181,7 @@ others_stay parts from event g own reached is step other exists seen = record {
         (ap (λ hart. is_some hart.section) same ∙ ap is_some here)
 
 -- a hart that nothing happened to
-pub seen_same : (own : Own) (committed : HartView) → committed_of own.section.marks ≡ committed → IsSeenAs own own committed
+pub seen_same : (own : OwnState) (committed : HartView) → committed_of own.section.marks ≡ committed → IsSeenAs own own committed
 seen_same own committed is = record {
   rest = refl;
   marks = record { unmarked = λ none. none; marked = λ some. some; present = λ some. refl };
@@ -195,7 +195,7 @@ unreserved_marks line present None = record { unmarked = λ none. refl; marked =
 unreserved_marks line present (Some mark) =
     record { unmarked = λ none. absurd (cc); marked = λ some. refl; present = λ some. refl }
 
-pub seen_unreserved : (line : ℕ) (own : Own) → IsSeenAs own (unreserved_own line own) (unreserved line (committed_of own.section.marks))
+pub seen_unreserved : (line : ℕ) (own : OwnState) → IsSeenAs own (unreserved_own line own) (unreserved line (committed_of own.section.marks))
 seen_unreserved line own = record {
   rest = refl;
   marks = unreserved_marks line own.section.marks.present own.section.marks.mark;

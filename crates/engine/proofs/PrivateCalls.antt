@@ -15,7 +15,7 @@ use Rattle.engine.specs.Acting.{ActsArmed, cache_in, next_action, sets_in}
 use Rattle.engine.specs.Armed.{FollowsArmed}
 use Rattle.engine.specs.Parts.{Parts, own_at}
 use Rattle.engine.specs.Private.{MayRunPrivately, kept_of}
-use Rattle.hart_state.specs.Own.{Own}
+use Rattle.hart_state.specs.Own.{OwnState}
 use Rattle.run_laws.proofs.Laws.Reserving.{quiet_of}
 use Rattle.rv_alu.specs.Footprint.{footprint}
 use Rattle.rv_alu.specs.declared.action.Action.{Action}
@@ -35,12 +35,12 @@ same_quiet _ = refl
 
 module _ (old : Parts) (h : ℕ) (armed : Armed) (from : ModelState) where
   -- of a hart with an armed section there is nothing to say of a live one
-  pub armed_some : ActsArmed old h from armed → (own : Own) → own ≡ own_at old.harts h → IsSome own.section.armed
+  pub armed_some : ActsArmed old h from armed → (own : OwnState) → own ≡ own_at old.harts h → IsSome own.section.armed
   armed_some acts own is =
       subst (λ o. IsSome o.section.armed) (sym is) (subst IsSome (sym (keeps_private old h from armed acts).is) refl)
 
   -- what a call says of the armed section
-  pub of_armed : ActsArmed old h from armed → (own : Own) → own ≡ own_at old.harts h → (P : Reserved → Type 0) → IfSome own.section.armed P →
+  pub of_armed : ActsArmed old h from armed → (own : OwnState) → own ≡ own_at old.harts h → (P : Reserved → Type 0) → IfSome own.section.armed P →
       (kept : Reserved) → (own_at old.harts h).section.armed ≡ Some kept → P kept
   of_armed acts own is P told kept kept_is = subst (λ r. IfSome r P) (ap (λ o. o.section.armed) is ∙ kept_is) told
 

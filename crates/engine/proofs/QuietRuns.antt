@@ -21,11 +21,11 @@ use Rattle.engine.proofs.StandsOutside.{lends}
 use Rattle.engine.specs.Acting.{ActsOutside, cache_in, next_action, sets_in}
 use Rattle.engine.specs.Effect.{piece_in, unreserved_on}
 use Rattle.engine.specs.Outside.{HasRunOver, OutsideSomewhere, RanIn, execution_in}
-use Rattle.engine.specs.Parts.{IsIn, Parts, own_at, present_at, room_in}
+use Rattle.engine.specs.Parts.{IsInState, Parts, own_at, present_at, room_in}
 use Rattle.engine.specs.Turns.{TakesTurn}
 use Rattle.hart_state.specs.Deeds.{candidate_own, own_acquire_pc, ran_own}
 use Rattle.hart_state.specs.Lending.{with_view}
-use Rattle.hart_state.specs.Own.{Own, new_own}
+use Rattle.hart_state.specs.Own.{OwnState, new_own}
 use Rattle.pair_table.specs.Predictor.{Watch}
 use Rattle.rv_alu.specs.Execution.{loads, perform, store_in, view_after}
 use Rattle.rv_alu.specs.Footprint.{IsInPlace, footprint}
@@ -141,7 +141,7 @@ module _ (parts : Parts) (h : ℕ) (state : ModelState) (action : Action) (acts 
       sym (reserves_going action state.committed h coming goes) ∙ ap is_some alone.reserves
 
   -- its hart learns nothing of it
-  learns_nothing : (own : Own) → own.predictor.watch ≡ None → ran_own state h own ≡ own
+  learns_nothing : (own : OwnState) → own.predictor.watch ≡ None → ran_own state h own ≡ own
   learns_nothing own none =
       ap (λ swap. candidate_own (own_acquire_pc state h own) (is_some own.predictor.watch) swap (record own {
         last_lr = last_reserve state h own.last_lr;
@@ -235,9 +235,9 @@ module _ (old new : Parts) (hart : HartId) (action : Action) (is : action ≡ ne
     ready none_asked =
         ready_ran old new new hart.number from action acts ran is placed lacks none_asked nothing_left
 
-    state : IsIn new (plain_turn from hart.number).state
+    state : IsInState new (plain_turn from hart.number).state
     state =
-        subst (λ turn. IsIn new turn.state) (sym (turn_is from hart.number _ rule))
+        subst (λ turn. IsInState new turn.state) (sym (turn_is from hart.number _ rule))
         (after_ran old new new hart from action acts ran is placed lacks rule nothing_left)
 
   -- so it takes the turn of a step

@@ -33,7 +33,7 @@ use Rattle.engine.specs.Effect.{CanAppend}
 use Rattle.engine.specs.Outside.{HasRunOver, execution_in}
 use Rattle.engine.specs.Parts.{Parts, hold_owner, present_at, room_in}
 use Rattle.hart_state.specs.Deeds.{candidate_own, own_acquire_pc, ran_own}
-use Rattle.hart_state.specs.Own.{Own}
+use Rattle.hart_state.specs.Own.{OwnState}
 use Rattle.line_pool.specs.Pooled.{Pooled}
 use Rattle.section_ctl.specs.Lent.{LeavesBeside}
 use Rattle.rv_alu.specs.Execution.{perform, store_in}
@@ -55,11 +55,11 @@ candidate_agent : (pc : Option ℕ) (had : Bool) (swap : Option Swap) (hart : Ha
 candidate_agent pc had None hart = refl
 candidate_agent pc had (Some swap) hart = refl
 
-candidate_kept : (pc : Option ℕ) (had : Bool) (swap : Option Swap) (own : Own) → (candidate_own pc had swap own).section ≡ own.section
+candidate_kept : (pc : Option ℕ) (had : Bool) (swap : Option Swap) (own : OwnState) → (candidate_own pc had swap own).section ≡ own.section
 candidate_kept pc had None own = refl
 candidate_kept pc had (Some swap) own = refl
 
-pub ran_kept : (state : ModelState) (h : ℕ) (own : Own) → (ran_own state h own).section ≡ own.section
+pub ran_kept : (state : ModelState) (h : ℕ) (own : OwnState) → (ran_own state h own).section ≡ own.section
 ran_kept state h own =
     candidate_kept (own_acquire_pc state h own) (is_some own.predictor.watch) (candidate_of state h)
     (record own { last_lr = last_reserve state h own.last_lr; predictor = watched state h own.predictor own.predictor.watch })

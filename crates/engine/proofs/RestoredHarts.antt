@@ -10,7 +10,7 @@ use Rattle.engine.proofs.Framed.{hold_lent}
 use Rattle.engine.specs.Lent.{LeavesKeptBelow, LendsHold, LendsHolds}
 use Rattle.engine.specs.Parts.{hold_owner, own_at}
 use Rattle.engine.specs.Restored.{AreRestored, AreRestoredBelow, own_after}
-use Rattle.hart_state.specs.Own.{Own, new_own}
+use Rattle.hart_state.specs.Own.{OwnState, new_own}
 use Rattle.line_pool.specs.Others.{LeavesOthers}
 use Rattle.line_pool.specs.Pooled.{Pooled}
 use Rattle.rv_flat.specs.FlatState.{no_hart}
@@ -18,19 +18,19 @@ use Rattle.write_hold.specs.Slotted.{IsLent}
 
 -- so are those below a number, and the pool has changed for those that lost alone
 pub record IsRestoredBelow (below : ℕ) (mode : Mode) (winner : ℕ → Option ℕ) (count : ℕ → ℕ) (before pool :
-    Pooled) (old new : List Own) : Type 0 where
+    Pooled) (old new : List OwnState) : Type 0 where
   pub harts : AreRestoredBelow below mode winner count old new
   pub lent : LendsHolds pool new
   pub kept : LeavesKeptBelow below winner before pool
 
 -- what an event leaves to a hart
-pub record IsRestoredAs (mode : Mode) (winner : Option ℕ) (count : ℕ) (before pool : Pooled) (old new : Own) : Type 0 where
+pub record IsRestoredAs (mode : Mode) (winner : Option ℕ) (count : ℕ) (before pool : Pooled) (old new : OwnState) : Type 0 where
   pub own : new ≡ own_after mode winner count old
   pub lent : IsLent pool new.section.hold
   pub others : LeavesOthers old.section.hold.owner before pool
   pub kept : winner ≡ None → pool ≡ before
 
-same_owner : (mode : Mode) (winner : Option ℕ) (count : ℕ) (own : Own) →
+same_owner : (mode : Mode) (winner : Option ℕ) (count : ℕ) (own : OwnState) →
     (own_after mode winner count own).section.hold.owner ≡ own.section.hold.owner
 same_owner mode (Some winner) count own = refl
 same_owner mode None count own = by (count == 0)
@@ -39,7 +39,7 @@ same_owner mode None count own = by (count == 0)
     by true = refl
     by false = refl
 
-module _ (below : ℕ) (mode : Mode) (winner : ℕ → Option ℕ) (count : ℕ → ℕ) (first before pool : Pooled) (old new : List Own) (own : Own)
+module _ (below : ℕ) (mode : Mode) (winner : ℕ → Option ℕ) (count : ℕ → ℕ) (first before pool : Pooled) (old new : List OwnState) (own : OwnState)
     (so_far : IsRestoredBelow below mode winner count first before old new) (inside : below < length new) (few : length new ≤ 8)
     (is : IsRestoredAs mode (winner below) (count below) before pool (own_at new below) own) where
   was : own_at new below ≡ own_at old below
@@ -51,7 +51,7 @@ module _ (below : ℕ) (mode : Mode) (winner : ℕ → Option ℕ) (count : ℕ 
   others : LeavesOthers (hold_owner below) before pool
   others = subst (λ owner. LeavesOthers owner before pool) hold.owner is.others
 
-  abbrev next : List Own
+  abbrev next : List OwnState
   next = slice_set new below own
 
   here : own_at next below ≡ own
@@ -92,7 +92,7 @@ module _ (below : ℕ) (mode : Mode) (winner : ℕ → Option ℕ) (count : ℕ 
           subst (λ k. LendsHold pool k (own_at next k)) (sym same)
           (subst (LendsHold pool below) (sym here)
           (record {
-            owner = ap (λ (o : Own). o.section.hold.owner) is.own ∙ same_owner mode (winner below) (count below) (own_at new below) ∙ hold.owner;
+            owner = ap (λ (o : OwnState). o.section.hold.owner) is.own ∙ same_owner mode (winner below) (count below) (own_at new below) ∙ hold.owner;
             lent = is.lent;
           }))
       | inr other ↦
@@ -118,7 +118,7 @@ module _ (below : ℕ) (mode : Mode) (winner : ℕ → Option ℕ) (count : ℕ 
   }
 
 -- before the first of them, and after the last
-pub restored_none : (mode : Mode) (winner : ℕ → Option ℕ) (count : ℕ → ℕ) (pool : Pooled) (harts : List Own) → LendsHolds pool harts →
+pub restored_none : (mode : Mode) (winner : ℕ → Option ℕ) (count : ℕ → ℕ) (pool : Pooled) (harts : List OwnState) → LendsHolds pool harts →
     IsRestoredBelow 0 mode winner count pool pool harts harts
 restored_none mode winner count pool harts lent = record {
   harts = record { number = refl; done = λ g within. absurd (omega (arith, within)); above = λ g from. refl };
@@ -129,7 +129,7 @@ restored_none mode winner count pool harts lent = record {
   };
 }
 
-pub restored_all : (below : ℕ) (mode : Mode) (winner : ℕ → Option ℕ) (count : ℕ → ℕ) (before pool : Pooled) (old new : List Own) →
+pub restored_all : (below : ℕ) (mode : Mode) (winner : ℕ → Option ℕ) (count : ℕ → ℕ) (before pool : Pooled) (old new : List OwnState) →
     length new ≤ below → IsRestoredBelow below mode winner count before pool old new → AreRestored mode winner count old new
 restored_all below mode winner count before pool old new all done = record {
   number = done.harts.number;

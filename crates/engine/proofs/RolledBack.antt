@@ -30,18 +30,18 @@ use Rattle.engine.proofs.Stepped.{shows_between, stays_in_place}
 use Rattle.engine.specs.Acting.{MayAct, freed}
 use Rattle.engine.specs.Inside.{FollowsRule}
 use Rattle.engine.specs.Lent.{KeepsCopies}
-use Rattle.engine.specs.Parts.{IsIn, IsOfHart, KeepsSectionOf, Parts, own_at}
+use Rattle.engine.specs.Parts.{IsInState, IsOfHart, KeepsSectionOf, Parts, own_at}
 use Rattle.engine.specs.Reached.{IsReached}
 use Rattle.hart_state.proofs.Laws.Harts.{rolled_back_is}
 use Rattle.hart_state.specs.Deeds.{rolled_back_own}
-use Rattle.hart_state.specs.Own.{HasOwn, Own, committed_pc, new_own}
+use Rattle.hart_state.specs.Own.{HasOwn, OwnState, committed_pc, new_own}
 use Rattle.line_pool.specs.Others.{LeavesOthers}
 use Rattle.line_pool.specs.Pooled.{Pooled}
 use Rattle.rv_flat.specs.FlatState.{no_hart, view_of}
 use Rattle.snoop.proofs.Laws.Living.{lives_unarmed}
 use Rattle.snoop.specs.Agent.{agent_at, agent_of}
 use Rattle.snoop.specs.Returned.{returned}
-use Rattle.snoop.specs.Shows.{IsReady, Kept, Shows}
+use Rattle.snoop.specs.Shows.{IsReady, BusState, Shows}
 use Rattle.step_laws.proofs.Laws.Clocks.{clocks_are_few}
 use Rattle.step_laws.specs.Clocks.{AreClocksUpTo}
 use Rattle.write_hold.specs.Slotted.{IsLent}
@@ -87,7 +87,7 @@ seen_small parts h from may =
     omega (arith, small.of_seen, few, same)
 
 -- an attempt that closes as the line is given up
-pub between : (parts : Parts) (bus : Kept) (h : ℕ) (from : ModelState) → MayAct parts h from →
+pub between : (parts : Parts) (bus : BusState) (h : ℕ) (from : ModelState) → MayAct parts h from →
     Shows bus (with_hart (freed from h) h (close_attempt (hart_of (freed from h) h))) →
     IsBetween bus from (with_hart (freed from h) h (close_attempt (hart_of (freed from h) h))) h
     (close_attempt (record (hart_of from h) { held = None }))
@@ -108,7 +108,7 @@ agent_then : (from : ModelState) (h : ℕ) (cause : Cause) → armed_of from h �
 agent_then from h cause none =
     ap (λ armed. record (agent_of (close_attempt (record (hart_of from h) { held = None }))) { armed = armed_count armed }) (sym none)
 
-has_cleared : (bus : Kept) (h : ℕ) (from between : ModelState) (cause : Cause) (cache : Slotted) →
+has_cleared : (bus : BusState) (h : ℕ) (from between : ModelState) (cause : Cause) (cache : Slotted) →
     IsBetween bus from between h (close_attempt (record (hart_of from h) { held = None })) →
     IsClearedThere (slotted_at bus.copies.caches h) cache → IsCacheOf bus h cache (hart_then from h cause)
 has_cleared bus h from between cause cache is clears = record {
@@ -119,7 +119,7 @@ has_cleared bus h from between cause cache is clears = record {
 }
 
 -- the parts then
-abbrev parts_then : Parts → Pooled → Kept → ℕ → Slotted → Cause → Parts
+abbrev parts_then : Parts → Pooled → BusState → ℕ → Slotted → Cause → Parts
 parts_then old pool bus h cache cause = record old {
   pool = pool;
   bus = returned bus h cache;
@@ -151,11 +151,11 @@ own_then old pool from h cause may lent =
     }
 
 -- what becomes of the pool: the hart's stores are given up, and all else is left
-pub record GivesUpHold (old new : Pooled) (before after : Own) : Type 0 where
+pub record GivesUpHold (old new : Pooled) (before after : OwnState) : Type 0 where
   pub lent : IsLent new after.section.hold
   pub others : LeavesOthers before.section.hold.owner old new
 
-rolls_stepped : (old : Parts) (pool : Pooled) (bus : Kept) (from : ModelState) (h : ℕ) (cache : Slotted) (cause : Cause) → MayAct old h from →
+rolls_stepped : (old : Parts) (pool : Pooled) (bus : BusState) (from : ModelState) (h : ℕ) (cache : Slotted) (cause : Cause) → MayAct old h from →
     bus.copies ≡ old.bus.copies → h < length bus.copies.caches → KeepsCopies (slotted_at bus.copies.caches h) cache →
     GivesUpHold old.pool pool (own_at old.harts h) (rolled_back_own cause (own_at old.harts h)) →
     Shows (returned bus h cache) (with_hart from h (hart_then from h cause)) →
@@ -183,7 +183,7 @@ rolls_stepped old pool bus from h cache cause may copies inside keeps gives show
           (seen_same (own_at old.harts g) (view_of from.committed g) (may.is_in.harts g exists).view);
     }
 
-inside_bus : (parts : Parts) (bus : Kept) (h : ℕ) (from between : ModelState) (hart : Hart) → MayAct parts h from →
+inside_bus : (parts : Parts) (bus : BusState) (h : ℕ) (from between : ModelState) (hart : Hart) → MayAct parts h from →
     IsBetween bus from between h hart → length between.harts ≡ length from.harts → h < length bus.copies.caches
 inside_bus parts bus h from between hart may is count =
     subst (λ n. h < n) (sym (is.shows.cache_each ∙ count)) (is_there parts from h may)
@@ -192,12 +192,12 @@ count_between : (from : ModelState) (h : ℕ) (hart : Hart) → length (with_har
 count_between from h hart = length-set (freed from h).harts h hart ∙ length-set from.harts h _
 
 -- the bus has the hart's cache, and is ready again
-pub has_cache : (parts : Parts) (bus : Kept) (h : ℕ) (from : ModelState) → MayAct parts h from →
+pub has_cache : (parts : Parts) (bus : BusState) (h : ℕ) (from : ModelState) → MayAct parts h from →
     Shows bus (with_hart (freed from h) h (close_attempt (hart_of (freed from h) h))) → h < length bus.copies.caches
 has_cache parts bus h from may shows =
     inside_bus parts bus h from _ _ may (between parts bus h from may shows) (count_between from h _)
 
-pub rolled_ready : (parts : Parts) (bus : Kept) (h : ℕ) (from : ModelState) (cache : Slotted) → MayAct parts h from → IsReady bus →
+pub rolled_ready : (parts : Parts) (bus : BusState) (h : ℕ) (from : ModelState) (cache : Slotted) → MayAct parts h from → IsReady bus →
     Shows bus (with_hart (freed from h) h (close_attempt (hart_of (freed from h) h))) → IsClearedThere (slotted_at bus.copies.caches h) cache →
     IsReady (returned bus h cache)
 rolled_ready parts bus h from cache may ready shows clears =
@@ -209,12 +209,12 @@ rolled_ready parts bus h from cache may ready shows clears =
     (subst (IsWellFormed (slotted_at bus.copies.caches h).ways) (sym clears.residency) formed))
     (λ plain. ap has_marks clears.residency ∙ unmarked-cleared (slotted_at bus.copies.caches h).residency)
 
-pub rolled_in : (old : Parts) (pool : Pooled) (bus : Kept) (hart : HartId) (from : ModelState) (section : Section) (cache : Slotted) (cause : Cause) →
+pub rolled_in : (old : Parts) (pool : Pooled) (bus : BusState) (hart : HartId) (from : ModelState) (section : Section) (cache : Slotted) (cause : Cause) →
     FollowsRule old hart.number from section (RollsBack cause) →
     Shows bus (with_hart (freed from hart.number) hart.number (close_attempt (hart_of (freed from hart.number) hart.number))) →
     bus.copies ≡ old.bus.copies → IsClearedThere (slotted_at bus.copies.caches hart.number) cache →
     GivesUpHold old.pool pool (own_at old.harts hart.number) (rolled_back_own cause (own_at old.harts hart.number)) →
-    IsIn (parts_then old pool bus hart.number cache cause) (section_turn from hart.number section).state
+    IsInState (parts_then old pool bus hart.number cache cause) (section_turn from hart.number section).state
 rolled_in old pool bus hart from section cache cause follows shows copies clears gives =
     let h = hart.number in
     let may = follows.inside.may in

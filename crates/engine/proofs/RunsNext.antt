@@ -18,11 +18,11 @@ use Rattle.engine.proofs.StandsOutside.{has_cache}
 use Rattle.engine.specs.Acting.{ActsOutside, cache_in, next_action, sets_in}
 use Rattle.engine.specs.Effect.{CanAppend, piece_in, unreserved_on}
 use Rattle.engine.specs.Outside.{HasRunOver, RanIn, execution_in}
-use Rattle.engine.specs.Parts.{IsIn, Parts, own_at, present_at, room_in}
+use Rattle.engine.specs.Parts.{IsInState, Parts, own_at, present_at, room_in}
 use Rattle.engine.specs.Private.{with_own}
 use Rattle.hart_state.specs.Deeds.{ran_own}
 use Rattle.hart_state.specs.Lending.{with_view}
-use Rattle.hart_state.specs.Own.{Own, new_own}
+use Rattle.hart_state.specs.Own.{OwnState, new_own}
 use Rattle.rv_alu.specs.Execution.{perform, store_in, view_after}
 use Rattle.rv_alu.specs.Footprint.{IsInPlace, footprint}
 use Rattle.rv_alu.specs.declared.action.Action.{Action}
@@ -82,7 +82,7 @@ module _ (old mid : Parts) (h : ℕ) (state : ModelState) (action : Action) (act
             slice_set (learnt old h state).harts h
             (with_view (own_at (learnt old h state).harts h) (view_after (perform action view (cached_byte (cache_in old h))) view));
       }) present_stays
-      ∙ ap {A = Own} (λ own. record old {
+      ∙ ap {A = OwnState} (λ own. record old {
         pool = ran.pool;
         bus = returned old.bus h ran.cache;
         harts = slice_set (learnt old h state).harts h (with_view own (view_after (execution_in old h action) (present_at old.harts h)));
@@ -123,12 +123,12 @@ pub after_ran : (old mid new : Parts) (hart : HartId) (state : ModelState) (acti
     (ran : RanIn (learnt old hart.number state) mid hart.number action) → action ≡ next_action old hart.number →
     IsInPlace old.span (room_in old) action → lacking (permitted (cache_in old hart.number)) (footprint action) ≡ None →
     plain_rule state hart.number ≡ Runs (touch_of (footprint action)) → new ≡ with_effect mid (cache_in mid hart.number) action →
-    IsIn new (by_plain_rule state hart.number (Runs (touch_of (footprint action)))).state
+    IsInState new (by_plain_rule state hart.number (Runs (touch_of (footprint action)))).state
 unfolding by_plain_rule
 after_ran old mid new hart state action acts ran is place none rule new_is =
     let h = hart.number in
     let shown = ran_in old hart state action acts is place none rule ran.pool ran.cache (over_old old mid h state action acts ran) in
-    subst (λ p. IsIn p (by_plain_rule state hart.number (Runs (touch_of (footprint action)))).state)
+    subst (λ p. IsInState p (by_plain_rule state hart.number (Runs (touch_of (footprint action)))).state)
     (sym (same_new old mid h state action acts ran new new_is)) shown
 
 pub ready_ran : (old mid new : Parts) (h : ℕ) (state : ModelState) (action : Action) (acts : ActsOutside old h state)

@@ -10,10 +10,10 @@ use Rattle.el_model.specs.Next.{all_stopped, is_over, shown_of, view_in, view_ou
 use Rattle.el_model.specs.State.{ModelState, Section, armed_of, begin, hart_of, new_hart, section_of}
 use Rattle.elf_image.specs.Program.{Program}
 use Rattle.engine.specs.Acting.{next_action}
-use Rattle.engine.specs.Parts.{IsIn, IsOfHart, KeepsReserved, KeepsSectionOf, Parts, StandsAs, hold_owner, own_at, room_in}
+use Rattle.engine.specs.Parts.{IsInState, IsOfHart, KeepsReserved, KeepsSectionOf, Parts, StandsAs, hold_owner, own_at, room_in}
 use Rattle.engine.specs.Views.{committed_views, first_own}
 use Rattle.hart_state.proofs.Laws.Harts.{new_is}
-use Rattle.hart_state.specs.Own.{HasOwn, Own, new_own}
+use Rattle.hart_state.specs.Own.{HasOwn, OwnState, new_own}
 use Rattle.line_pool.specs.Pooled.{Pooled}
 use Rattle.reg_mark.specs.Marks.{checkpoint_or, committed_of}
 use Rattle.rv_alu.specs.Footprint.{IsInPlace}
@@ -27,16 +27,16 @@ use Rattle.snoop.specs.Shows.{Shows, Tells}
 use Rattle.write_hold.specs.Slotted.{IsLent}
 
 -- the committed views are the state's
-pub views_are : (parts : Parts) (state : ModelState) → IsIn parts state → committed_views parts.harts ≡ state.committed.harts
+pub views_are : (parts : Parts) (state : ModelState) → IsInState parts state → committed_views parts.harts ≡ state.committed.harts
 views_are parts state is =
-    let view : Own → HartView = λ own. committed_of own.section.marks in
+    let view : OwnState → HartView = λ own. committed_of own.section.marks in
     let same = length-map parts.harts view in
     ext_get_or no_hart (committed_views parts.harts) state.committed.harts (same ∙ is.view_each)
     (λ h below.
     let inside : h < length parts.harts = subst (λ n. h < n) same below in
     get_or-map view parts.harts h (new_own no_hart 0 0) no_hart inside ∙ (is.harts h inside).view)
 
-pub over_is : (parts : Parts) (state : ModelState) → IsIn parts state → all_stopped (committed_views parts.harts) ≡ is_over state
+pub over_is : (parts : Parts) (state : ModelState) → IsInState parts state → all_stopped (committed_views parts.harts) ≡ is_over state
 unfolding is_over
 over_is parts state is = ap all_stopped (views_are parts state is)
 
@@ -57,7 +57,7 @@ sees : (pool : Pooled) (state : ModelState) (h : ℕ) (live : Option Section) (k
 sees pool state h None kept is keeps armed stands view = sees_outside state h kept.armed kept is armed stands view
 sees pool state h (Some section) kept is keeps armed stands view = keeps.run.view
 
-pub sees_shown : (parts : Parts) (state : ModelState) (h : ℕ) → IsIn parts state → h < length parts.harts →
+pub sees_shown : (parts : Parts) (state : ModelState) (h : ℕ) → IsInState parts state → h < length parts.harts →
     (own_at parts.harts h).section.marks.present ≡ shown_of state h
 sees_shown parts state h is below =
     let hart = is.harts h below in
@@ -66,12 +66,12 @@ sees_shown parts state h is below =
     (subst (λ live. StandsAs kept.marks kept.hold live kept.armed) hart.part.section hart.stands) hart.view
 
 -- what a hart comes to next is what the view that it sees comes to
-pub acts_as_shown : (parts : Parts) (state : ModelState) (h : ℕ) → IsIn parts state → h < length parts.harts →
+pub acts_as_shown : (parts : Parts) (state : ModelState) (h : ℕ) → IsInState parts state → h < length parts.harts →
     next_action parts h ≡ action_of state.committed (shown_of state h)
 acts_as_shown parts state h is below =
     rw (is.code, is.span, is.output, sees_shown parts state h is below) refl
 
-pub acts_in_place : (parts : Parts) (state : ModelState) (action : Action) → IsIn parts state →
+pub acts_in_place : (parts : Parts) (state : ModelState) (action : Action) → IsInState parts state →
     IsInPlace parts.span (room_in parts) action → IsInPlace (span_of state.committed) (room_of state.committed) action
 acts_in_place parts state action is placed =
     let InSpan : Span → Type 0 = λ span. IsInPlace span (room_of state.committed) action in
@@ -86,7 +86,7 @@ nothing_held None None kept stands none = stands.empty
 nothing_held None (Some reserved) kept stands none = stands.empty
 nothing_held (Some section) reserved kept stands none = absurd cc
 
-pub holds_nothing : (parts : Parts) (state : ModelState) (h : ℕ) → IsIn parts state → h < length parts.harts →
+pub holds_nothing : (parts : Parts) (state : ModelState) (h : ℕ) → IsInState parts state → h < length parts.harts →
     (own_at parts.harts h).section.live ≡ None → (own_at parts.harts h).section.hold.entries ≡ []
 holds_nothing parts state h is below none =
     let kept = (own_at parts.harts h).section in nothing_held kept.live kept.armed kept (is.harts h below).stands none
@@ -119,7 +119,7 @@ pub first_in : (program : Program) (config : Config) (parts : Parts) → parts.c
     Tells parts.pool parts.bus (bytes_at_first program) →
     ((h : ℕ) → h < program.harts → IsLent parts.pool (first_own program config h).section.hold) →
     parts.harts ≡ map (first_own program config) (range_with_len 0 program.harts) → parts.code ≡ program.code → parts.output ≡ [] →
-    IsIn parts (begin program config)
+    IsInState parts (begin program config)
 unfolding begin start
 first_in program config parts config_is span_is shows told lent harts_are code_is none =
     let count : length parts.harts ≡ program.harts =

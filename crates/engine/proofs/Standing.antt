@@ -3,13 +3,13 @@ use Rattle.std.proofs.Common.{◌≡◌, ◌∙◌, ℕ, Option, Some, None, len
 use Rattle.coherence.specs.Beginning.{line_of}
 use Rattle.el_model.proofs.Laws.Keeps.{Keeps}
 use Rattle.el_model.specs.State.{Hart, ModelState, Section, cache_of, hart_of, section_of}
-use Rattle.engine.specs.Parts.{IsIn, IsOfHart, KeepsReserved, KeepsSection, KeepsSectionOf, Parts, own_at}
-use Rattle.hart_state.specs.Own.{Own}
+use Rattle.engine.specs.Parts.{IsInState, IsOfHart, KeepsReserved, KeepsSection, KeepsSectionOf, Parts, own_at}
+use Rattle.hart_state.specs.Own.{OwnState}
 use Rattle.line_pool.specs.Pooled.{Pooled}
 use Rattle.rv_flat.specs.FlatState.{span_of, view_of}
 use Rattle.section_ctl.specs.State.{SectionState, hold_in}
 use Rattle.section_view.specs.KeptRun.{HoldsMarked, KeepsRun}
-use Rattle.snoop.specs.Shows.{Kept, Shows, Tells, TellsIn}
+use Rattle.snoop.specs.Shows.{BusState, Shows, Tells, TellsIn}
 
 -- a hart is as it was but for what the bus keeps of it
 pub record IsSameHart (old new : Hart) : Type 0 where
@@ -34,7 +34,7 @@ keeps_section_of pool state new h None kept committed cache keeps = tt
 keeps_section_of pool state new h (Some section) kept committed cache keeps = keeps_section pool state new h section kept committed cache keeps
 
 -- what a hart keeps is still its own
-pub same_own : (pool : Pooled) (state new : ModelState) (h : ℕ) (own : Own) → Keeps state new → IsSameHart (hart_of state h) (hart_of new h) →
+pub same_own : (pool : Pooled) (state new : ModelState) (h : ℕ) (own : OwnState) → Keeps state new → IsSameHart (hart_of state h) (hart_of new h) →
     IsOfHart pool state h own → IsOfHart pool new h own
 same_own pool state new h own keeps same is = record {
   part = record {
@@ -57,9 +57,9 @@ same_own pool state new h own keeps same is = record {
 }
 
 -- the bus has changed, and shows a state in which nothing else has
-pub with_bus : (old : Parts) (bus : Kept) (state new : ModelState) → IsIn old state → Keeps state new →
+pub with_bus : (old : Parts) (bus : BusState) (state new : ModelState) → IsInState old state → Keeps state new →
     ((h : ℕ) → IsSameHart (hart_of state h) (hart_of new h)) → bus.copies ≡ old.bus.copies → Shows bus new →
-    IsIn (record old { bus = bus }) new
+    IsInState (record old { bus = bus }) new
 with_bus old bus state new is keeps same copies shows = record {
   config = is.config ∙ sym keeps.config;
   span = is.span ∙ ap span_of (sym keeps.committed);

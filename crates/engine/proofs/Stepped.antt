@@ -31,8 +31,8 @@ use Rattle.engine.proofs.LentThere.{few_harts}
 use Rattle.engine.proofs.Others.{IsSeenAs, others_stay}
 use Rattle.engine.specs.Acting.{ActsArmed, ActsInside, MayAct, freed}
 use Rattle.engine.specs.Beginning.{IsReadMarked}
-use Rattle.engine.specs.Parts.{IsIn, IsOfHart, Parts, hold_owner, own_at}
-use Rattle.hart_state.specs.Own.{Own}
+use Rattle.engine.specs.Parts.{IsInState, IsOfHart, Parts, hold_owner, own_at}
+use Rattle.hart_state.specs.Own.{OwnState}
 use Rattle.line_pool.specs.Pooled.{Pooled}
 use Rattle.rv_alu.specs.declared.view.HartStatus.TheVariants.{Running}
 use Rattle.rv_flat.specs.FlatState.{FlatState, span_of, status_of, view_of}
@@ -43,7 +43,7 @@ use Rattle.snoop.specs.Agent.{agent_noted, agent_of}
 use Rattle.snoop.specs.Asking.{HasNoRequest}
 use Rattle.snoop.specs.LettingGo.{IsNotedAs, KeepsBytes}
 use Rattle.snoop.specs.Returned.{returned}
-use Rattle.snoop.specs.Shows.{IsReady, Kept, Shows, Tells, lives}
+use Rattle.snoop.specs.Shows.{IsReady, BusState, Shows, Tells, lives}
 use Rattle.step_laws.proofs.Laws.Frames.{steps_keep_others}
 use Rattle.step_laws.specs.Frames.{LeavesOthers}
 
@@ -121,7 +121,7 @@ same_span old new stays =
 -- these parts are in the state after the event
 stepped_in : (old new : Parts) (hart : HartId) (from : ModelState) → MayAct old hart.number from →
     StaysInPlace from.committed (next from (step_of hart)).state.committed →
-    HasStepped old new hart.number (next from (step_of hart)).state → IsIn new (next from (step_of hart)).state
+    HasStepped old new hart.number (next from (step_of hart)).state → IsInState new (next from (step_of hart)).state
 stepped_in old new hart from may stays stepped =
     let state = (next from (step_of hart)).state in
     let left : LeavesOthers from state hart.number = steps_keep_others from (step_of hart) refl in
@@ -147,15 +147,15 @@ stepped_in old new hart from may stays stepped =
 -- so they are in that after a turn that the event is
 pub after_turn : (old new : Parts) (hart : HartId) (from : ModelState) (turn : Turn) → MayAct old hart.number from →
     next from (step_of hart) ≡ turn → StaysInPlace from.committed turn.state.committed → HasStepped old new hart.number turn.state →
-    IsIn new turn.state
+    IsInState new turn.state
 after_turn old new hart from turn may is stays stepped =
-    subst (λ t. IsIn new t.state) is
+    subst (λ t. IsInState new t.state) is
     (stepped_in old new hart from may (subst (λ t. StaysInPlace from.committed t.state.committed) (sym is) stays)
     (subst (λ t. HasStepped old new hart.number t.state) (sym is) stepped))
 
 pub after_step : (old new : Parts) (hart : HartId) (from : ModelState) (section : Section) → ActsInside old hart.number from section →
     StaysInPlace from.committed (section_turn from hart.number section).state.committed →
-    HasStepped old new hart.number (section_turn from hart.number section).state → IsIn new (section_turn from hart.number section).state
+    HasStepped old new hart.number (section_turn from hart.number section).state → IsInState new (section_turn from hart.number section).state
 after_step old new hart from section inside stays stepped =
     after_turn old new hart from (section_turn from hart.number section) inside.may (turn_is old hart from section inside) stays stepped
 
@@ -165,21 +165,21 @@ pub set_twice : (state : ModelState) (h : ℕ) (first second : Hart) →
 set_twice state h first second = ap (λ harts. record state { harts = harts }) (set-set state.harts h first second)
 
 -- what one hart keeps has changed, and then the bus has, in parts whose bus has
-pub put_in : (old mid : Parts) (between bus : Kept) (h i : ℕ) (own now : Own) → mid ≡ record old { bus = between } → i ≡ h → own ≡ now →
+pub put_in : (old mid : Parts) (between bus : BusState) (h i : ℕ) (own now : OwnState) → mid ≡ record old { bus = between } → i ≡ h → own ≡ now →
     record mid { bus = bus; harts = slice_set mid.harts i own } ≡ record old { bus = bus; harts = slice_set old.harts h now }
 put_in old mid between bus h i own now same at is =
     ap {A = Parts} (λ p. record p { bus = bus; harts = slice_set p.harts i own }) same
     ∙ ap (λ n. record old { bus = bus; harts = slice_set old.harts n own }) at
     ∙ ap (λ o. record old { bus = bus; harts = slice_set old.harts h o }) is
 
-pub set_in : (old mid : Parts) (bus : Kept) (h i : ℕ) (own now : Own) → mid ≡ record old { bus = bus } → i ≡ h → own ≡ now →
+pub set_in : (old mid : Parts) (bus : BusState) (h i : ℕ) (own now : OwnState) → mid ≡ record old { bus = bus } → i ≡ h → own ≡ now →
     record mid { harts = slice_set mid.harts i own } ≡ record old { bus = bus; harts = slice_set old.harts h now }
 set_in old mid bus h i own now same at is =
-    ap {A = Kept} (λ b. record mid { bus = b; harts = slice_set mid.harts i own }) (ap (λ p. p.bus) same)
+    ap {A = BusState} (λ b. record mid { bus = b; harts = slice_set mid.harts i own }) (ap (λ p. p.bus) same)
     ∙ put_in old mid bus bus h i own now same at is
 
 -- the state between, in which the hart at the bus is already what it will be, and then another
-pub record IsBetween (bus : Kept) (from between : ModelState) (h : ℕ) (hart : Hart) : Type 0 where
+pub record IsBetween (bus : BusState) (from between : ModelState) (h : ℕ) (hart : Hart) : Type 0 where
   pub there : h < length between.harts
   pub shows : Shows bus between
   pub here : hart_of between h ≡ hart
@@ -200,7 +200,7 @@ freed_between parts h from may =
     }
 
 -- the hart has become another, and the bus shows it
-became : (old bus : Kept) (from between : ModelState) (h : ℕ) (hart now : Hart) → IsBetween old from between h hart →
+became : (old bus : BusState) (from between : ModelState) (h : ℕ) (hart now : Hart) → IsBetween old from between h hart →
     Shows bus (with_hart from h now) → IsBetween bus from (with_hart from h now) h now
 became old bus from between h hart now is shows =
     let count : length (with_hart from h now).harts ≡ length between.harts =
@@ -215,12 +215,12 @@ became old bus from between h hart now is shows =
     }
 
 -- a cache that is given back is that of what its hart has become
-pub record IsCacheOf (bus : Kept) (h : ℕ) (cache : Slotted) (now : Hart) : Type 0 where
+pub record IsCacheOf (bus : BusState) (h : ℕ) (cache : Slotted) (now : Hart) : Type 0 where
   pub ways : cache.ways ≡ (slotted_at bus.copies.caches h).ways
   pub residency : now.cache ≡ cache.residency
   pub live : is_some now.section ≡ lives cache.residency (armed_count now.armed)
 
-pub shows_between : (bus : Kept) (from between : ModelState) (h : ℕ) (cache : Slotted) (hart now : Hart) → h < length bus.copies.caches →
+pub shows_between : (bus : BusState) (from between : ModelState) (h : ℕ) (cache : Slotted) (hart now : Hart) → h < length bus.copies.caches →
     IsBetween bus from between h hart → agent_of now ≡ agent_of hart → is_some now.armed ≡ is_some hart.armed → IsCacheOf bus h cache now →
     Shows (returned bus h cache) (with_hart from h now)
 shows_between bus from between h cache hart now inside is agent armed same =
@@ -236,7 +236,7 @@ shows_between bus from between h cache hart now inside is agent armed same =
     }))
 
 -- what is committed has changed, and memory is as it was
-pub shows_committed : (bus : Kept) (state : ModelState) (committed : FlatState) → KeepsBytes state.committed committed → Shows bus state →
+pub shows_committed : (bus : BusState) (state : ModelState) (committed : FlatState) → KeepsBytes state.committed committed → Shows bus state →
     Shows bus (record state { committed = committed })
 shows_committed bus state committed keeps shows = record {
   mode = shows.mode;
@@ -252,25 +252,25 @@ shows_committed bus state committed keeps shows = record {
 }
 
 -- and what was told is told
-pub told_committed : (pool : Pooled) (bus : Kept) (old new : FlatState) → KeepsBytes old new → Tells pool bus (line_of old) →
+pub told_committed : (pool : Pooled) (bus : BusState) (old new : FlatState) → KeepsBytes old new → Tells pool bus (line_of old) →
     Tells pool bus (line_of new)
 told_committed pool bus old new keeps told = rw (keeps.base, keeps.bytes) told
 
 -- the same as a state between
-pub returned_between : (bus : Kept) (from between : ModelState) (h : ℕ) (cache : Slotted) (hart now : Hart) → h < length bus.copies.caches →
+pub returned_between : (bus : BusState) (from between : ModelState) (h : ℕ) (cache : Slotted) (hart now : Hart) → h < length bus.copies.caches →
     IsBetween bus from between h hart → agent_of now ≡ agent_of hart → is_some now.armed ≡ is_some hart.armed → IsCacheOf bus h cache now →
     IsBetween (returned bus h cache) from (with_hart from h now) h now
 returned_between bus from between h cache hart now inside is agent armed same =
     became bus (returned bus h cache) from between h hart now is (shows_between bus from between h cache hart now inside is agent armed same)
 
 -- a hart's count was noted at the bus
-pub record IsNoted (old bus : Kept) (h count : ℕ) : Type 0 where
+pub record IsNoted (old bus : BusState) (h count : ℕ) : Type 0 where
   pub ready : IsReady bus
   pub copies : bus.copies ≡ old.copies
   pub shows : (state : ModelState) (now : Hart) → Shows old state → IsNotedAs state h count now → Shows bus (with_hart state h now)
 
 -- as the hart has become another
-pub noted_between : (old bus : Kept) (from between : ModelState) (h count : ℕ) (hart now : Hart) → IsBetween old from between h hart →
+pub noted_between : (old bus : BusState) (from between : ModelState) (h count : ℕ) (hart now : Hart) → IsBetween old from between h hart →
     IsNoted old bus h count →
     agent_of now ≡ agent_noted count (agent_of hart) → now.cache ≡ hart.cache → is_some now.armed ≡ not (count == 0) →
     is_some now.section ≡ lives now.cache count → IsBetween bus from (with_hart from h now) h now
@@ -286,7 +286,7 @@ noted_between old bus from between h count hart now is noted agent cache armed l
     })))
 
 -- a hart that acts waits for nothing, at the bus either
-pub free_between : (bus : Kept) (from between : ModelState) (h : ℕ) (hart : Hart) → IsBetween bus from between h hart →
+pub free_between : (bus : BusState) (from between : ModelState) (h : ℕ) (hart : Hart) → IsBetween bus from between h hart →
     hart.raised ≡ raised_of from h → between.order ≡ from.order → has_request from h ≡ false → HasNoRequest bus h
 free_between bus from between h hart is raised order free =
     let none = none_from_both (raised_of from h) (ordered_of from h) free in
@@ -296,7 +296,7 @@ free_between bus from between h hart is raised order free =
     }
 
 -- so the bus is ready with any well-formed cache that in the plain mode has no bit
-pub ready_between : (bus : Kept) (from between : ModelState) (h : ℕ) (cache : Slotted) (hart : Hart) → h < length bus.copies.caches →
+pub ready_between : (bus : BusState) (from between : ModelState) (h : ℕ) (cache : Slotted) (hart : Hart) → h < length bus.copies.caches →
     IsReady bus → IsBetween bus from between h hart → hart.raised ≡ raised_of from h → between.order ≡ from.order → has_request from h ≡ false →
     IsWellFormed cache.ways cache.residency → (bus.mode ≡ Plain → has_marks cache.residency ≡ false) →
     IsReady (returned bus h cache)
@@ -305,7 +305,7 @@ ready_between bus from between h cache hart inside ready is raised order free fo
     (unasked_returned bus h cache (free_between bus from between h hart is raised order free) formed unmarked)
 
 -- a line that was read in a section is so in no plain mode
-pub read_not_plain : (bus : Kept) (h line : ℕ) (cache : List (List Way)) → IsReady bus →
+pub read_not_plain : (bus : BusState) (h line : ℕ) (cache : List (List Way)) → IsReady bus →
     (slotted_at bus.copies.caches h).residency ≡ cache → read_bit cache line ≡ true → bus.mode ≢ Plain
 read_not_plain bus h line cache ready is read plain =
     true_false
@@ -316,7 +316,7 @@ read_not_plain bus h line cache ready is read plain =
     true_false same = absurd (cc)
 
 -- a line got the read bit in the cache of a hart, and became the most recent one, as the hart became another
-pub marked_cache : (bus : Kept) (h line : ℕ) (cache : Slotted) (from between : ModelState) (hart now : Hart) → IsBetween bus from between h hart →
+pub marked_cache : (bus : BusState) (h line : ℕ) (cache : Slotted) (from between : ModelState) (hart now : Hart) → IsBetween bus from between h hart →
     IsReadMarked (slotted_at bus.copies.caches h) cache line → now.cache ≡ touched (marked hart.cache line Read) line →
     is_some now.section ≡ false → 1 ≤ armed_count now.armed → IsCacheOf bus h cache now
 marked_cache bus h line cache from between hart now is marks same none some =
@@ -327,7 +327,7 @@ marked_cache bus h line cache from between hart now is marks same none some =
       live = none ∙ sym (lives_armed cache.residency (armed_count now.armed) some);
     }
 
-pub marked_formed : (bus : Kept) (h line : ℕ) (cache : Slotted) → h < length bus.copies.caches → IsReady bus →
+pub marked_formed : (bus : BusState) (h line : ℕ) (cache : Slotted) → h < length bus.copies.caches → IsReady bus →
     IsReadMarked (slotted_at bus.copies.caches h) cache line → IsWellFormed cache.ways cache.residency
 marked_formed bus h line cache inside ready marks =
     let was = slotted_at bus.copies.caches h in

@@ -13,16 +13,16 @@ use Rattle.engine.proofs.Misses.{same_each}
 use Rattle.engine.proofs.Laws.Places.{span_small}
 use Rattle.engine.proofs.Standing.{with_bus}
 use Rattle.engine.specs.Acting.{ActsArmed, ActsInside, ActsOutside, MayAct, MayActSomewhere, freed}
-use Rattle.engine.specs.Parts.{IsIn, Parts, committed_at, own_at}
-use Rattle.engine.specs.Reached.{IsReached, Stands}
+use Rattle.engine.specs.Parts.{IsInState, Parts, committed_at, own_at}
+use Rattle.engine.specs.Reached.{IsReached, EngineStands}
 use Rattle.rv_alu.specs.declared.view.HartStatus.{HartStatus}
 use Rattle.rv_alu.specs.declared.view.HartStatus.TheVariants.{Exited, Running, Trapped}
 use Rattle.rv_flat.specs.FlatState.{status_of}
 use Rattle.snoop.specs.Asking.{Asking, HasNoRequest, Nothing, Placed, Raised, asking}
-use Rattle.snoop.specs.Shows.{IsReady, Kept, Shows}
+use Rattle.snoop.specs.Shows.{IsReady, BusState, Shows}
 
 -- how a hart stands in the parts is how it stands in the state
-status_is : (parts : Parts) (state : ModelState) (h : ℕ) → h < length parts.harts → IsIn parts state →
+status_is : (parts : Parts) (state : ModelState) (h : ℕ) → h < length parts.harts → IsInState parts state →
     status_of state.committed h ≡ (committed_at parts.harts h).status
 status_is parts state h below is = ap (λ view. view.status) (sym (is.harts h below).view)
 
@@ -36,13 +36,13 @@ stopped_turn state h stopped = by (status_of state.committed h) stopped
     by (Exited code) other = refl
     by (Trapped cause pc) other = refl
 
-pub stopped_state : (parts : Parts) (state : ModelState) (h : ℕ) → h < length parts.harts → IsIn parts state →
-    (committed_at parts.harts h).status ≢ Running → IsIn parts (step_turn state h).state
+pub stopped_state : (parts : Parts) (state : ModelState) (h : ℕ) → h < length parts.harts → IsInState parts state →
+    (committed_at parts.harts h).status ≢ Running → IsInState parts (step_turn state h).state
 stopped_state parts state h below is stopped =
-    subst (λ turn. IsIn parts turn.state)
+    subst (λ turn. IsInState parts turn.state)
     (sym (stopped_turn state h (λ running. stopped (sym (status_is parts state h below is) ∙ running)))) is
 
-pub stopped_outcome : (parts : Parts) (state : ModelState) (h : ℕ) → h < length parts.harts → IsIn parts state →
+pub stopped_outcome : (parts : Parts) (state : ModelState) (h : ℕ) → h < length parts.harts → IsInState parts state →
     (committed_at parts.harts h).status ≢ Running → Idle ≡ (step_turn state h).outcome
 stopped_outcome parts state h below is stopped =
     ap (λ turn. turn.outcome) (sym (stopped_turn state h (λ running. stopped (sym (status_is parts state h below is) ∙ running))))
@@ -54,12 +54,12 @@ unfolding step_turn
 stalled_turn state h running waits =
     ap (status_turn state h) running ∙ ap (λ test. if test then stalled state else going_turn state h (section_of state h)) waits
 
-pub stalled_state : (parts : Parts) (state : ModelState) (h : ℕ) → h < length parts.harts → IsIn parts state →
-    (committed_at parts.harts h).status ≡ Running → has_request state h ≡ true → IsIn parts (step_turn state h).state
+pub stalled_state : (parts : Parts) (state : ModelState) (h : ℕ) → h < length parts.harts → IsInState parts state →
+    (committed_at parts.harts h).status ≡ Running → has_request state h ≡ true → IsInState parts (step_turn state h).state
 stalled_state parts state h below is running waits =
-    subst (λ turn. IsIn parts turn.state) (sym (stalled_turn state h (status_is parts state h below is ∙ running) waits)) is
+    subst (λ turn. IsInState parts turn.state) (sym (stalled_turn state h (status_is parts state h below is ∙ running) waits)) is
 
-pub stalled_outcome : (parts : Parts) (state : ModelState) (h : ℕ) → h < length parts.harts → IsIn parts state →
+pub stalled_outcome : (parts : Parts) (state : ModelState) (h : ℕ) → h < length parts.harts → IsInState parts state →
     (committed_at parts.harts h).status ≡ Running → has_request state h ≡ true → Stalled ≡ (step_turn state h).outcome
 stalled_outcome parts state h below is running waits =
     ap (λ turn. turn.outcome) (sym (stalled_turn state h (status_is parts state h below is ∙ running) waits))
@@ -76,7 +76,7 @@ asking_is None (Some request) = refl
 asking_is None None = refl
 
 -- one that waits for nothing goes on
-pub going_on : (parts : Parts) (state : ModelState) (h : ℕ) → h < length parts.harts → IsIn parts state →
+pub going_on : (parts : Parts) (state : ModelState) (h : ℕ) → h < length parts.harts → IsInState parts state →
     (committed_at parts.harts h).status ≡ Running → has_request state h ≡ false → step_turn state h ≡ going_turn state h (section_of state h)
 unfolding step_turn
 going_on parts state h below is running free =
@@ -84,7 +84,7 @@ going_on parts state h below is running free =
     ∙ ap (λ waits. if waits then stalled state else going_turn state h (section_of state h)) free
 
 -- a hart that has given up what it held may act
-pub may_act : (parts : Parts) (bus : Kept) (state : ModelState) (h : ℕ) → IsReached state → IsIn parts state → h < length parts.harts →
+pub may_act : (parts : Parts) (bus : BusState) (state : ModelState) (h : ℕ) → IsReached state → IsInState parts state → h < length parts.harts →
     (committed_at parts.harts h).status ≡ Running → has_request state h ≡ false → IsReady bus → bus.copies ≡ parts.bus.copies →
     Shows bus (freed state h) →
     MayAct (record parts { bus = bus }) h state
@@ -101,7 +101,7 @@ may_act parts bus state h reached is exists running free ready copies shows = re
   free = free;
 }
 
-pub may_act_somewhere : (parts : Parts) (bus : Kept) (h : ℕ) → Stands parts → h < length parts.harts →
+pub may_act_somewhere : (parts : Parts) (bus : BusState) (h : ℕ) → EngineStands parts → h < length parts.harts →
     (committed_at parts.harts h).status ≡ Running → ((state : ModelState) → Shows parts.bus state → has_request state h ≡ false) →
     IsReady bus → bus.copies ≡ parts.bus.copies → ((state : ModelState) → Shows parts.bus state → Shows bus (freed state h)) →
     MayActSomewhere (record parts { bus = bus }) h

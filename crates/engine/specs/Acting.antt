@@ -6,7 +6,7 @@ use Rattle.coherence.specs.Lent.{slotted_at}
 use Rattle.el_model.specs.State.{Armed, ModelState, Section, armed_of, has_request, hart_of, section_of, with_hart}
 use Rattle.elf_image.specs.Limits.{end_limit}
 use Rattle.elf_image.specs.Program.{code_word}
-use Rattle.engine.specs.Parts.{IsIn, Parts, committed_at, present_at, room_in}
+use Rattle.engine.specs.Parts.{IsInState, Parts, committed_at, present_at, room_in}
 use Rattle.engine.specs.Reached.{IsReached}
 use Rattle.rv_alu.specs.Action.{action_at}
 use Rattle.rv_alu.specs.declared.action.Action.{Action}
@@ -20,7 +20,7 @@ freed state h = with_hart state h (record (hart_of state h) { held = None })
 -- the parts are in such a state, which comes of one that a program reaches; memory lies below the last address
 pub record MayAct (parts : Parts) (h : ℕ) (state : ModelState) : Type 0 where
   pub reached : IsReached state
-  pub is_in : IsIn parts (freed state h)
+  pub is_in : IsInState parts (freed state h)
   pub ready : IsReady parts.bus
   pub exists : h < length parts.harts
   pub low : parts.span.end ≤ end_limit

@@ -5,13 +5,13 @@ use Rattle.cache_sets.specs.Cached.{Cached, bytes_of}
 use Rattle.el_base.specs.Line.{line_number}
 use Rattle.el_base.specs.declared.line.TheConstants.{LINE_BYTES}
 use Rattle.hart_state.specs.Deeds.{unreserved_own}
-use Rattle.hart_state.specs.Own.{Own}
+use Rattle.hart_state.specs.Own.{OwnState}
 use Rattle.rv_alu.specs.declared.action.Action.{Action}
 use Rattle.rv_alu.specs.declared.action.Action.TheVariants as actions
 use Rattle.rv_flat.specs.Memory.{piece_of}
 
 -- harts without the committed reservations of words on a line, if one was written
-abbrev pub unreserved_on : Option ℕ → List Own → List Own
+abbrev pub unreserved_on : Option ℕ → List OwnState → List OwnState
 unreserved_on None harts = harts
 unreserved_on (Some line) harts = map (unreserved_own line) harts
 

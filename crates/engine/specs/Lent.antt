@@ -6,7 +6,7 @@ use Rattle.cache_sets.specs.Slotted as caches
 use Rattle.coherence.specs.Lent.{LeavesOwner}
 use Rattle.el_base.specs.declared.config.Config.{Config}
 use Rattle.engine.specs.Parts.{hold_owner, own_at}
-use Rattle.hart_state.specs.Own.{Own}
+use Rattle.hart_state.specs.Own.{OwnState}
 use Rattle.line_pool.specs.Pooled.{Pooled}
 use Rattle.write_hold.specs.Slotted.{IsLent}
 
@@ -26,11 +26,11 @@ pub record KeepsCopies (old new : caches.Slotted) : Type 0 where
   pub copies : (pool : Pooled) (line : ℕ) → copy_in (caches.lent pool new) line ≡ copy_in (caches.lent pool old) line
 
 -- a pool lends the buffered stores of a hart, and of each
-pub record LendsHold (pool : Pooled) (h : ℕ) (own : Own) : Type 0 where
+pub record LendsHold (pool : Pooled) (h : ℕ) (own : OwnState) : Type 0 where
   pub owner : own.section.hold.owner ≡ hold_owner h
   pub lent : IsLent pool own.section.hold
 
-abbrev pub LendsHolds : Pooled → List Own → Type 0
+abbrev pub LendsHolds : Pooled → List OwnState → Type 0
 LendsHolds pool harts = (h : ℕ) → h < length harts → LendsHold pool h (own_at harts h)
 
 -- the caches' slots are left, and the stores' of each hart that has lost to none

@@ -4,7 +4,7 @@ use Rattle.el_base.specs.declared.config.Config.{Config}
 use Rattle.el_model.specs.State.{ModelState, Section, cache_of, hart_of, section_of}
 use Rattle.elf_image.specs.Program.{CodeSegment}
 use Rattle.engine.specs.declared.engine.Engine as engines
-use Rattle.hart_state.specs.Own.{HasOwn, Own, new_own}
+use Rattle.hart_state.specs.Own.{HasOwn, OwnState, new_own}
 use Rattle.line_pool.specs.Pooled.{Pooled}
 use Rattle.coherence.specs.Beginning.{line_of}
 use Rattle.reg_mark.specs.Marks.{committed_of}
@@ -14,7 +14,7 @@ use Rattle.rv_alu.specs.declared.view.HartView.{HartView}
 use Rattle.rv_flat.specs.FlatState.{FlatState, no_hart, output_limit, span_of, view_of}
 use Rattle.section_ctl.specs.State.{IsArmed, IsIdle, IsLive, Reserved, SectionState, hold_in}
 use Rattle.section_view.specs.KeptRun.{HoldsMarked, KeepsArmed, KeepsRun}
-use Rattle.snoop.specs.Shows.{Kept, Shows, Tells, kept}
+use Rattle.snoop.specs.Shows.{BusState, Shows, Tells, bus_state}
 use Rattle.write_hold.specs.Slotted.{IsLent, Slotted}
 
 -- what it keeps
@@ -22,8 +22,8 @@ pub record Parts : Type 0 where
   pub config : Config
   pub span : Span  -- the addresses of memory
   pub pool : Pooled  -- the slots of all lines of caches and of buffered stores
-  pub bus : Kept
-  pub harts : List Own  -- of each hart, what it keeps beside the bus
+  pub bus : BusState
+  pub harts : List OwnState  -- of each hart, what it keeps beside the bus
   pub code : List CodeSegment
   pub output : List ℕ
 
@@ -32,14 +32,14 @@ parts engine = record {
   config = engine.config;
   span = engine.span;
   pool = engine.pool;
-  bus = kept engine.bus;
+  bus = bus_state engine.bus;
   harts = engine.harts.items;
   code = engine.code;
   output = engine.output;
 }
 
 -- what a hart keeps; past the last hart, what one keeps that has stopped
-abbrev pub own_at : List Own → ℕ → Own
+abbrev pub own_at : List OwnState → ℕ → OwnState
 own_at harts h = slice_index_or harts h (new_own no_hart 0 0)
 
 -- the owner of the slots in which a hart's buffered stores lie; those of its cache are its own
@@ -47,10 +47,10 @@ abbrev pub hold_owner : ℕ → ℕ
 hold_owner h = 8 + h
 
 -- a hart's committed view, and the one that it sees itself
-abbrev pub committed_at : List Own → ℕ → HartView
+abbrev pub committed_at : List OwnState → ℕ → HartView
 committed_at harts h = committed_of (own_at harts h).section.marks
 
-abbrev pub present_at : List Own → ℕ → HartView
+abbrev pub present_at : List OwnState → ℕ → HartView
 present_at harts h = (own_at harts h).section.marks.present
 
 -- how many bytes the output has room for
@@ -80,7 +80,7 @@ StandsAs marks hold (Some section) (Some reserved) = ⊥
 
 -- what a hart keeps is that of the definition's hart, with its committed view, and with its live or armed section, if it has one; the
 -- pool lends its stores
-pub record IsOfHart (pool : Pooled) (state : ModelState) (h : ℕ) (own : Own) : Type 0 where
+pub record IsOfHart (pool : Pooled) (state : ModelState) (h : ℕ) (own : OwnState) : Type 0 where
   pub part : HasOwn own (hart_of state h)
   pub view : committed_of own.section.marks ≡ view_of state.committed h
   pub section : KeepsSectionOf pool state h (section_of state h) own.section
@@ -91,7 +91,7 @@ pub record IsOfHart (pool : Pooled) (state : ModelState) (h : ℕ) (own : Own) :
   pub lent : IsLent pool own.section.hold
 
 -- the bus shows the state, with the bytes of memory, each hart keeps what is its own, and each other part is the state's
-pub record IsIn (parts : Parts) (state : ModelState) : Type 0 where
+pub record IsInState (parts : Parts) (state : ModelState) : Type 0 where
   pub config : parts.config ≡ state.config
   pub span : parts.span ≡ span_of state.committed
   pub shows : Shows parts.bus state

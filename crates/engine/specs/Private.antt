@@ -6,7 +6,7 @@ use Rattle.engine.specs.Acting.{cache_in, sets_in}
 use Rattle.engine.specs.Covered.{HasItsBitNow}
 use Rattle.engine.specs.Parts.{Parts, own_at}
 use Rattle.hart_state.specs.Deeds.{buffered_own, committed_own}
-use Rattle.hart_state.specs.Own.{Own}
+use Rattle.hart_state.specs.Own.{OwnState}
 use Rattle.line_pool.specs.Pooled.{Pooled}
 use Rattle.residency.specs.Cache.{write_bits_of}
 use Rattle.rv_alu.specs.Footprint.{footprint}
@@ -37,7 +37,7 @@ pub record IsLentStill (old new : Pooled) (sets cache : Slotted) (before after :
   pub beside : LeavesBeside sets.owner before.owner old new
 
 -- the parts with these in the place of a hart's
-abbrev pub with_own : Parts → ℕ → Pooled → Slotted → Own → Parts
+abbrev pub with_own : Parts → ℕ → Pooled → Slotted → OwnState → Parts
 with_own parts h pool cache own =
     record parts { pool = pool; bus = returned parts.bus h cache; harts = slice_set parts.harts h own }
 

@@ -7,7 +7,7 @@ use Rattle.el_base.specs.declared.events.Event.{Event}
 use Rattle.el_model.specs.Next.{after}
 use Rattle.el_model.specs.State.{ModelState, begin}
 use Rattle.elf_image.specs.Program.{IsProgram, Program}
-use Rattle.engine.specs.Parts.{IsIn, Parts}
+use Rattle.engine.specs.Parts.{IsInState, Parts}
 use Rattle.rv_flat.specs.Memory.{AreBytes}
 use Rattle.snoop.specs.Shows.{IsReady}
 
@@ -27,12 +27,12 @@ pub record IsReached (state : ModelState) : Type 0 where
 -- line by line
 pub record Begins (parts : Parts) (program : Program) (config : Config) : Type 0 where
   pub ready : IsReady parts.bus
-  pub is_in : IsIn parts (begin program config)
+  pub is_in : IsInState parts (begin program config)
   pub memory : parts.bus.copies.lines ≡ lines_at_first program
 
 -- what each call needs of a machine's parts: the bus is ready, and they are in a state that a program reaches
-pub record Stands (parts : Parts) : Type 0 where
+pub record EngineStands (parts : Parts) : Type 0 where
   pub ready : IsReady parts.bus
   pub state : ModelState
   pub reached : IsReached state
-  pub is_in : IsIn parts state
+  pub is_in : IsInState parts state

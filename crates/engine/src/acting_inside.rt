@@ -6,7 +6,7 @@ ghost use Rattle.el_model.specs.InSection.{section_rule, section_turn};
 ghost use Rattle.el_model.specs.State.{ModelState, Section};
 ghost use Rattle.engine.specs.Acting.{ActsInside, next_action};
 ghost use Rattle.engine.specs.Inside.{ActsInSection};
-ghost use Rattle.engine.specs.Parts.{IsIn, own_at, parts, room_in};
+ghost use Rattle.engine.specs.Parts.{IsInState, own_at, parts, room_in};
 ghost use Rattle.rv_alu.specs.Footprint.{IsInPlace};
 ghost use Rattle.section_ctl.specs.State.{section_of};
 ghost use Rattle.snoop.specs.Shows.{IsReady};
@@ -27,7 +27,7 @@ impl Engine {
         requires in_place { IsInPlace (parts self.old).span (room_in (parts self.old)) action }
         ensures ready { IsReady (parts self.new).bus }
         ensures state { (from : ModelState) (section : Section) → ActsInside (parts self.old) hart.number from section →
-            IsIn (parts self.new) (section_turn from hart.number section).state }
+            IsInState (parts self.new) (section_turn from hart.number section).state }
         ensures outcome { (from : ModelState) (section : Section) →
             ActsInside (parts self.old) hart.number from section →
             result ≡ (section_turn from hart.number section).outcome }

@@ -5,7 +5,7 @@ ghost use Rattle.el_model.specs.Plain.{plain_turn};
 ghost use Rattle.el_model.specs.State.{ModelState};
 ghost use Rattle.engine.specs.Acting.{ActsOutside, next_action};
 ghost use Rattle.engine.specs.Outside.{IsItsRule, OutsideSomewhere};
-ghost use Rattle.engine.specs.Parts.{IsIn, own_at, parts, room_in};
+ghost use Rattle.engine.specs.Parts.{IsInState, own_at, parts, room_in};
 ghost use Rattle.rv_alu.specs.Footprint.{IsInPlace};
 ghost use Rattle.snoop.specs.Asking.{HasNoRequest};
 ghost use Rattle.snoop.specs.Shows.{IsReady};
@@ -25,7 +25,7 @@ impl Engine {
         requires in_place { IsInPlace (parts self.old).span (room_in (parts self.old)) action }
         ensures ready { IsReady (parts self.new).bus }
         ensures state { (from : ModelState) → ActsOutside (parts self.old) hart.number from →
-            IsIn (parts self.new) (plain_turn from hart.number).state }
+            IsInState (parts self.new) (plain_turn from hart.number).state }
         ensures outcome { (from : ModelState) → ActsOutside (parts self.old) hart.number from →
             result ≡ (plain_turn from hart.number).outcome }
         ensures memory_stays { (parts self.new).bus.copies.lines ≡ (parts self.old).bus.copies.lines }

@@ -9,7 +9,7 @@ ghost use Rattle.el_model.specs.State.{ModelState};
 ghost use Rattle.engine.specs.Acting.{ActsOutside, next_action, sets_in};
 ghost use Rattle.engine.specs.Beginning.{BeganIn, HasMarked};
 ghost use Rattle.engine.specs.Outside.{IsItsRule, OutsideSomewhere};
-ghost use Rattle.engine.specs.Parts.{IsIn, own_at, parts, present_at, room_in};
+ghost use Rattle.engine.specs.Parts.{IsInState, own_at, parts, present_at, room_in};
 ghost use Rattle.rv_alu.specs.Footprint.{IsInPlace};
 ghost use Rattle.rv_alu.specs.declared.action.Action.TheVariants.{Amo};
 ghost use Rattle.rv_alu.specs.declared.view.HartStatus.TheVariants.{Running};
@@ -33,7 +33,7 @@ impl Engine {
         requires begins { IsItsRule (parts self.old) hart.number (Begins (numbered_swap swap)) }
         ensures ready { IsReady (parts self.new).bus }
         ensures state { (from : ModelState) → ActsOutside (parts self.old) hart.number from →
-            IsIn (parts self.new) (by_plain_rule from hart.number (Begins (numbered_swap swap))).state }
+            IsInState (parts self.new) (by_plain_rule from hart.number (Begins (numbered_swap swap))).state }
         ensures outcome { result ≡ Began }
         ensures memory_stays { (parts self.new).bus.copies.lines ≡ (parts self.old).bus.copies.lines }
     {

@@ -9,7 +9,7 @@ ghost use Rattle.el_model.specs.State.{ModelState, Section};
 ghost use Rattle.engine.specs.Acting.{next_action, sets_in};
 ghost use Rattle.engine.specs.Covered.{HasItsBitNow, IsTouchedThere};
 ghost use Rattle.engine.specs.Inside.{FollowsRule, FollowsSomewhere};
-ghost use Rattle.engine.specs.Parts.{IsIn, parts};
+ghost use Rattle.engine.specs.Parts.{IsInState, parts};
 ghost use Rattle.engine.specs.Private.{HasCovered, MayRunPrivately, RanPrivately};
 ghost use Rattle.snoop.specs.Shows.{IsReady};
 ghost use Rattle.step_rules.specs.Actions.{numbered_touch};
@@ -28,7 +28,7 @@ impl Engine {
         ensures ready { IsReady (parts self.new).bus }
         ensures state { (from : ModelState) (section : Section) →
             FollowsRule (parts self.old) hart.number from section (Buffers (option_map numbered_touch touch)) →
-            IsIn (parts self.new) (section_turn from hart.number section).state }
+            IsInState (parts self.new) (section_turn from hart.number section).state }
         ensures outcome { result ≡ Buffered }
         ensures memory_stays { (parts self.new).bus.copies.lines ≡ (parts self.old).bus.copies.lines }
     {

@@ -6,7 +6,7 @@ ghost use Rattle.el_model.specs.InSection.{Commits, section_turn};
 ghost use Rattle.el_model.specs.State.{ModelState, Section};
 ghost use Rattle.engine.specs.Acting.{next_action};
 ghost use Rattle.engine.specs.Inside.{FollowsRule, FollowsSomewhere};
-ghost use Rattle.engine.specs.Parts.{IsIn, own_at, parts};
+ghost use Rattle.engine.specs.Parts.{IsInState, own_at, parts};
 ghost use Rattle.engine.specs.Private.{CommitsIn, MayTakeEffect};
 ghost use Rattle.snoop.specs.Shows.{IsReady};
 
@@ -24,7 +24,7 @@ impl Engine {
         ensures ready { IsReady (parts self.new).bus }
         ensures state { (from : ModelState) (section : Section) →
             FollowsRule (parts self.old) hart.number from section Commits →
-            IsIn (parts self.new) (section_turn from hart.number section).state }
+            IsInState (parts self.new) (section_turn from hart.number section).state }
         ensures outcome { (from : ModelState) (section : Section) →
             FollowsRule (parts self.old) hart.number from section Commits →
             result ≡ (section_turn from hart.number section).outcome }

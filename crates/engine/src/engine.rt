@@ -6,7 +6,7 @@ ghost use Rattle.el_model.specs.Next.{all_stopped, is_over, shown_of};
 ghost use Rattle.el_model.specs.State.{ModelState, armed_of, hart_of, ordered_of, raised_of, section_of};
 ghost use Rattle.engine.specs.Acting.{next_action};
 ghost use Rattle.engine.specs.Parts.{
-  IsIn,
+  IsInState,
   KeepsReserved,
   KeepsSectionOf,
   committed_at,
@@ -15,7 +15,7 @@ ghost use Rattle.engine.specs.Parts.{
   present_at,
   room_in,
 };
-ghost use Rattle.engine.specs.Reached.{Begins, Stands};
+ghost use Rattle.engine.specs.Reached.{Begins, EngineStands};
 ghost use Rattle.engine.specs.Views.{committed_views};
 ghost use Rattle.hart_state.specs.Own.{HasOwn};
 ghost use Rattle.reg_mark.specs.Marks.{committed_of};
@@ -25,7 +25,7 @@ ghost use Rattle.rv_flat.specs.FlatState.{output_limit, room_of, span_of, view_o
 ghost use Rattle.rv_flat.specs.Memory.{byte_in};
 ghost use Rattle.rv_flat.specs.Step.{action_of};
 ghost use Rattle.snoop.specs.Asking.{asking, numbered_asked};
-ghost use Rattle.snoop.specs.Shows.{kept};
+ghost use Rattle.snoop.specs.Shows.{bus_state};
 
 use crate::beginning::{first_harts, first_pool, memory_of};
 use el_base::{Config, HartId, NoMemory};
@@ -74,7 +74,7 @@ impl Engine {
     /// Whether every hart has stopped.
     pub fn over(&self) -> bool
         ensures exact { result ≡ all_stopped (committed_views (parts self.now).harts) }
-        ensures state { (state : ModelState) → IsIn (parts self.now) state → result ≡ is_over state }
+        ensures state { (state : ModelState) → IsInState (parts self.now) state → result ≡ is_over state }
     {
         self.have_stopped()
     }
@@ -96,7 +96,7 @@ impl Engine {
     pub fn hart(&self, hart: HartId) -> HartView
         requires { hart.number < length (parts self.now).harts }
         ensures exact { result ≡ committed_at (parts self.now).harts hart.number }
-        ensures state { (state : ModelState) → IsIn (parts self.now) state →
+        ensures state { (state : ModelState) → IsInState (parts self.now) state →
             result ≡ view_of state.committed hart.number }
     {
         *self.harts[usize::from(hart.number)].committed()
@@ -107,7 +107,7 @@ impl Engine {
     pub fn shown(&self, hart: HartId) -> HartView
         requires { hart.number < length (parts self.now).harts }
         ensures exact { result ≡ present_at (parts self.now).harts hart.number }
-        ensures state { (state : ModelState) → IsIn (parts self.now) state → result ≡ shown_of state hart.number }
+        ensures state { (state : ModelState) → IsInState (parts self.now) state → result ≡ shown_of state hart.number }
     {
         *self.harts[usize::from(hart.number)].shown()
     }
@@ -117,19 +117,19 @@ impl Engine {
     pub fn section_state(&self, hart: HartId) -> &Section
         requires { hart.number < length (parts self.now).harts }
         ensures exact { result.now ≡ (own_at (parts self.now).harts hart.number).section }
-        ensures live { (state : ModelState) → IsIn (parts self.now) state →
+        ensures live { (state : ModelState) → IsInState (parts self.now) state →
             result.now.live ≡ section_of state hart.number }
-        ensures armed { (state : ModelState) → IsIn (parts self.now) state →
+        ensures armed { (state : ModelState) → IsInState (parts self.now) state →
             option_map (λ reserved. reserved.armed) result.now.armed ≡ armed_of state hart.number }
-        ensures keeps { (state : ModelState) → IsIn (parts self.now) state →
+        ensures keeps { (state : ModelState) → IsInState (parts self.now) state →
             KeepsSectionOf (parts self.now).pool state hart.number (section_of state hart.number) result.now }
-        ensures keeps_armed { (state : ModelState) → IsIn (parts self.now) state →
+        ensures keeps_armed { (state : ModelState) → IsInState (parts self.now) state →
             KeepsReserved state.committed hart.number result.now.armed result.now.marks.present }
-        ensures nothing { (state : ModelState) → IsIn (parts self.now) state →
+        ensures nothing { (state : ModelState) → IsInState (parts self.now) state →
             result.now.live ≡ None → result.now.hold.entries ≡ [] }
-        ensures view { (state : ModelState) → IsIn (parts self.now) state →
+        ensures view { (state : ModelState) → IsInState (parts self.now) state →
             committed_of result.now.marks ≡ view_of state.committed hart.number }
-        ensures shown { (state : ModelState) → IsIn (parts self.now) state →
+        ensures shown { (state : ModelState) → IsInState (parts self.now) state →
             result.now.marks.present ≡ shown_of state hart.number }
     {
         self.harts[usize::from(hart.number)].section()
@@ -139,7 +139,7 @@ impl Engine {
     pub fn own(&self, hart: HartId) -> &HartState
         requires { hart.number < length (parts self.now).harts }
         ensures exact { result.now ≡ own_at (parts self.now).harts hart.number }
-        ensures state { (state : ModelState) → IsIn (parts self.now) state →
+        ensures state { (state : ModelState) → IsInState (parts self.now) state →
             HasOwn result.now (hart_of state hart.number) }
     {
         &self.harts[usize::from(hart.number)]
@@ -147,9 +147,9 @@ impl Engine {
 
     /// The byte at an address of committed memory, or none outside it.
     pub fn byte(&self, address: u32) -> Option<u8>
-        requires { Stands (parts self.now) }
+        requires { EngineStands (parts self.now) }
         ensures none_exactly_outside { IsNone result ↔ (holds (parts self.now).span address 1 ≡ false) }
-        ensures committed { (state : ModelState) → IsIn (parts self.now) state →
+        ensures committed { (state : ModelState) → IsInState (parts self.now) state →
             IfSome result (λ byte. byte ≡ byte_in state.committed.base state.committed.bytes address) }
     {
         self.bus.byte(&self.pool, address)
@@ -167,8 +167,8 @@ impl Engine {
     #[tactic(auto, using(crate::proofs::Laws::BusEvents::hart_exists))]
     pub fn request(&self, hart: HartId) -> Asked
         requires hart_exists { hart.number < length (parts self.now).harts }
-        requires stands { Stands (parts self.now) }
-        ensures { (state : ModelState) → IsIn (parts self.now) state →
+        requires stands { EngineStands (parts self.now) }
+        ensures { (state : ModelState) → IsInState (parts self.now) state →
             numbered_asked result ≡ asking (raised_of state hart.number) (ordered_of state hart.number) }
     {
         self.bus.request(hart)
@@ -176,7 +176,7 @@ impl Engine {
 
     /// The bus, with main memory and the caches.
     pub fn bus(&self) -> &Bus
-        ensures { kept result.now ≡ (parts self.now).bus }
+        ensures { bus_state result.now ≡ (parts self.now).bus }
     {
         &self.bus
     }
@@ -193,9 +193,9 @@ impl Engine {
     pub fn next_action(&self, hart: HartId) -> Action
         requires { hart.number < length (parts self.now).harts }
         ensures value { result ≡ next_action (parts self.now) hart.number }
-        ensures state { (state : ModelState) → IsIn (parts self.now) state →
+        ensures state { (state : ModelState) → IsInState (parts self.now) state →
             result ≡ action_of state.committed (shown_of state hart.number) }
-        ensures placed { (state : ModelState) → IsIn (parts self.now) state →
+        ensures placed { (state : ModelState) → IsInState (parts self.now) state →
             IsInPlace (span_of state.committed) (room_of state.committed) result }
         ensures in_place { IsInPlace (parts self.now).span (room_in (parts self.now)) result }
     {

@@ -5,8 +5,8 @@
 //! `step_rules` (which rule a step follows), `cached_step` (one instruction over a hart's cache), `fetch` (what
 //! instructions are fetched from), `rv_flat` (a hart's first view, the output), and on the definition of `el_model`
 //! with its laws. The parts have no state of their own in contracts: each event makes them be in the state that the
-//! definition gives, whatever state they are in before, with the definition's outcome (`IsIn` in `specs/Parts.antt`).
-//! What a call needs of them is one word, `Stands` in `specs/Reached.antt`. Only `make` takes memory. Most instructions
+//! definition gives, whatever state they are in before, with the definition's outcome (`IsInState` in `specs/Parts.antt`).
+//! What a call needs of them is one word, `EngineStands` in `specs/Reached.antt`. Only `make` takes memory. Most instructions
 //! outside of a section touch no memory, and no watch sees them: such a step changes its hart's view alone.
 //!
 //! Where a doc comment names no other source, its rule is this project's profile.

@@ -6,7 +6,7 @@ ghost use Rattle.el_model.specs.Plain.{missed, missed_hart};
 ghost use Rattle.el_model.specs.State.{ModelState, hart_of, with_hart};
 ghost use Rattle.engine.specs.Acting.{MayAct};
 ghost use Rattle.engine.specs.Missing.{MayMiss};
-ghost use Rattle.engine.specs.Parts.{IsIn, parts};
+ghost use Rattle.engine.specs.Parts.{IsInState, parts};
 ghost use Rattle.snoop.specs.Shows.{IsReady, Shows};
 
 use crate::engine::Engine;
@@ -18,7 +18,7 @@ impl Engine {
         requires may { MayMiss (parts self.old) hart.number line.number }
         ensures ready { IsReady (parts self.new).bus }
         ensures state { (from : ModelState) → MayAct (parts self.old) hart.number from →
-            IsIn (parts self.new) (missed from hart.number line.number need).state }
+            IsInState (parts self.new) (missed from hart.number line.number need).state }
         ensures outcome { result ≡ Missed line need }
         ensures memory_stays { (parts self.new).bus.copies.lines ≡ (parts self.old).bus.copies.lines }
     {

@@ -7,8 +7,8 @@ ghost use Rattle.el_base.specs.declared.events.Kind.TheVariants.{Step};
 ghost use Rattle.el_model.specs.Next.{next};
 ghost use Rattle.el_model.specs.State.{ModelState};
 ghost use Rattle.engine.specs.MainMemory.{lines_from};
-ghost use Rattle.engine.specs.Parts.{IsIn, parts};
-ghost use Rattle.engine.specs.Reached.{IsReached, Stands};
+ghost use Rattle.engine.specs.Parts.{IsInState, parts};
+ghost use Rattle.engine.specs.Reached.{IsReached, EngineStands};
 ghost use Rattle.snoop.specs.Shows.{IsReady, Shows, Tells};
 
 use crate::engine::Engine;
@@ -21,18 +21,18 @@ impl Engine {
     #[tactic(auto, unfolding(el_model::specs::Next::next), using(crate::proofs::Laws::BusEvents::hart_exists, crate::proofs::Laws::BusEvents::mode_wins))]
     fn pass_to_bus(&mut self, event: Event) -> Outcome
         requires hart_exists { event.hart.number < length (parts self.old).harts }
-        requires stands { Stands (parts self.old) }
+        requires stands { EngineStands (parts self.old) }
         requires no_step { event.kind ≢ Step }
         ensures ready { IsReady (parts self.new).bus }
         ensures rest_stays { parts self.new ≡
             record (parts self.old) { pool = (parts self.new).pool; bus = (parts self.new).bus } }
-        ensures shows { (state : ModelState) → IsReached state → IsIn (parts self.old) state →
+        ensures shows { (state : ModelState) → IsReached state → IsInState (parts self.old) state →
             Shows (parts self.new).bus (next state event).state }
-        ensures told { (state : ModelState) → IsReached state → IsIn (parts self.old) state →
+        ensures told { (state : ModelState) → IsReached state → IsInState (parts self.old) state →
             Tells (parts self.new).pool (parts self.new).bus (line_of (next state event).state.committed) }
         ensures holds { LeavesHolds (parts self.old).pool (parts self.new).pool }
-        ensures outcome { (state : ModelState) → IsIn (parts self.old) state → result ≡ (next state event).outcome }
-        ensures memory { (state : ModelState) → IsIn (parts self.old) state →
+        ensures outcome { (state : ModelState) → IsInState (parts self.old) state → result ≡ (next state event).outcome }
+        ensures memory { (state : ModelState) → IsInState (parts self.old) state →
             (parts self.new).bus.copies.lines ≡ lines_from state event (parts self.old).bus.copies.lines }
     {
         let policy = ModePolicy {
@@ -52,14 +52,14 @@ impl Engine {
     /// effect.
     pub(crate) fn on_bus(&mut self, event: Event) -> Outcome
         requires hart_exists { event.hart.number < length (parts self.old).harts }
-        requires stands { Stands (parts self.old) }
+        requires stands { EngineStands (parts self.old) }
         requires no_step { event.kind ≢ Step }
         ensures ready { IsReady (parts self.new).bus }
-        ensures state { (state : ModelState) → IsReached state → IsIn (parts self.old) state →
-            IsIn (parts self.new) (next state event).state }
-        ensures outcome { (state : ModelState) → IsReached state → IsIn (parts self.old) state →
+        ensures state { (state : ModelState) → IsReached state → IsInState (parts self.old) state →
+            IsInState (parts self.new) (next state event).state }
+        ensures outcome { (state : ModelState) → IsReached state → IsInState (parts self.old) state →
             result ≡ (next state event).outcome }
-        ensures memory { (state : ModelState) → IsReached state → IsIn (parts self.old) state →
+        ensures memory { (state : ModelState) → IsReached state → IsInState (parts self.old) state →
             (parts self.new).bus.copies.lines ≡ lines_from state event (parts self.old).bus.copies.lines }
     {
         let outcome = self.pass_to_bus(event);

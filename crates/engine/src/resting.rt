@@ -2,8 +2,8 @@
 
 ghost use Rattle.std.specs.Prelude.{◌≡◌, ◌<◌, length};
 ghost use Rattle.el_model.specs.State.{ModelState};
-ghost use Rattle.engine.specs.Parts.{IsIn, parts};
-ghost use Rattle.engine.specs.Reached.{Stands};
+ghost use Rattle.engine.specs.Parts.{IsInState, parts};
+ghost use Rattle.engine.specs.Reached.{EngineStands};
 ghost use Rattle.engine.specs.Resting.{finds_nothing, is_quiet, is_still, waiting_of};
 
 use crate::engine::Engine;
@@ -17,8 +17,8 @@ impl Engine {
     #[tactic(auto, using(crate::proofs::Laws::BusEvents::hart_exists))]
     pub(crate) fn finds_nothing(&self, event: Event) -> bool
         requires hart_exists { event.hart.number < length (parts self.now).harts }
-        requires stands { Stands (parts self.now) }
-        ensures { (state : ModelState) → IsIn (parts self.now) state → result ≡ finds_nothing state event }
+        requires stands { EngineStands (parts self.now) }
+        ensures { (state : ModelState) → IsInState (parts self.now) state → result ≡ finds_nothing state event }
     {
         match event.kind {
             Kind::Step => false,
@@ -34,8 +34,8 @@ impl Engine {
     #[tactic(auto, using(crate::proofs::Laws::BusEvents::hart_exists))]
     pub fn is_quiet(&self, hart: HartId) -> bool
         requires hart_exists { hart.number < length (parts self.now).harts }
-        requires stands { Stands (parts self.now) }
-        ensures { (state : ModelState) → IsIn (parts self.now) state → result ≡ is_quiet state hart.number }
+        requires stands { EngineStands (parts self.now) }
+        ensures { (state : ModelState) → IsInState (parts self.now) state → result ≡ is_quiet state hart.number }
     {
         self.bus.agent(hart).raised().is_none()
             && self.bus.requests().of(hart).is_none()
@@ -47,8 +47,8 @@ impl Engine {
     #[inline(always)]
     pub fn waiting(&self, hart: HartId) -> Option<Outcome>
         requires hart_exists { hart.number < length (parts self.now).harts }
-        requires stands { Stands (parts self.now) }
-        ensures { (state : ModelState) → IsIn (parts self.now) state → result ≡ waiting_of state hart.number }
+        requires stands { EngineStands (parts self.now) }
+        ensures { (state : ModelState) → IsInState (parts self.now) state → result ≡ waiting_of state hart.number }
     {
         let request = self.bus.requests().of(hart)?;
         if self.is_still(hart) {
@@ -63,8 +63,8 @@ impl Engine {
     #[tactic(auto, using(crate::proofs::Laws::BusEvents::hart_exists))]
     fn is_still(&self, hart: HartId) -> bool
         requires hart_exists { hart.number < length (parts self.now).harts }
-        requires stands { Stands (parts self.now) }
-        ensures { (state : ModelState) → IsIn (parts self.now) state → result ≡ is_still state hart.number }
+        requires stands { EngineStands (parts self.now) }
+        ensures { (state : ModelState) → IsInState (parts self.now) state → result ≡ is_still state hart.number }
     {
         let agent = self.bus.agent(hart);
         self.runs(hart) && agent.raised().is_none() && !agent.has_mail()

@@ -5,7 +5,7 @@ ghost use Rattle.el_base.specs.declared.outcomes.Outcome.TheVariants.{RolledBack
 ghost use Rattle.el_model.specs.InSection.{RollsBack, section_turn};
 ghost use Rattle.el_model.specs.State.{ModelState, Section};
 ghost use Rattle.engine.specs.Inside.{FollowsRule, FollowsSomewhere};
-ghost use Rattle.engine.specs.Parts.{IsIn, parts};
+ghost use Rattle.engine.specs.Parts.{IsInState, parts};
 ghost use Rattle.snoop.specs.Shows.{IsReady};
 
 use crate::engine::Engine;
@@ -19,7 +19,7 @@ impl Engine {
         ensures ready { IsReady (parts self.new).bus }
         ensures state { (from : ModelState) (section : Section) →
             FollowsRule (parts self.old) hart.number from section (RollsBack cause) →
-            IsIn (parts self.new) (section_turn from hart.number section).state }
+            IsInState (parts self.new) (section_turn from hart.number section).state }
         ensures outcome { result ≡ RolledBack cause }
         ensures memory_stays { (parts self.new).bus.copies.lines ≡ (parts self.old).bus.copies.lines }
     {

@@ -11,7 +11,7 @@ ghost use Rattle.el_model.specs.State.{ModelState};
 ghost use Rattle.el_model.specs.Upcoming.{next_exchange, touch_of};
 ghost use Rattle.engine.specs.Acting.{ActsOutside, cache_in, next_action, sets_in};
 ghost use Rattle.engine.specs.Outside.{IsItsRule, OutsideSomewhere, RanIn};
-ghost use Rattle.engine.specs.Parts.{IsIn, own_at, parts, present_at, room_in};
+ghost use Rattle.engine.specs.Parts.{IsInState, own_at, parts, present_at, room_in};
 ghost use Rattle.hart_state.specs.Deeds.{ran_own};
 ghost use Rattle.rv_alu.specs.Footprint.{IsInPlace, footprint};
 ghost use Rattle.rv_alu.specs.declared.view.HartStatus.TheVariants.{Running};
@@ -36,7 +36,7 @@ impl Engine {
         requires runs { IsItsRule (parts self.old) hart.number (Runs (touch_of (footprint action))) }
         ensures ready { IsReady (parts self.new).bus }
         ensures state { (from : ModelState) → ActsOutside (parts self.old) hart.number from →
-            IsIn (parts self.new) (by_plain_rule from hart.number (Runs (touch_of (footprint action)))).state }
+            IsInState (parts self.new) (by_plain_rule from hart.number (Runs (touch_of (footprint action)))).state }
         ensures outcome { result ≡ Ran }
         ensures memory_stays { (parts self.new).bus.copies.lines ≡ (parts self.old).bus.copies.lines }
     {

@@ -5,8 +5,8 @@ ghost use Rattle.el_model.specs.Next.{going_turn, next, step_turn};
 ghost use Rattle.el_model.specs.State.{ModelState, has_request, section_of};
 ghost use Rattle.engine.specs.Acting.{MayAct, MayActSomewhere, next_action};
 ghost use Rattle.engine.specs.MainMemory.{lines_from};
-ghost use Rattle.engine.specs.Parts.{IsIn, committed_at, parts, room_in};
-ghost use Rattle.engine.specs.Reached.{IsReached, Stands};
+ghost use Rattle.engine.specs.Parts.{IsInState, committed_at, parts, room_in};
+ghost use Rattle.engine.specs.Reached.{IsReached, EngineStands};
 ghost use Rattle.rv_alu.specs.Footprint.{IsInPlace};
 ghost use Rattle.rv_alu.specs.declared.view.HartStatus.TheVariants.{Running};
 ghost use Rattle.snoop.specs.Shows.{IsReady, Shows};
@@ -23,13 +23,13 @@ impl Engine {
     #[tactic(auto, using(crate::proofs::Laws::NothingFound::resting_outcome, crate::proofs::Laws::NothingFound::resting_lines))]
     pub fn step(&mut self, event: Event) -> Outcome
         requires hart_exists { event.hart.number < length (parts self.old).harts }
-        requires stands { Stands (parts self.old) }
+        requires stands { EngineStands (parts self.old) }
         ensures ready { IsReady (parts self.new).bus }
-        ensures state { (state : ModelState) → IsReached state → IsIn (parts self.old) state →
-            IsIn (parts self.new) (next state event).state }
-        ensures outcome { (state : ModelState) → IsReached state → IsIn (parts self.old) state →
+        ensures state { (state : ModelState) → IsReached state → IsInState (parts self.old) state →
+            IsInState (parts self.new) (next state event).state }
+        ensures outcome { (state : ModelState) → IsReached state → IsInState (parts self.old) state →
             result ≡ (next state event).outcome }
-        ensures memory { (state : ModelState) → IsReached state → IsIn (parts self.old) state →
+        ensures memory { (state : ModelState) → IsReached state → IsInState (parts self.old) state →
             (parts self.new).bus.copies.lines ≡ lines_from state event (parts self.old).bus.copies.lines }
     {
         if self.finds_nothing(event) {
@@ -44,13 +44,13 @@ impl Engine {
     #[tactic(auto, unfolding(el_model::specs::Next::next))]
     fn turn(&mut self, event: Event) -> Outcome
         requires hart_exists { event.hart.number < length (parts self.old).harts }
-        requires stands { Stands (parts self.old) }
+        requires stands { EngineStands (parts self.old) }
         ensures ready { IsReady (parts self.new).bus }
-        ensures state { (state : ModelState) → IsReached state → IsIn (parts self.old) state →
-            IsIn (parts self.new) (next state event).state }
-        ensures outcome { (state : ModelState) → IsReached state → IsIn (parts self.old) state →
+        ensures state { (state : ModelState) → IsReached state → IsInState (parts self.old) state →
+            IsInState (parts self.new) (next state event).state }
+        ensures outcome { (state : ModelState) → IsReached state → IsInState (parts self.old) state →
             result ≡ (next state event).outcome }
-        ensures memory { (state : ModelState) → IsReached state → IsIn (parts self.old) state →
+        ensures memory { (state : ModelState) → IsReached state → IsInState (parts self.old) state →
             (parts self.new).bus.copies.lines ≡ lines_from state event (parts self.old).bus.copies.lines }
     {
         match event.kind {
@@ -62,11 +62,11 @@ impl Engine {
     /// A step of a hart: one that has stopped has nothing to do.
     fn step_of(&mut self, hart: HartId) -> Outcome
         requires hart_exists { hart.number < length (parts self.old).harts }
-        requires stands { Stands (parts self.old) }
+        requires stands { EngineStands (parts self.old) }
         ensures ready { IsReady (parts self.new).bus }
-        ensures state { (state : ModelState) → IsReached state → IsIn (parts self.old) state →
-            IsIn (parts self.new) (step_turn state hart.number).state }
-        ensures outcome { (state : ModelState) → IsReached state → IsIn (parts self.old) state →
+        ensures state { (state : ModelState) → IsReached state → IsInState (parts self.old) state →
+            IsInState (parts self.new) (step_turn state hart.number).state }
+        ensures outcome { (state : ModelState) → IsReached state → IsInState (parts self.old) state →
             result ≡ (step_turn state hart.number).outcome }
         ensures memory_stays { (parts self.new).bus.copies.lines ≡ (parts self.old).bus.copies.lines }
     {
@@ -88,12 +88,12 @@ impl Engine {
     /// A step of a hart that runs: one whose request stands waits for it.
     fn go_on(&mut self, hart: HartId) -> Outcome
         requires hart_exists { hart.number < length (parts self.old).harts }
-        requires stands { Stands (parts self.old) }
+        requires stands { EngineStands (parts self.old) }
         requires running { (committed_at (parts self.old).harts hart.number).status ≡ Running }
         ensures ready { IsReady (parts self.new).bus }
-        ensures state { (state : ModelState) → IsReached state → IsIn (parts self.old) state →
-            IsIn (parts self.new) (step_turn state hart.number).state }
-        ensures outcome { (state : ModelState) → IsReached state → IsIn (parts self.old) state →
+        ensures state { (state : ModelState) → IsReached state → IsInState (parts self.old) state →
+            IsInState (parts self.new) (step_turn state hart.number).state }
+        ensures outcome { (state : ModelState) → IsReached state → IsInState (parts self.old) state →
             result ≡ (step_turn state hart.number).outcome }
         ensures memory_stays { (parts self.new).bus.copies.lines ≡ (parts self.old).bus.copies.lines }
     {
@@ -108,7 +108,7 @@ impl Engine {
     #[tactic(auto, using(crate::proofs::Laws::BusEvents::hart_exists))]
     fn waits(&self, hart: HartId) -> bool
         requires hart_exists { hart.number < length (parts self.now).harts }
-        requires stands { Stands (parts self.now) }
+        requires stands { EngineStands (parts self.now) }
         ensures { (state : ModelState) → Shows (parts self.now).bus state → result ≡ has_request state hart.number }
     {
         match self.bus.request(hart) {
@@ -123,13 +123,13 @@ impl Engine {
     #[tactic(auto, using(crate::proofs::Laws::BusEvents::hart_exists))]
     fn give_up_and_act(&mut self, hart: HartId) -> Outcome
         requires hart_exists { hart.number < length (parts self.old).harts }
-        requires stands { Stands (parts self.old) }
+        requires stands { EngineStands (parts self.old) }
         requires running { (committed_at (parts self.old).harts hart.number).status ≡ Running }
         requires free { (state : ModelState) → Shows (parts self.old).bus state → has_request state hart.number ≡ false }
         ensures ready { IsReady (parts self.new).bus }
-        ensures state { (state : ModelState) → IsReached state → IsIn (parts self.old) state →
-            IsIn (parts self.new) (step_turn state hart.number).state }
-        ensures outcome { (state : ModelState) → IsReached state → IsIn (parts self.old) state →
+        ensures state { (state : ModelState) → IsReached state → IsInState (parts self.old) state →
+            IsInState (parts self.new) (step_turn state hart.number).state }
+        ensures outcome { (state : ModelState) → IsReached state → IsInState (parts self.old) state →
             result ≡ (step_turn state hart.number).outcome }
         ensures memory_stays { (parts self.new).bus.copies.lines ≡ (parts self.old).bus.copies.lines }
     {
@@ -143,7 +143,7 @@ impl Engine {
         requires { MayActSomewhere (parts self.old) hart.number }
         ensures ready { IsReady (parts self.new).bus }
         ensures state { (from : ModelState) → MayAct (parts self.old) hart.number from →
-            IsIn (parts self.new) (going_turn from hart.number (section_of from hart.number)).state }
+            IsInState (parts self.new) (going_turn from hart.number (section_of from hart.number)).state }
         ensures outcome { (from : ModelState) → MayAct (parts self.old) hart.number from →
             result ≡ (going_turn from hart.number (section_of from hart.number)).outcome }
         ensures memory_stays { (parts self.new).bus.copies.lines ≡ (parts self.old).bus.copies.lines }

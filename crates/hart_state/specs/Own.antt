@@ -8,7 +8,7 @@ use Rattle.section_ctl.specs.Calls.{idle_state}
 use Rattle.section_ctl.specs.State.{SectionState}
 
 -- the part of a hart that no other hart ever asks for; each field but the first is the one of this name of the definition's hart
-pub record Own : Type 0 where
+pub record OwnState : Type 0 where
   pub section : SectionState  -- its live or its armed section or neither, with its views and its buffered stores
   pub last_lr : Option ℕ  -- the pc of the last LR that it ran outside of a section, or that was let go
   pub predictor : Predictor
@@ -16,7 +16,7 @@ pub record Own : Type 0 where
   pub tries : ℕ
 
 -- it is that of the definition's hart
-pub record HasOwn (own : Own) (hart : Hart) : Type 0 where
+pub record HasOwn (own : OwnState) (hart : Hart) : Type 0 where
   pub section : own.section.live ≡ hart.section
   pub armed : option_map (λ reserved. reserved.armed) own.section.armed ≡ hart.armed
   pub last_lr : own.last_lr ≡ hart.last_lr
@@ -25,7 +25,7 @@ pub record HasOwn (own : Own) (hart : Hart) : Type 0 where
   pub tries : own.tries ≡ hart.tries
 
 -- before its first event, with a view and with room for stores to so many lines, whose slots are those of this owner
-abbrev pub new_own : HartView → ℕ → ℕ → Own
+abbrev pub new_own : HartView → ℕ → ℕ → OwnState
 new_own view lines owner = record {
   section = idle_state view (record { limit = lines; owner = owner; entries = [] });
   last_lr = None;
@@ -36,5 +36,5 @@ new_own view lines owner = record {
 
 -- the pc of the committed view: outside of a section that of the next instruction, inside of one that of the swap or the LR that it
 -- begins with
-abbrev pub committed_pc : Own → ℕ
+abbrev pub committed_pc : OwnState → ℕ
 committed_pc own = (committed_of own.section.marks).pc

@@ -56,9 +56,9 @@ pub struct HartState {
 
 impl Model for HartState {
     ghost use Rattle.std.specs.Prelude.{◌<◌};
-    ghost use Rattle.hart_state.specs.Own.{Own};
+    ghost use Rattle.hart_state.specs.Own.{OwnState};
 
-    ghost Value = { Own };
+    ghost Value = { OwnState };
 
     ghost view = { λ s. record {
       section = s.section;

@@ -43,7 +43,7 @@ use Rattle.lab.specs.declared.lines.Fact.{Fact}
 use Rattle.lab.specs.declared.lines.LineFact.TheVariants.{Lost, Owner}
 use Rattle.machine.proofs.Laws.Continued.{state_of_continued}
 use Rattle.machine.specs.Story.{Story, continued, state_of}
-use Rattle.snoop.specs.Shows.{Kept, Shows}
+use Rattle.snoop.specs.Shows.{BusState, Shows}
 
 -- a line that was new is seen from then on
 pub line_seen_more : {S : Type 0} (lines : List LineAddr) (old new : HashSet ℕ S) (line : LineAddr) (number : ℕ) → AreSeenLines lines old →
@@ -251,7 +251,7 @@ lines_told before after event outcome place asked old later goes told at was is 
     (λ losers freed served. was (served_is_serve (state_of before) event losers freed served)))
 
 -- what would leave a hart's cache, as the machine shows it
-pub leaving_told : (bus : Kept) (state : ModelState) (sets : Slotted) (h line : ℕ) → Shows bus state →
+pub leaving_told : (bus : BusState) (state : ModelState) (sets : Slotted) (h line : ℕ) → Shows bus state →
     sets ≡ slotted_at bus.copies.caches h → h < length bus.agents →
     if_dirty sets.residency (leaving_line sets.ways sets.residency line)
     ≡ if_dirty (cache_of state h) (leaving_line state.config.ways (cache_of state h) line)

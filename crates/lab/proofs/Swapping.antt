@@ -15,7 +15,7 @@ use Rattle.el_model.specs.State.{ModelState, armed_of, begin, hart_of, section_o
 use Rattle.el_model.specs.Upcoming as model
 use Rattle.engine.proofs.Laws.Places.{keeps_place}
 use Rattle.engine.proofs.Laws.Swaps.{swap_action}
-use Rattle.hart_state.specs.Own.{HasOwn, Own}
+use Rattle.hart_state.specs.Own.{HasOwn, OwnState}
 use Rattle.lab.specs.Swaps.{as_plain, first_no, if_ran, next_plain, swaps_in, why_not}
 use Rattle.lab.specs.declared.swaps.NotElided.{NotElided}
 use Rattle.lab.specs.declared.swaps.PlainSwap.{PlainSwap}
@@ -126,7 +126,7 @@ config_is story =
     (begin story.program story.config) (events story.entries) refl
 
 -- why a hart's next swap is not elided, by what the machine shows of it
-pub why_told : (story : Story) (h : ℕ) (config : Config) (own : Own) (fallback : Bool) (confidence pc : ℕ) → config ≡ story.config →
+pub why_told : (story : Story) (h : ℕ) (config : Config) (own : OwnState) (fallback : Bool) (confidence pc : ℕ) → config ≡ story.config →
     HasOwn own (hart_of (state_of story) h) → fallback ≡ own.fallback → confidence ≡ confidence_of own.predictor pc →
     pc ≡ (view_of (state_of story).committed h).pc → first_no config.mode fallback confidence ≡ why_not (state_of story) h
 why_told story h config own fallback confidence pc configured has falls trusted at =

@@ -3,12 +3,12 @@ use Rattle.std.proofs.Common.{◌≡◌, ◌∙◌, ℕ, ◌<◌, ◌==◌, leng
 use Rattle.std.specs.Prelude.{IsSome, find, option_map}
 use Rattle.chronicle.specs.Chronicle.{events}
 use Rattle.el_model.specs.State.{Armed, ModelState, Section, armed_of, cache_of, section_of}
-use Rattle.engine.specs.Parts.{IsIn, IsOfHart, KeepsReserved, KeepsSection, KeepsSectionOf, Parts, StandsAs, own_at}
-use Rattle.hart_state.specs.Own.{Own}
+use Rattle.engine.specs.Parts.{IsInState, IsOfHart, KeepsReserved, KeepsSection, KeepsSectionOf, Parts, StandsAs, own_at}
+use Rattle.hart_state.specs.Own.{OwnState}
 use Rattle.line_pool.specs.Pooled.{Pooled}
 use Rattle.machine.proofs.GoesOn.{reached_committed}
 use Rattle.machine.specs.Lending.{LendsSection, LendsState, TellsRun}
-use Rattle.machine.specs.Stands.{IsGiven, Stands}
+use Rattle.machine.specs.Stands.{IsGiven, MachineStands}
 use Rattle.machine.specs.Story.{Story, committed, state_of}
 use Rattle.reg_mark.specs.declared.marked.Marked.{Marked}
 use Rattle.residency.specs.Residency.{Way}
@@ -33,21 +33,21 @@ covered_in : (story : Story) (room h : ℕ) (section : Section) → IsGiven stor
 covered_in story room h section given live =
     live_sections_run_covered story.program story.config (events story.entries) h section given.bytes live
 
-pub runs_covered : (story now : Story) (parts : Parts) (room h : ℕ) (section : Section) → Stands story parts room → story ≡ now →
+pub runs_covered : (story now : Story) (parts : Parts) (room h : ℕ) (section : Section) → MachineStands story parts room → story ≡ now →
     section_of (state_of now) h ≡ Some section → IsCoveredRun (committed now) h (cache_of (state_of now) h) section
 runs_covered story now parts room h section stands same live =
     subst (λ flat. IsCoveredRun flat h (cache_of (state_of now) h) section) (reached_committed story now parts room stands same)
     (covered_in now room h section (subst (λ s. IsGiven s room) same stands.given) live)
 
 -- an armed section's run is one, it is short, and its hart has no live one
-pub runs_armed : (story now : Story) (parts : Parts) (room h : ℕ) (armed : Armed) → Stands story parts room → story ≡ now →
+pub runs_armed : (story now : Story) (parts : Parts) (room h : ℕ) (armed : Armed) → MachineStands story parts room → story ≡ now →
     armed_of (state_of now) h ≡ Some armed → IsArmedRun (committed now) h (cache_of (state_of now) h) armed
 runs_armed story now parts room h armed stands same is =
     let given = subst (λ s. IsGiven s room) same stands.given in
     subst (λ flat. IsArmedRun flat h (cache_of (state_of now) h) armed) (reached_committed story now parts room stands same)
     (armed_sections_run_covered now.program now.config (events now.entries) h armed given.bytes is)
 
-pub armed_short : (story now : Story) (parts : Parts) (room h : ℕ) (armed : Armed) → Stands story parts room → story ≡ now →
+pub armed_short : (story now : Story) (parts : Parts) (room h : ℕ) (armed : Armed) → MachineStands story parts room → story ≡ now →
     armed_of (state_of now) h ≡ Some armed → IsShortArmed now.config.long armed
 armed_short story now parts room h armed stands same is =
     let given = subst (λ s. IsGiven s room) same stands.given in
@@ -60,7 +60,7 @@ armed_alone now h (Some armed) is some =
     no_hart_is_live_and_armed now.program now.config (events now.entries) h (section_ctl.armed_of armed) (sym is)
 
 -- the view that is kept of it tells its run
-pub keeps_armed : (story now : Story) (parts : Parts) (room h : ℕ) (reserved : Reserved) (kept : SectionState) → Stands story parts room →
+pub keeps_armed : (story now : Story) (parts : Parts) (room h : ℕ) (reserved : Reserved) (kept : SectionState) → MachineStands story parts room →
     story ≡ now → KeepsReserved (state_of now).committed h kept.armed kept.marks.present → kept.armed ≡ Some reserved →
     KeepsArmed (committed now) h reserved.armed reserved.old kept.marks.present
 keeps_armed story now parts room h reserved kept stands same keeps is =
@@ -68,7 +68,7 @@ keeps_armed story now parts room h reserved kept stands same keeps is =
     (subst (λ r. KeepsReserved (state_of now).committed h r kept.marks.present) is keeps)
 
 -- and it is no longer than it may be
-pub runs_short : (story now : Story) (parts : Parts) (room h : ℕ) (section : Section) → Stands story parts room → story ≡ now →
+pub runs_short : (story now : Story) (parts : Parts) (room h : ℕ) (section : Section) → MachineStands story parts room → story ≡ now →
     section_of (state_of now) h ≡ Some section → IsSectionShort now.config.long section
 runs_short story now parts room h section stands same live =
     let given = subst (λ s. IsGiven s room) same stands.given in
@@ -80,7 +80,7 @@ pub kept_of : (pool : Pooled) (state : ModelState) (h : ℕ) (section : Section)
 kept_of pool state h section kept keeps live = subst (λ s. KeepsSectionOf pool state h s kept) live keeps
 
 pub tells_run : (pool : Pooled) (story now : Story) (parts : Parts) (room h : ℕ) (section : Section) (kept : SectionState) →
-    Stands story parts room → story ≡ now → KeepsSectionOf pool (state_of now) h (section_of (state_of now) h) kept →
+    MachineStands story parts room → story ≡ now → KeepsSectionOf pool (state_of now) h (section_of (state_of now) h) kept →
     section_of (state_of now) h ≡ Some section → TellsRun pool (state_of now) (committed now) h section kept
 tells_run pool story now parts room h section kept stands same keeps live =
     let state = state_of now in
@@ -118,7 +118,7 @@ nothing_held marks hold None (Some reserved) stands none = stands.empty
 nothing_held marks hold (Some section) armed stands none = absurd (cc)
 
 -- the pool of the parts lends the section of each hart
-pub lends_section : (pool : Pooled) (state : ModelState) (h : ℕ) (own : Own) → IsOfHart pool state h own →
+pub lends_section : (pool : Pooled) (state : ModelState) (h : ℕ) (own : OwnState) → IsOfHart pool state h own →
     LendsSection pool state h own.section
 lends_section pool state h own is = record {
   owner = is.owner;
@@ -129,7 +129,7 @@ lends_section pool state h own is = record {
 }
 
 -- and all that the state says
-pub lends_state : (parts : Parts) (state : ModelState) → IsIn parts state → LendsState parts.pool state
+pub lends_state : (parts : Parts) (state : ModelState) → IsInState parts state → LendsState parts.pool state
 lends_state parts state is_in = record {
   bus = parts.bus;
   shows = is_in.shows;
@@ -139,7 +139,7 @@ lends_state parts state is_in = record {
 }
 
 -- that of one hart
-pub lent_here : (parts : Parts) (state : ModelState) (h : ℕ) (kept : SectionState) → IsIn parts state → h < length parts.harts →
+pub lent_here : (parts : Parts) (state : ModelState) (h : ℕ) (kept : SectionState) → IsInState parts state → h < length parts.harts →
     kept ≡ (own_at parts.harts h).section → LendsSection parts.pool state h kept
 lent_here parts state h kept is_in there is =
     subst (λ s. LendsSection parts.pool state h s) (sym is) (lends_section parts.pool state h (own_at parts.harts h) (is_in.harts h there))

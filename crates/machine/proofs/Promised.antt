@@ -11,7 +11,7 @@ use Rattle.el_model.specs.Next.{next}
 use Rattle.engine.specs.Parts.{Parts}
 use Rattle.machine.proofs.Laws.Continued.{state_of_continued}
 use Rattle.machine.specs.Promises.{Change, EndsAreNamed, EndsIt, HeadOfLeastIsServed, KeepsPromises, OthersAreUntouched, ReleasesTakeEffect, change}
-use Rattle.machine.specs.Stands.{IsGiven, Stands}
+use Rattle.machine.specs.Stands.{IsGiven, MachineStands}
 use Rattle.machine.specs.Story.{Story, continued, state_of}
 use Rattle.progress_laws.proofs.Laws.LineOfLeast.{line_of_least_stamp_moves_on}
 use Rattle.removal_laws.proofs.Laws.Beating.{losers_lose_to_earlier}
@@ -68,7 +68,7 @@ keeps story room event given = record {
 }
 
 -- and so does the machine that makes it
-pub kept_by : (story now later : Story) (parts : Parts) (room : ℕ) (event : Event) (outcome : Outcome) → Stands story parts room → story ≡ now →
+pub kept_by : (story now later : Story) (parts : Parts) (room : ℕ) (event : Event) (outcome : Outcome) → MachineStands story parts room → story ≡ now →
     later ≡ continued now (event ∷ []) → outcome ≡ (next (state_of now) event).outcome → KeepsPromises now.config (change now event outcome later)
 kept_by story now later parts room event outcome stands same more told =
     subst (λ o. KeepsPromises now.config (change now event o later)) (sym told)

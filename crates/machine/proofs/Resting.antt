@@ -9,22 +9,22 @@ use Rattle.el_model.specs.Next.{is_over, next, state_after}
 use Rattle.el_model.specs.State.{ModelState, Turn}
 use Rattle.engine.proofs.Laws.NothingFound.{quiet_each}
 use Rattle.engine.proofs.Laws.Waiting.{nothing_leaves, waits_as, waits_throughout}
-use Rattle.engine.specs.Parts.{IsIn, Parts}
+use Rattle.engine.specs.Parts.{IsInState, Parts}
 use Rattle.engine.specs.Resting.{Leaves, finds_nothing, is_quiet, waiting_of}
 use Rattle.machine.proofs.GoesOn.{stands_on}
 use Rattle.machine.proofs.Laws.Continued.{continued_more, state_of_continued}
 use Rattle.machine.specs.Resting.{bus_events, turn_events}
 use Rattle.progress_laws.proofs.Laws.Over.{over_stopped}
-use Rattle.machine.specs.Stands.{Stands}
+use Rattle.machine.specs.Stands.{MachineStands}
 use Rattle.machine.specs.Story.{Story, continued, left_of, state_of}
 
 -- a machine stands after an event that leaves all as it is
-pub stands_left : (story : Story) (parts : Parts) (room : ℕ) (event : Event) (outcome : Outcome) → Stands story parts room →
+pub stands_left : (story : Story) (parts : Parts) (room : ℕ) (event : Event) (outcome : Outcome) → MachineStands story parts room →
     event.hart.number < story.config.harts → 1 ≤ left_of story → Leaves (state_of story) event outcome →
-    Stands (record story { entries = story.entries ++ record { event = event; outcome = outcome } ∷ [] }) parts room
+    MachineStands (record story { entries = story.entries ++ record { event = event; outcome = outcome } ∷ [] }) parts room
 stands_left story parts room event outcome stands below left leaves =
     stands_on story parts parts room event outcome stands below left stands.ready
-    (subst (λ (turn : Turn). IsIn parts turn.state) (sym leaves.turn) stands.is_in)
+    (subst (λ (turn : Turn). IsInState parts turn.state) (sym leaves.turn) stands.is_in)
     (ap (λ (turn : Turn). turn.outcome) (sym leaves.turn))
     (leaves.lines parts.bus.copies.lines)
 

@@ -8,7 +8,7 @@ use Rattle.machine.specs.Promises.{ShowsStoresOverMemory}
 use Rattle.rv_flat.specs.FlatState.{FlatState}
 use Rattle.section_ctl.specs.State.{SectionState, hold_in}
 use Rattle.section_view.specs.KeptRun.{KeepsRun}
-use Rattle.snoop.specs.Shows.{Kept, Shows, Tells}
+use Rattle.snoop.specs.Shows.{BusState, Shows, Tells}
 use Rattle.write_hold.specs.Slotted.{IsLent}
 
 -- the section of a hart, its stores being in slots of the pool: as many as are out of their owner
@@ -21,7 +21,7 @@ pub record LendsSection (pool : Pooled) (state : ModelState) (h : ℕ) (kept : S
 
 -- main memory and caches, whose copies have their bytes in slots of the pool, as many as are out of their owners, and each hart's section
 pub record LendsState (pool : Pooled) (state : ModelState) : Type 0 where
-  pub bus : Kept
+  pub bus : BusState
   pub shows : Shows bus state
   pub told : Tells pool bus (line_of state.committed)
   pub sections : ℕ → SectionState

@@ -5,7 +5,7 @@ use Rattle.el_base.specs.Config.{IsInRange}
 use Rattle.el_model.specs.Next.{entries_from}
 use Rattle.el_model.specs.State.{begin}
 use Rattle.elf_image.specs.Program.{IsProgram}
-use Rattle.engine.specs.Parts.{IsIn, Parts}
+use Rattle.engine.specs.Parts.{IsInState, Parts}
 use Rattle.machine.specs.MainMemory.{main_lines}
 use Rattle.machine.specs.Story.{Story, state_of}
 use Rattle.rv_flat.specs.Memory.{AreBytes}
@@ -24,9 +24,9 @@ pub record IsGiven (story : Story) (room : ℕ) : Type 0 where
 
 -- its bus is ready, its parts are in the state after these events, with main memory as they have left it, and the entries are those of
 -- the definition
-pub record Stands (story : Story) (parts : Parts) (room : ℕ) : Type 0 where
+pub record MachineStands (story : Story) (parts : Parts) (room : ℕ) : Type 0 where
   pub given : IsGiven story room
   pub ready : IsReady parts.bus
-  pub is_in : IsIn parts (state_of story)
+  pub is_in : IsInState parts (state_of story)
   pub memory : parts.bus.copies.lines ≡ main_lines story
   pub entries : story.entries ≡ entries_from (begin story.program story.config) (events story.entries)

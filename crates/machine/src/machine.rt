@@ -65,7 +65,7 @@ ghost use Rattle.section_ctl.specs.State as sections;
 ghost use Rattle.section_laws.specs.EachHart.{IsShortArmed};
 ghost use Rattle.section_view.specs.KeptRun.{HoldsMarked, KeepsArmed};
 ghost use Rattle.snoop.specs.Asking.{asking, numbered_asked};
-ghost use Rattle.snoop.specs.Shows.{IsReady, Shows, Tells, kept};
+ghost use Rattle.snoop.specs.Shows.{IsReady, Shows, Tells, bus_state};
 ghost use Rattle.step_laws.specs.Counts.{IsSectionShort};
 
 use crate::fault::MakeFault;
@@ -93,7 +93,7 @@ pub struct Machine {
 
 impl Model for Machine {
     ghost use Rattle.engine.specs.Parts.{parts};
-    ghost use Rattle.machine.specs.Stands.{Stands};
+    ghost use Rattle.machine.specs.Stands.{MachineStands};
     ghost use Rattle.machine.specs.Story.{Story};
 
     ghost Value = { Story };
@@ -101,7 +101,7 @@ impl Model for Machine {
     ghost view = { λ m. record { program = m.image; config = m.config; entries = m.history.entries } };
 
     ghost invariant = { λ m.
-        Stands (record { program = m.image; config = m.config; entries = m.history.entries })
+        MachineStands (record { program = m.image; config = m.config; entries = m.history.entries })
         (parts m.engine) m.history.places };
 }
 
@@ -394,10 +394,10 @@ impl Machine {
     /// Main memory has the program's bytes, and over them each line that was written back. What the copies tell is said
     /// by `lent`, since their bytes are in the pool.
     pub fn bus(&self) -> &Bus
-        ensures harts { length (kept result.now).agents ≡ self.now.config.harts }
-        ensures ready { IsReady (kept result.now) }
-        ensures shows { Shows (kept result.now) (state_of self.now) }
-        ensures memory { (kept result.now).copies.lines ≡ main_lines self.now }
+        ensures harts { length (bus_state result.now).agents ≡ self.now.config.harts }
+        ensures ready { IsReady (bus_state result.now) }
+        ensures shows { Shows (bus_state result.now) (state_of self.now) }
+        ensures memory { (bus_state result.now).copies.lines ≡ main_lines self.now }
     {
         self.engine.bus()
     }
@@ -415,9 +415,9 @@ impl Machine {
     /// Copies and main memory tell the committed bytes of each line, and the stores are those of the section.
     pub fn lent(&self, hart: HartId) -> Lent<'_>
         requires { hart.number < self.now.config.harts }
-        ensures ready { IsReady (kept result.bus.now) }
-        ensures shows { Shows (kept result.bus.now) (state_of self.now) }
-        ensures told { Tells result.pool.now (kept result.bus.now) (line_of (committed self.now)) }
+        ensures ready { IsReady (bus_state result.bus.now) }
+        ensures shows { Shows (bus_state result.bus.now) (state_of self.now) }
+        ensures told { Tells result.pool.now (bus_state result.bus.now) (line_of (committed self.now)) }
         ensures section { LendsSection result.pool.now (state_of self.now) hart.number result.section.now }
         ensures run { (section : model.Section) → result.section.now.live ≡ Some section →
             TellsRun result.pool.now (state_of self.now) (committed self.now) hart.number section result.section.now }

@@ -23,7 +23,7 @@ use Rattle.rv_flat.specs.FlatState.{start}
 use Rattle.snoop.proofs.Lent.{no_pool, residency_at, ways_at}
 use Rattle.snoop.proofs.Laws.Living.{TellsSection}
 use Rattle.snoop.specs.Agent.{agent_at, agent_of, new_agent}
-use Rattle.snoop.specs.Shows.{IsReady, Kept, Shows}
+use Rattle.snoop.specs.Shows.{IsReady, BusState, Shows}
 
 -- a hart of those that are new, and what has its number elsewhere
 abbrev hart_in : ℕ → ℕ → ℕ → Hart
@@ -52,7 +52,7 @@ none_live (suc harts) sets zero = record { live = rw (unmarked-empty sets) refl;
 none_live (suc harts) sets (suc h) = none_live harts sets h
 
 -- the parts of the bus before the first event
-pub record IsNew (program : Program) (config : Config) (bus : Kept) : Type 0 where
+pub record IsNew (program : Program) (config : Config) (bus : BusState) : Type 0 where
   pub mode : bus.mode ≡ config.mode
   pub agents : bus.agents ≡ replicate config.harts new_agent
   pub caches : lent_all no_pool bus.copies.caches ≡ replicate config.harts (empty_cached config.ways config.sets)
@@ -60,14 +60,14 @@ pub record IsNew (program : Program) (config : Config) (bus : Kept) : Type 0 whe
   pub first : bus.copies.first * LINE_BYTES ≡ program.base
   pub lines : length bus.copies.lines * LINE_BYTES ≡ length program.bytes
 
-count_agents : (program : Program) (config : Config) (bus : Kept) → IsNew program config bus → length bus.agents ≡ config.harts
+count_agents : (program : Program) (config : Config) (bus : BusState) → IsNew program config bus → length bus.agents ≡ config.harts
 count_agents program config bus new = ap length new.agents ∙ length-replicate config.harts new_agent
 
-count_caches : (program : Program) (config : Config) (bus : Kept) → IsNew program config bus → length bus.copies.caches ≡ config.harts
+count_caches : (program : Program) (config : Config) (bus : BusState) → IsNew program config bus → length bus.copies.caches ≡ config.harts
 count_caches program config bus new =
     sym (length-lent no_pool bus.copies.caches) ∙ ap length new.caches ∙ length-replicate config.harts (empty_cached config.ways config.sets)
 
-pub shows_first : (program : Program) (config : Config) (bus : Kept) → program.harts ≡ config.harts → IsNew program config bus →
+pub shows_first : (program : Program) (config : Config) (bus : BusState) → program.harts ≡ config.harts → IsNew program config bus →
     Shows bus (begin program config)
 unfolding begin start
 shows_first program config bus one_each new = record {
@@ -97,7 +97,7 @@ some_sets (suc sets) is = omega arith
 few_harts : (harts : ℕ) → allows Harts harts ≡ true → harts ≤ 8
 few_harts harts is = grind (arith, nat_tests)
 
-pub ready_first : (program : Program) (config : Config) (bus : Kept) → IsInRange config → IsNew program config bus → IsReady bus
+pub ready_first : (program : Program) (config : Config) (bus : BusState) → IsInRange config → IsNew program config bus → IsReady bus
 ready_first program config bus in_range new = record {
   few = omega (arith, count_agents program config bus new, few_harts config.harts (ranges config in_range).harts);
   each = count_caches program config bus new ∙ sym (count_agents program config bus new);

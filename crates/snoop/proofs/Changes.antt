@@ -10,7 +10,7 @@ use Rattle.snoop.proofs.Ready.{ready_after}
 use Rattle.snoop.proofs.Showing.{agent_other, agent_same, count_with_agent}
 use Rattle.snoop.specs.Agent.{Agent, agent_at}
 use Rattle.snoop.specs.Changing.{AreHartsChanged, ClearedIf, ClearsIf, IsHartChanged, StaysLent, cleared_if}
-use Rattle.snoop.specs.Shows.{Holding, IsReady, Kept, has_room_in}
+use Rattle.snoop.specs.Shows.{Holding, IsReady, BusState, has_room_in}
 
 -- what one hart leaves of the copies
 kept_cache : (old new : Slotted) → new ≡ old → ClearedIf false old new
@@ -47,7 +47,7 @@ kept_then_cleared clears old mid new first second = record {
   residency = second.residency ∙ ap (cleared_if clears) first.residency;
 }
 
-pub no_hart_changed : (becomes : ℕ → Agent → Agent) (clears : ℕ → Bool) (bus : Kept) → AreHartsChanged becomes clears 0 bus bus
+pub no_hart_changed : (becomes : ℕ → Agent → Agent) (clears : ℕ → Bool) (bus : BusState) → AreHartsChanged becomes clears 0 bus bus
 no_hart_changed becomes clears bus = record {
   mode = refl;
   order = refl;
@@ -60,7 +60,7 @@ no_hart_changed becomes clears bus = record {
   other_caches = λ h from. record { ways = refl; residency = refl };
 }
 
-pub one_hart_changed : (becomes : ℕ → Agent → Agent) (clears : ℕ → Bool) (h : ℕ) (old mid new : Kept) →
+pub one_hart_changed : (becomes : ℕ → Agent → Agent) (clears : ℕ → Bool) (h : ℕ) (old mid new : BusState) →
     AreHartsChanged becomes clears h old mid →
     IsHartChanged (becomes h) (clears h) h mid new → h < length mid.agents → AreHartsChanged becomes clears (h + 1) old new
 one_hart_changed becomes clears h old mid new below at inside = record {
@@ -97,7 +97,7 @@ one_hart_changed becomes clears h old mid new below at inside = record {
         ∙ ap (becomes h) (below.other_agents h (omega arith))
 
 -- of any hart, those past the last one too
-pub any_ways : {becomes : ℕ → Agent → Agent} {clears : ℕ → Bool} {number : ℕ} {old new : Kept} →
+pub any_ways : {becomes : ℕ → Agent → Agent} {clears : ℕ → Bool} {number : ℕ} {old new : BusState} →
     AreHartsChanged becomes clears number old new → (h : ℕ) →
     (slotted_at new.copies.caches h).ways ≡ (slotted_at old.copies.caches h).ways
 any_ways {becomes} {clears} {number} {old} {new} changed h = elim (cases_lt h number) [
@@ -105,7 +105,7 @@ any_ways {becomes} {clears} {number} {old} {new} changed h = elim (cases_lt h nu
   | inr past ↦ (changed.other_caches h past).ways
 ]
 
-any_kept : {A : Type 0} (f : Agent → A) {becomes : ℕ → Agent → Agent} {clears : ℕ → Bool} {number : ℕ} {old new : Kept} →
+any_kept : {A : Type 0} (f : Agent → A) {becomes : ℕ → Agent → Agent} {clears : ℕ → Bool} {number : ℕ} {old new : BusState} →
     AreHartsChanged becomes clears number old new → ((h : ℕ) (agent : Agent) → f (becomes h agent) ≡ f agent) → (h : ℕ) →
     f (agent_at new.agents h) ≡ f (agent_at old.agents h)
 any_kept f {becomes} {clears} {number} {old} {new} changed keeps h = elim (cases_lt h number) [
@@ -114,7 +114,7 @@ any_kept f {becomes} {clears} {number} {old} {new} changed keeps h = elim (cases
 ]
 
 -- no request is new, and each cache has as much room as before
-pub changed_ready : {becomes : ℕ → Agent → Agent} {clears : ℕ → Bool} {number : ℕ} {old new : Kept} →
+pub changed_ready : {becomes : ℕ → Agent → Agent} {clears : ℕ → Bool} {number : ℕ} {old new : BusState} →
     AreHartsChanged becomes clears number old new →
     ((h : ℕ) (agent : Agent) → (becomes h agent).raised ≡ agent.raised) →
     ((h : ℕ) (agent : Agent) → agent.armed ≤ 15 → (becomes h agent).armed ≤ 15) → IsReady old → IsReady new

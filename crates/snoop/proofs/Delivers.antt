@@ -14,7 +14,7 @@ use Rattle.el_model.proofs.Laws.Harts.{hart_of-with_hart_same}
 use Rattle.mail.specs.Mailbox.{Message, Probe, oldest, posted, without_oldest}
 use Rattle.snoop.specs.Agent.{Agent, agent_at, agent_behind, agent_posted, agent_taken, with_agent}
 use Rattle.snoop.specs.Delivering.{marker_taken, numbers_from, passed_on, passes, posts_sent, probe_sent, probes_sent}
-use Rattle.snoop.specs.Shows.{IsReady, Kept, Shows}
+use Rattle.snoop.specs.Shows.{IsReady, BusState, Shows}
 use Rattle.snoop.proofs.Ready.{ready_agent}
 use Rattle.snoop.proofs.Sent.{agent_kept}
 use Rattle.snoop.proofs.Showing.{count_with_agent, shows_agent}
@@ -42,7 +42,7 @@ twice_there state h first then_ =
     ]
 
 -- messages that are posted, one after another
-pub shows_posts : (messages : List Message) (bus : Kept) (state : ModelState) (to : ℕ) → Shows bus state →
+pub shows_posts : (messages : List Message) (bus : BusState) (state : ModelState) (to : ℕ) → Shows bus state →
     Shows (record bus { agents = posts_sent messages to bus.agents }) (post_to state to messages)
 shows_posts [] bus state to shows = subst (Shows bus) (sym (same_hart_there state to)) shows
 shows_posts (message ∷ messages) bus state to shows =
@@ -54,7 +54,7 @@ shows_posts (message ∷ messages) bus state to shows =
     (record (hart_of state to) { mail = posted (hart_of state to).mail message }) shows
     (ap (agent_posted message) (shows.agents to)) refl refl refl))
 
-pub ready_posts : (messages : List Message) (bus : Kept) (to : ℕ) → IsReady bus → IsReady (record bus { agents = posts_sent messages to bus.agents })
+pub ready_posts : (messages : List Message) (bus : BusState) (to : ℕ) → IsReady bus → IsReady (record bus { agents = posts_sent messages to bus.agents })
 ready_posts [] bus to ready = ready
 ready_posts (message ∷ messages) bus to ready =
     ready_posts messages (record bus { agents = with_agent bus.agents to (agent_posted message (agent_at bus.agents to)) }) to
@@ -102,7 +102,7 @@ count_after_probe true origin to agents = count_with_agent agents to _
 count_after_probe false origin to agents = refl
 
 -- what a hart passes on
-passed_same : (bus : Kept) (state : ModelState) (h to : ℕ) (own : Option Request) → Shows bus state →
+passed_same : (bus : BusState) (state : ModelState) (h to : ℕ) (own : Option Request) → Shows bus state →
     passed_on bus h to own ≡ map Probe (told_on state h to own)
 passed_same bus state h to None shows = refl
 passed_same bus state h to (Some own) shows =
@@ -111,7 +111,7 @@ passed_same bus state h to (Some own) shows =
     ∙ ap (λ numbers. map Probe (filter (passes (hart_of state h).told state.order to own.line) numbers))
     (ap (numbers_from 0) shows.agent_each ∙ all_numbers 0 state.harts)
 
-pub marker_shows : (bus : Kept) (state : ModelState) (h sender : ℕ) → Shows bus state →
+pub marker_shows : (bus : BusState) (state : ModelState) (h sender : ℕ) → Shows bus state →
     Shows (record bus { agents = marker_taken bus h sender }) (after_marker state h sender)
 marker_shows bus state h sender shows =
     subst (λ messages. Shows (record bus { agents = marker_taken bus h sender }) (post_to behind sender (Probe h ∷ messages)))
@@ -124,14 +124,14 @@ marker_shows bus state h sender shows =
     behind : ModelState
     behind = with_hart state h (record (hart_of state h) { upstream = included (hart_of state h).upstream sender })
 
-pub marker_ready : (bus : Kept) (h sender : ℕ) → IsReady bus → IsReady (record bus { agents = marker_taken bus h sender })
+pub marker_ready : (bus : BusState) (h sender : ℕ) → IsReady bus → IsReady (record bus { agents = marker_taken bus h sender })
 marker_ready bus h sender ready =
     ready_posts (Probe h ∷ passed_on bus h sender (request_of bus.order h))
     (record bus { agents = with_agent bus.agents h (agent_behind sender (agent_at bus.agents h)) }) sender
     (ready_agent bus h (agent_behind sender (agent_at bus.agents h)) ready (λ request is. is) (ready.few_armed h))
 
 -- what the bus keeps as some origins were looked at
-pub record PassesOn (old now : Kept) (h to line number : ℕ) : Type 0 where
+pub record PassesOn (old now : BusState) (h to line number : ℕ) : Type 0 where
   pub others : now ≡ record old { agents = now.agents }
   pub count : length now.agents ≡ length old.agents
   pub told : (agent_at now.agents h).told ≡ (agent_at old.agents h).told
@@ -139,26 +139,26 @@ pub record PassesOn (old now : Kept) (h to line number : ℕ) : Type 0 where
       probes_sent (passes (agent_at old.agents h).told old.order to line) (numbers_from 0 (length old.agents)) to old.agents
       ≡ probes_sent (passes (agent_at old.agents h).told old.order to line) (numbers_from number (length old.agents - number)) to now.agents
 
-pub none_passed : (old : Kept) (h to line : ℕ) → PassesOn old old h to line 0
+pub none_passed : (old : BusState) (h to line : ℕ) → PassesOn old old h to line 0
 none_passed old h to line = record { others = refl; count = refl; told = refl; left = all_probes _ (length old.agents) to old.agents }
 
-pub one_passed : (old now next : Kept) (h to line number : ℕ) → PassesOn old now h to line number → number < length old.agents →
+pub one_passed : (old now next : BusState) (h to line number : ℕ) → PassesOn old now h to line number → number < length old.agents →
     next ≡ record now { agents = probe_sent (passes (agent_at now.agents h).told now.order to line number) number to now.agents } →
     PassesOn old next h to line (suc number)
 one_passed old now next h to line number passed below is =
-    let sent = ap (λ (bus : Kept). bus.agents) is in
+    let sent = ap (λ (bus : BusState). bus.agents) is in
     let taken = passes (agent_at now.agents h).told now.order to line number in
     record {
-      others = is ∙ ap (λ (bus : Kept). record bus { agents = probe_sent taken number to now.agents }) passed.others
+      others = is ∙ ap (λ (bus : BusState). record bus { agents = probe_sent taken number to now.agents }) passed.others
           ∙ ap (λ agents. record old { agents = agents }) (sym sent);
       count = ap length sent ∙ count_after_probe taken number to now.agents ∙ passed.count;
       told = ap (λ agents. (agent_at agents h).told) sent ∙ told_after_probe taken number to h now.agents ∙ passed.told;
       left = next_probe (passes (agent_at old.agents h).told old.order to line) number (length old.agents) to now.agents next.agents _ below passed.left
           (sent ∙ ap (λ told. probe_sent (passes told now.order to line number) number to now.agents) passed.told
-          ∙ ap (λ (bus : Kept). probe_sent (passes (agent_at old.agents h).told bus.order to line number) number to now.agents) passed.others);
+          ∙ ap (λ (bus : BusState). probe_sent (passes (agent_at old.agents h).told bus.order to line number) number to now.agents) passed.others);
     }
 
-pub all_passed : (old now : Kept) (h to line number : ℕ) → PassesOn old now h to line number → number ≡ length old.agents →
+pub all_passed : (old now : BusState) (h to line number : ℕ) → PassesOn old now h to line number → number ≡ length old.agents →
     now ≡ record old { agents = probes_sent (passes (agent_at old.agents h).told old.order to line) (numbers_from 0 (length old.agents)) to old.agents }
 all_passed old now h to line number passed all =
     passed.others ∙ ap (λ agents. record old { agents = agents })
@@ -177,7 +177,7 @@ first_answer agents h sender =
     let behind = with_agent agents h (agent_behind sender (agent_at agents h)) in
     with_agent behind sender (agent_posted (Probe h) (agent_at behind sender))
 
-pub marker_answered : (bus : Kept) (h sender : ℕ) (own : Request) → request_of bus.order h ≡ Some own →
+pub marker_answered : (bus : BusState) (h sender : ℕ) (own : Request) → request_of bus.order h ≡ Some own →
     record bus {
       agents = probes_sent (passes (agent_at (first_answer bus.agents h sender) h).told bus.order sender own.line)
           (numbers_from 0 (length (first_answer bus.agents h sender))) sender (first_answer bus.agents h sender);
@@ -197,13 +197,13 @@ marker_answered bus h sender own is =
     ∙ ap (λ found. posts_sent (passed_on bus h sender found) sender (first_answer bus.agents h sender)) (sym is))
 
 -- the oldest message is taken out of a mailbox
-pub taken_shows : (bus : Kept) (state : ModelState) (h : ℕ) → Shows bus state →
+pub taken_shows : (bus : BusState) (state : ModelState) (h : ℕ) → Shows bus state →
     Shows (record bus { agents = with_agent bus.agents h (agent_taken (agent_at bus.agents h)) }) (taken state h (without_oldest (hart_of state h).mail))
 taken_shows bus state h shows =
     shows_agent bus state h (agent_taken (agent_at bus.agents h)) (record (hart_of state h) { mail = without_oldest (hart_of state h).mail }) shows
     (ap agent_taken (shows.agents h)) refl refl refl
 
-pub taken_ready : (bus : Kept) (h : ℕ) → IsReady bus → IsReady (record bus { agents = with_agent bus.agents h (agent_taken (agent_at bus.agents h)) })
+pub taken_ready : (bus : BusState) (h : ℕ) → IsReady bus → IsReady (record bus { agents = with_agent bus.agents h (agent_taken (agent_at bus.agents h)) })
 taken_ready bus h ready = ready_agent bus h (agent_taken (agent_at bus.agents h)) ready (λ request is. is) (ready.few_armed h)
 
 -- an event with a message, and one without

@@ -3,9 +3,9 @@ use Rattle.std.proofs.Common.{ℕ, refl}
 use Rattle.snoop.proofs.Lent.{ClearsOne, clears_one, lies_in_yet, one_room, one_unmarked, one_well_formed}
 use Rattle.snoop.proofs.Ready.{ready_after}
 use Rattle.snoop.specs.Changing.{IsClearedAt}
-use Rattle.snoop.specs.Shows.{Holding, IsReady, Kept}
+use Rattle.snoop.specs.Shows.{Holding, IsReady, BusState}
 
-pub ready_ended : (bus : Kept) (copies : Holding) (h : ℕ) → IsReady bus → IsClearedAt h bus.copies copies →
+pub ready_ended : (bus : BusState) (copies : Holding) (h : ℕ) → IsReady bus → IsClearedAt h bus.copies copies →
     IsReady (record bus { copies = copies })
 ready_ended bus copies h ready ended = ready_after bus (record bus { copies = copies }) ready (record {
   mode = refl;

@@ -16,7 +16,7 @@ use Rattle.snoop.specs.Agent.{agent_at, agent_of}
 use Rattle.snoop.specs.Changing.{cleared_if}
 use Rattle.snoop.specs.Fates.{fate_in}
 use Rattle.snoop.specs.Settled.{AreSettledBelow, loses, sent_in, settled_agent}
-use Rattle.snoop.specs.Shows.{IsReady, Kept, Shows}
+use Rattle.snoop.specs.Shows.{IsReady, BusState, Shows}
 use Rattle.snoop.specs.declared.fates.Fate as fates
 
 -- the hart of the head, and another one
@@ -35,7 +35,7 @@ other_hart state head h hart other =
     (other_test h head.hart other)
 
 -- a hart and its cache as the head has been faced
-faced_each : (head : Request) (known : List fates.Fate) (old mid : Kept) (state : ModelState) → length known ≡ length old.agents →
+faced_each : (head : Request) (known : List fates.Fate) (old mid : BusState) (state : ModelState) → length known ≡ length old.agents →
     AreSettledBelow head (fate_in known) (length known) old mid → Shows old state → ((h : ℕ) → fate_in known h ≡ fate_at state head h) →
     ShowsEach old (record mid { agents = sent_in mid.mode known head.hart mid.agents }) state (faced_hart state head)
 faced_each head known old mid state count settled shows is = record {
@@ -114,7 +114,7 @@ faced_each head known old mid state count settled shows is = record {
         (tells_yet hart (post_all hart messages) (post_all_section hart messages) (post_all_armed hart messages) (post_all_cache hart messages)
         (tells shows head.hart))
 
-pub faced_shows : (head : Request) (known : List fates.Fate) (old mid : Kept) (state : ModelState) → length known ≡ length old.agents →
+pub faced_shows : (head : Request) (known : List fates.Fate) (old mid : BusState) (state : ModelState) → length known ≡ length old.agents →
     AreSettledBelow head (fate_in known) (length known) old mid → Shows old state → ((h : ℕ) → fate_in known h ≡ fate_at state head h) →
     Shows (record mid { agents = sent_in mid.mode known head.hart mid.agents }) (faced state head)
 unfolding faced
@@ -124,7 +124,7 @@ faced_shows head known old mid state count settled shows is =
     (shows_each old new state (faced_hart state head) shows (faced_each head known old mid state count settled shows is))
 
 -- it stays ready
-pub faced_ready : (head : Request) (known : List fates.Fate) (old mid : Kept) → AreSettledBelow head (fate_in known) (length known) old mid →
+pub faced_ready : (head : Request) (known : List fates.Fate) (old mid : BusState) → AreSettledBelow head (fate_in known) (length known) old mid →
     IsReady old → IsReady (record mid { agents = sent_in mid.mode known head.hart mid.agents })
 faced_ready head known old mid settled ready =
     sent_ready mid known head.hart (changed_ready settled (λ h agent. refl) (λ h agent few. few) ready)

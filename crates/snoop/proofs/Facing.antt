@@ -20,7 +20,7 @@ use Rattle.snoop.specs.Deciding.{DecidesIn}
 use Rattle.snoop.specs.declared.fates.Fate as fates
 use Rattle.snoop.specs.declared.fates.Fate.TheVariants as declared
 use Rattle.snoop.specs.Fates.{earlier_told, fate_in, numbered_fate, is_earlier_told, stamp_on, told_from}
-use Rattle.snoop.specs.Shows.{IsReady, Kept, Shows}
+use Rattle.snoop.specs.Shows.{IsReady, BusState, Shows}
 use Rattle.stamp.specs.Stamps.{Stamp}
 
 -- past the last hart no origin was told
@@ -45,7 +45,7 @@ told_by_harts agent order line from (first ∷ others) [] same = absurd (omega a
 told_by_harts agent order line from (first ∷ others) (hart ∷ harts) same =
     ap (earlier_told agent order line from) (told_by_harts agent order line (suc from) others harts (omega arith))
 
-pub winner_is_told : (bus : Kept) (state : ModelState) (h line : ℕ) → Shows bus state →
+pub winner_is_told : (bus : BusState) (state : ModelState) (h line : ℕ) → Shows bus state →
     told_from (agent_at bus.agents h) bus.order line 0 bus.agents ≡ told_winner state (hart_of state h) line
 winner_is_told bus state h line shows =
     ap (λ agent. told_from agent bus.order line 0 bus.agents) (shows.agents h)
@@ -53,7 +53,7 @@ winner_is_told bus state h line shows =
     ∙ told_by_harts (agent_of (hart_of state h)) state.order line 0 bus.agents state.harts shows.agent_each
 
 -- in the plain mode no head meets a section
-pub plain_unmet : (bus : Kept) (state : ModelState) (head : Request) (h : ℕ) → IsReady bus → Shows bus state →
+pub plain_unmet : (bus : BusState) (state : ModelState) (head : Request) (h : ℕ) → IsReady bus → Shows bus state →
     bus.mode ≡ Plain → conflicts head h (hart_of state h) ≡ false
 plain_unmet bus state head h ready shows plain =
     ap (λ live. (not (head.hart == h) && live) && meets_bit (hart_of state h) head.line head.need)
@@ -62,7 +62,7 @@ plain_unmet bus state head h ready shows plain =
     ∙ false_between (not (head.hart == h)) (meets_bit (hart_of state h) head.line head.need)
 
 -- so where one does, the policy answers as the definition does
-pub wins_where_met : (bus : Kept) (state : ModelState) (head : Request) (h : ℕ)
+pub wins_where_met : (bus : BusState) (state : ModelState) (head : Request) (h : ℕ)
     (beats : Option Stamp → Option Stamp → Bool) → IsReady bus → Shows bus state → DecidesIn bus.mode beats → conflicts head h (hart_of state h) ≡ true →
     beats head.stamp (agent_at bus.agents h).attempt ≡ wins_over state.config.mode head.stamp (hart_of state h)
 wins_where_met bus state head h beats ready shows decides met =
@@ -75,14 +75,14 @@ wins_where_met bus state head h beats ready shows decides met =
     true_false same = absurd (cc)
 
 -- the fates of the harts below a number
-pub record FatesBelow (bus : Kept) (head : Request) (number : ℕ) (fates : List fates.Fate) : Type 0 where
+pub record FatesBelow (bus : BusState) (head : Request) (number : ℕ) (fates : List fates.Fate) : Type 0 where
   pub count : length fates ≡ number
   pub each : (state : ModelState) → Shows bus state → (h : ℕ) → h < number → fate_in fates h ≡ fate_at state head h
 
-pub no_fates : (bus : Kept) (head : Request) → FatesBelow bus head 0 []
+pub no_fates : (bus : BusState) (head : Request) → FatesBelow bus head 0 []
 no_fates bus head = record { count = refl; each = λ state shows h below. absurd (omega arith) }
 
-pub one_fate_more : (bus : Kept) (head : Request) (number h : ℕ) (known : List fates.Fate) (fate : fates.Fate) →
+pub one_fate_more : (bus : BusState) (head : Request) (number h : ℕ) (known : List fates.Fate) (fate : fates.Fate) →
     FatesBelow bus head number known → h ≡ number →
     ((state : ModelState) → Shows bus state → numbered_fate fate ≡ fate_at state head h) →
     FatesBelow bus head (number + 1) (known ++ fate ∷ [])
@@ -101,7 +101,7 @@ one_fate_more bus head number h known fate below same is = record {
 }
 
 -- past the last hart there is nothing to meet
-pub all_fates : (bus : Kept) (head : Request) (number : ℕ) (known : List fates.Fate) → FatesBelow bus head number known →
+pub all_fates : (bus : BusState) (head : Request) (number : ℕ) (known : List fates.Fate) → FatesBelow bus head number known →
     number ≡ length bus.agents → (state : ModelState) → Shows bus state → (h : ℕ) → fate_in known h ≡ fate_at state head h
 all_fates bus head number known below all state shows h = elim (cases_lt h number) [
   | inl under ↦ below.each state shows h under

@@ -5,7 +5,7 @@ use Rattle.bus_order.specs.Order.{first_of}
 use Rattle.el_model.specs.Conflicts.{conflicts_with, first_such, retainer_of, retains}
 use Rattle.el_model.specs.State.{Hart, ModelState, count_up, hart_of, numbers_of}
 use Rattle.el_model.proofs.Laws.Conflicts.{none_first}
-use Rattle.snoop.specs.Shows.{Kept, Shows}
+use Rattle.snoop.specs.Shows.{BusState, Shows}
 
 -- of the harts past the last one there is none
 pub drop_all : (from n : ℕ) (harts : List Hart) → length harts ≤ n → drop n (count_up from harts) ≡ []
@@ -39,7 +39,7 @@ next_first test harts n found later some below was is =
     ∙ sym (one_earlier test harts (n - 1) n (omega (arith, some)) below)
 
 -- a line without requests is retained by nobody
-pub nobody_retains : (bus : Kept) (state : ModelState) (line : ℕ) → Shows bus state → first_of bus.order line ≡ None → retainer_of state line ≡ None
+pub nobody_retains : (bus : BusState) (state : ModelState) (line : ℕ) → Shows bus state → first_of bus.order line ≡ None → retainer_of state line ≡ None
 nobody_retains bus state line shows none =
     none_first (λ h. retains state h line) (numbers_of state)
     (λ h. ap (λ head. conflicts_with head h (hart_of state h)) (ap (λ order. first_of order line) (sym shows.order) ∙ none))

@@ -9,7 +9,7 @@ use Rattle.snoop.proofs.Changes.{no_hart_changed, one_hart_changed}
 use Rattle.snoop.proofs.Showing.{agent_past}
 use Rattle.snoop.specs.Agent.{agent_at, new_agent}
 use Rattle.snoop.specs.LettingGo.{AreLetGo, IsLetGo, agent_let_go, freed_at, frees, goes}
-use Rattle.snoop.specs.Shows.{Kept}
+use Rattle.snoop.specs.Shows.{BusState}
 
 -- of the harts below a number those are freed that have a count, and of the others none
 pub record AreFreedBelow (count : ℕ → ℕ) (number : ℕ) (freed : Freed) : Type 0 where
@@ -36,7 +36,7 @@ one_freed_more count number freed result below is = record {
     there h other = ap (λ b. cond b (count number) (count_in freed h)) (other_test h number other)
 
 -- past the last hart there is none to be let go
-pub all_freed : (bus : Kept) (head : Request) (number : ℕ) (freed : Freed) → number ≡ length bus.agents →
+pub all_freed : (bus : BusState) (head : Request) (number : ℕ) (freed : Freed) → number ≡ length bus.agents →
     AreFreedBelow (freed_at bus head) number freed → (h : ℕ) → count_in freed h ≡ freed_at bus head h
 all_freed bus head number freed all below h = elim (cases_lt h number) [
   | inl under ↦ below.done h under
@@ -48,10 +48,10 @@ all_freed bus head number freed all below h = elim (cases_lt h number) [
     nothing false is = refl
 
 -- one hart more is let go
-pub none_let_go : (freed : Freed) (bus : Kept) → AreLetGo freed 0 bus bus
+pub none_let_go : (freed : Freed) (bus : BusState) → AreLetGo freed 0 bus bus
 none_let_go freed bus = no_hart_changed (λ h. agent_let_go (goes freed h)) (goes freed) bus
 
-pub one_let_go : (freed : Freed) (h : ℕ) (old mid new : Kept) → AreLetGo freed h old mid → IsLetGo (goes freed h) h mid new →
+pub one_let_go : (freed : Freed) (h : ℕ) (old mid new : BusState) → AreLetGo freed h old mid → IsLetGo (goes freed h) h mid new →
     h < length mid.agents → AreLetGo freed (h + 1) old new
 one_let_go freed h old mid new below at inside =
     one_hart_changed (λ g. agent_let_go (goes freed g)) (goes freed) h old mid new below at inside

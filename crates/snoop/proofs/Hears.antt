@@ -25,7 +25,7 @@ use Rattle.mail.specs.Mailbox.{Probe, posted}
 use Rattle.snoop.specs.Agent.{Agent, agent_at, agent_of, agent_posted, with_agent}
 use Rattle.snoop.specs.Delivering.{Forwards, IsForwarded, IsLostTo, agent_heard, asks_on}
 use Rattle.snoop.specs.Settled.{in_removal}
-use Rattle.snoop.specs.Shows.{IsReady, IsUnmarked, Kept, LiesIn, LiesWhere, Shows, has_room_in}
+use Rattle.snoop.specs.Shows.{IsReady, IsUnmarked, BusState, LiesIn, LiesWhere, Shows, has_room_in}
 use Rattle.snoop.proofs.AfterFate.{beaten_agent, beaten_cache, beaten_tells, beaten_upstream}
 use Rattle.snoop.proofs.Laws.Living.{TellsSection, live_unarmed, tells, tells_yet}
 use Rattle.snoop.proofs.Lent.{ClearsOne, clears_one, lies_in_yet, one_room, one_unmarked, one_well_formed}
@@ -33,7 +33,7 @@ use Rattle.snoop.proofs.Ready.{asks_agent, few_armed_yet, ready_after}
 use Rattle.snoop.proofs.Showing.{agent_other, agent_past, agent_same, count_with_agent, lies_yet, shows_agent, shows_each}
 
 -- a hart that does not lose
-pub heard_shows : (bus : Kept) (state : ModelState) (h origin : ℕ) (request : Option Request) → Shows bus state →
+pub heard_shows : (bus : BusState) (state : ModelState) (h origin : ℕ) (request : Option Request) → Shows bus state →
     loses_to_origin state h request ≡ false →
     Shows (record bus { agents = with_agent bus.agents h (agent_heard origin None (agent_at bus.agents h)) })
     (with_hart state h (told_of state h origin request))
@@ -48,7 +48,7 @@ abbrev lost_hart : ModelState → ℕ → ℕ → Option Request → Hart
 lost_hart state h origin request =
     beaten state.config.mode (stamp_in request) (record (hart_of state h) { told = included (hart_of state h).told origin })
 
-lost_here : (bus : Kept) (state : ModelState) (h origin : ℕ) (request : Option Request) → Shows bus state →
+lost_here : (bus : BusState) (state : ModelState) (h origin : ℕ) (request : Option Request) → Shows bus state →
     h < length bus.agents → (g : ℕ) → g ≡ h →
     hart_of (with_hart state h (lost_hart state h origin request)) g ≡ lost_hart state h origin request
 lost_here bus state h origin request shows inside g same =
@@ -59,7 +59,7 @@ lost_there : (state : ModelState) (h origin : ℕ) (request : Option Request) (g
     hart_of (with_hart state h (lost_hart state h origin request)) g ≡ hart_of state g
 lost_there state h origin request g other = hart_of-with_hart_other state h g (lost_hart state h origin request) other
 
-lost_agent : (bus : Kept) (state : ModelState) (h origin : ℕ) (request : Option Request) → Shows bus state →
+lost_agent : (bus : BusState) (state : ModelState) (h origin : ℕ) (request : Option Request) → Shows bus state →
     armed_count (armed_of state h) ≡ 0 →
     agent_heard origin (in_removal bus.mode (stamp_in request)) (agent_at bus.agents h) ≡ agent_of (lost_hart state h origin request)
 lost_agent bus state h origin request shows unarmed =
@@ -71,7 +71,7 @@ lost_cache : (state : ModelState) (h origin : ℕ) (request : Option Request) �
 lost_cache state h origin request =
     beaten_cache state.config.mode (stamp_in request) (record (hart_of state h) { told = included (hart_of state h).told origin })
 
-lost_tells : (bus : Kept) (state : ModelState) (h origin : ℕ) (request : Option Request) → Shows bus state → h < length bus.agents → (g : ℕ) →
+lost_tells : (bus : BusState) (state : ModelState) (h origin : ℕ) (request : Option Request) → Shows bus state → h < length bus.agents → (g : ℕ) →
     TellsSection (hart_of (with_hart state h (lost_hart state h origin request)) g)
 lost_tells bus state h origin request shows inside g = elim (cases_eq g h) [
   | inl same ↦
@@ -81,7 +81,7 @@ lost_tells bus state h origin request shows inside g = elim (cases_eq g h) [
 ]
 
 -- a hart that loses to an origin had a live section, and was not armed
-loser_unarmed : (bus : Kept) (state : ModelState) (h : ℕ) (request : Option Request) → Shows bus state → loses_to_origin state h request ≡ true →
+loser_unarmed : (bus : BusState) (state : ModelState) (h : ℕ) (request : Option Request) → Shows bus state → loses_to_origin state h request ≡ true →
     armed_count (armed_of state h) ≡ 0
 loser_unarmed bus state h None shows loses = absurd (cc)
 loser_unarmed bus state h (Some request) shows loses =
@@ -92,7 +92,7 @@ loser_unarmed bus state h (Some request) shows loses =
     first true b is = refl
     first false b is = absurd (cc)
 
-lost_is_shown : (bus new : Kept) (state : ModelState) (h origin : ℕ) (request : Option Request) → Shows bus state → h < length bus.agents →
+lost_is_shown : (bus new : BusState) (state : ModelState) (h origin : ℕ) (request : Option Request) → Shows bus state → h < length bus.agents →
     armed_count (armed_of state h) ≡ 0 → IsLostTo h origin request bus new → Shows new (with_hart state h (lost_hart state h origin request))
 lost_is_shown bus new state h origin request shows inside unarmed lost =
     let same_harts = length-set state.harts h (lost_hart state h origin request) in
@@ -129,14 +129,14 @@ lost_is_shown bus new state h origin request shows inside unarmed lost =
       memory = lies_yet bus.copies new.copies state.committed cleared_one.stays.first cleared_one.stays.lines shows.memory;
     }
 
-pub lost_shows : (bus new : Kept) (state : ModelState) (h origin : ℕ) (request : Option Request) → Shows bus state → h < length bus.agents →
+pub lost_shows : (bus new : BusState) (state : ModelState) (h origin : ℕ) (request : Option Request) → Shows bus state → h < length bus.agents →
     loses_to_origin state h request ≡ true → IsLostTo h origin request bus new → Shows new (with_hart state h (told_of state h origin request))
 lost_shows bus new state h origin request shows inside loses lost =
     subst (λ hart. Shows new (with_hart state h hart))
     (sym (ap (λ test. if test then lost_hart state h origin request else record (hart_of state h) { told = included (hart_of state h).told origin }) loses))
     (lost_is_shown bus new state h origin request shows inside (loser_unarmed bus state h request shows loses) lost)
 
-pub lost_ready : (bus new : Kept) (h origin : ℕ) (request : Option Request) → IsReady bus → h < length bus.agents →
+pub lost_ready : (bus new : BusState) (h origin : ℕ) (request : Option Request) → IsReady bus → h < length bus.agents →
     IsLostTo h origin request bus new → IsReady new
 lost_ready bus new h origin request ready inside lost = ready_after bus new ready (record {
   mode = lost.mode;
@@ -222,7 +222,7 @@ chosen_kept f true origin hart keeps = keeps
 chosen_kept f false origin hart keeps = refl
 
 -- this bus shows the state after the hart was told; of the state before, the order and who is before the hart are as they were
-pub forward_shows : (bus new : Kept) (before told : ModelState) (h origin : ℕ) (request : Option Request) →
+pub forward_shows : (bus new : BusState) (before told : ModelState) (h origin : ℕ) (request : Option Request) →
     Shows bus told → told.order ≡ before.order →
     (hart_of told h).upstream ≡ (hart_of before h).upstream → IsForwarded h origin request bus new →
     Shows new (each_hart told (forwarded before h origin request))
@@ -256,7 +256,7 @@ forward_shows bus new before told h origin request shows order upstream forward 
         ∙ ap (λ requests. (not (g == origin) && has (hart_of before h).upstream g) && asks_on requests h request) (shows.order ∙ order)
         ∙ sym (forward_test before h origin request g)
 
-pub forward_ready : (bus new : Kept) (h origin : ℕ) (request : Option Request) → IsReady bus → IsForwarded h origin request bus new → IsReady new
+pub forward_ready : (bus new : BusState) (h origin : ℕ) (request : Option Request) → IsReady bus → IsForwarded h origin request bus new → IsReady new
 forward_ready bus new h origin request ready forward = ready_after bus new ready (record {
   mode = forward.mode;
   agent_each = count;
@@ -303,13 +303,13 @@ forward_ready bus new h origin request ready forward = ready_after bus new ready
     ]
 
 -- a hart that hears of an origin, and does not lose
-pub heard_ready : (bus : Kept) (h origin : ℕ) → IsReady bus →
+pub heard_ready : (bus : BusState) (h origin : ℕ) → IsReady bus →
     IsReady (record bus { agents = with_agent bus.agents h (agent_heard origin None (agent_at bus.agents h)) })
 heard_ready bus h origin ready =
     ready_after bus _ ready (asks_agent bus h (agent_heard origin None (agent_at bus.agents h)) ready (λ r was. was) (ready.few_armed h))
 
 -- the hart has heard of the origin, and the probe was forwarded
-pub probe_shows : (mid new : Kept) (state : ModelState) (h origin : ℕ) (request : Option Request) →
+pub probe_shows : (mid new : BusState) (state : ModelState) (h origin : ℕ) (request : Option Request) →
     Shows mid (with_hart state h (told_of state h origin request)) → IsForwarded h origin request mid new →
     Shows new (after_probe state h origin request)
 probe_shows mid new state h origin request shows forward =

@@ -26,10 +26,10 @@ use Rattle.snoop.proofs.Showing.{ShowsEach, lies_yet, shows_each}
 use Rattle.snoop.specs.Agent.{Agent, agent_at, agent_of}
 use Rattle.snoop.specs.Changing.{cleared_if}
 use Rattle.snoop.specs.LettingGo.{AreLetGo, KeepsBytes, agent_let_go, freed_at, frees, goes, with_committed}
-use Rattle.snoop.specs.Shows.{IsReady, Kept, Shows}
+use Rattle.snoop.specs.Shows.{IsReady, BusState, Shows}
 
 -- the harts that the bus tells are the definition's
-frees_shown : (bus : Kept) (state : ModelState) (head : Request) (h : ℕ) → Shows bus state →
+frees_shown : (bus : BusState) (state : ModelState) (head : Request) (h : ℕ) → Shows bus state →
     frees bus head h ≡ is_freed head h (hart_of state h)
 frees_shown bus state head h shows =
     let first = is_write head && not (head.hart == h) in
@@ -37,13 +37,13 @@ frees_shown bus state head h shows =
     ∙ ap (λ armed. first && armed && has_bit (slotted_at bus.copies.caches h).residency head.line) (sym (shows.arms h))
     ∙ ap (λ cache. first && is_some (hart_of state h).armed && has_bit cache head.line) (shows.caches h)
 
-freed_shown : (bus : Kept) (state : ModelState) (head : Request) (h : ℕ) → Shows bus state →
+freed_shown : (bus : BusState) (state : ModelState) (head : Request) (h : ℕ) → Shows bus state →
     freed_at bus head h ≡ freed_count head h (hart_of state h)
 freed_shown bus state head h shows =
     ap (λ agent. if frees bus head h then agent.armed else 0) (shows.agents h)
     ∙ ap (λ test. if test then armed_count (hart_of state h).armed else 0) (frees_shown bus state head h shows)
 
-pub freed_is : (bus : Kept) (state : ModelState) (head : Request) (freed : Freed) → IsReady bus → Shows bus state →
+pub freed_is : (bus : BusState) (state : ModelState) (head : Request) (freed : Freed) → IsReady bus → Shows bus state →
     ((h : ℕ) → count_in freed h ≡ freed_at bus head h) → freed ≡ freed_by state head
 freed_is bus state head freed ready shows is =
     same_freed freed (freed_by state head)
@@ -75,7 +75,7 @@ armed_of_freed false armed bit is = lose armed bit is
     lose true bit is = refl
     lose false bit is = absurd (cc)
 
-goes_shown : (bus : Kept) (state : ModelState) (head : Request) (freed : Freed) → Shows bus state →
+goes_shown : (bus : BusState) (state : ModelState) (head : Request) (freed : Freed) → Shows bus state →
     ((h : ℕ) → count_in freed h ≡ freed_at bus head h) → (h : ℕ) → goes freed h ≡ is_freed head h (hart_of state h)
 goes_shown bus state head freed shows is h =
     goes_if (frees bus head h) (agent_at bus.agents h).armed (count_in freed h)
@@ -106,7 +106,7 @@ freed_tells state head h hart told =
     gone_tells (is_freed head h hart) (view_of state.committed h).pc hart
     (armed_of_freed (is_write head && not (head.hart == h)) (is_some hart.armed) (has_bit hart.cache head.line)) told
 
-let_go_each : (bus new : Kept) (state : ModelState) (head : Request) (freed : Freed) → Shows bus state →
+let_go_each : (bus new : BusState) (state : ModelState) (head : Request) (freed : Freed) → Shows bus state →
     ((h : ℕ) → count_in freed h ≡ freed_at bus head h) → AreLetGo freed (length bus.agents) bus new → ShowsEach bus new state (freed_hart state head)
 let_go_each bus new state head freed shows is gone = record {
   mode = gone.mode;
@@ -128,7 +128,7 @@ let_go_each bus new state head freed shows is gone = record {
 }
 
 -- the state that is shown, over the committed part of before
-pub let_go_shows : (bus new : Kept) (state : ModelState) (head : Request) (freed : Freed) → Shows bus state →
+pub let_go_shows : (bus new : BusState) (state : ModelState) (head : Request) (freed : Freed) → Shows bus state →
     ((h : ℕ) → count_in freed h ≡ freed_at bus head h) → AreLetGo freed (length bus.agents) bus new →
     Shows new (with_committed state.committed (let_go state head))
 unfolding let_go
@@ -136,7 +136,7 @@ let_go_shows bus new state head freed shows is gone =
     subst (λ order. Shows new (record (each_hart state (freed_hart state head)) { order = order })) (gone.order ∙ shows.order)
     (shows_each bus new state (freed_hart state head) shows (let_go_each bus new state head freed shows is gone))
 
-pub let_go_ready : (bus new : Kept) (freed : Freed) (number : ℕ) → AreLetGo freed number bus new → IsReady bus → IsReady new
+pub let_go_ready : (bus new : BusState) (freed : Freed) (number : ℕ) → AreLetGo freed number bus new → IsReady bus → IsReady new
 let_go_ready bus new freed number gone ready =
     changed_ready gone (λ h agent. raised_yet (goes freed h) agent) (λ h agent few. few_yet (goes freed h) agent few) ready
   where

@@ -10,10 +10,10 @@ use Rattle.mail.specs.Mailbox.{Marker}
 use Rattle.snoop.proofs.Ready.{few_armed_yet, ready_agent, served_yet}
 use Rattle.snoop.proofs.Showing.{agent_other, agent_past, agent_same, count_with_agent, shows_agent}
 use Rattle.snoop.specs.Agent.{Agent, agent_at, agent_posted, with_agent}
-use Rattle.snoop.specs.Shows.{CanBeServed, IsReady, Kept, Shows}
+use Rattle.snoop.specs.Shows.{CanBeServed, IsReady, BusState, Shows}
 
 -- a request is no more a raised one, and this is the order
-abbrev pub ordered_as : Kept → Request → List Request → Kept
+abbrev pub ordered_as : BusState → Request → List Request → BusState
 ordered_as bus request order = record bus {
   agents = with_agent bus.agents request.hart (record (agent_at bus.agents request.hart) { raised = None });
   order = order;
@@ -50,7 +50,7 @@ none_raised agents h =
       | inr past ↦ ap (λ a. a.raised) (agent_past (with_agent agents h agent) h (omega (arith, past, count_with_agent agents h agent)))
     ]
 
-other_raised : (bus : Kept) (request : Request) (h : ℕ) (raised : Request) →
+other_raised : (bus : BusState) (request : Request) (h : ℕ) (raised : Request) →
     (agent_at (with_agent bus.agents request.hart (record (agent_at bus.agents request.hart) { raised = None })) h).raised ≡ Some raised →
     (h ≢ request.hart) × ((agent_at bus.agents h).raised ≡ Some raised)
 other_raised bus request h raised is =
@@ -67,7 +67,7 @@ other_raised bus request h raised is =
     not_both None first second = absurd (cc)
     not_both (Some other) first second = absurd (cc)
 
-pub ready_ordered : (bus : Kept) (request : Request) (order : List Request) → IsReady bus →
+pub ready_ordered : (bus : BusState) (request : Request) (order : List Request) → IsReady bus →
     (agent_at bus.agents request.hart).raised ≡ Some request → HasPlaced bus.order order request → IsReady (ordered_as bus request order)
 ready_ordered bus request order ready raised placed = record {
   few = omega (arith, count, ready.few);
@@ -97,7 +97,7 @@ ready_ordered bus request order ready raised placed = record {
     still h other can = served_yet bus (ordered_as bus request order) h other count (λ inside. inside) (λ room. room) can
 
 -- it is shown so where the state's order is this one
-pub shows_ordered : (bus : Kept) (state : ModelState) (request : Request) (order told : List Request) → Shows bus state → order ≡ told →
+pub shows_ordered : (bus : BusState) (state : ModelState) (request : Request) (order told : List Request) → Shows bus state → order ≡ told →
     Shows (ordered_as bus request order) (record (unraised state request.hart) { order = told })
 shows_ordered bus state request order told shows is =
     let quiet : Agent → Agent = λ agent. record agent { raised = None } in
@@ -118,8 +118,8 @@ shows_ordered bus state request order told shows is =
     }
 
 -- a marker that is sent
-abbrev pub with_marker : Kept → ℕ → ℕ → Kept
+abbrev pub with_marker : BusState → ℕ → ℕ → BusState
 with_marker bus from to = record bus { agents = with_agent bus.agents to (agent_posted (Marker from) (agent_at bus.agents to)) }
 
-pub ready_marker : (bus : Kept) (from to : ℕ) → IsReady bus → IsReady (with_marker bus from to)
+pub ready_marker : (bus : BusState) (from to : ℕ) → IsReady bus → IsReady (with_marker bus from to)
 ready_marker bus from to ready = ready_agent bus to (agent_posted (Marker from) (agent_at bus.agents to)) ready (λ request is. is) (ready.few_armed to)

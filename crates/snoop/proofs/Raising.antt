@@ -9,16 +9,16 @@ use Rattle.snoop.proofs.Ready.{few_armed_yet, served_yet}
 use Rattle.snoop.proofs.Showing.{agent_other, agent_same, count_with_agent, shows_agent}
 use Rattle.snoop.specs.Agent.{Agent, agent_at, agent_of, with_agent}
 use Rattle.snoop.specs.Asking.{HasNoRequest}
-use Rattle.snoop.specs.Shows.{CanBeServed, IsReady, Kept, LiesIn, Shows, has_room_in}
+use Rattle.snoop.specs.Shows.{CanBeServed, IsReady, BusState, LiesIn, Shows, has_room_in}
 
 -- an agent that has raised a request
-abbrev pub raising : Kept → Request → Agent
+abbrev pub raising : BusState → Request → Agent
 raising bus request = record (agent_at bus.agents request.hart) { raised = Some request }
 
-abbrev pub raised_in : Kept → Request → Kept
+abbrev pub raised_in : BusState → Request → BusState
 raised_in bus request = record bus { agents = with_agent bus.agents request.hart (raising bus request) }
 
-pub ready_raised : (bus : Kept) (request : Request) → IsReady bus → request.hart < length bus.agents → HasNoRequest bus request.hart →
+pub ready_raised : (bus : BusState) (request : Request) → IsReady bus → request.hart < length bus.agents → HasNoRequest bus request.hart →
     LiesIn bus.copies request.line → has_room_in bus.copies request.hart request.line ≡ true → IsReady (raised_in bus request)
 ready_raised bus request ready inside none in_memory room = record {
   few = omega (arith, count, ready.few);
@@ -67,7 +67,7 @@ ready_raised bus request ready inside none in_memory room = record {
 abbrev asking : ℕ → ℕ → Need → Agent → Agent
 asking h line need agent = record agent { raised = Some (record { hart = h; line = line; need = need; stamp = agent.attempt }) }
 
-pub shows_raised : (bus : Kept) (state : ModelState) (h line : ℕ) (need : Need) → Shows bus state → (agent_at bus.agents h).held ≡ None →
+pub shows_raised : (bus : BusState) (state : ModelState) (h line : ℕ) (need : Need) → Shows bus state → (agent_at bus.agents h).held ≡ None →
     Shows (raised_in bus (record { hart = h; line = line; need = need; stamp = (agent_at bus.agents h).attempt }))
     (with_hart state h (missed_hart h line need (hart_of state h)))
 shows_raised bus state h line need shows nothing =

@@ -5,16 +5,16 @@ use Rattle.bus_order.specs.Order.{IsOneEach, Request, request_of}
 use Rattle.residency.specs.WellFormed.{IsWellFormed}
 use Rattle.coherence.specs.Lent.{slotted_at}
 use Rattle.snoop.specs.Agent.{Agent, agent_at, with_agent}
-use Rattle.snoop.specs.Shows.{CanBeServed, IsReady, IsUnmarked, Kept, LiesIn, has_room_in}
+use Rattle.snoop.specs.Shows.{CanBeServed, IsReady, IsUnmarked, BusState, LiesIn, has_room_in}
 use Rattle.snoop.proofs.Showing.{agent_other, agent_past, agent_same, count_with_agent}
 
 -- a request that stands after a call stood before it, and where there was room for it there is
-pub record Stood (bus new : Kept) (h : ℕ) (before : Option Request) (request : Request) : Type 0 where
+pub record Stood (bus new : BusState) (h : ℕ) (before : Option Request) (request : Request) : Type 0 where
   pub is : before ≡ Some request
   pub room : has_room_in bus.copies h request.line ≡ true → has_room_in new.copies h request.line ≡ true
 
 -- no request is new, nor a bit in a cache without any
-pub record AsksNoMore (bus new : Kept) : Type 0 where
+pub record AsksNoMore (bus new : BusState) : Type 0 where
   pub mode : new.mode ≡ bus.mode
   pub agent_each : length new.agents ≡ length bus.agents
   pub cache_each : length new.copies.caches ≡ length bus.copies.caches
@@ -26,7 +26,7 @@ pub record AsksNoMore (bus new : Kept) : Type 0 where
   pub few_armed : (h : ℕ) → (agent_at new.agents h).armed ≤ 15
   pub unmarked : (h : ℕ) → IsUnmarked bus.copies h → IsUnmarked new.copies h
 
-pub served_yet : (bus new : Kept) (h : ℕ) (request : Request) → length new.agents ≡ length bus.agents →
+pub served_yet : (bus new : BusState) (h : ℕ) (request : Request) → length new.agents ≡ length bus.agents →
     (LiesIn bus.copies request.line → LiesIn new.copies request.line) →
     (has_room_in bus.copies h request.line ≡ true → has_room_in new.copies h request.line ≡ true) →
     CanBeServed bus h request → CanBeServed new h request
@@ -37,7 +37,7 @@ served_yet bus new h request count inside room can = record {
   room = room can.room;
 }
 
-pub ready_after : (bus new : Kept) → IsReady bus → AsksNoMore bus new → IsReady new
+pub ready_after : (bus new : BusState) → IsReady bus → AsksNoMore bus new → IsReady new
 ready_after bus new ready after = record {
   few = omega (arith, ready.few, after.agent_each);
   each = after.cache_each ∙ ready.each ∙ sym after.agent_each;
@@ -76,7 +76,7 @@ few_armed_yet agents h agent few here g = elim (cases_eq g h) [
 ]
 
 -- one agent has changed, and has raised no other request
-pub asks_agent : (bus : Kept) (h : ℕ) (agent : Agent) → IsReady bus →
+pub asks_agent : (bus : BusState) (h : ℕ) (agent : Agent) → IsReady bus →
     ((request : Request) → agent.raised ≡ Some request → (agent_at bus.agents h).raised ≡ Some request) → agent.armed ≤ 15 →
     AsksNoMore bus (record bus { agents = with_agent bus.agents h agent })
 asks_agent bus h agent ready raises few = record {
@@ -106,7 +106,7 @@ asks_agent bus h agent ready raises few = record {
           | inr other ↦ ap (λ a. a.raised) (sym (agent_other bus.agents h g agent other)) ∙ is
         ]
 
-pub ready_agent : (bus : Kept) (h : ℕ) (agent : Agent) → IsReady bus →
+pub ready_agent : (bus : BusState) (h : ℕ) (agent : Agent) → IsReady bus →
     ((request : Request) → agent.raised ≡ Some request → (agent_at bus.agents h).raised ≡ Some request) → agent.armed ≤ 15 →
     IsReady (record bus { agents = with_agent bus.agents h agent })
 ready_agent bus h agent ready raises few = ready_after bus _ ready (asks_agent bus h agent ready raises few)

@@ -12,7 +12,7 @@ use Rattle.snoop.proofs.Showing.{agent_other, agent_same, count_with_agent}
 use Rattle.snoop.specs.Agent.{Agent, agent_at, agent_of, agent_posted, with_agent}
 use Rattle.snoop.specs.Fates.{fate_in, numbered_fate}
 use Rattle.snoop.specs.Settled.{marker_sent, markers_sent, sent_in}
-use Rattle.snoop.specs.Shows.{IsReady, Kept}
+use Rattle.snoop.specs.Shows.{IsReady, BusState}
 use Rattle.snoop.specs.declared.fates.Fate as fates
 
 -- what a change of one agent keeps, every agent keeps
@@ -148,7 +148,7 @@ posted_count Sle known to agents = refl
 posted_count Plain known to agents = refl
 
 -- messages ask nothing of the bus
-pub sent_ready : (bus : Kept) (known : List fates.Fate) (to : ℕ) → IsReady bus → IsReady (record bus { agents = sent_in bus.mode known to bus.agents })
+pub sent_ready : (bus : BusState) (known : List fates.Fate) (to : ℕ) → IsReady bus → IsReady (record bus { agents = sent_in bus.mode known to bus.agents })
 sent_ready bus known to ready = ready_after bus (record bus { agents = sent_in bus.mode known to bus.agents }) ready (record {
   mode = refl;
   agent_each = posted_count bus.mode known to bus.agents;

@@ -31,7 +31,7 @@ use Rattle.el_model.proofs.Laws.HartParts.{claim_armed, claim_section}
 use Rattle.snoop.specs.Agent.{Agent, agent_at, agent_forgetting, agent_of, agent_served}
 use Rattle.snoop.specs.Serving.{CopiesClaim, CopiesServe, Serves, agent_after_serve, agent_claiming}
 use Rattle.line_pool.specs.Pooled.{Pooled}
-use Rattle.snoop.specs.Shows.{CanBeServed, Holding, IsReady, IsUnmarked, Kept, Shows, TellsIn, has_room_in}
+use Rattle.snoop.specs.Shows.{CanBeServed, Holding, IsReady, IsUnmarked, BusState, Shows, TellsIn, has_room_in}
 use Rattle.snoop.specs.Shows.{lent_copies, lives, lives_at}
 use Rattle.section_laws.proofs.Laws.FreeLines.{unmet as section_unmet}
 use Rattle.snoop.proofs.Lent.{beyond, count_by_pools, residency_at, ways_at}
@@ -94,7 +94,7 @@ claim_lines true request old new claim = claim.lines
 claim_lines false request old new claim = ap (λ copies. copies.lines) claim
 
 -- what a served request makes of the lines of the caches, whatever pools lend these before and after
-abbrev own_filled : Pooled → Kept → Request → List (List Way)
+abbrev own_filled : Pooled → BusState → Request → List (List Way)
 own_filled pool bus request =
     own_after (slotted_at bus.copies.caches request.hart).ways
     (copies.others_have (lent_all pool bus.copies.caches) request.hart request.line) request.need
@@ -107,7 +107,7 @@ pub record ServeStays (before after : Pooled) (old new : Holding) : Type 0 where
   pub caches : length new.caches ≡ length old.caches
   pub told : (bytes : ℕ → List ℕ) → TellsIn before old bytes → TellsIn after new bytes
 
-module _ (bus new : Kept) (request : Request) (before after : Pooled) (serves : Serves request before after bus new) where
+module _ (bus new : BusState) (request : Request) (before after : Pooled) (serves : Serves request before after bus new) where
   abbrev lived : Bool
   lived = lives_at bus request.hart
 
@@ -180,7 +180,7 @@ others_all test h line from (cache ∷ caches) (hart ∷ harts) same each =
     ∙ ap (λ rest. test from || rest)
     (others_all test h line (suc from) caches harts (omega (arith, same)) (λ k number is. each (suc k) number (omega (arith, is))))
 
-others_same : (pool : Pooled) (bus : Kept) (state : ModelState) (h line : ℕ) → Shows bus state →
+others_same : (pool : Pooled) (bus : BusState) (state : ModelState) (h line : ℕ) → Shows bus state →
     copies.others_have (lent_all pool bus.copies.caches) h line ≡ others_have state h line
 others_same pool bus state h line shows =
     others_all (λ other. not (other == h) && is_resident (cache_of state other) line) h line 0 (lent_all pool bus.copies.caches) state.harts
@@ -200,7 +200,7 @@ claim_agent true request hart = refl
 claim_agent false request hart = refl
 
 -- where it is to write, no other hart that is not armed has a bit on its line
-unmet : (bus : Kept) (state : ModelState) (request : Request) (g : ℕ) → IsReady bus → Shows bus state →
+unmet : (bus : BusState) (state : ModelState) (request : Request) (g : ℕ) → IsReady bus → Shows bus state →
     request_of bus.order request.hart ≡ Some request →
     obstacle_to state request ≡ Free → armed_count (armed_of state g) ≡ 0 → g ≢ request.hart → request.need ≡ Write →
     has_bit (cache_of state g) request.line ≡ false
@@ -247,7 +247,7 @@ serving_armed state request g hart =
     ]
 
 -- the residency of each cache is the definition's
-served_cache : (bus new : Kept) (state : ModelState) (request : Request) (before after : Pooled) → IsReady bus →
+served_cache : (bus new : BusState) (state : ModelState) (request : Request) (before after : Pooled) → IsReady bus →
     Shows bus state → request.hart < length bus.agents →
     Serves request before after bus new → (g : ℕ) → g < length bus.agents →
     (slotted_at new.copies.caches g).residency ≡ (serving state request g (hart_of state g)).cache
@@ -279,7 +279,7 @@ served_cache bus new state request before after ready shows exists serves g belo
         ∙ ap (λ cache. own_after state.config.ways (others_have state request.hart request.line) request.need cache request.line) (shows.caches request.hart)
 
 -- a cache of a hart that is not armed has a bit where it had one
-served_marks : (bus new : Kept) (state : ModelState) (request : Request) (before after : Pooled) → IsReady bus →
+served_marks : (bus new : BusState) (state : ModelState) (request : Request) (before after : Pooled) → IsReady bus →
     Shows bus state → request_of bus.order request.hart ≡ Some request →
     obstacle_to state request ≡ Free → Serves request before after bus new → (g : ℕ) → g < length bus.agents →
     armed_count (armed_of state g) ≡ 0 →
@@ -320,7 +320,7 @@ served_marks bus new state request before after ready shows ordered free serves 
         (slotted_at bus.copies.caches request.hart).residency request.line well can.room
 
 -- and one without bits has none, which is of a hart without a live section
-serve_unmarked : (bus new : Kept) (request : Request) (before after : Pooled) → IsReady bus →
+serve_unmarked : (bus new : BusState) (request : Request) (before after : Pooled) → IsReady bus →
     request_of bus.order request.hart ≡ Some request → Serves request before after bus new → (g : ℕ) →
     IsUnmarked bus.copies g → IsUnmarked new.copies g
 serve_unmarked bus new request before after ready ordered serves g none =
@@ -346,7 +346,7 @@ serve_unmarked bus new request before after ready ordered serves g none =
         ∙ bare
 
 -- it tells of each hart whether it has a live section
-served_tells : (bus new : Kept) (state : ModelState) (request : Request) (before after : Pooled) → IsReady bus →
+served_tells : (bus new : BusState) (state : ModelState) (request : Request) (before after : Pooled) → IsReady bus →
     Shows bus state → request_of bus.order request.hart ≡ Some request →
     obstacle_to state request ≡ Free → Serves request before after bus new → (g : ℕ) → g < length bus.agents →
     TellsSection (serving state request g (hart_of state g))
@@ -365,7 +365,7 @@ served_tells bus new state request before after ready shows ordered free serves 
     }
 
 -- the state that is shown
-pub serve_shows : (bus new : Kept) (state : ModelState) (request : Request) (before after : Pooled) → IsReady bus → Shows bus state →
+pub serve_shows : (bus new : BusState) (state : ModelState) (request : Request) (before after : Pooled) → IsReady bus → Shows bus state →
     request_of bus.order request.hart ≡ Some request → obstacle_to state request ≡ Free →
     Serves request before after bus new → Shows new (served state request)
 unfolding served
@@ -396,7 +396,7 @@ serve_shows bus new state request before after ready shows ordered free serves =
     }
 
 -- every cache is as it must be
-served_well_formed : (bus new : Kept) (request : Request) (before after : Pooled) → IsReady bus → request_of bus.order request.hart ≡ Some request →
+served_well_formed : (bus new : BusState) (request : Request) (before after : Pooled) → IsReady bus → request_of bus.order request.hart ≡ Some request →
     Serves request before after bus new → (g : ℕ) → g < length bus.agents →
     IsWellFormed (slotted_at bus.copies.caches g).ways (slotted_at new.copies.caches g).residency
 served_well_formed bus new request before after ready ordered serves g below =
@@ -451,7 +451,7 @@ raised_after live request g agent =
       | inr other ↦ ap (λ (a : Agent). a.raised) (at_other g request.hart _ _ other)
     ]
 
-pub serve_ready : (bus new : Kept) (request : Request) (before after : Pooled) → IsReady bus → request_of bus.order request.hart ≡ Some request →
+pub serve_ready : (bus new : BusState) (request : Request) (before after : Pooled) → IsReady bus → request_of bus.order request.hart ≡ Some request →
     Serves request before after bus new → IsReady new
 serve_ready bus new request before after ready ordered serves = ready_after bus new ready (record {
   mode = serves.mode;

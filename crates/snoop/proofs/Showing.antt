@@ -13,7 +13,7 @@ use Rattle.snoop.proofs.Laws.Living.{TellsSection, tells, tells_nothing, tells_y
 use Rattle.snoop.specs.Agent.{Agent, agent_at, agent_of, new_agent, with_agent}
 use Rattle.rv_flat.specs.FlatState.{FlatState}
 use Rattle.snoop.specs.LettingGo.{KeepsBytes, with_committed}
-use Rattle.snoop.specs.Shows.{Holding, Kept, LiesWhere, Shows}
+use Rattle.snoop.specs.Shows.{Holding, BusState, LiesWhere, Shows}
 
 -- main memory that has not moved lies where it did
 pub lies_yet : (old new : Holding) (flat : FlatState) → new.first ≡ old.first → length new.lines ≡ length old.lines → LiesWhere old flat →
@@ -40,7 +40,7 @@ pub count_with_agent : (agents : List Agent) (h : ℕ) (agent : Agent) → lengt
 count_with_agent agents h agent = length-set agents h agent
 
 -- the state has another committed part, which has the same memory
-pub shows_committed : (bus : Kept) (state : ModelState) (committed : FlatState) → KeepsBytes state.committed committed → Shows bus state →
+pub shows_committed : (bus : BusState) (state : ModelState) (committed : FlatState) → KeepsBytes state.committed committed → Shows bus state →
     Shows bus (with_committed committed state)
 shows_committed bus state committed keeps shows = record {
   mode = shows.mode;
@@ -56,7 +56,7 @@ shows_committed bus state committed keeps shows = record {
 }
 
 -- the agent of one hart has changed, and no cache
-pub shows_told : (bus : Kept) (state : ModelState) (h : ℕ) (agent : Agent) (hart : Hart) → Shows bus state → agent ≡ agent_of hart →
+pub shows_told : (bus : BusState) (state : ModelState) (h : ℕ) (agent : Agent) (hart : Hart) → Shows bus state → agent ≡ agent_of hart →
     hart.cache ≡ cache_of state h → TellsSection hart →
     Shows (record bus { agents = with_agent bus.agents h agent }) (with_hart state h hart)
 shows_told bus state h agent hart shows is cache told = record {
@@ -98,14 +98,14 @@ shows_told bus state h agent hart shows is cache told = record {
     ]
 
 -- one hart has changed at the bus alone
-pub shows_agent : (bus : Kept) (state : ModelState) (h : ℕ) (agent : Agent) (hart : Hart) → Shows bus state → agent ≡ agent_of hart →
+pub shows_agent : (bus : BusState) (state : ModelState) (h : ℕ) (agent : Agent) (hart : Hart) → Shows bus state → agent ≡ agent_of hart →
     hart.section ≡ section_of state h → hart.armed ≡ armed_of state h → hart.cache ≡ cache_of state h →
     Shows (record bus { agents = with_agent bus.agents h agent }) (with_hart state h hart)
 shows_agent bus state h agent hart shows is section armed cache =
     shows_told bus state h agent hart shows is cache (tells_yet (hart_of state h) hart section armed cache (tells shows h))
 
 -- what each hart has become, as the bus shows it
-pub record ShowsEach (bus new : Kept) (state : ModelState) (becomes : ℕ → Hart → Hart) : Type 0 where
+pub record ShowsEach (bus new : BusState) (state : ModelState) (becomes : ℕ → Hart → Hart) : Type 0 where
   pub mode : new.mode ≡ bus.mode
   pub agent_each : length new.agents ≡ length bus.agents
   pub cache_each : length new.copies.caches ≡ length bus.copies.caches
@@ -115,7 +115,7 @@ pub record ShowsEach (bus new : Kept) (state : ModelState) (becomes : ℕ → Ha
   pub told : (h : ℕ) → h < length bus.agents → TellsSection (becomes h (hart_of state h))
   pub memory : LiesWhere new.copies state.committed
 
-pub shows_each : (bus new : Kept) (state : ModelState) (becomes : ℕ → Hart → Hart) → Shows bus state → ShowsEach bus new state becomes →
+pub shows_each : (bus new : BusState) (state : ModelState) (becomes : ℕ → Hart → Hart) → Shows bus state → ShowsEach bus new state becomes →
     Shows new (record (each_hart state becomes) { order = new.order })
 shows_each bus new state becomes shows each = record {
   mode = each.mode ∙ shows.mode;

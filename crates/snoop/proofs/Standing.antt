@@ -15,7 +15,7 @@ use Rattle.el_base.specs.declared.config.Mode.TheVariants.{Plain}
 use Rattle.snoop.proofs.Ready.{few_armed_yet, served_yet}
 use Rattle.snoop.proofs.Showing.{agent_other, agent_same, count_with_agent}
 use Rattle.snoop.specs.Agent.{Agent, agent_at, with_agent}
-use Rattle.snoop.specs.Shows.{CanBeServed, Holding, IsReady, IsUnmarked, Kept}
+use Rattle.snoop.specs.Shows.{CanBeServed, Holding, IsReady, IsUnmarked, BusState}
 
 pub ready_at_rest : (mode : Mode) (copies : Holding) (agents : List Agent) → length agents ≤ 8 →
     length copies.caches ≡ length agents →
@@ -55,7 +55,7 @@ few_armed_more (first ∷ agents) agent few here (suc h) = few_armed_more agents
 abbrev pub with_raised : List Agent → Request → List Agent
 with_raised agents request = with_agent agents request.hart (record (agent_at agents request.hart) { raised = Some request })
 
-pub ready_raised : (bus : Kept) (request : Request) → IsReady bus → request_of bus.order request.hart ≡ None →
+pub ready_raised : (bus : BusState) (request : Request) → IsReady bus → request_of bus.order request.hart ≡ None →
     CanBeServed bus request.hart request → IsReady (record bus { agents = with_raised bus.agents request })
 ready_raised bus request ready none can = record {
   few = omega (arith, ready.few, count);

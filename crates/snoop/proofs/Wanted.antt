@@ -8,7 +8,7 @@ use Rattle.el_base.specs.declared.outcomes.Need.{Need}
 use Rattle.el_base.specs.declared.outcomes.Need.TheVariants.{Read, Write}
 use Rattle.el_model.specs.Conflicts.{is_asked, is_wanted, writes}
 use Rattle.el_model.specs.State.{ModelState}
-use Rattle.snoop.specs.Shows.{Kept, Shows}
+use Rattle.snoop.specs.Shows.{BusState, Shows}
 
 -- whether one of these requests is another hart's for the line, and counts
 any_asked : (need : Need) (requests : List requests.Request) (h line : ℕ) →
@@ -25,7 +25,7 @@ by_need state h line Read = refl
 by_need state h line Write = refl
 
 -- the test that the bus makes is the definition's
-pub wanted_shown : (bus : Kept) (state : ModelState) (requests : List requests.Request) (h line : ℕ) (need : Need) →
+pub wanted_shown : (bus : BusState) (state : ModelState) (requests : List requests.Request) (h line : ℕ) (need : Need) →
     map numbered requests ≡ bus.order → Shows bus state →
     list_any (λ request. (request.line.number == line) && not (request.hart.number == h) && (writes need || writes request.need)) requests
     ≡ is_wanted state h line need

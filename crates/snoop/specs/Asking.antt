@@ -3,7 +3,7 @@ use Rattle.std.specs.Prelude.{ℕ, ◌≡◌, Option, None, Some}
 use Rattle.bus_order.specs.Order as order
 use Rattle.bus_order.specs.Order.{Request, request_of}
 use Rattle.snoop.specs.Agent.{agent_at}
-use Rattle.snoop.specs.Shows.{Kept}
+use Rattle.snoop.specs.Shows.{BusState}
 use Rattle.snoop.specs.declared.asked.Asked.{Asked}
 use Rattle.snoop.specs.declared.asked.Asked.TheVariants as declared
 
@@ -25,6 +25,6 @@ asking None (Some ordered) = Placed ordered
 asking None None = Nothing
 
 -- a hart waits for no request of its own
-pub record HasNoRequest (bus : Kept) (h : ℕ) : Type 0 where
+pub record HasNoRequest (bus : BusState) (h : ℕ) : Type 0 where
   pub none_raised : (agent_at bus.agents h).raised ≡ None
   pub none_ordered : request_of bus.order h ≡ None

@@ -8,7 +8,7 @@ use Rattle.coherence.specs.Changed.{IsChangedAt}
 use Rattle.coherence.specs.Lent.{IsLentTo, slotted_at}
 use Rattle.line_pool.specs.Pooled.{Pooled}
 use Rattle.snoop.specs.Agent.{Agent, agent_at, with_agent}
-use Rattle.snoop.specs.Shows.{Holding, Kept, TellsIn, lent_copies}
+use Rattle.snoop.specs.Shows.{Holding, BusState, TellsIn, lent_copies}
 
 -- what is left of the lines of a cache that has no bits any more where a test says so
 abbrev pub cleared_if : Bool → List (List Way) → List (List Way)
@@ -38,14 +38,14 @@ ClearsIf true h old new = IsClearedAt h old new
 ClearsIf false h old new = new ≡ old
 
 -- one hart has changed
-pub record IsHartChanged (becomes : Agent → Agent) (clears : Bool) (h : ℕ) (old new : Kept) : Type 0 where
+pub record IsHartChanged (becomes : Agent → Agent) (clears : Bool) (h : ℕ) (old new : BusState) : Type 0 where
   pub mode : new.mode ≡ old.mode
   pub order : new.order ≡ old.order
   pub agents : new.agents ≡ with_agent old.agents h (becomes (agent_at old.agents h))
   pub copies : ClearsIf clears h old.copies new.copies
 
 -- the harts below a number have changed, and the others are as they were
-pub record AreHartsChanged (becomes : ℕ → Agent → Agent) (clears : ℕ → Bool) (number : ℕ) (old new : Kept) : Type 0 where
+pub record AreHartsChanged (becomes : ℕ → Agent → Agent) (clears : ℕ → Bool) (number : ℕ) (old new : BusState) : Type 0 where
   pub mode : new.mode ≡ old.mode
   pub order : new.order ≡ old.order
   pub count : length new.agents ≡ length old.agents

@@ -9,7 +9,7 @@ use Rattle.mail.specs.Mailbox.{Message, Probe}
 use Rattle.snoop.specs.Agent.{Agent, agent_at, agent_behind, agent_posted, agent_seeing, agent_told, with_agent}
 use Rattle.snoop.specs.Changing.{IsClearedAt}
 use Rattle.snoop.specs.Settled.{in_removal}
-use Rattle.snoop.specs.Shows.{Kept}
+use Rattle.snoop.specs.Shows.{BusState}
 use Rattle.stamp.specs.Stamps.{Stamp}
 
 -- so many numbers from one on, ascending
@@ -37,13 +37,13 @@ probes_sent test [] to agents = agents
 probes_sent test (origin ∷ others) to agents = probes_sent test others to (probe_sent (test origin) origin to agents)
 
 -- the probes by which a hart passes on what it was told of the line of its own request
-abbrev pub passed_on : Kept → ℕ → ℕ → Option Request → List Message
+abbrev pub passed_on : BusState → ℕ → ℕ → Option Request → List Message
 passed_on bus h to None = []
 passed_on bus h to (Some own) =
     map Probe (filter (passes (agent_at bus.agents h).told bus.order to own.line) (numbers_from 0 (length bus.agents)))
 
 -- the agents after a hart took a marker: its sender is before the hart from now on, and is sent a probe of the hart and what it was told
-abbrev pub marker_taken : Kept → ℕ → ℕ → List Agent
+abbrev pub marker_taken : BusState → ℕ → ℕ → List Agent
 marker_taken bus h sender =
     posts_sent (Probe h ∷ passed_on bus h sender (request_of bus.order h)) sender
     (with_agent bus.agents h (agent_behind sender (agent_at bus.agents h)))
@@ -67,7 +67,7 @@ abbrev pub Forwards : Bool → List ℕ → ℕ → List Agent → List Agent �
 Forwards true upstream origin old new = AreForwarded upstream origin old new
 Forwards false upstream origin old new = new ≡ old
 
-pub record IsForwarded (h origin : ℕ) (request : Option Request) (old new : Kept) : Type 0 where
+pub record IsForwarded (h origin : ℕ) (request : Option Request) (old new : BusState) : Type 0 where
   pub mode : new.mode ≡ old.mode
   pub copies : new.copies ≡ old.copies
   pub order : new.order ≡ old.order
@@ -78,7 +78,7 @@ abbrev pub agent_heard : ℕ → Option Stamp → Agent → Agent
 agent_heard origin stamp agent = agent_seeing stamp (agent_told origin agent)
 
 -- a hart was told of an origin, and has lost its section to the origin's request
-pub record IsLostTo (h origin : ℕ) (request : Option Request) (old new : Kept) : Type 0 where
+pub record IsLostTo (h origin : ℕ) (request : Option Request) (old new : BusState) : Type 0 where
   pub mode : new.mode ≡ old.mode
   pub order : new.order ≡ old.order
   pub agents : new.agents ≡ with_agent old.agents h (agent_heard origin (in_removal old.mode (stamp_in request)) (agent_at old.agents h))

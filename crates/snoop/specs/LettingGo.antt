@@ -10,7 +10,7 @@ use Rattle.el_model.specs.State.{Hart, ModelState, cache_of, hart_of}
 use Rattle.rv_flat.specs.FlatState.{FlatState}
 use Rattle.snoop.specs.Agent.{Agent, agent_at, agent_noted, agent_of}
 use Rattle.snoop.specs.Changing.{AreHartsChanged, IsHartChanged}
-use Rattle.snoop.specs.Shows.{Kept, lives}
+use Rattle.snoop.specs.Shows.{BusState, lives}
 
 -- memory lies where it did and has the bytes that it had. An armed section stores nothing, so this holds where harts are let go; the bus
 -- cannot know that, and its caller owes it
@@ -31,13 +31,13 @@ pub record IsNotedAs (state : ModelState) (h count : ℕ) (now : Hart) : Type 0 
   pub live : is_some now.section ≡ lives now.cache count
 
 -- whether a head, as it is met, lets the armed section of a hart go: it is to write, and the section has read its line
-abbrev pub frees : Kept → Request → ℕ → Bool
+abbrev pub frees : BusState → Request → ℕ → Bool
 frees bus head h =
     is_write head && not (head.hart == h) && not ((agent_at bus.agents h).armed == 0)
     && has_bit (slotted_at bus.copies.caches h).residency head.line
 
 -- how many instructions of a hart take effect then
-abbrev pub freed_at : Kept → Request → ℕ → ℕ
+abbrev pub freed_at : BusState → Request → ℕ → ℕ
 freed_at bus head h = if frees bus head h then (agent_at bus.agents h).armed else 0
 
 -- whether a hart is among those that are let go
@@ -50,8 +50,8 @@ agent_let_go true agent = agent_noted 0 agent
 agent_let_go false agent = agent
 
 -- one hart is let go where a test says so, and these harts below a number are: they have no bits any more, and are noted as not armed
-abbrev pub IsLetGo : Bool → ℕ → Kept → Kept → Type 0
+abbrev pub IsLetGo : Bool → ℕ → BusState → BusState → Type 0
 IsLetGo test h old new = IsHartChanged (agent_let_go test) test h old new
 
-abbrev pub AreLetGo : Freed → ℕ → Kept → Kept → Type 0
+abbrev pub AreLetGo : Freed → ℕ → BusState → BusState → Type 0
 AreLetGo freed number old new = AreHartsChanged (λ h. agent_let_go (goes freed h)) (goes freed) number old new

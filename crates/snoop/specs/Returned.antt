@@ -10,10 +10,10 @@ use Rattle.el_model.specs.Plain.{armed_count}
 use Rattle.el_model.specs.State.{Hart, ModelState, armed_of, hart_of, with_hart}
 use Rattle.rv_flat.specs.FlatState.{FlatState}
 use Rattle.snoop.specs.Agent.{agent_at, agent_of}
-use Rattle.snoop.specs.Shows.{Kept, LiesWhere, lives}
+use Rattle.snoop.specs.Shows.{BusState, LiesWhere, lives}
 
 -- another cache in the place of a hart's
-abbrev pub returned : Kept → ℕ → Slotted → Kept
+abbrev pub returned : BusState → ℕ → Slotted → BusState
 returned bus h cache = record bus { copies = record bus.copies { caches = slice_set bus.copies.caches h cache } }
 
 -- a cache with room for the line of a request
@@ -22,7 +22,7 @@ HasRoomFor cache request = room_of cache.ways cache.residency request.line ≡ t
 
 -- what is owed for the bus to be ready again: the cache is well formed, it has room for the hart's request, if it has one,
 -- and in the plain mode no line of it has a bit
-pub record IsReturned (bus : Kept) (h : ℕ) (cache : Slotted) : Type 0 where
+pub record IsReturned (bus : BusState) (h : ℕ) (cache : Slotted) : Type 0 where
   pub well_formed : IsWellFormed cache.ways cache.residency
   pub raised : (request : Request) → (agent_at bus.agents h).raised ≡ Some request → HasRoomFor cache request
   pub ordered : (request : Request) → request_of bus.order h ≡ Some request → HasRoomFor cache request
@@ -31,7 +31,7 @@ pub record IsReturned (bus : Kept) (h : ℕ) (cache : Slotted) : Type 0 where
 -- what is owed for it to show that the hart has become another, and that this is what is committed: the hart's part at the bus is as it
 -- was, its cache is the one that was given back, it is armed exactly where it was, it has a live section exactly where some line has a bit
 -- and it is not armed, and memory lies where it did
-pub record IsReturnedAs (bus : Kept) (state : ModelState) (h : ℕ) (cache : Slotted) (hart : Hart) (committed : FlatState) : Type 0 where
+pub record IsReturnedAs (bus : BusState) (state : ModelState) (h : ℕ) (cache : Slotted) (hart : Hart) (committed : FlatState) : Type 0 where
   pub agent : agent_of hart ≡ agent_of (hart_of state h)
   pub ways : cache.ways ≡ (slotted_at bus.copies.caches h).ways
   pub residency : hart.cache ≡ cache.residency

@@ -6,7 +6,7 @@ use Rattle.coherence.specs.Lent.{IsLentTo, LeavesHolds}
 use Rattle.coherence.specs.Served.{Copies, IsServed}
 use Rattle.snoop.specs.Agent.{Agent, agent_at, agent_forgetting, agent_served}
 use Rattle.line_pool.specs.Pooled.{Pooled}
-use Rattle.snoop.specs.Shows.{Kept, lent_copies, lives_at}
+use Rattle.snoop.specs.Shows.{BusState, lent_copies, lives_at}
 
 -- a hart without a live section holds the line that it was served; one with a live section has a bit instead
 abbrev pub agent_claiming : Bool → ℕ → Agent → Agent
@@ -34,7 +34,7 @@ pub record CopiesServe (live : Bool) (request : Request) (old new : Copies) : Ty
   pub claimed : CopiesClaim live request filled new
 
 -- what serving a request makes of the bus and of the pool that lends its caches, before the next head of its line is faced
-pub record Serves (request : Request) (before after : Pooled) (old new : Kept) : Type 0 where
+pub record Serves (request : Request) (before after : Pooled) (old new : BusState) : Type 0 where
   pub mode : new.mode ≡ old.mode
   pub agents : AgentsServe (lives_at old request.hart) request old.agents new.agents
   pub copies : CopiesServe (lives_at old request.hart) request (lent_copies before old.copies) (lent_copies after new.copies)

@@ -8,7 +8,7 @@ use Rattle.mail.specs.Mailbox.{Marker}
 use Rattle.snoop.specs.Agent.{Agent, agent_at, agent_posted, agent_seeing, with_agent}
 use Rattle.snoop.specs.Changing.{AreHartsChanged, IsHartChanged}
 use Rattle.snoop.specs.Fates.{numbered_fate, stamp_on}
-use Rattle.snoop.specs.Shows.{Kept}
+use Rattle.snoop.specs.Shows.{BusState}
 use Rattle.snoop.specs.declared.fates.Fate as fates
 use Rattle.stamp.specs.Stamps.{Stamp}
 
@@ -25,7 +25,7 @@ stamp_seen mode order head Stays = in_removal mode head.stamp
 stamp_seen mode order head (LosesTo winner) = in_removal mode (stamp_on order head.line winner)
 
 -- an agent as its hart has its fate
-abbrev pub settled_agent : Kept → Request → Fate → Agent → Agent
+abbrev pub settled_agent : BusState → Request → Fate → Agent → Agent
 settled_agent bus head fate agent = agent_seeing (stamp_seen bus.mode bus.order head fate) agent
 
 -- whether a fate is to lose
@@ -35,10 +35,10 @@ loses Stays = false
 loses (LosesTo winner) = true
 
 -- one hart has its fate, and the harts below a number have theirs: a loser's cache has no bits any more
-abbrev pub IsSettledAt : Request → Fate → ℕ → Kept → Kept → Type 0
+abbrev pub IsSettledAt : Request → Fate → ℕ → BusState → BusState → Type 0
 IsSettledAt head fate h old new = IsHartChanged (settled_agent old head fate) (loses fate) h old new
 
-abbrev pub AreSettledBelow : Request → (ℕ → Fate) → ℕ → Kept → Kept → Type 0
+abbrev pub AreSettledBelow : Request → (ℕ → Fate) → ℕ → BusState → BusState → Type 0
 AreSettledBelow head fate number old new = AreHartsChanged (λ h. settled_agent old head (fate h)) (λ h. loses (fate h)) number old new
 
 -- the agents after a hart with this fate has sent a marker, where it stays

@@ -46,14 +46,14 @@ abbrev pub IsUnmarked : Holding → ℕ → Type 0
 IsUnmarked holding h = has_marks (slotted_at holding.caches h).residency ≡ false
 
 -- what the bus keeps
-pub record Kept : Type 0 where
+pub record BusState : Type 0 where
   pub mode : Mode
   pub copies : Holding  -- main memory and the caches
   pub agents : List Agent
   pub order : List Request
 
-abbrev pub kept : buses.Bus → Kept
-kept bus = record { mode = bus.mode; copies = holding_of bus.hierarchy; agents = bus.agents.items; order = bus.order }
+abbrev pub bus_state : buses.Bus → BusState
+bus_state bus = record { mode = bus.mode; copies = holding_of bus.hierarchy; agents = bus.agents.items; order = bus.order }
 
 -- main memory lies where the state's memory does, and is as long
 pub record LiesWhere (copies : Holding) (flat : FlatState) : Type 0 where
@@ -64,12 +64,12 @@ pub record LiesWhere (copies : Holding) (flat : FlatState) : Type 0 where
 abbrev pub lives : List (List Way) → ℕ → Bool
 lives cache count = has_marks cache && (count == 0)
 
-abbrev pub lives_at : Kept → ℕ → Bool
+abbrev pub lives_at : BusState → ℕ → Bool
 lives_at bus h = lives (slotted_at bus.copies.caches h).residency (agent_at bus.agents h).armed
 
 -- each part is the definition's, and main memory lies in its place; a hart has a live section exactly where some line of its cache has a
 -- bit and it is not armed, and an armed one has run an instruction
-pub record Shows (bus : Kept) (state : ModelState) : Type 0 where
+pub record Shows (bus : BusState) (state : ModelState) : Type 0 where
   pub mode : bus.mode ≡ state.config.mode
   pub ways : (h : ℕ) → h < length state.harts → (slotted_at bus.copies.caches h).ways ≡ state.config.ways
   pub agent_each : length bus.agents ≡ length state.harts
@@ -83,7 +83,7 @@ pub record Shows (bus : Kept) (state : ModelState) : Type 0 where
 
 -- a request can be served once it is the head of its line and nothing is in its way: its hart is there, its line lies in
 -- memory, and the hart's cache has room for it
-pub record CanBeServed (bus : Kept) (h : ℕ) (request : Request) : Type 0 where
+pub record CanBeServed (bus : BusState) (h : ℕ) (request : Request) : Type 0 where
   pub own : request.hart ≡ h
   pub hart_exists : h < length bus.agents
   pub in_memory : LiesIn bus.copies request.line
@@ -91,7 +91,7 @@ pub record CanBeServed (bus : Kept) (h : ℕ) (request : Request) : Type 0 where
 
 -- what each call of the bus needs, and leaves: each request can be served, a hart has at most one, an armed section has
 -- run 15 instructions at most, and in the plain mode no line has a bit
-pub record IsReady (bus : Kept) : Type 0 where
+pub record IsReady (bus : BusState) : Type 0 where
   pub few : length bus.agents ≤ 8
   pub each : length bus.copies.caches ≡ length bus.agents
   pub well_formed : (h : ℕ) → h < length bus.copies.caches → IsWellFormed (slotted_at bus.copies.caches h).ways (slotted_at bus.copies.caches h).residency
@@ -108,14 +108,14 @@ pub record TellsIn (pool : Pooled) (holding : Holding) (bytes : ℕ → List ℕ
   pub told : TellsOf (lent_copies pool holding) bytes
 
 -- so for those of the bus
-abbrev pub Tells : Pooled → Kept → (ℕ → List ℕ) → Type 0
+abbrev pub Tells : Pooled → BusState → (ℕ → List ℕ) → Type 0
 Tells pool bus bytes = TellsIn pool bus.copies bytes
 
 -- and of some bytes
-pub record IsTold (pool : Pooled) (bus : Kept) : Type 0 where
+pub record IsTold (pool : Pooled) (bus : BusState) : Type 0 where
   pub bytes : ℕ → List ℕ
   pub tells : Tells pool bus bytes
 
 -- whatever a pool and the caches told, they tell still
-abbrev pub StaysTold : Kept → Kept → Type 0
+abbrev pub StaysTold : BusState → BusState → Type 0
 StaysTold old new = (pool : Pooled) (bytes : ℕ → List ℕ) → Tells pool old bytes → Tells pool new bytes

@@ -16,7 +16,7 @@ ghost use Rattle.line_pool.specs.Pooled.{Pooled};
 ghost use Rattle.snoop.specs.Agent.{agent_at};
 ghost use Rattle.snoop.specs.Asking.{HasNoRequest, asking, numbered_asked};
 ghost use Rattle.snoop.specs.LettingGo.{IsNotedAs};
-ghost use Rattle.snoop.specs.Shows.{IsReady, IsTold, LiesIn, Shows, Tells, has_room_in, kept};
+ghost use Rattle.snoop.specs.Shows.{IsReady, IsTold, LiesIn, Shows, Tells, has_room_in, bus_state};
 
 use crate::agent::Agent;
 use crate::agents::{close_attempt, give_up, new_agents, note_armed, open_attempt, raise};
@@ -48,12 +48,12 @@ impl Bus {
     pub fn make(alloc: Global, image: &Image, config: &Config) -> Result<Bus, NoMemory>
         requires in_range { IsInRange config.now }
         requires one_hart_each { image.now.harts ≡ config.now.harts }
-        ensures ready { IfOk result (λ bus. IsReady (kept bus)) }
-        ensures shows { IfOk result (λ bus. Shows (kept bus) (begin image.now config.now)) }
-        ensures memory { IfOk result (λ bus. (kept bus).copies.lines ≡ lines_at_first image.now) }
+        ensures ready { IfOk result (λ bus. IsReady (bus_state bus)) }
+        ensures shows { IfOk result (λ bus. Shows (bus_state bus) (begin image.now config.now)) }
+        ensures memory { IfOk result (λ bus. (bus_state bus).copies.lines ≡ lines_at_first image.now) }
         ensures told { IfOk result (λ bus. (pool : Pooled) →
             Offers pool config.now.harts (config.now.sets * config.now.ways) →
-            Tells pool (kept bus) (bytes_at_first image.now)) }
+            Tells pool (bus_state bus) (bytes_at_first image.now)) }
     {
         Ok(Bus {
             mode: config.mode,
@@ -65,32 +65,32 @@ impl Bus {
 
     /// How many harts there are.
     pub fn harts(&self) -> usize
-        ensures { result ≡ length (kept self.now).agents }
+        ensures { result ≡ length (bus_state self.now).agents }
     {
         self.agents.len()
     }
 
     /// A hart's agent.
     pub fn agent(&self, hart: HartId) -> &Agent
-        requires { hart.number < length (kept self.now).agents }
-        ensures { result.now ≡ agent_at (kept self.now).agents hart.number }
+        requires { hart.number < length (bus_state self.now).agents }
+        ensures { result.now ≡ agent_at (bus_state self.now).agents hart.number }
     {
         &self.agents[usize::from(hart.number)]
     }
 
     /// The order of requests.
     pub fn requests(&self) -> &Order
-        ensures { result.now ≡ (kept self.now).order }
+        ensures { result.now ≡ (bus_state self.now).order }
     {
         &self.order
     }
 
     /// What a hart has asked: the request that it has raised, or else the one that it has in the order.
     pub fn request(&self, hart: HartId) -> Asked
-        requires { hart.number < length (kept self.now).agents }
-        ensures exact { numbered_asked result ≡ asking (agent_at (kept self.now).agents hart.number).raised
-            (request_of (kept self.now).order hart.number) }
-        ensures shown { (state : ModelState) → Shows (kept self.now) state →
+        requires { hart.number < length (bus_state self.now).agents }
+        ensures exact { numbered_asked result ≡ asking (agent_at (bus_state self.now).agents hart.number).raised
+            (request_of (bus_state self.now).order hart.number) }
+        ensures shown { (state : ModelState) → Shows (bus_state self.now) state →
             numbered_asked result ≡ asking (raised_of state hart.number) (ordered_of state hart.number) }
     {
         match (self.agent(hart).raised(), self.order.of(hart)) {
@@ -103,16 +103,16 @@ impl Bus {
     /// A hart raises a request for a line, with the stamp of its open attempt, if one is open. The hart has no
     /// request and holds no line, the line lies in memory, and the hart's cache has room for it.
     pub fn raise(&mut self, hart: HartId, line: LineAddr, need: Need)
-        requires hart_exists { hart.number < length (kept self.old).agents }
-        requires ready { IsReady (kept self.old) }
-        requires no_request { HasNoRequest (kept self.old) hart.number }
-        requires holds_nothing { (agent_at (kept self.old).agents hart.number).held ≡ None }
-        requires in_memory { LiesIn (kept self.old).copies line.number }
-        requires room { has_room_in (kept self.old).copies hart.number line.number ≡ true }
-        ensures ready { IsReady (kept self.new) }
-        ensures shows { (state : ModelState) → Shows (kept self.old) state → Shows (kept self.new)
+        requires hart_exists { hart.number < length (bus_state self.old).agents }
+        requires ready { IsReady (bus_state self.old) }
+        requires no_request { HasNoRequest (bus_state self.old) hart.number }
+        requires holds_nothing { (agent_at (bus_state self.old).agents hart.number).held ≡ None }
+        requires in_memory { LiesIn (bus_state self.old).copies line.number }
+        requires room { has_room_in (bus_state self.old).copies hart.number line.number ≡ true }
+        ensures ready { IsReady (bus_state self.new) }
+        ensures shows { (state : ModelState) → Shows (bus_state self.old) state → Shows (bus_state self.new)
             (with_hart state hart.number (missed_hart hart.number line.number need (hart_of state hart.number))) }
-        ensures copies_stay { (kept self.new).copies ≡ (kept self.old).copies }
+        ensures copies_stay { (bus_state self.new).copies ≡ (bus_state self.old).copies }
     {
         let stamp = self.agent(hart).attempt();
         raise(
@@ -128,12 +128,12 @@ impl Bus {
 
     /// A hart holds no line any more, if it held one.
     pub fn give_up(&mut self, hart: HartId)
-        requires hart_exists { hart.number < length (kept self.old).agents }
-        requires ready { IsReady (kept self.old) }
-        ensures ready { IsReady (kept self.new) }
-        ensures shows { (state : ModelState) → Shows (kept self.old) state → Shows (kept self.new)
+        requires hart_exists { hart.number < length (bus_state self.old).agents }
+        requires ready { IsReady (bus_state self.old) }
+        ensures ready { IsReady (bus_state self.new) }
+        ensures shows { (state : ModelState) → Shows (bus_state self.old) state → Shows (bus_state self.new)
             (with_hart state hart.number (record (hart_of state hart.number) { held = None })) }
-        ensures copies_stay { (kept self.new).copies ≡ (kept self.old).copies }
+        ensures copies_stay { (bus_state self.new).copies ≡ (bus_state self.old).copies }
     {
         give_up(&mut self.agents, hart);
     }
@@ -143,13 +143,13 @@ impl Bus {
     /// section's bit; where its live section begins, 0 is noted, and the bit is that section's from then on; and where
     /// it is let go, its bit is cleared before 0 is noted.
     pub fn note_armed(&mut self, hart: HartId, count: u8)
-        requires hart_exists { hart.number < length (kept self.old).agents }
-        requires ready { IsReady (kept self.old) }
+        requires hart_exists { hart.number < length (bus_state self.old).agents }
+        requires ready { IsReady (bus_state self.old) }
         requires few { count ≤ 15 }
-        ensures ready { IsReady (kept self.new) }
-        ensures shows { (state : ModelState) (now : Hart) → Shows (kept self.old) state →
-            IsNotedAs state hart.number count now → Shows (kept self.new) (with_hart state hart.number now) }
-        ensures copies_stay { (kept self.new).copies ≡ (kept self.old).copies }
+        ensures ready { IsReady (bus_state self.new) }
+        ensures shows { (state : ModelState) (now : Hart) → Shows (bus_state self.old) state →
+            IsNotedAs state hart.number count now → Shows (bus_state self.new) (with_hart state hart.number now) }
+        ensures copies_stay { (bus_state self.new).copies ≡ (bus_state self.old).copies }
     {
         note_armed(&mut self.agents, hart, count);
     }
@@ -157,14 +157,14 @@ impl Bus {
     /// In lock removal an attempt of a hart opens, with the hart's clock as its stamp, where none is open; in
     /// the other modes nothing changes. The hart has no request.
     pub fn open_attempt(&mut self, hart: HartId)
-        requires hart_exists { hart.number < length (kept self.old).agents }
-        requires ready { IsReady (kept self.old) }
-        requires no_request { HasNoRequest (kept self.old) hart.number }
-        ensures ready { IsReady (kept self.new) }
-        ensures shows { (state : ModelState) → Shows (kept self.old) state → Shows (kept self.new)
+        requires hart_exists { hart.number < length (bus_state self.old).agents }
+        requires ready { IsReady (bus_state self.old) }
+        requires no_request { HasNoRequest (bus_state self.old) hart.number }
+        ensures ready { IsReady (bus_state self.new) }
+        ensures shows { (state : ModelState) → Shows (bus_state self.old) state → Shows (bus_state self.new)
             (with_hart state hart.number
             (attempts.open_attempt state.config.mode hart.number (hart_of state hart.number))) }
-        ensures copies_stay { (kept self.new).copies ≡ (kept self.old).copies }
+        ensures copies_stay { (bus_state self.new).copies ≡ (bus_state self.old).copies }
     {
         open_attempt(&mut self.agents, self.mode, hart);
     }
@@ -172,24 +172,24 @@ impl Bus {
     /// The open attempt of a hart closes, where one is open, and the hart's clock becomes one more than the
     /// greater of itself and the clock that the hart has seen. The hart has no request.
     pub fn close_attempt(&mut self, hart: HartId)
-        requires hart_exists { hart.number < length (kept self.old).agents }
-        requires ready { IsReady (kept self.old) }
-        requires no_request { HasNoRequest (kept self.old) hart.number }
-        requires clock_below_the_last { (agent_at (kept self.old).agents hart.number).clock < u64.MAX }
-        requires seen_below_the_last { (agent_at (kept self.old).agents hart.number).seen < u64.MAX }
-        ensures ready { IsReady (kept self.new) }
-        ensures shows { (state : ModelState) → Shows (kept self.old) state → Shows (kept self.new)
+        requires hart_exists { hart.number < length (bus_state self.old).agents }
+        requires ready { IsReady (bus_state self.old) }
+        requires no_request { HasNoRequest (bus_state self.old) hart.number }
+        requires clock_below_the_last { (agent_at (bus_state self.old).agents hart.number).clock < u64.MAX }
+        requires seen_below_the_last { (agent_at (bus_state self.old).agents hart.number).seen < u64.MAX }
+        ensures ready { IsReady (bus_state self.new) }
+        ensures shows { (state : ModelState) → Shows (bus_state self.old) state → Shows (bus_state self.new)
             (with_hart state hart.number (attempts.close_attempt (hart_of state hart.number))) }
-        ensures copies_stay { (kept self.new).copies ≡ (kept self.old).copies }
+        ensures copies_stay { (bus_state self.new).copies ≡ (bus_state self.old).copies }
     {
         close_attempt(&mut self.agents, hart);
     }
 
     /// The cache of a hart.
     pub fn sets(&self, hart: HartId) -> &Sets
-        requires { hart.number < length (kept self.now).copies.caches }
-        ensures exact { result.now ≡ slotted_at (kept self.now).copies.caches hart.number }
-        ensures shown { (state : ModelState) → Shows (kept self.now) state →
+        requires { hart.number < length (bus_state self.now).copies.caches }
+        ensures exact { result.now ≡ slotted_at (bus_state self.now).copies.caches hart.number }
+        ensures shown { (state : ModelState) → Shows (bus_state self.now) state →
             result.now.residency ≡ cache_of state hart.number }
     {
         self.hierarchy.cache(hart)
@@ -199,9 +199,9 @@ impl Bus {
     /// is as it was. Later calls need a bus that is ready: what the caller owes for that is `IsReturned`, in
     /// `specs/Returned.antt`. Those with a pool need one that lends the caches (`Tells` in `specs/Shows.antt`).
     pub fn sets_mut(&mut self, hart: HartId) -> &mut Sets
-        requires { hart.number < length (kept self.old).copies.caches }
+        requires { hart.number < length (bus_state self.old).copies.caches }
         ensures* lends { sem 𝓛 (LendsSets self.entry hart.number result) }
-        ensures value { result.now ≡ slotted_at (kept self.old).copies.caches hart.number }
+        ensures value { result.now ≡ slotted_at (bus_state self.old).copies.caches hart.number }
     {
         self.hierarchy.cache_mut(hart)
     }
@@ -209,10 +209,10 @@ impl Bus {
     /// The byte at an address of committed memory: that of the copy which main memory may be behind, and where
     /// there is none such, main memory's. `None` comes exactly outside memory.
     pub fn byte(&self, pool: &Pool, address: u32) -> Option<u8>
-        requires ready { IsReady (kept self.now) }
-        requires told { IsTold pool.now (kept self.now) }
-        ensures none_exactly_outside { IsNone result ↔ ¬ (LiesIn (kept self.now).copies (line_number address)) }
-        ensures committed { (bytes : ℕ → List ℕ) → Tells pool.now (kept self.now) bytes → IfSome result (λ byte.
+        requires ready { IsReady (bus_state self.now) }
+        requires told { IsTold pool.now (bus_state self.now) }
+        ensures none_exactly_outside { IsNone result ↔ ¬ (LiesIn (bus_state self.now).copies (line_number address)) }
+        ensures committed { (bytes : ℕ → List ℕ) → Tells pool.now (bus_state self.now) bytes → IfSome result (λ byte.
             byte ≡ slice_index (bytes (line_number address)) (address % LINE_BYTES)) }
     {
         self.hierarchy.byte(pool, address)
@@ -220,9 +220,9 @@ impl Bus {
 
     /// The byte at an address of memory in main memory, whatever copies there are.
     pub fn main_byte(&self, address: u32) -> u8
-        requires { LiesIn (kept self.now).copies (line_number address) }
+        requires { LiesIn (bus_state self.now).copies (line_number address) }
         ensures { result ≡ slice_index
-            (behind_of (kept self.now).copies.first (kept self.now).copies.lines (line_number address))
+            (behind_of (bus_state self.now).copies.first (bus_state self.now).copies.lines (line_number address))
             (address % LINE_BYTES) }
     {
         self.hierarchy.main_byte(address)

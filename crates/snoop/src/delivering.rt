@@ -24,7 +24,7 @@ ghost use Rattle.snoop.specs.Delivering.{
   probes_sent,
 };
 ghost use Rattle.snoop.specs.Settled.{in_removal};
-ghost use Rattle.snoop.specs.Shows.{IsReady, Shows, StaysTold, kept};
+ghost use Rattle.snoop.specs.Shows.{IsReady, Shows, StaysTold, bus_state};
 ghost use Rattle.stamp.specs.Stamps as stamps;
 
 use crate::agent::Agent;
@@ -47,15 +47,15 @@ impl Bus {
     /// The idea of markers and probes is that of R. Rajwar and J. R. Goodman, 'Transactional Lock-Free Execution of
     /// Lock-Based Programs', ASPLOS 2002.
     pub fn deliver(&mut self, hart: HartId) -> Outcome
-        requires hart_exists { hart.number < length (kept self.old).agents }
-        requires ready { IsReady (kept self.old) }
-        ensures ready { IsReady (kept self.new) }
-        ensures state { (state : ModelState) → Shows (kept self.old) state →
-            Shows (kept self.new) (delivery.deliver_turn state hart.number).state }
-        ensures outcome { (state : ModelState) → Shows (kept self.old) state →
+        requires hart_exists { hart.number < length (bus_state self.old).agents }
+        requires ready { IsReady (bus_state self.old) }
+        ensures ready { IsReady (bus_state self.new) }
+        ensures state { (state : ModelState) → Shows (bus_state self.old) state →
+            Shows (bus_state self.new) (delivery.deliver_turn state hart.number).state }
+        ensures outcome { (state : ModelState) → Shows (bus_state self.old) state →
             result ≡ (delivery.deliver_turn state hart.number).outcome }
-        ensures memory_stays { (kept self.new).copies.lines ≡ (kept self.old).copies.lines }
-        ensures told { StaysTold (kept self.old) (kept self.new) }
+        ensures memory_stays { (bus_state self.new).copies.lines ≡ (bus_state self.old).copies.lines }
+        ensures told { StaysTold (bus_state self.old) (bus_state self.new) }
     {
         match self.take_message(hart) {
             Some(message) => Outcome::Delivered {
@@ -67,15 +67,15 @@ impl Bus {
 
     /// The oldest message is taken out of the hart's mailbox.
     fn take_message(&mut self, hart: HartId) -> Option<Message>
-        requires hart_exists { hart.number < length (kept self.old).agents }
-        requires ready { IsReady (kept self.old) }
-        ensures ready { IsReady (kept self.new) }
-        ensures hart_exists { hart.number < length (kept self.new).agents }
-        ensures message { (state : ModelState) → Shows (kept self.old) state →
+        requires hart_exists { hart.number < length (bus_state self.old).agents }
+        requires ready { IsReady (bus_state self.old) }
+        ensures ready { IsReady (bus_state self.new) }
+        ensures hart_exists { hart.number < length (bus_state self.new).agents }
+        ensures message { (state : ModelState) → Shows (bus_state self.old) state →
             option_map mailbox.numbered result ≡ mailbox.oldest (hart_of state hart.number).mail }
-        ensures shows { (state : ModelState) → Shows (kept self.old) state → Shows (kept self.new)
+        ensures shows { (state : ModelState) → Shows (bus_state self.old) state → Shows (bus_state self.new)
             (delivery.taken state hart.number (mailbox.without_oldest (hart_of state hart.number).mail)) }
-        ensures copies_stay { (kept self.new).copies ≡ (kept self.old).copies }
+        ensures copies_stay { (bus_state self.new).copies ≡ (bus_state self.old).copies }
     {
         take_message(&mut self.agents, hart)
     }
@@ -83,15 +83,15 @@ impl Bus {
     /// A message that was taken takes effect.
     #[tactic(auto, unfolding(el_model::specs::Deliver::delivered))]
     fn take_effect(&mut self, hart: HartId, message: Message) -> Losers
-        requires hart_exists { hart.number < length (kept self.old).agents }
-        requires ready { IsReady (kept self.old) }
-        ensures ready { IsReady (kept self.new) }
-        ensures shows { (state : ModelState) → Shows (kept self.old) state →
-            Shows (kept self.new) (delivery.delivered state hart.number (mailbox.numbered message)) }
-        ensures losers { (state : ModelState) → Shows (kept self.old) state →
+        requires hart_exists { hart.number < length (bus_state self.old).agents }
+        requires ready { IsReady (bus_state self.old) }
+        ensures ready { IsReady (bus_state self.new) }
+        ensures shows { (state : ModelState) → Shows (bus_state self.old) state →
+            Shows (bus_state self.new) (delivery.delivered state hart.number (mailbox.numbered message)) }
+        ensures losers { (state : ModelState) → Shows (bus_state self.old) state →
             result ≡ delivery.losers_by state hart.number (mailbox.numbered message) }
-        ensures memory_stays { (kept self.new).copies.lines ≡ (kept self.old).copies.lines }
-        ensures told { StaysTold (kept self.old) (kept self.new) }
+        ensures memory_stays { (bus_state self.new).copies.lines ≡ (bus_state self.old).copies.lines }
+        ensures told { StaysTold (bus_state self.old) (bus_state self.new) }
     {
         match message {
             Message::Marker { from } => {
@@ -104,22 +104,22 @@ impl Bus {
 
     /// The sender of a marker is before the hart from now on, and is sent what the hart knows.
     fn take_marker(&mut self, hart: HartId, sender: HartId)
-        requires hart_exists { hart.number < length (kept self.old).agents }
-        requires ready { IsReady (kept self.old) }
-        ensures ready { IsReady (kept self.new) }
-        ensures shows { (state : ModelState) → Shows (kept self.old) state →
-            Shows (kept self.new) (delivery.after_marker state hart.number sender.number) }
-        ensures copies_stay { (kept self.new).copies ≡ (kept self.old).copies }
+        requires hart_exists { hart.number < length (bus_state self.old).agents }
+        requires ready { IsReady (bus_state self.old) }
+        ensures ready { IsReady (bus_state self.new) }
+        ensures shows { (state : ModelState) → Shows (bus_state self.old) state →
+            Shows (bus_state self.new) (delivery.after_marker state hart.number sender.number) }
+        ensures copies_stay { (bus_state self.new).copies ≡ (bus_state self.old).copies }
     {
         self.answer_marker(hart, sender);
     }
 
     /// The same, agent by agent.
     fn answer_marker(&mut self, hart: HartId, sender: HartId)
-        requires hart_exists { hart.number < length (kept self.old).agents }
-        requires few { length (kept self.old).agents ≤ 8 }
-        ensures { kept self.new ≡ record (kept self.old) {
-          agents = marker_taken (kept self.old) hart.number sender.number;
+        requires hart_exists { hart.number < length (bus_state self.old).agents }
+        requires few { length (bus_state self.old).agents ≤ 8 }
+        ensures { bus_state self.new ≡ record (bus_state self.old) {
+          agents = marker_taken (bus_state self.old) hart.number sender.number;
         } }
     {
         come_behind(&mut self.agents, hart, sender);
@@ -132,12 +132,12 @@ impl Bus {
     /// A hart passes on to another what it was told of a line, one origin after another.
     #[tactic(auto, using(crate::proofs::Delivers::none_passed, crate::proofs::Delivers::one_passed, crate::proofs::Delivers::all_passed))]
     fn pass_on(&mut self, hart: HartId, to: HartId, line: LineAddr)
-        requires hart_exists { hart.number < length (kept self.old).agents }
-        requires few { length (kept self.old).agents ≤ 8 }
-        ensures { kept self.new ≡ record (kept self.old) {
+        requires hart_exists { hart.number < length (bus_state self.old).agents }
+        requires few { length (bus_state self.old).agents ≤ 8 }
+        ensures { bus_state self.new ≡ record (bus_state self.old) {
           agents = probes_sent
-              (passes (agent_at (kept self.old).agents hart.number).told (kept self.old).order to.number line.number)
-              (numbers_from 0 (length (kept self.old).agents)) to.number (kept self.old).agents;
+              (passes (agent_at (bus_state self.old).agents hart.number).told (bus_state self.old).order to.number line.number)
+              (numbers_from 0 (length (bus_state self.old).agents)) to.number (bus_state self.old).agents;
         } }
     {
         for number in 0..self.agents.len() {
@@ -147,12 +147,12 @@ impl Bus {
 
     /// A hart is sent a probe of an origin, if another was told of that and it is ordered on a line.
     fn pass_one(&mut self, hart: HartId, to: HartId, line: LineAddr, origin: HartId)
-        requires { hart.number < length (kept self.old).agents }
-        ensures { kept self.new ≡ record (kept self.old) {
+        requires { hart.number < length (bus_state self.old).agents }
+        ensures { bus_state self.new ≡ record (bus_state self.old) {
           agents = probe_sent
-              (passes (agent_at (kept self.old).agents hart.number).told (kept self.old).order
+              (passes (agent_at (bus_state self.old).agents hart.number).told (bus_state self.old).order
               to.number line.number origin.number)
-              origin.number to.number (kept self.old).agents;
+              origin.number to.number (bus_state self.old).agents;
         } }
     {
         if origin != to && self.agent(hart).knows(origin) && self.is_ordered_on(line, origin) {
@@ -162,17 +162,17 @@ impl Bus {
 
     /// A probe tells the hart of its origin, where it was not told before.
     fn take_probe(&mut self, hart: HartId, origin: HartId) -> Losers
-        requires hart_exists { hart.number < length (kept self.old).agents }
-        requires ready { IsReady (kept self.old) }
-        ensures ready { IsReady (kept self.new) }
-        ensures shows { (state : ModelState) → Shows (kept self.old) state → Shows (kept self.new)
+        requires hart_exists { hart.number < length (bus_state self.old).agents }
+        requires ready { IsReady (bus_state self.old) }
+        ensures ready { IsReady (bus_state self.new) }
+        ensures shows { (state : ModelState) → Shows (bus_state self.old) state → Shows (bus_state self.new)
             (if has (hart_of state hart.number).told origin.number then state
             else delivery.after_probe state hart.number origin.number (ordered_of state origin.number)) }
-        ensures losers { (state : ModelState) → Shows (kept self.old) state → result
+        ensures losers { (state : ModelState) → Shows (bus_state self.old) state → result
             ≡ (if has (hart_of state hart.number).told origin.number then delivery.nobody
             else delivery.probe_losers state hart.number origin.number (ordered_of state origin.number)) }
-        ensures memory_stays { (kept self.new).copies.lines ≡ (kept self.old).copies.lines }
-        ensures told { StaysTold (kept self.old) (kept self.new) }
+        ensures memory_stays { (bus_state self.new).copies.lines ≡ (bus_state self.old).copies.lines }
+        ensures told { StaysTold (bus_state self.old) (bus_state self.new) }
     {
         if self.agent(hart).knows(origin) {
             return Losers::none();
@@ -185,17 +185,17 @@ impl Bus {
 
     /// The hart is told of an origin, whose request may cost it its section.
     fn hear_of(&mut self, hart: HartId, origin: HartId, request: Option<Request>) -> Losers
-        requires hart_exists { hart.number < length (kept self.old).agents }
-        requires ready { IsReady (kept self.old) }
-        ensures ready { IsReady (kept self.new) }
-        ensures hart_exists { hart.number < length (kept self.new).agents }
-        ensures shows { (state : ModelState) → Shows (kept self.old) state → Shows (kept self.new)
+        requires hart_exists { hart.number < length (bus_state self.old).agents }
+        requires ready { IsReady (bus_state self.old) }
+        ensures ready { IsReady (bus_state self.new) }
+        ensures hart_exists { hart.number < length (bus_state self.new).agents }
+        ensures shows { (state : ModelState) → Shows (bus_state self.old) state → Shows (bus_state self.new)
             (with_hart state hart.number
             (delivery.told_of state hart.number origin.number (option_map numbered request))) }
-        ensures losers { (state : ModelState) → Shows (kept self.old) state →
+        ensures losers { (state : ModelState) → Shows (bus_state self.old) state →
             result ≡ delivery.probe_losers state hart.number origin.number (option_map numbered request) }
-        ensures memory_stays { (kept self.new).copies.lines ≡ (kept self.old).copies.lines }
-        ensures told { StaysTold (kept self.old) (kept self.new) }
+        ensures memory_stays { (bus_state self.new).copies.lines ≡ (bus_state self.old).copies.lines }
+        ensures told { StaysTold (bus_state self.old) (bus_state self.new) }
     {
         if self.loses_to_origin(hart, request) {
             self.lose_to(hart, origin, request);
@@ -209,9 +209,9 @@ impl Bus {
     /// The hart is told of an origin, and its section has lost to the origin's request: its cache has no bits any
     /// more, and in lock removal the hart has seen the request's stamp.
     fn lose_to(&mut self, hart: HartId, origin: HartId, request: Option<Request>)
-        requires hart_exists { hart.number < length (kept self.old).agents }
-        requires ready { IsReady (kept self.old) }
-        ensures { IsLostTo hart.number origin.number (option_map numbered request) (kept self.old) (kept self.new) }
+        requires hart_exists { hart.number < length (bus_state self.old).agents }
+        requires ready { IsReady (bus_state self.old) }
+        ensures { IsLostTo hart.number origin.number (option_map numbered request) (bus_state self.old) (bus_state self.new) }
     {
         let stamp = self.stamp_to_see(request);
         hear(&mut self.agents, hart, origin, stamp);
@@ -221,7 +221,7 @@ impl Bus {
     /// The stamp that is seen of a request, in lock removal.
     fn stamp_to_see(&self, request: Option<Request>) -> Option<Stamp>
         ensures { option_map stamps.numbered_stamp result ≡
-            in_removal (kept self.now).mode (stamp_in (option_map numbered request)) }
+            in_removal (bus_state self.now).mode (stamp_in (option_map numbered request)) }
     {
         match (self.mode, request) {
             (Mode::Tlr, Some(request)) => request.stamp,
@@ -231,9 +231,9 @@ impl Bus {
 
     /// Whether the hart's section retains the line of an origin's request and has the greater stamp.
     fn loses_to_origin(&self, hart: HartId, request: Option<Request>) -> bool
-        requires hart_exists { hart.number < length (kept self.now).agents }
-        requires ready { IsReady (kept self.now) }
-        ensures { (state : ModelState) → Shows (kept self.now) state →
+        requires hart_exists { hart.number < length (bus_state self.now).agents }
+        requires ready { IsReady (bus_state self.now) }
+        ensures { (state : ModelState) → Shows (bus_state self.now) state →
             result ≡ delivery.loses_to_origin state hart.number (option_map numbered request) }
     {
         match request {
@@ -247,9 +247,9 @@ impl Bus {
 
     /// Whether the hart's section conflicts with the head of a line.
     fn retains(&self, hart: HartId, line: LineAddr) -> bool
-        requires hart_exists { hart.number < length (kept self.now).agents }
-        requires ready { IsReady (kept self.now) }
-        ensures { (state : ModelState) → Shows (kept self.now) state →
+        requires hart_exists { hart.number < length (bus_state self.now).agents }
+        requires ready { IsReady (bus_state self.now) }
+        ensures { (state : ModelState) → Shows (bus_state self.now) state →
             result ≡ retains state hart.number line.number }
     {
         match self.order.first_of(line) {
@@ -261,9 +261,9 @@ impl Bus {
     /// The probe is forwarded to the harts before this one, where this one has itself a request on the line of the
     /// origin's.
     fn forward(&mut self, hart: HartId, origin: HartId, request: Option<Request>)
-        requires hart_exists { hart.number < length (kept self.old).agents }
-        requires few { length (kept self.old).agents ≤ 8 }
-        ensures { IsForwarded hart.number origin.number (option_map numbered request) (kept self.old) (kept self.new) }
+        requires hart_exists { hart.number < length (bus_state self.old).agents }
+        requires few { length (bus_state self.old).agents ≤ 8 }
+        ensures { IsForwarded hart.number origin.number (option_map numbered request) (bus_state self.old) (bus_state self.new) }
     {
         if self.asks_on(hart, request) {
             forward_all(&mut self.agents, hart, origin);
@@ -272,7 +272,7 @@ impl Bus {
 
     /// Whether the hart is ordered on the line of a request.
     fn asks_on(&self, hart: HartId, request: Option<Request>) -> bool
-        ensures { result ≡ asks_on (kept self.now).order hart.number (option_map numbered request) }
+        ensures { result ≡ asks_on (bus_state self.now).order hart.number (option_map numbered request) }
     {
         match request {
             Some(request) => self.is_ordered_on(request.line, hart),
@@ -282,7 +282,7 @@ impl Bus {
 
     /// Whether a hart has a request in order on a line.
     fn is_ordered_on(&self, line: LineAddr, hart: HartId) -> bool
-        ensures { result ≡ is_some (for_line line.number (request_of (kept self.now).order hart.number)) }
+        ensures { result ≡ is_some (for_line line.number (request_of (bus_state self.now).order hart.number)) }
     {
         match self.order.of(hart) {
             Some(request) => request.line.number == line.number,

@@ -10,7 +10,7 @@ ghost use Rattle.el_model.specs.State.{ModelState};
 ghost use Rattle.snoop.specs.Deciding.{DecidesIn};
 ghost use Rattle.snoop.specs.LettingGo.{KeepsBytes};
 ghost use Rattle.snoop.specs.Settled.{sent_in};
-ghost use Rattle.snoop.specs.Shows.{IsReady, Shows, StaysTold, kept};
+ghost use Rattle.snoop.specs.Shows.{IsReady, Shows, StaysTold, bus_state};
 
 use crate::bus::Bus;
 use crate::fates::Fate;
@@ -44,18 +44,18 @@ impl Bus {
     /// The head of a line meets the sections of other harts: it lets the armed ones go that it is to let go, and faces
     /// the live ones then.
     pub(crate) fn meet<P: Policy>(&mut self, head: Request, policy: &P) -> Met
-        requires ready { IsReady (kept self.old) }
-        requires policy { DecidesIn (kept self.old).mode (P.beats policy.now) }
-        ensures ready { IsReady (kept self.new) }
-        ensures shows { (state : ModelState) → Shows (kept self.old) state →
+        requires ready { IsReady (bus_state self.old) }
+        requires policy { DecidesIn (bus_state self.old).mode (P.beats policy.now) }
+        ensures ready { IsReady (bus_state self.new) }
+        ensures shows { (state : ModelState) → Shows (bus_state self.old) state →
             KeepsBytes state.committed (met state (numbered head)).committed →
-            Shows (kept self.new) (met state (numbered head)) }
-        ensures losers { (state : ModelState) → Shows (kept self.old) state →
+            Shows (bus_state self.new) (met state (numbered head)) }
+        ensures losers { (state : ModelState) → Shows (bus_state self.old) state →
             result.losers ≡ met_losers state (numbered head) }
-        ensures freed { (state : ModelState) → Shows (kept self.old) state →
+        ensures freed { (state : ModelState) → Shows (bus_state self.old) state →
             result.freed ≡ freed_by state (numbered head) }
-        ensures memory_stays { (kept self.new).copies.lines ≡ (kept self.old).copies.lines }
-        ensures told { StaysTold (kept self.old) (kept self.new) }
+        ensures memory_stays { (bus_state self.new).copies.lines ≡ (bus_state self.old).copies.lines }
+        ensures told { StaysTold (bus_state self.old) (bus_state self.new) }
     {
         let freed = self.let_go(head);
         let losers = self.face(head, policy);
@@ -65,8 +65,8 @@ impl Bus {
     /// In lock removal the harts that stay send a marker each to the head's.
     fn answer_head(&mut self, head: HartId, fates: &[Fate])
         requires { length fates.now ≤ 8 }
-        ensures { kept self.new ≡ record (kept self.old) {
-          agents = sent_in (kept self.old).mode fates.now head.number (kept self.old).agents;
+        ensures { bus_state self.new ≡ record (bus_state self.old) {
+          agents = sent_in (bus_state self.old).mode fates.now head.number (bus_state self.old).agents;
         } }
     {
         match self.mode {
@@ -80,15 +80,15 @@ impl Bus {
     /// and that are before it; and where there is none such, it stays, and sends the head's hart a marker. Who wins
     /// is settled by what stands before any section is lost.
     fn face<P: Policy>(&mut self, head: Request, policy: &P) -> Losers
-        requires ready { IsReady (kept self.old) }
-        requires policy { DecidesIn (kept self.old).mode (P.beats policy.now) }
-        ensures ready { IsReady (kept self.new) }
-        ensures shows { (state : ModelState) → Shows (kept self.old) state →
-            Shows (kept self.new) (faced state (numbered head)) }
-        ensures losers { (state : ModelState) → Shows (kept self.old) state →
+        requires ready { IsReady (bus_state self.old) }
+        requires policy { DecidesIn (bus_state self.old).mode (P.beats policy.now) }
+        ensures ready { IsReady (bus_state self.new) }
+        ensures shows { (state : ModelState) → Shows (bus_state self.old) state →
+            Shows (bus_state self.new) (faced state (numbered head)) }
+        ensures losers { (state : ModelState) → Shows (bus_state self.old) state →
             result ≡ face_losers state (numbered head) }
-        ensures memory_stays { (kept self.new).copies.lines ≡ (kept self.old).copies.lines }
-        ensures told { StaysTold (kept self.old) (kept self.new) }
+        ensures memory_stays { (bus_state self.new).copies.lines ≡ (bus_state self.old).copies.lines }
+        ensures told { StaysTold (bus_state self.old) (bus_state self.new) }
     {
         let fates = self.fates(head, policy);
         self.settle_all(head, &fates);

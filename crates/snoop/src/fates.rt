@@ -8,7 +8,7 @@ ghost use Rattle.el_model.specs.State.{ModelState, hart_of};
 ghost use Rattle.snoop.specs.Agent.{agent_at};
 ghost use Rattle.snoop.specs.Deciding.{DecidesIn};
 ghost use Rattle.snoop.specs.Fates.{earlier_told, fate_in, number_of, numbered_fate, stamp_on};
-ghost use Rattle.snoop.specs.Shows.{IsReady, Shows, kept};
+ghost use Rattle.snoop.specs.Shows.{IsReady, Shows, bus_state};
 ghost use Rattle.stamp.specs.Stamps as stamps;
 ghost use Rattle.std.specs.Option.{option_map};
 
@@ -61,7 +61,7 @@ pub fn is_before(first: Option<Stamp>, second: Option<Stamp>) -> bool
 impl Bus {
     /// The stamp of the request that a hart has ordered on a line, if it has one there, and that has one.
     pub(crate) fn stamp_on(&self, line: LineAddr, hart: HartId) -> Option<Stamp>
-        ensures { option_map stamps.numbered_stamp result ≡ stamp_on (kept self.now).order line.number hart.number }
+        ensures { option_map stamps.numbered_stamp result ≡ stamp_on (bus_state self.now).order line.number hart.number }
     {
         match self.order.of(hart) {
             Some(request) if request.line.number == line.number => request.stamp,
@@ -73,7 +73,7 @@ impl Bus {
     /// after the first in ascending order.
     fn earlier(&self, line: LineAddr, origin: HartId, later: Option<HartId>) -> Option<HartId>
         ensures { number_of result ≡
-            earlier (stamp_on (kept self.now).order line.number) (Some origin.number) (number_of later) }
+            earlier (stamp_on (bus_state self.now).order line.number) (Some origin.number) (number_of later) }
     {
         let stamp = self.stamp_on(line, origin);
         match later {
@@ -90,9 +90,9 @@ impl Bus {
         origin: HartId,
         later: Option<HartId>,
     ) -> Option<HartId>
-        requires { hart.number < length (kept self.now).agents }
+        requires { hart.number < length (bus_state self.now).agents }
         ensures { number_of result ≡ earlier_told
-            (agent_at (kept self.now).agents hart.number) (kept self.now).order
+            (agent_at (bus_state self.now).agents hart.number) (bus_state self.now).order
             line.number origin.number (number_of later) }
     {
         let agent = self.agent(hart);
@@ -106,9 +106,9 @@ impl Bus {
     /// The earliest of the origins that a hart was told of and whose requests on a line are before its section.
     #[tactic(auto, using(crate::proofs::Facing::none_told))]
     fn told_winner(&self, hart: HartId, line: LineAddr) -> Option<HartId>
-        requires hart_exists { hart.number < length (kept self.now).agents }
-        requires ready { IsReady (kept self.now) }
-        ensures { (state : ModelState) → Shows (kept self.now) state →
+        requires hart_exists { hart.number < length (bus_state self.now).agents }
+        requires ready { IsReady (bus_state self.now) }
+        ensures { (state : ModelState) → Shows (bus_state self.now) state →
             number_of result ≡ told_winner state (hart_of state hart.number) line.number }
     {
         let mut winner = None;
@@ -123,9 +123,9 @@ impl Bus {
     /// What becomes of a section that does not lose to the head: it stays, or in lock removal it may lose to an
     /// origin that its hart was told of.
     fn deferring_fate(&self, head: Request, hart: HartId) -> Fate
-        requires hart_exists { hart.number < length (kept self.now).agents }
-        requires ready { IsReady (kept self.now) }
-        ensures { (state : ModelState) → Shows (kept self.now) state →
+        requires hart_exists { hart.number < length (bus_state self.now).agents }
+        requires ready { IsReady (bus_state self.now) }
+        ensures { (state : ModelState) → Shows (bus_state self.now) state →
             numbered_fate result ≡ deferring_fate state.config.mode state (numbered head) (hart_of state hart.number) }
     {
         match self.mode {
@@ -137,10 +137,10 @@ impl Bus {
     /// What becomes of a hart's section as the head of a line is faced.
     #[tactic(auto, using(crate::proofs::Facing::wins_where_met))]
     fn fate<P: Policy>(&self, head: Request, hart: HartId, policy: &P) -> Fate
-        requires hart_exists { hart.number < length (kept self.now).agents }
-        requires ready { IsReady (kept self.now) }
-        requires policy { DecidesIn (kept self.now).mode (P.beats policy.now) }
-        ensures { (state : ModelState) → Shows (kept self.now) state →
+        requires hart_exists { hart.number < length (bus_state self.now).agents }
+        requires ready { IsReady (bus_state self.now) }
+        requires policy { DecidesIn (bus_state self.now).mode (P.beats policy.now) }
+        ensures { (state : ModelState) → Shows (bus_state self.now) state →
             numbered_fate result ≡ fate_at state (numbered head) hart.number }
     {
         if !self.conflicts(head, hart) {
@@ -155,10 +155,10 @@ impl Bus {
     /// What becomes of each hart's section as the head of a line is faced.
     #[tactic(auto, using(crate::proofs::Facing::no_fates))]
     pub(crate) fn fates<P: Policy>(&self, head: Request, policy: &P) -> ArrayVec<Fate, 8>
-        requires ready { IsReady (kept self.now) }
-        requires policy { DecidesIn (kept self.now).mode (P.beats policy.now) }
-        ensures count { length result.items ≡ length (kept self.now).agents }
-        ensures each { (state : ModelState) → Shows (kept self.now) state →
+        requires ready { IsReady (bus_state self.now) }
+        requires policy { DecidesIn (bus_state self.now).mode (P.beats policy.now) }
+        ensures count { length result.items ≡ length (bus_state self.now).agents }
+        ensures each { (state : ModelState) → Shows (bus_state self.now) state →
             (h : ℕ) → fate_in result.items h ≡ fate_at state (numbered head) h }
     {
         let mut fates = ArrayVec::new();

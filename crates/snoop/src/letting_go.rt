@@ -6,7 +6,7 @@ ghost use Rattle.el_base.specs.Freed.{count_in};
 ghost use Rattle.el_model.specs.Armed as model;
 ghost use Rattle.el_model.specs.State.{ModelState};
 ghost use Rattle.snoop.specs.LettingGo.{AreLetGo, IsLetGo, KeepsBytes, freed_at, frees, goes, with_committed};
-ghost use Rattle.snoop.specs.Shows.{IsReady, Shows, StaysTold, kept};
+ghost use Rattle.snoop.specs.Shows.{IsReady, Shows, StaysTold, bus_state};
 
 use crate::agents::note_armed;
 use crate::bus::Bus;
@@ -32,9 +32,9 @@ impl Bus {
     /// Whether a head lets the armed section of a hart go: it is another hart's, it is to write, and the section has
     /// read its line.
     fn frees(&self, head: Request, hart: HartId) -> bool
-        requires hart_exists { hart.number < length (kept self.now).agents }
-        requires ready { IsReady (kept self.now) }
-        ensures { result ≡ frees (kept self.now) (numbered head) hart.number }
+        requires hart_exists { hart.number < length (bus_state self.now).agents }
+        requires ready { IsReady (bus_state self.now) }
+        ensures { result ≡ frees (bus_state self.now) (numbered head) hart.number }
     {
         writes(head.need)
             && head.hart != hart
@@ -44,9 +44,9 @@ impl Bus {
 
     /// How many instructions of a hart take effect as it is let go; 0 where it is not.
     fn freed_count(&self, head: Request, hart: HartId) -> u8
-        requires hart_exists { hart.number < length (kept self.now).agents }
-        requires ready { IsReady (kept self.now) }
-        ensures exact { result ≡ freed_at (kept self.now) (numbered head) hart.number }
+        requires hart_exists { hart.number < length (bus_state self.now).agents }
+        requires ready { IsReady (bus_state self.now) }
+        ensures exact { result ≡ freed_at (bus_state self.now) (numbered head) hart.number }
         ensures small { result ≤ 15 }
     {
         if self.frees(head, hart) {
@@ -58,8 +58,8 @@ impl Bus {
 
     /// The harts that a head lets go, each with the number of its instructions.
     fn freed_by(&self, head: Request) -> Freed
-        requires ready { IsReady (kept self.now) }
-        ensures { (h : ℕ) → count_in result h ≡ freed_at (kept self.now) (numbered head) h }
+        requires ready { IsReady (bus_state self.now) }
+        ensures { (h : ℕ) → count_in result h ≡ freed_at (bus_state self.now) (numbered head) h }
     {
         let mut freed = Freed::none();
         for number in 0..self.agents.len() {
@@ -71,9 +71,9 @@ impl Bus {
 
     /// A hart is let go, where this says so: it has no bits any more, and is noted as not armed.
     fn let_one_go(&mut self, hart: HartId, test: bool)
-        requires hart_exists { hart.number < length (kept self.old).agents }
-        requires each { length (kept self.old).copies.caches ≡ length (kept self.old).agents }
-        ensures { IsLetGo test hart.number (kept self.old) (kept self.new) }
+        requires hart_exists { hart.number < length (bus_state self.old).agents }
+        requires each { length (bus_state self.old).copies.caches ≡ length (bus_state self.old).agents }
+        ensures { IsLetGo test hart.number (bus_state self.old) (bus_state self.new) }
     {
         if test {
             self.hierarchy.clear(hart);
@@ -83,8 +83,8 @@ impl Bus {
 
     /// Each of these harts is let go.
     fn let_each_go(&mut self, freed: Freed)
-        requires ready { IsReady (kept self.old) }
-        ensures { AreLetGo freed (length (kept self.old).agents) (kept self.old) (kept self.new) }
+        requires ready { IsReady (bus_state self.old) }
+        ensures { AreLetGo freed (length (bus_state self.old).agents) (bus_state self.old) (bus_state self.new) }
     {
         for number in 0..self.agents.len() {
             let hart = HartId::at(number);
@@ -97,18 +97,18 @@ impl Bus {
     /// cannot know that, so it shows the definition's state where the memory of that is as before, and in any case that
     /// state over the committed part of before.
     pub(crate) fn let_go(&mut self, head: Request) -> Freed
-        requires ready { IsReady (kept self.old) }
-        ensures ready { IsReady (kept self.new) }
-        ensures mode { (kept self.new).mode ≡ (kept self.old).mode }
-        ensures parts { (state : ModelState) → Shows (kept self.old) state →
-            Shows (kept self.new) (with_committed state.committed (model.let_go state (numbered head))) }
-        ensures state { (state : ModelState) → Shows (kept self.old) state →
+        requires ready { IsReady (bus_state self.old) }
+        ensures ready { IsReady (bus_state self.new) }
+        ensures mode { (bus_state self.new).mode ≡ (bus_state self.old).mode }
+        ensures parts { (state : ModelState) → Shows (bus_state self.old) state →
+            Shows (bus_state self.new) (with_committed state.committed (model.let_go state (numbered head))) }
+        ensures state { (state : ModelState) → Shows (bus_state self.old) state →
             KeepsBytes state.committed (model.let_go state (numbered head)).committed →
-            Shows (kept self.new) (model.let_go state (numbered head)) }
-        ensures freed { (state : ModelState) → Shows (kept self.old) state →
+            Shows (bus_state self.new) (model.let_go state (numbered head)) }
+        ensures freed { (state : ModelState) → Shows (bus_state self.old) state →
             result ≡ model.freed_by state (numbered head) }
-        ensures memory_stays { (kept self.new).copies.lines ≡ (kept self.old).copies.lines }
-        ensures told { StaysTold (kept self.old) (kept self.new) }
+        ensures memory_stays { (bus_state self.new).copies.lines ≡ (bus_state self.old).copies.lines }
+        ensures told { StaysTold (bus_state self.old) (bus_state self.new) }
     {
         let freed = self.freed_by(head);
         self.let_each_go(freed);

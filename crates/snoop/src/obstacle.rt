@@ -7,7 +7,7 @@ ghost use Rattle.el_model.specs.Conflicts as model;
 ghost use Rattle.el_model.specs.Serve as serving;
 ghost use Rattle.el_model.specs.State.{ModelState, hart_of, head_of, is_held, numbers_of};
 ghost use Rattle.snoop.specs.Obstacles.{blocked_by, first_conflict_of, numbered_obstacle, number_of};
-ghost use Rattle.snoop.specs.Shows.{IsReady, Shows, kept};
+ghost use Rattle.snoop.specs.Shows.{IsReady, Shows, bus_state};
 
 use crate::bus::Bus;
 use bus_order::Request;
@@ -23,8 +23,8 @@ pub(crate) enum Obstacle {
 impl Bus {
     /// What a serve of an ordered request comes to where something is in its way, and `None` where nothing is.
     pub fn blocked(&self, request: Request) -> Option<Outcome>
-        requires ready { IsReady (kept self.now) }
-        ensures { (state : ModelState) → Shows (kept self.now) state →
+        requires ready { IsReady (bus_state self.now) }
+        ensures { (state : ModelState) → Shows (bus_state self.now) state →
             result ≡ blocked_by (serving.obstacle_to state (numbered request)) }
     {
         match self.obstacle_to(request) {
@@ -36,8 +36,8 @@ impl Bus {
     /// The first of these that holds of an ordered request: another hart's request for its line comes first, a
     /// section retains the line, or another hart holds it.
     pub(crate) fn obstacle_to(&self, request: Request) -> Obstacle
-        requires ready { IsReady (kept self.now) }
-        ensures { (state : ModelState) → Shows (kept self.now) state →
+        requires ready { IsReady (bus_state self.now) }
+        ensures { (state : ModelState) → Shows (bus_state self.now) state →
             numbered_obstacle result ≡ serving.obstacle_to state (numbered request) }
     {
         if let Some(by) = self.other_head(request) {
@@ -63,7 +63,7 @@ impl Bus {
 
     /// The hart of another request that is the head of the line.
     fn other_head(&self, request: Request) -> Option<HartId>
-        ensures { (state : ModelState) → Shows (kept self.now) state →
+        ensures { (state : ModelState) → Shows (bus_state self.now) state →
             option_map number_of result ≡ serving.other_head request.hart.number (head_of state request.line.number) }
     {
         let head = self.order.first_of(request.line)?;
@@ -77,8 +77,8 @@ impl Bus {
     /// The least hart whose section conflicts with the head of a line, and so retains the line.
     #[tactic(auto, using(crate::proofs::Firsts::nobody_retains))]
     fn retainer(&self, line: LineAddr) -> Option<HartId>
-        requires ready { IsReady (kept self.now) }
-        ensures { (state : ModelState) → Shows (kept self.now) state →
+        requires ready { IsReady (bus_state self.now) }
+        ensures { (state : ModelState) → Shows (bus_state self.now) state →
             option_map number_of result ≡ model.retainer_of state line.number }
     {
         match self.order.first_of(line) {
@@ -90,8 +90,8 @@ impl Bus {
     /// The least hart whose section conflicts with a request.
     #[tactic(auto, using(crate::proofs::Firsts::first_past))]
     fn first_conflict(&self, request: Request) -> Option<HartId>
-        requires ready { IsReady (kept self.now) }
-        ensures { (state : ModelState) → Shows (kept self.now) state →
+        requires ready { IsReady (bus_state self.now) }
+        ensures { (state : ModelState) → Shows (bus_state self.now) state →
             option_map number_of result ≡ first_conflict_of state (numbered request) }
     {
         let mut found = None;
@@ -116,9 +116,9 @@ impl Bus {
         hart: HartId,
         other: Option<HartId>,
     ) -> Option<HartId>
-        requires hart_exists { hart.number < length (kept self.now).agents }
-        requires ready { IsReady (kept self.now) }
-        ensures { (state : ModelState) → Shows (kept self.now) state →
+        requires hart_exists { hart.number < length (bus_state self.now).agents }
+        requires ready { IsReady (bus_state self.now) }
+        ensures { (state : ModelState) → Shows (bus_state self.now) state →
             option_map number_of result
             ≡ (if model.conflicts (numbered request) hart.number (hart_of state hart.number) then Some hart.number
             else option_map number_of other) }
@@ -133,8 +133,8 @@ impl Bus {
     /// The least other hart that holds the line of a request.
     #[tactic(auto, using(crate::proofs::Firsts::first_past))]
     fn holder(&self, request: Request) -> Option<HartId>
-        requires ready { IsReady (kept self.now) }
-        ensures { (state : ModelState) → Shows (kept self.now) state →
+        requires ready { IsReady (bus_state self.now) }
+        ensures { (state : ModelState) → Shows (bus_state self.now) state →
             option_map number_of result ≡ model.holder_of state request.hart.number request.line.number }
     {
         let mut found = None;
@@ -154,8 +154,8 @@ impl Bus {
 
     /// This hart where it is another than that of a request and holds its line, and else the other one.
     fn holding_or(&self, request: Request, hart: HartId, other: Option<HartId>) -> Option<HartId>
-        requires { hart.number < length (kept self.now).agents }
-        ensures { (state : ModelState) → Shows (kept self.now) state →
+        requires { hart.number < length (bus_state self.now).agents }
+        ensures { (state : ModelState) → Shows (bus_state self.now) state →
             option_map number_of result
             ≡ (if not (hart.number == request.hart.number)
             && is_held (hart_of state hart.number).held request.line.number

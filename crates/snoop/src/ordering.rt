@@ -21,7 +21,7 @@ ghost use Rattle.snoop.specs.Agent.{agent_at};
 ghost use Rattle.snoop.specs.Deciding.{DecidesIn};
 ghost use Rattle.snoop.specs.LettingGo.{KeepsBytes};
 ghost use Rattle.snoop.specs.Places.{definition_place};
-ghost use Rattle.snoop.specs.Shows.{IsReady, Shows, StaysTold, kept};
+ghost use Rattle.snoop.specs.Shows.{IsReady, Shows, StaysTold, bus_state};
 
 use crate::agents::{post, unraise};
 use crate::bus::Bus;
@@ -46,9 +46,9 @@ impl Bus {
     /// Where a request goes.
     #[tactic(auto, using(crate::proofs::Laws::Living::lives_shown))]
     fn place_for(&self, request: Request) -> Place
-        requires hart_exists { request.hart.number < length (kept self.now).agents }
-        requires ready { IsReady (kept self.now) }
-        ensures { (state : ModelState) → Shows (kept self.now) state →
+        requires hart_exists { request.hart.number < length (bus_state self.now).agents }
+        requires ready { IsReady (bus_state self.now) }
+        ensures { (state : ModelState) → Shows (bus_state self.now) state →
             definition_place result ≡ place_for state (numbered request) }
     {
         if self.meets_section(request.hart, request.line, Need::Write) {
@@ -62,12 +62,12 @@ impl Bus {
 
     /// In lock removal a hart sends another a marker.
     fn send_marker(&mut self, from: HartId, to: HartId)
-        requires { IsReady (kept self.old) }
-        ensures ready { IsReady (kept self.new) }
-        ensures mode { (kept self.new).mode ≡ (kept self.old).mode }
-        ensures shows { (state : ModelState) → Shows (kept self.old) state →
-            Shows (kept self.new) (marked_from state.config.mode state from.number to.number) }
-        ensures copies_stay { (kept self.new).copies ≡ (kept self.old).copies }
+        requires { IsReady (bus_state self.old) }
+        ensures ready { IsReady (bus_state self.new) }
+        ensures mode { (bus_state self.new).mode ≡ (bus_state self.old).mode }
+        ensures shows { (state : ModelState) → Shows (bus_state self.old) state →
+            Shows (bus_state self.new) (marked_from state.config.mode state from.number to.number) }
+        ensures copies_stay { (bus_state self.new).copies ≡ (bus_state self.old).copies }
     {
         match self.mode {
             Mode::Tlr => post(&mut self.agents, to, Message::Marker { from }),
@@ -77,13 +77,13 @@ impl Bus {
 
     /// The request goes before all requests of its line, or last where there are none.
     fn put_in_front(&mut self, request: Request)
-        requires ready { IsReady (kept self.old) }
-        requires raised { (agent_at (kept self.old).agents request.hart.number).raised ≡ Some (numbered request) }
-        ensures ready { IsReady (kept self.new) }
-        ensures mode { (kept self.new).mode ≡ (kept self.old).mode }
-        ensures shows { (state : ModelState) → Shows (kept self.old) state →
-            Shows (kept self.new) (placed_in_front state (numbered request)) }
-        ensures copies_stay { (kept self.new).copies ≡ (kept self.old).copies }
+        requires ready { IsReady (bus_state self.old) }
+        requires raised { (agent_at (bus_state self.old).agents request.hart.number).raised ≡ Some (numbered request) }
+        ensures ready { IsReady (bus_state self.new) }
+        ensures mode { (bus_state self.new).mode ≡ (bus_state self.old).mode }
+        ensures shows { (state : ModelState) → Shows (bus_state self.old) state →
+            Shows (bus_state self.new) (placed_in_front state (numbered request)) }
+        ensures copies_stay { (bus_state self.new).copies ≡ (bus_state self.old).copies }
     {
         unraise(&mut self.agents, request.hart);
         self.order.in_front(request);
@@ -91,13 +91,13 @@ impl Bus {
 
     /// The request goes behind all others.
     fn put_last(&mut self, request: Request)
-        requires ready { IsReady (kept self.old) }
-        requires raised { (agent_at (kept self.old).agents request.hart.number).raised ≡ Some (numbered request) }
-        ensures ready { IsReady (kept self.new) }
-        ensures mode { (kept self.new).mode ≡ (kept self.old).mode }
-        ensures shows { (state : ModelState) → Shows (kept self.old) state →
-            Shows (kept self.new) (placed_last state (numbered request)) }
-        ensures copies_stay { (kept self.new).copies ≡ (kept self.old).copies }
+        requires ready { IsReady (bus_state self.old) }
+        requires raised { (agent_at (bus_state self.old).agents request.hart.number).raised ≡ Some (numbered request) }
+        ensures ready { IsReady (bus_state self.new) }
+        ensures mode { (bus_state self.new).mode ≡ (bus_state self.old).mode }
+        ensures shows { (state : ModelState) → Shows (bus_state self.old) state →
+            Shows (bus_state self.new) (placed_last state (numbered request)) }
+        ensures copies_stay { (bus_state self.new).copies ≡ (bus_state self.old).copies }
     {
         unraise(&mut self.agents, request.hart);
         self.order.append(request);
@@ -105,13 +105,13 @@ impl Bus {
 
     /// The request goes before all requests of its line, of which the first one's hart is sent a marker.
     fn go_in_front(&mut self, request: Request)
-        requires ready { IsReady (kept self.old) }
-        requires raised { (agent_at (kept self.old).agents request.hart.number).raised ≡ Some (numbered request) }
-        ensures ready { IsReady (kept self.new) }
-        ensures mode { (kept self.new).mode ≡ (kept self.old).mode }
-        ensures shows { (state : ModelState) → Shows (kept self.old) state →
-            Shows (kept self.new) (before_face state (numbered request) InFront) }
-        ensures copies_stay { (kept self.new).copies ≡ (kept self.old).copies }
+        requires ready { IsReady (bus_state self.old) }
+        requires raised { (agent_at (bus_state self.old).agents request.hart.number).raised ≡ Some (numbered request) }
+        ensures ready { IsReady (bus_state self.new) }
+        ensures mode { (bus_state self.new).mode ≡ (bus_state self.old).mode }
+        ensures shows { (state : ModelState) → Shows (bus_state self.old) state →
+            Shows (bus_state self.new) (before_face state (numbered request) InFront) }
+        ensures copies_stay { (bus_state self.new).copies ≡ (bus_state self.old).copies }
     {
         let former = self.order.first_of(request.line);
         self.put_in_front(request);
@@ -122,13 +122,13 @@ impl Bus {
 
     /// The request goes behind all others, and the hart of the last one of its line sends it a marker.
     fn go_behind(&mut self, request: Request)
-        requires ready { IsReady (kept self.old) }
-        requires raised { (agent_at (kept self.old).agents request.hart.number).raised ≡ Some (numbered request) }
-        ensures ready { IsReady (kept self.new) }
-        ensures mode { (kept self.new).mode ≡ (kept self.old).mode }
-        ensures shows { (state : ModelState) → Shows (kept self.old) state →
-            Shows (kept self.new) (before_face state (numbered request) Behind) }
-        ensures copies_stay { (kept self.new).copies ≡ (kept self.old).copies }
+        requires ready { IsReady (bus_state self.old) }
+        requires raised { (agent_at (bus_state self.old).agents request.hart.number).raised ≡ Some (numbered request) }
+        ensures ready { IsReady (bus_state self.new) }
+        ensures mode { (bus_state self.new).mode ≡ (bus_state self.old).mode }
+        ensures shows { (state : ModelState) → Shows (bus_state self.old) state →
+            Shows (bus_state self.new) (before_face state (numbered request) Behind) }
+        ensures copies_stay { (bus_state self.new).copies ≡ (bus_state self.old).copies }
     {
         let last = self.order.tail_of(request.line);
         self.put_last(request);
@@ -140,19 +140,19 @@ impl Bus {
     /// The request takes its place, and is met where it is the first of its line.
     #[tactic(auto, unfolding(el_model::specs::Order::placed))]
     fn place<P: Policy>(&mut self, request: Request, policy: &P) -> Met
-        requires ready { IsReady (kept self.old) }
-        requires raised { (agent_at (kept self.old).agents request.hart.number).raised ≡ Some (numbered request) }
-        requires policy { DecidesIn (kept self.old).mode (P.beats policy.now) }
-        ensures ready { IsReady (kept self.new) }
-        ensures shows { (state : ModelState) → Shows (kept self.old) state →
+        requires ready { IsReady (bus_state self.old) }
+        requires raised { (agent_at (bus_state self.old).agents request.hart.number).raised ≡ Some (numbered request) }
+        requires policy { DecidesIn (bus_state self.old).mode (P.beats policy.now) }
+        ensures ready { IsReady (bus_state self.new) }
+        ensures shows { (state : ModelState) → Shows (bus_state self.old) state →
             KeepsBytes state.committed (placed state (numbered request) (place_for state (numbered request))).committed →
-            Shows (kept self.new) (placed state (numbered request) (place_for state (numbered request))) }
-        ensures losers { (state : ModelState) → Shows (kept self.old) state →
+            Shows (bus_state self.new) (placed state (numbered request) (place_for state (numbered request))) }
+        ensures losers { (state : ModelState) → Shows (bus_state self.old) state →
             result.losers ≡ order_losers state (numbered request) }
-        ensures freed { (state : ModelState) → Shows (kept self.old) state →
+        ensures freed { (state : ModelState) → Shows (bus_state self.old) state →
             result.freed ≡ order_freed state (numbered request) }
-        ensures memory_stays { (kept self.new).copies.lines ≡ (kept self.old).copies.lines }
-        ensures told { StaysTold (kept self.old) (kept self.new) }
+        ensures memory_stays { (bus_state self.new).copies.lines ≡ (bus_state self.old).copies.lines }
+        ensures told { StaysTold (bus_state self.old) (bus_state self.new) }
     {
         match self.place_for(request) {
             Place::InFront => {
@@ -181,17 +181,17 @@ impl Bus {
     /// hart of the former last one sends one to the hart of a request that goes behind.
     #[tactic(auto, unfolding(el_model::specs::Order::order_turn))]
     pub fn order<P: Policy>(&mut self, hart: HartId, policy: &P) -> Outcome
-        requires hart_exists { hart.number < length (kept self.old).agents }
-        requires ready { IsReady (kept self.old) }
-        requires policy { DecidesIn (kept self.old).mode (P.beats policy.now) }
-        ensures ready { IsReady (kept self.new) }
-        ensures state { (state : ModelState) → Shows (kept self.old) state →
+        requires hart_exists { hart.number < length (bus_state self.old).agents }
+        requires ready { IsReady (bus_state self.old) }
+        requires policy { DecidesIn (bus_state self.old).mode (P.beats policy.now) }
+        ensures ready { IsReady (bus_state self.new) }
+        ensures state { (state : ModelState) → Shows (bus_state self.old) state →
             KeepsBytes state.committed (order_turn state hart.number).state.committed →
-            Shows (kept self.new) (order_turn state hart.number).state }
-        ensures outcome { (state : ModelState) → Shows (kept self.old) state →
+            Shows (bus_state self.new) (order_turn state hart.number).state }
+        ensures outcome { (state : ModelState) → Shows (bus_state self.old) state →
             result ≡ (order_turn state hart.number).outcome }
-        ensures memory_stays { (kept self.new).copies.lines ≡ (kept self.old).copies.lines }
-        ensures told { StaysTold (kept self.old) (kept self.new) }
+        ensures memory_stays { (bus_state self.new).copies.lines ≡ (bus_state self.old).copies.lines }
+        ensures told { StaysTold (bus_state self.old) (bus_state self.new) }
     {
         match self.agent(hart).raised() {
             Some(request) => {

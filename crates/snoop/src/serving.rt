@@ -13,7 +13,7 @@ ghost use Rattle.snoop.specs.Deciding.{DecidesIn};
 ghost use Rattle.snoop.specs.LettingGo.{KeepsBytes};
 ghost use Rattle.snoop.specs.MainMemory.{lines_served};
 ghost use Rattle.snoop.specs.Serving.{AgentsServe, CopiesClaim, CopiesServe, Serves};
-ghost use Rattle.snoop.specs.Shows.{IsReady, IsTold, Shows, StaysTold, Tells, kept, lent_copies};
+ghost use Rattle.snoop.specs.Shows.{IsReady, IsTold, Shows, StaysTold, Tells, bus_state, lent_copies};
 
 use crate::agents::{claim, forget};
 use crate::bus::Bus;
@@ -36,20 +36,20 @@ impl Bus {
     /// never asked.
     #[tactic(auto, unfolding(el_model::specs::Serve::serve_turn))]
     pub fn serve<P: Policy>(&mut self, pool: &mut Pool, hart: HartId, policy: &P) -> Outcome
-        requires hart_exists { hart.number < length (kept self.old).agents }
-        requires ready { IsReady (kept self.old) }
-        requires told { IsTold pool.old (kept self.old) }
-        requires policy { DecidesIn (kept self.old).mode (P.beats policy.now) }
-        ensures ready { IsReady (kept self.new) }
+        requires hart_exists { hart.number < length (bus_state self.old).agents }
+        requires ready { IsReady (bus_state self.old) }
+        requires told { IsTold pool.old (bus_state self.old) }
+        requires policy { DecidesIn (bus_state self.old).mode (P.beats policy.now) }
+        ensures ready { IsReady (bus_state self.new) }
         ensures told { (bytes : ℕ → List ℕ) →
-            Tells pool.old (kept self.old) bytes → Tells pool.new (kept self.new) bytes }
+            Tells pool.old (bus_state self.old) bytes → Tells pool.new (bus_state self.new) bytes }
         ensures holds { LeavesHolds pool.old pool.new }
-        ensures state { (state : ModelState) → Shows (kept self.old) state →
+        ensures state { (state : ModelState) → Shows (bus_state self.old) state →
             KeepsBytes state.committed (serving.serve_turn state hart.number).state.committed →
-            Shows (kept self.new) (serving.serve_turn state hart.number).state }
-        ensures outcome { (state : ModelState) → Shows (kept self.old) state →
+            Shows (bus_state self.new) (serving.serve_turn state hart.number).state }
+        ensures outcome { (state : ModelState) → Shows (bus_state self.old) state →
             result ≡ (serving.serve_turn state hart.number).outcome }
-        ensures memory { (kept self.new).copies.lines ≡ lines_served pool.old (kept self.old) hart.number result }
+        ensures memory { (bus_state self.new).copies.lines ≡ lines_served pool.old (bus_state self.old) hart.number result }
     {
         match self.order.of(hart) {
             Some(request) => self.serve_past(pool, request, policy),
@@ -59,22 +59,22 @@ impl Bus {
 
     /// A request is served where nothing is in its way.
     fn serve_past<P: Policy>(&mut self, pool: &mut Pool, request: Request, policy: &P) -> Outcome
-        requires ready { IsReady (kept self.old) }
-        requires told { IsTold pool.old (kept self.old) }
-        requires ordered { request_of (kept self.old).order request.hart.number ≡ Some (numbered request) }
-        requires policy { DecidesIn (kept self.old).mode (P.beats policy.now) }
-        ensures ready { IsReady (kept self.new) }
+        requires ready { IsReady (bus_state self.old) }
+        requires told { IsTold pool.old (bus_state self.old) }
+        requires ordered { request_of (bus_state self.old).order request.hart.number ≡ Some (numbered request) }
+        requires policy { DecidesIn (bus_state self.old).mode (P.beats policy.now) }
+        ensures ready { IsReady (bus_state self.new) }
         ensures told { (bytes : ℕ → List ℕ) →
-            Tells pool.old (kept self.old) bytes → Tells pool.new (kept self.new) bytes }
+            Tells pool.old (bus_state self.old) bytes → Tells pool.new (bus_state self.new) bytes }
         ensures holds { LeavesHolds pool.old pool.new }
-        ensures state { (state : ModelState) → Shows (kept self.old) state → KeepsBytes state.committed
+        ensures state { (state : ModelState) → Shows (bus_state self.old) state → KeepsBytes state.committed
             (serving.serve_past state (numbered request)
             (serving.obstacle_to state (numbered request))).state.committed →
-            Shows (kept self.new)
+            Shows (bus_state self.new)
             (serving.serve_past state (numbered request) (serving.obstacle_to state (numbered request))).state }
-        ensures outcome { (state : ModelState) → Shows (kept self.old) state → result
+        ensures outcome { (state : ModelState) → Shows (bus_state self.old) state → result
             ≡ (serving.serve_past state (numbered request) (serving.obstacle_to state (numbered request))).outcome }
-        ensures memory { (kept self.new).copies.lines ≡ lines_served pool.old (kept self.old) request.hart.number result }
+        ensures memory { (bus_state self.new).copies.lines ≡ lines_served pool.old (bus_state self.old) request.hart.number result }
     {
         match self.obstacle_to(request) {
             Obstacle::Free => {
@@ -87,25 +87,25 @@ impl Bus {
 
     /// A request that nothing is in the way of is served, and the next one of its line is met.
     fn serve_free<P: Policy>(&mut self, pool: &mut Pool, request: Request, policy: &P) -> Met
-        requires ready { IsReady (kept self.old) }
-        requires told { IsTold pool.old (kept self.old) }
-        requires ordered { request_of (kept self.old).order request.hart.number ≡ Some (numbered request) }
-        requires free { (state : ModelState) → Shows (kept self.old) state →
+        requires ready { IsReady (bus_state self.old) }
+        requires told { IsTold pool.old (bus_state self.old) }
+        requires ordered { request_of (bus_state self.old).order request.hart.number ≡ Some (numbered request) }
+        requires free { (state : ModelState) → Shows (bus_state self.old) state →
             serving.obstacle_to state (numbered request) ≡ Free }
-        requires policy { DecidesIn (kept self.old).mode (P.beats policy.now) }
-        ensures ready { IsReady (kept self.new) }
+        requires policy { DecidesIn (bus_state self.old).mode (P.beats policy.now) }
+        ensures ready { IsReady (bus_state self.new) }
         ensures told { (bytes : ℕ → List ℕ) →
-            Tells pool.old (kept self.old) bytes → Tells pool.new (kept self.new) bytes }
+            Tells pool.old (bus_state self.old) bytes → Tells pool.new (bus_state self.new) bytes }
         ensures holds { LeavesHolds pool.old pool.new }
-        ensures state { (state : ModelState) → Shows (kept self.old) state →
+        ensures state { (state : ModelState) → Shows (bus_state self.old) state →
             KeepsBytes state.committed (serving.served_turn state (numbered request)).state.committed →
-            Shows (kept self.new) (serving.served_turn state (numbered request)).state }
-        ensures losers { (state : ModelState) → Shows (kept self.old) state →
+            Shows (bus_state self.new) (serving.served_turn state (numbered request)).state }
+        ensures losers { (state : ModelState) → Shows (bus_state self.old) state →
             result.losers ≡ serving.serve_losers state (numbered request) }
-        ensures freed { (state : ModelState) → Shows (kept self.old) state →
+        ensures freed { (state : ModelState) → Shows (bus_state self.old) state →
             result.freed ≡ serving.serve_freed state (numbered request) }
-        ensures memory { (kept self.new).copies.lines ≡
-            lines_after request.hart.number request.line.number (lent_copies pool.old (kept self.old).copies) }
+        ensures memory { (bus_state self.new).copies.lines ≡
+            lines_after request.hart.number request.line.number (lent_copies pool.old (bus_state self.old).copies) }
     {
         self.give_line(pool, request);
         self.meet_head(request.line, policy)
@@ -113,18 +113,18 @@ impl Bus {
 
     /// The head of a line is met, if there is one.
     fn meet_head<P: Policy>(&mut self, line: LineAddr, policy: &P) -> Met
-        requires ready { IsReady (kept self.old) }
-        requires policy { DecidesIn (kept self.old).mode (P.beats policy.now) }
-        ensures ready { IsReady (kept self.new) }
-        ensures state { (state : ModelState) → Shows (kept self.old) state →
+        requires ready { IsReady (bus_state self.old) }
+        requires policy { DecidesIn (bus_state self.old).mode (P.beats policy.now) }
+        ensures ready { IsReady (bus_state self.new) }
+        ensures state { (state : ModelState) → Shows (bus_state self.old) state →
             KeepsBytes state.committed (met_if state (head_of state line.number)).committed →
-            Shows (kept self.new) (met_if state (head_of state line.number)) }
-        ensures losers { (state : ModelState) → Shows (kept self.old) state →
+            Shows (bus_state self.new) (met_if state (head_of state line.number)) }
+        ensures losers { (state : ModelState) → Shows (bus_state self.old) state →
             result.losers ≡ met_losers_if state (head_of state line.number) }
-        ensures freed { (state : ModelState) → Shows (kept self.old) state →
+        ensures freed { (state : ModelState) → Shows (bus_state self.old) state →
             result.freed ≡ freed_if state (head_of state line.number) }
-        ensures memory_stays { (kept self.new).copies.lines ≡ (kept self.old).copies.lines }
-        ensures told { StaysTold (kept self.old) (kept self.new) }
+        ensures memory_stays { (bus_state self.new).copies.lines ≡ (bus_state self.old).copies.lines }
+        ensures told { StaysTold (bus_state self.old) (bus_state self.new) }
     {
         match self.order.first_of(line) {
             Some(head) => self.meet(head, policy),
@@ -135,30 +135,30 @@ impl Bus {
     /// The line of a request comes to its hart, and what came with the request is forgotten. The request is the
     /// head of its line, and nothing is in its way.
     fn give_line(&mut self, pool: &mut Pool, request: Request)
-        requires ready { IsReady (kept self.old) }
-        requires told { IsTold pool.old (kept self.old) }
-        requires ordered { request_of (kept self.old).order request.hart.number ≡ Some (numbered request) }
-        requires free { (state : ModelState) → Shows (kept self.old) state →
+        requires ready { IsReady (bus_state self.old) }
+        requires told { IsTold pool.old (bus_state self.old) }
+        requires ordered { request_of (bus_state self.old).order request.hart.number ≡ Some (numbered request) }
+        requires free { (state : ModelState) → Shows (bus_state self.old) state →
             serving.obstacle_to state (numbered request) ≡ Free }
-        ensures ready { IsReady (kept self.new) }
+        ensures ready { IsReady (bus_state self.new) }
         ensures told { (bytes : ℕ → List ℕ) →
-            Tells pool.old (kept self.old) bytes → Tells pool.new (kept self.new) bytes }
+            Tells pool.old (bus_state self.old) bytes → Tells pool.new (bus_state self.new) bytes }
         ensures holds { LeavesHolds pool.old pool.new }
-        ensures mode { (kept self.new).mode ≡ (kept self.old).mode }
-        ensures shows { (state : ModelState) → Shows (kept self.old) state →
-            Shows (kept self.new) (serving.served state (numbered request)) }
-        ensures memory { (kept self.new).copies.lines ≡
-            lines_after request.hart.number request.line.number (lent_copies pool.old (kept self.old).copies) }
+        ensures mode { (bus_state self.new).mode ≡ (bus_state self.old).mode }
+        ensures shows { (state : ModelState) → Shows (bus_state self.old) state →
+            Shows (bus_state self.new) (serving.served state (numbered request)) }
+        ensures memory { (bus_state self.new).copies.lines ≡
+            lines_after request.hart.number request.line.number (lent_copies pool.old (bus_state self.old).copies) }
     {
         self.serve_parts(pool, request);
     }
 
     /// The same, part by part.
     fn serve_parts(&mut self, pool: &mut Pool, request: Request)
-        requires ready { IsReady (kept self.old) }
-        requires told { IsTold pool.old (kept self.old) }
-        requires ordered { request_of (kept self.old).order request.hart.number ≡ Some (numbered request) }
-        ensures { Serves (numbered request) pool.old pool.new (kept self.old) (kept self.new) }
+        requires ready { IsReady (bus_state self.old) }
+        requires told { IsTold pool.old (bus_state self.old) }
+        requires ordered { request_of (bus_state self.old).order request.hart.number ≡ Some (numbered request) }
+        ensures { Serves (numbered request) pool.old pool.new (bus_state self.old) (bus_state self.new) }
     {
         let live = self.is_live(request.hart);
         fill(&mut self.hierarchy, pool, request, live);

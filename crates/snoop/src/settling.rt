@@ -9,7 +9,7 @@ ghost use Rattle.snoop.specs.Agent.{agent_at, agent_seeing, with_agent};
 ghost use Rattle.snoop.specs.Changing.{ClearsIf};
 ghost use Rattle.snoop.specs.Fates.{fate_in, numbered_fate};
 ghost use Rattle.snoop.specs.Settled.{AreSettledBelow, IsSettledAt, loses, marker_sent, markers_sent, stamp_seen};
-ghost use Rattle.snoop.specs.Shows.{IsReady, holding_of, kept};
+ghost use Rattle.snoop.specs.Shows.{IsReady, holding_of, bus_state};
 ghost use Rattle.stamp.specs.Stamps.{numbered_stamp};
 
 use crate::agent::Agent;
@@ -91,7 +91,7 @@ impl Bus {
     /// The stamp that a hart sees as it has its fate, in lock removal.
     fn stamp_seen(&self, head: Request, fate: Fate) -> Option<Stamp>
         ensures { option_map numbered_stamp result ≡
-            stamp_seen (kept self.now).mode (kept self.now).order (numbered head) (numbered_fate fate) }
+            stamp_seen (bus_state self.now).mode (bus_state self.now).order (numbered head) (numbered_fate fate) }
     {
         match (self.mode, fate) {
             (Mode::Tlr, Fate::LosesTo { winner }) => self.stamp_on(head.line, winner),
@@ -103,8 +103,8 @@ impl Bus {
     /// A hart has its fate: a loser has no bits any more, and in lock removal it has seen its winner's stamp; a
     /// hart that stays has seen the head's there.
     fn settle(&mut self, head: Request, hart: HartId, fate: Fate)
-        requires { hart.number < length (kept self.old).copies.caches }
-        ensures { IsSettledAt (numbered head) (numbered_fate fate) hart.number (kept self.old) (kept self.new) }
+        requires { hart.number < length (bus_state self.old).copies.caches }
+        ensures { IsSettledAt (numbered head) (numbered_fate fate) hart.number (bus_state self.old) (bus_state self.new) }
     {
         let stamp = self.stamp_seen(head, fate);
         see(&mut self.agents, hart, stamp);
@@ -113,10 +113,10 @@ impl Bus {
 
     /// Each hart has its fate.
     pub(crate) fn settle_all(&mut self, head: Request, fates: &[Fate])
-        requires count { length fates.now ≡ length (kept self.old).agents }
-        requires ready { IsReady (kept self.old) }
+        requires count { length fates.now ≡ length (bus_state self.old).agents }
+        requires ready { IsReady (bus_state self.old) }
         ensures { AreSettledBelow (numbered head) (fate_in fates.now) (length fates.now)
-            (kept self.old) (kept self.new) }
+            (bus_state self.old) (bus_state self.new) }
     {
         for number in 0..fates.len() {
             self.settle(head, HartId::at(number), fates[number]);

@@ -8,7 +8,7 @@ ghost use Rattle.coherence.specs.Lent.{IsLentTo, Offers, slotted_at};
 ghost use Rattle.coherence.specs.Served.{IsCoherent, caches_of, shown_copies};
 ghost use Rattle.el_base.specs.Config.{IsInRange};
 ghost use Rattle.snoop.specs.Agent.{agent_at, with_agent};
-ghost use Rattle.snoop.specs.Shows.{IsReady, IsTold, has_room_in, kept};
+ghost use Rattle.snoop.specs.Shows.{IsReady, IsTold, has_room_in, bus_state};
 
 mod delivering;
 mod events;
@@ -83,12 +83,12 @@ fn pool(alloc: Global, config: &Config) -> Result<Pool, Fail>
 struct Rig {
     bus: Bus,
     pool: Pool,
-    ghost ready: { IsReady (kept bus) },
+    ghost ready: { IsReady (bus_state bus) },
 }
 
 /// The bus before its first event.
 fn first_rig(alloc: Global, config: &Config) -> Result<Rig, Fail>
-    ensures { IfOk result (λ rig. IsTold rig.pool (kept rig.bus)) }
+    ensures { IfOk result (λ rig. IsTold rig.pool (bus_state rig.bus)) }
 {
     let image = image(alloc, config)?;
     let pool = pool(alloc, config)?;
@@ -190,7 +190,7 @@ fn well_formed(hierarchy: &Hierarchy)
 
 /// The bus of four harts that have asked for nothing yet. In the plain mode none has read the line, nor was told.
 fn made(alloc: Global, mode: Mode, readers: &[u8], told: bool) -> Result<Rig, Fail>
-    ensures { IfOk result (λ rig. IsTold rig.pool (kept rig.bus)) }
+    ensures { IfOk result (λ rig. IsTold rig.pool (bus_state rig.bus)) }
 {
     match mode {
         Mode::Plain => return first_rig(alloc, &four_harts(mode)),
@@ -213,16 +213,16 @@ fn made(alloc: Global, mode: Mode, readers: &[u8], told: bool) -> Result<Rig, Fa
 
 /// A hart asks for the line, where it may.
 fn ask(rig: &mut Rig, hart: HartId, need: Need) -> bool
-    requires { IsTold rig.old.pool (kept rig.old.bus) }
-    ensures { IsTold rig.new.pool (kept rig.new.bus) }
+    requires { IsTold rig.old.pool (bus_state rig.old.bus) }
+    ensures { IsTold rig.new.pool (bus_state rig.new.bus) }
 {
     events::ask_for(rig, hart, line(), need)
 }
 
 /// Whether a hart's cache has room for a line.
 fn has_room(rig: &Rig, hart: HartId, line: LineAddr) -> bool
-    requires { hart.number < length (kept rig.now.bus).agents }
-    ensures { result ≡ has_room_in (kept rig.now.bus).copies hart.number line.number }
+    requires { hart.number < length (bus_state rig.now.bus).agents }
+    ensures { result ≡ has_room_in (bus_state rig.now.bus).copies hart.number line.number }
 {
     rig.bus.hierarchy.cache(hart).room(line)
 }
@@ -239,8 +239,8 @@ fn raise(agents: &mut Vec<Agent>, request: Request)
 
 /// What Order says, under the policy of the mode, or nothing where the hart is not there.
 fn order(rig: &mut Rig, hart: HartId) -> Option<Outcome>
-    requires { IsTold rig.old.pool (kept rig.old.bus) }
-    ensures { IsTold rig.new.pool (kept rig.new.bus) }
+    requires { IsTold rig.old.pool (bus_state rig.old.bus) }
+    ensures { IsTold rig.new.pool (bus_state rig.new.bus) }
 {
     let bus = &mut rig.bus;
     if usize::from(hart.number) >= bus.agents.len() {
@@ -255,8 +255,8 @@ fn order(rig: &mut Rig, hart: HartId) -> Option<Outcome>
 
 /// Asks for the line for a hart, where it may, and tells what Order says then.
 fn asks(rig: &mut Rig, hart: HartId, need: Need) -> Option<Outcome>
-    requires { IsTold rig.old.pool (kept rig.old.bus) }
-    ensures { IsTold rig.new.pool (kept rig.new.bus) }
+    requires { IsTold rig.old.pool (bus_state rig.old.bus) }
+    ensures { IsTold rig.new.pool (bus_state rig.new.bus) }
 {
     if ask(rig, hart, need) {
         order(rig, hart)

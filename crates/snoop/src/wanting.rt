@@ -4,7 +4,7 @@ ghost use Rattle.std.specs.Prelude.{◌≡◌, ◌==◌, ◌&&◌, ◌||◌, not
 ghost use Rattle.std.specs.List.{list_any};
 ghost use Rattle.el_model.specs.Conflicts as model;
 ghost use Rattle.el_model.specs.State.{ModelState};
-ghost use Rattle.snoop.specs.Shows.{Shows, kept};
+ghost use Rattle.snoop.specs.Shows.{Shows, bus_state};
 
 use crate::bus::Bus;
 use bus_order::Request;
@@ -14,7 +14,7 @@ impl Bus {
     /// Whether another hart's request that would conflict with a new bit of this need is ordered on a line: a write
     /// with a read bit, any with a write bit.
     pub fn is_wanted(&self, hart: HartId, line: LineAddr, need: Need) -> bool
-        ensures { (state : ModelState) → Shows (kept self.now) state →
+        ensures { (state : ModelState) → Shows (bus_state self.now) state →
             result ≡ model.is_wanted state hart.number line.number need }
     {
         is_asked(self.order.as_slice(), hart, line, need)

@@ -18,7 +18,7 @@ use Rattle.moesi.specs.Letters.{may_of, may_read}
 use Rattle.rv_alu.specs.Loaded.{loaded}
 use Rattle.rv_flat.specs.FlatState.{FlatState}
 use Rattle.rv_flat.specs.Memory.{byte_in}
-use Rattle.snoop.specs.Shows.{Kept, Shows, Tells}
+use Rattle.snoop.specs.Shows.{BusState, Shows, Tells}
 use Rattle.step_rules.proofs.Laws.Begins.{readable_there, touching_same, word_told}
 use Rattle.step_rules.specs.Rules.{FindsOld, IfArms, IsOnLine, NeverArms, TellsOld, arming_rule, definition_plain, touching_rule}
 use Rattle.step_rules.specs.declared.plain.PlainRule as plain_rules
@@ -62,7 +62,7 @@ arms_at cache wanted word touch found is = by (may_read (letter_of cache (line_n
     by false open_line may arms = never_touching cache touch found arms
 
 -- the value that its cache has there is the committed one
-pub tells : (pool : Pooled) (bus : Kept) (state : ModelState) (h word : ℕ) (wanted : Bool) (touch : Option Touch) (rule : plain_rules.PlainRule) →
+pub tells : (pool : Pooled) (bus : BusState) (state : ModelState) (h word : ℕ) (wanted : Bool) (touch : Option Touch) (rule : plain_rules.PlainRule) →
     Tells pool bus (line_of state.committed) → IsOnLine state.committed → state.committed.base ≤ word → word % 4 ≡ 0 →
     definition_plain rule ≡ arming_rule (slotted_at bus.copies.caches h).residency wanted word touch →
     FindsOld rule (lent pool (slotted_at bus.copies.caches h)) → TellsOld rule state.committed
@@ -79,7 +79,7 @@ tells pool bus state h word wanted touch (Arms at old) told on_line from aligned
     ∙ ap (λ w. loaded (byte_in state.committed.base state.committed.bytes) w 4) (sym arms.same)
 
 -- the rule is the definition's
-pub arms_shown : (bus : Kept) (state : ModelState) (h word : ℕ) (wanted : Bool) (touch : Option Touch) → Shows bus state →
+pub arms_shown : (bus : BusState) (state : ModelState) (h word : ℕ) (wanted : Bool) (touch : Option Touch) → Shows bus state →
     touch ≡ next_touch state.committed h → wanted ≡ is_wanted_to_write state h (line_number word) →
     arming_rule (slotted_at bus.copies.caches h).residency wanted word touch ≡ reserve_rule state h (Some word)
 arms_shown bus state h word wanted touch shows touches asked =

@@ -5,7 +5,7 @@ ghost use Rattle.el_model.specs.Armed as model;
 ghost use Rattle.el_model.specs.State.{ModelState};
 ghost use Rattle.rv_flat.specs.FlatState.{FlatState};
 ghost use Rattle.rv_flat.specs.Memory.{byte_in};
-ghost use Rattle.snoop.specs.Shows.{Shows, kept};
+ghost use Rattle.snoop.specs.Shows.{Shows, bus_state};
 ghost use Rattle.step_rules.specs.Actions.{IsNext, numbered_swap, swap_over};
 ghost use Rattle.step_rules.specs.Rules.{HasOld, armed_of, completing_rule, definition_armed, growing};
 
@@ -41,7 +41,7 @@ pub fn armed_rule(
     progress: Progress,
     long: u32,
 ) -> ArmedRule
-    ensures { (state : ModelState) → Shows (kept bus.now) state → state.config.long ≡ long →
+    ensures { (state : ModelState) → Shows (bus_state bus.now) state → state.config.long ≡ long →
         IsNext action.now (model.shown_armed state hart.number (armed_of progress)) hart.number →
         HasOld progress (model.shown_armed state hart.number (armed_of progress)) →
         definition_armed result ≡ model.armed_rule state hart.number (armed_of progress) }
@@ -54,7 +54,7 @@ pub fn armed_rule(
 
 /// The rule of an SC that succeeds.
 fn exchange_rule(bus: &Bus, hart: HartId, exchange: Exchange, progress: Progress) -> ArmedRule
-    ensures { (state : ModelState) (shown : FlatState) → Shows (kept bus.now) state → HasOld progress shown →
+    ensures { (state : ModelState) (shown : FlatState) → Shows (bus_state bus.now) state → HasOld progress shown →
         definition_armed result ≡ model.exchange_rule state hart.number (armed_of progress)
         (Some (swap_over (byte_in shown.base shown.bytes) exchange)) }
 {

@@ -5,7 +5,7 @@ ghost use Rattle.std.specs.Option.{option_map};
 ghost use Rattle.cache_sets.specs.Bits.{has_need};
 ghost use Rattle.el_model.specs.InSection as model;
 ghost use Rattle.el_model.specs.State.{ModelState};
-ghost use Rattle.snoop.specs.Shows.{Shows, kept};
+ghost use Rattle.snoop.specs.Shows.{Shows, bus_state};
 ghost use Rattle.step_rules.specs.Actions.{IsNext, numbered_touch};
 ghost use Rattle.step_rules.specs.Rules.{definition_in_section, is_full, marking_rule, section_of};
 
@@ -48,8 +48,8 @@ pub fn section_rule(
     progress: Progress,
     config: &Config,
 ) -> SectionRule
-    requires hart_exists { hart.number < length (kept bus.now).copies.caches }
-    ensures { (state : ModelState) (new : ℕ) → Shows (kept bus.now) state → state.config ≡ config.now →
+    requires hart_exists { hart.number < length (bus_state bus.now).copies.caches }
+    ensures { (state : ModelState) (new : ℕ) → Shows (bus_state bus.now) state → state.config ≡ config.now →
         IsNext action.now (model.shown_in state hart.number (section_of progress new)) hart.number →
         definition_in_section result ≡ model.section_rule state hart.number (section_of progress new) }
 {
@@ -70,8 +70,8 @@ pub fn section_rule(
 
 /// The rule of an action that the section goes on with, by what it touches.
 fn touch_rule(bus: &Bus, hart: HartId, touch: Option<Touch>, lines: u8) -> SectionRule
-    requires hart_exists { hart.number < length (kept bus.now).copies.caches }
-    ensures { (state : ModelState) → Shows (kept bus.now) state → state.config.lines ≡ lines →
+    requires hart_exists { hart.number < length (bus_state bus.now).copies.caches }
+    ensures { (state : ModelState) → Shows (bus_state bus.now) state → state.config.lines ≡ lines →
         definition_in_section result
         ≡ model.touch_rule state hart.number (option_map numbered_touch touch) }
 {
@@ -83,8 +83,8 @@ fn touch_rule(bus: &Bus, hart: HartId, touch: Option<Touch>, lines: u8) -> Secti
 
 /// The rule of an action that touches a line, which then has the bit that the action wants, or gets it.
 fn bit_rule(bus: &Bus, hart: HartId, touch: Touch, lines: u8) -> SectionRule
-    requires hart_exists { hart.number < length (kept bus.now).copies.caches }
-    ensures { (state : ModelState) → Shows (kept bus.now) state → state.config.lines ≡ lines →
+    requires hart_exists { hart.number < length (bus_state bus.now).copies.caches }
+    ensures { (state : ModelState) → Shows (bus_state bus.now) state → state.config.lines ≡ lines →
         definition_in_section result ≡ model.bit_rule state hart.number (numbered_touch touch) }
 {
     let sets = bus.sets(hart);

@@ -10,7 +10,7 @@ ghost use Rattle.el_model.specs.Plain as model;
 ghost use Rattle.el_model.specs.State.{ModelState};
 ghost use Rattle.el_model.specs.Upcoming.{next_swap, next_touch};
 ghost use Rattle.rv_flat.specs.Memory.{byte_in};
-ghost use Rattle.snoop.specs.Shows.{Shows, Tells, kept};
+ghost use Rattle.snoop.specs.Shows.{Shows, Tells, bus_state};
 ghost use Rattle.step_rules.specs.Actions.{IsNext, numbered_swap, numbered_touch, swap_over};
 ghost use Rattle.step_rules.specs.Rules.{
   FindsOld,
@@ -58,16 +58,16 @@ pub fn plain_rule(
     action: &Action,
     may_elide: bool,
 ) -> PlainRule
-    requires hart_exists { hart.number < length (kept bus.now).copies.caches }
-    requires lent { IsLent pool.now (slotted_at (kept bus.now).copies.caches hart.number) }
+    requires hart_exists { hart.number < length (bus_state bus.now).copies.caches }
+    requires lent { IsLent pool.now (slotted_at (bus_state bus.now).copies.caches hart.number) }
     requires aligned { IsAligned action.now }
-    ensures rule { (state : ModelState) → Shows (kept bus.now) state →
-        Tells pool.now (kept bus.now) (committed_line state.committed) → IsOnLine state.committed →
+    ensures rule { (state : ModelState) → Shows (bus_state bus.now) state →
+        Tells pool.now (bus_state bus.now) (committed_line state.committed) → IsOnLine state.committed →
         IsNext action.now state.committed hart.number →
         MayElide state hart.number may_elide →
         definition_plain result ≡ model.plain_rule state hart.number }
-    ensures old { (state : ModelState) → Shows (kept bus.now) state →
-        Tells pool.now (kept bus.now) (committed_line state.committed) → IsOnLine state.committed →
+    ensures old { (state : ModelState) → Shows (bus_state bus.now) state →
+        Tells pool.now (bus_state bus.now) (committed_line state.committed) → IsOnLine state.committed →
         IsNext action.now state.committed hart.number → TellsOld result state.committed }
 {
     let touch = touch_of(action);
@@ -87,16 +87,16 @@ fn acquire_rule(
     action: &Action,
     touch: Option<Touch>,
 ) -> PlainRule
-    requires hart_exists { hart.number < length (kept bus.now).copies.caches }
-    requires lent { IsLent pool.now (slotted_at (kept bus.now).copies.caches hart.number) }
+    requires hart_exists { hart.number < length (bus_state bus.now).copies.caches }
+    requires lent { IsLent pool.now (slotted_at (bus_state bus.now).copies.caches hart.number) }
     requires aligned { IsAligned action.now }
-    ensures rule { (state : ModelState) → Shows (kept bus.now) state →
-        Tells pool.now (kept bus.now) (committed_line state.committed) → IsOnLine state.committed →
+    ensures rule { (state : ModelState) → Shows (bus_state bus.now) state →
+        Tells pool.now (bus_state bus.now) (committed_line state.committed) → IsOnLine state.committed →
         IsNext action.now state.committed hart.number →
         option_map numbered_touch touch ≡ next_touch state.committed hart.number →
         definition_plain result ≡ acquiring_rule state hart.number (next_swap state.committed hart.number) }
-    ensures old { (state : ModelState) → Shows (kept bus.now) state →
-        Tells pool.now (kept bus.now) (committed_line state.committed) → IsOnLine state.committed →
+    ensures old { (state : ModelState) → Shows (bus_state bus.now) state →
+        Tells pool.now (bus_state bus.now) (committed_line state.committed) → IsOnLine state.committed →
         IsNext action.now state.committed hart.number → TellsOld result state.committed }
 {
     if let Some(exchange) = swap_of(action) {
@@ -118,12 +118,12 @@ fn swap_rule(
     exchange: Exchange,
     touch: Option<Touch>,
 ) -> PlainRule
-    requires hart_exists { hart.number < length (kept bus.now).copies.caches }
-    requires lent { IsLent pool.now (slotted_at (kept bus.now).copies.caches hart.number) }
+    requires hart_exists { hart.number < length (bus_state bus.now).copies.caches }
+    requires lent { IsLent pool.now (slotted_at (bus_state bus.now).copies.caches hart.number) }
     requires aligned { exchange.word % 4 ≡ 0 }
     ensures never_arms { NeverArms result }
-    ensures rule { (state : ModelState) → Shows (kept bus.now) state →
-        Tells pool.now (kept bus.now) (committed_line state.committed) → IsOnLine state.committed →
+    ensures rule { (state : ModelState) → Shows (bus_state bus.now) state →
+        Tells pool.now (bus_state bus.now) (committed_line state.committed) → IsOnLine state.committed →
         state.committed.base ≤ exchange.word →
         option_map numbered_touch touch ≡ next_touch state.committed hart.number →
         definition_plain result ≡ model.swap_rule state hart.number
@@ -165,14 +165,14 @@ pub(crate) fn begin_rule(sets: &Sets, wanted: bool, swap: Swap, touch: Option<To
 
 /// The rule where the action is an LR at which its hart may arm.
 fn reserve_rule(pool: &Pool, bus: &Bus, hart: HartId, word: u32, touch: Option<Touch>) -> PlainRule
-    requires hart_exists { hart.number < length (kept bus.now).copies.caches }
-    requires lent { IsLent pool.now (slotted_at (kept bus.now).copies.caches hart.number) }
+    requires hart_exists { hart.number < length (bus_state bus.now).copies.caches }
+    requires lent { IsLent pool.now (slotted_at (bus_state bus.now).copies.caches hart.number) }
     requires aligned { word % 4 ≡ 0 }
-    ensures rule { (state : ModelState) → Shows (kept bus.now) state →
+    ensures rule { (state : ModelState) → Shows (bus_state bus.now) state →
         option_map numbered_touch touch ≡ next_touch state.committed hart.number →
         definition_plain result ≡ model.reserve_rule state hart.number (Some word) }
-    ensures old { (state : ModelState) → Shows (kept bus.now) state →
-        Tells pool.now (kept bus.now) (committed_line state.committed) → IsOnLine state.committed →
+    ensures old { (state : ModelState) → Shows (bus_state bus.now) state →
+        Tells pool.now (bus_state bus.now) (committed_line state.committed) → IsOnLine state.committed →
         state.committed.base ≤ word → TellsOld result state.committed }
 {
     let wanted = bus.is_wanted(hart, line_of(word), Need::Read);

@@ -5,7 +5,7 @@ ghost use Rattle.std.specs.Prelude.{◌≡◌, ◌<◌, length};
 ghost use Rattle.cache_sets.specs.Slotted.{IsLent};
 ghost use Rattle.coherence.specs.Lent.{slotted_at};
 ghost use Rattle.line_pool.specs.Pooled.{Pooled};
-ghost use Rattle.snoop.specs.Shows.{kept};
+ghost use Rattle.snoop.specs.Shows.{bus_state};
 
 mod actions;
 mod rules;
@@ -111,8 +111,8 @@ fn config() -> Config
 struct Harts {
     pool: Pool,
     bus: Bus,
-    ghost there: { 0 < length (kept bus).copies.caches },
-    ghost lent: { IsLent pool (slotted_at (kept bus).copies.caches 0) },
+    ghost there: { 0 < length (bus_state bus).copies.caches },
+    ghost lent: { IsLent pool (slotted_at (bus_state bus).copies.caches 0) },
 }
 
 /// Two harts, of which the first has these lines in its cache.

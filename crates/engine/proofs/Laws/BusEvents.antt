@@ -20,13 +20,13 @@ use Rattle.coherence.specs.Lent.{LeavesHolds, LeavesOwner}
 use Rattle.engine.proofs.Framed.{hold_lent, own_left, told_left}
 use Rattle.engine.proofs.Reaching.{lets_go, loses, numbered, runs_armed, survives_event}
 use Rattle.engine.proofs.Reserved.{kept_as, unarmed, unlive}
-use Rattle.engine.specs.Parts.{IsIn, IsOfHart, KeepsReserved, KeepsSection, KeepsSectionOf, Parts, StandsAs, hold_owner, own_at}
+use Rattle.engine.specs.Parts.{IsInState, IsOfHart, KeepsReserved, KeepsSection, KeepsSectionOf, Parts, StandsAs, hold_owner, own_at}
 use Rattle.engine.specs.Lent.{LeavesKept, LendsHolds}
-use Rattle.engine.specs.Reached.{IsReached, Stands}
+use Rattle.engine.specs.Reached.{IsReached, EngineStands}
 use Rattle.engine.specs.Restored.{AreRestored, freed_own, own_after}
 use Rattle.hart_state.proofs.Laws.Harts.{lost_is}
 use Rattle.hart_state.specs.Deeds.{let_go_own, lost_own}
-use Rattle.hart_state.specs.Own.{Own}
+use Rattle.hart_state.specs.Own.{OwnState}
 use Rattle.line_pool.specs.Pooled.{Pooled}
 use Rattle.policy.specs.Winners.{wins_of}
 use Rattle.run_laws.specs.PrivateRun.{IsChangeBeside, KeepsAllButViews}
@@ -37,7 +37,7 @@ use Rattle.section_ctl.specs.State.{Reserved, SectionState, hold_in}
 use Rattle.section_view.proofs.Laws.Surviving.{kept_armed_survive, kept_survive, marks_stay}
 use Rattle.section_view.specs.KeptRun.{KeepsArmed}
 use Rattle.snoop.specs.LettingGo.{KeepsBytes}
-use Rattle.snoop.specs.Shows.{Kept, Shows, Tells}
+use Rattle.snoop.specs.Shows.{BusState, Shows, Tells}
 use Rattle.stamp.specs.Stamps as stamps
 use Rattle.step_laws.proofs.Laws.Frames.{bus_events_keep}
 use Rattle.step_laws.specs.Frames.{LeavesPredictors}
@@ -53,7 +53,7 @@ bytes_kept state event reached bus =
     record { base = memory.base; bytes = memory.bytes }
 
 -- so the bus, which owes that to its caller, shows the state after it
-pub shown_after : (bus : Kept) (state : ModelState) (event : Event) (turn : Turn) → next state event ≡ turn →
+pub shown_after : (bus : BusState) (state : ModelState) (event : Event) (turn : Turn) → next state event ≡ turn →
     IsReached state → event.kind ≢ kinds.Step →
     (KeepsBytes state.committed turn.state.committed → Shows bus turn.state) → Shows bus (next state event).state
 shown_after bus state event turn is reached no_step shows =
@@ -99,7 +99,7 @@ armed_goes_on state new g (Some reserved) present reached is change keeps =
     kept_armed_survive g (cache_of state g) reserved.armed state.committed new.committed reserved.old present
     (runs_armed state g reserved.armed reached (sym is)) change keeps
 
-module _ (pool : Pooled) (state : ModelState) (event : Event) (g : ℕ) (own : Own) (reached : IsReached state) (bus : event.kind ≢ kinds.Step)
+module _ (pool : Pooled) (state : ModelState) (event : Event) (g : ℕ) (own : OwnState) (reached : IsReached state) (bus : event.kind ≢ kinds.Step)
     (below : g < length state.harts) (is : IsOfHart pool state g own) where
   abbrev new : ModelState
   new = (next state event).state
@@ -244,12 +244,12 @@ module _ (pool : Pooled) (state : ModelState) (event : Event) (g : ℕ) (own : O
 
 -- all parts
 pub after_bus : (old mid new : Parts) (state : ModelState) (event : Event) (winner : ℕ → Option ℕ) (freed : Freed) → event.kind ≢ kinds.Step →
-    IsReached state → IsIn old state → mid ≡ record old { pool = mid.pool; bus = mid.bus } →
+    IsReached state → IsInState old state → mid ≡ record old { pool = mid.pool; bus = mid.bus } →
     new ≡ record mid { pool = new.pool; harts = new.harts } → Shows mid.bus (next state event).state →
     Tells mid.pool mid.bus (line_of (next state event).state.committed) → LeavesHolds old.pool mid.pool → LendsHolds new.pool new.harts →
     LeavesKept winner mid.pool new.pool → ((g : ℕ) → winner_over (next state event).outcome g ≡ winner g) →
     freed ≡ freed_of_outcome (next state event).outcome →
-    AreRestored mid.config.mode winner (λ g. count_in freed g) mid.harts new.harts → IsIn new (next state event).state
+    AreRestored mid.config.mode winner (λ g. count_in freed g) mid.harts new.harts → IsInState new (next state event).state
 after_bus old mid new state event winner freed bus reached is mid_is new_is shows told holds lent kept named freed_is restored_mid =
     let restored = subst (λ p. AreRestored p.config.mode winner (λ g. count_in freed g) p.harts new.harts) mid_is restored_mid in
     let keeps = bus_events_keep state event bus in
@@ -273,7 +273,7 @@ after_bus old mid new state event winner freed bus reached is mid_is new_is show
           (hart_after old.pool state event g (own_at old.harts g) reached bus (subst (λ n. g < n) is.one_each inside) (is.harts g inside) new.pool
           (winner g) (named g)
           (λ none. leaves_owner-then (hold_owner g) old.pool mid.pool new.pool (holds (hold_owner g) (omega arith)) (kept.holds g none))
-          (subst (λ (own : Own). IsLent new.pool own.section.hold) left (lent g below).lent));
+          (subst (λ (own : OwnState). IsLent new.pool own.section.hold) left (lent g below).lent));
       code = ap (λ p. p.code) new_is ∙ ap (λ p. p.code) mid_is ∙ is.code ∙ sym memory.code;
       output = ap (λ p. p.output) new_is ∙ ap (λ p. p.output) mid_is ∙ is.output ∙ sym memory.output;
     }
@@ -284,7 +284,7 @@ after_bus old mid new state event winner freed bus reached is mid_is new_is show
         ∙ ap (λ n. record { base = new.base; end = new.base + n }) (sym (ap length keeps.bytes))
 
 -- a loser has a live section
-pub had_section : (old mid : Parts) (stands : Stands old) (event : Event) (g winner : ℕ) → mid ≡ record old { pool = mid.pool; bus = mid.bus } →
+pub had_section : (old mid : Parts) (stands : EngineStands old) (event : Event) (g winner : ℕ) → mid ≡ record old { pool = mid.pool; bus = mid.bus } →
     g < length mid.harts → winner_over (next stands.state event).outcome g ≡ Some winner → IsSome (own_at mid.harts g).section.live
 had_section old mid stands event g winner mid_is inside named =
     let harts = ap (λ p. p.harts) mid_is in
@@ -294,7 +294,7 @@ had_section old mid stands event g winner mid_is inside named =
     subst IsSome (sym live) refl
 
 -- and one that is let go an armed one
-pub was_armed : (old mid : Parts) (stands : Stands old) (event : Event) (g : ℕ) → event.kind ≢ kinds.Step →
+pub was_armed : (old mid : Parts) (stands : EngineStands old) (event : Event) (g : ℕ) → event.kind ≢ kinds.Step →
     mid ≡ record old { pool = mid.pool; bus = mid.bus } → g < length mid.harts →
     1 ≤ count_in (freed_of_outcome (next stands.state event).outcome) g → IsSome (own_at mid.harts g).section.armed
 was_armed old mid stands event g bus mid_is inside some =
@@ -306,7 +306,7 @@ was_armed old mid stands event g bus mid_is inside some =
     subst IsSome (sym (ap (λ h. (own_at h g).section.armed) harts ∙ kept.is)) refl
 
 -- the pool lends the holds of all harts still
-pub holds_lent : (old mid : Parts) (stands : Stands old) → mid ≡ record old { pool = mid.pool; bus = mid.bus } → LeavesHolds old.pool mid.pool →
+pub holds_lent : (old mid : Parts) (stands : EngineStands old) → mid ≡ record old { pool = mid.pool; bus = mid.bus } → LeavesHolds old.pool mid.pool →
     LendsHolds mid.pool mid.harts
 holds_lent old mid stands mid_is leaves =
     subst (LendsHolds mid.pool) (sym (ap (λ p. p.harts) mid_is))
@@ -320,17 +320,17 @@ holds_lent old mid stands mid_is leaves =
     })
 
 -- each hart has its agent at the bus
-pub agent_each : (parts : Parts) → Stands parts → length parts.bus.agents ≡ length parts.harts
+pub agent_each : (parts : Parts) → EngineStands parts → length parts.bus.agents ≡ length parts.harts
 agent_each parts stands = stands.is_in.shows.agent_each ∙ sym stands.is_in.one_each
 
-pub hart_exists : (parts : Parts) (h : ℕ) → Stands parts → h < length parts.harts → h < length parts.bus.agents
+pub hart_exists : (parts : Parts) (h : ℕ) → EngineStands parts → h < length parts.harts → h < length parts.bus.agents
 hart_exists parts h stands below = subst (λ n. h < n) (sym (agent_each parts stands)) below
 
-pub few_harts : (parts : Parts) → Stands parts → length parts.harts ≤ 8
+pub few_harts : (parts : Parts) → EngineStands parts → length parts.harts ≤ 8
 few_harts parts stands = subst (λ n. n ≤ 8) (agent_each parts stands) stands.ready.few
 
 -- the policy is that of the bus's mode
-pub mode_wins : (parts : Parts) (request holder : Option stamps.Stamp) → Stands parts →
+pub mode_wins : (parts : Parts) (request holder : Option stamps.Stamp) → EngineStands parts →
     wins_of parts.config.mode request holder ≡ wins_of parts.bus.mode request holder
 mode_wins parts request holder stands =
     ap (λ mode. wins_of mode request holder) (ap (λ config. config.mode) stands.is_in.config ∙ sym stands.is_in.shows.mode)

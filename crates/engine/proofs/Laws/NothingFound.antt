@@ -14,7 +14,7 @@ use Rattle.el_model.specs.Order.{order_raised, order_turn}
 use Rattle.el_model.specs.Serve.{serve_ordered, serve_turn}
 use Rattle.el_model.specs.State.{ModelState, hart_of, idle, ordered_of, raised_of}
 use Rattle.engine.specs.MainMemory.{back_by, line_written_back, lines_from, with_committed}
-use Rattle.engine.specs.Parts.{IsIn, Parts}
+use Rattle.engine.specs.Parts.{IsInState, Parts}
 use Rattle.engine.specs.Resting.{finds_nothing, is_quiet, nothing_for}
 use Rattle.mail.specs.Mailbox.{Message}
 
@@ -47,8 +47,8 @@ unfolding next
 rests state event is = rests_by state event.hart.number event.kind is
 
 pub resting_state : (parts : Parts) (state : ModelState) (event : Event) → finds_nothing state event ≡ true →
-    IsIn parts state → IsIn parts (next state event).state
-resting_state parts state event is inside = subst (λ turn. IsIn parts turn.state) (sym (rests state event is)) inside
+    IsInState parts state → IsInState parts (next state event).state
+resting_state parts state event is inside = subst (λ turn. IsInState parts turn.state) (sym (rests state event is)) inside
 
 pub resting_outcome : (state : ModelState) (event : Event) → finds_nothing state event ≡ true →
     Idle ≡ (next state event).outcome

@@ -17,7 +17,7 @@ use Rattle.el_model.specs.Upcoming.{Swap, Touch, is_store_conditional}
 use Rattle.hart_state.specs.Deeds.{armed_own, began_own, buffered_own, candidate_own, committed_own, elided_own, let_go_own, lost_own}
 use Rattle.hart_state.specs.Deeds.{own_acquire_pc, own_may_elide, ran_own, restored_own, rolled_back_own, standing_own, unreserved_own}
 use Rattle.hart_state.specs.Lending.{with_view}
-use Rattle.hart_state.specs.Own.{HasOwn, Own, committed_pc, new_own}
+use Rattle.hart_state.specs.Own.{HasOwn, OwnState, committed_pc, new_own}
 use Rattle.pair_table.specs.Predictor.{settled, unwatched}
 use Rattle.pair_table.specs.declared.verdict.Verdict.TheVariants.{Up}
 use Rattle.rv_alu.specs.declared.view.HartView.{HartView}
@@ -32,12 +32,12 @@ pub new_is : (view : HartView) (lines owner sets : ℕ) → HasOwn (new_own view
 new_is view lines owner sets = record { section = refl; armed = refl; last_lr = refl; predictor = refl; fallback = refl; tries = refl }
 
 -- it elides where the definition's hart does
-pub may_elide_is : (mode : Mode) (own : Own) (hart : Hart) → HasOwn own hart →
+pub may_elide_is : (mode : Mode) (own : OwnState) (hart : Hart) → HasOwn own hart →
     own_may_elide mode own ≡ may_elide mode hart (committed_pc own)
 may_elide_is mode own hart has = rw has.fallback (rw has.predictor refl)
 
 -- what is written to its view, and a reservation that ends, are no part of the definition's hart
-pub written_is : (own : Own) (hart : Hart) (view : HartView) → HasOwn own hart → HasOwn (with_view own view) hart
+pub written_is : (own : OwnState) (hart : Hart) (view : HartView) → HasOwn own hart → HasOwn (with_view own view) hart
 written_is own hart view has =
     record {
       section = has.section;
@@ -48,7 +48,7 @@ written_is own hart view has =
       tries = has.tries;
     }
 
-pub unreserved_is : (own : Own) (hart : Hart) (line : ℕ) → HasOwn own hart → HasOwn (unreserved_own line own) hart
+pub unreserved_is : (own : OwnState) (hart : Hart) (line : ℕ) → HasOwn own hart → HasOwn (unreserved_own line own) hart
 unreserved_is own hart line has =
     record {
       section = has.section;
@@ -60,7 +60,7 @@ unreserved_is own hart line has =
     }
 
 -- nor is a request that it raises
-pub missed_is : (own : Own) (hart : Hart) (h line : ℕ) (need : Need) → HasOwn own hart → HasOwn own (missed_hart h line need hart)
+pub missed_is : (own : OwnState) (hart : Hart) (h line : ℕ) (need : Need) → HasOwn own hart → HasOwn own (missed_hart h line need hart)
 missed_is own hart h line need has =
     record {
       section = has.section;
@@ -71,7 +71,7 @@ missed_is own hart h line need has =
       tries = has.tries;
     }
 
-candidate_is : (pc : Option ℕ) (had : Bool) (swap : Option Swap) (own : Own) (hart : Hart) → HasOwn own hart →
+candidate_is : (pc : Option ℕ) (had : Bool) (swap : Option Swap) (own : OwnState) (hart : Hart) → HasOwn own hart →
     HasOwn (candidate_own pc had swap own) (after_candidate pc had swap hart)
 candidate_is pc had None own hart has = has
 candidate_is pc had (Some swap) own hart has = record {
@@ -84,7 +84,7 @@ candidate_is pc had (Some swap) own hart has = record {
 }
 
 -- an instruction that has run outside of a section, of the hart as it stands in the state
-pub ran_is : (state : ModelState) (h : ℕ) (touch : Option Touch) (own : Own) (hart : Hart) → HasOwn own hart →
+pub ran_is : (state : ModelState) (h : ℕ) (touch : Option Touch) (own : OwnState) (hart : Hart) → HasOwn own hart →
     hart.last_lr ≡ (hart_of state h).last_lr → HasOwn (ran_own state h own) (ran_hart state h touch hart)
 ran_is state h touch own hart has same =
     subst (λ pc. HasOwn (ran_own state h own) (after_candidate pc (is_some hart.predictor.watch) swap seen_hart))
@@ -97,7 +97,7 @@ ran_is state h touch own hart has same =
     swap : Option Swap
     swap = candidate_of state h
 
-    seen_own : Own
+    seen_own : OwnState
     seen_own = record own {
       last_lr = last_reserve state h own.last_lr;
       predictor = watched state h own.predictor own.predictor.watch;
@@ -122,7 +122,7 @@ ran_is state h touch own hart has same =
     }
 
 -- a section that has begun at a swap, where none was armed
-pub began_is : (mode : Mode) (h : ℕ) (swap : Swap) (rd : ℕ) (own : Own) (hart : Hart) → HasOwn own hart → hart.armed ≡ None →
+pub began_is : (mode : Mode) (h : ℕ) (swap : Swap) (rd : ℕ) (own : OwnState) (hart : Hart) → HasOwn own hart → hart.armed ≡ None →
     HasOwn (began_own swap.word swap.old swap.new rd own) (began_hart mode h swap hart)
 began_is mode h swap rd own hart has unarmed = record {
   section = ap (λ armed. Some (record { count = suc (armed_count armed); word = swap.word; old = swap.old; new = swap.new })) (sym unarmed);
@@ -134,7 +134,7 @@ began_is mode h swap rd own hart has unarmed = record {
 }
 
 -- a section that has armed, where none was live
-pub arming_is : (word old rd : ℕ) (own : Own) (hart : Hart) → HasOwn own hart → hart.section ≡ None →
+pub arming_is : (word old rd : ℕ) (own : OwnState) (hart : Hart) → HasOwn own hart → hart.section ≡ None →
     HasOwn (armed_own word old rd own) (arming_hart word hart)
 arming_is word old rd own hart has none = record {
   section = sym none;
@@ -161,7 +161,7 @@ elided_section reserved armed swap is word old =
       new = swap.new;
     }))
 
-pub elided_is : (mode : Mode) (h : ℕ) (swap : Swap) (rd : ℕ) (reserved : Reserved) (own : Own) (hart : Hart) → HasOwn own hart →
+pub elided_is : (mode : Mode) (h : ℕ) (swap : Swap) (rd : ℕ) (reserved : Reserved) (own : OwnState) (hart : Hart) → HasOwn own hart →
     own.section.armed ≡ Some reserved → swap.word ≡ reserved.armed.word → swap.old ≡ reserved.old →
     HasOwn (elided_own reserved swap.new rd own) (began_hart mode h swap hart)
 elided_is mode h swap rd reserved own hart has is word old = record {
@@ -175,13 +175,13 @@ elided_is mode h swap rd reserved own hart has is word old = record {
 }
 
 -- an armed section that was let go, at the committed pc, where none was live
-pub let_go_is : (own : Own) (hart : Hart) → HasOwn own hart → hart.section ≡ None →
+pub let_go_is : (own : OwnState) (hart : Hart) → HasOwn own hart → hart.section ≡ None →
     HasOwn (let_go_own own) (let_go_hart (committed_pc own) hart)
 let_go_is own hart has none =
     record { section = sym none; armed = refl; last_lr = refl; predictor = has.predictor; fallback = has.fallback; tries = has.tries }
 
 -- an action that has run in a live section
-pub buffered_is : (section : Section) (touch : Option Touch) (now : SectionState) (own : Own) (hart : Hart) → HasOwn own hart →
+pub buffered_is : (section : Section) (touch : Option Touch) (now : SectionState) (own : OwnState) (hart : Hart) → HasOwn own hart →
     now.live ≡ Some (record section { count = section.count + 1 }) → now.armed ≡ None → hart.armed ≡ None →
     HasOwn (buffered_own now own) (buffered_hart section touch hart)
 buffered_is section touch now own hart has live none unarmed = record {
@@ -194,7 +194,7 @@ buffered_is section touch now own hart has live none unarmed = record {
 }
 
 -- and in an armed one
-pub continued_is : (reserved : Reserved) (now : SectionState) (own : Own) (hart : Hart) → HasOwn own hart →
+pub continued_is : (reserved : Reserved) (now : SectionState) (own : OwnState) (hart : Hart) → HasOwn own hart →
     now.armed ≡ Some (record reserved { armed = record reserved.armed { count = reserved.armed.count + 1 } }) → now.live ≡ None →
     hart.section ≡ None → HasOwn (buffered_own now own) (continued_hart reserved.armed hart)
 continued_is reserved now own hart has armed none dead = record {
@@ -209,7 +209,7 @@ continued_is reserved now own hart has armed none dead = record {
 }
 
 -- a section that has committed
-pub committed_is : (now : SectionState) (own : Own) (hart : Hart) → HasOwn own hart → now.live ≡ None → now.armed ≡ None →
+pub committed_is : (now : SectionState) (own : OwnState) (hart : Hart) → HasOwn own hart → now.live ≡ None → now.armed ≡ None →
     HasOwn (committed_own now own) (committed_hart (committed_pc own) hart)
 committed_is now own hart has idle unarmed = record {
   section = idle;
@@ -221,7 +221,7 @@ committed_is now own hart has idle unarmed = record {
 }
 
 -- a section that its hart has rolled back, which gave up what it held
-pub rolled_back_is : (cause : Cause) (own : Own) (hart : Hart) → HasOwn own hart →
+pub rolled_back_is : (cause : Cause) (own : OwnState) (hart : Hart) → HasOwn own hart →
     HasOwn (rolled_back_own cause own) (rolled_back cause (committed_pc own) (record hart { held = None }))
 rolled_back_is cause own hart has =
     record {
@@ -233,7 +233,7 @@ rolled_back_is cause own hart has =
       tries = refl;
     }
 
-standing_is : (own : Own) (hart : Hart) → HasOwn own hart → standing_own own ≡ standing_of hart
+standing_is : (own : OwnState) (hart : Hart) → HasOwn own hart → standing_own own ≡ standing_of hart
 standing_is own hart has = rw has.section (rw has.fallback (rw has.tries refl))
 
 -- what a loss leaves, by whether it was the last that may be lost
@@ -259,7 +259,7 @@ trust_stays Sle winner hart = nothing_learnt (out_of_section hart) (hart.tries +
 trust_stays Plain winner hart = nothing_learnt (out_of_section hart) (hart.tries + 1 == most_tries)
 
 -- a section that was lost, to a hart of which an event says what is left
-pub lost_is : (mode : Mode) (own : Own) (hart after : Hart) → HasOwn own hart → standing_of after ≡ lost_in mode (standing_of hart) →
+pub lost_is : (mode : Mode) (own : OwnState) (hart after : Hart) → HasOwn own hart → standing_of after ≡ lost_in mode (standing_of hart) →
     after.predictor ≡ hart.predictor → after.armed ≡ None → after.last_lr ≡ hart.last_lr → HasOwn (lost_own mode own) after
 lost_is mode own hart after has standing predictor unarmed last = record {
   section = sym (lost_section mode (standing_own own)) ∙ ap (λ s. s.section) left;
@@ -274,14 +274,14 @@ lost_is mode own hart after has standing predictor unarmed last = record {
     left = ap (lost_in mode) (standing_is own hart has) ∙ sym standing
 
 -- and to a hart that a conflict has beaten
-pub beaten_is : (mode : Mode) (winner : Option Stamp) (own : Own) (hart : Hart) → HasOwn own hart →
+pub beaten_is : (mode : Mode) (winner : Option Stamp) (own : OwnState) (hart : Hart) → HasOwn own hart →
     HasOwn (lost_own mode own) (beaten mode winner hart)
 beaten_is mode winner own hart has =
     let same = trust_stays mode winner hart in
     lost_is mode own hart (beaten mode winner hart) has (beaten_stands mode winner hart) same.predictor same.armed same.last_lr
 
 -- a hart that an event leaves as it stood
-pub stays_is : (own : Own) (hart after : Hart) → HasOwn own hart → standing_of after ≡ standing_of hart → IsUntaught hart after → HasOwn own after
+pub stays_is : (own : OwnState) (hart after : Hart) → HasOwn own hart → standing_of after ≡ standing_of hart → IsUntaught hart after → HasOwn own after
 stays_is own hart after has standing same = record {
   section = has.section ∙ sym (ap (λ s. s.section) standing);
   armed = has.armed ∙ sym same.armed;
@@ -292,7 +292,7 @@ stays_is own hart after has standing same = record {
 }
 
 -- a hart with no armed section that may have lost
-pub restored_is : (mode : Mode) (winner : Option ℕ) (own : Own) (hart after : Hart) → HasOwn own hart →
+pub restored_is : (mode : Mode) (winner : Option ℕ) (own : OwnState) (hart after : Hart) → HasOwn own hart →
     standing_of after ≡ restored mode winner (standing_of hart) → IsUntaught hart after → hart.armed ≡ None →
     HasOwn (restored_own mode winner own) after
 restored_is mode None own hart after has standing same unarmed = stays_is own hart after has standing same

@@ -11,7 +11,7 @@ use Rattle.el_model.specs.Conflicts.{conflicts, meets_bit}
 use Rattle.el_model.specs.State.{Hart, ModelState, hart_of}
 use Rattle.snoop.proofs.Laws.Living.{lives_shown}
 use Rattle.snoop.specs.Meets.{meets_in}
-use Rattle.snoop.specs.Shows.{Kept, Shows, lives_at}
+use Rattle.snoop.specs.Shows.{BusState, Shows, lives_at}
 
 read_by : (read write : Bool) (line : ℕ) (letter : _) →
     has_need Read (bits_of (Some (record { line = line; letter = letter; read = read; write = write }))) ≡ read
@@ -45,7 +45,7 @@ and_twice true b c = refl
 and_twice false b c = refl
 
 -- the test that the bus makes is the definition's
-pub conflicts_shown : (bus : Kept) (state : ModelState) (request : Request) (h : ℕ) → Shows bus state →
+pub conflicts_shown : (bus : BusState) (state : ModelState) (request : Request) (h : ℕ) → Shows bus state →
     (not (request.hart == h) && (lives_at bus h && meets_in (slotted_at bus.copies.caches h).residency request.line request.need))
     ≡ conflicts request h (hart_of state h)
 conflicts_shown bus state request h shows =

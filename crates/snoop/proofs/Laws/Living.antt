@@ -8,7 +8,7 @@ use Rattle.residency.proofs.Laws.Unmarked.{unmarked-cleared}
 use Rattle.el_model.specs.Plain.{armed_count}
 use Rattle.el_model.specs.State.{Hart, ModelState, hart_of, is_live, new_hart}
 use Rattle.snoop.specs.Agent.{agent_at}
-use Rattle.snoop.specs.Shows.{Kept, Shows, lives, lives_at}
+use Rattle.snoop.specs.Shows.{BusState, Shows, lives, lives_at}
 use Rattle.el_base.proofs.Laws.Tests.{number_of_test}
 
 -- where a hart is not armed, some line has a bit exactly where it has a live section
@@ -35,7 +35,7 @@ pub record TellsSection (hart : Hart) : Type 0 where
   pub live : is_some hart.section ≡ lives hart.cache (armed_count hart.armed)
   pub arms : is_some hart.armed ≡ not (armed_count hart.armed == 0)
 
-pub tells : {bus : Kept} {state : ModelState} → Shows bus state → (h : ℕ) → TellsSection (hart_of state h)
+pub tells : {bus : BusState} {state : ModelState} → Shows bus state → (h : ℕ) → TellsSection (hart_of state h)
 tells shows h = record { live = shows.live h; arms = shows.arms h }
 
 pub tells_yet : (old new : Hart) → new.section ≡ old.section → new.armed ≡ old.armed → new.cache ≡ old.cache →
@@ -74,7 +74,7 @@ armed_lifeless hart told armed =
     not_true false is = refl
 
 -- the test that the bus makes
-pub lives_shown : (bus : Kept) (state : ModelState) (h : ℕ) → Shows bus state → lives_at bus h ≡ is_live state h
+pub lives_shown : (bus : BusState) (state : ModelState) (h : ℕ) → Shows bus state → lives_at bus h ≡ is_live state h
 lives_shown bus state h shows =
     ap (λ cache. lives cache (agent_at bus.agents h).armed) (shows.caches h)
     ∙ ap (λ agent. lives (hart_of state h).cache agent.armed) (shows.agents h)

@@ -28,21 +28,21 @@ use Rattle.snoop.proofs.Laws.Living.{TellsSection, tells}
 use Rattle.snoop.specs.Agent.{agent_at, agent_of}
 use Rattle.snoop.specs.Asking.{HasNoRequest}
 use Rattle.snoop.specs.Returned.{IsReturned, IsReturnedAs, returned, state_with}
-use Rattle.snoop.specs.Shows.{CanBeServed, IsReady, Kept, Shows, Tells, has_room_in, lent_copies, lives}
+use Rattle.snoop.specs.Shows.{CanBeServed, IsReady, BusState, Shows, Tells, has_room_in, lent_copies, lives}
 use Rattle.el_base.proofs.Laws.Cases.{none_some}
 
 -- the caches after one was given back
-returned_same : (bus : Kept) (h : ℕ) (cache : Slotted) → h < length bus.copies.caches → slotted_at (returned bus h cache).copies.caches h ≡ cache
+returned_same : (bus : BusState) (h : ℕ) (cache : Slotted) → h < length bus.copies.caches → slotted_at (returned bus h cache).copies.caches h ≡ cache
 returned_same bus h cache inside = get_or-set_same bus.copies.caches h cache no_slotted inside
 
-returned_other : (bus : Kept) (h g : ℕ) (cache : Slotted) → g ≢ h →
+returned_other : (bus : BusState) (h g : ℕ) (cache : Slotted) → g ≢ h →
     slotted_at (returned bus h cache).copies.caches g ≡ slotted_at bus.copies.caches g
 returned_other bus h g cache other = get_or-set_other bus.copies.caches h g cache no_slotted other
 
-count_returned : (bus : Kept) (h : ℕ) (cache : Slotted) → length (returned bus h cache).copies.caches ≡ length bus.copies.caches
+count_returned : (bus : BusState) (h : ℕ) (cache : Slotted) → length (returned bus h cache).copies.caches ≡ length bus.copies.caches
 count_returned bus h cache = length-set bus.copies.caches h cache
 
-pub ready_returned : (bus : Kept) (h : ℕ) (cache : Slotted) → h < length bus.copies.caches → IsReady bus → IsReturned bus h cache →
+pub ready_returned : (bus : BusState) (h : ℕ) (cache : Slotted) → h < length bus.copies.caches → IsReady bus → IsReturned bus h cache →
     IsReady (returned bus h cache)
 ready_returned bus h cache inside ready back = record {
   few = ready.few;
@@ -111,7 +111,7 @@ unmarked_by_calls old between new line none touches letters =
     (unmarked-lettered (touched old.residency line) line M (unmarked-touched old.residency line none))
 
 -- a hart that waits for nothing gives back a cache
-pub unasked_returned : (bus : Kept) (h : ℕ) (cache : Slotted) → HasNoRequest bus h → IsWellFormed cache.ways cache.residency →
+pub unasked_returned : (bus : BusState) (h : ℕ) (cache : Slotted) → HasNoRequest bus h → IsWellFormed cache.ways cache.residency →
     (bus.mode ≡ Plain → has_marks cache.residency ≡ false) → IsReturned bus h cache
 unasked_returned bus h cache no_request well_formed unmarked = record {
   well_formed = well_formed;
@@ -121,7 +121,7 @@ unasked_returned bus h cache no_request well_formed unmarked = record {
 }
 
 -- what a pool and the caches tell after a hart's cache was changed in it, which left those of the other harts
-pub told_returned : (old new : Pooled) (bus : Kept) (h : ℕ) (cache : Slotted) (bytes told : ℕ → List ℕ) → Tells old bus bytes →
+pub told_returned : (old new : Pooled) (bus : BusState) (h : ℕ) (cache : Slotted) (bytes told : ℕ → List ℕ) → Tells old bus bytes →
     h < length bus.copies.caches → cache.owner ≡ (slotted_at bus.copies.caches h).owner → IsLent new cache →
     ((g : ℕ) → g ≢ h → g < length bus.copies.caches → LeavesOwner g old new) →
     TellsOf (copies_with (lent_copies old bus.copies) h (lent new cache)) told → Tells new (returned bus h cache) told
@@ -131,7 +131,7 @@ told_returned old new bus h cache bytes told tells inside owner kept leaves is =
       (sym (caches_back old new bus.copies.caches h cache tells.lent leaves)) is;
 }
 
-pub shows_returned : (bus : Kept) (state : ModelState) (h : ℕ) (cache : Slotted) (hart : Hart) (committed : FlatState) →
+pub shows_returned : (bus : BusState) (state : ModelState) (h : ℕ) (cache : Slotted) (hart : Hart) (committed : FlatState) →
     h < length bus.copies.caches → Shows bus state → IsReturnedAs bus state h cache hart committed →
     Shows (returned bus h cache) (state_with state h hart committed)
 shows_returned bus state h cache hart committed inside shows back = record {

@@ -2,7 +2,7 @@
 //! next line, and harts 2, 3 and 0 wait to write it, in this order; hart 0 is the earliest.
 
 ghost use Rattle.std.specs.Prelude.{IfOk};
-ghost use Rattle.snoop.specs.Shows.{IsTold, kept};
+ghost use Rattle.snoop.specs.Shows.{IsTold, bus_state};
 
 use super::events::*;
 use super::*;
@@ -16,8 +16,8 @@ fn probe(origin: u8) -> Message {
 
 /// A hart waits for the line behind the others.
 fn wait(rig: &mut Rig, hart: HartId, line: LineAddr) -> Result<(), Fail>
-    requires { IsTold rig.old.pool (kept rig.old.bus) }
-    ensures { IsTold rig.new.pool (kept rig.new.bus) }
+    requires { IsTold rig.old.pool (bus_state rig.old.bus) }
+    ensures { IsTold rig.new.pool (bus_state rig.new.bus) }
 {
     let asked = ask_for(rig, hart, line, Need::Write);
     let outcome = order(rig, hart);
@@ -29,7 +29,7 @@ fn wait(rig: &mut Rig, hart: HartId, line: LineAddr) -> Result<(), Fail>
 
 /// The chain, as the requests are in order and no message was delivered.
 fn chain(alloc: Global) -> Result<Rig, Fail>
-    ensures { IfOk result (λ rig. IsTold rig.pool (kept rig.bus)) }
+    ensures { IfOk result (λ rig. IsTold rig.pool (bus_state rig.bus)) }
 {
     let mut rig = made(alloc, Mode::Tlr, &[0, 1, 2, 3], false)?;
     if get(&mut rig, hart(1), next_line(), Need::Write) != served(&[]) {
@@ -43,8 +43,8 @@ fn chain(alloc: Global) -> Result<Rig, Fail>
 
 /// These harts take one message each, in this order, of which none has a loser.
 fn take(rig: &mut Rig, harts: &[u8]) -> Result<(), Fail>
-    requires { IsTold rig.old.pool (kept rig.old.bus) }
-    ensures { IsTold rig.new.pool (kept rig.new.bus) }
+    requires { IsTold rig.old.pool (bus_state rig.old.bus) }
+    ensures { IsTold rig.new.pool (bus_state rig.new.bus) }
 {
     for number in harts {
         if deliver(rig, hart(*number)) != delivered(&[]) {
@@ -56,7 +56,7 @@ fn take(rig: &mut Rig, harts: &[u8]) -> Result<(), Fail>
 
 /// The chain after these harts took one message each, in this order.
 fn chain_after(alloc: Global, harts: &[u8]) -> Result<Rig, Fail>
-    ensures { IfOk result (λ rig. IsTold rig.pool (kept rig.bus)) }
+    ensures { IfOk result (λ rig. IsTold rig.pool (bus_state rig.bus)) }
 {
     let mut rig = chain(alloc)?;
     take(&mut rig, harts)?;
@@ -66,14 +66,14 @@ fn chain_after(alloc: Global, harts: &[u8]) -> Result<Rig, Fail>
 /// The chain as the probe of hart 0 alone was not taken by hart 1. The probes of harts 2 and 3 came first, and cost
 /// hart 1 nothing.
 fn chain_before_the_last_probe(alloc: Global) -> Result<Rig, Fail>
-    ensures { IfOk result (λ rig. IsTold rig.pool (kept rig.bus)) }
+    ensures { IfOk result (λ rig. IsTold rig.pool (bus_state rig.bus)) }
 {
     chain_after(alloc, &[0, 3, 3, 2, 2, 2, 1, 1])
 }
 
 /// The same, and then hart 1 commits.
 fn chain_after_the_commit(alloc: Global) -> Result<Rig, Fail>
-    ensures { IfOk result (λ rig. IsTold rig.pool (kept rig.bus)) }
+    ensures { IfOk result (λ rig. IsTold rig.pool (bus_state rig.bus)) }
 {
     let mut rig = chain_before_the_last_probe(alloc)?;
     end_section(&mut rig, hart(1));

@@ -2,7 +2,7 @@
 
 ghost use Rattle.std.specs.Prelude.{◌≡◌, None};
 ghost use Rattle.snoop.specs.Agent.{agent_at, with_agent};
-ghost use Rattle.snoop.specs.Shows.{IsTold, kept};
+ghost use Rattle.snoop.specs.Shows.{IsTold, bus_state};
 
 use super::*;
 use cache_sets::Letter;
@@ -69,8 +69,8 @@ pub(super) fn delivered(pairs: &[(u8, u8)]) -> Option<Outcome> {
 
 /// A hart asks for a line, where it may.
 pub(super) fn ask_for(rig: &mut Rig, hart: HartId, line: LineAddr, need: Need) -> bool
-    requires { IsTold rig.old.pool (kept rig.old.bus) }
-    ensures { IsTold rig.new.pool (kept rig.new.bus) }
+    requires { IsTold rig.old.pool (bus_state rig.old.bus) }
+    ensures { IsTold rig.new.pool (bus_state rig.new.bus) }
 {
     if usize::from(hart.number) >= rig.bus.agents.len() || rig.bus.order.of(hart).is_some() {
         return false;
@@ -91,8 +91,8 @@ pub(super) fn ask_for(rig: &mut Rig, hart: HartId, line: LineAddr, need: Need) -
 
 /// What Serve says, under the policy of the mode.
 pub(super) fn serve(rig: &mut Rig, hart: HartId) -> Option<Outcome>
-    requires { IsTold rig.old.pool (kept rig.old.bus) }
-    ensures { IsTold rig.new.pool (kept rig.new.bus) }
+    requires { IsTold rig.old.pool (bus_state rig.old.bus) }
+    ensures { IsTold rig.new.pool (bus_state rig.new.bus) }
 {
     if usize::from(hart.number) >= rig.bus.agents.len() {
         return None;
@@ -106,8 +106,8 @@ pub(super) fn serve(rig: &mut Rig, hart: HartId) -> Option<Outcome>
 
 /// What Deliver says.
 pub(super) fn deliver(rig: &mut Rig, hart: HartId) -> Option<Outcome>
-    requires { IsTold rig.old.pool (kept rig.old.bus) }
-    ensures { IsTold rig.new.pool (kept rig.new.bus) }
+    requires { IsTold rig.old.pool (bus_state rig.old.bus) }
+    ensures { IsTold rig.new.pool (bus_state rig.new.bus) }
 {
     if usize::from(hart.number) >= rig.bus.agents.len() {
         return None;
@@ -117,8 +117,8 @@ pub(super) fn deliver(rig: &mut Rig, hart: HartId) -> Option<Outcome>
 
 /// A hart's request for a line is raised and ordered, and what Serve says of it then.
 pub(super) fn get(rig: &mut Rig, hart: HartId, line: LineAddr, need: Need) -> Option<Outcome>
-    requires { IsTold rig.old.pool (kept rig.old.bus) }
-    ensures { IsTold rig.new.pool (kept rig.new.bus) }
+    requires { IsTold rig.old.pool (bus_state rig.old.bus) }
+    ensures { IsTold rig.new.pool (bus_state rig.new.bus) }
 {
     ask_for(rig, hart, line, need);
     order(rig, hart);
@@ -127,8 +127,8 @@ pub(super) fn get(rig: &mut Rig, hart: HartId, line: LineAddr, need: Need) -> Op
 
 /// A hart holds no line any more.
 pub(super) fn give_up(rig: &mut Rig, hart: HartId)
-    requires { IsTold rig.old.pool (kept rig.old.bus) }
-    ensures { IsTold rig.new.pool (kept rig.new.bus) }
+    requires { IsTold rig.old.pool (bus_state rig.old.bus) }
+    ensures { IsTold rig.new.pool (bus_state rig.new.bus) }
 {
     hold_nothing(&mut rig.bus.agents, hart);
 }
@@ -145,8 +145,8 @@ fn hold_nothing(agents: &mut Vec<Agent>, hart: HartId)
 
 /// A hart's section ends, and leaves no bit.
 pub(super) fn end_section(rig: &mut Rig, hart: HartId)
-    requires { IsTold rig.old.pool (kept rig.old.bus) }
-    ensures { IsTold rig.new.pool (kept rig.new.bus) }
+    requires { IsTold rig.old.pool (bus_state rig.old.bus) }
+    ensures { IsTold rig.new.pool (bus_state rig.new.bus) }
 {
     if usize::from(hart.number) < rig.bus.hierarchy.harts() {
         rig.bus.hierarchy.clear(hart);
@@ -164,7 +164,7 @@ pub(super) fn letter(rig: &Rig, hart: HartId, line: LineAddr) -> Letter {
 
 /// The byte at an address that caches and main memory tell, and main memory's.
 pub(super) fn bytes(rig: &Rig, address: u32) -> (Option<u8>, Option<u8>)
-    requires { IsTold rig.now.pool (kept rig.now.bus) }
+    requires { IsTold rig.now.pool (bus_state rig.now.bus) }
 {
     let main = rig
         .bus
@@ -176,8 +176,8 @@ pub(super) fn bytes(rig: &Rig, address: u32) -> (Option<u8>, Option<u8>)
 
 /// A hart asks for a line, which it may.
 pub(super) fn asks_for(rt: &impl Abort, rig: &mut Rig, hart: HartId, line: LineAddr, need: Need)
-    requires { IsTold rig.old.pool (kept rig.old.bus) }
-    ensures { IsTold rig.new.pool (kept rig.new.bus) }
+    requires { IsTold rig.old.pool (bus_state rig.old.bus) }
+    ensures { IsTold rig.new.pool (bus_state rig.new.bus) }
 {
     let asked = ask_for(rig, hart, line, need);
     assert!(rt; asked, "{hart:?} {need:?}");
@@ -185,8 +185,8 @@ pub(super) fn asks_for(rt: &impl Abort, rig: &mut Rig, hart: HartId, line: LineA
 
 /// A hart asks for a line, and its request is ordered with no loser.
 pub(super) fn comes(rt: &impl Abort, rig: &mut Rig, hart: HartId, line: LineAddr, need: Need)
-    requires { IsTold rig.old.pool (kept rig.old.bus) }
-    ensures { IsTold rig.new.pool (kept rig.new.bus) }
+    requires { IsTold rig.old.pool (bus_state rig.old.bus) }
+    ensures { IsTold rig.new.pool (bus_state rig.new.bus) }
 {
     asks_for(rt, rig, hart, line, need);
     order_says(rt, rig, hart, ordered(&[]));
@@ -194,8 +194,8 @@ pub(super) fn comes(rt: &impl Abort, rig: &mut Rig, hart: HartId, line: LineAddr
 
 /// Order says this of a hart.
 pub(super) fn order_says(rt: &impl Abort, rig: &mut Rig, hart: HartId, outcome: Option<Outcome>)
-    requires { IsTold rig.old.pool (kept rig.old.bus) }
-    ensures { IsTold rig.new.pool (kept rig.new.bus) }
+    requires { IsTold rig.old.pool (bus_state rig.old.bus) }
+    ensures { IsTold rig.new.pool (bus_state rig.new.bus) }
 {
     let said = order(rig, hart);
     let mode = rig.bus.mode;
@@ -204,8 +204,8 @@ pub(super) fn order_says(rt: &impl Abort, rig: &mut Rig, hart: HartId, outcome: 
 
 /// Serve says this of a hart.
 pub(super) fn serve_says(rt: &impl Abort, rig: &mut Rig, hart: HartId, outcome: Option<Outcome>)
-    requires { IsTold rig.old.pool (kept rig.old.bus) }
-    ensures { IsTold rig.new.pool (kept rig.new.bus) }
+    requires { IsTold rig.old.pool (bus_state rig.old.bus) }
+    ensures { IsTold rig.new.pool (bus_state rig.new.bus) }
 {
     let said = serve(rig, hart);
     let mode = rig.bus.mode;
@@ -214,8 +214,8 @@ pub(super) fn serve_says(rt: &impl Abort, rig: &mut Rig, hart: HartId, outcome: 
 
 /// Deliver says this of a hart.
 pub(super) fn deliver_says(rt: &impl Abort, rig: &mut Rig, hart: HartId, outcome: Option<Outcome>)
-    requires { IsTold rig.old.pool (kept rig.old.bus) }
-    ensures { IsTold rig.new.pool (kept rig.new.bus) }
+    requires { IsTold rig.old.pool (bus_state rig.old.bus) }
+    ensures { IsTold rig.new.pool (bus_state rig.new.bus) }
 {
     let said = deliver(rig, hart);
     let mode = rig.bus.mode;

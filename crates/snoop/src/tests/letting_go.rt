@@ -1,6 +1,6 @@
 //! Armed sections that a head lets go.
 
-ghost use Rattle.snoop.specs.Shows.{IsTold, kept};
+ghost use Rattle.snoop.specs.Shows.{IsTold, bus_state};
 
 use super::events::*;
 use super::*;
@@ -8,8 +8,8 @@ use std::process::Abort;
 
 /// A hart is armed, and has run so many instructions.
 fn arm(rig: &mut Rig, hart: HartId, count: u8)
-    requires { IsTold rig.old.pool (kept rig.old.bus) }
-    ensures { IsTold rig.new.pool (kept rig.new.bus) }
+    requires { IsTold rig.old.pool (bus_state rig.old.bus) }
+    ensures { IsTold rig.new.pool (bus_state rig.new.bus) }
 {
     if usize::from(hart.number) < rig.bus.agents.len() && count <= 15 {
         rig.bus.note_armed(hart, count);

@@ -1,7 +1,7 @@
 //! Requests that are served, or that something is in the way of.
 
 ghost use Rattle.std.specs.Prelude.{IfOk};
-ghost use Rattle.snoop.specs.Shows.{IsTold, kept};
+ghost use Rattle.snoop.specs.Shows.{IsTold, bus_state};
 
 use super::events::*;
 use super::*;
@@ -20,8 +20,8 @@ fn letters(rig: &Rig) -> (Letter, Letter) {
 
 /// A hart without a section gets the line and does its step, so that it holds the line no more.
 fn get_and_step(rig: &mut Rig, hart: HartId, need: Need) -> Option<Outcome>
-    requires { IsTold rig.old.pool (kept rig.old.bus) }
-    ensures { IsTold rig.new.pool (kept rig.new.bus) }
+    requires { IsTold rig.old.pool (bus_state rig.old.bus) }
+    ensures { IsTold rig.new.pool (bus_state rig.new.bus) }
 {
     let outcome = get(rig, hart, line(), need);
     give_up(rig, hart);
@@ -126,7 +126,7 @@ fn a_section_gets_a_bit_and_holds_no_line(rt: HostRuntime) -> Result<(), Fail> {
 
 /// Harts 0 and 1 have sections, and hart 0 has read the next line. Hart 1 comes to write it, and what Order says.
 fn met(alloc: Global, mode: Mode) -> Result<(Rig, Option<Outcome>), Fail>
-    ensures { IfOk result (λ met. IsTold met.0.pool (kept met.0.bus)) }
+    ensures { IfOk result (λ met. IsTold met.0.pool (bus_state met.0.bus)) }
 {
     let (zero, one) = (hart(0), hart(1));
     let no_loser = served(&[]);

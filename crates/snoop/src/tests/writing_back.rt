@@ -5,7 +5,7 @@ ghost use Rattle.residency.specs.Cache.{letter_of};
 ghost use Rattle.coherence.specs.Lent.{slotted_at};
 ghost use Rattle.moesi.specs.Letters.{may_write};
 ghost use Rattle.snoop.specs.Asking.{HasNoRequest};
-ghost use Rattle.snoop.specs.Shows.{IsTold, kept};
+ghost use Rattle.snoop.specs.Shows.{IsTold, bus_state};
 
 use super::events::*;
 use super::*;
@@ -22,13 +22,13 @@ fn write(bytes: &mut [u8; 64], at: u8, byte: u8)
 
 /// Puts a byte into the copy of a line that the hart may write, as a store does: the line is touched and modified.
 fn put(rig: &mut Rig, hart: HartId, line: LineAddr, at: u8, byte: u8)
-    requires hart_exists { hart.number < length (kept rig.old.bus).copies.caches }
-    requires told { IsTold rig.old.pool (kept rig.old.bus) }
-    requires no_request { HasNoRequest (kept rig.old.bus) hart.number }
+    requires hart_exists { hart.number < length (bus_state rig.old.bus).copies.caches }
+    requires told { IsTold rig.old.pool (bus_state rig.old.bus) }
+    requires no_request { HasNoRequest (bus_state rig.old.bus) hart.number }
     requires may { may_write
-        (letter_of (slotted_at (kept rig.old.bus).copies.caches hart.number).residency line.number) ≡ true }
+        (letter_of (slotted_at (bus_state rig.old.bus).copies.caches hart.number).residency line.number) ≡ true }
     requires within { at < 64 }
-    ensures { IsTold rig.new.pool (kept rig.new.bus) }
+    ensures { IsTold rig.new.pool (bus_state rig.new.bus) }
 {
     let cache = rig.bus.sets_mut(hart);
     cache.touch(line);
@@ -38,8 +38,8 @@ fn put(rig: &mut Rig, hart: HartId, line: LineAddr, at: u8, byte: u8)
 
 /// Whether a hart has asked for nothing.
 fn has_no_request(rig: &Rig, hart: HartId) -> bool
-    requires { hart.number < length (kept rig.now.bus).agents }
-    ensures { result ≡ true → HasNoRequest (kept rig.now.bus) hart.number }
+    requires { hart.number < length (bus_state rig.now.bus).agents }
+    ensures { result ≡ true → HasNoRequest (bus_state rig.now.bus) hart.number }
 {
     match rig.bus.request(hart) {
         Asked::Nothing => true,
@@ -49,8 +49,8 @@ fn has_no_request(rig: &Rig, hart: HartId) -> bool
 
 /// Stores a byte, where the hart has asked for nothing and may write the line, and tells whether it did.
 fn store(rig: &mut Rig, hart: HartId, address: u32, byte: u8) -> bool
-    requires { IsTold rig.old.pool (kept rig.old.bus) }
-    ensures { IsTold rig.new.pool (kept rig.new.bus) }
+    requires { IsTold rig.old.pool (bus_state rig.old.bus) }
+    ensures { IsTold rig.new.pool (bus_state rig.new.bus) }
 {
     let line = line_of(address);
     if usize::from(hart.number) >= rig.bus.harts() || !has_no_request(rig, hart) {
@@ -105,8 +105,8 @@ fn a_store_reaches_main_memory_as_its_line_leaves(rt: HostRuntime) -> Result<(),
 
 /// Hart 0 gets a line, and holds it no more.
 fn serve_line(rt: &impl Abort, rig: &mut Rig, line: LineAddr, need: Need)
-    requires { IsTold rig.old.pool (kept rig.old.bus) }
-    ensures { IsTold rig.new.pool (kept rig.new.bus) }
+    requires { IsTold rig.old.pool (bus_state rig.old.bus) }
+    ensures { IsTold rig.new.pool (bus_state rig.new.bus) }
 {
     let outcome = get(rig, hart(0), line, need);
     give_up(rig, hart(0));
@@ -115,7 +115,7 @@ fn serve_line(rt: &impl Abort, rig: &mut Rig, line: LineAddr, need: Need)
 
 /// What hart 0 knows of the line of an address, and what caches and main memory have there and behind it.
 fn look(rig: &Rig, address: u32) -> (Letter, Told, Told)
-    requires { IsTold rig.now.pool (kept rig.now.bus) }
+    requires { IsTold rig.now.pool (bus_state rig.now.bus) }
 {
     (
         letter(rig, hart(0), line_of(address)),

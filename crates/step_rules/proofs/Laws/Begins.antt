@@ -20,7 +20,7 @@ use Rattle.line_pool.specs.Pooled.{Pooled}
 use Rattle.moesi.specs.Letters.{may_read}
 use Rattle.rv_alu.specs.Loaded.{loaded}
 use Rattle.rv_flat.specs.Memory.{byte_in}
-use Rattle.snoop.specs.Shows.{Kept, Shows, Tells, lent_copies}
+use Rattle.snoop.specs.Shows.{BusState, Shows, Tells, lent_copies}
 use Rattle.step_rules.proofs.CommittedWords.{committed_word}
 use Rattle.step_rules.specs.Actions.{swap_over}
 use Rattle.step_rules.specs.Rules.{IsOnLine, beginning_rule, touching_rule}
@@ -56,7 +56,7 @@ abbrev pub told : exchanges.Exchange → ℕ → Swap
 told exchange old = record { word = exchange.word; old = old; new = exchange.new }
 
 -- the word that a cached line tells is the committed one
-pub word_told : (pool : Pooled) (bus : Kept) (state : ModelState) (h address : ℕ) → Tells pool bus (line_of state.committed) →
+pub word_told : (pool : Pooled) (bus : BusState) (state : ModelState) (h address : ℕ) → Tells pool bus (line_of state.committed) →
     IsOnLine state.committed → state.committed.base ≤ address → address % 4 ≡ 0 →
     is_resident (slotted_at bus.copies.caches h).residency (line_number address) ≡ true →
     loaded (slice_index (bytes_of (lent pool (slotted_at bus.copies.caches h)) (line_number address))) (address % LINE_BYTES) 4
@@ -70,7 +70,7 @@ word_told pool bus state h address tells on_line from aligned resident =
     (subst (λ cache. is_resident cache.residency line ≡ true) (sym here) resident))
     ∙ committed_word state.committed address on_line from aligned
 
-pub begins_shown : (pool : Pooled) (bus : Kept) (state : ModelState) (h : ℕ) (exchange : exchanges.Exchange) (wanted : Bool) (old : ℕ)
+pub begins_shown : (pool : Pooled) (bus : BusState) (state : ModelState) (h : ℕ) (exchange : exchanges.Exchange) (wanted : Bool) (old : ℕ)
     (touch : Option Touch) → Shows bus state → Tells pool bus (line_of state.committed) → IsOnLine state.committed →
     state.committed.base ≤ exchange.word → exchange.word % 4 ≡ 0 → touch ≡ next_touch state.committed h →
     may_read (letter_of (slotted_at bus.copies.caches h).residency (line_number exchange.word)) ≡ true →

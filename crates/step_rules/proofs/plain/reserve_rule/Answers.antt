@@ -2,7 +2,7 @@
 use Rattle.std.proofs.Common.{◌∙◌, ap, subst}
 use Rattle.std.specs.Option.{option_map}
 use Rattle.cache_sets.specs.Slotted.{lent}
-use Rattle.snoop.specs.Shows.{kept}
+use Rattle.snoop.specs.Shows.{bus_state}
 use Rattle.step_rules.proofs.Arming.{tells}
 use Rattle.step_rules.proofs.plain.reserve_rule.Goals as goal
 use Rattle.step_rules.specs.Actions.{numbered_touch}
@@ -11,7 +11,7 @@ use Rattle.step_rules.specs.Rules.{FindsOld, arming_rule}
 pub returns-clause-old : goal.returns-clause-old
 returns-clause-old c = λ state shows told on_line from.
     let touch = option_map numbered_touch c.args.touch in
-    tells c.args.pool.now (kept c.args.bus.now) state c.args.hart.number c.args.word c.is_wanted-wanted.result touch c.arm_rule.result told on_line
+    tells c.args.pool.now (bus_state c.args.bus.now) state c.args.hart.number c.args.word c.is_wanted-wanted.result touch c.arm_rule.result told on_line
     from
     c.requires.aligned
     (c.arm_rule.ensures.rule ∙ ap (λ now. arming_rule now.residency c.is_wanted-wanted.result c.args.word touch) c.sets.ensures.exact)

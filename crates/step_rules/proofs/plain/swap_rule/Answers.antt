@@ -11,7 +11,7 @@ use Rattle.el_base.specs.declared.line.TheConstants.{LINE_BYTES}
 use Rattle.el_model.specs.Conflicts.{is_wanted_to_write}
 use Rattle.moesi.specs.Letters.{may_read}
 use Rattle.rv_alu.specs.Loaded.{loaded}
-use Rattle.snoop.specs.Shows.{kept}
+use Rattle.snoop.specs.Shows.{bus_state}
 use Rattle.step_rules.proofs.Laws.Begins.{begins_shown, told}
 use Rattle.step_rules.proofs.plain.swap_rule.Goals as goal
 use Rattle.step_rules.specs.Actions.{numbered_touch}
@@ -19,7 +19,7 @@ use Rattle.step_rules.specs.Rules.{beginning_rule}
 
 pub returns-clause-rule : goal.returns-clause-rule
 returns-clause-rule c = λ state shows told_lines on_line from touches.
-    let bus = kept c.args.bus.now in
+    let bus = bus_state c.args.bus.now in
     let cache = slotted_at bus.copies.caches c.args.hart.number in
     let copies = lent c.args.pool.now cache in
     let word = c.args.exchange.word in

@@ -3,7 +3,7 @@ use Rattle.std.proofs.Common.{◌≡◌, ◌*◌, ◌<◌, ℕ, zero, suc, [], �
 use Rattle.std.specs.Prelude.{slice_index}
 use Rattle.coherence.proofs.Laws.Offered.{offers-made}
 use Rattle.coherence.specs.Lent.{Offers}
-use Rattle.snoop.specs.Shows.{kept}
+use Rattle.snoop.specs.Shows.{bus_state}
 use Rattle.step_rules.proofs.tests.empty_harts.Goals as goal
 
 two_each : (h : ℕ) → h < 2 → slice_index (2 ∷ 2 ∷ []) h ≡ 2
@@ -21,6 +21,6 @@ invariant_of-result c =
     let slots : config.sets * config.ways ≡ 2 = λ k. is.1 k * is.2 k in
     let told = c.in_ok-bus.ensures.told pool
     (subst (λ n. Offers pool n (config.sets * config.ways)) (sym is.0) (subst (Offers pool 2) (sym slots) offers)) in
-    let there : 0 < length (kept bus).copies.caches =
+    let there : 0 < length (bus_state bus).copies.caches =
     omega (arith, c.in_ok-bus.ensures.ready.each, c.harts-2.ensures, c.if-harts-ne2.false) in
     record { there = there; lent = told.lent.each 0 there }

@@ -4,7 +4,7 @@ use Rattle.engine.proofs.Buffers.{buffers_turn}
 use Rattle.engine.proofs.InsideMisses.{may_miss, misses_outcome, misses_turn}
 use Rattle.engine.proofs.RolledBack.{rolls_turn}
 use Rattle.engine.proofs.engine.Engine.act_inside.Goals as goal
-use Rattle.engine.specs.Parts.{IsIn, parts}
+use Rattle.engine.specs.Parts.{IsInState, parts}
 use Rattle.step_rules.specs.Rules.{definition_in_section}
 
 pub miss-requires : goal.miss-requires
@@ -51,7 +51,7 @@ returns-in-Buffers-clause-outcome c from section inside =
 
 pub returns-in-Misses-clause-state : goal.returns-in-Misses-clause-state
 returns-in-Misses-clause-state c from section inside =
-    subst (λ turn. IsIn (parts c.miss.new.self) turn.state)
+    subst (λ turn. IsInState (parts c.miss.new.self) turn.state)
     (sym (misses_turn from c.args.hart.number section c.in-Misses.line.number c.in-Misses.need
     (c.rule_inside.ensures from section inside ∙ ap definition_in_section c.in-Misses.is)))
     (c.miss.ensures.state from inside.may)

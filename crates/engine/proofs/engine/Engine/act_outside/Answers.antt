@@ -4,7 +4,7 @@ use Rattle.engine.proofs.Chosen.{missed_line, next, runs_own}
 use Rattle.engine.proofs.Outsiders.{began_outcome, missed_outcome, missed_state, ran_outcome, turn_is}
 use Rattle.engine.proofs.StandsOutside.{has_room_for, line_there}
 use Rattle.engine.proofs.engine.Engine.act_outside.Goals as goal
-use Rattle.engine.specs.Parts.{IsIn, parts}
+use Rattle.engine.specs.Parts.{IsInState, parts}
 use Rattle.step_rules.proofs.Laws.NextAction.{next_quiet}
 use Rattle.step_rules.specs.Rules.{TellsOld, definition_plain}
 
@@ -24,7 +24,7 @@ run_next-requires-clause-runs c from acts =
 
 pub returns-in-Runs-clause-state : goal.returns-in-Runs-clause-state
 returns-in-Runs-clause-state c from acts =
-    subst (λ turn. IsIn (parts c.run_next.new.self) turn.state)
+    subst (λ turn. IsInState (parts c.run_next.new.self) turn.state)
     (sym (turn_is from c.args.hart.number _ (runs_own (parts c.args.self.now) c.args.hart.number from c.args.action acts c.requires.action _
     (c.rule_outside.ensures.rule from acts ∙ ap definition_plain c.in-Runs.is)))) (c.run_next.ensures.state from acts)
 
@@ -55,7 +55,7 @@ miss-requires c =
 
 pub returns-in-Misses-clause-state : goal.returns-in-Misses-clause-state
 returns-in-Misses-clause-state c from acts =
-    subst (IsIn (parts c.miss.new.self))
+    subst (IsInState (parts c.miss.new.self))
     (sym (missed_state from c.args.hart.number c.in-Misses.line c.in-Misses.need
     (c.rule_outside.ensures.rule from acts ∙ ap definition_plain c.in-Misses.is)))
     (c.miss.ensures.state from acts.may)
@@ -68,7 +68,7 @@ returns-in-Misses-clause-outcome c from acts =
 
 pub returns-in-Begins-clause-state : goal.returns-in-Begins-clause-state
 returns-in-Begins-clause-state c from acts =
-    subst (λ turn. IsIn (parts c.begin_section.new.self) turn.state)
+    subst (λ turn. IsInState (parts c.begin_section.new.self) turn.state)
     (sym (turn_is from c.args.hart.number _ (c.rule_outside.ensures.rule from acts ∙ ap definition_plain c.in-Begins.is)))
     (c.begin_section.ensures.state from acts)
 
@@ -89,7 +89,7 @@ returns-in-Arms-clause-ready c = c.arm.ensures.ready
 
 pub returns-in-Arms-clause-state : goal.returns-in-Arms-clause-state
 returns-in-Arms-clause-state c from acts =
-    subst (λ turn. IsIn (parts c.arm.new.self) turn.state)
+    subst (λ turn. IsInState (parts c.arm.new.self) turn.state)
     (sym (turn_is from c.args.hart.number _ (c.rule_outside.ensures.rule from acts ∙ ap definition_plain c.in-Arms.is)))
     (c.arm.ensures.state from acts)
 

@@ -13,16 +13,16 @@ use Rattle.engine.proofs.Stepped.{IsNoted, set_in}
 use Rattle.engine.proofs.Laws.Swaps.{reserve_aligned, same_reserve}
 use Rattle.engine.proofs.engine.Engine.arm.Goals as goal
 use Rattle.engine.specs.Beginning.{IsReadMarked}
-use Rattle.engine.specs.Parts.{IsIn, own_at, parts}
+use Rattle.engine.specs.Parts.{IsInState, own_at, parts}
 use Rattle.hart_state.specs.Deeds.{armed_own}
-use Rattle.hart_state.specs.Own.{Own, new_own}
+use Rattle.hart_state.specs.Own.{OwnState, new_own}
 use Rattle.rv_flat.specs.FlatState.{no_hart}
 use Rattle.snoop.specs.Returned.{returned}
-use Rattle.snoop.specs.Shows.{IsReady, kept}
+use Rattle.snoop.specs.Shows.{IsReady, bus_state}
 
 pub mark_read-requires-clause-cache_exists : goal.mark_read-requires-clause-cache_exists
 mark_read-requires-clause-cache_exists c =
-    inside_bus (parts c.args.self.now) (kept c.note_armed.new.self) c.args.hart c.requires.some.from c.requires.some.acts c.args.word
+    inside_bus (parts c.args.self.now) (bus_state c.note_armed.new.self) c.args.hart c.requires.some.from c.requires.some.acts c.args.word
     (record { ready = c.note_armed.ensures.ready; copies = c.note_armed.ensures.copies_stay; shows = c.note_armed.ensures.shows })
 
 pub mark_read-requires-clause-resident : goal.mark_read-requires-clause-resident
@@ -30,9 +30,9 @@ mark_read-requires-clause-resident c =
     let old = parts c.args.self.now in
     let from = c.requires.some.from in
     let acts = c.requires.some.acts in
-    subst (λ line. is_resident (slotted_at (kept c.note_armed.new.self).copies.caches c.args.hart.number).residency line ≡ true)
+    subst (λ line. is_resident (slotted_at (bus_state c.note_armed.new.self).copies.caches c.args.hart.number).residency line ≡ true)
     (sym c.line_of.ensures)
-    (still_there old (kept c.note_armed.new.self) c.args.hart from acts c.args.word
+    (still_there old (bus_state c.note_armed.new.self) c.args.hart from acts c.args.word
     (record { ready = c.note_armed.ensures.ready; copies = c.note_armed.ensures.copies_stay; shows = c.note_armed.ensures.shows })
     (reserved_there old c.args.hart.number from c.args.action acts c.requires.action c.args.word (c.requires.arms from acts)))
 
@@ -77,7 +77,7 @@ pub returns : goal.returns
 returns c =
     let old = parts c.args.self.now in
     let h = c.args.hart.number in
-    let bus = kept c.note_armed.new.self in
+    let bus = bus_state c.note_armed.new.self in
     let cache = c.mark_read.ensures.cache in
     let noted : IsNoted old.bus bus h 1 =
     record { ready = c.note_armed.ensures.ready; copies = c.note_armed.ensures.copies_stay; shows = c.note_armed.ensures.shows } in
@@ -87,7 +87,7 @@ returns c =
     omega (arith, c.from.ensures, ap length same, c.requires.some.acts.may.exists) in
     let kept_is = get_or_read _ _ _ inside c.index_mut.ensures.value (new_own no_hart 0 0)
     ∙ ap (own_at (parts c.mark_read.new.self).harts) c.from.ensures ∙ ap (λ harts. own_at harts h) same in
-    let own : Own = armed_own c.args.word c.args.old c.in-LoadReserved.rd.number (own_at old.harts h) in
+    let own : OwnState = armed_own c.args.word c.args.old c.in-LoadReserved.rd.number (own_at old.harts h) in
     let new_is = set_in old (parts c.mark_read.new.self) (returned bus h cache) h c.from.result c.arm.new.self own c.mark_read.ensures.new_is
     c.from.ensures (c.arm.ensures.own ∙ ap (armed_own c.args.word c.args.old c.in-LoadReserved.rd.number) kept_is) in
     record {
@@ -99,7 +99,7 @@ returns c =
       state = λ from acts.
           let rule = c.requires.arms from acts in
           let of = reserves_next old h from c.args.action acts c.requires.action c.args.word rule in
-          subst (λ p. IsIn p (by_plain_rule from h (Arms c.args.word)).state) (sym new_is)
+          subst (λ p. IsInState p (by_plain_rule from h (Arms c.args.word)).state) (sym new_is)
           (armed_in old bus c.args.hart from acts c.args.word noted cache marks c.args.old c.in-LoadReserved.rd
           (same_reserve c.args.action c.args.word c.in-LoadReserved.rd c.in-LoadReserved.address of c.in-LoadReserved.is ∙ c.requires.action)
           rule (c.requires.found from acts)

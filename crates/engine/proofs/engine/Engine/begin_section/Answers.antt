@@ -9,7 +9,7 @@ use Rattle.engine.proofs.Laws.Swaps.{swap_action, word_aligned}
 use Rattle.engine.proofs.engine.Engine.begin_section.Goals as goal
 use Rattle.engine.specs.Parts.{parts}
 use Rattle.rv_flat.specs.Memory.{byte_in}
-use Rattle.snoop.specs.Shows.{kept}
+use Rattle.snoop.specs.Shows.{bus_state}
 use Rattle.step_rules.proofs.Laws.NextAction.{next_swap as swap_next}
 use Rattle.step_rules.specs.Actions.{numbered_swap}
 
@@ -69,6 +69,6 @@ returns-clause-state c from acts =
     (swap_next c.args.action from.committed h (next now h from c.args.action acts c.requires.action)
     ∙ swap_found now h from c.args.action acts c.requires.action swap found))
     (subst IsAligned (sym c.requires.action) (aligned _ _ _ _)) in
-    after_began now (parts c.enter.new.self) (kept c.open_attempt.new.self) c.args.hart from acts swap c.in-Amo.op c.in-Amo.rd c.in-Amo.address
+    after_began now (parts c.enter.new.self) (bus_state c.open_attempt.new.self) c.args.hart from acts swap c.in-Amo.op c.in-Amo.rd c.in-Amo.address
     c.in-Amo.source (sym c.in-Amo.is ∙ c.requires.action) found even c.enter.ensures c.open_attempt.ensures.copies_stay
     c.open_attempt.ensures.shows

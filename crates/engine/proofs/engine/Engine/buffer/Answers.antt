@@ -9,7 +9,7 @@ use Rattle.engine.proofs.InsideRules.{says}
 use Rattle.engine.proofs.KeptLive.{keeps_live}
 use Rattle.engine.proofs.engine.Engine.buffer.Goals as goal
 use Rattle.engine.specs.Acting.{sets_in}
-use Rattle.engine.specs.Parts.{IsIn, own_at, parts}
+use Rattle.engine.specs.Parts.{IsInState, own_at, parts}
 use Rattle.engine.specs.Private.{MayRunPrivately, RanPrivately}
 use Rattle.hart_state.specs.Deeds.{buffered_own}
 use Rattle.snoop.specs.Shows.{IsReady}
@@ -58,7 +58,7 @@ returns-clause-state c from section follows =
     let touch = option_map numbered_touch c.args.touch in
     let mid = c.cover.ensures in
     let ran = subst (λ p. RanPrivately p (parts c.run_privately.new.self) h c.args.action) mid.new_is c.run_privately.ensures in
-    subst (λ p. IsIn p (section_turn from h section).state)
+    subst (λ p. IsInState p (section_turn from h section).state)
     (sym (ran.new_is ∙ given_twice old h mid.cache ran.pool ran.cache (buffered_own ran.section (own_at old.harts h))))
     (buffered_in old c.args.hart from section touch mid.cache ran.pool ran.cache c.args.action ran.section follows c.requires.action
     (ran_inside old c.args.hart from section touch c.args.action follows c.requires.action mid.cache mid.bit ran.pool ran.cache ran.section

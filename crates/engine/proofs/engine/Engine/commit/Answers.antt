@@ -8,9 +8,9 @@ use Rattle.engine.proofs.RolledBack.{clock_small, seen_small}
 use Rattle.engine.proofs.engine.Engine.commit.Goals as goal
 use Rattle.engine.specs.Acting.{freed}
 use Rattle.engine.specs.Inside.{FollowsRule}
-use Rattle.engine.specs.Parts.{IsIn, Parts, parts}
+use Rattle.engine.specs.Parts.{IsInState, Parts, parts}
 use Rattle.hart_state.specs.Deeds.{committed_own}
-use Rattle.snoop.specs.Shows.{IsReady, kept}
+use Rattle.snoop.specs.Shows.{IsReady, bus_state}
 
 pub count_with_release-count-requires-clause-live : goal.count_with_release-count-requires-clause-live
 count_with_release-count-requires-clause-live c =
@@ -45,11 +45,11 @@ commit_in_cache-requires c =
 
 -- the parts as the section takes effect
 abbrev before : (c : goal.After-commit_in_cache) → Parts
-before c = record (parts c.args.self.now) { bus = kept c.close_attempt.new.self; harts = c.unreserve_others.new.harts.items }
+before c = record (parts c.args.self.now) { bus = bus_state c.close_attempt.new.self; harts = c.unreserve_others.new.harts.items }
 
 at : (c : goal.After-commit_in_cache) (from : ModelState) (section : Section) →
     FollowsRule (parts c.args.self.now) c.args.hart.number from section Commits →
-    CommitsAt (parts c.args.self.now) (kept c.close_attempt.new.self) c.args.hart.number from section c.args.action
+    CommitsAt (parts c.args.self.now) (bus_state c.close_attempt.new.self) c.args.hart.number from section c.args.action
     c.commit_in_cache.ensures.section c.commit_in_cache.ensures.pool c.commit_in_cache.ensures.cache
 at c from section follows =
     let old = parts c.args.self.now in
@@ -73,15 +73,15 @@ returns-clause-ready c =
     let some = c.requires.follows in
     let done = c.commit_in_cache.ensures in
     subst (λ p. IsReady p.bus) (sym done.new_is)
-    (ready_then (parts c.args.self.now) (kept c.close_attempt.new.self) c.args.hart.number some.from some.section c.args.action done.section
+    (ready_then (parts c.args.self.now) (bus_state c.close_attempt.new.self) c.args.hart.number some.from some.section c.args.action done.section
     done.pool done.cache (at c some.from some.section some.follows) c.close_attempt.ensures.ready)
 
 pub returns-clause-state : goal.returns-clause-state
 returns-clause-state c from section follows =
     let old = parts c.args.self.now in
     let done = c.commit_in_cache.ensures in
-    subst (λ p. IsIn p (section_turn from c.args.hart.number section).state) (sym done.new_is)
-    (commits_in old (kept c.close_attempt.new.self) c.args.hart from section c.args.action done.section done.pool done.cache
+    subst (λ p. IsInState p (section_turn from c.args.hart.number section).state) (sym done.new_is)
+    (commits_in old (bus_state c.close_attempt.new.self) c.args.hart from section c.args.action done.section done.pool done.cache
     c.unreserve_others.new.harts.items _ (at c from section follows) (c.unreserve_others.ensures old.pool)
     (ap (committed_own done.section) (c.unreserve_others.ensures no_pool).own))
 

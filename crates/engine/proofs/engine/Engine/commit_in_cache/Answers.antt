@@ -7,7 +7,7 @@ use Rattle.engine.specs.Acting.{sets_in}
 use Rattle.engine.specs.Parts.{own_at, parts}
 use Rattle.engine.specs.Private.{CommitsOver}
 use Rattle.hart_state.specs.Deeds.{committed_own}
-use Rattle.hart_state.specs.Own.{Own, new_own}
+use Rattle.hart_state.specs.Own.{OwnState, new_own}
 use Rattle.rv_flat.specs.FlatState.{no_hart}
 
 pub returns : goal.returns
@@ -24,7 +24,7 @@ returns c =
       cache = cache;
       section = section;
       over =
-          subst (λ (own : Own). CommitsOver old.pool pool (sets_in old h) cache own.section section c.args.action) own_is
+          subst (λ (own : OwnState). CommitsOver old.pool pool (sets_in old h) cache own.section section c.args.action) own_is
           (subst (λ sets. CommitsOver old.pool pool sets cache c.index_mut.result.now.section section c.args.action) c.sets_mut.ensures.value
           (record {
             released = c.commit.ensures.released;

@@ -11,13 +11,13 @@ use Rattle.engine.proofs.Stepped.{IsNoted, put_in}
 use Rattle.engine.proofs.engine.Engine.elide.Goals as goal
 use Rattle.engine.specs.Acting.{sets_in}
 use Rattle.engine.specs.Beginning.{IsReadMarked}
-use Rattle.engine.specs.Parts.{IsIn, own_at, parts}
+use Rattle.engine.specs.Parts.{IsInState, own_at, parts}
 use Rattle.hart_state.specs.Deeds.{elided_own}
 use Rattle.hart_state.specs.Own.{new_own}
 use Rattle.rv_flat.specs.FlatState.{no_hart}
 use Rattle.section_ctl.specs.State.{Reserved, armed_of}
 use Rattle.snoop.specs.Returned.{returned}
-use Rattle.snoop.specs.Shows.{IsReady, kept}
+use Rattle.snoop.specs.Shows.{IsReady, bus_state}
 use Rattle.step_rules.specs.Actions.{numbered_swap}
 
 pub mark_read-requires-clause-resident : goal.mark_read-requires-clause-resident
@@ -54,8 +54,8 @@ open_attempt-requires-clause-hart_exists c =
     let cache = c.mark_read.ensures.cache in
     agent_there old c.args.hart (armed_of c.args.armed) (numbered_swap c.args.swap) c.requires.follows.from c.requires.follows.follows cache
     (marked_for old c.args.hart (armed_of c.args.armed) (numbered_swap c.args.swap) c.requires.follows.from c.requires.follows.follows cache
-    (subst (λ line. IsReadMarked (sets_in old h) cache line) c.line_of.ensures c.mark_read.ensures.marked)) (kept c.note_armed.new.self)
-    (subst (λ bus. IsNoted bus (kept c.note_armed.new.self) h 0) (ap (λ p. p.bus) c.mark_read.ensures.new_is)
+    (subst (λ line. IsReadMarked (sets_in old h) cache line) c.line_of.ensures c.mark_read.ensures.marked)) (bus_state c.note_armed.new.self)
+    (subst (λ bus. IsNoted bus (bus_state c.note_armed.new.self) h 0) (ap (λ p. p.bus) c.mark_read.ensures.new_is)
     (record { ready = c.note_armed.ensures.ready; copies = c.note_armed.ensures.copies_stay; shows = c.note_armed.ensures.shows }))
 
 pub open_attempt-requires-clause-no_request : goal.open_attempt-requires-clause-no_request
@@ -65,8 +65,8 @@ open_attempt-requires-clause-no_request c =
     let cache = c.mark_read.ensures.cache in
     waits_not old c.args.hart (armed_of c.args.armed) (numbered_swap c.args.swap) c.requires.follows.from c.requires.follows.follows cache
     (marked_for old c.args.hart (armed_of c.args.armed) (numbered_swap c.args.swap) c.requires.follows.from c.requires.follows.follows cache
-    (subst (λ line. IsReadMarked (sets_in old h) cache line) c.line_of.ensures c.mark_read.ensures.marked)) (kept c.note_armed.new.self)
-    (subst (λ bus. IsNoted bus (kept c.note_armed.new.self) h 0) (ap (λ p. p.bus) c.mark_read.ensures.new_is)
+    (subst (λ line. IsReadMarked (sets_in old h) cache line) c.line_of.ensures c.mark_read.ensures.marked)) (bus_state c.note_armed.new.self)
+    (subst (λ bus. IsNoted bus (bus_state c.note_armed.new.self) h 0) (ap (λ p. p.bus) c.mark_read.ensures.new_is)
     (record { ready = c.note_armed.ensures.ready; copies = c.note_armed.ensures.copies_stay; shows = c.note_armed.ensures.shows }))
 
 pub unreachable-requires : goal.unreachable-requires
@@ -83,10 +83,10 @@ returns c =
     let swap = numbered_swap c.args.swap in
     let mid = parts c.mark_read.new.self in
     let cache = c.mark_read.ensures.cache in
-    let bus = kept c.open_attempt.new.self in
+    let bus = bus_state c.open_attempt.new.self in
     let marks = marked_for old c.args.hart armed swap c.requires.follows.from c.requires.follows.follows cache
     (subst (λ line. IsReadMarked (sets_in old h) cache line) c.line_of.ensures c.mark_read.ensures.marked) in
-    let noted = subst (λ b. IsNoted b (kept c.note_armed.new.self) h 0) (ap (λ p. p.bus) c.mark_read.ensures.new_is)
+    let noted = subst (λ b. IsNoted b (bus_state c.note_armed.new.self) h 0) (ap (λ p. p.bus) c.mark_read.ensures.new_is)
     (record { ready = c.note_armed.ensures.ready; copies = c.note_armed.ensures.copies_stay; shows = c.note_armed.ensures.shows }) in
     let same = ap (λ p. p.harts) c.mark_read.ensures.new_is in
     let inside : c.from.result < length mid.harts =
@@ -104,8 +104,8 @@ returns c =
           let new_is = put_in old mid (returned old.bus h cache) bus h c.from.result c.begin_armed.new.self
           (elided_own reserved c.args.swap.new c.in-StoreConditional.rd.number (own_at old.harts h)) c.mark_read.ensures.new_is c.from.ensures
           (began ∙ ap (elided_own reserved c.args.swap.new c.in-StoreConditional.rd.number) own_is) in
-          subst (λ p. IsIn p (armed_turn from h armed).state) (sym new_is)
-          (elided_in old c.args.hart armed swap from follows cache marks (kept c.note_armed.new.self) noted bus c.open_attempt.ensures.copies_stay
+          subst (λ p. IsInState p (armed_turn from h armed).state) (sym new_is)
+          (elided_in old c.args.hart armed swap from follows cache marks (bus_state c.note_armed.new.self) noted bus c.open_attempt.ensures.copies_stay
           c.open_attempt.ensures.shows
           c.in-StoreConditional.rd c.in-StoreConditional.address c.in-StoreConditional.value
           (sym c.in-StoreConditional.is ∙ c.requires.action) reserved k.is);

@@ -6,10 +6,10 @@ use Rattle.engine.proofs.ArmedSteps.{continued_in, continued_ready}
 use Rattle.engine.proofs.PrivateCalls.{may_run}
 use Rattle.engine.proofs.Stepped.{IsNoted}
 use Rattle.engine.proofs.engine.Engine.keep_private.Goals as goal
-use Rattle.engine.specs.Parts.{IsIn, parts}
+use Rattle.engine.specs.Parts.{IsInState, parts}
 use Rattle.section_ctl.specs.State.{armed_of}
 use Rattle.snoop.specs.Returned.{returned}
-use Rattle.snoop.specs.Shows.{IsReady, kept}
+use Rattle.snoop.specs.Shows.{IsReady, bus_state}
 
 pub run_privately-requires : goal.run_privately-requires
 run_privately-requires c =
@@ -41,7 +41,7 @@ returns c =
     let old = parts c.args.self.now in
     let h = c.args.hart.number in
     let armed = armed_of c.args.armed in
-    let bus = kept c.note_armed.new.self in
+    let bus = bus_state c.note_armed.new.self in
     let ran = c.run_privately.ensures in
     let noted =
     subst (IsNoted (returned old.bus h ran.cache) bus h) c.one_more.ensures
@@ -50,7 +50,7 @@ returns c =
     record {
       ready = c.note_armed.ensures.ready;
       state = λ from follows.
-          subst (λ p. IsIn (record p { bus = bus }) (armed_turn from h armed).state) (sym ran.new_is)
+          subst (λ p. IsInState (record p { bus = bus }) (armed_turn from h armed).state) (sym ran.new_is)
           (continued_in old c.args.hart armed from follows c.args.action c.requires.action ran.pool ran.cache ran.section ran.over bus noted);
       outcome = λ from follows. continues_outcome from h armed follows.rule_is;
       memory_stays = ap (λ copies. copies.lines) c.note_armed.ensures.copies_stay ∙ ap (λ p. p.bus.copies.lines) ran.new_is;

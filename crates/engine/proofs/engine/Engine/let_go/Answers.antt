@@ -7,12 +7,12 @@ use Rattle.engine.proofs.Framed.{IsClearedThere, cleared_there}
 use Rattle.engine.proofs.ArmedRules.{lets_go_outcome}
 use Rattle.engine.proofs.ArmedSteps.{let_go_in, unmarked_ready}
 use Rattle.engine.proofs.engine.Engine.let_go.Goals as goal
-use Rattle.engine.specs.Parts.{IsIn, own_at, parts}
+use Rattle.engine.specs.Parts.{IsInState, own_at, parts}
 use Rattle.hart_state.specs.Deeds.{let_go_own}
 use Rattle.hart_state.specs.Own.{new_own}
 use Rattle.rv_flat.specs.FlatState.{no_hart}
 use Rattle.section_ctl.specs.State.{armed_of}
-use Rattle.snoop.specs.Shows.{kept}
+use Rattle.snoop.specs.Shows.{bus_state}
 
 pub note_armed-requires-clause-ready : goal.note_armed-requires-clause-ready
 note_armed-requires-clause-ready c =
@@ -25,7 +25,7 @@ returns c =
     let old = parts c.args.self.now in
     let h = c.args.hart.number in
     let armed = armed_of c.args.armed in
-    let bus = kept c.note_armed.new.self in
+    let bus = bus_state c.note_armed.new.self in
     let clears = subst (λ sets. IsClearedThere sets c.clear_bits.new.self) c.sets_mut.ensures.value
     (cleared_there c.sets_mut.result.now c.clear_bits.new.self c.clear_bits.ensures.cleared c.clear_bits.ensures.lent
     c.clear_bits.ensures.owner) in
@@ -36,7 +36,7 @@ returns c =
     record {
       ready = c.note_armed.ensures.ready;
       state = λ from follows.
-          subst (λ list. IsIn (record old { bus = bus; harts = list }) (armed_turn from h armed).state) (sym harts)
+          subst (λ list. IsInState (record old { bus = bus; harts = list }) (armed_turn from h armed).state) (sym harts)
           (let_go_in old c.args.hart armed from follows c.clear_bits.new.self clears bus
           (record { ready = c.note_armed.ensures.ready; copies = c.note_armed.ensures.copies_stay; shows = c.note_armed.ensures.shows }));
       outcome = λ from follows. lets_go_outcome from h armed follows.rule_is;

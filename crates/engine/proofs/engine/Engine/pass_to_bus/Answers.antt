@@ -9,7 +9,7 @@ use Rattle.el_model.specs.Next.{next}
 use Rattle.engine.proofs.MainMemory.{kept_lines, served_lines}
 use Rattle.engine.proofs.engine.Engine.pass_to_bus.Goals as goal
 use Rattle.engine.specs.Parts.{parts}
-use Rattle.snoop.specs.Shows.{kept}
+use Rattle.snoop.specs.Shows.{bus_state}
 
 orders : (kind : Kind) → kind ≡ Order → kind ≢ Serve
 orders kind is serves = by (sym is ∙ serves)
@@ -25,12 +25,12 @@ delivers kind is serves = by (sym is ∙ serves)
 
 pub returns-in-Order-clause-shows : goal.returns-in-Order-clause-shows
 returns-in-Order-clause-shows c state reached is =
-    shown_after (kept c.order.new.self) state c.args.event _ (order_is state c.args.event c.in-Order.is) reached c.requires.no_step
+    shown_after (bus_state c.order.new.self) state c.args.event _ (order_is state c.args.event c.in-Order.is) reached c.requires.no_step
     (c.order.ensures.state state is.shows)
 
 pub returns-in-Serve-clause-shows : goal.returns-in-Serve-clause-shows
 returns-in-Serve-clause-shows c state reached is =
-    shown_after (kept c.serve.new.self) state c.args.event _ (serve_is state c.args.event c.in-Serve.is) reached c.requires.no_step
+    shown_after (bus_state c.serve.new.self) state c.args.event _ (serve_is state c.args.event c.in-Serve.is) reached c.requires.no_step
     (c.serve.ensures.state state is.shows)
 
 pub returns-in-Order-clause-memory : goal.returns-in-Order-clause-memory
@@ -54,17 +54,17 @@ serve-requires-clause-told c = record { bytes = _; tells = c.requires.stands.is_
 
 pub returns-in-Order-clause-told : goal.returns-in-Order-clause-told
 returns-in-Order-clause-told c state reached is =
-    told_committed c.args.self.now.pool (kept c.order.new.self) state.committed (next state c.args.event).state.committed
+    told_committed c.args.self.now.pool (bus_state c.order.new.self) state.committed (next state c.args.event).state.committed
     (bytes_kept state c.args.event reached c.requires.no_step) (c.order.ensures.told _ _ is.told)
 
 pub returns-in-Deliver-clause-told : goal.returns-in-Deliver-clause-told
 returns-in-Deliver-clause-told c state reached is =
-    told_committed c.args.self.now.pool (kept c.deliver.new.self) state.committed (next state c.args.event).state.committed
+    told_committed c.args.self.now.pool (bus_state c.deliver.new.self) state.committed (next state c.args.event).state.committed
     (bytes_kept state c.args.event reached c.requires.no_step) (c.deliver.ensures.told _ _ is.told)
 
 pub returns-in-Serve-clause-told : goal.returns-in-Serve-clause-told
 returns-in-Serve-clause-told c state reached is =
-    told_committed c.serve.new.pool (kept c.serve.new.self) state.committed (next state c.args.event).state.committed
+    told_committed c.serve.new.pool (bus_state c.serve.new.self) state.committed (next state c.args.event).state.committed
     (bytes_kept state c.args.event reached c.requires.no_step) (c.serve.ensures.told _ is.told)
 
 pub returns-in-Order-clause-holds : goal.returns-in-Order-clause-holds

@@ -8,13 +8,13 @@ use Rattle.engine.proofs.Framed.{IsClearedThere, cleared_there}
 use Rattle.engine.proofs.RolledBack.{clock_small, has_cache, rolled_in, rolled_ready, seen_small}
 use Rattle.engine.proofs.engine.Engine.roll_back.Goals as goal
 use Rattle.engine.specs.Acting.{freed}
-use Rattle.engine.specs.Parts.{IsIn, own_at, parts}
+use Rattle.engine.specs.Parts.{IsInState, own_at, parts}
 use Rattle.hart_state.specs.Deeds.{rolled_back_own}
-use Rattle.hart_state.specs.Own.{Own, new_own}
+use Rattle.hart_state.specs.Own.{OwnState, new_own}
 use Rattle.line_pool.specs.Others.{LeavesOthers}
 use Rattle.rv_flat.specs.FlatState.{no_hart}
 use Rattle.snoop.specs.Returned.{returned}
-use Rattle.snoop.specs.Shows.{kept}
+use Rattle.snoop.specs.Shows.{bus_state}
 use Rattle.write_hold.specs.Slotted.{IsLent}
 
 pub close_attempt-requires-clause-clock_below_the_last : goal.close_attempt-requires-clause-clock_below_the_last
@@ -28,7 +28,7 @@ close_attempt-requires-clause-seen_below_the_last c =
 pub sets_mut-requires : goal.sets_mut-requires
 sets_mut-requires c =
     let may = c.requires.follows.inside.may in
-    has_cache (parts c.args.self.now) (kept c.close_attempt.new.self) c.args.hart.number c.requires.from may
+    has_cache (parts c.args.self.now) (bus_state c.close_attempt.new.self) c.args.hart.number c.requires.from may
     (c.close_attempt.ensures.shows (freed c.requires.from c.args.hart.number) may.is_in.shows)
 
 -- what the hart keeps
@@ -41,11 +41,11 @@ own_is c =
 pub roll_back-requires-clause-lent : goal.roll_back-requires-clause-lent
 roll_back-requires-clause-lent c =
     let may = c.requires.follows.inside.may in
-    subst (λ (own : Own). IsLent c.args.self.now.pool own.section.hold) (sym (own_is c)) (may.is_in.harts c.args.hart.number may.exists).lent
+    subst (λ (own : OwnState). IsLent c.args.self.now.pool own.section.hold) (sym (own_is c)) (may.is_in.harts c.args.hart.number may.exists).lent
 
 -- the cache has no bits
 clears : (c : goal.After-self-2-1) →
-    IsClearedThere (slotted_at (kept c.close_attempt.new.self).copies.caches c.args.hart.number) c.clear_bits.new.self
+    IsClearedThere (slotted_at (bus_state c.close_attempt.new.self).copies.caches c.args.hart.number) c.clear_bits.new.self
 clears c =
     subst (λ cache. IsClearedThere cache c.clear_bits.new.self) c.sets_mut.ensures.value
     (cleared_there c.sets_mut.result.now c.clear_bits.new.self c.clear_bits.ensures.cleared c.clear_bits.ensures.lent c.clear_bits.ensures.owner)
@@ -53,24 +53,24 @@ clears c =
 pub returns-clause-ready : goal.returns-clause-ready
 returns-clause-ready c =
     let may = c.requires.follows.inside.may in
-    rolled_ready (parts c.args.self.now) (kept c.close_attempt.new.self) c.args.hart.number c.requires.from c.clear_bits.new.self may
+    rolled_ready (parts c.args.self.now) (bus_state c.close_attempt.new.self) c.args.hart.number c.requires.from c.clear_bits.new.self may
     c.close_attempt.ensures.ready (c.close_attempt.ensures.shows (freed c.requires.from c.args.hart.number) may.is_in.shows) (clears c)
 
 pub returns-clause-state : goal.returns-clause-state
 returns-clause-state c from section follows =
     let old = parts c.args.self.now in
     let h = c.args.hart.number in
-    let bus = kept c.close_attempt.new.self in
+    let bus = bus_state c.close_attempt.new.self in
     let cache = c.clear_bits.new.self in
     let pool = c.roll_back.new.pool in
     let inside : c.from.result < length old.harts = omega (arith, c.from.ensures, follows.inside.may.exists) in
     let own_is = get_or_read _ _ _ inside c.index_mut.ensures.value (new_own no_hart 0 0) ∙ ap (own_at old.harts) c.from.ensures in
     let own_then = c.roll_back.ensures.own ∙ ap (rolled_back_own c.args.cause) own_is in
     let harts = ap (λ i. slice_set old.harts i c.roll_back.new.self) c.from.ensures ∙ ap (slice_set old.harts h) own_then in
-    subst (λ list. IsIn (record old { pool = pool; bus = returned bus h cache; harts = list }) (section_turn from h section).state) (sym harts)
+    subst (λ list. IsInState (record old { pool = pool; bus = returned bus h cache; harts = list }) (section_turn from h section).state) (sym harts)
     (rolled_in old pool bus c.args.hart from section cache c.args.cause follows
     (c.close_attempt.ensures.shows (freed from h) follows.inside.may.is_in.shows) c.close_attempt.ensures.copies_stay (clears c)
     (record {
-      lent = subst (λ (own : Own). IsLent pool own.section.hold) own_then c.roll_back.ensures.lent;
-      others = subst (λ (own : Own). LeavesOthers own.section.hold.owner old.pool pool) own_is c.roll_back.ensures.others;
+      lent = subst (λ (own : OwnState). IsLent pool own.section.hold) own_then c.roll_back.ensures.lent;
+      others = subst (λ (own : OwnState). LeavesOthers own.section.hold.owner old.pool pool) own_is c.roll_back.ensures.others;
     }))

@@ -7,7 +7,7 @@ use Rattle.machine.proofs.InSections.{lent_here, tells_run}
 use Rattle.machine.proofs.machine.Machine.lent.Goals as goal
 use Rattle.machine.specs.Lending.{LendsSection, TellsRun}
 use Rattle.machine.specs.Story.{committed, state_of}
-use Rattle.snoop.specs.Shows.{IsReady, Shows, Tells, kept}
+use Rattle.snoop.specs.Shows.{IsReady, Shows, Tells, bus_state}
 
 pub section_state-requires : goal.section_state-requires
 section_state-requires c = hart_there _ _ _ _ _ c.self.invariant c.self.view_is c.requires
@@ -23,8 +23,8 @@ pub returns-clause-told : goal.returns-clause-told
 returns-clause-told c =
     let is_in = now_in _ _ _ _ c.self.invariant c.self.view_is in
     let state = state_of c.args.self.now in
-    subst (λ flat. Tells c.pool.result.now (kept c.bus.result.now) (line_of flat)) (reached_committed _ _ _ _ c.self.invariant c.self.view_is)
-    (subst (λ pool. Tells pool (kept c.bus.result.now) (line_of state.committed)) (sym c.pool.ensures)
+    subst (λ flat. Tells c.pool.result.now (bus_state c.bus.result.now) (line_of flat)) (reached_committed _ _ _ _ c.self.invariant c.self.view_is)
+    (subst (λ pool. Tells pool (bus_state c.bus.result.now) (line_of state.committed)) (sym c.pool.ensures)
     (subst (λ bus. Tells (parts c.self.inside.engine).pool bus (line_of state.committed)) (sym c.bus.ensures) is_in.told))
 
 pub returns-clause-section : goal.returns-clause-section

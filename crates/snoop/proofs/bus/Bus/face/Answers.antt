@@ -7,28 +7,28 @@ use Rattle.snoop.proofs.Faced.{faced_losers, faced_ready, faced_shows}
 use Rattle.snoop.proofs.bus.Bus.face.Goals as goal
 use Rattle.snoop.specs.Fates.{fate_in}
 use Rattle.snoop.specs.Settled.{AreSettledBelow, sent_in}
-use Rattle.snoop.specs.Shows.{IsReady, Shows, kept}
+use Rattle.snoop.specs.Shows.{IsReady, Shows, bus_state}
 
 pub returns-clause-ready : goal.returns-clause-ready
 returns-clause-ready g c =
     let known = c.fates-fates.result.items in
-    let mid = kept c.settle_all.new.self in
-    let settled : AreSettledBelow (numbered c.args.head) (fate_in known) (length known) (kept c.args.self.now) mid =
+    let mid = bus_state c.settle_all.new.self in
+    let settled : AreSettledBelow (numbered c.args.head) (fate_in known) (length known) (bus_state c.args.self.now) mid =
     rw c.deref.ensures.0 at c.settle_all.ensures in
-    let sent : kept c.answer_head.new.self ≡ record mid { agents = sent_in mid.mode known c.args.head.hart.number mid.agents } =
+    let sent : bus_state c.answer_head.new.self ≡ record mid { agents = sent_in mid.mode known c.args.head.hart.number mid.agents } =
     rw c.deref-2.ensures.0 at c.answer_head.ensures in
-    subst IsReady (sym sent) (faced_ready (numbered c.args.head) known (kept c.args.self.now) mid settled c.requires.ready)
+    subst IsReady (sym sent) (faced_ready (numbered c.args.head) known (bus_state c.args.self.now) mid settled c.requires.ready)
 
 pub returns-clause-shows : goal.returns-clause-shows
 returns-clause-shows g c = λ state shows.
     let known = c.fates-fates.result.items in
-    let mid = kept c.settle_all.new.self in
-    let settled : AreSettledBelow (numbered c.args.head) (fate_in known) (length known) (kept c.args.self.now) mid =
+    let mid = bus_state c.settle_all.new.self in
+    let settled : AreSettledBelow (numbered c.args.head) (fate_in known) (length known) (bus_state c.args.self.now) mid =
     rw c.deref.ensures.0 at c.settle_all.ensures in
-    let sent : kept c.answer_head.new.self ≡ record mid { agents = sent_in mid.mode known c.args.head.hart.number mid.agents } =
+    let sent : bus_state c.answer_head.new.self ≡ record mid { agents = sent_in mid.mode known c.args.head.hart.number mid.agents } =
     rw c.deref-2.ensures.0 at c.answer_head.ensures in
     subst (λ bus. Shows bus (faced state (numbered c.args.head))) (sym sent)
-    (faced_shows (numbered c.args.head) known (kept c.args.self.now) mid state c.fates-fates.ensures.count settled shows
+    (faced_shows (numbered c.args.head) known (bus_state c.args.self.now) mid state c.fates-fates.ensures.count settled shows
     (c.fates-fates.ensures.each state shows))
 
 pub returns-clause-losers : goal.returns-clause-losers

@@ -6,11 +6,11 @@ use Rattle.el_model.specs.State.{hart_of}
 use Rattle.snoop.proofs.GetsOn.{mail_delivered, mail_there}
 use Rattle.snoop.proofs.bus.Bus.has_mail.Goals as goal
 use Rattle.snoop.specs.Agent.{agent_at}
-use Rattle.snoop.specs.Shows.{kept}
+use Rattle.snoop.specs.Shows.{bus_state}
 
 pub returns-clause-exact : goal.returns-clause-exact
 returns-clause-exact c =
-    let mail = (agent_at (kept c.args.self.now).agents c.args.hart.number).mail in
+    let mail = (agent_at (bus_state c.args.self.now).agents c.args.hart.number).mail in
     subst (λ there. (there ≡ true) ↔ (mail ≢ [])) (sym (c.has_mail.ensures
     ∙ ap (λ agent. not (length agent.mail == 0)) c.agent.ensures)) (mail_there mail)
 

@@ -3,7 +3,7 @@ use Rattle.std.proofs.Common.{◌==◌, Some, option_map}
 use Rattle.bus_order.specs.Order.{numbered}
 use Rattle.el_model.specs.Deliver.{nobody, one_lost, told_of}
 use Rattle.el_model.specs.State.{with_hart}
-use Rattle.snoop.specs.Shows.{IsReady, Shows, kept}
+use Rattle.snoop.specs.Shows.{IsReady, Shows, bus_state}
 use Rattle.snoop.proofs.Hears.{heard_ready, heard_shows, lost_ready, lost_shows, one_loser}
 use Rattle.snoop.proofs.Lent.{clears_one}
 use Rattle.snoop.proofs.LosersBelow.{nobody_lost}
@@ -11,21 +11,21 @@ use Rattle.snoop.proofs.bus.Bus.hear_of.Goals as goal
 
 pub returns-then-loses_to_origin-clause-ready : goal.returns-then-loses_to_origin-clause-ready
 returns-then-loses_to_origin-clause-ready c =
-    lost_ready (kept c.args.self.now) (kept c.lose_to.new.self) c.args.hart.number c.args.origin.number (option_map numbered c.args.request)
+    lost_ready (bus_state c.args.self.now) (bus_state c.lose_to.new.self) c.args.hart.number c.args.origin.number (option_map numbered c.args.request)
     c.requires.ready c.requires.hart_exists c.lose_to.ensures
 
 pub returns-then-loses_to_origin-clause-shows : goal.returns-then-loses_to_origin-clause-shows
 returns-then-loses_to_origin-clause-shows c = λ state shows.
-    lost_shows (kept c.args.self.now) (kept c.lose_to.new.self) state c.args.hart.number c.args.origin.number (option_map numbered c.args.request)
+    lost_shows (bus_state c.args.self.now) (bus_state c.lose_to.new.self) state c.args.hart.number c.args.origin.number (option_map numbered c.args.request)
     shows c.requires.hart_exists (sym (c.loses_to_origin.ensures state shows) ∙ c.if-loses_to_origin.true) c.lose_to.ensures
 
 pub returns-then-loses_to_origin-clause-memory_stays : goal.returns-then-loses_to_origin-clause-memory_stays
 returns-then-loses_to_origin-clause-memory_stays c =
-    (clears_one c.args.hart.number (kept c.args.self.now).copies (kept c.lose_to.new.self).copies c.lose_to.ensures.copies).lines
+    (clears_one c.args.hart.number (bus_state c.args.self.now).copies (bus_state c.lose_to.new.self).copies c.lose_to.ensures.copies).lines
 
 pub returns-then-loses_to_origin-clause-told : goal.returns-then-loses_to_origin-clause-told
 returns-then-loses_to_origin-clause-told c =
-    (clears_one c.args.hart.number (kept c.args.self.now).copies (kept c.lose_to.new.self).copies c.lose_to.ensures.copies).stays.told
+    (clears_one c.args.hart.number (bus_state c.args.self.now).copies (bus_state c.lose_to.new.self).copies c.lose_to.ensures.copies).stays.told
 
 pub returns-then-loses_to_origin-clause-losers : goal.returns-then-loses_to_origin-clause-losers
 returns-then-loses_to_origin-clause-losers c = λ state shows.
@@ -36,14 +36,14 @@ returns-then-loses_to_origin-clause-losers c = λ state shows.
 
 pub returns-else-loses_to_origin-clause-ready : goal.returns-else-loses_to_origin-clause-ready
 returns-else-loses_to_origin-clause-ready c =
-    subst (λ agents. IsReady (record (kept c.args.self.now) { agents = agents })) (sym c.hear.ensures)
-    (heard_ready (kept c.args.self.now) c.args.hart.number c.args.origin.number c.requires.ready)
+    subst (λ agents. IsReady (record (bus_state c.args.self.now) { agents = agents })) (sym c.hear.ensures)
+    (heard_ready (bus_state c.args.self.now) c.args.hart.number c.args.origin.number c.requires.ready)
 
 pub returns-else-loses_to_origin-clause-shows : goal.returns-else-loses_to_origin-clause-shows
 returns-else-loses_to_origin-clause-shows c = λ state shows.
     let told = with_hart state c.args.hart.number (told_of state c.args.hart.number c.args.origin.number (option_map numbered c.args.request)) in
-    subst (λ agents. Shows (record (kept c.args.self.now) { agents = agents }) told) (sym c.hear.ensures)
-    (heard_shows (kept c.args.self.now) state c.args.hart.number c.args.origin.number (option_map numbered c.args.request) shows
+    subst (λ agents. Shows (record (bus_state c.args.self.now) { agents = agents }) told) (sym c.hear.ensures)
+    (heard_shows (bus_state c.args.self.now) state c.args.hart.number c.args.origin.number (option_map numbered c.args.request) shows
     (sym (c.loses_to_origin.ensures state shows) ∙ c.if-loses_to_origin.false))
 
 pub returns-else-loses_to_origin-clause-losers : goal.returns-else-loses_to_origin-clause-losers

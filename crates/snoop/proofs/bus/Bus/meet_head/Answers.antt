@@ -5,13 +5,13 @@ use Rattle.el_model.specs.Face.{freed_if, met_if, met_losers_if}
 use Rattle.el_model.specs.State.{head_of}
 use Rattle.snoop.proofs.bus.Bus.meet_head.Goals as goal
 use Rattle.snoop.specs.LettingGo.{KeepsBytes}
-use Rattle.snoop.specs.Shows.{Shows, kept}
+use Rattle.snoop.specs.Shows.{Shows, bus_state}
 
 pub returns-in-Some-clause-state : goal.returns-in-Some-clause-state
 returns-in-Some-clause-state g c = λ state shows keeps.
     let head : Some (numbered c.in-Some.head) ≡ head_of state c.args.line.number =
     c.in-Some.ensures ∙ ap (λ order. first_of order c.args.line.number) shows.order in
-    subst (λ found. Shows (kept c.meet.new.self) (met_if state found)) head
+    subst (λ found. Shows (bus_state c.meet.new.self) (met_if state found)) head
     (c.meet.ensures.shows state shows (subst (λ found. KeepsBytes state.committed (met_if state found).committed) (sym head) keeps))
 
 pub returns-in-Some-clause-losers : goal.returns-in-Some-clause-losers

@@ -6,14 +6,14 @@ use Rattle.snoop.proofs.LettingGo.{placed_bytes}
 use Rattle.snoop.proofs.bus.Bus.place.Goals as goal
 use Rattle.snoop.specs.LettingGo.{KeepsBytes}
 use Rattle.snoop.specs.Places.{definition_place}
-use Rattle.snoop.specs.Shows.{Shows, kept}
+use Rattle.snoop.specs.Shows.{Shows, bus_state}
 
 pub returns-in-InFront-clause-shows : goal.returns-in-InFront-clause-shows
 unfolding placed
 returns-in-InFront-clause-shows g c = λ state shows keeps.
     let request = numbered c.args.request in
     let place : InFront ≡ place_for state request = ap definition_place (sym c.in-InFront.is) ∙ c.place_for.ensures state shows in
-    subst (λ p. Shows (kept c.meet.new.self) (placed state request p)) place
+    subst (λ p. Shows (bus_state c.meet.new.self) (placed state request p)) place
     (c.meet.ensures.shows (before_face state request InFront) (c.go_in_front.ensures.shows state shows)
     (placed_bytes state request InFront _ (subst (λ p. KeepsBytes state.committed (placed state request p).committed) (sym place) keeps)))
 
@@ -46,7 +46,7 @@ unfolding placed
 returns-in-Alone-clause-shows g c = λ state shows keeps.
     let request = numbered c.args.request in
     let place : Alone ≡ place_for state request = ap definition_place (sym c.in-Alone.is) ∙ c.place_for.ensures state shows in
-    subst (λ p. Shows (kept c.meet-in-Alone.new.self) (placed state request p)) place
+    subst (λ p. Shows (bus_state c.meet-in-Alone.new.self) (placed state request p)) place
     (c.meet-in-Alone.ensures.shows (before_face state request Alone) (c.put_last.ensures.shows state shows)
     (placed_bytes state request Alone _ (subst (λ p. KeepsBytes state.committed (placed state request p).committed) (sym place) keeps)))
 

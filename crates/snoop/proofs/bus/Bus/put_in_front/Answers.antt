@@ -3,11 +3,11 @@ use Rattle.std.proofs.Common.{ap}
 use Rattle.bus_order.specs.Order.{in_front_of, numbered}
 use Rattle.snoop.proofs.Placing.{placed_in_front, ready_ordered, shows_ordered}
 use Rattle.snoop.proofs.bus.Bus.put_in_front.Goals as goal
-use Rattle.snoop.specs.Shows.{kept}
+use Rattle.snoop.specs.Shows.{bus_state}
 
 pub returns-clause-ready : goal.returns-clause-ready
 returns-clause-ready c =
-    let bus = kept c.args.self.now in
+    let bus = bus_state c.args.self.now in
     let request = numbered c.args.request in
     let ready = c.requires.ready in
     rw (c.unraise.ensures, c.in_front.ensures)
@@ -16,7 +16,7 @@ returns-clause-ready c =
 
 pub returns-clause-shows : goal.returns-clause-shows
 returns-clause-shows c = λ state shows.
-    let bus = kept c.args.self.now in
+    let bus = bus_state c.args.self.now in
     let request = numbered c.args.request in
     rw (c.unraise.ensures, c.in_front.ensures)
     (shows_ordered bus state request (in_front_of bus.order request) (in_front_of state.order request) shows

@@ -3,11 +3,11 @@ use Rattle.bus_order.specs.Order.{Request}
 use Rattle.snoop.proofs.Raising.{ready_raised, shows_raised}
 use Rattle.snoop.proofs.bus.Bus.raise.Goals as goal
 use Rattle.snoop.specs.Agent.{agent_at}
-use Rattle.snoop.specs.Shows.{kept}
+use Rattle.snoop.specs.Shows.{bus_state}
 
 pub returns-clause-ready : goal.returns-clause-ready
 returns-clause-ready c =
-    let bus = kept c.args.self.now in
+    let bus = bus_state c.args.self.now in
     let h = c.args.hart.number in
     let request : Request =
     record { hart = h; line = c.args.line.number; need = c.args.need; stamp = (agent_at bus.agents h).attempt } in
@@ -17,4 +17,4 @@ returns-clause-ready c =
 pub returns-clause-shows : goal.returns-clause-shows
 returns-clause-shows c = λ state shows.
     rw (c.raise.ensures, c.attempt-stamp.ensures, c.agent.ensures)
-    (shows_raised (kept c.args.self.now) state c.args.hart.number c.args.line.number c.args.need shows c.requires.holds_nothing)
+    (shows_raised (bus_state c.args.self.now) state c.args.hart.number c.args.line.number c.args.need shows c.requires.holds_nothing)

@@ -3,18 +3,18 @@ use Rattle.std.proofs.Common.{◌∙◌, ap, sym}
 use Rattle.bus_order.specs.Order.{numbered, request_of}
 use Rattle.bus_order.proofs.Laws.Queues.{hart_of_request_of}
 use Rattle.snoop.specs.MainMemory.{lines_served}
-use Rattle.snoop.specs.Shows.{kept}
+use Rattle.snoop.specs.Shows.{bus_state}
 use Rattle.snoop.proofs.bus.Bus.serve.Goals as goal
 
 pub serve_past-requires-clause-ordered : goal.serve_past-requires-clause-ordered
 serve_past-requires-clause-ordered g c =
-    let order = (kept c.args.self.now).order in
+    let order = (bus_state c.args.self.now).order in
     ap (request_of order) (hart_of_request_of order c.args.hart.number (numbered c.in-Some.request) (sym c.in-Some.ensures))
     ∙ sym c.in-Some.ensures
 
 pub returns-in-Some-clause-memory : goal.returns-in-Some-clause-memory
 returns-in-Some-clause-memory g c =
-    let bus = kept c.args.self.now in
+    let bus = bus_state c.args.self.now in
     c.serve_past.ensures.memory
     ∙ ap (λ h. lines_served c.args.pool.now bus h c.serve_past.result)
     (hart_of_request_of bus.order c.args.hart.number (numbered c.in-Some.request) (sym c.in-Some.ensures))

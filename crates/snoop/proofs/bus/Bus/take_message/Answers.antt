@@ -1,9 +1,9 @@
 use Rattle.std.proofs.Common.{subst, sym}
-use Rattle.snoop.specs.Shows.{IsReady, kept}
+use Rattle.snoop.specs.Shows.{IsReady, bus_state}
 use Rattle.snoop.proofs.Delivers.{taken_ready}
 use Rattle.snoop.proofs.bus.Bus.take_message.Goals as goal
 
 pub returns-clause-ready : goal.returns-clause-ready
 returns-clause-ready c =
-    subst (λ agents. IsReady (record (kept c.args.self.now) { agents = agents })) (sym c.take_message.ensures.rest)
-    (taken_ready (kept c.args.self.now) c.args.hart.number c.requires.ready)
+    subst (λ agents. IsReady (record (bus_state c.args.self.now) { agents = agents })) (sym c.take_message.ensures.rest)
+    (taken_ready (bus_state c.args.self.now) c.args.hart.number c.requires.ready)

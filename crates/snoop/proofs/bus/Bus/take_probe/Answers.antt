@@ -3,7 +3,7 @@ use Rattle.bus_order.specs.Order.{numbered, request_of}
 use Rattle.defer_list.specs.HartSet.{has}
 use Rattle.el_model.specs.Deliver.{after_probe, nobody, probe_losers}
 use Rattle.el_model.specs.State.{ordered_of}
-use Rattle.snoop.specs.Shows.{Shows, kept}
+use Rattle.snoop.specs.Shows.{Shows, bus_state}
 use Rattle.snoop.proofs.Hears.{forward_ready, probe_shows}
 use Rattle.snoop.proofs.LosersBelow.{nobody_lost}
 use Rattle.snoop.proofs.bus.Bus.take_probe.Goals as goal
@@ -19,17 +19,17 @@ forward-requires-clause-hart_exists c = c.hear_of-losers.ensures.hart_exists
 
 pub returns-clause-ready : goal.returns-clause-ready
 returns-clause-ready c =
-    forward_ready (kept c.hear_of-losers.new.self) (kept c.forward.new.self) c.args.hart.number c.args.origin.number (option_map numbered c.of-request.result)
+    forward_ready (bus_state c.hear_of-losers.new.self) (bus_state c.forward.new.self) c.args.hart.number c.args.origin.number (option_map numbered c.of-request.result)
     c.hear_of-losers.ensures.ready c.forward.ensures
 
 pub returns-clause-shows : goal.returns-clause-shows
 returns-clause-shows c = λ state shows.
     let request = c.of-request.ensures ∙ ap (λ order. request_of order c.args.origin.number) shows.order in
-    subst (Shows (kept c.forward.new.self))
+    subst (Shows (bus_state c.forward.new.self))
     (ap (after_probe state c.args.hart.number c.args.origin.number) request
     ∙ ap (λ known. if known then state else after_probe state c.args.hart.number c.args.origin.number (ordered_of state c.args.origin.number))
     (sym c.if-knows.false ∙ c.knows.ensures ∙ ap (λ agent. has agent.told c.args.origin.number) (c.agent.ensures ∙ shows.agents c.args.hart.number)))
-    (probe_shows (kept c.hear_of-losers.new.self) (kept c.forward.new.self) state c.args.hart.number c.args.origin.number
+    (probe_shows (bus_state c.hear_of-losers.new.self) (bus_state c.forward.new.self) state c.args.hart.number c.args.origin.number
     (option_map numbered c.of-request.result)
     (c.hear_of-losers.ensures.shows state shows) c.forward.ensures)
 

@@ -1,6 +1,6 @@
 -- the pool and the caches tell one thing for each message
 use Rattle.snoop.proofs.tests.delivering.take.Given as goal
-use Rattle.snoop.specs.Shows.{IsTold, kept}
+use Rattle.snoop.specs.Shows.{IsTold, bus_state}
 
 abbrev pub invariant-loop-number : goal.invariant-loop-number
-invariant-loop-number l = IsTold l.rig.pool (kept l.rig.bus)
+invariant-loop-number l = IsTold l.rig.pool (bus_state l.rig.bus)

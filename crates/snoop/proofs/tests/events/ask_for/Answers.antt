@@ -3,11 +3,11 @@ use Rattle.std.proofs.Common.{◌≡◌, ◌<◌, ◌∙◌, None, arith, length
 use Rattle.bus_order.specs.Order.{numbered, request_of}
 use Rattle.snoop.proofs.Standing.{is_told, no_request, ready_raised}
 use Rattle.snoop.proofs.tests.events.ask_for.Goals as goal
-use Rattle.snoop.specs.Shows.{kept}
+use Rattle.snoop.specs.Shows.{bus_state}
 
 pub invariant_of-rig : goal.invariant_of-rig
 invariant_of-rig c =
-    let bus = kept c.args.rig.now.bus in
+    let bus = bus_state c.args.rig.now.bus in
     let request = numbered (record { hart = c.args.hart; line = c.args.line; need = c.args.need; stamp = c.attempt-stamp.result }) in
     let inside : c.args.hart.number < length bus.agents = omega (arith, c.args.rig.now.bus.agents.ok.0) in
     let none : request_of bus.order c.args.hart.number ≡ None =

@@ -20,7 +20,7 @@ use Rattle.moesi.specs.declared.letter.Letter.TheVariants.{M}
 use Rattle.snoop.proofs.Laws.Returning.{ready_returned, told_returned, unasked_returned, unmarked_by_calls}
 use Rattle.snoop.proofs.Laws.Returning.{well_formed_by_calls}
 use Rattle.snoop.proofs.tests.writing_back.put.Goals as goal
-use Rattle.snoop.specs.Shows.{kept, lent_copies}
+use Rattle.snoop.specs.Shows.{bus_state, lent_copies}
 
 touched_there : (pool : Pooled) (own touched : Slotted) (line : ℕ) → may_write (letter_of own.residency line) ≡ true →
     IsTouched (lent pool own) (lent pool touched) line → is_resident touched.residency line ≡ true
@@ -52,7 +52,7 @@ bytes_mut-requires-clause-resident c =
 pub invariant_of-rig : goal.invariant_of-rig
 invariant_of-rig c =
     let pool = c.args.rig.now.pool in
-    let bus = kept c.args.rig.now.bus in
+    let bus = bus_state c.args.rig.now.bus in
     let h = c.args.hart.number in
     let own = c.sets_mut-cache.result.now in
     let modified = c.set_letter.new.self in
@@ -74,7 +74,7 @@ invariant_of-rig c =
 pub returns : goal.returns
 returns c =
     let pool = c.args.rig.now.pool in
-    let bus = kept c.args.rig.now.bus in
+    let bus = bus_state c.args.rig.now.bus in
     let h = c.args.hart.number in
     let line = c.args.line.number in
     let own = c.sets_mut-cache.result.now in

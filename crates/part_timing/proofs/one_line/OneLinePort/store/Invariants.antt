@@ -1,7 +1,7 @@
 -- the line's bytes, with those stored that have been so far
 use Rattle.std.proofs.Common.{◌≡◌, ℕ}
 use Rattle.core_step.specs.Port.{byte_in_line, stored}
-use Rattle.parts.proofs.one_line.OneLinePort.store.Given as goal
+use Rattle.part_timing.proofs.one_line.OneLinePort.store.Given as goal
 
 abbrev pub invariant-loop-n : goal.invariant-loop-n
 invariant-loop-n l =

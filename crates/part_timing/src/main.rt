@@ -1,4 +1,4 @@
-//! The program `parts`: it makes one kind of call so many times, for a clock around it to tell what the
+//! The program `part_timing`: it makes one kind of call so many times, for a clock around it to tell what the
 //! call costs, as `bench/parts.sh` does.
 //!
 //! `parts PART COUNT` prints the part, the count and a number that the calls came to. Without words it

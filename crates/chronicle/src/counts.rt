@@ -10,13 +10,13 @@ use crate::tally::Tally;
 use el_base::{Cause, Entry, HartId, Losers, MAX_HARTS, Outcome};
 
 /// A tally for each hart that a machine can have, by its number.
-pub type Tallies = [Tally; MAX_HARTS as usize];
+type Tallies = [Tally; MAX_HARTS as usize];
 
 /// What some entries count for.
 #[derive(Clone, Copy)]
 pub struct Counts {
     /// The tally of each hart.
-    pub tallies: Tallies,
+    pub tallies: [Tally; MAX_HARTS as usize],
     /// The length of the serial order.
     pub steps: u64,
 }

@@ -1,10 +1,9 @@
 ghost use Rattle.std.specs.Prelude.{◌≡◌, ◌∷◌, ◌++◌, [], ℕ, ◌<◌, ◌≤◌, length, IfOk};
 ghost use Rattle.chronicle.specs.Chronicle.{Chronicle, spare_of};
-ghost use Rattle.chronicle.specs.Counting.{tally_at};
 ghost use Rattle.chronicle.specs.Serial.{serial};
 ghost use Rattle.chronicle.specs.Tally.{tally_of};
 
-use crate::counts::{Counts, Tallies};
+use crate::counts::Counts;
 use crate::entries::Entries;
 use crate::tally::Tally;
 use el_base::{Chronicled, Entry, HartId, NoMemory};
@@ -72,13 +71,6 @@ impl History {
         ensures { result ≡ tally_of hart.number self.now.entries }
     {
         self.counts.tallies[usize::from(hart.number)]
-    }
-
-    /// What the history says of each hart that a machine can have, by its number.
-    pub fn tallies(&self) -> &Tallies
-        ensures { (hart : ℕ) → hart < 8 → tally_at result.now hart ≡ tally_of hart self.now.entries }
-    {
-        &self.counts.tallies
     }
 }
 

@@ -135,7 +135,7 @@ def hart(value):
       last_lr = {option(value.get('last_lr'), str)};
       cache = {items('(' + items(map(way, ways)) + ')' for ways in value['cache'])};
       raised = {option(value['raised'], request)};
-      held = {option(value['held'], str)};
+      held_line = {option(value['held'], str)};
       mail = {items(map(message, value['mail']))};
       told = {items(map(str, sorted(value['told'])))};
       upstream = {items(map(str, sorted(value['upstream'])))};

@@ -55,7 +55,7 @@ armed_rule state h armed = exchange_rule state h armed (next_conditional (shown_
 
 -- a hart after one more instruction of its armed section
 abbrev pub continued_hart : Armed → Hart → Hart
-continued_hart armed hart = record hart { armed = Some (record armed { count = suc armed.count }); held = None }
+continued_hart armed hart = record hart { armed = Some (record armed { count = suc armed.count }); held_line = None }
 
 -- a hart whose armed section, which began at the LR at a pc, was let go: no bits are left
 abbrev pub let_go_hart : ℕ → Hart → Hart
@@ -73,7 +73,7 @@ by_armed_rule state h armed Continues = record {
 }
 by_armed_rule state h armed LetsGo = record {
   state =
-      record (with_hart state h (let_go_hart (view_of state.committed h).pc (record (hart_of state h) { held = None }))) {
+      record (with_hart state h (let_go_hart (view_of state.committed h).pc (record (hart_of state h) { held_line = None }))) {
         committed = alone state.committed h armed.count;
       };
   outcome = outcomes.LetGo armed.count;

@@ -41,7 +41,7 @@ retainer_of state line = first_such (λ h. retains state h line) (numbers_of sta
 -- the least other hart that holds a line
 abbrev pub holder_of : ModelState → ℕ → ℕ → Option ℕ
 holder_of state h line =
-    first_such (λ other. not (other == h) && is_held (hart_of state other).held line) (numbers_of state)
+    first_such (λ other. not (other == h) && is_held (hart_of state other).held_line line) (numbers_of state)
 
 -- whether a request wins over a hart's section
 abbrev pub wins_over : Mode → Option Stamp → Hart → Bool

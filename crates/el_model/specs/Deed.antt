@@ -47,11 +47,11 @@ hart_after state h (Begins swap) hart = began_hart state.config.mode h swap hart
 hart_after state h (Buffers section touch) hart = buffered_hart section touch hart
 hart_after state h (Commits section) hart = committed_hart (view_of state.committed h).pc hart
 hart_after state h (RollsBack section cause) hart =
-    rolled_back cause (view_of state.committed h).pc (record hart { held = None })
+    rolled_back cause (view_of state.committed h).pc (record hart { held_line = None })
 hart_after state h (Arms word) hart = arming_hart word hart
 hart_after state h (Elides armed swap) hart = began_hart state.config.mode h swap hart
 hart_after state h (Continues armed) hart = continued_hart armed hart
-hart_after state h (LetsGo armed) hart = let_go_hart (view_of state.committed h).pc (record hart { held = None })
+hart_after state h (LetsGo armed) hart = let_go_hart (view_of state.committed h).pc (record hart { held_line = None })
 
 -- what is committed after it
 abbrev pub committed_after : ModelState → ℕ → Deed → FlatState

@@ -76,7 +76,7 @@ buffered_hart section touch hart =
     record hart {
       section = Some (record section { count = section.count + 1 });
       cache = covered hart.cache touch;
-      held = None;
+      held_line = None;
     }
 
 -- a hart after its section, whose acquire begins at a pc, committed
@@ -86,7 +86,7 @@ committed_hart pc hart =
       section = None;
       armed = None;
       cache = committed hart.cache;
-      held = None;
+      held_line = None;
       tries = 0;
       predictor = settled hart.predictor pc Up;
     }
@@ -96,7 +96,7 @@ unfoldable pub by_section_rule : ModelState → ℕ → Section → SectionRule 
 by_section_rule state h section (RollsBack cause) = record {
   state =
       with_hart state h
-      (rolled_back cause (view_of state.committed h).pc (record (hart_of state h) { held = None }));
+      (rolled_back cause (view_of state.committed h).pc (record (hart_of state h) { held_line = None }));
   outcome = outcomes.RolledBack cause;
 }
 by_section_rule state h section Commits = record {

@@ -142,7 +142,7 @@ ran_hart state h touch hart =
     after_candidate (acquire_pc state h) (is_some hart.predictor.watch) (candidate_of state h)
     (record hart {
       last_lr = last_reserve state h hart.last_lr;
-      held = None;
+      held_line = None;
       cache = after_touch hart.cache touch;
       predictor = watched state h hart.predictor hart.predictor.watch;
     })
@@ -151,7 +151,7 @@ ran_hart state h touch hart =
 abbrev pub missed_hart : ℕ → ℕ → Need → Hart → Hart
 missed_hart h line need hart =
     record hart {
-      held = None;
+      held_line = None;
       raised = Some (record { hart = h; line = line; need = need; stamp = hart.attempt });
     }
 
@@ -174,7 +174,7 @@ began_hart mode h swap hart =
       section = Some (record { count = suc (armed_count hart.armed); word = swap.word; old = swap.old; new = swap.new });
       armed = None;
       cache = touched (marked hart.cache (line_number swap.word) Read) (line_number swap.word);
-      held = None;
+      held_line = None;
       predictor = unwatched hart.predictor;
     })
 
@@ -184,7 +184,7 @@ arming_hart word hart =
     record hart {
       armed = Some (record { count = 1; word = word });
       cache = touched (marked hart.cache (line_number word) Read) (line_number word);
-      held = None;
+      held_line = None;
     }
 
 -- what a rule does

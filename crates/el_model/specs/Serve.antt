@@ -73,7 +73,7 @@ own_copy ways others need cache line =
 -- what the served hart has of the line: in a section a bit, else a hold until its next step
 abbrev pub with_claim : Bool → Request → Hart → Hart
 with_claim true request hart = record hart { cache = marked hart.cache request.line request.need }
-with_claim false request hart = record hart { held = Some request.line }
+with_claim false request hart = record hart { held_line = Some request.line }
 
 -- a hart without the messages and sets that came with an origin's request
 abbrev pub forgetting : ℕ → Hart → Hart

@@ -32,7 +32,7 @@ pub record Hart : Type 0 where
   pub last_lr : Option ℕ  -- the pc of the last LR that it ran outside of a section, or that was let go
   pub cache : List (List Way)  -- its cache
   pub raised : Option Request  -- its request that is not ordered yet
-  pub held : Option ℕ  -- the line that it holds until its next step
+  pub held_line : Option ℕ  -- the line that it holds until its next step
   pub mail : List Message  -- its mailbox, oldest first
   pub told : List ℕ  -- the origins that it was told of
   pub upstream : List ℕ  -- the harts that are before it
@@ -63,7 +63,7 @@ new_hart sets = record {
   last_lr = None;
   cache = empty_cache sets;
   raised = None;
-  held = None;
+  held_line = None;
   mail = [];
   told = [];
   upstream = [];

@@ -46,7 +46,7 @@ abbrev now_of : ModelState → ℕ → ℕ → Hart
 now_of from h word = arming_hart word (hart_of from h)
 
 abbrev noted_of : ModelState → ℕ → ℕ → Hart
-noted_of from h word = record (hart_of from h) { held = None; armed = Some (record { count = 1; word = word }) }
+noted_of from h word = record (hart_of from h) { held_line = None; armed = Some (record { count = 1; word = word }) }
 
 module _ (old : Parts) (bus : BusState) (hart : HartId) (from : ModelState) (acts : ActsOutside old hart.number from) (word : ℕ)
     (noted : IsNoted old.bus bus hart.number 1) where

@@ -55,7 +55,7 @@ entered swap hart =
       section = Some (record { count = suc (armed_count hart.armed); word = swap.word; old = swap.old; new = swap.new });
       armed = None;
       cache = touched (marked hart.cache (line_number swap.word) Read) (line_number swap.word);
-      held = None;
+      held_line = None;
       predictor = unwatched hart.predictor;
     }
 
@@ -124,9 +124,9 @@ module _ (parts : Parts) (h : ℕ) (state : ModelState) (action : Action) (acts 
   }
 
   -- the bus keeps the same of it, since it was not armed
-  agent_stays : agent_of (entered swap (hart_of state h)) ≡ agent_of (record (hart_of state h) { held = None })
+  agent_stays : agent_of (entered swap (hart_of state h)) ≡ agent_of (record (hart_of state h) { held_line = None })
   agent_stays =
-      ap (λ armed. record (agent_of (record (hart_of state h) { held = None })) { armed = armed_count armed }) (sym acts.no_armed)
+      ap (λ armed. record (agent_of (record (hart_of state h) { held_line = None })) { armed = armed_count armed }) (sym acts.no_armed)
 
   -- the bus shows it, and is ready
   pub entered_shows : Shows (returned parts.bus h cache) (with_hart state h (entered swap (hart_of state h)))

@@ -75,7 +75,7 @@ not_zero n some =
 
 -- the hart whose armed section has gone on, before its new count is noted, and then
 abbrev pub held_nothing : ModelState → ℕ → Hart
-held_nothing from h = record (hart_of from h) { held = None }
+held_nothing from h = record (hart_of from h) { held_line = None }
 
 by_continues : (from : ModelState) (h : ℕ) (armed : Armed) →
     (by_armed_rule from h armed Continues).state ≡ with_hart from h (continued_hart armed (hart_of from h))
@@ -234,10 +234,10 @@ module _ (old : Parts) (hart : HartId) (armed : Armed) (from : ModelState) (foll
 
 -- the hart that is let go, with no bits, before that is noted, and then
 abbrev unmarked_of : ModelState → ℕ → Hart
-unmarked_of from h = record (hart_of from h) { held = None; cache = cleared (hart_of from h).cache }
+unmarked_of from h = record (hart_of from h) { held_line = None; cache = cleared (hart_of from h).cache }
 
 abbrev freed_of : ModelState → ℕ → Hart
-freed_of from h = let_go_hart (view_of from.committed h).pc (record (hart_of from h) { held = None })
+freed_of from h = let_go_hart (view_of from.committed h).pc (record (hart_of from h) { held_line = None })
 
 abbrev state_freed : ModelState → ℕ → Armed → ModelState
 state_freed from h armed = record (with_hart from h (freed_of from h)) { committed = alone from.committed h armed.count }

@@ -116,7 +116,7 @@ module _ (old : Parts) (hart : HartId) (from : ModelState) (section : Section) (
       let was = may.is_in.harts h may.exists in
       let below = misses.is_there old from h may in
       let here = hart_of-with_hart_same from h now below in
-      let part : HasOwn own (record (hart_of from h) { held = None }) = subst (HasOwn own) (freed_here from h below) was.part in
+      let part : HasOwn own (record (hart_of from h) { held_line = None }) = subst (HasOwn own) (freed_here from h below) was.part in
       let kept : KeepsSection pool state h (longer section) new = record {
         run = goes.keeps;
         marked = subst (λ c. HoldsMarked c (hold_in pool new).entries) (sym (ap (λ hart. hart.cache) here))
@@ -125,7 +125,7 @@ module _ (old : Parts) (hart : HartId) (from : ModelState) (section : Section) (
       } in
       record {
         part = subst (HasOwn (buffered_own new own)) (sym here)
-            (buffered_is section touch new own (record (hart_of from h) { held = None }) part ran.ran.live ran.ran.armed can.kept.unarmed_there);
+            (buffered_is section touch new own (record (hart_of from h) { held_line = None }) part ran.ran.live ran.ran.armed can.kept.unarmed_there);
         view = ap committed_of ran.ran.marks ∙ committed_beside own.section.marks.mark _ _ can.kept.stands.mark ∙ was.view;
         section = subst (λ live. KeepsSectionOf pool state h live new) (sym (ap (λ hart. hart.section) here)) kept;
         armed = subst (λ armed. KeepsReserved state.committed h armed new.marks.present) (sym ran.ran.armed) tt;

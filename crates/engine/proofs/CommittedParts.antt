@@ -230,9 +230,9 @@ module _ (copies : Copies) (h : ℕ) (cache : Cached) (old done : FlatState) (wo
 
 -- the bus
 agent_then : (from : ModelState) (h : ℕ) → armed_of from h ≡ None →
-    agent_of (hart_then from h) ≡ agent_of (close_attempt (record (hart_of from h) { held = None }))
+    agent_of (hart_then from h) ≡ agent_of (close_attempt (record (hart_of from h) { held_line = None }))
 agent_then from h none =
-    ap (λ armed. record (agent_of (close_attempt (record (hart_of from h) { held = None }))) { armed = armed_count armed }) (sym none)
+    ap (λ armed. record (agent_of (close_attempt (record (hart_of from h) { held_line = None }))) { armed = armed_count armed }) (sym none)
 
 -- a hart that loses its reservation where it is of a word on one of these lines
 seen_by : (lines : ℕ → Bool) (reserved : Option ℕ) (own : OwnState) → (committed_of own.section.marks).reserved ≡ reserved →
@@ -288,7 +288,7 @@ module _ (parts : Parts) (bus : BusState) (h : ℕ) (from : ModelState) (section
   abbrev mid : ModelState
   mid = with_hart (freed from h) h (close_attempt (hart_of (freed from h) h))
 
-  stands_between : IsBetween bus from mid h (close_attempt (record (hart_of from h) { held = None }))
+  stands_between : IsBetween bus from mid h (close_attempt (record (hart_of from h) { held_line = None }))
   stands_between = between parts bus h from may at.closed
 
   inside : h < length bus.copies.caches
@@ -382,7 +382,7 @@ module _ (parts : Parts) (bus : BusState) (h : ℕ) (from : ModelState) (section
       let was = may.is_in.harts h may.exists in
       let below = is_there parts from h may in
       let here = hart_of-with_hart_same from h (hart_then from h) below in
-      let freed_part : HasOwn own (record (hart_of from h) { held = None }) = subst (HasOwn own) (freed_here from h below) was.part in
+      let freed_part : HasOwn own (record (hart_of from h) { held_line = None }) = subst (HasOwn own) (freed_here from h below) was.part in
       let part : HasOwn own (hart_of from h) = record {
         section = freed_part.section;
         armed = freed_part.armed;

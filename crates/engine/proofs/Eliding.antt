@@ -52,7 +52,7 @@ use Rattle.write_hold.specs.Held.{held}
 abbrev marked_of : ModelState → ℕ → Swap → Hart
 marked_of from h swap =
     record (hart_of from h) {
-      held = None;
+      held_line = None;
       cache = touched (marked (hart_of from h).cache (line_number swap.word) Read) (line_number swap.word);
     }
 

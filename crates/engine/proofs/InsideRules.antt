@@ -80,7 +80,7 @@ says parts h from section rule follows =
 
 -- the rule does not depend on what the hart holds
 pub freed_cache : (from : ModelState) (h g : ℕ) → cache_of (freed from h) g ≡ cache_of from g
-freed_cache from h g = with_hart_kept (λ hart. hart.cache) from h (record (hart_of from h) { held = None }) refl g
+freed_cache from h g = with_hart_kept (λ hart. hart.cache) from h (record (hart_of from h) { held_line = None }) refl g
 
 freed_full : (from : ModelState) (h : ℕ) (need : Need) → is_full (freed from h) h need ≡ is_full from h need
 freed_full from h Read = refl

@@ -51,7 +51,7 @@ keeps_private parts h from armed acts =
     let was : IsOfHart parts.pool (freed from h) h own = may.is_in.harts h may.exists in
     let below = is_there parts from h may in
     let here = freed_here from h below in
-    let freed_part : HasOwn own (record (hart_of from h) { held = None }) = subst (HasOwn own) here was.part in
+    let freed_part : HasOwn own (record (hart_of from h) { held_line = None }) = subst (HasOwn own) here was.part in
     let live = was.part.section ∙ ap (λ hart. hart.section) here ∙ acts.no_section in
     let kept = kept_as own.section.armed armed (was.part.armed ∙ ap (λ hart. hart.armed) here ∙ acts.armed_is) in
     let keeps : KeepsArmed from.committed h armed kept.old own.section.marks.present =

@@ -15,18 +15,18 @@ use Rattle.snoop.specs.Shows.{BusState, Shows}
 
 -- the hart is there, in the state too
 pub freed_each : (parts : Parts) (state : ModelState) (h : ℕ) → MayAct parts h state → length parts.harts ≡ length state.harts
-freed_each parts state h may = may.is_in.one_each ∙ (keeps_with_hart state h (record (hart_of state h) { held = None })).count
+freed_each parts state h may = may.is_in.one_each ∙ (keeps_with_hart state h (record (hart_of state h) { held_line = None })).count
 
 pub is_there : (parts : Parts) (state : ModelState) (h : ℕ) → MayAct parts h state → h < length state.harts
 is_there parts state h may = subst (λ n. h < n) (freed_each parts state h may) may.exists
 
-pub freed_here : (state : ModelState) (h : ℕ) → h < length state.harts → hart_of (freed state h) h ≡ record (hart_of state h) { held = None }
-freed_here state h below = hart_of-with_hart_same state h (record (hart_of state h) { held = None }) below
+pub freed_here : (state : ModelState) (h : ℕ) → h < length state.harts → hart_of (freed state h) h ≡ record (hart_of state h) { held_line = None }
+freed_here state h below = hart_of-with_hart_same state h (record (hart_of state h) { held_line = None }) below
 
 -- a hart that becomes another becomes it in place of the freed one
 pub freed_then : (state : ModelState) (h : ℕ) (hart : Hart) → with_hart (freed state h) h hart ≡ with_hart state h hart
 freed_then state h hart =
-    ap (λ harts. record state { harts = harts }) (set-set state.harts h (record (hart_of state h) { held = None }) hart)
+    ap (λ harts. record state { harts = harts }) (set-set state.harts h (record (hart_of state h) { held_line = None }) hart)
 
 -- another hart in the place of one, the same but for what the bus keeps
 pub same_each : (state : ModelState) (h : ℕ) (hart : Hart) → IsSameHart (hart_of state h) hart → (g : ℕ) →
@@ -45,10 +45,10 @@ pub has_agent : (parts : Parts) (h line : ℕ) → MayMiss parts h line → h < 
 has_agent parts h line may =
     omega (arith, may.may.exists, may.may.is_in.one_each, may.may.is_in.shows.agent_each)
 
-pub holds_none : (parts : Parts) (h line : ℕ) → MayMiss parts h line → (agent_at parts.bus.agents h).held ≡ None
+pub holds_none : (parts : Parts) (h line : ℕ) → MayMiss parts h line → (agent_at parts.bus.agents h).held_line ≡ None
 holds_none parts h line may =
-    ap (λ agent. agent.held) (may.may.is_in.shows.agents h)
-    ∙ ap (λ hart. hart.held) (freed_here may.from h (is_there parts may.from h may.may))
+    ap (λ agent. agent.held_line) (may.may.is_in.shows.agents h)
+    ∙ ap (λ hart. hart.held_line) (freed_here may.from h (is_there parts may.from h may.may))
 
 -- the request was raised from the freed state, as it is from the first one
 missed_is : (state : ModelState) (h line : ℕ) (need : Need) → h < length state.harts →

@@ -77,7 +77,7 @@ seen_hart state h action =
     let hart = hart_of state h in
     record hart {
       last_lr = last_reserve state h hart.last_lr;
-      held = None;
+      held_line = None;
       cache = after_touch hart.cache (touch_of (footprint action));
       predictor = watched state h hart.predictor hart.predictor.watch;
     }

@@ -188,11 +188,11 @@ pub record IsBetween (bus : BusState) (from between : ModelState) (h : ℕ) (har
 
 -- the state in which the hart has given up what it held is one
 pub freed_between : (parts : Parts) (h : ℕ) (from : ModelState) → MayAct parts h from →
-    IsBetween parts.bus from (freed from h) h (record (hart_of from h) { held = None })
+    IsBetween parts.bus from (freed from h) h (record (hart_of from h) { held_line = None })
 freed_between parts h from may =
     let below = is_there parts from h may in
     record {
-      there = subst (λ n. h < n) (sym (length-set from.harts h (record (hart_of from h) { held = None }))) below;
+      there = subst (λ n. h < n) (sym (length-set from.harts h (record (hart_of from h) { held_line = None }))) below;
       shows = may.is_in.shows;
       here = freed_here from h below;
       becomes = freed_then from h;

@@ -91,8 +91,8 @@ pub may_act : (parts : Parts) (bus : BusState) (state : ModelState) (h : ℕ) �
 may_act parts bus state h reached is exists running free ready copies shows = record {
   reached = reached;
   is_in =
-      with_bus parts bus state (freed state h) is (keeps_with_hart state h (record (hart_of state h) { held = None }))
-      (same_each state h (record (hart_of state h) { held = None })
+      with_bus parts bus state (freed state h) is (keeps_with_hart state h (record (hart_of state h) { held_line = None }))
+      (same_each state h (record (hart_of state h) { held_line = None })
       (record { section = refl; armed = refl; last_lr = refl; cache = refl; predictor = refl; fallback = refl; tries = refl })) copies shows;
   ready = ready;
   exists = exists;
@@ -119,7 +119,7 @@ asks_nothing parts state h may =
     record {
       none_raised =
           ap (λ agent. agent.raised) (may.is_in.shows.agents h)
-          ∙ with_hart_kept (λ hart. hart.raised) state h (record (hart_of state h) { held = None }) refl h ∙ none.0;
+          ∙ with_hart_kept (λ hart. hart.raised) state h (record (hart_of state h) { held_line = None }) refl h ∙ none.0;
       none_ordered = ap (λ order. request_of order h) may.is_in.shows.order ∙ none.1;
     }
 
@@ -127,13 +127,13 @@ asks_nothing parts state h may =
 pub section_is : (parts : Parts) (state : ModelState) (h : ℕ) → MayAct parts h state → (own_at parts.harts h).section.live ≡ section_of state h
 section_is parts state h may =
     (may.is_in.harts h may.exists).part.section
-    ∙ with_hart_kept (λ hart. hart.section) state h (record (hart_of state h) { held = None }) refl h
+    ∙ with_hart_kept (λ hart. hart.section) state h (record (hart_of state h) { held_line = None }) refl h
 
 pub armed_is : (parts : Parts) (state : ModelState) (h : ℕ) → MayAct parts h state →
     option_map (λ reserved. reserved.armed) (own_at parts.harts h).section.armed ≡ armed_of state h
 armed_is parts state h may =
     (may.is_in.harts h may.exists).part.armed
-    ∙ with_hart_kept (λ hart. hart.armed) state h (record (hart_of state h) { held = None }) refl h
+    ∙ with_hart_kept (λ hart. hart.armed) state h (record (hart_of state h) { held_line = None }) refl h
 
 pub acts_outside : (parts : Parts) (state : ModelState) (h : ℕ) → MayAct parts h state → (own_at parts.harts h).section.live ≡ None →
     option_map (λ reserved. reserved.armed) (own_at parts.harts h).section.armed ≡ None → ActsOutside parts h state

@@ -15,7 +15,7 @@ use Rattle.snoop.specs.Shows.{IsReady}
 
 -- the state in which a hart has given up the line that it held
 abbrev pub freed : ModelState → ℕ → ModelState
-freed state h = with_hart state h (record (hart_of state h) { held = None })
+freed state h = with_hart state h (record (hart_of state h) { held_line = None })
 
 -- the parts are in such a state, which comes of one that a program reaches; memory lies below the last address
 pub record MayAct (parts : Parts) (h : ℕ) (state : ModelState) : Type 0 where

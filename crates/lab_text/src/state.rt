@@ -145,7 +145,7 @@ fn write_agent(out: &mut String, agent: &Agent, symbols: &Symbols) -> Result<(),
         let request = RequestText { request, symbols };
         write!(out, "  raised {request}\n")?;
     }
-    if let Some(line) = agent.held() {
+    if let Some(line) = agent.held_line() {
         let line = Named {
             address: first_byte(line),
             symbols,

@@ -214,7 +214,7 @@ touch_unmet state h section touch may unmet = by (is_covered (cache_of state h) 
         record (hart_of state h) {
           section = Some (record section { count = section.count + 1 });
           cache = touched (if had then cache_of state h else marked (cache_of state h) touch.line touch.need) touch.line;
-          held = None;
+          held_line = None;
         }
 
     live : is_some (section_of state h) ≡ true

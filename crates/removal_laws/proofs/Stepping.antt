@@ -214,13 +214,13 @@ free_stepped state h new free raised retained =
 buffered_retains : (state : ModelState) (h line : ℕ) (section next : Section) (cache : List (List Way)) →
     (hart_of state h).section ≡ Some section →
     ((head : Request) → head_of state head.line ≡ Some head → head.hart ≢ h →
-    meets_bit (record (hart_of state h) { section = Some next; cache = cache; held = None }) head.line head.need ≡ true →
+    meets_bit (record (hart_of state h) { section = Some next; cache = cache; held_line = None }) head.line head.need ≡ true →
     meets_bit (hart_of state h) head.line head.need ≡ true) →
-    conflicts_with (head_of state line) h (record (hart_of state h) { section = Some next; cache = cache; held = None }) ≡ true →
+    conflicts_with (head_of state line) h (record (hart_of state h) { section = Some next; cache = cache; held_line = None }) ≡ true →
     (conflicts_with (head_of state line) h (hart_of state h) ≡ true)
-    × Retained (hart_of state h) (record (hart_of state h) { section = Some next; cache = cache; held = None })
+    × Retained (hart_of state h) (record (hart_of state h) { section = Some next; cache = cache; held_line = None })
 buffered_retains state h line section next cache live bits is = (
-  head_by state h line (record (hart_of state h) { section = Some next; cache = cache; held = None }) is
+  head_by state h line (record (hart_of state h) { section = Some next; cache = cache; held_line = None }) is
       (λ head found own it.
       subst (λ h0. conflicts_with h0 h (hart_of state h) ≡ true) (sym found)
       (in_the_way head h (hart_of state h)
@@ -230,31 +230,31 @@ buffered_retains state h line section next cache live bits is = (
 
 touch_bits : (state : ModelState) (h : ℕ) (section next : Section) (touch : Option Touch) → IsCoverable state h section touch → (head : Request) →
     head_of state head.line ≡ Some head → head.hart ≢ h →
-    meets_bit (record (hart_of state h) { section = Some next; cache = covered (hart_of state h).cache touch; held = None }) head.line head.need ≡ true →
+    meets_bit (record (hart_of state h) { section = Some next; cache = covered (hart_of state h).cache touch; held_line = None }) head.line head.need ≡ true →
     meets_bit (hart_of state h) head.line head.need ≡ true
 touch_bits state h section next None coverable head is apart bit =
-    meets_no_more (hart_of state h) (record (hart_of state h) { section = Some next; held = None }) head.line head.need
+    meets_no_more (hart_of state h) (record (hart_of state h) { section = Some next; held_line = None }) head.line head.need
     (record { read = λ r. r; write = λ w. w }) bit
 touch_bits state h section next (Some touch) (inl has) head is apart bit =
     let cache = (hart_of state h).cache in
-    meets_no_more (hart_of state h) (record (hart_of state h) { section = Some next; cache = touched cache touch.line; held = None }) head.line head.need
+    meets_no_more (hart_of state h) (record (hart_of state h) { section = Some next; cache = touched cache touch.line; held_line = None }) head.line head.need
     (no_more_touched cache touch.line head.line)
     (subst
     (λ b. meets_bit (record (hart_of state h) {
       section = Some next;
       cache = touched (if b then cache else marked cache touch.line touch.need) touch.line;
-      held = None;
+      held_line = None;
     }) head.line head.need ≡ true) has bit)
 touch_bits state h section next (Some touch) (inr (room, granted)) head is apart bit =
     let cache = (hart_of state h).cache in
     wanted_bit state h touch.line touch.need (hart_of state h)
-    (record (hart_of state h) { section = Some next; cache = touched (marked cache touch.line touch.need) touch.line; held = None }) head
+    (record (hart_of state h) { section = Some next; cache = touched (marked cache touch.line touch.need) touch.line; held_line = None }) head
     (second_not (not (permits state h touch)) (is_wanted state h touch.line touch.need) granted) refl is apart
     (subst
     (λ b. meets_bit (record (hart_of state h) {
       section = Some next;
       cache = touched (if b then cache else marked cache touch.line touch.need) touch.line;
-      held = None;
+      held_line = None;
     }) head.line head.need ≡ true) room.wants.uncovered bit)
 
 -- what is missed on a line with a bit is missed to write
@@ -268,7 +268,7 @@ candidate_section pc had_watch None hart none = none
 candidate_section pc had_watch (Some swap) hart none = none
 
 missed_aside : (head : Option Request) (g : ℕ) (hart : Hart) (raised : Option Request) →
-    conflicts_with head g (record hart { held = None; raised = raised }) ≡ true →
+    conflicts_with head g (record hart { held_line = None; raised = raised }) ≡ true →
     conflicts_with head g hart ≡ true
 missed_aside None g hart raised is = is
 missed_aside (Some request) g hart raised is = is

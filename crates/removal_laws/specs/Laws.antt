@@ -148,7 +148,7 @@ is_served _ = false
 pub record IsLocked (state : ModelState) (line : ℕ) (outcome : Outcome) : Type 0 where
   pub holder : ℕ
   pub outcome_is : outcome ≡ Blocked Locked (hart_id holder)
-  pub holds : (hart_of state holder).held ≡ Some line
+  pub holds : (hart_of state holder).held_line ≡ Some line
   pub outside : section_of state holder ≡ None
 
 -- once the messages of a line are delivered, and a hart waits for it with the least stamp, its head is served, unless the line is locked

@@ -39,7 +39,7 @@ EachHartWaitsForOne =
     Always (λ state.
     (h : ℕ) →
     WaitsForOne h (status_of state.committed h) (ordered_of state h) (hart_of state h).section (hart_of state h).raised
-    (hart_of state h).held)
+    (hart_of state h).held_line)
 
 -- no two requests in order are of one hart
 abbrev pub OneOrderedRequestEach : Type 0
@@ -80,7 +80,7 @@ ArmedHartsWaitForNothing =
     Always (λ state.
     (h : ℕ) (armed : Armed) → armed_of state h ≡ Some armed →
     RunsWithNothing (status_of state.committed h) (ordered_of state h) (hart_of state h).section (hart_of state h).raised
-    (hart_of state h).held)
+    (hart_of state h).held_line)
 
 -- no hart has a live and an armed section
 abbrev pub NoHartIsLiveAndArmed : Type 0

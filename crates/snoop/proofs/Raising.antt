@@ -67,12 +67,12 @@ ready_raised bus request ready inside none in_memory room = record {
 abbrev asking : ℕ → ℕ → Need → Agent → Agent
 asking h line need agent = record agent { raised = Some (record { hart = h; line = line; need = need; stamp = agent.attempt }) }
 
-pub shows_raised : (bus : BusState) (state : ModelState) (h line : ℕ) (need : Need) → Shows bus state → (agent_at bus.agents h).held ≡ None →
+pub shows_raised : (bus : BusState) (state : ModelState) (h line : ℕ) (need : Need) → Shows bus state → (agent_at bus.agents h).held_line ≡ None →
     Shows (raised_in bus (record { hart = h; line = line; need = need; stamp = (agent_at bus.agents h).attempt }))
     (with_hart state h (missed_hart h line need (hart_of state h)))
 shows_raised bus state h line need shows nothing =
     shows_agent bus state h (asking h line need (agent_at bus.agents h)) (missed_hart h line need (hart_of state h)) shows
     (ap (asking h line need) (shows.agents h)
-    ∙ ap (λ held. record (asking h line need (agent_of (hart_of state h))) { held = held })
-    (sym (ap (λ agent. agent.held) (shows.agents h)) ∙ nothing))
+    ∙ ap (λ held. record (asking h line need (agent_of (hart_of state h))) { held_line = held })
+    (sym (ap (λ agent. agent.held_line) (shows.agents h)) ∙ nothing))
     refl refl refl

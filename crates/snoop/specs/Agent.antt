@@ -13,7 +13,7 @@ use Rattle.stamp.specs.Stamps.{Stamp, next_clock_of}
 -- the count alone is noted, and 0 where there is none
 pub record Agent : Type 0 where
   pub raised : Option Request
-  pub held : Option ℕ
+  pub held_line : Option ℕ
   pub mail : List Message
   pub told : List ℕ
   pub upstream : List ℕ
@@ -26,7 +26,7 @@ pub record Agent : Type 0 where
 abbrev pub new_agent : Agent
 new_agent = record {
   raised = None;
-  held = None;
+  held_line = None;
   mail = [];
   told = [];
   upstream = [];
@@ -40,7 +40,7 @@ new_agent = record {
 abbrev pub agent_of : Hart → Agent
 agent_of hart = record {
   raised = hart.raised;
-  held = hart.held;
+  held_line = hart.held_line;
   mail = hart.mail;
   told = hart.told;
   upstream = hart.upstream;

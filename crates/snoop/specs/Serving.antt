@@ -11,7 +11,7 @@ use Rattle.snoop.specs.Shows.{BusState, lent_copies, lives_at}
 -- a hart without a live section holds the line that it was served; one with a live section has a bit instead
 abbrev pub agent_claiming : Bool → ℕ → Agent → Agent
 agent_claiming true line agent = agent
-agent_claiming false line agent = record agent { held = Some line }
+agent_claiming false line agent = record agent { held_line = Some line }
 
 -- what an agent becomes, by whether the served hart has a live section
 abbrev pub agent_after_serve : Bool → Request → ℕ → Agent → Agent

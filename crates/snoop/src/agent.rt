@@ -35,7 +35,7 @@ pub struct Agent {
     /// The request that the hart has raised, until it is in the order.
     raised: Option<Request>,
     /// The line that it was served, until its next step.
-    held: Option<LineAddr>,
+    held_line: Option<LineAddr>,
     /// The messages that have come to it.
     mail: Mail,
     /// The origins of probes that have reached it.
@@ -62,7 +62,7 @@ impl Model for Agent {
 
     ghost view = { λ agent. record {
       raised = option_map numbered agent.raised;
-      held = option_map (λ line. line.number) agent.held;
+      held_line = option_map (λ line. line.number) agent.held_line;
       mail = agent.mail;
       told = agent.told;
       upstream = agent.upstream;
@@ -81,7 +81,7 @@ impl Agent {
         let mail = Mail::make(alloc)?;
         Ok(Agent {
             raised: None,
-            held: None,
+            held_line: None,
             mail,
             told: Told::new(),
             upstream: Told::new(),
@@ -101,19 +101,19 @@ impl Agent {
 
     /// Whether the hart holds a line until its next step.
     pub fn holds(&self, line: LineAddr) -> bool
-        ensures { result ≡ is_held self.now.held line.number }
+        ensures { result ≡ is_held self.now.held_line line.number }
     {
-        match self.held {
+        match self.held_line {
             Some(held) => held == line,
             None => false,
         }
     }
 
     /// The line that the hart holds until its next step, if it holds one.
-    pub fn held(&self) -> Option<LineAddr>
-        ensures { option_map (λ line. line.number) result ≡ self.now.held }
+    pub fn held_line(&self) -> Option<LineAddr>
+        ensures { option_map (λ line. line.number) result ≡ self.now.held_line }
     {
-        self.held
+        self.held_line
     }
 
     /// The clock of the hart's next attempt.
@@ -191,16 +191,16 @@ impl Agent {
 
     /// The hart holds a line.
     pub fn hold(&mut self, line: LineAddr)
-        ensures { self.new ≡ record self.old { held = Some line.number } }
+        ensures { self.new ≡ record self.old { held_line = Some line.number } }
     {
-        self.held = Some(line);
+        self.held_line = Some(line);
     }
 
     /// The hart holds no line any more.
     pub fn give_up(&mut self)
-        ensures { self.new ≡ record self.old { held = None } }
+        ensures { self.new ≡ record self.old { held_line = None } }
     {
-        self.held = None;
+        self.held_line = None;
     }
 
     /// A message comes into the hart's mailbox.

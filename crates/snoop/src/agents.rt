@@ -54,7 +54,7 @@ pub fn raise(agents: &mut Vec<Agent>, request: Request)
 pub fn give_up(agents: &mut Vec<Agent>, hart: HartId)
     requires { hart.number < length agents.old.items }
     ensures { agents.new.items ≡
-        with_agent agents.old.items hart.number (record (agent_at agents.old.items hart.number) { held = None }) }
+        with_agent agents.old.items hart.number (record (agent_at agents.old.items hart.number) { held_line = None }) }
 {
     let agent = &mut agents[usize::from(hart.number)];
     agent.give_up();

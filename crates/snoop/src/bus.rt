@@ -106,7 +106,7 @@ impl Bus {
         requires hart_exists { hart.number < length (bus_state self.old).agents }
         requires ready { IsReady (bus_state self.old) }
         requires no_request { HasNoRequest (bus_state self.old) hart.number }
-        requires holds_nothing { (agent_at (bus_state self.old).agents hart.number).held ≡ None }
+        requires holds_nothing { (agent_at (bus_state self.old).agents hart.number).held_line ≡ None }
         requires in_memory { LiesIn (bus_state self.old).copies line.number }
         requires room { has_room_in (bus_state self.old).copies hart.number line.number ≡ true }
         ensures ready { IsReady (bus_state self.new) }
@@ -132,7 +132,7 @@ impl Bus {
         requires ready { IsReady (bus_state self.old) }
         ensures ready { IsReady (bus_state self.new) }
         ensures shows { (state : ModelState) → Shows (bus_state self.old) state → Shows (bus_state self.new)
-            (with_hart state hart.number (record (hart_of state hart.number) { held = None })) }
+            (with_hart state hart.number (record (hart_of state hart.number) { held_line = None })) }
         ensures copies_stay { (bus_state self.new).copies ≡ (bus_state self.old).copies }
     {
         give_up(&mut self.agents, hart);

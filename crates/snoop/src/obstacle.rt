@@ -158,7 +158,7 @@ impl Bus {
         ensures { (state : ModelState) → Shows (bus_state self.now) state →
             option_map number_of result
             ≡ (if not (hart.number == request.hart.number)
-            && is_held (hart_of state hart.number).held request.line.number
+            && is_held (hart_of state hart.number).held_line request.line.number
             then Some hart.number else option_map number_of other) }
     {
         if hart != request.hart && self.agents[usize::from(hart.number)].holds(request.line) {

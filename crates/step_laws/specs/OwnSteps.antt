@@ -84,7 +84,7 @@ pub record RollsSectionBack (state : ModelState) (event : Event) (cause : Cause)
   pub committed : (next state event).state.committed ≡ state.committed
   pub cache : cache_of (next state event).state event.hart.number ≡ caches.cleared (cache_of state event.hart.number)
   pub hart : hart_of (next state event).state event.hart.number
-      ≡ rolled_back cause (view_of state.committed event.hart.number).pc (record (hart_of state event.hart.number) { held = None })
+      ≡ rolled_back cause (view_of state.committed event.hart.number).pc (record (hart_of state event.hart.number) { held_line = None })
 
 -- in every state that can be reached, so does an event that comes out as rolled back
 abbrev pub OwnRollbacks : Type 0

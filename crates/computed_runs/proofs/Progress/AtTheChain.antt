@@ -66,7 +66,7 @@ none_raised : map (λ hart. is_some hart.raised) waiting.harts ≡ false ∷ fal
 unfolding computing
 none_raised = refl
 
-none_held : map (λ hart. is_some hart.held) waiting.harts ≡ false ∷ false ∷ false ∷ false ∷ []
+none_held : map (λ hart. is_some hart.held_line) waiting.harts ≡ false ∷ false ∷ false ∷ false ∷ []
 unfolding computing
 none_held = refl
 
@@ -81,7 +81,7 @@ four_harts = refl
 
 -- hart 0 from its first miss to its section: it has a raised request, then an ordered one, then a hold, then none of them
 abbrev waits_of : ModelState → Bool × ℕ × Bool
-waits_of state = (is_some (raised_of state 0), count_by (λ request. request.hart == 0) state.order, is_some (hart_of state 0).held)
+waits_of state = (is_some (raised_of state 0), count_by (λ request. request.hart == 0) state.order, is_some (hart_of state 0).held_line)
 
 raised_first : waits_of (state_after chain.first (event Step 0 ∷ [])) ≡ (true, 0, false)
 unfolding computing
@@ -218,7 +218,7 @@ stopped_raises_none : raised_of stopped 1 ≡ None
 unfolding computing
 stopped_raises_none = refl
 
-stopped_holds_none : (hart_of stopped 1).held ≡ None
+stopped_holds_none : (hart_of stopped 1).held_line ≡ None
 unfolding computing
 stopped_holds_none = refl
 

@@ -106,7 +106,7 @@ ran_is state h touch own hart has same =
     seen_hart : Hart
     seen_hart = record hart {
       last_lr = last_reserve state h hart.last_lr;
-      held = None;
+      held_line = None;
       cache = after_touch hart.cache touch;
       predictor = watched state h hart.predictor hart.predictor.watch;
     }
@@ -222,7 +222,7 @@ committed_is now own hart has idle unarmed = record {
 
 -- a section that its hart has rolled back, which gave up what it held
 pub rolled_back_is : (cause : Cause) (own : OwnState) (hart : Hart) → HasOwn own hart →
-    HasOwn (rolled_back_own cause own) (rolled_back cause (committed_pc own) (record hart { held = None }))
+    HasOwn (rolled_back_own cause own) (rolled_back cause (committed_pc own) (record hart { held_line = None }))
 rolled_back_is cause own hart has =
     record {
       section = refl;

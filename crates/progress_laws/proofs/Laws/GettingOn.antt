@@ -69,7 +69,7 @@ live_runs state h sound live =
     running_status (status_of state.committed h)
     (λ ended. true_false (sym live ∙ ap is_some ((sound h).stopped ended).no_section))
 
-pub held_runs : (state : ModelState) (h line : ℕ) → Sound state → (hart_of state h).held ≡ Some line → status_of state.committed h ≡ Running
+pub held_runs : (state : ModelState) (h line : ℕ) → Sound state → (hart_of state h).held_line ≡ Some line → status_of state.committed h ≡ Running
 held_runs state h line sound is =
     running_status (status_of state.committed h) (λ ended. some_none (sym is ∙ ((sound h).stopped ended).not_held))
 
@@ -122,21 +122,21 @@ mail_gets_on state h message others exists mail = record {
 }
 
 -- a hart that holds a line waits for nothing, and steps
-held_line : (held : Option ℕ) (line : ℕ) → is_held held line ≡ true → (l : ℕ) × (held ≡ Some l)
-held_line None line is = absurd (cc)
-held_line (Some l) line is = (l, refl)
+line_held : (held : Option ℕ) (line : ℕ) → is_held held line ≡ true → (l : ℕ) × (held ≡ Some l)
+line_held None line is = absurd (cc)
+line_held (Some l) line is = (l, refl)
 
-pub holds_only : (state : ModelState) (h line : ℕ) → Sound state → (hart_of state h).held ≡ Some line → has_request state h ≡ false
+pub holds_only : (state : ModelState) (h line : ℕ) → Sound state → (hart_of state h).held_line ≡ Some line → has_request state h ≡ false
 holds_only state h line sound is = only (sound h).only_holds
   where
-    only : ((hart_of state h).held ≡ None) ⊎ OnlyHolds (ordered_of state h) (hart_of state h).section (raised_of state h) → has_request state h ≡ false
+    only : ((hart_of state h).held_line ≡ None) ⊎ OnlyHolds (ordered_of state h) (hart_of state h).section (raised_of state h) → has_request state h ≡ false
     only (inl none) = some_none (sym is ∙ none)
     only (inr alone) = rw (alone.not_raised, alone.not_ordered) refl
 
 holder_gets_on : (state : ModelState) (h k line : ℕ) → Sound state → AsMany state → holder_of state h line ≡ Some k → GetsOn state
 holder_gets_on state h k line sound same is =
-    let test = first_passes (λ other. not (other == h) && is_held (hart_of state other).held line) (numbers_of state) k is in
-    let held = held_line (hart_of state k).held line (second_of_both _ _ test) in
+    let test = first_passes (λ other. not (other == h) && is_held (hart_of state other).held_line line) (numbers_of state) k is in
+    let held = line_held (hart_of state k).held_line line (second_of_both _ _ test) in
     free_gets_on state k same (held_runs state k held.0 sound held.1) (holds_only state k held.0 sound held.1)
 
 -- the head of a line that no section retains is served, unless a hart holds the line, which then steps

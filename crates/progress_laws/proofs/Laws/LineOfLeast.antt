@@ -81,12 +81,12 @@ module _ (state : ModelState) (h line : ℕ) (facts : Facts Everywhere state) (l
 
 -- each deed of a hart that steps ends its hold
 ran_held : (pc : Option ℕ) (watched : Bool) (candidate : Option Swap) (hart : Hart) →
-    (after_candidate pc watched candidate hart).held ≡ hart.held
+    (after_candidate pc watched candidate hart).held_line ≡ hart.held_line
 ran_held pc watched None hart = refl
 ran_held pc watched (Some swap) hart = refl
 
 deed_ends_hold : (state : ModelState) (h : ℕ) (deed : Deed) → DoesWhere state h deed → status_of state.committed h ≡ Running →
-    has_request state h ≡ false → (hart_after state h deed (hart_of state h)).held ≡ None
+    has_request state h ≡ false → (hart_after state h deed (hart_of state h)).held_line ≡ None
 deed_ends_hold state h Rests rests running free = absurd (rests running)
 deed_ends_hold state h Waits waits running free = true_false (sym waits.waits ∙ free)
 deed_ends_hold state h (Misses line need) does running free = refl
@@ -102,7 +102,7 @@ deed_ends_hold state h (Continues armed) does running free = refl
 deed_ends_hold state h (LetsGo armed) does running free = refl
 
 step_ends_hold : (state : ModelState) (line : ℕ) → Orderly state → (step : Event) → step.kind ≡ kinds.Step →
-    (hart_of state step.hart.number).held ≡ Some line → EndsHold state step
+    (hart_of state step.hart.number).held_line ≡ Some line → EndsHold state step
 unfolding next
 step_ends_hold state line orderly step kind held =
     let h = step.hart.number in
@@ -114,8 +114,8 @@ step_ends_hold state line orderly step kind held =
       progress =
           ap (λ turn. is_progress turn.outcome) turn_is ∙ deed_gets_on state h deed.deed deed.where_it running free;
       ended =
-          ap (λ turn. (hart_of turn.state h).held) turn_is
-          ∙ ap (λ hart. hart.held)
+          ap (λ turn. (hart_of turn.state h).held_line) turn_is
+          ∙ ap (λ hart. hart.held_line)
           (hart_of-with_hart_same state h (hart_after state h deed.deed (hart_of state h)) (runs_exists state h orderly.as_many running))
           ∙ deed_ends_hold state h deed.deed deed.where_it running free;
     }

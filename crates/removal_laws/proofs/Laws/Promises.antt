@@ -107,11 +107,11 @@ locked_by : (state : ModelState) (head : Request) (holder : Option ℕ) → Soun
     ServedOrLocked state head (blocks_if Locked holder Free)
 locked_by state head None sound is = inl refl
 locked_by state head (Some holder) sound is =
-    let test = first_passes (λ other. not (other == head.hart) && is_held (hart_of state other).held head.line) (numbers_of state) holder is in
-    let holds = held_is (hart_of state holder).held head.line (second_of_both (not (holder == head.hart)) _ test) in
+    let test = first_passes (λ other. not (other == head.hart) && is_held (hart_of state other).held_line head.line) (numbers_of state) holder is in
+    let holds = held_is (hart_of state holder).held_line head.line (second_of_both (not (holder == head.hart)) _ test) in
     inr (record { holder = holder; outcome_is = refl; holds = holds; outside = by holds (sound holder).only_holds })
   where
-    by : (hart_of state holder).held ≡ Some head.line → ((hart_of state holder).held ≡ None)
+    by : (hart_of state holder).held_line ≡ Some head.line → ((hart_of state holder).held_line ≡ None)
         ⊎ OnlyHolds (ordered_of state holder) (hart_of state holder).section (hart_of state holder).raised → section_of state holder ≡ None
     by holds (inl none) = some_none (sym holds ∙ none)
     by holds (inr only) = only.no_section

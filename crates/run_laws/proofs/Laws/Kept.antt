@@ -60,7 +60,7 @@ armed_outside : (state : ModelState) (h : ℕ) → Rested state → is_some (arm
 armed_outside state h rested armed = by (rested h)
   where
     by : (armed_of state h ≡ None) ⊎
-        RunsWithNothing (status_of state.committed h) (ordered_of state h) (section_of state h) (raised_of state h) (hart_of state h).held →
+        RunsWithNothing (status_of state.committed h) (ordered_of state h) (section_of state h) (raised_of state h) (hart_of state h).held_line →
         section_of state h ≡ None
     by (inl none) = not_both armed (ap is_some none)
     by (inr runs) = runs.nothing.no_section

@@ -164,8 +164,8 @@ served_unarmed state h request rested is =
     let own = hart_of_request_of state.order h request is in
     let mine : ordered_of state request.hart ≡ Some request = ap (ordered_of state) own ∙ is in
     claim_armed (is_some hart.section) request _
-    ∙ unarmed_ordered hart.armed status request hart.section hart.raised hart.held
-    (subst (λ ordered. (hart.armed ≡ None) ⊎ RunsWithNothing status ordered hart.section hart.raised hart.held) mine (rested request.hart))
+    ∙ unarmed_ordered hart.armed status request hart.section hart.raised hart.held_line
+    (subst (λ ordered. (hart.armed ≡ None) ⊎ RunsWithNothing status ordered hart.section hart.raised hart.held_line) mine (rested request.hart))
 
 started_unfreed : (state : ModelState) (by : ℕ) (start : Start) (head : Request) → Rested state → StartsWhere state by start →
     Each (Unfreed head) state → (h : ℕ) → Unfreed head h (started state by start h (hart_of state h))
@@ -463,8 +463,8 @@ armed_harts_wait_for_nothing program config events h armed is =
     state = after program config events
 
     by : (armed_of state h ≡ None) ⊎
-        RunsWithNothing (status_of state.committed h) (ordered_of state h) (hart_of state h).section (hart_of state h).raised (hart_of state h).held →
-        RunsWithNothing (status_of state.committed h) (ordered_of state h) (hart_of state h).section (hart_of state h).raised (hart_of state h).held
+        RunsWithNothing (status_of state.committed h) (ordered_of state h) (hart_of state h).section (hart_of state h).raised (hart_of state h).held_line →
+        RunsWithNothing (status_of state.committed h) (ordered_of state h) (hart_of state h).section (hart_of state h).raised (hart_of state h).held_line
     by (inl none) = some_none (sym is ∙ none)
     by (inr runs) = runs
 

@@ -42,14 +42,14 @@ use Rattle.section_laws.proofs.Laws.Statuses.{alone_status, flat_status, let_go_
 
 -- of each hart, with these statuses and these requests in order
 abbrev Waiting : (ℕ → HartStatus) → (ℕ → Option Request) → ℕ → Hart → Type 0
-Waiting status ordered h hart = WaitsForOne h (status h) (ordered h) hart.section hart.raised hart.held
+Waiting status ordered h hart = WaitsForOne h (status h) (ordered h) hart.section hart.raised hart.held_line
 
 abbrev pub Sound : ModelState → Type 0
 Sound state = Each (Waiting (status_of state.committed) (ordered_of state)) state
 
 -- and an armed one waits for nothing
 abbrev pub Resting : (ℕ → HartStatus) → (ℕ → Option Request) → ℕ → Hart → Type 0
-Resting status ordered h hart = (hart.armed ≡ None) ⊎ RunsWithNothing (status h) (ordered h) hart.section hart.raised hart.held
+Resting status ordered h hart = (hart.armed ≡ None) ⊎ RunsWithNothing (status h) (ordered h) hart.section hart.raised hart.held_line
 
 abbrev pub Rested : ModelState → Type 0
 Rested state = Each (Resting (status_of state.committed) (ordered_of state)) state
@@ -131,7 +131,7 @@ moves status ordered = record {
   told = λ h hart told now. now;
   preceded = λ h hart upstream now. now;
   saw = λ h hart seen later now. now;
-  lost = λ h hart now. (lost_waits h (status h) (ordered h) hart.section hart.raised hart.held now.0, inl refl);
+  lost = λ h hart now. (lost_waits h (status h) (ordered h) hart.section hart.raised hart.held_line now.0, inl refl);
   freed = λ h pc hart now. (now.0, inl refl);
   gave_up = λ h hart now. now;
   tried = λ h hart more now. now;
@@ -226,25 +226,25 @@ raised_standing state request ordered settled mine =
     let status = status_of state.committed in
     let hart = hart_of state request.hart in
     let waits =
-    subst (λ o. WaitsForOne request.hart (status request.hart) o hart.section (Some request) hart.held)
+    subst (λ o. WaitsForOne request.hart (status request.hart) o hart.section (Some request) hart.held_line)
     (free_of_order state request.hart request (sound_in state settled) mine)
-    (subst (λ r. WaitsForOne request.hart (status request.hart) (ordered_of state request.hart) hart.section r hart.held) mine
+    (subst (λ r. WaitsForOne request.hart (status request.hart) (ordered_of state request.hart) hart.section r hart.held_line) mine
     (settled request.hart).0) in (
-      placed_waits request.hart (status request.hart) ordered hart.section hart.held request waits,
+      placed_waits request.hart (status request.hart) ordered hart.section hart.held_line request waits,
       inl
-          (unarmed_raised hart.armed (status request.hart) (ordered_of state request.hart) hart.section request hart.held
+          (unarmed_raised hart.armed (status request.hart) (ordered_of state request.hart) hart.section request hart.held_line
           (subst
-          (λ r. (hart.armed ≡ None) ⊎ RunsWithNothing (status request.hart) (ordered_of state request.hart) hart.section r hart.held) mine
+          (λ r. (hart.armed ≡ None) ⊎ RunsWithNothing (status request.hart) (ordered_of state request.hart) hart.section r hart.held_line) mine
           (settled request.hart).1)),
     )
 
 -- a request is served
 served_waits : (state : ModelState) (request : Request) (hart : Hart) (live : Option Section) → hart.section ≡ live →
     (status : HartStatus) (ordered : Option Request) → ordered ≡ Some request →
-    WaitsForOne request.hart status ordered live hart.raised hart.held → (new : Hart) → new.section ≡ live → new.raised ≡ hart.raised →
-    new.held ≡ hart.held →
+    WaitsForOne request.hart status ordered live hart.raised hart.held_line → (new : Hart) → new.section ≡ live → new.raised ≡ hart.raised →
+    new.held_line ≡ hart.held_line →
     WaitsForOne request.hart status None (with_claim (is_some live) request new).section (with_claim (is_some live) request new).raised
-    (with_claim (is_some live) request new).held
+    (with_claim (is_some live) request new).held_line
 served_waits state request hart None is status ordered found now new section raised held = record {
   own = λ other asked. now.own other (sym raised ∙ asked);
   one_request = inr refl;
@@ -262,7 +262,7 @@ served_waits state request hart (Some live) is status ordered found now new sect
   stopped = λ ended. some_none (sym found ∙ (now.stopped ended).not_ordered);
 }
   where
-    bare : (hart.held ≡ None) ⊎ OnlyHolds ordered (Some live) hart.raised → hart.held ≡ None
+    bare : (hart.held_line ≡ None) ⊎ OnlyHolds ordered (Some live) hart.raised → hart.held_line ≡ None
     bare (inl none) = none
     bare (inr only) = some_none only.no_section
 
@@ -275,8 +275,8 @@ served_standing state request settled mine =
           refl refl refl,
       inl
           (claim_armed (is_some hart.section) request _
-          ∙ unarmed_ordered hart.armed (status request.hart) request hart.section hart.raised hart.held
-          (subst (λ o. (hart.armed ≡ None) ⊎ RunsWithNothing (status request.hart) o hart.section hart.raised hart.held) mine
+          ∙ unarmed_ordered hart.armed (status request.hart) request hart.section hart.raised hart.held_line
+          (subst (λ o. (hart.armed ≡ None) ⊎ RunsWithNothing (status request.hart) o hart.section hart.raised hart.held_line) mine
           (settled request.hart).1)),
     )
 
@@ -410,9 +410,9 @@ miss_waits state h line need hart running free =
     (λ request is. sym (ap (λ r. r.hart) (same_Some _ request is)))
 
 candidate_waits : (h : ℕ) (status : HartStatus) (ordered : Option Request) (pc : Option ℕ) (had_watch : Bool) (candidate : Option Swap) (hart : Hart) →
-    WaitsForOne h status ordered hart.section hart.raised hart.held →
+    WaitsForOne h status ordered hart.section hart.raised hart.held_line →
     WaitsForOne h status ordered (after_candidate pc had_watch candidate hart).section (after_candidate pc had_watch candidate hart).raised
-    (after_candidate pc had_watch candidate hart).held
+    (after_candidate pc had_watch candidate hart).held_line
 candidate_waits h status ordered pc had_watch None hart now = now
 candidate_waits h status ordered pc had_watch (Some swap) hart now = now
 
@@ -546,7 +546,7 @@ record IsFresh (hart : Hart) : Type 0 where
   no_section : hart.section ≡ None
   unarmed : hart.armed ≡ None
   not_raised : hart.raised ≡ None
-  not_held : hart.held ≡ None
+  not_held : hart.held_line ≡ None
 
 first_settled : (program : Program) (config : Config) → Settled (begin program config)
 unfolding begin

@@ -136,7 +136,7 @@ pub(super) fn give_up(rig: &mut Rig, hart: HartId)
 /// The same, of its agent.
 fn hold_nothing(agents: &mut Vec<Agent>, hart: HartId)
     ensures { agents.new.items ≡ with_agent agents.old.items hart.number
-        (record (agent_at agents.old.items hart.number) { held = None }) }
+        (record (agent_at agents.old.items hart.number) { held_line = None }) }
 {
     if let Some(agent) = agents.get_mut(usize::from(hart.number)) {
         agent.give_up();

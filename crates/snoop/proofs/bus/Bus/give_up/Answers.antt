@@ -10,5 +10,5 @@ returns-clause-ready c =
     let bus = bus_state c.args.self.now in
     let agent = agent_at bus.agents c.args.hart.number in
     rw c.give_up.ensures
-    (ready_agent bus c.args.hart.number (record agent { held = None }) c.requires.ready (λ request is. is)
+    (ready_agent bus c.args.hart.number (record agent { held_line = None }) c.requires.ready (λ request is. is)
     (c.requires.ready.few_armed c.args.hart.number))

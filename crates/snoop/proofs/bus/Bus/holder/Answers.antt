@@ -8,7 +8,7 @@ loop-number-preserved c = (
   omega (arith, c.loop-number.invariant.0),
   λ state shows.
       next_first
-      (λ other. not (other == c.args.request.hart.number) && is_held (hart_of state other).held
+      (λ other. not (other == c.args.request.hart.number) && is_held (hart_of state other).held_line
       c.args.request.line.number) state.harts c.loop-number.number _ _
       (omega (arith, c.loop-number-test.true)) (omega (arith, c.loop-number.invariant.0, shows.agent_each))
       (c.loop-number.invariant.1 state shows) (c.holding_or-found.ensures state shows),

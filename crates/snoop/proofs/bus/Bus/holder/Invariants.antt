@@ -11,7 +11,7 @@ invariant-loop-number l =
     (l.number ≤ length (bus_state l.self).agents)
     × ((state : ModelState) → Shows (bus_state l.self) state →
     option_map number_of l.found ≡ first_such
-    (λ other. not (other == l.request.hart.number) && is_held (hart_of state other).held l.request.line.number) (drop l.number (numbers_of state)))
+    (λ other. not (other == l.request.hart.number) && is_held (hart_of state other).held_line l.request.line.number) (drop l.number (numbers_of state)))
 
 abbrev pub decreases-loop-number : goal.decreases-loop-number
 decreases-loop-number l = l.number

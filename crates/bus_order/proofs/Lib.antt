@@ -1,4 +1,5 @@
 pub mod Laws
+mod Keeping
 mod OneEach
 mod Places
 mod Words

@@ -13,17 +13,22 @@ const PLACES: usize = 8;
 #[derive(Debug, Drop)]
 pub struct Order {
     requests: ArrayVec<Request, PLACES>,
+    /// The request of each hart, by its number, so that a hart's is found without a search.
+    of_harts: [Option<Request>; PLACES],
 }
 
 impl Model for Order {
     ghost use Rattle.std.specs.Prelude.{List, map};
+    ghost use Rattle.bus_order.specs.Kept.{KeepsEach};
     ghost use Rattle.bus_order.specs.Order as definition;
 
     ghost Value = { List definition.Request };
 
     ghost view = { λ order. map definition.numbered order.requests.items };
 
-    ghost invariant = { λ order. definition.IsOneEach (map definition.numbered order.requests.items) };
+    ghost invariant = { λ order.
+        definition.IsOneEach (map definition.numbered order.requests.items)
+        × KeepsEach (map definition.numbered order.requests.items) order.of_harts };
 }
 
 impl Order {
@@ -35,6 +40,7 @@ impl Order {
     {
         Order {
             requests: ArrayVec::new(),
+            of_harts: [None; PLACES],
         }
     }
 
@@ -44,6 +50,7 @@ impl Order {
         ensures { self.new ≡ definition.appended self.old (definition.numbered request) }
     {
         self.requests.push(request);
+        self.of_harts[usize::from(request.hart.number)] = Some(request);
     }
 
     /// Puts a request before the first of its line, or behind all others where its line has none. Its
@@ -55,6 +62,7 @@ impl Order {
         let behind_all = self.requests.len();
         let place = place_of_line(&self.requests, request.line).unwrap_or(behind_all);
         self.requests.insert(place, request);
+        self.of_harts[usize::from(request.hart.number)] = Some(request);
     }
 
     /// The first request of a line, or `None` where the line has none.
@@ -72,10 +80,11 @@ impl Order {
     }
 
     /// A hart's request, or `None` where it has none in the order.
+    #[inline(always)]
     pub fn of(&self, hart: HartId) -> Option<Request>
         ensures { option_map definition.numbered result ≡ definition.request_of self.now hart.number }
     {
-        request_of_hart(&self.requests, hart)
+        self.of_harts[usize::from(hart.number)]
     }
 
     /// All requests, first to last.
@@ -91,6 +100,7 @@ impl Order {
     {
         if let Some(place) = place_of_hart(&self.requests, hart) {
             self.requests.remove(place);
+            self.of_harts[usize::from(hart.number)] = None;
         }
     }
 }
@@ -112,15 +122,6 @@ fn last_in_line(requests: &[Request], line: LineAddr) -> Option<Request>
         .rev()
         .copied()
         .find(|request| request.line.number == line.number)
-}
-
-fn request_of_hart(requests: &[Request], hart: HartId) -> Option<Request>
-    ensures { result ≡ find (λ request. request.hart.number == hart.number) requests.now }
-{
-    requests
-        .iter()
-        .copied()
-        .find(|request| request.hart.number == hart.number)
 }
 
 fn place_of_line(requests: &[Request], line: LineAddr) -> Option<usize>

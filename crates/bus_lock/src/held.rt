@@ -103,7 +103,8 @@ impl<M: Chronicled + Drop> BusLock<M> {
         requires seat { seat.old.table_id ≡ lock_id self.now }
         requires turn { seat.old.me.0.turn ≡ true }
         requires found { found ≡ length seat.old.me.0.seen }
-        requires value { (home : Box M Global) × (value.now ≡ Some home) × (count ≡ length (M.entries home.value)) × GoesOn seat.old.me.0.seen (M.entries home.value) }
+        requires value { (home : Box M Global) × (value.now ≡ Some home) × (count ≡ length (M.entries home.value))
+            × GoesOn seat.old.me.0.seen (M.entries home.value) }
         ensures same { (seat.new.table_id ≡ seat.old.table_id) × (seat.new.me.1 ≡ seat.old.me.1) }
         ensures noted { (home : Box M Global) → value.now ≡ Some home → seat.new.me.0 ≡ noted_view seat.old.me.0 (M.entries home.value) }
     {
@@ -129,7 +130,9 @@ impl<M: Chronicled + Drop> BusLock<M> {
     /// Ends the turn: the slot goes back to the table, and the next ticket is served.
     fn open(&self, seat: &mut Seat<Option<Box<M>>, View>, ticket: u64)
         requires seat { seat.old.table_id ≡ lock_id self.now }
-        requires turn { (pass : Account) × (home : Box M Global) × (seat.old.me ≡ (in_turn pass (ticket + 1), (0, Some home) ∷ [])) × (M.opening home.value ≡ pass.opening) × (M.entries home.value ≡ pass.seen) }
+        requires turn { (pass : Account) × (home : Box M Global)
+            × (seat.old.me ≡ (in_turn pass (ticket + 1), (0, Some home) ∷ []))
+            × (M.opening home.value ≡ pass.opening) × (M.entries home.value ≡ pass.seen) }
         requires not_the_last { ticket + 1 < 2 ^ 64 }
         ensures same { seat.new.table_id ≡ seat.old.table_id }
         ensures rests { seat.new.me ≡ (record seat.old.me.0 { ticket = 0; turn = false }, []) }

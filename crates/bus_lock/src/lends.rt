@@ -12,7 +12,8 @@ impl<'a, M: Chronicled + Drop> Held<'a, M> {
     /// The value, to be changed. When it is given back, its history is the one found, with one more
     /// entry at most.
     pub fn change(&mut self) -> &mut M
-        ensures* writes_back { sem 𝓛 (Lends (the_row (record { mir = named 1; lft = [] }) M.row M.Chronicled) M.row self.entry result (λ w. record self.old { value = w })) }
+        ensures* writes_back { sem 𝓛 (Lends (the_row (record { mir = named 1; lft = [] }) M.row M.Chronicled) M.row
+            self.entry result (λ w. record self.old { value = w })) }
         ensures value { result.now ≡ self.old.value }
     {
         &mut self.value

@@ -1,8 +1,8 @@
 //! Drivers: which events a machine is made to do, and in which order.
 //!
 //! They stand on `machine`. `round_robin` runs a machine to its end, or to its last step. `follow` makes
-//! the events that it is given, and `follow_recorded` also says where an outcome is not the recorded one. Each makes exactly the events that its contract names, and takes no
-//! memory.
+//! the events that it is given, and `follow_recorded` also says where an outcome is not the recorded one.
+//! Each makes exactly the events that its contract names, and takes no memory.
 //!
 //! Where a doc comment names no other source, its rule is this project's profile.
 #![tactic(auto)]

@@ -147,7 +147,8 @@ told_same pool bus h cache bytes tells inside keeps =
     (keeps.copies pool)
 
 -- the copies are as they were
-pub told_copies : (pool : Pooled) (old new : BusState) (bytes : ℕ → List ℕ) → new.copies ≡ old.copies → Tells pool old bytes → Tells pool new bytes
+pub told_copies : (pool : Pooled) (old new : BusState) (bytes : ℕ → List ℕ) → new.copies ≡ old.copies →
+    Tells pool old bytes → Tells pool new bytes
 told_copies pool old new bytes same tells = subst (λ copies. TellsIn pool copies bytes) (sym same) tells
 
 -- caches and main memory tell the bytes of memory, and the pool lends a hart's cache

@@ -67,8 +67,8 @@ own_set (Some store) harts h own none free =
     ∙ ap (slice_set (map (unreserved_own (line_number store.address)) harts) h) (nothing_lost (line_number store.address) own none free)
 
 -- others' reservations end after the hart has its new view, as before it
-pub harts_after : (action : Action) (view : HartView) (byte : ℕ → ℕ) (harts : List OwnState) (h : ℕ) (own : OwnState) → own.section.marks.mark ≡ None →
-    own.section.marks.present ≡ view_after (perform action view byte) view →
+pub harts_after : (action : Action) (view : HartView) (byte : ℕ → ℕ) (harts : List OwnState) (h : ℕ) (own : OwnState) →
+    own.section.marks.mark ≡ None → own.section.marks.present ≡ view_after (perform action view byte) view →
     unreserved_on (written_line (footprint action)) (slice_set harts h own)
     ≡ slice_set (unreserved_on (written_line (footprint action)) harts) h own
 harts_after action view byte harts h own none is =

@@ -76,7 +76,8 @@ stands_still (Some section) None hold old new marks stands = record {
 stands_still (Some section) (Some reserved) hold old new marks stands = absurd stands
 
 -- what a hart keeps is that of its part of the definition's hart, but that its committed view may have changed
-has_still : (old own : OwnState) (before after : Hart) (view : HartView) → after ≡ before → IsSeenAs old own view → HasOwn old before → HasOwn own after
+has_still : (old own : OwnState) (before after : Hart) (view : HartView) → after ≡ before →
+    IsSeenAs old own view → HasOwn old before → HasOwn own after
 has_still old own before after view same seen has = subst (HasOwn own) (sym same) (subst (λ o. HasOwn o before) (sym seen.rest) (record {
   section = has.section;
   armed = has.armed;

@@ -35,16 +35,16 @@ told_left story event outcome leaves =
     ap (λ (o : Outcome). record story { entries = story.entries ++ record { event = event; outcome = o } ∷ [] })
     (ap (λ (turn : Turn). turn.outcome) (sym leaves.turn))
 
--- each of some events leaves the state
-abbrev LeaveIt : ModelState → List Event → Type 0
-LeaveIt state [] = Unit {0}
-LeaveIt state (event ∷ events) = ((next state event).state ≡ state) × LeaveIt state events
+-- a state that each of some events leaves as it is
+abbrev IsLeftByEach : ModelState → List Event → Type 0
+IsLeftByEach state [] = Unit {0}
+IsLeftByEach state (event ∷ events) = ((next state event).state ≡ state) × IsLeftByEach state events
 
 left_by : (state : ModelState) (event : Event) (outcome : Outcome) → Leaves state event outcome → (next state event).state ≡ state
 left_by state event outcome leaves = ap (λ (turn : Turn). turn.state) leaves.turn
 
 -- so do the first ones of them
-after_all : (state : ModelState) (events : List Event) (made : ℕ) → LeaveIt state events →
+after_all : (state : ModelState) (events : List Event) (made : ℕ) → IsLeftByEach state events →
     state_after state (take made events) ≡ state
 after_all state events zero all = refl
 after_all state [] (suc made) all = refl

@@ -5,7 +5,7 @@
 //! made so far with their outcomes. Whatever the events, each outcome is the one that the definition gives, and
 //! registers, memory and output are those of one run of the program on plain shared memory, in the serial order
 //! that the history shows. `make` takes all memory of a run: main memory and the image that it was copied from, the
-//! caches, 16 bytes for each step, and room for the output. No other call takes memory, and no event is refused.
+//! caches, the rows of the history, and room for the output. No other call takes memory, and no event is refused.
 //!
 //! Where a doc comment names no other source, its rule is this project's profile.
 #![tactic(auto)]

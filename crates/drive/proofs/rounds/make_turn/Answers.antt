@@ -14,7 +14,8 @@ returns-then-wait-clause-goes_on c before turns round own made =
 pub returns-then-not-make-clause-ended : goal.returns-then-not-make-clause-ended
 returns-then-not-make-clause-ended c before turns round own none =
     let Before : Story → Type 0 = λ now. GoesRound before now (4 * turns) in
-    at_its_end _ _ _ _ (subst Before (sym (c.wait.ensures.left c.if-wait.false)) round) (c.make.ensures.ended c.if-not-make.true) (c.make.ensures.left c.if-not-make.true)
+    at_its_end _ _ _ _ (subst Before (sym (c.wait.ensures.left c.if-wait.false)) round)
+    (c.make.ensures.ended c.if-not-make.true) (c.make.ensures.left c.if-not-make.true)
 
 pub returns-then-rest-clause-goes_on : goal.returns-then-rest-clause-goes_on
 returns-then-rest-clause-goes_on c before turns round own made =

@@ -16,7 +16,8 @@ returns-clause-shows c = λ state shows.
 
 pub returns-clause-memory : goal.returns-clause-memory
 returns-clause-memory c =
-    serve_lines (bus_state c.args.self.now) (bus_state c.serve_parts.new.self) (numbered c.args.request) c.args.pool.now c.serve_parts.new.pool c.serve_parts.ensures
+    serve_lines (bus_state c.args.self.now) (bus_state c.serve_parts.new.self) (numbered c.args.request)
+    c.args.pool.now c.serve_parts.new.pool c.serve_parts.ensures
 
 pub returns-clause-told : goal.returns-clause-told
 returns-clause-told c =

@@ -19,7 +19,8 @@ forward-requires-clause-hart_exists c = c.hear_of-losers.ensures.hart_exists
 
 pub returns-clause-ready : goal.returns-clause-ready
 returns-clause-ready c =
-    forward_ready (bus_state c.hear_of-losers.new.self) (bus_state c.forward.new.self) c.args.hart.number c.args.origin.number (option_map numbered c.of-request.result)
+    forward_ready (bus_state c.hear_of-losers.new.self) (bus_state c.forward.new.self) c.args.hart.number c.args.origin.number
+    (option_map numbered c.of-request.result)
     c.hear_of-losers.ensures.ready c.forward.ensures
 
 pub returns-clause-shows : goal.returns-clause-shows

@@ -113,6 +113,7 @@ fn make_on_bus(machine: &mut Machine, hart: HartId) -> bool
 }
 
 /// Makes an event, unless every hart has stopped or no step is left. It answers whether it made it.
+#[inline(always)]
 fn make(machine: &mut Machine, kind: Kind, hart: HartId) -> bool
     requires hart_exists { hart.number < machine.old.config.harts }
     ensures runs { result ≡ true → is_over (state_of machine.old) ≡ false }

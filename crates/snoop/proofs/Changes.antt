@@ -60,6 +60,22 @@ no_hart_changed becomes clears bus = record {
   other_caches = λ h from. record { ways = refl; residency = refl };
 }
 
+-- where each is to stay as it is, nothing has changed
+pub nobody_changed : (becomes : ℕ → Agent → Agent) (clears : ℕ → Bool) (number : ℕ) (bus : BusState) →
+    ((h : ℕ) → becomes h (agent_at bus.agents h) ≡ agent_at bus.agents h) → ((h : ℕ) → clears h ≡ false) →
+    AreHartsChanged becomes clears number bus bus
+nobody_changed becomes clears number bus same none = record {
+  mode = refl;
+  order = refl;
+  count = refl;
+  lines = refl;
+  stays = stays_same bus.copies bus.copies refl;
+  agents = λ h below. sym (same h);
+  caches = λ h below. rw (none h) (record { ways = refl; residency = refl });
+  other_agents = λ h from. refl;
+  other_caches = λ h from. record { ways = refl; residency = refl };
+}
+
 pub one_hart_changed : (becomes : ℕ → Agent → Agent) (clears : ℕ → Bool) (h : ℕ) (old mid new : BusState) →
     AreHartsChanged becomes clears h old mid →
     IsHartChanged (becomes h) (clears h) h mid new → h < length mid.agents → AreHartsChanged becomes clears (h + 1) old new

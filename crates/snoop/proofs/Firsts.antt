@@ -1,11 +1,14 @@
--- the first of all harts of which a test holds, from the last one down
-use Rattle.std.proofs.Common.{◌≡◌, ◌∙◌, ℕ, zero, suc, ◌+◌, ◌-◌, ◌<◌, ◌≤◌, Bool, List, [], ◌∷◌, drop, length, Option, Some, None}
+-- the first of all harts of which a test holds
+use Rattle.std.proofs.Common.{◌≡◌, ◌∙◌, ℕ, zero, suc, ◌+◌, ◌-◌, ◌<◌, ◌≤◌, Bool, true, false, List, [], ◌∷◌, drop, length, Option, Some, None}
 use Rattle.std.proofs.Common.{refl, ap, sym, arith, if◌then◌else◌}
-use Rattle.bus_order.specs.Order.{first_of}
-use Rattle.el_model.specs.Conflicts.{conflicts_with, first_such, retainer_of, retains}
+use Rattle.bus_order.specs.Order.{Request}
+use Rattle.el_base.specs.declared.config.Mode.TheVariants.{Plain}
+use Rattle.el_model.specs.Conflicts.{conflicts, first_such}
 use Rattle.el_model.specs.State.{Hart, ModelState, count_up, hart_of, numbers_of}
 use Rattle.el_model.proofs.Laws.Conflicts.{none_first}
-use Rattle.snoop.specs.Shows.{BusState, Shows}
+use Rattle.snoop.proofs.Facing.{plain_unmet}
+use Rattle.snoop.specs.Obstacles.{first_conflict_of}
+use Rattle.snoop.specs.Shows.{IsReady, BusState, Shows}
 
 -- of the harts past the last one there is none
 pub drop_all : (from n : ℕ) (harts : List Hart) → length harts ≤ n → drop n (count_up from harts) ≡ []
@@ -30,16 +33,21 @@ one_earlier test harts n later next below =
     ap (first_such test) (drop_one 0 n n harts (omega (arith, next, below)) (omega arith))
     ∙ ap (λ k. if test n then Some n else first_such test (drop k (count_up 0 harts))) (let e : suc n ≡ later = omega (arith, next) in e)
 
--- the same where the later ones have been looked at
-pub next_first : (test : ℕ → Bool) (harts : List Hart) (n : ℕ) (found later : Option ℕ) → 1 ≤ n → n ≤ length harts →
-    later ≡ first_such test (drop n (count_up 0 harts)) → found ≡ (if test (n - 1) then Some (n - 1) else later) →
-    found ≡ first_such test (drop (n - 1) (count_up 0 harts))
-next_first test harts n found later some below was is =
-    is ∙ ap (λ other. if test (n - 1) then Some (n - 1) else other) was
-    ∙ sym (one_earlier test harts (n - 1) n (omega (arith, some)) below)
+-- where none below a number passed the test, the first of all is this one, if it passes, and else none below the next one has passed
+module _ (test : ℕ → Bool) (harts : List Hart) (n : ℕ) (inside : n < length harts)
+    (none_below : first_such test (count_up 0 harts) ≡ first_such test (drop n (count_up 0 harts))) where
+  by_test : first_such test (count_up 0 harts) ≡ (if test n then Some n else first_such test (drop (n + 1) (count_up 0 harts)))
+  by_test = none_below ∙ one_earlier test harts n (n + 1) refl (omega (arith, inside))
 
--- a line without requests is retained by nobody
-pub nobody_retains : (bus : BusState) (state : ModelState) (line : ℕ) → Shows bus state → first_of bus.order line ≡ None → retainer_of state line ≡ None
-nobody_retains bus state line shows none =
-    none_first (λ h. retains state h line) (numbers_of state)
-    (λ h. ap (λ head. conflicts_with head h (hart_of state h)) (ap (λ order. first_of order line) (sym shows.order) ∙ none))
+  pub first_here : test n ≡ true → first_such test (count_up 0 harts) ≡ Some n
+  first_here passes = by_test ∙ ap (λ t. if t then Some n else first_such test (drop (n + 1) (count_up 0 harts))) passes
+
+  pub first_later : test n ≡ false → first_such test (count_up 0 harts) ≡ first_such test (drop (n + 1) (count_up 0 harts))
+  first_later fails = by_test ∙ ap (λ t. if t then Some n else first_such test (drop (n + 1) (count_up 0 harts))) fails
+
+-- in the plain mode nobody's section conflicts with a request
+pub plain_first : (bus : BusState) (state : ModelState) (request : Request) → IsReady bus → Shows bus state → bus.mode ≡ Plain →
+    first_conflict_of state request ≡ None
+plain_first bus state request ready shows plain =
+    none_first (λ h. conflicts request h (hart_of state h)) (numbers_of state)
+    (λ h. plain_unmet bus state request h ready shows plain)

@@ -2,3 +2,4 @@
 pub mod Living
 pub mod Returning
 pub mod Conflicts
+pub mod Blocking

@@ -17,6 +17,7 @@ mod ServedMarks
 mod Serves
 mod Sent
 mod Faced
+mod Unmet
 mod Placing
 mod AtFirst
 mod Raising

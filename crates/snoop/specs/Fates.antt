@@ -1,5 +1,6 @@
 -- the fates of sections as the code has them
-use Rattle.std.specs.Prelude.{ℕ, suc, Bool, ◌&&◌, List, [], ◌∷◌, Option, None, Some, option_map, slice_index_or, if◌then◌else◌}
+use Rattle.std.specs.Prelude.{ℕ, suc, Bool, true, false, ◌&&◌, List, [], ◌∷◌, Option, None, Some, option_map, slice_index_or, if◌then◌else◌}
+use Rattle.std.specs.List.{list_all}
 use Rattle.bus_order.specs.Order.{Request, request_of}
 use Rattle.defer_list.specs.HartSet.{has}
 use Rattle.el_base.specs.declared.hart_id.HartId.{HartId}
@@ -20,6 +21,15 @@ numbered_fate (declared.LosesTo winner) = LosesTo winner.number
 -- the fate of a hart, of a list of their fates; past the last one, a hart meets nothing
 abbrev pub fate_in : List fates.Fate → ℕ → Fate
 fate_in fates h = numbered_fate (slice_index_or fates h declared.Unmet)
+
+-- whether a fate is to meet nothing, and whether each of these is
+abbrev pub is_unmet : fates.Fate → Bool
+is_unmet declared.Unmet = true
+is_unmet declared.Stays = false
+is_unmet (declared.LosesTo winner) = false
+
+abbrev pub nobody_met : List fates.Fate → Bool
+nobody_met fates = list_all is_unmet fates
 
 -- the number of a hart that may be there
 abbrev pub number_of : Option HartId → Option ℕ

@@ -13,7 +13,7 @@ ghost use Rattle.snoop.specs.Settled.{sent_in};
 ghost use Rattle.snoop.specs.Shows.{IsReady, Shows, StaysTold, bus_state};
 
 use crate::bus::Bus;
-use crate::fates::Fate;
+use crate::fates::{Fate, nobody_met};
 use crate::settling::{losers_by, send_markers};
 use bus_order::Request;
 use el_base::{Freed, HartId, Losers, Mode};
@@ -75,10 +75,7 @@ impl Bus {
         }
     }
 
-    /// The head of a line faces the sections that conflict with it: each loses to it where the head wins. Else in
-    /// lock removal it loses to the earliest of the origins that its hart was told of, that are ordered on the line
-    /// and that are before it; and where there is none such, it stays, and sends the head's hart a marker. Who wins
-    /// is settled by what stands before any section is lost.
+    /// The head of a line faces the sections that conflict with it, of which there are none in the plain mode.
     fn face<P: Policy>(&mut self, head: Request, policy: &P) -> Losers
         requires ready { IsReady (bus_state self.old) }
         requires policy { DecidesIn (bus_state self.old).mode (P.beats policy.now) }
@@ -90,7 +87,32 @@ impl Bus {
         ensures memory_stays { (bus_state self.new).copies.lines ≡ (bus_state self.old).copies.lines }
         ensures told { StaysTold (bus_state self.old) (bus_state self.new) }
     {
+        match self.mode {
+            Mode::Plain => Losers::none(),
+            Mode::Sle | Mode::Tlr => self.face_live(head, policy),
+        }
+    }
+
+    /// The head of a line faces the sections that conflict with it: each loses to it where the head wins. Else in
+    /// lock removal it loses to the earliest of the origins that its hart was told of, that are ordered on the line
+    /// and that are before it; and where there is none such, it stays, and sends the head's hart a marker. Who wins
+    /// is settled by what stands before any section is lost. Where the head meets
+    /// none, nothing changes.
+    fn face_live<P: Policy>(&mut self, head: Request, policy: &P) -> Losers
+        requires ready { IsReady (bus_state self.old) }
+        requires policy { DecidesIn (bus_state self.old).mode (P.beats policy.now) }
+        ensures ready { IsReady (bus_state self.new) }
+        ensures shows { (state : ModelState) → Shows (bus_state self.old) state →
+            Shows (bus_state self.new) (faced state (numbered head)) }
+        ensures losers { (state : ModelState) → Shows (bus_state self.old) state →
+            result ≡ face_losers state (numbered head) }
+        ensures memory_stays { (bus_state self.new).copies.lines ≡ (bus_state self.old).copies.lines }
+        ensures told { StaysTold (bus_state self.old) (bus_state self.new) }
+    {
         let fates = self.fates(head, policy);
+        if nobody_met(&fates) {
+            return Losers::none();
+        }
         self.settle_all(head, &fates);
         self.answer_head(head.hart, &fates);
         losers_by(&fates)

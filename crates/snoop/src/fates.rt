@@ -7,7 +7,7 @@ ghost use Rattle.el_model.specs.Face.{deferring_fate, fate_at, told_fate};
 ghost use Rattle.el_model.specs.State.{ModelState, hart_of};
 ghost use Rattle.snoop.specs.Agent.{agent_at};
 ghost use Rattle.snoop.specs.Deciding.{DecidesIn};
-ghost use Rattle.snoop.specs.Fates.{earlier_told, fate_in, number_of, numbered_fate, stamp_on};
+ghost use Rattle.snoop.specs.Fates.{earlier_told, fate_in, nobody_met, number_of, numbered_fate, stamp_on};
 ghost use Rattle.snoop.specs.Shows.{IsReady, Shows, bus_state};
 ghost use Rattle.stamp.specs.Stamps as stamps;
 ghost use Rattle.std.specs.Option.{option_map};
@@ -35,6 +35,13 @@ impl Default for Fate {
     fn default() -> Fate {
         Fate::Unmet
     }
+}
+
+/// Whether the head meets no section.
+pub fn nobody_met(fates: &[Fate]) -> bool
+    ensures { result ≡ nobody_met fates.now }
+{
+    fates.iter().all(|fate| matches!(fate, Fate::Unmet))
 }
 
 /// In lock removal a section that does not lose to the head may lose to an origin.

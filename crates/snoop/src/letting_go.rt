@@ -61,6 +61,9 @@ impl Bus {
         requires ready { IsReady (bus_state self.now) }
         ensures { (h : ℕ) → count_in result h ≡ freed_at (bus_state self.now) (numbered head) h }
     {
+        if !writes(head.need) {
+            return Freed::none();
+        }
         let mut freed = Freed::none();
         for number in 0..self.agents.len() {
             let hart = HartId::at(number);
@@ -86,6 +89,9 @@ impl Bus {
         requires ready { IsReady (bus_state self.old) }
         ensures { AreLetGo freed (length (bus_state self.old).agents) (bus_state self.old) (bus_state self.new) }
     {
+        if freed == Freed::none() {
+            return;
+        }
         for number in 0..self.agents.len() {
             let hart = HartId::at(number);
             self.let_one_go(hart, freed.count_of(hart) != 0);

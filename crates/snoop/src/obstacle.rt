@@ -1,17 +1,17 @@
 //! What is in the way of a request.
 
-ghost use Rattle.std.specs.Prelude.{◌≡◌, ◌<◌, ◌≤◌, ◌==◌, ◌&&◌, not, length, if◌then◌else◌, Some};
+ghost use Rattle.std.specs.Prelude.{◌≡◌, ◌<◌, ◌==◌, ◌&&◌, not, length, IfSome, Some, true};
 ghost use Rattle.std.specs.Option.{option_map};
 ghost use Rattle.bus_order.specs.Order.{numbered};
 ghost use Rattle.el_model.specs.Conflicts as model;
 ghost use Rattle.el_model.specs.Serve as serving;
-ghost use Rattle.el_model.specs.State.{ModelState, hart_of, head_of, is_held, numbers_of};
-ghost use Rattle.snoop.specs.Obstacles.{blocked_by, first_conflict_of, numbered_obstacle, number_of};
+ghost use Rattle.el_model.specs.State.{ModelState, hart_of, is_held};
+ghost use Rattle.snoop.specs.Obstacles.{blocked_by, first_conflict_of, held_by, is_blocked, numbered_obstacle, number_of, obstacle_by};
 ghost use Rattle.snoop.specs.Shows.{IsReady, Shows, bus_state};
 
 use crate::bus::Bus;
 use bus_order::Request;
-use el_base::{HartId, LineAddr, Outcome, Why};
+use el_base::{HartId, Mode, Outcome, Why};
 
 /// What is in the way of a request: nothing, or a hart.
 #[derive(Clone, Copy)]
@@ -24,8 +24,9 @@ impl Bus {
     /// What a serve of an ordered request comes to where something is in its way, and `None` where nothing is.
     pub fn blocked(&self, request: Request) -> Option<Outcome>
         requires ready { IsReady (bus_state self.now) }
-        ensures { (state : ModelState) → Shows (bus_state self.now) state →
+        ensures exact { (state : ModelState) → Shows (bus_state self.now) state →
             result ≡ blocked_by (serving.obstacle_to state (numbered request)) }
+        ensures is_blocked { IfSome result (λ outcome. is_blocked outcome ≡ true) }
     {
         match self.obstacle_to(request) {
             Obstacle::Free => None,
@@ -40,18 +41,39 @@ impl Bus {
         ensures { (state : ModelState) → Shows (bus_state self.now) state →
             numbered_obstacle result ≡ serving.obstacle_to state (numbered request) }
     {
-        if let Some(by) = self.other_head(request) {
+        match self.order.first_of(request.line) {
+            Some(head) => self.obstacle_by(head, request),
+            None => self.other_holder(request),
+        }
+    }
+
+    /// The same, by the head of the line.
+    fn obstacle_by(&self, head: Request, request: Request) -> Obstacle
+        requires ready { IsReady (bus_state self.now) }
+        ensures { (state : ModelState) → Shows (bus_state self.now) state →
+            numbered_obstacle result ≡ obstacle_by state (numbered request) (Some (numbered head)) }
+    {
+        if head.hart != request.hart {
             return Obstacle::Blocks {
                 why: Why::Behind,
-                by,
+                by: head.hart,
             };
         }
-        if let Some(by) = self.retainer(request.line) {
-            return Obstacle::Blocks {
+        match self.retainer(head) {
+            Some(by) => Obstacle::Blocks {
                 why: Why::Retained,
                 by,
-            };
+            },
+            None => self.other_holder(request),
         }
+    }
+
+    /// Another hart that holds the line of a request, where there is one.
+    fn other_holder(&self, request: Request) -> Obstacle
+        requires ready { IsReady (bus_state self.now) }
+        ensures { (state : ModelState) → Shows (bus_state self.now) state →
+            numbered_obstacle result ≡ held_by state (numbered request) }
+    {
         match self.holder(request) {
             Some(by) => Obstacle::Blocks {
                 why: Why::Locked,
@@ -61,29 +83,16 @@ impl Bus {
         }
     }
 
-    /// The hart of another request that is the head of the line.
-    fn other_head(&self, request: Request) -> Option<HartId>
-        ensures { (state : ModelState) → Shows (bus_state self.now) state →
-            option_map number_of result ≡ serving.other_head request.hart.number (head_of state request.line.number) }
-    {
-        let head = self.order.first_of(request.line)?;
-        if head.hart == request.hart {
-            None
-        } else {
-            Some(head.hart)
-        }
-    }
-
-    /// The least hart whose section conflicts with the head of a line, and so retains the line.
-    #[tactic(auto, using(crate::proofs::Firsts::nobody_retains))]
-    fn retainer(&self, line: LineAddr) -> Option<HartId>
+    /// The least hart whose section conflicts with the head of a line, and so retains the line. In the plain mode there
+    /// are no sections.
+    fn retainer(&self, head: Request) -> Option<HartId>
         requires ready { IsReady (bus_state self.now) }
         ensures { (state : ModelState) → Shows (bus_state self.now) state →
-            option_map number_of result ≡ model.retainer_of state line.number }
+            option_map number_of result ≡ first_conflict_of state (numbered head) }
     {
-        match self.order.first_of(line) {
-            Some(head) => self.first_conflict(head),
-            None => None,
+        match self.mode {
+            Mode::Plain => None,
+            Mode::Sle | Mode::Tlr => self.first_conflict(head),
         }
     }
 
@@ -94,40 +103,13 @@ impl Bus {
         ensures { (state : ModelState) → Shows (bus_state self.now) state →
             option_map number_of result ≡ first_conflict_of state (numbered request) }
     {
-        let mut found = None;
-        let mut number = self.agents.len();
-        while number > 0 {
-            number -= 1;
-            found = self.conflicting_or(
-                request,
-                HartId {
-                    number: number as u8,
-                },
-                found,
-            );
+        for number in 0..self.agents.len() {
+            let hart = HartId::at(number);
+            if self.conflicts(request, hart) {
+                return Some(hart);
+            }
         }
-        found
-    }
-
-    /// This hart where its section conflicts with a request, and else the other one.
-    fn conflicting_or(
-        &self,
-        request: Request,
-        hart: HartId,
-        other: Option<HartId>,
-    ) -> Option<HartId>
-        requires hart_exists { hart.number < length (bus_state self.now).agents }
-        requires ready { IsReady (bus_state self.now) }
-        ensures { (state : ModelState) → Shows (bus_state self.now) state →
-            option_map number_of result
-            ≡ (if model.conflicts (numbered request) hart.number (hart_of state hart.number) then Some hart.number
-            else option_map number_of other) }
-    {
-        if self.conflicts(request, hart) {
-            Some(hart)
-        } else {
-            other
-        }
+        None
     }
 
     /// The least other hart that holds the line of a request.
@@ -137,34 +119,22 @@ impl Bus {
         ensures { (state : ModelState) → Shows (bus_state self.now) state →
             option_map number_of result ≡ model.holder_of state request.hart.number request.line.number }
     {
-        let mut found = None;
-        let mut number = self.agents.len();
-        while number > 0 {
-            number -= 1;
-            found = self.holding_or(
-                request,
-                HartId {
-                    number: number as u8,
-                },
-                found,
-            );
+        for number in 0..self.agents.len() {
+            let hart = HartId::at(number);
+            if self.is_other_holder(request, hart) {
+                return Some(hart);
+            }
         }
-        found
+        None
     }
 
-    /// This hart where it is another than that of a request and holds its line, and else the other one.
-    fn holding_or(&self, request: Request, hart: HartId, other: Option<HartId>) -> Option<HartId>
+    /// Whether a hart is another than that of a request, and holds its line.
+    fn is_other_holder(&self, request: Request, hart: HartId) -> bool
         requires { hart.number < length (bus_state self.now).agents }
-        ensures { (state : ModelState) → Shows (bus_state self.now) state →
-            option_map number_of result
-            ≡ (if not (hart.number == request.hart.number)
-            && is_held (hart_of state hart.number).held_line request.line.number
-            then Some hart.number else option_map number_of other) }
+        ensures { (state : ModelState) → Shows (bus_state self.now) state → result
+            ≡ (not (hart.number == request.hart.number)
+            && is_held (hart_of state hart.number).held_line request.line.number) }
     {
-        if hart != request.hart && self.agents[usize::from(hart.number)].holds(request.line) {
-            Some(hart)
-        } else {
-            other
-        }
+        hart != request.hart && self.agents[usize::from(hart.number)].holds(request.line)
     }
 }

@@ -18,7 +18,6 @@ ghost use Rattle.snoop.specs.Shows.{IsReady, IsTold, Shows, StaysTold, Tells, bu
 use crate::agents::{claim, forget};
 use crate::bus::Bus;
 use crate::face::Met;
-use crate::obstacle::Obstacle;
 use bus_order::Request;
 use coherence::Hierarchy;
 use el_base::{HartId, LineAddr, Outcome};
@@ -76,12 +75,12 @@ impl Bus {
             ≡ (serving.serve_past state (numbered request) (serving.obstacle_to state (numbered request))).outcome }
         ensures memory { (bus_state self.new).copies.lines ≡ lines_served pool.old (bus_state self.old) request.hart.number result }
     {
-        match self.obstacle_to(request) {
-            Obstacle::Free => {
+        match self.blocked(request) {
+            Some(outcome) => outcome,
+            None => {
                 let Met { losers, freed } = self.serve_free(pool, request, policy);
                 Outcome::Served { losers, freed }
             }
-            Obstacle::Blocks { why, by } => Outcome::Blocked { why, by },
         }
     }
 

@@ -11,7 +11,7 @@ use Rattle.el_base.specs.declared.hart_id.HartId.{HartId}
 use Rattle.el_base.specs.declared.outcomes.Outcome.{Outcome}
 use Rattle.el_base.specs.declared.outcomes.Outcome.TheVariants.{Blocked, Idle, Stalled}
 use Rattle.el_model.specs.Next.{has_stopped, is_over, kind_turn, next, stalled, step_turn}
-use Rattle.el_model.specs.Serve.{Blocks, Free, Obstacle, obstacle_to, serve_ordered, serve_past, serve_turn}
+use Rattle.el_model.specs.Serve.{Blocks, Free, Obstacle, obstacle_to, serve_ordered, serve_turn}
 use Rattle.el_model.specs.State.{ModelState, Turn, has_request, ordered_of, raised_of}
 use Rattle.engine.proofs.Laws.NothingFound.{resting_lines, rests}
 use Rattle.engine.proofs.Steps.{stalled_turn}
@@ -21,6 +21,7 @@ use Rattle.rv_alu.specs.declared.view.HartStatus.{HartStatus}
 use Rattle.rv_alu.specs.declared.view.HartStatus.TheVariants.{Exited, Running, Trapped}
 use Rattle.rv_flat.specs.FlatState.{status_of}
 use Rattle.snoop.specs.Obstacles.{blocked_by}
+use Rattle.snoop.proofs.Laws.Blocking.{past_blocked}
 
 -- how a hart stands that waits
 pub record Waits (state : ModelState) (h : ℕ) (blocked : Outcome) : Type 0 where
@@ -88,12 +89,6 @@ unfolding next
 step_stalls state hart blocked waits =
     leaves state (record { kind = kinds.Step; hart = hart }) Stalled
     (stalled_turn state hart.number waits.running (waits_for state hart.number blocked waits)) refl
-
-past_blocked : (state : ModelState) (request : Request) (obstacle : Obstacle) (blocked : Outcome) →
-    blocked_by obstacle ≡ Some blocked → serve_past state request obstacle ≡ record { state = state; outcome = blocked }
-past_blocked state request Free blocked is = absurd (cc)
-past_blocked state request (Blocks why by) blocked is =
-    let same : Blocked why (hart_id by) ≡ blocked = cc in ap (λ outcome. record { state = state; outcome = outcome }) same
 
 none_back : (state : ModelState) (h : ℕ) (obstacle : Obstacle) (blocked : Outcome) → blocked_by obstacle ≡ Some blocked →
     back_as state h blocked ≡ None

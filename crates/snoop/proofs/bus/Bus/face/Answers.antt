@@ -1,37 +1,16 @@
--- the fates are the definition's, and each hart has had its own
-use Rattle.std.proofs.Common.{◌≡◌, ◌∙◌, ap, length, subst, sym}
+-- in the plain mode nobody is met
+use Rattle.std.proofs.Common.{◌∙◌}
 use Rattle.bus_order.specs.Order.{numbered}
-use Rattle.el_base.specs.Losers.{losers_of}
-use Rattle.el_model.specs.Face.{faced, winner_in}
-use Rattle.snoop.proofs.Faced.{faced_losers, faced_ready, faced_shows}
+use Rattle.snoop.proofs.LosersBelow.{nobody_lost}
+use Rattle.snoop.proofs.Unmet.{plain_losers, plain_shows}
 use Rattle.snoop.proofs.bus.Bus.face.Goals as goal
-use Rattle.snoop.specs.Fates.{fate_in}
-use Rattle.snoop.specs.Settled.{AreSettledBelow, sent_in}
-use Rattle.snoop.specs.Shows.{IsReady, Shows, bus_state}
+use Rattle.snoop.specs.Shows.{bus_state}
 
-pub returns-clause-ready : goal.returns-clause-ready
-returns-clause-ready g c =
-    let known = c.fates-fates.result.items in
-    let mid = bus_state c.settle_all.new.self in
-    let settled : AreSettledBelow (numbered c.args.head) (fate_in known) (length known) (bus_state c.args.self.now) mid =
-    rw c.deref.ensures.0 at c.settle_all.ensures in
-    let sent : bus_state c.answer_head.new.self ≡ record mid { agents = sent_in mid.mode known c.args.head.hart.number mid.agents } =
-    rw c.deref-2.ensures.0 at c.answer_head.ensures in
-    subst IsReady (sym sent) (faced_ready (numbered c.args.head) known (bus_state c.args.self.now) mid settled c.requires.ready)
+pub returns-in-Plain-clause-shows : goal.returns-in-Plain-clause-shows
+returns-in-Plain-clause-shows g c = λ state shows.
+    plain_shows (numbered c.args.head) (bus_state c.args.self.now) state shows c.requires.ready c.in-Plain.is
 
-pub returns-clause-shows : goal.returns-clause-shows
-returns-clause-shows g c = λ state shows.
-    let known = c.fates-fates.result.items in
-    let mid = bus_state c.settle_all.new.self in
-    let settled : AreSettledBelow (numbered c.args.head) (fate_in known) (length known) (bus_state c.args.self.now) mid =
-    rw c.deref.ensures.0 at c.settle_all.ensures in
-    let sent : bus_state c.answer_head.new.self ≡ record mid { agents = sent_in mid.mode known c.args.head.hart.number mid.agents } =
-    rw c.deref-2.ensures.0 at c.answer_head.ensures in
-    subst (λ bus. Shows bus (faced state (numbered c.args.head))) (sym sent)
-    (faced_shows (numbered c.args.head) known (bus_state c.args.self.now) mid state c.fates-fates.ensures.count settled shows
-    (c.fates-fates.ensures.each state shows))
-
-pub returns-clause-losers : goal.returns-clause-losers
-returns-clause-losers g c = λ state shows.
-    c.losers_by.ensures ∙ ap (λ known. losers_of (λ h. winner_in (fate_in known h))) c.deref-3.ensures.0
-    ∙ faced_losers (numbered c.args.head) c.fates-fates.result.items state (c.fates-fates.ensures.each state shows)
+pub returns-in-Plain-clause-losers : goal.returns-in-Plain-clause-losers
+returns-in-Plain-clause-losers g c = λ state shows.
+    nobody_lost c.none.result c.none.ensures
+    ∙ plain_losers (numbered c.args.head) (bus_state c.args.self.now) state shows c.requires.ready c.in-Plain.is

@@ -10,6 +10,7 @@ use Rattle.el_base.specs.declared.events.Event.{Event}
 use Rattle.el_base.specs.declared.events.Kind.{Kind}
 use Rattle.el_base.specs.declared.events.Kind.TheVariants.{Step, Order, Serve, Deliver}
 use Rattle.el_base.proofs.Laws.ListLaws.{find_passes}
+use Rattle.el_base.proofs.Laws.Options.{both_none, or_none}
 use Rattle.el_model.specs.Next.{kind_turn, next}
 use Rattle.el_model.specs.State.{Hart, ModelState, count_up}
 use Rattle.progress_laws.specs.Laws.{NoneIsReadyWhereNoneGetsOn, ReadyEventGetsOn}
@@ -38,18 +39,6 @@ none_behind test x xs none = by (test x) none
 
 none_cons : {A : Type 0} (test : A → Bool) (x : A) (xs : List A) → test x ≡ false → NonePass test xs → NonePass test (x ∷ xs)
 none_cons test x xs first others = ap (λ passes. cond passes (Some x) (find test xs)) first ∙ others
-
-none_of_first : {A : Type 0} (one other : Option A) → option_or one other ≡ None → one ≡ None
-none_of_first None other none = refl
-none_of_first (Some x) other none = absurd (cc)
-
-none_of_second : {A : Type 0} (one other : Option A) → option_or one other ≡ None → other ≡ None
-none_of_second None other none = none
-none_of_second (Some x) other none = absurd (cc)
-
-none_of_both : {A : Type 0} (one other : Option A) → one ≡ None → other ≡ None → option_or one other ≡ None
-none_of_both None other first second = second
-none_of_both (Some x) other first second = absurd (cc)
 
 -- a hart's event of a kind
 abbrev pub of_kind : ℕ → Kind → Event
@@ -100,10 +89,10 @@ none_at state [] from number k none below is = absurd (omega arith)
 none_at state (hart ∷ harts) from number zero none below is =
     let same : number ≡ from = omega (arith, is) in
     let split = sym (find-append (gets_on state) (events_of from) (flat_map events_of (count_up (suc from) harts))) in
-    rw same (none_of_first _ _ (split ∙ none))
+    rw same (or_none _ _ (split ∙ none)).0
 none_at state (hart ∷ harts) from number (suc k) none below is =
     let split = sym (find-append (gets_on state) (events_of from) (flat_map events_of (count_up (suc from) harts))) in
-    none_at state harts (suc from) number k (none_of_second _ _ (split ∙ none)) (omega (arith, below)) (omega (arith, is))
+    none_at state harts (suc from) number k (or_none _ _ (split ∙ none)).1 (omega (arith, below)) (omega (arith, is))
 
 none_from : (state : ModelState) (harts : List Hart) (from : ℕ) →
     ((number k : ℕ) → k < length harts → number ≡ from + k → NonePass (gets_on state) (events_of number)) →
@@ -111,7 +100,7 @@ none_from : (state : ModelState) (harts : List Hart) (from : ℕ) →
 none_from state [] from each = refl
 none_from state (hart ∷ harts) from each =
     find-append (gets_on state) (events_of from) (flat_map events_of (count_up (suc from) harts))
-    ∙ none_of_both _ _ (each from 0 (omega arith) (omega arith))
+    ∙ both_none _ _ (each from 0 (omega arith) (omega arith))
     (none_from state harts (suc from) (λ number k below is. each number (suc k) (omega (arith, below)) (omega (arith, is))))
 
 -- an event is what comes of its kind and its hart's number

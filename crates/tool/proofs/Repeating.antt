@@ -10,6 +10,7 @@ use Rattle.std.proofs.lemmas.Bool.Decides.{nat_tests}
 use Rattle.chronicle.specs.Chronicle.{events}
 use Rattle.command_line.specs.Settings.{config_of}
 use Rattle.command_line.specs.Words.{ReplayJob, RunJob}
+use Rattle.el_base.proofs.Laws.Options.{or_none}
 use Rattle.el_base.proofs.Laws.Ranges.{ranges, at_least, at_most}
 use Rattle.el_base.specs.Config.{IsInRange}
 use Rattle.el_base.specs.declared.events.Event.{Event}
@@ -56,10 +57,6 @@ harts-made state harts left made some round = λ k d within.
 -- What a run that wrote a file had
 
 -- neither is there where the first of both is not
-or_none : {A : Type 0} (one other : Option A) → option_or one other ≡ None → (one ≡ None) × (other ≡ None)
-or_none None other none = (refl, none)
-or_none (Some found) other none = absurd cc
-
 map_none : {A B : Type 0} (f : A → B) (one : Option A) → option_map f one ≡ None → one ≡ None
 map_none f None none = refl
 map_none f (Some found) none = absurd cc

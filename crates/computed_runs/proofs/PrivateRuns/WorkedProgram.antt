@@ -6,6 +6,7 @@ use Rattle.el_base.specs.declared.config.Config.{Config}
 use Rattle.el_base.specs.declared.config.Mode.TheVariants.{Sle}
 use Rattle.el_base.specs.declared.outcomes.Need.TheVariants.{Read}
 use Rattle.el_base.specs.declared.outcomes.Outcome.TheVariants.{Began, Missed, Ran}
+use Rattle.computed_runs.proofs.SectionView.Worked.{all_zero}
 use Rattle.computed_runs.proofs.Computing.{computing}
 use Rattle.computed_runs.proofs.Given.{ordered_with, section, served_with}
 use Rattle.computed_runs.proofs.Rows.Given.{settings}
@@ -27,10 +28,5 @@ live : section_of (after program config events) 0 ≡ Some (section 1 65536 0 1)
 unfolding computing
 live = refl
 
-zeros : (count place : ℕ) → slice_index (replicate count 0) place < 256
-zeros zero place = omega arith
-zeros (suc count) zero = omega arith
-zeros (suc count) (suc place) = zeros count place
-
 covered : IsCoveredRun (after program config events).committed 0 (cache_of (after program config events) 0) (section 1 65536 0 1)
-covered = live_sections_run_covered program config events 0 (section 1 65536 0 1) (zeros 64) live
+covered = live_sections_run_covered program config events 0 (section 1 65536 0 1) (all_zero 64) live

@@ -10,7 +10,7 @@ use Rattle.computed_runs.proofs.Given.{event, request, stamp}
 use Rattle.computed_runs.proofs.Rows.ChainOfFour.{first, ordering}
 use Rattle.el_model.specs.Conflicts.{retains}
 use Rattle.el_base.specs.Winners.{winner_over}
-use Rattle.el_base.proofs.Laws.Cases.{some_none}
+use Rattle.el_base.proofs.Laws.Cases.{false_true, not_both, some_none}
 use Rattle.el_base.proofs.Laws.Tests.{false_between as no_section_meets}
 use Rattle.el_model.specs.Next.{next, state_after}
 use Rattle.el_model.specs.State.{ModelState, hart_of, is_live}
@@ -25,9 +25,6 @@ ordered = state_after first ordering
 abbrev oldest : Request
 oldest = request 0 1025 Write (Some (stamp 0 0))
 
-absent : {X : Type 0} → false ≡ true → X
-absent wrong = absurd (cc)
-
 -- hart 0 waits with the least stamp
 least_at_first : (g : ℕ) → g ≢ 0 → is_live ordered g ≡ true → is_before oldest.stamp (attempt_of ordered g) ≡ true
 unfolding computing
@@ -35,7 +32,7 @@ least_at_first zero apart live = absurd (apart refl)
 least_at_first (suc zero) apart live = refl
 least_at_first (suc (suc zero)) apart live = refl
 least_at_first (suc (suc (suc zero))) apart live = refl
-least_at_first (suc (suc (suc (suc g)))) apart live = absent live
+least_at_first (suc (suc (suc (suc g)))) apart live = false_true live
 
 waits_with_least : WaitsWithLeast ordered 0 1025 oldest
 unfolding computing
@@ -51,11 +48,8 @@ abbrev NeverRetained : ModelState → Type 0
 NeverRetained state =
     (h g line : ℕ) (request : Request) → WaitsWithLeast state h line request → retains state g line ≡ false
 
-not_never : {X : Type 0} {b : Bool} → b ≡ true → b ≡ false → X
-not_never is none = absurd (cc)
-
 retained_before_delivery : NeverRetained ordered → ⊥
-retained_before_delivery never = not_never retained_at_first (never 0 1 1025 oldest waits_with_least)
+retained_before_delivery never = not_both retained_at_first (never 0 1 1025 oldest waits_with_least)
 
 -- all messages are delivered but the last, which is the probe of hart 0 to hart 1
 abbrev delivering : List Event

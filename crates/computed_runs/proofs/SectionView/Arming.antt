@@ -4,6 +4,7 @@ use Rattle.std.proofs.Common.{◌≡◌, ◌≤◌, ◌<◌, ◌+◌, ◌*◌, �
 use Rattle.residency.specs.Residency.{Way}
 use Rattle.computed_runs.proofs.Computing.{computing}
 use Rattle.computed_runs.proofs.Given.{patched, section, way}
+use Rattle.computed_runs.proofs.SectionView.Worked.{differ}
 use Rattle.computed_runs.proofs.Rows.Given.{load_reserved, machine_of, settings, store_conditional, store_word, usual}
 use Rattle.el_base.specs.declared.config.Mode.TheVariants.{Sle}
 use Rattle.el_model.specs.Armed.{is_quiet}
@@ -117,9 +118,6 @@ elided =
 
 lives_on : KeepsRun committed 0 (section 3 65536 0 1) third []
 lives_on = elided.keeps
-
-differ : {X : Type 0} (a b : ℕ) → b < a → a ≡ b → X
-differ a b less same = absurd (omega (arith, less, same))
 
 -- wrong: the value is the one in the LR's register
 kept_in_its_register : KeepsArmed committed 0 (armed 2) 9 second → ⊥

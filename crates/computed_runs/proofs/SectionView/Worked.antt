@@ -177,7 +177,7 @@ release : is_release (alone committed 0 2) 0 65536 0 ≡ true
 unfolding computing
 release = refl
 
-all_zero : (len place : ℕ) → slice_index (replicate len 0) place < 256
+pub all_zero : (len place : ℕ) → slice_index (replicate len 0) place < 256
 all_zero len place = grind (arith, common_steps)
 
 zeros : AreBytes committed.bytes
@@ -197,7 +197,7 @@ stored_is_committed = effect.bytes 64
 lock_is_free : slice_index (alone committed 0 3).bytes 0 ≡ 0
 lock_is_free = effect.bytes 0
 
-differ : {X : Type 0} (a b : ℕ) → b < a → a ≡ b → X
+pub differ : {X : Type 0} (a b : ℕ) → b < a → a ≡ b → X
 differ a b less same = absurd (omega (arith, less, same))
 
 -- wrong: the section's run is kept without its store

@@ -1,7 +1,7 @@
 //! The program `part_timing`: it makes one kind of call so many times, for a clock around it to tell what the
 //! call costs, as `bench/parts.sh` does.
 //!
-//! `parts PART COUNT` prints the part, the count and a number that the calls came to. Without words it
+//! `part_timing PART COUNT` prints the part, the count and a number that the calls came to. Without words it
 //! makes each part's call 2,000 times. Words that it refuses end it with status 2.
 #![tactic(auto)]
 
@@ -38,7 +38,7 @@ fn main(rt: HostRuntime) -> io::Result<ExitCode> {
             }
             _ => refused(&rt, "no such part, or no count"),
         },
-        _ => refused(&rt, "usage: parts PART COUNT"),
+        _ => refused(&rt, "usage: part_timing PART COUNT"),
     }
 }
 

@@ -1,4 +1,6 @@
 -- The fields of a cache after each call, and what they show.
+use Rattle.std.proofs.lemmas.List.{length-set}
+use Rattle.std.specs.Int.{IsPowerOfTwo}
 use Rattle.std.proofs.Common.{◌≡◌, ◌≢◌, ℕ, true, List, Option, Some, ap, sym, subst, ◌∙◌}
 use Rattle.std.specs.Prelude.{slice_set}
 use Rattle.el_base.specs.declared.outcomes.Need.{Need}
@@ -46,6 +48,7 @@ module _ {ways owner marks writes : ℕ} {sets : List Set} {v : Slotted} {line n
     pub stands-after : (new_marks new_writes : ℕ) → IsSound ways (with_lines cache line (word (set_at cache line))) new_marks new_writes
         → CacheStands ways (slice_set sets number new) new_marks new_writes
     stands-after new_marks new_writes sound = record {
+      binary = subst IsPowerOfTwo (sym (length-set sets number new)) stands.binary;
       sound = subst (λ c. IsSound ways c new_marks new_writes) (sym lines_are) sound;
       room = room-after sets line number old at ways new stands.room room;
     }

@@ -1,4 +1,5 @@
 -- A step that changes the way of every line of a cache, and leaves no bits.
+use Rattle.std.specs.Int.{IsPowerOfTwo}
 use Rattle.std.proofs.Common.{◌≡◌, ℕ, suc, ◌%◌, ◌<◌, Bool, true, false, cond, ltb, List, [], ◌∷◌, length, map, get_or, Option, None, Some, option_map, refl, ap, sym, subst, ◌∙◌, arith}
 use Rattle.std.specs.Prelude.{Vec}
 use Rattle.std.specs.Vec.{with_items}
@@ -187,6 +188,7 @@ module _ {ways owner marks writes : ℕ} (sets : Vec Set Global) {slice : List S
 
     stands-after : IsSound ways (map (map (with_way change)) cache) 0 0 → CacheStands ways (with_items sets new).items 0 0
     stands-after sound = record {
+      binary = subst IsPowerOfTwo (sym (ap length whole ∙ changed.count ∙ ap length same)) stands.binary;
       sound = subst (λ c. IsSound ways c 0 0) (sym lines_are) sound;
       room = subst (HaveRoom ways) (sym whole) (room-changed change ways sets.items new of_all stands.room);
     }

@@ -3,6 +3,7 @@ mod AbsentLetters
 mod WrittenLines
 mod VictimPlaces
 mod BitLemmas
+mod SetNumbers
 mod Shown
 mod Totals
 mod Slots

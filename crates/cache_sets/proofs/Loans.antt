@@ -16,7 +16,7 @@ use Rattle.line_pool.proofs.Laws.OtherLaws.{leaves-written}
 use Rattle.cache_sets.specs.declared.line.Line as code
 use Rattle.residency.specs.Cache.{is_resident, set_number, set_of}
 use Rattle.cache_sets.specs.Cached as caches
-use Rattle.cache_sets.specs.Cached.{Cached, put_in}
+use Rattle.cache_sets.specs.Cached.{put_in}
 use Rattle.cache_sets.specs.Calls.{IsCached}
 use Rattle.cache_sets.specs.Calls as calls
 use Rattle.residency.specs.Keyed.{count_of, found}

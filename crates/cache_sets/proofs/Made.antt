@@ -1,6 +1,8 @@
 -- A cache without lines.
-use Rattle.std.proofs.Common.{◌≡◌, ℕ, zero, suc, ◌+◌, ◌≤◌, ◌<◌, true, List, [], ◌∷◌, ◌++◌, length, map, get_or, replicate, refl, ap, sym, subst, ◌∙◌, arith}
+use Rattle.std.proofs.Common.{◌≡◌, ℕ, zero, suc, ◌+◌, ◌^◌, ◌≤◌, ◌<◌, Bool, true, false, ◌||◌, eqb, List, [], ◌∷◌, ◌++◌, length, map, get_or, replicate, refl, ap, sym, subst, ◌∙◌, arith}
+use Rattle.std.specs.Int.{IsPowerOfTwo}
 use Rattle.std.specs.List.{count_by, sum_by}
+use Rattle.std.proofs.lemmas.Bool.{eqb-true, true≢false}
 use Rattle.std.proofs.lemmas.Bool.Decides.{nat_tests}
 use Rattle.std.proofs.lemmas.List.{length-append, length-replicate}
 use Rattle.std.proofs.lemmas.List.Elements.{All-get_or, All-push}
@@ -55,8 +57,9 @@ module _ (ways count owner : ℕ) (sets : List Set) (are : AreEmpty ways count s
   residency-made : residency_of (lines_of sets) ≡ empty_cache count
   residency-made = ap residency_of lines-made ∙ residency-none count
 
-  made-stands : 1 ≤ ways → ways ≤ 8 → 1 ≤ count → count ≤ 64 → CacheStands ways sets 0 0
-  made-stands some_way ways_fit some_set sets_fit = record {
+  made-stands : 1 ≤ ways → ways ≤ 8 → 1 ≤ count → count ≤ 64 → IsPowerOfTwo count → CacheStands ways sets 0 0
+  made-stands some_way ways_fit some_set sets_fit binary = record {
+    binary = subst IsPowerOfTwo (sym are.count_is) binary;
     sound = record {
       some_way = some_way;
       ways_fit = ways_fit;
@@ -75,11 +78,24 @@ module _ (ways count owner : ℕ) (sets : List Set) (are : AreEmpty ways count s
 set_range : (n : ℕ) → allows Sets n ≡ true → (1 ≤ n) × (n ≤ 64)
 set_range n allowed = (grind (arith, nat_tests), grind (arith, nat_tests))
 
+-- each number of sets that a cache may have is a power of two
+set_power : (n : ℕ) → allows Sets n ≡ true → IsPowerOfTwo n
+set_power n =
+    this_or 0 n _ (this_or 1 n _ (this_or 2 n _ (this_or 3 n _ (this_or 4 n _ (this_or 5 n _ (this_or 6 n _ (λ none. absurd (true≢false (sym none)))))))))
+  where
+    this_or : (k n : ℕ) (other : Bool) → (other ≡ true → IsPowerOfTwo n) → (eqb (2 ^ k) n || other) ≡ true → IsPowerOfTwo n
+    this_or k n other later one = by_test (eqb (2 ^ k) n) refl one
+      where
+        by_test : (test : Bool) → eqb (2 ^ k) n ≡ test → (test || other) ≡ true → IsPowerOfTwo n
+        by_test true is one = (k, sym (eqb-true (2 ^ k) n is))
+        by_test false is one = later one
+
 pub stands-made : (config : Config) (sets : List Set) → IsInRange config → AreEmpty config.ways config.sets sets → CacheStands config.ways sets 0 0
 stands-made config sets in_range are =
     let r = ranges config in_range in
     let sets_range = set_range config.sets r.sets in
     made-stands config.ways config.sets 0 sets are (at_least 1 8 config.ways r.ways) (at_most 1 8 config.ways r.ways) sets_range.0 sets_range.1
+    (set_power config.sets r.sets)
 
 -- the first sets
 pub no_sets : (ways : ℕ) (sets : List Set) → sets ≡ [] → AreEmpty ways 0 sets

@@ -1,5 +1,6 @@
 -- how a cache's fields show its sets, and what they keep
 use Rattle.std.specs.Prelude.{◌≡◌, ◌≢◌, ◌≤◌, ◌<◌, ◌%◌, ℕ, true, All, List, [], map, length, sum_by, nat_lt, if◌then◌else◌, slice_index_or, slice_set, Option, None, Some, option_map, vec_capacity}
+use Rattle.std.specs.Int.{IsPowerOfTwo}
 use Rattle.std.specs.Option.{option_map_or}
 use Rattle.el_base.specs.declared.line.LineAddr.{LineAddr}
 use Rattle.el_base.specs.declared.outcomes.Need.{Need}
@@ -166,5 +167,6 @@ HaveRoom ways sets = (k : ℕ) (d : Set) → k < length sets → ways ≤ vec_ca
 
 -- what the fields of a cache keep
 pub record CacheStands (ways : ℕ) (sets : List Set) (marks writes : ℕ) : Type 0 where
+  pub binary : IsPowerOfTwo (length sets)
   pub sound : IsSound ways (lines_of sets) marks writes
   pub room : HaveRoom ways sets

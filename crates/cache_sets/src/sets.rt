@@ -15,6 +15,7 @@ ghost use Rattle.cache_sets.specs.declared.line.Line as code;
 ghost use Rattle.cache_sets.specs.Kept.{AreChanged, AreEmpty, IsGivenBack, IsVacated, MayVacate, cleared_way, committed_way, line_at, lines_of, set_at, slot_in_use};
 ghost use Rattle.cache_sets.specs.Slotted.{IsLent, IsWrittenIn, empty_slotted, lent, slot_of};
 ghost use Rattle.std.specs.Borrow.{sem};
+ghost use Rattle.std.specs.Int.{IsPowerOfTwo};
 
 use crate::bits::Bits;
 use crate::evicted::Evicted;
@@ -278,18 +279,20 @@ fn empty_sets(alloc: Global, count: u8, ways: u8) -> Result<Vec<Set>, NoMemory>
     Ok(sets)
 }
 
-/// The number of the set of a line.
+/// The number of the set of a line: the last bits of the line's number.
+///
+/// A remainder would give the same, and take some twenty times as long. Each event that looks into a cache asks for one.
 fn set_number(sets: &[Set], line: LineAddr) -> usize
-    requires { 0 < length sets.now }
+    requires { IsPowerOfTwo (length sets.now) }
     ensures exact { result ≡ line.number % length sets.now }
     ensures within { result < length sets.now }
 {
-    line.number as usize % sets.len()
+    line.number as usize & (sets.len() - 1)
 }
 
 /// The set of a line.
 fn set_of(sets: &[Set], line: LineAddr) -> &Set
-    requires { 0 < length sets.now }
+    requires { IsPowerOfTwo (length sets.now) }
     ensures { result.now.lines.items ≡ set_at (lines_of sets.now) line.number }
 {
     &sets[set_number(sets, line)]
@@ -297,7 +300,7 @@ fn set_of(sets: &[Set], line: LineAddr) -> &Set
 
 /// The way of a line.
 fn find(sets: &[Set], line: LineAddr) -> Option<Way>
-    requires { 0 < length sets.now }
+    requires { IsPowerOfTwo (length sets.now) }
     ensures { result ≡ option_map (λ l. l.way) (line_at (lines_of sets.now) line.number) }
 {
     set_of(sets, line).find(line)
@@ -305,7 +308,7 @@ fn find(sets: &[Set], line: LineAddr) -> Option<Way>
 
 /// The slot of a line that is there.
 fn slot_in_use(sets: &[Set], line: LineAddr) -> &Slot
-    requires some_set { 0 < length sets.now }
+    requires binary { IsPowerOfTwo (length sets.now) }
     requires there { is_some (line_at (lines_of sets.now) line.number) ≡ true }
     ensures { result.now ≡ slot_in_use (lines_of sets.now) line.number }
 {

@@ -6,7 +6,6 @@ use Rattle.residency.specs.Cache.{marks_of}
 use Rattle.residency.specs.Residency.{Way}
 use Rattle.residency.specs.WellFormed.{IsWellFormed}
 use Rattle.residency.proofs.Laws.MarkLemmas.{has_marks-counted, has_marks-filled_with, has_marks-lettered, has_marks-touched, mark_of, total-without_line}
-use Rattle.residency.proofs.Laws.Unmarked.{unmarked-lettered, unmarked-without_line}
 use Rattle.el_base.specs.declared.outcomes.Need.{Need}
 use Rattle.el_base.specs.declared.outcomes.Need.TheVariants.{Read, Write}
 use Rattle.el_model.specs.Serve.{kept_letter, others_cache}
@@ -32,13 +31,6 @@ pub others_marks : (ways : ℕ) (had : Bool) (need : Need) (cache : List (List W
 others_marks ways had Write cache line well unmet = marks_without_line ways cache line well (unmet refl)
 others_marks ways true Read cache line well unmet = refl
 others_marks ways false Read cache line well unmet = has_marks-lettered ways cache line _ well
-
--- one without bits gets none
-pub others_unmarked : (had : Bool) (need : Need) (cache : List (List Way)) (line : ℕ) → has_marks cache ≡ false →
-    has_marks (others_cache had need cache line) ≡ false
-others_unmarked had Write cache line none = unmarked-without_line cache line none
-others_unmarked true Read cache line none = none
-others_unmarked false Read cache line none = unmarked-lettered cache line _ none
 
 pub own_after_marks : (ways : ℕ) (others : Bool) (need : Need) (cache : List (List Way)) (line : ℕ) → IsWellFormed ways cache →
     room_of ways cache line ≡ true → has_marks (own_after ways others need cache line) ≡ has_marks cache

@@ -38,7 +38,8 @@ use Rattle.snoop.proofs.Lent.{beyond, count_by_pools, residency_at, ways_at}
 use Rattle.snoop.proofs.Laws.Living.{TellsSection, lives_alike, lives_shown, lives_unarmed}
 use Rattle.snoop.proofs.Ready.{ready_after}
 use Rattle.section_laws.proofs.Laws.ServedCaches.{others_room, others_well_formed, own_after, own_after_well_formed}
-use Rattle.snoop.proofs.ServedMarks.{others_marks, others_unmarked, own_after_marks}
+use Rattle.el_model.proofs.Laws.Unmarked.{others_unmarked}
+use Rattle.snoop.proofs.ServedMarks.{others_marks, own_after_marks}
 use Rattle.snoop.proofs.Showing.{ShowsEach, agent_past, lies_yet, shows_each}
 
 -- a hart that the test takes for another, and one that it takes for itself

@@ -1,7 +1,6 @@
 -- a head that meets no section changes nothing
-use Rattle.std.proofs.Common.{◌≡◌, ◌∙◌, ℕ, zero, suc, Bool, true, List, [], ◌∷◌, None, length, map, refl, ap, sym, subst, if◌then◌else◌}
+use Rattle.std.proofs.Common.{◌≡◌, ◌∙◌, ℕ, zero, suc, true, List, [], ◌∷◌, None, length, map, refl, ap, sym, subst, if◌then◌else◌}
 use Rattle.std.proofs.lemmas.List.{length-map}
-use Rattle.std.proofs.lemmas.Bool.{and_parts}
 use Rattle.bus_order.specs.Order.{Request}
 use Rattle.el_base.specs.Losers.{losers_of}
 use Rattle.el_base.specs.declared.config.Mode.{Mode}
@@ -13,7 +12,7 @@ use Rattle.snoop.proofs.Changes.{nobody_changed}
 use Rattle.snoop.proofs.Faced.{faced_losers, faced_shows}
 use Rattle.snoop.proofs.Facing.{plain_unmet}
 use Rattle.snoop.specs.Agent.{Agent, agent_at}
-use Rattle.snoop.specs.Fates.{fate_in, is_unmet, nobody_met}
+use Rattle.snoop.specs.Fates.{fate_in, nobody_met}
 use Rattle.snoop.specs.Settled.{AreSettledBelow, loses, markers_sent, sent_in, settled_agent}
 use Rattle.snoop.specs.Shows.{BusState, IsReady, Shows}
 use Rattle.snoop.specs.declared.fates.Fate as fates

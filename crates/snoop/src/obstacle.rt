@@ -21,7 +21,9 @@ pub(crate) enum Obstacle {
 }
 
 impl Bus {
-    /// What a serve of an ordered request comes to where something is in its way, and `None` where nothing is.
+    /// What a serve of an ordered request comes to where something is in its way, and `None` where nothing is. It stands
+    /// in its callers, which so know the kind of the outcome where they record it.
+    #[inline(always)]
     pub fn blocked(&self, request: Request) -> Option<Outcome>
         requires ready { IsReady (bus_state self.now) }
         ensures exact { (state : ModelState) → Shows (bus_state self.now) state →

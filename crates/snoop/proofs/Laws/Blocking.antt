@@ -1,5 +1,5 @@
 -- a serve by what is in its way
-use Rattle.std.proofs.Common.{◌≡◌, ℕ, Option, None, Some, true, refl, ap}
+use Rattle.std.proofs.Common.{◌≡◌, ℕ, None, Some, true, refl, ap}
 use Rattle.bus_order.specs.Order.{Request}
 use Rattle.el_base.specs.HartId.{hart_id}
 use Rattle.el_base.specs.declared.outcomes.Outcome.{Outcome}

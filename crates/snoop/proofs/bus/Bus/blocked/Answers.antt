@@ -1,6 +1,5 @@
 -- the hart that is in the way
 use Rattle.std.proofs.Common.{◌∙◌, Some, ap, sym}
-use Rattle.el_base.specs.declared.hart_id.HartId.{HartId}
 use Rattle.el_base.specs.declared.outcomes.Outcome.TheVariants.{Blocked}
 use Rattle.el_base.proofs.Laws.HartIds.{hart_id-of_hart}
 use Rattle.snoop.specs.Obstacles.{blocked_by, numbered_obstacle}

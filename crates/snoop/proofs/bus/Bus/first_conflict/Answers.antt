@@ -1,8 +1,8 @@
 -- the first hart that conflicts, or one hart more that does not
-use Rattle.std.proofs.Common.{◌≡◌, ◌∙◌, ℕ, Bool, Some, ap, arith, sym}
+use Rattle.std.proofs.Common.{◌∙◌, ℕ, Bool, Some, ap, arith, sym}
 use Rattle.bus_order.specs.Order.{numbered}
 use Rattle.el_model.specs.Conflicts.{conflicts}
-use Rattle.el_model.specs.State.{ModelState, hart_of}
+use Rattle.el_model.specs.State.{hart_of}
 use Rattle.snoop.proofs.Firsts.{first_here, first_later}
 use Rattle.snoop.proofs.bus.Bus.first_conflict.Goals as goal
 

@@ -1,6 +1,6 @@
 -- the first hart that holds the line, or one hart more that does not
-use Rattle.std.proofs.Common.{◌≡◌, ◌∙◌, ◌==◌, ◌&&◌, ℕ, Bool, Some, ap, arith, not, sym}
-use Rattle.el_model.specs.State.{ModelState, hart_of, is_held}
+use Rattle.std.proofs.Common.{◌∙◌, ◌==◌, ◌&&◌, ℕ, Bool, Some, ap, arith, not, sym}
+use Rattle.el_model.specs.State.{hart_of, is_held}
 use Rattle.snoop.proofs.Firsts.{first_here, first_later}
 use Rattle.snoop.proofs.bus.Bus.holder.Goals as goal
 

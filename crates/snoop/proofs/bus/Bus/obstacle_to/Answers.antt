@@ -1,5 +1,5 @@
 -- the head that the bus finds is the definition's; where there is none, no section retains the line
-use Rattle.std.proofs.Common.{◌∙◌, None, ap, false, refl, sym}
+use Rattle.std.proofs.Common.{◌∙◌, ap, false, refl, sym}
 use Rattle.bus_order.specs.Order.{first_of, numbered}
 use Rattle.el_base.specs.declared.outcomes.Why.TheVariants.{Retained}
 use Rattle.el_model.specs.Serve.{blocks_if}

@@ -1,9 +1,8 @@
 -- a request is free where nothing blocks it; where something does, the outcome is the definition's and nothing changes
-use Rattle.std.proofs.Common.{◌≡◌, ◌∙◌, ap, subst, sym}
+use Rattle.std.proofs.Common.{◌≡◌, ◌∙◌, subst, sym}
 use Rattle.bus_order.specs.Order.{numbered}
 use Rattle.el_model.specs.Serve as serving
 use Rattle.el_model.specs.Serve.{Free}
-use Rattle.el_model.specs.State.{ModelState}
 use Rattle.snoop.proofs.Laws.Blocking.{lines_unserved, past_blocked, unblocked_free}
 use Rattle.snoop.specs.LettingGo.{KeepsBytes}
 use Rattle.snoop.specs.Shows.{Shows, bus_state}

@@ -20,10 +20,6 @@ use Rattle.rv_flat.specs.FlatState.{output_limit}
 
 -- ---- what no fault says
 
-pub if_none : (wrong : Bool) (kind : FaultKind) (place : ℕ) → some_if wrong (fault_of kind place) ≡ None → wrong ≡ false
-if_none true kind place none = absurd cc
-if_none false kind place none = refl
-
 pub field_none : (file : List ℕ) (end : ℕ) (fault : Option FileFault) → field file end fault ≡ None →
     (end ≤ length file) × (fault ≡ None)
 unfolding field
@@ -35,7 +31,7 @@ pub field_right : (file : List ℕ) (end : ℕ) (wrong : Bool) (kind : FaultKind
     field file end (some_if wrong (fault_of kind place)) ≡ None → (end ≤ length file) × (wrong ≡ false)
 field_right file end wrong kind place none =
     let e = field_none file end (some_if wrong (fault_of kind place)) none in
-    (e.0, if_none wrong kind place e.1)
+    (e.0, (cond_none wrong (fault_of kind place) None e.1).0)
 
 -- ---- what has none
 
@@ -121,7 +117,7 @@ view_passes file views hart whole right =
 wrong_none : (file : List ℕ) (place wanted : ℕ) (kind : FaultKind) → wrong file place wanted kind ≡ None →
     get_or file place 0 ≡ wanted
 wrong_none file place wanted kind none =
-    same_unless_other (get_or file place 0) wanted (if_none (not (get_or file place 0 == wanted)) kind place none)
+    same_unless_other (get_or file place 0) wanted (cond_none (not (get_or file place 0 == wanted)) (fault_of kind place) None none).0
 
 pub record HeadRight (file : List ℕ) : Type 0 where
   pub first : get_or file 0 0 ≡ 0x45
@@ -209,7 +205,7 @@ line_count_passes file place few whole =
 
 pub tail_right : (file : List ℕ) (end : ℕ) → tail_fault file end ≡ None → length file ≤ end
 unfolding tail_fault
-tail_right file end none = not_over end (length file) (if_none (ltb end (length file)) kinds.Tail end none)
+tail_right file end none = not_over end (length file) (cond_none (ltb end (length file)) (fault_of kinds.Tail end) None none).0
 
 pub tail_passes : (file : List ℕ) (end : ℕ) → length file ≤ end → tail_fault file end ≡ None
 unfolding tail_fault

@@ -22,7 +22,8 @@ use Rattle.el_base.specs.declared.outcomes.Outcome.TheVariants.{Idle, Stalled, M
 use Rattle.el_base.specs.declared.outcomes.Cause.{Cause}
 use Rattle.el_base.specs.declared.outcomes.Cause.TheVariants.{Room, Lines, Long, Call, Mixed}
 use Rattle.el_base.proofs.Laws.HartIds.{hart_id-number, hart_id-of_hart}
-use Rattle.el_base.proofs.Laws.Options.{both_none, or_none}
+use Rattle.el_base.proofs.Laws.Options.{both_none, cond_none, or_none}
+use Rattle.trace_file.specs.FaultKinds.{fault_of}
 use Rattle.trace_file.specs.declared.fault.FaultKind.TheVariants.{Tail}
 use Rattle.trace_file.specs.Faults.{entries_fault, entry_fault, field_fault, fields_fault}
 use Rattle.trace_file.specs.Fields.{Field, byte_field, entry_width, event_field, fields_of, freed_field, is_blocking, is_cause, is_code, is_event, is_line, losers_field, number_field, widths}
@@ -31,7 +32,7 @@ use Rattle.trace_file.specs.Reading.{entries_in, entry_in, event_in, kind_at, ou
 use Rattle.trace_file.specs.Spelling.{entry_bytes, event_byte, outcomes, recorded_bytes}
 use Rattle.trace_file.proofs.EventBytes.{kind_again, kind_back}
 use Rattle.trace_file.proofs.FieldRows.{Fill, field_passes, filled, first_known, joined}
-use Rattle.trace_file.proofs.Heads.{IsBytes, bytes_behind, if_none}
+use Rattle.trace_file.proofs.Heads.{IsBytes, bytes_behind}
 use Rattle.trace_file.proofs.Nibbles.{freed_pass, losers_pass}
 use Rattle.trace_file.proofs.Laws.OutcomeLaws.{number_again, outcome_back, outcome_spelled, why_small}
 
@@ -245,7 +246,7 @@ pub record AreRead (harts count : ℕ) (bytes : List ℕ) (entries : List Entry)
 pub entries_spelled : (harts count place : ℕ) (bytes : List ℕ) → harts ≤ 8 → IsBytes bytes →
     entries_fault harts count place bytes ≡ None → AreRead harts count bytes (entries_in harts count bytes)
 entries_spelled harts zero place bytes few fits none =
-    let past : length bytes ≤ 0 = ltb-false 0 (length bytes) (if_none (ltb 0 (length bytes)) Tail place none) in
+    let past : length bytes ≤ 0 = ltb-false 0 (length bytes) (cond_none (ltb 0 (length bytes)) (fault_of Tail place) None none).0 in
     record {
       spelled = sym (nil_from_length bytes (omega (arith, past)));
       many = refl;

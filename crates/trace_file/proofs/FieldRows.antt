@@ -8,7 +8,6 @@ use Rattle.trace_file.specs.FaultKinds.{fault_of}
 use Rattle.trace_file.specs.Fields.{Field, widths}
 use Rattle.trace_file.specs.Faults.{field_fault, fields_fault}
 use Rattle.trace_file.specs.declared.fault.FaultKind.TheVariants.{Short}
-use Rattle.trace_file.proofs.Heads.{if_none}
 
 -- ---- fields without a fault
 
@@ -17,8 +16,10 @@ pub field_known : (place : ℕ) (bytes : List ℕ) (one : Field) → field_fault
     (one.width ≤ length bytes) × (one.passes bytes ≡ true)
 unfolding field_fault
 field_known place bytes one none =
-    let e = cond_none (ltb (length bytes) one.width) (fault_of Short (place + length bytes)) _ none in
-    (ltb-false (length bytes) one.width e.0, not-false (one.passes bytes) (if_none (not (one.passes bytes)) one.kind place e.1))
+    let e = cond_none (ltb (length bytes) one.width) (fault_of Short (place + length bytes)) _ none in (
+      ltb-false (length bytes) one.width e.0,
+      not-false (one.passes bytes) (cond_none (not (one.passes bytes)) (fault_of one.kind place) None e.1).0,
+    )
 
 pub first_known : (place : ℕ) (bytes : List ℕ) (first : Field) (fields : List Field) →
     fields_fault place bytes (first ∷ fields) ≡ None →

@@ -1,5 +1,5 @@
 -- A head without a fault is spelled by what stands in it.
-use Rattle.std.proofs.Common.{◌≡◌, ℕ, ◌+◌, ◌*◌, ◌/◌, ◌%◌, ◌≤◌, ◌<◌, Bool, true, false, not, ◌==◌, ltb, List, [], ◌∷◌, ◌++◌, length, get_or, drop, zero, suc, Option, None, refl, sym, ap, ◌∙◌, arith}
+use Rattle.std.proofs.Common.{◌≡◌, ℕ, ◌+◌, ◌*◌, ◌/◌, ◌%◌, ◌≤◌, ◌<◌, Bool, true, not, ◌==◌, ltb, List, [], ◌∷◌, ◌++◌, length, get_or, drop, zero, suc, Option, None, refl, sym, ap, ◌∙◌, arith}
 use Rattle.std.proofs.Math.Seq.{drop-cons}
 use Rattle.std.proofs.lemmas.Bool.{ltb-false, not-false}
 use Rattle.std.proofs.lemmas.List.{get_or-drop, length-drop, drop-drop}
@@ -56,10 +56,6 @@ four_at file place end fits long is =
 
 -- ---- faults
 
-pub if_none : (wrong : Bool) (kind : FaultKind) (place : ℕ) → some_if wrong (fault_of kind place) ≡ None → wrong ≡ false
-if_none true kind place none = absurd cc
-if_none false kind place none = refl
-
 pub field_none : (file : List ℕ) (end : ℕ) (fault : Option FileFault) → field file end fault ≡ None →
     (end ≤ length file) × (fault ≡ None)
 unfolding field
@@ -70,7 +66,7 @@ field_none file end fault none =
 wrong_none : (file : List ℕ) (place wanted : ℕ) (kind : FaultKind) → wrong file place wanted kind ≡ None →
     get_or file place 0 ≡ wanted
 wrong_none file place wanted kind none =
-    same_unless_other (get_or file place 0) wanted (if_none (not (get_or file place 0 == wanted)) kind place none)
+    same_unless_other (get_or file place 0) wanted (cond_none (not (get_or file place 0 == wanted)) (fault_of kind place) None none).0
 
 magic_none : (file : List ℕ) → magic_fault file ≡ None →
     (get_or file 0 0 ≡ 0x45) × (get_or file 1 0 ≡ 0x4c) × (get_or file 2 0 ≡ 0x54) × (get_or file 3 0 ≡ 0x52)
@@ -102,7 +98,7 @@ unfolding byte_fault
 byte_passed file place test none =
     let passed = test (get_or file place 0) in
     let e = field_none file (place + 1) (some_if (not passed) (fault_of config_kind place)) none in
-    not-false passed (if_none (not passed) config_kind place e.1)
+    not-false passed (cond_none (not passed) (fault_of config_kind place) None e.1).0
 
 pub number_passed : (file : List ℕ) (place : ℕ) (test : ℕ → Bool) → number_fault file place test ≡ None →
     (place + 4 ≤ length file) × (test (number_at file place) ≡ true)
@@ -110,7 +106,7 @@ unfolding number_fault
 number_passed file place test none =
     let passed = test (number_at file place) in
     let e = field_none file (place + 4) (some_if (not passed) (fault_of config_kind place)) none in
-    (e.0, not-false passed (if_none (not passed) config_kind place e.1))
+    (e.0, not-false passed (cond_none (not passed) (fault_of config_kind place) None e.1).0)
 
 at_most_two : (n : ℕ) → is_mode n ≡ true → n ≤ 2
 at_most_two n known = grind (arith, nat_tests)

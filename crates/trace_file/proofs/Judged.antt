@@ -12,7 +12,7 @@ use Rattle.el_base.specs.declared.config.ConfigFault.TheVariants.{Harts, Sets, W
 use Rattle.el_base.specs.declared.hart_id.TheConstants.{MAX_HARTS}
 use Rattle.el_base.specs.Firsts.{first_of, some_if}
 use Rattle.el_base.proofs.Laws.Ranges.{Ranges, in_range, at_most}
-use Rattle.el_base.proofs.Laws.Options.{or_none}
+use Rattle.el_base.proofs.Laws.Options.{cond_none, or_none}
 use Rattle.el_base.specs.declared.config.Config.{Config}
 use Rattle.el_base.specs.declared.events.Event.{Event}
 use Rattle.el_base.specs.declared.outcomes.Outcome.{Outcome}
@@ -24,7 +24,7 @@ use Rattle.trace_file.specs.Faults.{byte_fault, magic_fault, version_fault, sett
 use Rattle.trace_file.specs.Reading.{entries_at, event_in, events_at, recorded_at}
 use Rattle.trace_file.proofs.EventBytes.{none_fails, all_taken}
 use Rattle.trace_file.proofs.EntryLaws.{entries_spelled, event_spelled}
-use Rattle.trace_file.proofs.Heads.{IsBytes, bytes_behind, byte_passed, number_passed, if_none, field_none, head_spelled}
+use Rattle.trace_file.proofs.Heads.{IsBytes, bytes_behind, byte_passed, number_passed, field_none, head_spelled}
 
 -- ---- the configuration
 
@@ -86,7 +86,7 @@ head_known file fits none =
     let version = field_none file 5 (some_if (not known) (fault_of Version 4)) h1.0 in
     let r = settings_within file h2.0 in
     record {
-      version = not-false known (if_none (not known) Version 4 version.1);
+      version = not-false known (cond_none (not known) (fault_of Version 4) None version.1).0;
       spelled = head_spelled file fits number.0 h0.0 h2.0;
       ranges = r;
       few = few_of (number_at file 14) (number_at file 18) number.1;
@@ -118,7 +118,9 @@ bare_known file harts count none =
     let e2 = or_none (end_fault count file) None e1.1 in
     let over = ltb (22 + count) (length file) in
     let end = field_none file (22 + count) (some_if over (fault_of Tail (22 + count))) e2.0 in
-    let most : length file ≤ 22 + count = ltb-false (22 + count) (length file) (if_none over Tail (22 + count) end.1) in
+    let most : length file ≤ 22 + count =
+    ltb-false (22 + count) (length file) (cond_none over (fault_of Tail (22 + count)) None end.1).0
+    in
     let many : length (drop 22 file) ≡ count = omega (arith, end.0, most, length-drop 22 file) in
     let bytes-are : take count (drop 22 file) ≡ drop 22 file = all_taken count (drop 22 file) many in
     let known = none_fails (is_event harts) (take count (drop 22 file)) (no_place _ e1.0) in

@@ -1,5 +1,5 @@
 -- drivers that have no more turn to make, and what that says of the machine after all of them
-use Rattle.std.proofs.Common.{◌≡◌, ◌≢◌, ℕ, zero, suc, ◌+◌, ◌-◌, ◌<◌, ◌≤◌, ◌⊎◌, true, false, List, [], ◌∷◌, ◌++◌, length, drop, take, sym, refl, ap, ◌∙◌, subst, inl, inr, ⊎_elim, arith, length-append}
+use Rattle.std.proofs.Common.{◌≡◌, ℕ, zero, suc, ◌+◌, ◌-◌, ◌<◌, ◌≤◌, ◌⊎◌, true, false, List, [], ◌∷◌, ◌++◌, length, drop, take, sym, refl, ap, ◌∙◌, subst, inl, inr, arith, length-append}
 use Rattle.std.proofs.Math.Seq.{take-append_seam}
 use Rattle.std.proofs.lemmas.List.{append-nil, length-drop, length-map}
 use Rattle.std.proofs.lemmas.List.Elements.{filter-append}
@@ -19,7 +19,7 @@ use Rattle.el_model.specs.Next.{is_over, state_after}
 use Rattle.elf_image.specs.Program.{Program}
 use Rattle.machine.proofs.Laws.Continued.{state_of_continued}
 use Rattle.machine.specs.Opening.{opening_of}
-use Rattle.machine.specs.Story.{Story, continued, left_of, state_of}
+use Rattle.machine.specs.Story.{Story, state_of}
 
 abbrev OpeningsTell : Type 0
 OpeningsTell = (program other : Program) (config settings : Config) → opening_of program config ≡ opening_of other settings →

@@ -1,6 +1,6 @@
 -- a round robin, one event after another
 use Rattle.std.proofs.Common.{◌≡◌, ℕ, suc, ◌+◌, ◌-◌, ◌*◌, ◌/◌, ◌%◌, ◌<◌, ◌≤◌, ◌⊎◌, [], ◌∷◌, ◌++◌, take}
-use Rattle.std.proofs.Common.{false, true, refl, ◌∙◌, ap, sym, subst, arith, length-append, inl, inr}
+use Rattle.std.proofs.Common.{false, refl, ◌∙◌, ap, sym, subst, arith, length-append, inl, inr}
 use Rattle.std.specs.Prelude.{IsTrue}
 use Rattle.drive.specs.Drivers.{GoesRound, MakesRoundRobin}
 use Rattle.el_base.specs.Kinds.{kind_number}

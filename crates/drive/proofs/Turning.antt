@@ -1,10 +1,9 @@
 -- drivers on threads, one turn after another
-use Rattle.std.proofs.Common.{◌≡◌, ◌≢◌, ℕ, ◌+◌, ◌%◌, ◌<◌, ◌≤◌, ◌⊎◌, false, List, [], ◌∷◌, ◌++◌, Some, length, take, drop, filter, get_or, set, sym, refl, ap, ◌∙◌, subst, inl, inr, arith, length-append}
+use Rattle.std.proofs.Common.{◌≡◌, ◌≢◌, ℕ, ◌+◌, ◌%◌, ◌<◌, ◌≤◌, false, List, [], ◌∷◌, ◌++◌, length, drop, sym, refl, ap, ◌∙◌, subst, inl, inr, arith, length-append}
 use Rattle.std.proofs.lemmas.Bool.Decides.{nat_tests}
 use Rattle.std.proofs.lemmas.List.{append-nil, drop-append-le, get_or-set_other, get_or-set_same, map-append, take-append-le}
 use Rattle.std.proofs.lemmas.List.Elements.{All-append, All-cons, All-nil, filter-append}
-use Rattle.std.specs.Prelude.{All, slice_get, slice_index, slice_set}
-use mathlib.Core.List.{IsPrefix}
+use Rattle.std.specs.Prelude.{slice_index, slice_set}
 use mathlib.Core.Logic.{dite}
 use native.Mathlib.Decide.{ℕ_discrete}
 use Rattle.chronicle.specs.Chronicle.{events}

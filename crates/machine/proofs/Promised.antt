@@ -68,7 +68,8 @@ keeps story room event given = record {
 }
 
 -- and so does the machine that makes it
-pub kept_by : (story now later : Story) (parts : Parts) (room : ℕ) (event : Event) (outcome : Outcome) → MachineStands story parts room → story ≡ now →
+pub kept_by : (story now later : Story) (parts : Parts) (room : ℕ) (event : Event) (outcome : Outcome) →
+    MachineStands story parts room → story ≡ now →
     later ≡ continued now (event ∷ []) → outcome ≡ (next (state_of now) event).outcome → KeepsPromises now.config (change now event outcome later)
 kept_by story now later parts room event outcome stands same more told =
     subst (λ o. KeepsPromises now.config (change now event o later)) (sym told)

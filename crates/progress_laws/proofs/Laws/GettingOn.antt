@@ -129,7 +129,8 @@ line_held (Some l) line is = (l, refl)
 pub holds_only : (state : ModelState) (h line : ℕ) → Sound state → (hart_of state h).held_line ≡ Some line → has_request state h ≡ false
 holds_only state h line sound is = only (sound h).only_holds
   where
-    only : ((hart_of state h).held_line ≡ None) ⊎ OnlyHolds (ordered_of state h) (hart_of state h).section (raised_of state h) → has_request state h ≡ false
+    only : ((hart_of state h).held_line ≡ None) ⊎ OnlyHolds (ordered_of state h) (hart_of state h).section (raised_of state h) →
+        has_request state h ≡ false
     only (inl none) = some_none (sym is ∙ none)
     only (inr alone) = rw (alone.not_raised, alone.not_ordered) refl
 

@@ -5,7 +5,7 @@ use Rattle.std.proofs.Math.Bool.{and-false, or-false, or-true}
 use Rattle.elf_image.specs.Program.{code_word}
 use Rattle.el_model.specs.Armed.{is_quiet}
 use Rattle.el_model.specs.Upcoming as model
-use Rattle.el_model.specs.Upcoming.{Swap, Touch, calls, gives_back, is_load_reserved, is_store_conditional, is_swap, is_swap_op, is_word_store}
+use Rattle.el_model.specs.Upcoming.{Swap, calls, gives_back, is_load_reserved, is_store_conditional, is_swap, is_swap_op, is_word_store}
 use Rattle.el_model.specs.Upcoming.{overlaps, read_at, stops, swap_of, touch_of}
 use Rattle.rv_alu.specs.Action.{action_at, action_of, insn_action_of}
 use Rattle.rv_alu.specs.Cause.{illegal_instruction, instruction_access_fault}

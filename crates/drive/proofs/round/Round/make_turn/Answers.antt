@@ -1,4 +1,4 @@
-use Rattle.std.proofs.Common.{◌≡◌, ◌+◌, ◌%◌, ◌<◌, false, ℕ, List, [], ◌∷◌, ap, refl, sym, subst, arith, ◌∙◌}
+use Rattle.std.proofs.Common.{◌≡◌, ◌+◌, ◌<◌, false, ℕ, [], ◌∷◌, ap, refl, sym, subst, arith, ◌∙◌}
 use Rattle.std.specs.Prelude.{slice_index, slice_set}
 use Rattle.drive.proofs.Turning.{counts_more, round_more}
 use Rattle.drive.specs.Turns.{AreCounts, IsRound, RoundStory, turns_of}

@@ -1,9 +1,9 @@
 -- the machine stands after an event that leaves all as it is
-use Rattle.std.proofs.Common.{◌≡◌, ◌∙◌, [], ◌∷◌, ap, refl}
+use Rattle.std.proofs.Common.{◌∙◌, [], ◌∷◌, ap, refl}
 use Rattle.el_base.specs.declared.events.Event.{Event}
 use Rattle.machine.proofs.GoesOn.{one_run}
 use Rattle.machine.proofs.Resting.{same_after, stands_left, told_left}
-use Rattle.machine.specs.Story.{Story, continued, state_of}
+use Rattle.machine.specs.Story.{continued, state_of}
 use Rattle.machine.proofs.machine.Machine.leave.Goals as goal
 
 pub invariant_of-self : goal.invariant_of-self

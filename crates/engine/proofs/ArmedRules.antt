@@ -9,6 +9,7 @@ use Rattle.el_model.specs.Armed.{ArmedRule, Continues, Elides, LetsGo, armed_rul
 use Rattle.el_model.specs.Armed.{may_grow, most_armed, shown_armed}
 use Rattle.el_model.specs.State.{Armed, ModelState, Turn}
 use Rattle.el_model.specs.Upcoming.{Swap, next_conditional}
+use Rattle.engine.proofs.TakenTurns.{as_well}
 use Rattle.engine.specs.Acting.{ActsArmed}
 use Rattle.engine.specs.Armed.{ArmedSomewhere, FollowsArmed, FollowsArmedSomewhere}
 use Rattle.engine.specs.Parts.{Parts}
@@ -96,12 +97,8 @@ continues_at state h armed is = by (next_conditional (shown_armed state h armed)
 pub by_rule : (old new : Parts) (h : ℕ) (armed : Armed) (rule : ArmedRule) (turn : ModelState → Turn) (result : Outcome) →
     ((from : ModelState) → ActsArmed old h from armed → armed_rule from h armed ≡ rule) →
     TakesTurn (FollowsArmed old h armed rule) turn old new result → TakesTurn (λ from. ActsArmed old h from armed) turn old new result
-by_rule old new h armed rule turn result is takes = record {
-  ready = takes.ready;
-  state = λ from acts. takes.state from (record { acts = acts; rule_is = is from acts });
-  outcome = λ from acts. takes.outcome from (record { acts = acts; rule_is = is from acts });
-  memory_stays = takes.memory_stays;
-}
+by_rule old new h armed rule turn result is takes =
+    as_well takes (λ from acts. record { acts = acts; rule_is = is from acts }) (λ from acts. refl)
 
 pub follows_somewhere : (parts : Parts) (h : ℕ) (armed : Armed) (rule : ArmedRule) → ArmedSomewhere parts h armed →
     ((from : ModelState) → ActsArmed parts h from armed → armed_rule from h armed ≡ rule) → FollowsArmedSomewhere parts h armed rule

@@ -21,7 +21,7 @@ use Rattle.coherence.proofs.Laws.Owners.{copy_is}
 use Rattle.coherence.specs.Lent.{slotted_at}
 use Rattle.coherence.specs.Beginning.{line_of}
 use Rattle.coherence.specs.Caches.{behind_of, cache_at, copies_of}
-use Rattle.coherence.specs.GivenBack.{copies_with, IsCopyBack, Stored, TellsAfter, bytes_back}
+use Rattle.coherence.specs.GivenBack.{copies_with, IsCopyBack, Stored, bytes_back}
 use Rattle.coherence.specs.GivenBack as given_back_of
 use Rattle.coherence.specs.Served.{Copies, HasLine, TellsOf}
 use Rattle.el_base.specs.Line.{line_number}

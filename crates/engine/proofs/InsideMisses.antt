@@ -1,11 +1,8 @@
 -- a hart with a live section that misses a line
-use Rattle.std.proofs.Common.{◌≡◌, ◌∙◌, ℕ, refl, ap, sym, subst, arith}
+use Rattle.std.proofs.Common.{◌≡◌, ◌∙◌, ℕ, refl, ap, subst, arith}
 use Rattle.residency.specs.Cache.{room_of}
 use Rattle.cached_step.proofs.Laws.Told.{touched_there}
-use Rattle.el_base.proofs.Laws.Lines.{line_addr-of_line}
-use Rattle.el_base.specs.declared.line.LineAddr.{LineAddr}
 use Rattle.el_base.specs.declared.outcomes.Need.{Need}
-use Rattle.el_base.specs.declared.outcomes.Outcome.TheVariants as outcomes
 use Rattle.el_model.specs.Deed.{HasRoom}
 use Rattle.el_model.specs.InSection.{Misses, by_section_rule, section_rule, section_turn, shown_in}
 use Rattle.el_model.specs.Plain.{missed}
@@ -33,12 +30,6 @@ pub misses_turn : (from : ModelState) (h : ℕ) (section : Section) (line : ℕ)
     section_turn from h section ≡ missed from h line need
 unfolding section_turn
 misses_turn from h section line need is = ap (by_section_rule from h section) is ∙ by_rule from h section line need
-
-pub misses_outcome : (from : ModelState) (h : ℕ) (section : Section) (line : LineAddr) (need : Need) →
-    section_rule from h section ≡ Misses line.number need → outcomes.Missed line need ≡ (section_turn from h section).outcome
-misses_outcome from h section line need is =
-    ap (λ l. outcomes.Missed l need) (sym (line_addr-of_line line))
-    ∙ ap (λ turn. turn.outcome) (sym (misses_turn from h section line.number need is))
 
 pub may_miss : (parts : Parts) (h : ℕ) (from : ModelState) (section : Section) (line : ℕ) (need : Need) (action : Action) →
     FollowsRule parts h from section (Misses line need) → HasNoRequest parts.bus h → action ≡ next_action parts h →

@@ -5,19 +5,22 @@ use Rattle.residency.specs.Cache.{letter_of, room_of, write_bits_of}
 use Rattle.el_base.specs.declared.outcomes.Cause.TheVariants.{Room, Lines, Long, Call, Mixed}
 use Rattle.el_base.specs.declared.outcomes.Need.{Need}
 use Rattle.el_base.specs.declared.outcomes.Need.TheVariants.{Read, Write}
+use Rattle.el_base.specs.declared.outcomes.Outcome.{Outcome}
 use Rattle.el_model.proofs.Laws.Harts.{with_hart_kept}
 use Rattle.el_model.proofs.Laws.Tests.{by_test}
 use Rattle.el_model.specs.Conflicts.{is_wanted}
 use Rattle.el_model.specs.Deed as deeds
 use Rattle.el_model.specs.Deed.{GoesFurther, GoesOn, HasRoom, IsInside, IsShort, MayCommit, MustRollBack, WantsBit, is_refused}
 use Rattle.el_model.specs.InSection.{Buffers, Commits, Misses, RollsBack, SectionRule, bit_rule, is_covered, is_full, section_rule}
-use Rattle.el_model.specs.InSection.{shown_in, touch_rule}
+use Rattle.el_model.specs.InSection.{section_turn, shown_in, touch_rule}
 use Rattle.el_model.specs.State.{ModelState, Section, cache_of, hart_of}
 use Rattle.el_model.specs.Upcoming.{Touch, calls_or_stops, is_release, next_touch, stores_to_word}
 use Rattle.engine.proofs.Stepped.{runs}
+use Rattle.engine.proofs.TakenTurns.{as_well}
 use Rattle.engine.specs.Acting.{ActsInside, freed}
 use Rattle.engine.specs.Inside.{FollowsRule}
 use Rattle.engine.specs.Parts.{Parts}
+use Rattle.engine.specs.Turns.{TakesTurn}
 use Rattle.moesi.specs.Letters.{may_of}
 
 abbrev pub Says : ModelState → ℕ → Section → SectionRule → Type 0
@@ -130,3 +133,11 @@ freed_rule from h section =
     else if stores_to_word shown h section.word then RollsBack Mixed
     else rule)
     (freed_touch from h (next_touch shown h))
+
+-- a turn by a rule is that of a hart whose rule it is
+pub by_rule : (old new : Parts) (h : ℕ) (section : Section) (rule : SectionRule) (result : Outcome) →
+    ((from : ModelState) → ActsInside old h from section → section_rule from h section ≡ rule) →
+    TakesTurn (λ from. FollowsRule old h from section rule) (λ from. section_turn from h section) old new result →
+    TakesTurn (λ from. ActsInside old h from section) (λ from. section_turn from h section) old new result
+by_rule old new h section rule result is takes =
+    as_well takes (λ from inside. record { inside = inside; rule_is = is from inside }) (λ from inside. refl)

@@ -4,6 +4,7 @@ mod RestoredHarts
 mod LostReservations
 mod Quotas
 mod Standing
+mod TakenTurns
 mod Misses
 mod LentThere
 mod Reaching

@@ -1,20 +1,21 @@
 -- a step of a hart that acts outside of a section is that of its rule
-use Rattle.std.proofs.Common.{◌≡◌, ◌∙◌, ℕ, Option, ap}
+use Rattle.std.proofs.Common.{◌≡◌, ◌∙◌, ℕ, Option, ap, refl}
 use Rattle.std.specs.Prelude.{if◌then◌else◌}
 use Rattle.el_base.specs.declared.events.Event.{Event}
 use Rattle.el_base.specs.declared.events.Kind.TheVariants as kinds
 use Rattle.el_base.specs.declared.hart_id.HartId.{HartId}
-use Rattle.el_base.proofs.Laws.Lines.{line_addr-of_line}
-use Rattle.el_base.specs.declared.line.LineAddr.{LineAddr}
 use Rattle.el_base.specs.declared.outcomes.Need.{Need}
+use Rattle.el_base.specs.declared.outcomes.Outcome.{Outcome}
 use Rattle.el_base.specs.declared.outcomes.Outcome.TheVariants as outcomes
 use Rattle.el_model.specs.Next.{going_turn, next, outside_turn, stalled, status_turn, step_turn}
-use Rattle.el_model.specs.Plain.{Arms, Begins, Misses, PlainRule, Runs, by_plain_rule, missed, plain_rule, plain_turn}
+use Rattle.el_model.specs.Plain.{Begins, Misses, PlainRule, Runs, by_plain_rule, missed, plain_rule, plain_turn}
 use Rattle.el_model.specs.State.{ModelState, section_of}
 use Rattle.el_model.specs.Upcoming.{Swap, Touch}
 use Rattle.engine.proofs.StandsOutside.{runs_there}
+use Rattle.engine.proofs.TakenTurns.{as_well}
 use Rattle.engine.specs.Acting.{ActsOutside}
 use Rattle.engine.specs.Parts.{Parts}
+use Rattle.engine.specs.Turns.{TakesTurn}
 
 acting_turn : (parts : Parts) (h : ℕ) (state : ModelState) → ActsOutside parts h state → step_turn state h ≡ plain_turn state h
 unfolding step_turn
@@ -37,26 +38,26 @@ pub step_is : (parts : Parts) (hart : HartId) (state : ModelState) (rule : Plain
 unfolding next
 step_is parts hart state rule acts is = acting_turn parts hart.number state acts ∙ turn_is state hart.number rule is
 
--- what comes of it
-pub ran_outcome : (state : ModelState) (h : ℕ) (touch : Option Touch) → plain_rule state h ≡ Runs touch → (plain_turn state h).outcome ≡ outcomes.Ran
+-- what comes of a rule
+pub ran_outcome : (state : ModelState) (h : ℕ) (touch : Option Touch) →
+    outcomes.Ran ≡ (by_plain_rule state h (Runs touch)).outcome
 unfolding by_plain_rule
-ran_outcome state h touch is = ap (λ turn. turn.outcome) (turn_is state h (Runs touch) is)
+ran_outcome state h touch = refl
 
-pub began_outcome : (state : ModelState) (h : ℕ) (swap : Swap) → plain_rule state h ≡ Begins swap → (plain_turn state h).outcome ≡ outcomes.Began
+pub began_outcome : (state : ModelState) (h : ℕ) (swap : Swap) →
+    outcomes.Began ≡ (by_plain_rule state h (Begins swap)).outcome
 unfolding by_plain_rule
-began_outcome state h swap is = ap (λ turn. turn.outcome) (turn_is state h (Begins swap) is)
+began_outcome state h swap = refl
 
-pub armed_outcome : (state : ModelState) (h word : ℕ) → plain_rule state h ≡ Arms word → (plain_turn state h).outcome ≡ outcomes.Armed
+pub missed_turn : (state : ModelState) (h line : ℕ) (need : Need) → plain_rule state h ≡ Misses line need →
+    plain_turn state h ≡ missed state h line need
 unfolding by_plain_rule
-armed_outcome state h word is = ap (λ turn. turn.outcome) (turn_is state h (Arms word) is)
+missed_turn state h line need is = turn_is state h (Misses line need) is
 
-pub missed_state : (state : ModelState) (h : ℕ) (line : LineAddr) (need : Need) → plain_rule state h ≡ Misses line.number need →
-    (plain_turn state h).state ≡ (missed state h line.number need).state
-unfolding by_plain_rule
-missed_state state h line need is = ap (λ turn. turn.state) (turn_is state h (Misses line.number need) is)
-
-pub missed_outcome : (state : ModelState) (h : ℕ) (line : LineAddr) (need : Need) → plain_rule state h ≡ Misses line.number need →
-    (plain_turn state h).outcome ≡ outcomes.Missed line need
-unfolding by_plain_rule
-missed_outcome state h line need is =
-    ap (λ turn. turn.outcome) (turn_is state h (Misses line.number need) is) ∙ ap (λ l. outcomes.Missed l need) (line_addr-of_line line)
+-- a turn by a rule is that of a hart whose rule it is
+pub by_rule : (old new : Parts) (h : ℕ) (rule : PlainRule) (result : Outcome) →
+    ((from : ModelState) → ActsOutside old h from → plain_rule from h ≡ rule) →
+    TakesTurn (λ from. ActsOutside old h from) (λ from. by_plain_rule from h rule) old new result →
+    TakesTurn (λ from. ActsOutside old h from) (λ from. plain_turn from h) old new result
+by_rule old new h rule result is takes =
+    as_well takes (λ from acts. acts) (λ from acts. turn_is from h rule (is from acts))

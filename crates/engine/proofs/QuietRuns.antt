@@ -246,6 +246,7 @@ module _ (old new : Parts) (hart : HartId) (action : Action) (is : action ≡ ne
   quiet_turn some none_asked = record {
     ready = ready some.from some.acts none_asked;
     state = λ from acts. state from acts;
-    outcome = λ from acts. sym (ran_outcome from hart.number _ (rule from acts));
+    outcome = λ from acts.
+        ran_outcome from hart.number _ ∙ ap (λ turn. turn.outcome) (sym (turn_is from hart.number _ (rule from acts)));
     memory_stays = ap (λ p. p.bus.copies.lines) new_is;
   }

@@ -1,6 +1,6 @@
 -- a step of a hart, and the parts after it
 use Rattle.std.proofs.Common.{◌≡◌, ◌≢◌, ◌∙◌, ℕ, ◌+◌, ◌≤◌, ◌<◌, ◌||◌, if◌then◌else◌, false, true, List, length}
-use Rattle.std.proofs.Common.{Option, Some, None, is_some, refl, ap, sym, subst, inl, inr}
+use Rattle.std.proofs.Common.{Some, None, is_some, refl, ap, sym, subst, inl, inr}
 use Rattle.std.specs.Prelude.{◌==◌, not, slice_set}
 use Rattle.std.proofs.lemmas.Bool.{cases_eq}
 use Rattle.std.proofs.lemmas.List.{length-set, set-set}
@@ -165,7 +165,8 @@ pub set_twice : (state : ModelState) (h : ℕ) (first second : Hart) →
 set_twice state h first second = ap (λ harts. record state { harts = harts }) (set-set state.harts h first second)
 
 -- what one hart keeps has changed, and then the bus has, in parts whose bus has
-pub put_in : (old mid : Parts) (between bus : BusState) (h i : ℕ) (own now : OwnState) → mid ≡ record old { bus = between } → i ≡ h → own ≡ now →
+pub put_in : (old mid : Parts) (between bus : BusState) (h i : ℕ) (own now : OwnState) →
+    mid ≡ record old { bus = between } → i ≡ h → own ≡ now →
     record mid { bus = bus; harts = slice_set mid.harts i own } ≡ record old { bus = bus; harts = slice_set old.harts h now }
 put_in old mid between bus h i own now same at is =
     ap {A = Parts} (λ p. record p { bus = bus; harts = slice_set p.harts i own }) same

@@ -1,13 +1,15 @@
 -- steps of harts, from the state that a program reaches
-use Rattle.std.proofs.Common.{◌≡◌, ◌≢◌, ◌∙◌, ℕ, ◌≤◌, ◌<◌, Bool, true, false, length, Option, Some, None, is_some, refl, ap, sym, subst}
+use Rattle.std.proofs.Common.{◌≡◌, ◌≢◌, ◌∙◌, ℕ, ◌≤◌, ◌<◌, Bool, true, false, length, Option, Some, None, is_some}
+use Rattle.std.proofs.Common.{refl, ap, sym, subst}
 use Rattle.std.specs.Prelude.{◌||◌, if◌then◌else◌, option_map}
 use Rattle.bus_order.specs.Order.{Request, request_of}
-use Rattle.el_base.specs.declared.outcomes.Outcome.TheVariants.{Idle, Stalled}
+use Rattle.el_base.specs.declared.outcomes.Outcome.{Outcome}
 use Rattle.el_base.proofs.Laws.Options.{none_from_both}
 use Rattle.el_model.proofs.Laws.Harts.{with_hart_kept}
 use Rattle.el_model.proofs.Laws.Keeps.{keeps_with_hart}
 use Rattle.el_model.specs.Next.{going_turn, stalled, status_turn, step_turn}
-use Rattle.el_model.specs.State.{Armed, ModelState, Section, armed_of, has_request, hart_of, idle, ordered_of, raised_of, section_of}
+use Rattle.el_model.specs.State.{Armed, ModelState, Section, Turn, armed_of, has_request, hart_of, idle, ordered_of}
+use Rattle.el_model.specs.State.{raised_of, section_of}
 use Rattle.elf_image.specs.Limits.{end_limit}
 use Rattle.engine.proofs.Misses.{same_each}
 use Rattle.engine.proofs.Laws.Places.{span_small}
@@ -15,6 +17,7 @@ use Rattle.engine.proofs.Standing.{with_bus}
 use Rattle.engine.specs.Acting.{ActsArmed, ActsInside, ActsOutside, MayAct, MayActSomewhere, freed}
 use Rattle.engine.specs.Parts.{IsInState, Parts, committed_at, own_at}
 use Rattle.engine.specs.Reached.{IsReached, EngineStands}
+use Rattle.engine.specs.Turns.{TakesTurn}
 use Rattle.rv_alu.specs.declared.view.HartStatus.{HartStatus}
 use Rattle.rv_alu.specs.declared.view.HartStatus.TheVariants.{Exited, Running, Trapped}
 use Rattle.rv_flat.specs.FlatState.{status_of}
@@ -22,12 +25,23 @@ use Rattle.snoop.specs.Asking.{Asking, HasNoRequest, Nothing, Placed, Raised, as
 use Rattle.snoop.specs.Shows.{IsReady, BusState, Shows}
 
 -- how a hart stands in the parts is how it stands in the state
-status_is : (parts : Parts) (state : ModelState) (h : ℕ) → h < length parts.harts → IsInState parts state →
+pub status_is : (parts : Parts) (state : ModelState) (h : ℕ) → h < length parts.harts → IsInState parts state →
     status_of state.committed h ≡ (committed_at parts.harts h).status
 status_is parts state h below is = ap (λ view. view.status) (sym (is.harts h below).view)
 
+-- what leaves the parts as they are takes a turn that leaves the state as it is
+pub keeps_still : (parts : Parts) (turn : ModelState → Turn) (result : Outcome) → IsReady parts.bus →
+    ((state : ModelState) → IsInState parts state → turn state ≡ record { state = state; outcome = result }) →
+    TakesTurn (λ state. IsReached state × IsInState parts state) turn parts parts result
+keeps_still parts turn result ready same = record {
+  ready = ready;
+  state = λ state is. subst (λ t. IsInState parts t.state) (sym (same state is.1)) is.1;
+  outcome = λ state is. ap (λ t. t.outcome) (sym (same state is.1));
+  memory_stays = refl;
+}
+
 -- a hart that has stopped has nothing to do
-stopped_turn : (state : ModelState) (h : ℕ) → status_of state.committed h ≢ Running → step_turn state h ≡ idle state
+pub stopped_turn : (state : ModelState) (h : ℕ) → status_of state.committed h ≢ Running → step_turn state h ≡ idle state
 unfolding step_turn
 stopped_turn state h stopped = by (status_of state.committed h) stopped
   where
@@ -36,33 +50,12 @@ stopped_turn state h stopped = by (status_of state.committed h) stopped
     by (Exited code) other = refl
     by (Trapped cause pc) other = refl
 
-pub stopped_state : (parts : Parts) (state : ModelState) (h : ℕ) → h < length parts.harts → IsInState parts state →
-    (committed_at parts.harts h).status ≢ Running → IsInState parts (step_turn state h).state
-stopped_state parts state h below is stopped =
-    subst (λ turn. IsInState parts turn.state)
-    (sym (stopped_turn state h (λ running. stopped (sym (status_is parts state h below is) ∙ running)))) is
-
-pub stopped_outcome : (parts : Parts) (state : ModelState) (h : ℕ) → h < length parts.harts → IsInState parts state →
-    (committed_at parts.harts h).status ≢ Running → Idle ≡ (step_turn state h).outcome
-stopped_outcome parts state h below is stopped =
-    ap (λ turn. turn.outcome) (sym (stopped_turn state h (λ running. stopped (sym (status_is parts state h below is) ∙ running))))
-
 -- one that waits for a request stalls
 pub stalled_turn : (state : ModelState) (h : ℕ) → status_of state.committed h ≡ Running → has_request state h ≡ true →
     step_turn state h ≡ stalled state
 unfolding step_turn
 stalled_turn state h running waits =
     ap (status_turn state h) running ∙ ap (λ test. if test then stalled state else going_turn state h (section_of state h)) waits
-
-pub stalled_state : (parts : Parts) (state : ModelState) (h : ℕ) → h < length parts.harts → IsInState parts state →
-    (committed_at parts.harts h).status ≡ Running → has_request state h ≡ true → IsInState parts (step_turn state h).state
-stalled_state parts state h below is running waits =
-    subst (λ turn. IsInState parts turn.state) (sym (stalled_turn state h (status_is parts state h below is ∙ running) waits)) is
-
-pub stalled_outcome : (parts : Parts) (state : ModelState) (h : ℕ) → h < length parts.harts → IsInState parts state →
-    (committed_at parts.harts h).status ≡ Running → has_request state h ≡ true → Stalled ≡ (step_turn state h).outcome
-stalled_outcome parts state h below is running waits =
-    ap (λ turn. turn.outcome) (sym (stalled_turn state h (status_is parts state h below is ∙ running) waits))
 
 -- what a hart has asked tells whether it waits
 abbrev pub is_asking : Asking → Bool

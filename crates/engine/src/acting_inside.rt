@@ -6,10 +6,10 @@ ghost use Rattle.el_model.specs.InSection.{section_rule, section_turn};
 ghost use Rattle.el_model.specs.State.{ModelState, Section};
 ghost use Rattle.engine.specs.Acting.{ActsInside, next_action};
 ghost use Rattle.engine.specs.Inside.{ActsInSection};
-ghost use Rattle.engine.specs.Parts.{IsInState, own_at, parts, room_in};
+ghost use Rattle.engine.specs.Parts.{own_at, parts, room_in};
+ghost use Rattle.engine.specs.Turns.{TakesTurn};
 ghost use Rattle.rv_alu.specs.Footprint.{IsInPlace};
 ghost use Rattle.section_ctl.specs.State.{section_of};
-ghost use Rattle.snoop.specs.Shows.{IsReady};
 ghost use Rattle.step_rules.specs.Rules.{definition_in_section};
 
 use crate::engine::Engine;
@@ -25,13 +25,8 @@ impl Engine {
         requires some { ActsInSection (parts self.old) hart.number }
         requires action { action ≡ next_action (parts self.old) hart.number }
         requires in_place { IsInPlace (parts self.old).span (room_in (parts self.old)) action }
-        ensures ready { IsReady (parts self.new).bus }
-        ensures state { (from : ModelState) (section : Section) → ActsInside (parts self.old) hart.number from section →
-            IsInState (parts self.new) (section_turn from hart.number section).state }
-        ensures outcome { (from : ModelState) (section : Section) →
-            ActsInside (parts self.old) hart.number from section →
-            result ≡ (section_turn from hart.number section).outcome }
-        ensures memory_stays { (parts self.new).bus.copies.lines ≡ (parts self.old).bus.copies.lines }
+        ensures { (section : Section) → TakesTurn (λ from. ActsInside (parts self.old) hart.number from section)
+            (λ from. section_turn from hart.number section) (parts self.old) (parts self.new) result }
     {
         let Some(live) = self.harts[usize::from(hart.number)].section().live() else {
             unreachable!()

@@ -5,10 +5,10 @@ ghost use Rattle.el_model.specs.Plain.{plain_turn};
 ghost use Rattle.el_model.specs.State.{ModelState};
 ghost use Rattle.engine.specs.Acting.{ActsOutside, next_action};
 ghost use Rattle.engine.specs.Outside.{IsItsRule, OutsideSomewhere};
-ghost use Rattle.engine.specs.Parts.{IsInState, own_at, parts, room_in};
+ghost use Rattle.engine.specs.Parts.{own_at, parts, room_in};
+ghost use Rattle.engine.specs.Turns.{TakesTurn};
 ghost use Rattle.rv_alu.specs.Footprint.{IsInPlace};
 ghost use Rattle.snoop.specs.Asking.{HasNoRequest};
-ghost use Rattle.snoop.specs.Shows.{IsReady};
 ghost use Rattle.step_rules.specs.Rules.{TellsOld, definition_plain};
 
 use crate::engine::Engine;
@@ -23,12 +23,8 @@ impl Engine {
         requires no_request { HasNoRequest (parts self.old).bus hart.number }
         requires action { action ≡ next_action (parts self.old) hart.number }
         requires in_place { IsInPlace (parts self.old).span (room_in (parts self.old)) action }
-        ensures ready { IsReady (parts self.new).bus }
-        ensures state { (from : ModelState) → ActsOutside (parts self.old) hart.number from →
-            IsInState (parts self.new) (plain_turn from hart.number).state }
-        ensures outcome { (from : ModelState) → ActsOutside (parts self.old) hart.number from →
-            result ≡ (plain_turn from hart.number).outcome }
-        ensures memory_stays { (parts self.new).bus.copies.lines ≡ (parts self.old).bus.copies.lines }
+        ensures { TakesTurn (λ from. ActsOutside (parts self.old) hart.number from)
+            (λ from. plain_turn from hart.number) (parts self.old) (parts self.new) result }
     {
         if is_quiet(&action) && self.is_unwatched(hart) {
             return self.run_quiet(hart, action);

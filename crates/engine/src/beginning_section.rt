@@ -1,20 +1,18 @@
 //! A section that begins.
 
-ghost use Rattle.std.specs.Prelude.{◌≡◌, ◌<◌, ◌%◌, None, length, slice_set, true};
+ghost use Rattle.std.specs.Prelude.{◌≡◌, ◌<◌, ◌%◌, None, length, true};
 ghost use Rattle.residency.specs.Cache.{is_resident};
 ghost use Rattle.el_base.specs.Line.{line_number};
-ghost use Rattle.el_base.specs.declared.outcomes.Outcome.TheVariants.{Began};
 ghost use Rattle.el_model.specs.Plain.{Begins, by_plain_rule};
-ghost use Rattle.el_model.specs.State.{ModelState};
 ghost use Rattle.engine.specs.Acting.{ActsOutside, next_action, sets_in};
 ghost use Rattle.engine.specs.Beginning.{BeganIn, HasMarked};
 ghost use Rattle.engine.specs.Outside.{IsItsRule, OutsideSomewhere};
-ghost use Rattle.engine.specs.Parts.{IsInState, own_at, parts, present_at, room_in};
+ghost use Rattle.engine.specs.Parts.{own_at, parts, present_at, room_in};
+ghost use Rattle.engine.specs.Turns.{TakesTurn};
 ghost use Rattle.rv_alu.specs.Footprint.{IsInPlace};
 ghost use Rattle.rv_alu.specs.declared.action.Action.TheVariants.{Amo};
 ghost use Rattle.rv_alu.specs.declared.view.HartStatus.TheVariants.{Running};
 ghost use Rattle.snoop.specs.Asking.{HasNoRequest};
-ghost use Rattle.snoop.specs.Shows.{IsReady};
 ghost use Rattle.step_rules.specs.Actions.{numbered_swap};
 
 use crate::engine::Engine;
@@ -31,11 +29,9 @@ impl Engine {
         requires action { action ≡ next_action (parts self.old) hart.number }
         requires in_place { IsInPlace (parts self.old).span (room_in (parts self.old)) action }
         requires begins { IsItsRule (parts self.old) hart.number (Begins (numbered_swap swap)) }
-        ensures ready { IsReady (parts self.new).bus }
-        ensures state { (from : ModelState) → ActsOutside (parts self.old) hart.number from →
-            IsInState (parts self.new) (by_plain_rule from hart.number (Begins (numbered_swap swap))).state }
-        ensures outcome { result ≡ Began }
-        ensures memory_stays { (parts self.new).bus.copies.lines ≡ (parts self.old).bus.copies.lines }
+        ensures { TakesTurn (λ from. ActsOutside (parts self.old) hart.number from)
+            (λ from. by_plain_rule from hart.number (Begins (numbered_swap swap))) (parts self.old) (parts self.new)
+            result }
     {
         match action {
             Action::Amo { rd, .. } => {

@@ -3,15 +3,14 @@
 ghost use Rattle.std.specs.Prelude.{◌≡◌, ◌<◌, Some, length, true};
 ghost use Rattle.std.specs.Option.{option_map};
 ghost use Rattle.residency.specs.Cache.{is_resident};
-ghost use Rattle.el_base.specs.declared.outcomes.Outcome.TheVariants.{Buffered};
 ghost use Rattle.el_model.specs.InSection.{Buffers, section_turn};
-ghost use Rattle.el_model.specs.State.{ModelState, Section};
+ghost use Rattle.el_model.specs.State.{Section};
 ghost use Rattle.engine.specs.Acting.{next_action, sets_in};
 ghost use Rattle.engine.specs.Covered.{HasItsBitNow, IsTouchedThere};
 ghost use Rattle.engine.specs.Inside.{FollowsRule, FollowsSomewhere};
-ghost use Rattle.engine.specs.Parts.{IsInState, parts};
+ghost use Rattle.engine.specs.Parts.{parts};
 ghost use Rattle.engine.specs.Private.{HasCovered, MayRunPrivately, RanPrivately};
-ghost use Rattle.snoop.specs.Shows.{IsReady};
+ghost use Rattle.engine.specs.Turns.{TakesTurn};
 ghost use Rattle.step_rules.specs.Actions.{numbered_touch};
 
 use crate::engine::Engine;
@@ -25,12 +24,9 @@ impl Engine {
     pub(crate) fn buffer(&mut self, hart: HartId, action: Action, touch: Option<Touch>) -> Outcome
         requires follows { FollowsSomewhere (parts self.old) hart.number (Buffers (option_map numbered_touch touch)) }
         requires action { action ≡ next_action (parts self.old) hart.number }
-        ensures ready { IsReady (parts self.new).bus }
-        ensures state { (from : ModelState) (section : Section) →
-            FollowsRule (parts self.old) hart.number from section (Buffers (option_map numbered_touch touch)) →
-            IsInState (parts self.new) (section_turn from hart.number section).state }
-        ensures outcome { result ≡ Buffered }
-        ensures memory_stays { (parts self.new).bus.copies.lines ≡ (parts self.old).bus.copies.lines }
+        ensures { (section : Section) → TakesTurn
+            (λ from. FollowsRule (parts self.old) hart.number from section (Buffers (option_map numbered_touch touch)))
+            (λ from. section_turn from hart.number section) (parts self.old) (parts self.new) result }
     {
         self.cover(hart, touch);
         self.run_privately(hart, action);

@@ -1,14 +1,13 @@
 //! Commits of a live section.
 
 ghost use Rattle.std.specs.Prelude.{◌≡◌, ◌<◌, ◌+◌, IfSome, IsSome, length};
-ghost use Rattle.el_base.specs.declared.outcomes.Outcome.TheVariants.{Committed};
 ghost use Rattle.el_model.specs.InSection.{Commits, section_turn};
-ghost use Rattle.el_model.specs.State.{ModelState, Section};
+ghost use Rattle.el_model.specs.State.{Section};
 ghost use Rattle.engine.specs.Acting.{next_action};
 ghost use Rattle.engine.specs.Inside.{FollowsRule, FollowsSomewhere};
-ghost use Rattle.engine.specs.Parts.{IsInState, own_at, parts};
+ghost use Rattle.engine.specs.Parts.{own_at, parts};
 ghost use Rattle.engine.specs.Private.{CommitsIn, MayTakeEffect};
-ghost use Rattle.snoop.specs.Shows.{IsReady};
+ghost use Rattle.engine.specs.Turns.{TakesTurn};
 
 use crate::engine::Engine;
 use crate::others_reservations::unreserve_others;
@@ -21,14 +20,9 @@ impl Engine {
     pub(crate) fn commit(&mut self, hart: HartId, action: Action) -> Outcome
         requires follows { FollowsSomewhere (parts self.old) hart.number Commits }
         requires action { action ≡ next_action (parts self.old) hart.number }
-        ensures ready { IsReady (parts self.new).bus }
-        ensures state { (from : ModelState) (section : Section) →
-            FollowsRule (parts self.old) hart.number from section Commits →
-            IsInState (parts self.new) (section_turn from hart.number section).state }
-        ensures outcome { (from : ModelState) (section : Section) →
-            FollowsRule (parts self.old) hart.number from section Commits →
-            result ≡ (section_turn from hart.number section).outcome }
-        ensures memory_stays { (parts self.new).bus.copies.lines ≡ (parts self.old).bus.copies.lines }
+        ensures { (section : Section) →
+            TakesTurn (λ from. FollowsRule (parts self.old) hart.number from section Commits)
+            (λ from. section_turn from hart.number section) (parts self.old) (parts self.new) result }
     {
         let count = self.count_with_release(hart);
         unreserve_others(&mut self.harts, hart);

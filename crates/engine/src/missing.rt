@@ -1,12 +1,12 @@
 //! Misses.
 
 ghost use Rattle.std.specs.Prelude.{◌≡◌};
-ghost use Rattle.el_base.specs.declared.outcomes.Outcome.TheVariants.{Missed};
 ghost use Rattle.el_model.specs.Plain.{missed, missed_hart};
 ghost use Rattle.el_model.specs.State.{ModelState, hart_of, with_hart};
 ghost use Rattle.engine.specs.Acting.{MayAct};
 ghost use Rattle.engine.specs.Missing.{MayMiss};
-ghost use Rattle.engine.specs.Parts.{IsInState, parts};
+ghost use Rattle.engine.specs.Parts.{parts};
+ghost use Rattle.engine.specs.Turns.{TakesTurn};
 ghost use Rattle.snoop.specs.Shows.{IsReady, Shows};
 
 use crate::engine::Engine;
@@ -16,11 +16,8 @@ impl Engine {
     /// A hart misses a line: it raises a request for it.
     pub(crate) fn miss(&mut self, hart: HartId, line: LineAddr, need: Need) -> Outcome
         requires may { MayMiss (parts self.old) hart.number line.number }
-        ensures ready { IsReady (parts self.new).bus }
-        ensures state { (from : ModelState) → MayAct (parts self.old) hart.number from →
-            IsInState (parts self.new) (missed from hart.number line.number need).state }
-        ensures outcome { result ≡ Missed line need }
-        ensures memory_stays { (parts self.new).bus.copies.lines ≡ (parts self.old).bus.copies.lines }
+        ensures { TakesTurn (λ from. MayAct (parts self.old) hart.number from)
+            (λ from. missed from hart.number line.number need) (parts self.old) (parts self.new) result }
     {
         self.ask(hart, line, need);
         Outcome::Missed { line, need }

@@ -5,18 +5,17 @@ ghost use Rattle.std.specs.Option.{option_map};
 ghost use Rattle.cache_sets.specs.Slotted.{IsLent};
 ghost use Rattle.cached_step.specs.CacheRun.{permitted};
 ghost use Rattle.core_step.specs.Run.{IsAligned, lacking};
-ghost use Rattle.el_base.specs.declared.outcomes.Outcome.TheVariants.{Ran};
 ghost use Rattle.el_model.specs.Plain.{Runs, by_plain_rule};
 ghost use Rattle.el_model.specs.State.{ModelState};
 ghost use Rattle.el_model.specs.Upcoming.{next_exchange, touch_of};
 ghost use Rattle.engine.specs.Acting.{ActsOutside, cache_in, next_action, sets_in};
 ghost use Rattle.engine.specs.Outside.{IsItsRule, OutsideSomewhere, RanIn};
-ghost use Rattle.engine.specs.Parts.{IsInState, own_at, parts, present_at, room_in};
+ghost use Rattle.engine.specs.Parts.{own_at, parts, present_at, room_in};
+ghost use Rattle.engine.specs.Turns.{TakesTurn};
 ghost use Rattle.hart_state.specs.Deeds.{ran_own};
 ghost use Rattle.rv_alu.specs.Footprint.{IsInPlace, footprint};
 ghost use Rattle.rv_alu.specs.declared.view.HartStatus.TheVariants.{Running};
 ghost use Rattle.snoop.specs.Asking.{HasNoRequest};
-ghost use Rattle.snoop.specs.Shows.{IsReady};
 ghost use Rattle.step_rules.specs.Actions.{numbered_swap};
 
 use crate::engine::Engine;
@@ -34,11 +33,9 @@ impl Engine {
         requires action { action ≡ next_action (parts self.old) hart.number }
         requires in_place { IsInPlace (parts self.old).span (room_in (parts self.old)) action }
         requires runs { IsItsRule (parts self.old) hart.number (Runs (touch_of (footprint action))) }
-        ensures ready { IsReady (parts self.new).bus }
-        ensures state { (from : ModelState) → ActsOutside (parts self.old) hart.number from →
-            IsInState (parts self.new) (by_plain_rule from hart.number (Runs (touch_of (footprint action)))).state }
-        ensures outcome { result ≡ Ran }
-        ensures memory_stays { (parts self.new).bus.copies.lines ≡ (parts self.old).bus.copies.lines }
+        ensures { TakesTurn (λ from. ActsOutside (parts self.old) hart.number from)
+            (λ from. by_plain_rule from hart.number (Runs (touch_of (footprint action)))) (parts self.old)
+            (parts self.new) result }
     {
         let exchange = self.next_exchange(hart, action);
         self.learn(hart, action, exchange);

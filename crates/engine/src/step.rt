@@ -7,6 +7,7 @@ ghost use Rattle.engine.specs.Acting.{MayAct, MayActSomewhere, next_action};
 ghost use Rattle.engine.specs.MainMemory.{lines_from};
 ghost use Rattle.engine.specs.Parts.{IsInState, committed_at, parts, room_in};
 ghost use Rattle.engine.specs.Reached.{IsReached, EngineStands};
+ghost use Rattle.engine.specs.Turns.{TakesTurn};
 ghost use Rattle.rv_alu.specs.Footprint.{IsInPlace};
 ghost use Rattle.rv_alu.specs.declared.view.HartStatus.TheVariants.{Running};
 ghost use Rattle.snoop.specs.Shows.{IsReady, Shows};
@@ -63,12 +64,8 @@ impl Engine {
     fn step_of(&mut self, hart: HartId) -> Outcome
         requires hart_exists { hart.number < length (parts self.old).harts }
         requires stands { EngineStands (parts self.old) }
-        ensures ready { IsReady (parts self.new).bus }
-        ensures state { (state : ModelState) → IsReached state → IsInState (parts self.old) state →
-            IsInState (parts self.new) (step_turn state hart.number).state }
-        ensures outcome { (state : ModelState) → IsReached state → IsInState (parts self.old) state →
-            result ≡ (step_turn state hart.number).outcome }
-        ensures memory_stays { (parts self.new).bus.copies.lines ≡ (parts self.old).bus.copies.lines }
+        ensures { TakesTurn (λ state. IsReached state × IsInState (parts self.old) state)
+            (λ state. step_turn state hart.number) (parts self.old) (parts self.new) result }
     {
         if self.runs(hart) {
             self.go_on(hart)
@@ -90,12 +87,8 @@ impl Engine {
         requires hart_exists { hart.number < length (parts self.old).harts }
         requires stands { EngineStands (parts self.old) }
         requires running { (committed_at (parts self.old).harts hart.number).status ≡ Running }
-        ensures ready { IsReady (parts self.new).bus }
-        ensures state { (state : ModelState) → IsReached state → IsInState (parts self.old) state →
-            IsInState (parts self.new) (step_turn state hart.number).state }
-        ensures outcome { (state : ModelState) → IsReached state → IsInState (parts self.old) state →
-            result ≡ (step_turn state hart.number).outcome }
-        ensures memory_stays { (parts self.new).bus.copies.lines ≡ (parts self.old).bus.copies.lines }
+        ensures { TakesTurn (λ state. IsReached state × IsInState (parts self.old) state)
+            (λ state. step_turn state hart.number) (parts self.old) (parts self.new) result }
     {
         if self.waits(hart) {
             Outcome::Stalled
@@ -126,12 +119,8 @@ impl Engine {
         requires stands { EngineStands (parts self.old) }
         requires running { (committed_at (parts self.old).harts hart.number).status ≡ Running }
         requires free { (state : ModelState) → Shows (parts self.old).bus state → has_request state hart.number ≡ false }
-        ensures ready { IsReady (parts self.new).bus }
-        ensures state { (state : ModelState) → IsReached state → IsInState (parts self.old) state →
-            IsInState (parts self.new) (step_turn state hart.number).state }
-        ensures outcome { (state : ModelState) → IsReached state → IsInState (parts self.old) state →
-            result ≡ (step_turn state hart.number).outcome }
-        ensures memory_stays { (parts self.new).bus.copies.lines ≡ (parts self.old).bus.copies.lines }
+        ensures { TakesTurn (λ state. IsReached state × IsInState (parts self.old) state)
+            (λ state. step_turn state hart.number) (parts self.old) (parts self.new) result }
     {
         self.bus.give_up(hart);
         self.act(hart)
@@ -141,12 +130,9 @@ impl Engine {
     /// live one.
     fn act(&mut self, hart: HartId) -> Outcome
         requires { MayActSomewhere (parts self.old) hart.number }
-        ensures ready { IsReady (parts self.new).bus }
-        ensures state { (from : ModelState) → MayAct (parts self.old) hart.number from →
-            IsInState (parts self.new) (going_turn from hart.number (section_of from hart.number)).state }
-        ensures outcome { (from : ModelState) → MayAct (parts self.old) hart.number from →
-            result ≡ (going_turn from hart.number (section_of from hart.number)).outcome }
-        ensures memory_stays { (parts self.new).bus.copies.lines ≡ (parts self.old).bus.copies.lines }
+        ensures { TakesTurn (λ from. MayAct (parts self.old) hart.number from)
+            (λ from. going_turn from hart.number (section_of from hart.number)) (parts self.old) (parts self.new)
+            result }
     {
         let action = self.fetch_action(hart);
         let section = self.harts[usize::from(hart.number)].section();

@@ -1,16 +1,15 @@
 -- a hart that waits in its whole turn: each of its events leaves all as it was
-use Rattle.std.proofs.Common.{◌≡◌, ◌∙◌, ◌&&◌, ℕ, Bool, true, false, not, List, Option, Some, None, is_none, is_some, refl, ap, sym}
+use Rattle.std.proofs.Common.{◌≡◌, ◌∙◌, ◌&&◌, ℕ, Bool, true, false, not, Option, Some, None, is_some, refl, ap, sym}
 use Rattle.std.specs.Prelude.{if◌then◌else◌}
 use Rattle.std.proofs.lemmas.Bool.{and_parts, or_right}
 use Rattle.bus_order.specs.Order.{Request}
 use Rattle.el_base.specs.HartId.{hart_id}
 use Rattle.el_base.specs.declared.events.Event.{Event}
-use Rattle.el_base.specs.declared.events.Kind.{Kind}
 use Rattle.el_base.specs.declared.events.Kind.TheVariants as kinds
 use Rattle.el_base.specs.declared.hart_id.HartId.{HartId}
 use Rattle.el_base.specs.declared.outcomes.Outcome.{Outcome}
 use Rattle.el_base.specs.declared.outcomes.Outcome.TheVariants.{Blocked, Idle, Stalled}
-use Rattle.el_model.specs.Next.{has_stopped, is_over, kind_turn, next, stalled, step_turn}
+use Rattle.el_model.specs.Next.{has_stopped, next}
 use Rattle.el_model.specs.Serve.{Blocks, Free, Obstacle, obstacle_to, serve_ordered, serve_turn}
 use Rattle.el_model.specs.State.{ModelState, Turn, has_request, ordered_of, raised_of}
 use Rattle.engine.proofs.Laws.NothingFound.{resting_lines, rests}

@@ -1,9 +1,10 @@
 -- the acquire is a swap, whose line is there
-use Rattle.std.proofs.Common.{◌∙◌, sym, subst}
+use Rattle.std.proofs.Common.{◌∙◌, ap, sym, subst}
 use Rattle.core_step.proofs.Laws.Runs.{aligned}
 use Rattle.core_step.specs.Run.{IsAligned}
 use Rattle.engine.proofs.AfterBegan.{after_began, ready_began}
 use Rattle.engine.proofs.Chosen.{lock_there, next, swap_found}
+use Rattle.engine.proofs.Outsiders.{began_outcome}
 use Rattle.engine.proofs.StandsOutside.{no_armed, runs}
 use Rattle.engine.proofs.Laws.Swaps.{swap_action, word_aligned}
 use Rattle.engine.proofs.engine.Engine.begin_section.Goals as goal
@@ -58,17 +59,25 @@ unreachable-requires c =
     ∙ swap_found now h from c.args.action acts c.requires.action swap (c.requires.begins from acts)) in
     c.in_default.not-Amo _ _ _ _ of.is
 
-pub returns-clause-state : goal.returns-clause-state
-returns-clause-state c from acts =
+pub returns : goal.returns
+returns c =
     let now = parts c.args.self.now in
     let h = c.args.hart.number in
     let swap = numbered_swap c.args.swap in
-    let found = c.requires.begins from acts in
-    let even = word_aligned c.args.action swap
-    (swap_action (byte_in from.committed.base from.committed.bytes) c.args.action swap
-    (swap_next c.args.action from.committed h (next now h from c.args.action acts c.requires.action)
-    ∙ swap_found now h from c.args.action acts c.requires.action swap found))
-    (subst IsAligned (sym c.requires.action) (aligned _ _ _ _)) in
-    after_began now (parts c.enter.new.self) (bus_state c.open_attempt.new.self) c.args.hart from acts swap c.in-Amo.op c.in-Amo.rd c.in-Amo.address
-    c.in-Amo.source (sym c.in-Amo.is ∙ c.requires.action) found even c.enter.ensures c.open_attempt.ensures.copies_stay
-    c.open_attempt.ensures.shows
+    record {
+      ready = c.open_attempt.ensures.ready;
+      state = λ from acts.
+          let found = c.requires.begins from acts in
+          let even = word_aligned c.args.action swap
+          (swap_action (byte_in from.committed.base from.committed.bytes) c.args.action swap
+          (swap_next c.args.action from.committed h (next now h from c.args.action acts c.requires.action)
+          ∙ swap_found now h from c.args.action acts c.requires.action swap found))
+          (subst IsAligned (sym c.requires.action) (aligned _ _ _ _)) in
+          after_began now (parts c.enter.new.self) (bus_state c.open_attempt.new.self) c.args.hart from acts swap
+          c.in-Amo.op c.in-Amo.rd c.in-Amo.address c.in-Amo.source (sym c.in-Amo.is ∙ c.requires.action) found even c.enter.ensures
+          c.open_attempt.ensures.copies_stay c.open_attempt.ensures.shows;
+      outcome = λ from acts. began_outcome from h swap;
+      memory_stays =
+          ap (λ copies. copies.lines) c.open_attempt.ensures.copies_stay
+          ∙ ap (λ p. p.bus.copies.lines) c.enter.ensures.new_is;
+    }

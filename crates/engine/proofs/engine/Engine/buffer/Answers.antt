@@ -3,7 +3,7 @@ use Rattle.std.proofs.Common.{◌∙◌, ap, subst, sym}
 use Rattle.std.specs.Option.{option_map}
 use Rattle.el_model.specs.InSection.{Buffers, section_turn}
 use Rattle.engine.proofs.Buffered.{buffered_in, buffered_ready, may_run_inside, ran_inside, touched_there}
-use Rattle.engine.proofs.Buffers.{is_there}
+use Rattle.engine.proofs.Buffers.{buffers_turn, is_there}
 use Rattle.engine.proofs.Framed.{given_twice}
 use Rattle.engine.proofs.InsideRules.{says}
 use Rattle.engine.proofs.KeptLive.{keeps_live}
@@ -36,34 +36,29 @@ run_privately-requires c =
           c.cover.ensures.bit);
     }
 
-pub returns-clause-ready : goal.returns-clause-ready
-returns-clause-ready c =
+pub returns : goal.returns
+returns c section =
     let old = parts c.args.self.now in
     let h = c.args.hart.number in
     let some = c.requires.follows in
     let touch = option_map numbered_touch c.args.touch in
     let mid = c.cover.ensures in
-    let ran = subst (λ p. RanPrivately p (parts c.run_privately.new.self) h c.args.action) mid.new_is c.run_privately.ensures in
-    subst (λ p. IsReady p.bus)
-    (sym (ran.new_is ∙ given_twice old h mid.cache ran.pool ran.cache (buffered_own ran.section (own_at old.harts h))))
-    (buffered_ready old c.args.hart some.from some.section touch mid.cache ran.pool ran.cache c.args.action ran.section some.follows
-    c.requires.action
-    (ran_inside old c.args.hart some.from some.section touch c.args.action some.follows c.requires.action mid.cache mid.bit ran.pool ran.cache
-    ran.section ran.over))
-
-pub returns-clause-state : goal.returns-clause-state
-returns-clause-state c from section follows =
-    let old = parts c.args.self.now in
-    let h = c.args.hart.number in
-    let touch = option_map numbered_touch c.args.touch in
-    let mid = c.cover.ensures in
-    let ran = subst (λ p. RanPrivately p (parts c.run_privately.new.self) h c.args.action) mid.new_is c.run_privately.ensures in
-    subst (λ p. IsInState p (section_turn from h section).state)
-    (sym (ran.new_is ∙ given_twice old h mid.cache ran.pool ran.cache (buffered_own ran.section (own_at old.harts h))))
-    (buffered_in old c.args.hart from section touch mid.cache ran.pool ran.cache c.args.action ran.section follows c.requires.action
-    (ran_inside old c.args.hart from section touch c.args.action follows c.requires.action mid.cache mid.bit ran.pool ran.cache ran.section
-    ran.over))
-
-pub returns-clause-memory_stays : goal.returns-clause-memory_stays
-returns-clause-memory_stays c =
-    ap (λ p. p.bus.copies.lines) c.run_privately.ensures.new_is ∙ ap (λ p. p.bus.copies.lines) c.cover.ensures.new_is
+    let ran = subst (λ p. RanPrivately p (parts c.run_privately.new.self) h c.args.action) mid.new_is
+    c.run_privately.ensures in
+    let new_is = ran.new_is ∙ given_twice old h mid.cache ran.pool ran.cache (buffered_own ran.section (own_at old.harts h)) in
+    record {
+      ready =
+          subst (λ p. IsReady p.bus) (sym new_is)
+          (buffered_ready old c.args.hart some.from some.section touch mid.cache ran.pool ran.cache c.args.action
+          ran.section some.follows c.requires.action
+          (ran_inside old c.args.hart some.from some.section touch c.args.action some.follows c.requires.action
+          mid.cache mid.bit ran.pool ran.cache ran.section ran.over));
+      state = λ from follows.
+          subst (λ p. IsInState p (section_turn from h section).state) (sym new_is)
+          (buffered_in old c.args.hart from section touch mid.cache ran.pool ran.cache c.args.action ran.section
+          follows c.requires.action
+          (ran_inside old c.args.hart from section touch c.args.action follows c.requires.action mid.cache mid.bit
+          ran.pool ran.cache ran.section ran.over));
+      outcome = λ from follows. ap (λ turn. turn.outcome) (sym (buffers_turn from h section touch follows.rule_is));
+      memory_stays = ap (λ p. p.bus.copies.lines) new_is;
+    }

@@ -68,27 +68,25 @@ at c from section follows =
       over = commits_over old (before c) c.args.hart.number done.pool done.cache done.section c.args.action stays done.over;
     }
 
-pub returns-clause-ready : goal.returns-clause-ready
-returns-clause-ready c =
+pub returns : goal.returns
+returns c section =
+    let old = parts c.args.self.now in
+    let h = c.args.hart.number in
+    let bus = bus_state c.close_attempt.new.self in
     let some = c.requires.follows in
     let done = c.commit_in_cache.ensures in
-    subst (λ p. IsReady p.bus) (sym done.new_is)
-    (ready_then (parts c.args.self.now) (bus_state c.close_attempt.new.self) c.args.hart.number some.from some.section c.args.action done.section
-    done.pool done.cache (at c some.from some.section some.follows) c.close_attempt.ensures.ready)
-
-pub returns-clause-state : goal.returns-clause-state
-returns-clause-state c from section follows =
-    let old = parts c.args.self.now in
-    let done = c.commit_in_cache.ensures in
-    subst (λ p. IsInState p (section_turn from c.args.hart.number section).state) (sym done.new_is)
-    (commits_in old (bus_state c.close_attempt.new.self) c.args.hart from section c.args.action done.section done.pool done.cache
-    c.unreserve_others.new.harts.items _ (at c from section follows) (c.unreserve_others.ensures old.pool)
-    (ap (committed_own done.section) (c.unreserve_others.ensures no_pool).own))
-
-pub returns-clause-outcome : goal.returns-clause-outcome
-returns-clause-outcome c from section follows =
-    counted (parts c.args.self.now) c.args.hart.number c.count_with_release-count.result from section follows c.count_with_release-count.ensures
-
-pub returns-clause-memory_stays : goal.returns-clause-memory_stays
-returns-clause-memory_stays c =
-    ap (λ p. p.bus.copies.lines) c.commit_in_cache.ensures.new_is ∙ ap (λ copies. copies.lines) c.close_attempt.ensures.copies_stay
+    record {
+      ready =
+          subst (λ p. IsReady p.bus) (sym done.new_is)
+          (ready_then old bus h some.from some.section c.args.action done.section done.pool done.cache
+          (at c some.from some.section some.follows) c.close_attempt.ensures.ready);
+      state = λ from follows.
+          subst (λ p. IsInState p (section_turn from h section).state) (sym done.new_is)
+          (commits_in old bus c.args.hart from section c.args.action done.section done.pool done.cache
+          c.unreserve_others.new.harts.items _ (at c from section follows) (c.unreserve_others.ensures old.pool)
+          (ap (committed_own done.section) (c.unreserve_others.ensures no_pool).own));
+      outcome = λ from follows.
+          counted old h c.count_with_release-count.result from section follows c.count_with_release-count.ensures;
+      memory_stays =
+          ap (λ p. p.bus.copies.lines) done.new_is ∙ ap (λ copies. copies.lines) c.close_attempt.ensures.copies_stay;
+    }

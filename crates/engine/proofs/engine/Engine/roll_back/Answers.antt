@@ -5,7 +5,7 @@ use Rattle.std.proofs.lemmas.List.{get_or_read}
 use Rattle.coherence.specs.Lent.{slotted_at}
 use Rattle.el_model.specs.InSection.{section_turn}
 use Rattle.engine.proofs.Framed.{IsClearedThere, cleared_there}
-use Rattle.engine.proofs.RolledBack.{clock_small, has_cache, rolled_in, rolled_ready, seen_small}
+use Rattle.engine.proofs.RolledBack.{clock_small, has_cache, rolled_in, rolled_ready, rolls_turn, seen_small}
 use Rattle.engine.proofs.engine.Engine.roll_back.Goals as goal
 use Rattle.engine.specs.Acting.{freed}
 use Rattle.engine.specs.Parts.{IsInState, own_at, parts}
@@ -50,27 +50,35 @@ clears c =
     subst (λ cache. IsClearedThere cache c.clear_bits.new.self) c.sets_mut.ensures.value
     (cleared_there c.sets_mut.result.now c.clear_bits.new.self c.clear_bits.ensures.cleared c.clear_bits.ensures.lent c.clear_bits.ensures.owner)
 
-pub returns-clause-ready : goal.returns-clause-ready
-returns-clause-ready c =
-    let may = c.requires.follows.inside.may in
-    rolled_ready (parts c.args.self.now) (bus_state c.close_attempt.new.self) c.args.hart.number c.requires.from c.clear_bits.new.self may
-    c.close_attempt.ensures.ready (c.close_attempt.ensures.shows (freed c.requires.from c.args.hart.number) may.is_in.shows) (clears c)
-
-pub returns-clause-state : goal.returns-clause-state
-returns-clause-state c from section follows =
+pub returns : goal.returns
+returns c section =
     let old = parts c.args.self.now in
     let h = c.args.hart.number in
     let bus = bus_state c.close_attempt.new.self in
     let cache = c.clear_bits.new.self in
     let pool = c.roll_back.new.pool in
-    let inside : c.from.result < length old.harts = omega (arith, c.from.ensures, follows.inside.may.exists) in
+    let some = c.requires.follows.inside.may in
+    let inside : c.from.result < length old.harts = omega (arith, c.from.ensures, some.exists) in
     let own_is = get_or_read _ _ _ inside c.index_mut.ensures.value (new_own no_hart 0 0) ∙ ap (own_at old.harts) c.from.ensures in
     let own_then = c.roll_back.ensures.own ∙ ap (rolled_back_own c.args.cause) own_is in
     let harts = ap (λ i. slice_set old.harts i c.roll_back.new.self) c.from.ensures ∙ ap (slice_set old.harts h) own_then in
-    subst (λ list. IsInState (record old { pool = pool; bus = returned bus h cache; harts = list }) (section_turn from h section).state) (sym harts)
-    (rolled_in old pool bus c.args.hart from section cache c.args.cause follows
-    (c.close_attempt.ensures.shows (freed from h) follows.inside.may.is_in.shows) c.close_attempt.ensures.copies_stay (clears c)
-    (record {
-      lent = subst (λ (own : OwnState). IsLent pool own.section.hold) own_then c.roll_back.ensures.lent;
-      others = subst (λ (own : OwnState). LeavesOthers own.section.hold.owner old.pool pool) own_is c.roll_back.ensures.others;
-    }))
+    record {
+      ready =
+          rolled_ready old bus h c.requires.from cache some c.close_attempt.ensures.ready
+          (c.close_attempt.ensures.shows (freed c.requires.from h) some.is_in.shows) (clears c);
+      state = λ from follows.
+          subst
+          (λ list. IsInState (record old { pool = pool; bus = returned bus h cache; harts = list })
+          (section_turn from h section).state) (sym harts)
+          (rolled_in old pool bus c.args.hart from section cache c.args.cause follows
+          (c.close_attempt.ensures.shows (freed from h) follows.inside.may.is_in.shows) c.close_attempt.ensures.copies_stay
+          (clears c)
+          (record {
+            lent = subst (λ (own : OwnState). IsLent pool own.section.hold) own_then c.roll_back.ensures.lent;
+            others =
+                subst (λ (own : OwnState). LeavesOthers own.section.hold.owner old.pool pool) own_is c.roll_back.ensures.others;
+          }));
+      outcome = λ from follows.
+          ap (λ turn. turn.outcome) (sym (rolls_turn from h section c.args.cause follows.rule_is));
+      memory_stays = ap (λ copies. copies.lines) c.close_attempt.ensures.copies_stay;
+    }

@@ -5,6 +5,7 @@ use Rattle.cached_step.specs.CacheRun.{permitted}
 use Rattle.core_step.proofs.Laws.Runs.{aligned}
 use Rattle.core_step.specs.Run.{IsAligned, lacking}
 use Rattle.engine.proofs.Chosen.{lacks_nothing}
+use Rattle.engine.proofs.Outsiders.{ran_outcome}
 use Rattle.engine.proofs.RunsNext.{after_ran, learnt_section, lent_mid, may_append, ready_ran}
 use Rattle.engine.proofs.StandsOutside.{lends, no_armed, runs}
 use Rattle.engine.proofs.engine.Engine.run_next.Goals as goal
@@ -54,26 +55,6 @@ take_effect-requires-clause-can_append c =
     (subst (λ p. RanIn p (parts c.run_in_cache.new.self) h c.args.action) (c.learn.ensures from acts) c.run_in_cache.ensures) c.requires.in_place
     (lacks_nothing old h from c.args.action acts c.requires.action _ (c.requires.runs from acts))
 
-pub returns-clause-ready : goal.returns-clause-ready
-returns-clause-ready c =
-    let old = parts c.args.self.now in
-    let mid = parts c.run_in_cache.new.self in
-    let h = c.args.hart.number in
-    let from = c.requires.some.from in
-    let acts = c.requires.some.acts in
-    ready_ran old mid (parts c.take_effect.new.self) h from c.args.action acts
-    (subst (λ p. RanIn p mid h c.args.action) (c.learn.ensures from acts) c.run_in_cache.ensures) c.requires.action c.requires.in_place
-    (lacks_nothing old h from c.args.action acts c.requires.action _ (c.requires.runs from acts)) c.requires.no_request c.take_effect.ensures
-
-pub returns-clause-state : goal.returns-clause-state
-returns-clause-state c from acts =
-    let old = parts c.args.self.now in
-    let mid = parts c.run_in_cache.new.self in
-    let h = c.args.hart.number in
-    after_ran old mid (parts c.take_effect.new.self) c.args.hart from c.args.action acts
-    (subst (λ p. RanIn p mid h c.args.action) (c.learn.ensures from acts) c.run_in_cache.ensures) c.requires.action c.requires.in_place
-    (lacks_nothing old h from c.args.action acts c.requires.action _ (c.requires.runs from acts)) (c.requires.runs from acts) c.take_effect.ensures
-
 pub run_in_cache-requires-clause-lent : goal.run_in_cache-requires-clause-lent
 run_in_cache-requires-clause-lent c =
     let acts = c.requires.some.acts in
@@ -86,3 +67,29 @@ take_effect-requires-clause-lent c =
     lent_mid (parts c.args.self.now) (parts c.run_in_cache.new.self) c.args.hart.number c.requires.some.from c.args.action acts
     (subst (λ p. RanIn p (parts c.run_in_cache.new.self) c.args.hart.number c.args.action) (c.learn.ensures c.requires.some.from acts)
     c.run_in_cache.ensures)
+
+pub returns : goal.returns
+returns c =
+    let old = parts c.args.self.now in
+    let mid = parts c.run_in_cache.new.self in
+    let new = parts c.take_effect.new.self in
+    let h = c.args.hart.number in
+    let action = c.args.action in
+    let some = c.requires.some in
+    record {
+      ready =
+          ready_ran old mid new h some.from action some.acts
+          (subst (λ p. RanIn p mid h action) (c.learn.ensures some.from some.acts) c.run_in_cache.ensures) c.requires.action
+          c.requires.in_place
+          (lacks_nothing old h some.from action some.acts c.requires.action _ (c.requires.runs some.from some.acts))
+          c.requires.no_request c.take_effect.ensures;
+      state = λ from acts.
+          after_ran old mid new c.args.hart from action acts
+          (subst (λ p. RanIn p mid h action) (c.learn.ensures from acts) c.run_in_cache.ensures) c.requires.action
+          c.requires.in_place (lacks_nothing old h from action acts c.requires.action _ (c.requires.runs from acts))
+          (c.requires.runs from acts) c.take_effect.ensures;
+      outcome = λ from acts. ran_outcome from h _;
+      memory_stays =
+          ap (λ p. p.bus.copies.lines) c.take_effect.ensures
+          ∙ ap (λ p. p.bus.copies.lines) c.run_in_cache.ensures.new_is ∙ ap (λ p. p.bus.copies.lines) (c.learn.ensures some.from some.acts);
+    }

@@ -1,15 +1,14 @@
 -- Puts one after another.
 use Rattle.std.proofs.Common.{◌≡◌, ℕ, ◌+◌, ◌<◌, List, [], ◌∷◌, ◌++◌, length, take, drop, get_or}
-use Rattle.std.proofs.Common.{Option, Result, Ok, Err, append-nil, append_assoc, map, ap, subst, sym, suc, ◌∙◌, arith}
-use Rattle.std.proofs.Math.Seq.{split_at, take-append-add}
+use Rattle.std.proofs.Common.{Result, Ok, Err, append-nil, append_assoc, map, ap, subst, sym, suc, ◌∙◌, arith}
+use Rattle.std.proofs.Math.Seq.{split_at}
 use Rattle.std.proofs.lemmas.Grind.{flat_map-append}
 use Rattle.std.proofs.lemmas.List.Folds.{flat_map-map}
-use Rattle.std.proofs.lemmas.List.{length-append, take-append-le, take_more}
+use Rattle.std.proofs.lemmas.List.{take_more}
 use Rattle.std.specs.List.{flat_map}
 use Rattle.std.specs.Result.{IsErr}
 use Rattle.el_io.proofs.Laws.{part_of_more, took_then_all, took_then_part}
 use Rattle.el_io.specs.Counts.{one_more}
-use Rattle.el_io.specs.Sink.{Took, TookAll, TookPart}
 use Rattle.el_io.specs.declared.sink.Failed.{Failed}
 use Rattle.report.specs.Line.{bytes_of, line, spaced}
 use Rattle.report.specs.declared.word.Word.{Word}

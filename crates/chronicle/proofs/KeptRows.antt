@@ -1,6 +1,6 @@
 -- What rows keep, as rows and outcomes are added.
-use Rattle.std.proofs.Common.{◌≡◌, ◌∙◌, ℕ, suc, ◌+◌, ◌<◌, refl, ap, ap₂, sym, arith}
-use Rattle.std.specs.Prelude.{List, [], ◌∷◌, ◌++◌, All, length, get_or, map}
+use Rattle.std.proofs.Common.{◌≡◌, ◌∙◌, ℕ, suc, refl, ap, ap₂, sym, arith}
+use Rattle.std.specs.Prelude.{List, [], ◌∷◌, ◌++◌, All, length, map}
 use Rattle.std.proofs.lemmas.List.{get_or_append_left, get_or_push, map-append}
 use Rattle.el_base.specs.declared.entries.Entry.{Entry}
 use Rattle.el_base.specs.declared.events.Event.{Event}

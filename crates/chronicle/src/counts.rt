@@ -70,7 +70,9 @@ fn count(tallies: &mut Tallies, entry: Entry) -> u64
     steps
 }
 
-/// Counts an event of a hart's own by its outcome, and says how many instructions took effect in it.
+/// Counts an event of a hart's own by its outcome, and says how many instructions took effect in it. It stands where the
+/// event is recorded, so that the outcome's kind is told once for its counts and for its row.
+#[inline(always)]
 #[tactic(auto, unfolding(crate::specs::Tally::plus, crate::specs::Tally::IsTallyOf, crate::specs::Counting::HasRoom))]
 fn count_own(tally: &mut Tally, outcome: Outcome) -> u64
     requires { HasRoom tally.old }
@@ -109,7 +111,8 @@ fn count_own(tally: &mut Tally, outcome: Outcome) -> u64
     0
 }
 
-/// Counts an event for the harts whose sections lost in it.
+/// Counts an event for the harts whose sections lost in it. Most outcomes name nobody, which is seen without a call.
+#[inline(always)]
 fn count_losses(tallies: &mut Tallies, outcome: Outcome)
     requires { (hart : ℕ) → hart < 8 → (tally_at tallies.old hart).conflict + 1 < 2 ^ 64 }
     ensures { (hart : ℕ) → hart < 8 →

@@ -1,5 +1,4 @@
 ghost use Rattle.std.specs.Prelude.{◌≡◌, ◌<◌, ◌∷◌, [], filter, length, not, ◌==◌};
-ghost use Rattle.std.specs.List.{list_any};
 
 use arrayvec::ArrayVec;
 use el_base::HartId;
@@ -27,6 +26,8 @@ impl Default for Origin {
 #[derive(Debug, Drop)]
 pub struct Told {
     origins: ArrayVec<Origin, PLACES>,
+    /// Whether each hart is among them, by its number, so that it is known without a search.
+    holds: [bool; PLACES],
 }
 
 impl Model for Told {
@@ -38,7 +39,7 @@ impl Model for Told {
 
     ghost view = { λ told. numbers told.origins.items };
 
-    ghost invariant = { λ told. IsKept told.origins.items };
+    ghost invariant = { λ told. IsKept told.origins.items told.holds };
 }
 
 impl Told {
@@ -50,45 +51,39 @@ impl Told {
     {
         Told {
             origins: ArrayVec::new(),
+            holds: [false; PLACES],
         }
     }
 
     /// Adds an origin, and answers whether it was not in the set before.
-    #[tactic(auto, using(crate::proofs::Laws::OnceEach::adding))]
     pub fn add(&mut self, origin: HartId) -> bool
         ensures origins { self.new ≡ included self.old origin.number }
         ensures was_new { result ≡ not (has self.old origin.number) }
     {
-        let is_new = !is_among(&self.origins, origin);
+        let is_new = !self.told(origin);
         if is_new {
             put_in_front(&mut self.origins, origin);
+            self.holds[usize::from(origin.number)] = true;
         }
         is_new
     }
 
     /// Whether an origin is in the set.
-    #[tactic(auto, using(crate::proofs::Laws::OnceEach::has_any))]
     pub fn told(&self, origin: HartId) -> bool
         ensures { result ≡ has self.now origin.number }
     {
-        is_among(&self.origins, origin)
+        self.holds[usize::from(origin.number)]
     }
 
     /// Takes an origin out of the set, if it is there.
     pub fn purge(&mut self, origin: HartId)
         ensures { self.new ≡ excluded self.old origin.number }
     {
-        take_out(&mut self.origins, origin);
+        if self.told(origin) {
+            take_out(&mut self.origins, origin);
+            self.holds[usize::from(origin.number)] = false;
+        }
     }
-}
-
-/// Whether an origin is among these.
-fn is_among(origins: &ArrayVec<Origin, PLACES>, origin: HartId) -> bool
-    ensures { result ≡ list_any (λ other. other.hart.number == origin.number) origins.now.items }
-{
-    origins
-        .iter()
-        .any(|other| other.hart.number == origin.number)
 }
 
 /// Puts an origin before these.

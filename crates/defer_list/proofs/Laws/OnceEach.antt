@@ -1,13 +1,12 @@
 -- No hart is in a set twice, so that a place for each hart is enough; and what the calls do to the list that the code keeps.
-use Rattle.std.proofs.Common.{◌≡◌, ℕ, ◌+◌, ◌<◌, ◌≤◌, ◌==◌, ◌||◌, not, Bool, true, false, cond, List}
-use Rattle.std.proofs.Common.{[], ◌∷◌, length, refl, ap, sym, subst, ◌∙◌, arith}
-use Rattle.std.specs.List.{count_by, filter, list_any}
+use Rattle.std.proofs.Common.{◌≡◌, ℕ, ◌+◌, ◌<◌, ◌≤◌, ◌==◌, not, Bool, true, false, cond, List}
+use Rattle.std.proofs.Common.{[], ◌∷◌, length, refl, ap, sym, ◌∙◌, arith}
+use Rattle.std.specs.List.{count_by, filter}
 use Rattle.std.proofs.lemmas.Bool.Decides.{nat_tests}
 use Rattle.std.proofs.lemmas.List.Sums.{sum_by-cons}
 use Rattle.defer_list.specs.declared.told.Origin.{Origin}
 use Rattle.el_base.proofs.Laws.ListLaws.{count_of_map, filter_of_map, length_by_codes}
 use Rattle.defer_list.specs.HartSet.{has, included, excluded, numbers, IsOnceEach}
-use Rattle.defer_list.specs.Kept.{IsKept}
 
 abbrev count_of : List ℕ → ℕ → ℕ
 count_of harts hart = count_by (λ other. other == hart) harts
@@ -70,18 +69,8 @@ excluded_filter (first ∷ harts) hart = step (first == hart) (excluded_filter h
     step true rest = rest
     step false rest = ap (λ l. first ∷ l) rest
 
--- the list that the code keeps: what is asked of it
-pub has_any : (items : List Origin) (hart : ℕ) → has (numbers items) hart ≡ list_any (λ other. other.hart.number == hart) items
-has_any [] hart = refl
-has_any (first ∷ items) hart = step (first.hart.number == hart) (has_any items hart)
-  where
-    step : (own : Bool) → has (numbers items) hart ≡ list_any (λ other. other.hart.number == hart) items
-        → cond own true (has (numbers items) hart) ≡ (own || list_any (λ other. other.hart.number == hart) items)
-    step true rest = refl
-    step false rest = rest
-
 -- one more
-fits_one : (items : List Origin) (new : Origin) → IsOnceEach (numbers items) → has (numbers items) new.hart.number ≡ false → length items < 8
+pub fits_one : (items : List Origin) (new : Origin) → IsOnceEach (numbers items) → has (numbers items) new.hart.number ≡ false → length items < 8
 fits_one items new once none =
     let joined : IsOnceEach (numbers (new ∷ items)) = once_each_cons (numbers items) new.hart.number once none in
     let all : length (new ∷ items) ≤ 8 =
@@ -89,19 +78,6 @@ fits_one items new once none =
     (λ hart. omega (arith, count_of_map (λ one. one.hart.number) (λ one. one == hart) (new ∷ items), joined hart))
     in
     omega (arith, all)
-
-module _ (items : List Origin) (new : Origin) where
-  -- an origin that was asked for, and was not there
-  pub unknown_fits : (known : Bool) → IsKept items → known ≡ list_any (λ other. other.hart.number == new.hart.number) items → not known ≡ true
-      → length items < 8
-  unknown_fits true kept asked unknown = absurd cc
-  unknown_fits false kept asked unknown = fits_one items new kept.once (has_any items new.hart.number ∙ sym asked)
-
-  pub unknown_kept : (known : Bool) (after : List Origin) → after ≡ new ∷ items → IsKept items
-      → known ≡ list_any (λ other. other.hart.number == new.hart.number) items → not known ≡ true → IsKept after
-  unknown_kept true after added kept asked unknown = absurd cc
-  unknown_kept false after added kept asked unknown =
-      rw added (record { once = once_each_cons (numbers items) new.hart.number kept.once (has_any items new.hart.number ∙ sym asked) })
 
 pub added_included : (items : List Origin) (new : Origin) → has (numbers items) new.hart.number ≡ false
     → numbers (new ∷ items) ≡ included (numbers items) new.hart.number
@@ -111,20 +87,8 @@ pub known_included : (items : List Origin) (new : Origin) → has (numbers items
     → numbers items ≡ included (numbers items) new.hart.number
 known_included items new there = sym (ap (λ there. cond there (numbers items) (new.hart.number ∷ numbers items)) there)
 
--- what the list of the definition is after an origin was added
-pub ruleset adding = (has_any, added_included, known_included)
-
 -- and one less
 module _ (items : List Origin) (hart : ℕ) where
-  filter_excluded : numbers (filter (λ other. not (other.hart.number == hart)) items) ≡ excluded (numbers items) hart
+  pub filter_excluded : numbers (filter (λ other. not (other.hart.number == hart)) items) ≡ excluded (numbers items) hart
   filter_excluded =
       sym (excluded_filter (numbers items) hart ∙ filter_of_map (λ one. one.hart.number) (λ other. not (other == hart)) items)
-
-  pub others_excluded : (after : List Origin) (seen : List ℕ) → after ≡ filter (λ other. not (other.hart.number == hart)) items
-      → numbers items ≡ seen → numbers after ≡ excluded seen hart
-  others_excluded after seen left is = ap numbers left ∙ filter_excluded ∙ ap (λ l. excluded l hart) is
-
-  pub others_kept : (after : List Origin) → after ≡ filter (λ other. not (other.hart.number == hart)) items → IsKept items → IsKept after
-  others_kept after left kept =
-      let P : List ℕ → Type 0 = λ l. IsOnceEach l in
-      record { once = subst P (sym (ap numbers left ∙ filter_excluded)) (once_each_excluded (numbers items) hart kept.once) }

@@ -9,11 +9,12 @@ use Rattle.el_base.specs.declared.file_fault.FileFault.{FileFault}
 use Rattle.el_base.specs.declared.hart_id.TheConstants.{MAX_HARTS}
 use Rattle.el_base.proofs.Laws.Tests.{same_unless_other}
 use Rattle.el_base.proofs.Laws.Options.{both_none, cond_none, or_none}
+use Rattle.file_numbers.specs.Numbers.{number_at}
 use Rattle.run_check.specs.declared.fault.FaultKind.{FaultKind}
 use Rattle.run_check.specs.declared.fault.FaultKind.TheVariants as kinds
 use Rattle.run_check.specs.FaultKinds.{fault_of}
 use Rattle.run_check.specs.Faults.{count_at, field, hart_at, harts_of, head_fault, line_at, line_count_fault}
-use Rattle.run_check.specs.Faults.{line_fault, line_place, number_at, output_fault, stretch_fault, stretch_place}
+use Rattle.run_check.specs.Faults.{line_fault, line_place, output_fault, stretch_fault, stretch_place}
 use Rattle.run_check.specs.Faults.{tail_fault, view_fault, view_wrong, wrong}
 use Rattle.run_check.specs.Rules.{count_wrong, hart_wrong, line_wrong, most_lines}
 use Rattle.rv_flat.specs.FlatState.{output_limit}

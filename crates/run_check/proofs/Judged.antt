@@ -12,12 +12,14 @@ use Rattle.el_base.proofs.Laws.HartIds.{hart_id-number}
 use Rattle.el_base.proofs.Laws.Lines.{line_addr-number}
 use Rattle.el_base.proofs.Laws.Options.{or_none}
 use Rattle.el_base.specs.Firsts.{first_of}
+use Rattle.file_numbers.specs.Numbers.{IsBytes, number_at}
+use Rattle.file_numbers.proofs.Laws.Numbers.{number_piece, number_small}
 use Rattle.rv_flat.specs.FlatState.{no_hart, output_limit}
 use Rattle.run_check.specs.declared.content.Patch.{Patch}
 use Rattle.run_check.specs.declared.content.Stretch.{Stretch}
 use Rattle.run_check.specs.Faults.{certificate_fault, content_of, count_at, first_below, hart_at, harts_of, head_fault}
 use Rattle.run_check.specs.Faults.{line_at, line_count, line_count_fault, line_fault, line_place, lines_at, lines_place}
-use Rattle.run_check.specs.Faults.{number_at, output_fault, output_at, output_length, output_place, patch_at}
+use Rattle.run_check.specs.Faults.{output_fault, output_at, output_length, output_place, patch_at}
 use Rattle.run_check.specs.Faults.{register_at, registers_at, reserved_at, status_at, stretch_at, stretch_count}
 use Rattle.run_check.specs.Faults.{stretch_fault, stretch_place, stretches_at, tail_fault, view_at, view_fault}
 use Rattle.run_check.specs.Faults.{view_place, view_wrong, views_at}
@@ -28,7 +30,7 @@ use Rattle.run_check.specs.Spelling.{IsCertificate, IsReserved, IsStatus, IsView
 use Rattle.run_check.proofs.FieldFaults.{HeadRight, LineRight, StretchRight, head_right, line_count_right, line_right}
 use Rattle.run_check.proofs.FieldFaults.{output_right, stretch_right, tail_right, view_right}
 use Rattle.run_check.proofs.FirstBelow.{none_each}
-use Rattle.run_check.proofs.Pieces.{IsBytes, byte_piece, items_piece, number_piece, number_small, piece_sum, split_at}
+use Rattle.run_check.proofs.Pieces.{byte_piece, items_piece, piece_sum, split_at}
 use Rattle.run_check.proofs.Pieces.{register_behind}
 use Rattle.run_check.proofs.RulesSame.{hart_below, line_below, same_count_rule, same_hart_rule, same_line_rule}
 

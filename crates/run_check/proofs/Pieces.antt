@@ -1,18 +1,14 @@
 -- Pieces of a list of bytes.
-use Rattle.std.proofs.Common.{◌≡◌, ℕ, zero, suc, ◌+◌, ◌*◌, ◌/◌, ◌%◌, ◌≤◌, ◌<◌, List, [], ◌∷◌, ◌++◌, length, map, get_or}
+use Rattle.std.proofs.Common.{◌≡◌, ℕ, zero, suc, ◌+◌, ◌*◌, ◌<◌, List, [], ◌∷◌, ◌++◌, length, map, get_or}
 use Rattle.std.proofs.Common.{take, drop, refl, sym, ap, ◌∙◌, append_assoc, zero-add, add-one, arith}
 use Rattle.std.specs.List.{flat_map, range_with_len}
 use Rattle.std.proofs.Math.Seq.{drop-cons}
-use Rattle.std.proofs.lemmas.List.{append-nil, drop-drop, drop-take, drop_at, get_or-drop, length-drop, take-append-drop, take-take}
+use Rattle.std.proofs.lemmas.List.{append-nil, drop-drop, drop-take, drop_at, take-append-drop, take-take}
 use Rattle.std.proofs.lemmas.List.Concat.{flat_map-append}
 use Rattle.std.proofs.lemmas.List.FromFn.{map-range_with_len_more}
 use Rattle.std.proofs.lemmas.Bool.Decides.{nat_tests}
-use Rattle.byteorder.specs.Endian.{little_bytes, little_number}
-use Rattle.run_check.specs.Faults.{number_at, register_at}
-use Rattle.el_base.proofs.Laws.ListLaws.{four_in_front}
-
-abbrev pub IsBytes : List ℕ → Type 0
-IsBytes bytes = (i : ℕ) → get_or bytes i 0 < 256
+use Rattle.file_numbers.specs.Numbers.{number_at}
+use Rattle.run_check.specs.Faults.{register_at}
 
 pub take_sum : (m n : ℕ) (xs : List ℕ) → take (m + n) xs ≡ take m xs ++ take n (drop m xs)
 take_sum m n xs =
@@ -33,46 +29,8 @@ piece_sum place m n file =
     take_sum m n (drop place file) ∙ ap (λ (rest : List ℕ). take m (drop place file) ++ take n rest)
     (drop-drop m place file)
 
--- ---- bytes and numbers
-
-cells_of : (n a b c d : ℕ) → n ≡ a + 256 * (b + 256 * (c + 256 * (d + 256 * 0))) →
-    a < 256 → b < 256 → c < 256 → d < 256 →
-    little_bytes 4 n ≡ a ∷ b ∷ c ∷ d ∷ []
-cells_of n a b c d is ha hb hc hd =
-    let e0 : n % 256 ≡ a = omega arith in
-    let e1 : n / 256 % 256 ≡ b = omega arith in
-    let e2 : n / 65536 % 256 ≡ c = omega arith in
-    let e3 : n / 16777216 % 256 ≡ d = omega arith in
-    rw (e0, e1, e2, e3) refl
-
-bytes_behind : (place : ℕ) (file : List ℕ) → IsBytes file → IsBytes (drop place file)
-bytes_behind place file fits i = rw get_or-drop (fits (place + i))
-
-four_bytes : (bytes : List ℕ) → IsBytes bytes → 4 ≤ length bytes → take 4 bytes ≡ little_bytes 4 (little_number 4 bytes)
-four_bytes bytes fits long =
-    ap (take 4) (four_in_front bytes long)
-    ∙ sym (cells_of (little_number 4 bytes) _ _ _ _ refl (fits 0) (fits 1) (fits 2)
-    (fits 3))
-
--- four bytes are those of their number
-pub number_piece : (file : List ℕ) (place : ℕ) → IsBytes file → place + 4 ≤ length file →
-    take 4 (drop place file) ≡ little_bytes 4 (number_at file place)
-number_piece file place fits long =
-    four_bytes (drop place file) (bytes_behind place file fits) (omega (arith, length-drop place file))
-
 pub byte_piece : (file : List ℕ) (place : ℕ) → place < length file → take 1 (drop place file) ≡ get_or file place 0 ∷ []
 byte_piece file place within = ap (take 1) (drop-cons file place 0 within)
-
--- a number of four bytes is small
-pub number_small : (file : List ℕ) (place : ℕ) → IsBytes file → number_at file place < 4294967296
-number_small file place fits =
-    let bytes = drop place file in
-    let b = bytes_behind place file fits in
-    let b0 : get_or bytes 0 0 < 256 = b 0 in
-    let b1 : get_or bytes 1 0 < 256 = b 1 in
-    let b2 : get_or bytes 2 0 < 256 = b 2 in
-    let b3 : get_or bytes 3 0 < 256 = b 3 in
-    omega arith
 
 -- ---- items of one size
 

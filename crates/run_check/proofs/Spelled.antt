@@ -12,6 +12,7 @@ use Rattle.el_base.specs.HartId.{hart_id}
 use Rattle.el_base.specs.LineAddr.{line_addr}
 use Rattle.el_base.specs.declared.hart_id.TheConstants.{MAX_HARTS}
 use Rattle.el_base.proofs.Laws.Options.{both_none}
+use Rattle.file_numbers.specs.Numbers.{number_at}
 use Rattle.rv_alu.specs.declared.view.HartStatus.{HartStatus}
 use Rattle.rv_alu.specs.declared.view.HartStatus.TheVariants.{Running, Exited, Trapped}
 use Rattle.rv_alu.specs.declared.view.HartView.{HartView}
@@ -21,7 +22,7 @@ use Rattle.run_check.specs.declared.content.Stretch.{Stretch}
 use Rattle.run_check.specs.declared.fault.FaultKind.TheVariants as kinds
 use Rattle.run_check.specs.Content.{Content}
 use Rattle.run_check.specs.Faults.{certificate_fault, content_of, count_at, hart_at, harts_of, head_fault, line_at}
-use Rattle.run_check.specs.Faults.{line_count, line_fault, line_place, lines_place, number_at, output_length}
+use Rattle.run_check.specs.Faults.{line_count, line_fault, line_place, lines_place, output_length}
 use Rattle.run_check.specs.Faults.{output_place, patch_at, register_at, registers_at, reserved_at, status_at}
 use Rattle.run_check.specs.Faults.{stretch_at, stretch_count, stretch_fault, stretch_place, view_at, view_fault}
 use Rattle.run_check.specs.Faults.{view_place, view_wrong}

@@ -4,13 +4,13 @@ use Rattle.std.specs.Prelude.{ℕ, zero, suc, ◌+◌, ◌*◌, Bool, not, ◌==
 use Rattle.std.specs.Prelude.{length, take, drop, slice_index, map, Option, Some, None}
 use Rattle.std.specs.List.{range_with_len}
 use Rattle.std.specs.Option.{option_or}
-use Rattle.byteorder.specs.Endian.{little_number}
 use Rattle.el_base.specs.Config.{within}
 use Rattle.el_base.specs.Firsts.{first_of, some_if}
 use Rattle.el_base.specs.HartId.{hart_id}
 use Rattle.el_base.specs.LineAddr.{line_addr}
 use Rattle.el_base.specs.declared.file_fault.FileFault.{FileFault}
 use Rattle.el_base.specs.declared.hart_id.TheConstants.{MAX_HARTS}
+use Rattle.file_numbers.specs.Numbers.{number_at}
 use Rattle.rv_alu.specs.declared.view.HartStatus.{HartStatus}
 use Rattle.rv_alu.specs.declared.view.HartStatus.TheVariants.{Running, Exited, Trapped}
 use Rattle.rv_alu.specs.declared.view.HartView.{HartView}
@@ -31,10 +31,6 @@ field file end fault = if nat_lt (length file) end then Some (fault_of kinds.Sho
 abbrev pub first_below : ℕ → (ℕ → Option FileFault) → Option FileFault
 first_below zero fault = None
 first_below (suc count) fault = option_or (first_below count fault) (fault count)
-
--- the number of four bytes at a place, the lowest first
-abbrev pub number_at : List ℕ → ℕ → ℕ
-number_at file place = little_number 4 (drop place file)
 
 -- ---- where things stand, and what they are
 

@@ -1,12 +1,11 @@
 //! Single fields of a certificate, each judged as soon as it is whole.
 
-ghost use Rattle.std.specs.Prelude.{◌≡◌, ◌+◌, ◌<◌, ◌≤◌, None, Some, false, length, IfErr, OnOk};
+ghost use Rattle.std.specs.Prelude.{◌≡◌, ◌<◌, ◌≤◌, None, Some, false, length, IfErr, OnOk};
 ghost use Rattle.el_base.specs.Firsts.{some_if};
 ghost use Rattle.run_check.specs.FaultKinds.{fault_of};
-ghost use Rattle.run_check.specs.Faults.{field, number_at};
+ghost use Rattle.run_check.specs.Faults.{field};
 
 use crate::fault::FaultKind;
-use byteorder::{ByteOrder, LittleEndian};
 use el_base::FileFault;
 
 /// That the file does not end before this place.
@@ -29,12 +28,4 @@ pub fn expect(wrong: bool, kind: FaultKind, place: u32) -> Result<(), FileFault>
     ensures refused { IfErr result (λ fault. some_if wrong (fault_of kind place) ≡ Some fault) }
 {
     if wrong { Err(kind.at(place)) } else { Ok(()) }
-}
-
-/// The number of the four bytes at a place.
-pub fn number_at(file: &[u8], place: u32) -> u32
-    requires { place + 4 ≤ length file.now }
-    ensures { result ≡ number_at file.now place }
-{
-    LittleEndian::read_u32(&file[place as usize..])
 }

@@ -1,6 +1,7 @@
 //! The faults of a file, read from left to right.
 
 ghost use Rattle.std.specs.Prelude.{◌≡◌, ℕ, ◌+◌, ◌*◌, ◌<◌, ◌≤◌, ◌||◌, None, Some, false, length, slice_index, IfErr, IfOk, OnOk};
+ghost use Rattle.file_numbers.specs.Numbers.{number_at};
 ghost use Rattle.rv_flat.specs.FlatState.{output_limit};
 ghost use Rattle.run_check.specs.Faults.{
   certificate_fault,
@@ -15,7 +16,6 @@ ghost use Rattle.run_check.specs.Faults.{
   line_fault,
   line_place,
   lines_place,
-  number_at,
   output_fault,
   output_length,
   output_place,
@@ -30,8 +30,9 @@ ghost use Rattle.run_check.specs.Faults.{
 ghost use Rattle.run_check.specs.Rules.{hart_wrong, line_limit, line_wrong, most_lines, most_steps, reservation_wrong, status_wrong, steps_before};
 
 use crate::fault::FaultKind;
-use crate::fields::{expect, number_at, reaches};
+use crate::fields::{expect, reaches};
 use el_base::{FileFault, MAX_HARTS, MAX_STEPS};
+use file_numbers::number_at;
 
 /// The first four bytes of a certificate.
 pub const MAGIC: [u8; 4] = [b'E', b'L', b'C', b'T'];

@@ -14,7 +14,6 @@ ghost use Rattle.run_check.specs.Faults.{
   line_place,
   lines_at,
   lines_place,
-  number_at,
   output_at,
   output_length,
   output_place,
@@ -37,9 +36,9 @@ ghost use Rattle.rv_flat.specs.FlatState.{output_limit};
 
 use crate::content::{Certificate, Patch, Stretch};
 use crate::fault::CertFault;
-use crate::fields::number_at;
 use crate::judging::{self, Counts, VIEW_BYTES, line_place, stretch_place};
 use el_base::{HartId, LineAddr, NoMemory};
+use file_numbers::number_at;
 use rv_alu::{HartStatus, HartView, Regs};
 use rv_word::Reg;
 use std::alloc::Global;

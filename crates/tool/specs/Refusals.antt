@@ -8,8 +8,9 @@ use Rattle.el_base.specs.Firsts.{first_of, some_if}
 use Rattle.el_base.specs.declared.config.Config as settings
 use Rattle.elf_image.specs.Faults.{fault}
 use Rattle.elf_image.specs.Limits.{file_limit}
+use Rattle.file_numbers.specs.Numbers.{number_at}
 use Rattle.run_check.specs.Faults.{certificate_fault, harts_of}
-use Rattle.trace_file.specs.Faults.{config_at, number_at, trace_fault}
+use Rattle.trace_file.specs.Faults.{config_at, trace_fault}
 use Rattle.tool.specs.declared.refusal.Refusal.{Refusal}
 use Rattle.tool.specs.declared.refusal.Refusal.TheVariants.{Config, TooBig, Image, Trace, Certificate, PlaceOverEnd, BackOverStart, NoSuchHart}
 

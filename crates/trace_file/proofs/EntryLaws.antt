@@ -23,6 +23,8 @@ use Rattle.el_base.specs.declared.outcomes.Cause.{Cause}
 use Rattle.el_base.specs.declared.outcomes.Cause.TheVariants.{Room, Lines, Long, Call, Mixed}
 use Rattle.el_base.proofs.Laws.HartIds.{hart_id-number, hart_id-of_hart}
 use Rattle.el_base.proofs.Laws.Options.{both_none, cond_none, or_none}
+use Rattle.file_numbers.specs.Numbers.{IsBytes}
+use Rattle.file_numbers.proofs.Laws.Numbers.{bytes_behind}
 use Rattle.trace_file.specs.FaultKinds.{fault_of}
 use Rattle.trace_file.specs.declared.fault.FaultKind.TheVariants.{Tail}
 use Rattle.trace_file.specs.Faults.{entries_fault, entry_fault, field_fault, fields_fault}
@@ -32,7 +34,6 @@ use Rattle.trace_file.specs.Reading.{entries_in, entry_in, event_in, kind_at, ou
 use Rattle.trace_file.specs.Spelling.{entry_bytes, event_byte, outcomes, recorded_bytes}
 use Rattle.trace_file.proofs.EventBytes.{kind_again, kind_back}
 use Rattle.trace_file.proofs.FieldRows.{Fill, field_passes, filled, first_known, joined}
-use Rattle.trace_file.proofs.Heads.{IsBytes, bytes_behind}
 use Rattle.trace_file.proofs.Nibbles.{freed_pass, losers_pass}
 use Rattle.trace_file.proofs.Laws.OutcomeLaws.{number_again, outcome_back, outcome_spelled, why_small}
 

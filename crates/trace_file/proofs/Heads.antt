@@ -1,50 +1,26 @@
 -- A head without a fault is spelled by what stands in it.
-use Rattle.std.proofs.Common.{◌≡◌, ℕ, ◌+◌, ◌*◌, ◌/◌, ◌%◌, ◌≤◌, ◌<◌, Bool, true, not, ◌==◌, ltb, List, [], ◌∷◌, ◌++◌, length, get_or, drop, zero, suc, Option, None, refl, sym, ap, ◌∙◌, arith}
+use Rattle.std.proofs.Common.{◌≡◌, ℕ, ◌+◌, ◌≤◌, ◌<◌, Bool, true, not, ◌==◌, ltb, List, [], ◌∷◌, ◌++◌, length, get_or, drop, zero, suc, Option, None, refl, sym, ap, ◌∙◌, arith}
 use Rattle.std.proofs.Math.Seq.{drop-cons}
 use Rattle.std.proofs.lemmas.Bool.{ltb-false, not-false}
-use Rattle.std.proofs.lemmas.List.{get_or-drop, length-drop, drop-drop}
+use Rattle.std.proofs.lemmas.List.{drop-drop, take-append-drop}
 use Rattle.std.proofs.lemmas.Bool.Decides.{nat_tests}
 use Rattle.el_base.specs.Config.{allows}
 use Rattle.el_base.specs.declared.config.ConfigFault.TheVariants.{Harts, Sets, Ways, Lines, Long, Steps}
 use Rattle.el_base.specs.Firsts.{first_of, some_if}
-use Rattle.byteorder.specs.Endian.{little_bytes, little_number}
+use Rattle.byteorder.specs.Endian.{little_bytes}
 use Rattle.el_base.specs.declared.file_fault.FileFault.{FileFault}
+use Rattle.file_numbers.specs.Numbers.{IsBytes, number_at}
+use Rattle.file_numbers.proofs.Laws.Numbers.{number_piece}
 use Rattle.trace_file.specs.declared.fault.FaultKind.{FaultKind}
 use Rattle.trace_file.specs.declared.fault.FaultKind.TheVariants.{Short, Magic, Config as config_kind}
 use Rattle.el_base.specs.Modes.{mode_number}
 use Rattle.el_base.proofs.Laws.Tests.{same_unless_other}
 use Rattle.el_base.proofs.Laws.Options.{cond_none, or_none}
-use Rattle.el_base.proofs.Laws.ListLaws.{four_in_front}
 use Rattle.trace_file.specs.Spelling.{head}
 use Rattle.trace_file.specs.FaultKinds.{fault_of}
-use Rattle.trace_file.specs.Faults.{field, wrong, byte_fault, magic_fault, settings_fault, number_fault, is_mode, number_at, mode_at, config_at}
-
-abbrev pub IsBytes : List ℕ → Type 0
-IsBytes bytes = (i : ℕ) → get_or bytes i 0 < 256
+use Rattle.trace_file.specs.Faults.{field, wrong, byte_fault, magic_fault, settings_fault, number_fault, is_mode, mode_at, config_at}
 
 -- ---- numbers
-
-pub cells_of : (n a b c d : ℕ) → n ≡ a + 256 * (b + 256 * (c + 256 * (d + 256 * 0))) →
-    a < 256 → b < 256 → c < 256 → d < 256 →
-    little_bytes 4 n ≡ a ∷ b ∷ c ∷ d ∷ []
-cells_of n a b c d is ha hb hc hd =
-    let e0 : n % 256 ≡ a = omega arith in
-    let e1 : n / 256 % 256 ≡ b = omega arith in
-    let e2 : n / 65536 % 256 ≡ c = omega arith in
-    let e3 : n / 16777216 % 256 ≡ d = omega arith in
-    rw (e0, e1, e2, e3) refl
-
--- four bytes are the little-endian bytes of their number
-pub four_bytes : (bytes : List ℕ) → IsBytes bytes → 4 ≤ length bytes →
-    little_bytes 4 (little_number 4 bytes) ++ drop 4 bytes ≡ bytes
-four_bytes bytes fits long =
-    ap
-    (λ (cells : List ℕ). cells ++ drop 4 bytes)
-    (cells_of (little_number 4 bytes) _ _ _ _ refl (fits 0) (fits 1) (fits 2) (fits 3))
-    ∙ sym (four_in_front bytes long)
-
-pub bytes_behind : (place : ℕ) (file : List ℕ) → IsBytes file → IsBytes (drop place file)
-bytes_behind place file fits i = rw get_or-drop (fits (place + i))
 
 four_at : (file : List ℕ) (place end : ℕ) → IsBytes file → end ≤ length file → place + 4 ≡ end →
     little_bytes 4 (number_at file place) ++ drop end file ≡ drop place file
@@ -52,7 +28,8 @@ four_at file place end fits long is =
     let skipped : drop end file ≡ drop 4 (drop place file) =
     ap (λ (n : ℕ). drop n file) (sym is) ∙ sym (drop-drop 4 place file)
     in
-    rw skipped (four_bytes (drop place file) (bytes_behind place file fits) (omega (arith, length-drop place file)))
+    ap (λ (cells : List ℕ). cells ++ drop end file) (sym (number_piece file place fits (omega arith)))
+    ∙ rw skipped (take-append-drop 4 (drop place file))
 
 -- ---- faults
 

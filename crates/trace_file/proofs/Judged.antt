@@ -16,15 +16,17 @@ use Rattle.el_base.proofs.Laws.Options.{cond_none, or_none}
 use Rattle.el_base.specs.declared.config.Config.{Config}
 use Rattle.el_base.specs.declared.events.Event.{Event}
 use Rattle.el_base.specs.declared.outcomes.Outcome.{Outcome}
+use Rattle.file_numbers.specs.Numbers.{IsBytes, number_at}
+use Rattle.file_numbers.proofs.Laws.Numbers.{bytes_behind}
 use Rattle.trace_file.specs.declared.fault.FaultKind.TheVariants.{Event as event_kind, Tail, Version}
 use Rattle.trace_file.specs.Spelling.{head, spelling, event_byte, outcomes, IsTrace}
 use Rattle.trace_file.specs.FaultKinds.{fault_of}
 use Rattle.trace_file.specs.Fields.{is_event}
-use Rattle.trace_file.specs.Faults.{byte_fault, magic_fault, version_fault, settings_fault, number_fault, head_fault, number_at, config_at, is_mode, is_few, is_version, event_fault, end_fault, events_fault, entries_fault, body_fault, trace_fault}
+use Rattle.trace_file.specs.Faults.{byte_fault, magic_fault, version_fault, settings_fault, number_fault, head_fault, config_at, is_mode, is_few, is_version, event_fault, end_fault, events_fault, entries_fault, body_fault, trace_fault}
 use Rattle.trace_file.specs.Reading.{entries_at, event_in, events_at, recorded_at}
 use Rattle.trace_file.proofs.EventBytes.{none_fails, all_taken}
 use Rattle.trace_file.proofs.EntryLaws.{entries_spelled, event_spelled}
-use Rattle.trace_file.proofs.Heads.{IsBytes, bytes_behind, byte_passed, number_passed, field_none, head_spelled}
+use Rattle.trace_file.proofs.Heads.{byte_passed, number_passed, field_none, head_spelled}
 
 -- ---- the configuration
 

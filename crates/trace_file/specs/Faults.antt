@@ -2,7 +2,6 @@
 -- whole, and the first fault is the answer.
 use Rattle.std.specs.Prelude.{ℕ, zero, suc, ◌+◌, Bool, not, ◌==◌, nat_lt, nat_le, if◌then◌else◌, List, [], ◌∷◌, length, take, drop, slice_index, Option, Some, None, position}
 use Rattle.std.specs.Option.{option_map, option_or}
-use Rattle.byteorder.specs.Endian.{little_number}
 use Rattle.el_base.specs.Config.{allows, within}
 use Rattle.el_base.specs.Firsts.{first_of, some_if}
 use Rattle.el_base.specs.declared.file_fault.FileFault.{FileFault}
@@ -10,6 +9,7 @@ use Rattle.el_base.specs.declared.config.Config as settings
 use Rattle.el_base.specs.declared.config.ConfigFault.TheVariants as settings_of
 use Rattle.el_base.specs.declared.config.Mode.{Mode}
 use Rattle.el_base.specs.declared.config.Mode.TheVariants.{Plain, Sle, Tlr}
+use Rattle.file_numbers.specs.Numbers.{number_at}
 use Rattle.trace_file.specs.declared.fault.FaultKind.{FaultKind}
 use Rattle.trace_file.specs.declared.fault.FaultKind.TheVariants.{Short, Magic, Version, Config, Event, Tail}
 use Rattle.trace_file.specs.FaultKinds.{fault_of}
@@ -22,10 +22,6 @@ field file end fault = if nat_lt (length file) end then Some (fault_of Short (le
 -- the byte at a place is not the one that is wanted there
 abbrev pub wrong : List ℕ → ℕ → ℕ → FaultKind → Option FileFault
 wrong file place wanted kind = some_if (not (slice_index file place == wanted)) (fault_of kind place)
-
--- the number of four bytes at a place, the lowest first
-abbrev pub number_at : List ℕ → ℕ → ℕ
-number_at file place = little_number 4 (drop place file)
 
 -- a byte of the configuration, and a number of four bytes, which this test is to pass
 unfoldable pub byte_fault : List ℕ → ℕ → (ℕ → Bool) → Option FileFault

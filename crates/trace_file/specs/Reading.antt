@@ -20,7 +20,7 @@ use Rattle.el_base.specs.declared.outcomes.Outcome.{Outcome}
 use Rattle.el_base.specs.declared.outcomes.Outcome.TheVariants.{Idle, Stalled, Missed, Ran, Began, Buffered, Committed, RolledBack, Ordered, Served, Blocked, Delivered, Armed, LetGo}
 use Rattle.el_base.specs.declared.outcomes.Why.{Why}
 use Rattle.el_base.specs.declared.outcomes.Why.TheVariants.{Behind, Retained, Locked}
-use Rattle.trace_file.specs.Faults.{number_at}
+use Rattle.file_numbers.specs.Numbers.{number_at}
 use Rattle.trace_file.specs.Fields.{entry_width}
 use Rattle.trace_file.specs.Spelling.{outcomes}
 

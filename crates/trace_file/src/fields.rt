@@ -3,12 +3,13 @@
 ghost use Rattle.std.specs.Prelude.{◌≡◌, ◌+◌, ◌<◌, ◌≤◌, None, Some, IsTrue, not, drop, length, slice_index, IfErr, IfOk, OnOk};
 ghost use Rattle.el_base.specs.Config.{allows};
 ghost use Rattle.el_base.specs.Firsts.{some_if};
+ghost use Rattle.file_numbers.specs.Numbers.{number_at};
 ghost use Rattle.trace_file.specs.FaultKinds.{fault_of};
-ghost use Rattle.trace_file.specs.Faults.{byte_fault, field, number_at, number_fault};
+ghost use Rattle.trace_file.specs.Faults.{byte_fault, field, number_fault};
 
 use crate::fault::FaultKind;
-use byteorder::{ByteOrder, LittleEndian};
 use el_base::{ConfigFault, FileFault};
+use file_numbers::number_at;
 
 /// That the file does not end before this place.
 #[tactic(auto, unfolding(crate::specs::Faults::field))]
@@ -53,14 +54,6 @@ pub fn setting_byte(file: &[u8], place: u32, setting: ConfigFault) -> Result<u8,
     let byte = file[place as usize];
     expect(setting.allows(byte.into()), FaultKind::Config, place)?;
     Ok(byte)
-}
-
-/// The number of the four bytes at a place.
-pub fn number_at(file: &[u8], place: u32) -> u32
-    requires { place + 4 ≤ length file.now }
-    ensures { result ≡ number_at file.now place }
-{
-    LittleEndian::read_u32(&file[place as usize..])
 }
 
 /// The number of the four bytes at a place, which a field of the configuration is to allow.

@@ -2,11 +2,13 @@
 
 ghost use Rattle.std.specs.Prelude.{◌≡◌, ◌≤◌, None, Some, length, slice_index, IfErr, IfOk, OnOk};
 ghost use Rattle.el_base.specs.Config.{IsInRange};
-ghost use Rattle.trace_file.specs.Faults.{byte_fault, config_at, head_fault, is_few, is_mode, magic_fault, mode_at, number_at, number_fault, settings_fault, version_fault};
+ghost use Rattle.file_numbers.specs.Numbers.{number_at};
+ghost use Rattle.trace_file.specs.Faults.{byte_fault, config_at, head_fault, is_few, is_mode, magic_fault, mode_at, number_fault, settings_fault, version_fault};
 
 use crate::fault::FaultKind;
-use crate::fields::{self, expect, reaches, setting_byte, setting_number};
+use crate::fields::{expect, reaches, setting_byte, setting_number};
 use el_base::{Config, ConfigFault, FileFault, MAX_STEPS, Mode};
+use file_numbers::number_at;
 
 /// The first four bytes of a trace.
 pub const MAGIC: [u8; 4] = [b'E', b'L', b'T', b'R'];
@@ -155,7 +157,7 @@ fn count_of(file: &[u8], steps: u32) -> Result<u32, FileFault>
     ensures whole { OnOk result (22 ≤ length file.now) }
 {
     reaches(file, COUNT + 4)?;
-    let count = fields::number_at(file, COUNT);
+    let count = number_at(file, COUNT);
     expect(count <= steps, FaultKind::Config, COUNT)?;
     Ok(count)
 }

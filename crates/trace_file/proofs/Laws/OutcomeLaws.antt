@@ -1,7 +1,7 @@
 -- Outcomes and the bytes that spell them.
 use Rattle.std.proofs.Common.{◌≡◌, ℕ, zero, suc, ◌+◌, ◌/◌, ◌%◌, ◌≤◌, ◌<◌, ◌^◌, true, List, [], ◌∷◌, ◌++◌, length, get_or, drop, None, refl, sym, ap, ◌∙◌, append_assoc, arith, IsTrue}
 use Rattle.std.proofs.lemmas.Bool.Decides.{nat_tests}
-use Rattle.std.proofs.lemmas.List.{drop-drop}
+use Rattle.std.proofs.lemmas.List.{drop-drop, take-append-drop}
 use Rattle.std.proofs.Math.Seq.{drop-cons}
 use Rattle.byteorder.specs.Endian.{little_bytes, little_number}
 use Rattle.byteorder.specs.Numbers.{little_number-reads_back}
@@ -21,12 +21,13 @@ use Rattle.el_base.specs.declared.outcomes.Why.TheVariants.{Behind, Retained, Lo
 use Rattle.el_base.proofs.Laws.HartIds.{hart_id-number, hart_id-of_hart}
 use Rattle.el_base.proofs.Laws.Lines.{line_addr-number, line_addr-of_line}
 use Rattle.el_base.proofs.Laws.ListLaws.{four_in_front}
+use Rattle.file_numbers.specs.Numbers.{IsBytes}
+use Rattle.file_numbers.proofs.Laws.Numbers.{bytes_behind, four_bytes}
 use Rattle.trace_file.specs.Faults.{fields_fault}
 use Rattle.trace_file.specs.Fields.{byte_field, fields_of, freed_field, is_blocking, is_cause, is_line, losers_field, number_field, widths}
 use Rattle.trace_file.specs.Outcomes.{IsRecordable, blocking_byte, cause_code, freed_bytes, losers_bytes, most_committed, most_let_go, outcome_spelling, why_code}
 use Rattle.trace_file.specs.Reading.{cause_at, freed_in, losers_in, outcome_in, why_at}
 use Rattle.trace_file.proofs.FieldRows.{first_known}
-use Rattle.trace_file.proofs.Heads.{IsBytes, bytes_behind, four_bytes}
 use Rattle.trace_file.proofs.Nibbles.{counts_small, freed_again, freed_below, freed_spelled, losers_again, losers_below, losers_spelled, nibbles_small}
 
 -- ---- codes
@@ -102,8 +103,8 @@ Spells code bytes outcome rest = outcome_spelling outcome ++ rest ≡ code ∷ b
 number_spelled : (code n : ℕ) (bytes : List ℕ) → IsBytes bytes → 4 ≤ length bytes → n ≡ little_number 4 bytes →
     code ∷ (little_bytes 4 n ++ drop 4 bytes) ≡ code ∷ bytes
 number_spelled code n bytes fits long is =
-    ap (λ (x : ℕ). code ∷ (little_bytes 4 x ++ drop 4 bytes)) is
-    ∙ ap (λ (l : List ℕ). code ∷ l) (four_bytes bytes fits long)
+    ap (λ (l : List ℕ). code ∷ (l ++ drop 4 bytes)) (ap (little_bytes 4) is ∙ sym (four_bytes bytes fits long))
+    ∙ ap (λ (l : List ℕ). code ∷ l) (take-append-drop 4 bytes)
 
 -- losers and freed harts, as an order or a serve has them
 both_spelled : (harts place : ℕ) (bytes : List ℕ) → harts ≤ 8 → IsBytes bytes →

@@ -29,7 +29,8 @@ use Rattle.el_base.specs.Modes.{mode_number}
 use Rattle.trace_file.specs.Spelling.{head, spelling, event_byte, outcomes, recorded_bytes, version_of, IsTrace}
 use Rattle.trace_file.specs.FaultKinds.{fault_of}
 use Rattle.trace_file.specs.Fields.{is_event}
-use Rattle.trace_file.specs.Faults.{field, byte_fault, magic_fault, version_fault, settings_fault, number_fault, head_fault, number_at, mode_at, is_mode, is_few, is_version, event_fault, end_fault, events_fault, entries_fault, body_fault, trace_fault, config_at}
+use Rattle.file_numbers.specs.Numbers.{number_at}
+use Rattle.trace_file.specs.Faults.{field, byte_fault, magic_fault, version_fault, settings_fault, number_fault, head_fault, mode_at, is_mode, is_few, is_version, event_fault, end_fault, events_fault, entries_fault, body_fault, trace_fault, config_at}
 use Rattle.trace_file.specs.Reading.{entries_in, event_in, events_at, recorded_at}
 use Rattle.trace_file.proofs.EntryLaws.{entries_again, event_back, event_passes}
 

@@ -1,5 +1,6 @@
 use Rattle.std.proofs.Common.{◌+◌, ap, ◌∙◌, take, drop}
-use Rattle.run_check.specs.Faults.{line_at, line_place, number_at}
+use Rattle.file_numbers.specs.Numbers.{number_at}
+use Rattle.run_check.specs.Faults.{line_at, line_place}
 use Rattle.run_check.proofs.Items.{patch_is}
 use Rattle.run_check.proofs.reading.patch_at.Goals as goal
 

@@ -1,6 +1,7 @@
 use Rattle.std.proofs.Common.{◌+◌, ap, ◌∙◌}
 use Rattle.std.specs.Prelude.{slice_index}
-use Rattle.run_check.specs.Faults.{hart_at, number_at, count_at}
+use Rattle.file_numbers.specs.Numbers.{number_at}
+use Rattle.run_check.specs.Faults.{hart_at, count_at}
 use Rattle.run_check.proofs.Items.{stretch_is}
 use Rattle.run_check.proofs.reading.stretch_at.Goals as goal
 

@@ -2,9 +2,10 @@ use Rattle.std.proofs.Common.{◌≡◌, ℕ, Bool, List, None, get_or, subst, s
 use Rattle.el_base.proofs.Laws.Ranges.{in_range}
 use Rattle.el_base.specs.Config.{allows}
 use Rattle.el_base.specs.declared.config.ConfigFault.TheVariants.{Harts, Sets, Ways, Lines, Long, Steps}
+use Rattle.file_numbers.specs.Numbers.{number_at}
 use Rattle.trace_file.proofs.Heads.{byte_passed, number_passed}
 use Rattle.trace_file.proofs.head.config_of.Goals as goal
-use Rattle.trace_file.specs.Faults.{byte_fault, number_at, number_fault}
+use Rattle.trace_file.specs.Faults.{byte_fault, number_fault}
 
 -- a field that was read passes its test
 byte_in : (file : List ℕ) (place byte : ℕ) (test : ℕ → Bool) → byte ≡ get_or file place 0 → byte_fault file place test ≡ None →

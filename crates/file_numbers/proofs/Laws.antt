@@ -1,0 +1,2 @@
+-- the laws that are offered to the crates above
+pub mod Numbers

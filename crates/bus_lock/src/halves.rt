@@ -2,8 +2,8 @@
 ghost use Rattle.std.specs.Prelude.{◌≡◌, ◌++◌, [], ◌⊎◌, List, Bool, Ok, true, false};
 ghost use mathlib.Core.List.{IsPrefix};
 ghost use Rattle.bus_lock.specs.Locks.{lock_id};
-ghost use Rattle.bus_lock.specs.Passes.{Account, AreDistinct, AreHalves, longer};
-ghost use Rattle.bus_lock.specs.Steps.{Learns, at_rest, joined};
+ghost use Rattle.bus_lock.specs.Passes.{Account, AreDistinct, AreHalves};
+ghost use Rattle.bus_lock.specs.Steps.{Learns};
 
 use crate::lock::BusLock;
 use crate::pass::Pass;

@@ -1,4 +1,4 @@
-ghost use Rattle.std.specs.Prelude.{◌≡◌, ℕ, ◌≤◌, ◌<◌, ◌==◌, ◌∷◌, List, IfOk, map, length, option_map, position, slice_index_or, is_some, vec_capacity};
+ghost use Rattle.std.specs.Prelude.{◌≡◌, ℕ, ◌≤◌, ◌<◌, ◌==◌, ◌∷◌, IfOk, map, length, option_map, position, slice_index_or, is_some, vec_capacity};
 ghost use Rattle.std.specs.List.{remove};
 ghost use Rattle.cache_sets.specs.declared.line.Line as code;
 ghost use Rattle.residency.specs.Keyed.{changed, count_of, found, fronted, without};

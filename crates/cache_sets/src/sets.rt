@@ -1,4 +1,4 @@
-ghost use Rattle.std.specs.Prelude.{◌≡◌, ◌≢◌, ◌<◌, ◌≤◌, ◌%◌, ◌↔◌, ℕ, true, false, IfOk, IsNone, List, Some, is_some, length, option_map};
+ghost use Rattle.std.specs.Prelude.{◌≡◌, ◌≢◌, ◌<◌, ◌%◌, ◌↔◌, ℕ, true, false, IfOk, IsNone, List, Some, is_some, length, option_map};
 ghost use Rattle.el_base.specs.Config.{IsInRange};
 ghost use Rattle.el_base.specs.declared.config.Config.{Config};
 ghost use Rattle.line_pool.specs.Calls.{IsWritten};
@@ -281,7 +281,7 @@ fn empty_sets(alloc: Global, count: u8, ways: u8) -> Result<Vec<Set>, NoMemory>
 
 /// The number of the set of a line: the last bits of the line's number.
 ///
-/// A remainder would give the same, and take some twenty times as long. Each event that looks into a cache asks for one.
+/// A remainder would give the same by a division, and each event that looks into a cache asks for one.
 fn set_number(sets: &[Set], line: LineAddr) -> usize
     requires { IsPowerOfTwo (length sets.now) }
     ensures exact { result ≡ line.number % length sets.now }

@@ -1,6 +1,5 @@
 //! The letters by the MOESI table, and caches of one set with two ways, worked by hand.
 
-ghost use Rattle.std.specs.Prelude.{IfOk};
 ghost use Rattle.cache_sets.specs.Slotted.{IsLent};
 
 use bitflags::Flags;

@@ -1,6 +1,6 @@
 //! Harts whose sections are lost and rolled back, and whose watches are settled, worked by hand.
 
-ghost use Rattle.std.specs.Prelude.{◌≡◌, ◌<◌, ◌-◌, ◌^◌, IfOk, IsSome, None};
+ghost use Rattle.std.specs.Prelude.{◌≡◌, ◌<◌, ◌-◌, IfOk, IsSome, None};
 ghost use Rattle.rv_alu.specs.declared.view.HartStatus.TheVariants.{Running};
 ghost use Rattle.write_hold.specs.Slotted.{IsLent};
 

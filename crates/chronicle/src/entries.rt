@@ -1,6 +1,6 @@
 //! The entries of a history, each in a row.
 
-ghost use Rattle.std.specs.Prelude.{◌≡◌, ℕ, Some, ◌∷◌, ◌++◌, [], ◌≤◌, ◌<◌, length, slice_get, IfOk};
+ghost use Rattle.std.specs.Prelude.{◌≡◌, Some, ◌∷◌, ◌++◌, [], ◌≤◌, ◌<◌, length, slice_get, IfOk};
 ghost use Rattle.chronicle.specs.Chronicle.{Chronicle, spare_of};
 
 use crate::rows::{Brief, Row};

@@ -1,4 +1,4 @@
-ghost use Rattle.std.specs.Prelude.{◌≡◌, ◌∷◌, ◌++◌, [], ℕ, ◌<◌, ◌≤◌, length, IfOk};
+ghost use Rattle.std.specs.Prelude.{◌≡◌, ◌∷◌, ◌++◌, [], ◌<◌, ◌≤◌, length, IfOk};
 ghost use Rattle.chronicle.specs.Chronicle.{Chronicle, spare_of};
 ghost use Rattle.chronicle.specs.Serial.{serial};
 ghost use Rattle.chronicle.specs.Tally.{tally_of};

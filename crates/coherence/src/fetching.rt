@@ -4,7 +4,7 @@ ghost use Rattle.std.specs.Prelude.{◌≡◌, ◌<◌, ℕ, true, false, length
 ghost use Rattle.residency.specs.Cache.{is_resident, room_of};
 ghost use Rattle.coherence.specs.Caches.{IsInMemory};
 ghost use Rattle.coherence.specs.Lent.{IsLentTo, LeavesHolds, lent_all, slotted_at};
-ghost use Rattle.coherence.specs.Served.{Copies, IsFetched, written_back};
+ghost use Rattle.coherence.specs.Served.{IsFetched, written_back};
 ghost use Rattle.coherence.specs.Writing.{GoneIsInMemory};
 
 use crate::found::current;

@@ -12,7 +12,7 @@ use Rattle.std.proofs.lemmas.List.Sums.{length-filter, count_by-le-length}
 use Rattle.elf_image.specs.declared.program_header.ProgramHeader.{ProgramHeader}
 use Rattle.elf_image.specs.Header.{file_header, program_header, headers_at, program_headers}
 use Rattle.elf_image.specs.Layout as layout
-use Rattle.elf_image.specs.Layout.{is_segment, is_executable, has_instruction, segments_of, lowest, highest, memory_base, memory_end, layout_of, size_of}
+use Rattle.elf_image.specs.Layout.{is_segment, is_executable, has_instruction, segments_of, lowest, highest, memory_base, memory_end, layout_of}
 use Rattle.elf_image.specs.Faults.{fault}
 use Rattle.elf_image.specs.Limits.{header_limit, stack_size}
 use Rattle.elf_image.specs.Loaded.{IsInside, code_segment, loaded_byte, loaded_bytes, program_of}

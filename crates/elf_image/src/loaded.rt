@@ -1,6 +1,6 @@
 //! What a file without a fault puts into memory.
 
-ghost use Rattle.std.specs.Prelude.{◌≡◌, ◌≤◌, ◌<◌, ◌+◌, ℕ, None, All, IfOk, if◌then◌else◌};
+ghost use Rattle.std.specs.Prelude.{◌≡◌, ◌<◌, ◌+◌, ℕ, None, All, IfOk, if◌then◌else◌};
 ghost use Rattle.std.specs.Prelude.{filter, length, map, replicate, slice_index};
 ghost use Rattle.std.specs.List.{range_with_len};
 ghost use Rattle.elf_image.specs.Layout.{first_overlap, is_executable};

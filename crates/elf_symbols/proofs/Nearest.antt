@@ -1,8 +1,8 @@
 -- the nearest symbol of a list
 use Rattle.std.proofs.lemmas.List.{append_assoc}
 use Rattle.std.proofs.lemmas.List.Elements.{All-push, Contains-append_left, Contains-append_right}
-use Rattle.std.proofs.Common.{◌≡◌, ℕ, zero, ◌<◌, ◌≤◌, List, [], ◌∷◌, ◌++◌, Bool, true, false, Option, Some, None, refl, sym, arith, length, append-nil}
-use Rattle.std.specs.Prelude.{All, Contains, MatchOption, fold, nat_lt, nat_le, ◌||◌, if◌then◌else◌}
+use Rattle.std.proofs.Common.{◌≡◌, ℕ, zero, ◌<◌, ◌≤◌, List, [], ◌∷◌, ◌++◌, true, false, Option, Some, None, refl, sym, arith, append-nil}
+use Rattle.std.specs.Prelude.{All, Contains, MatchOption, fold, ◌||◌, if◌then◌else◌}
 use Rattle.elf_symbols.specs.declared.entries.Symbol.{Symbol}
 use Rattle.elf_symbols.specs.Known.{IsNearest, nearer, nearest}
 

@@ -1,6 +1,6 @@
 //! The ELF header and the table of section headers, with the field names of the ELF specification.
 
-ghost use Rattle.std.specs.Prelude.{◌≡◌, ◌<◌, ◌^◌};
+ghost use Rattle.std.specs.Prelude.{◌≡◌};
 ghost use Rattle.elf_symbols.specs.Sections as sections;
 
 use crate::fields::{byte_at, half_at, word_at};

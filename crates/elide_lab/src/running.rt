@@ -1,11 +1,9 @@
 //! `run`: an image by another schedule than the round robin.
 
-ghost use Rattle.std.specs.Prelude.{◌≡◌, ◌≢◌, ◌<◌, ◌≤◌, ◌++◌, All, IfOk, IfSome, OnOk, [], length, Some};
+ghost use Rattle.std.specs.Prelude.{◌≡◌, ◌<◌, ◌≤◌, All, IfOk, OnOk, [], Some};
 ghost use Rattle.std.specs.Option.{option_map};
 ghost use Rattle.chronicle.specs.Chronicle.{events};
 ghost use Rattle.el_io.specs.Shelf.{Holds, KeepsOthers};
-ghost use Rattle.el_io.specs.Sink.{TookAll};
-ghost use Rattle.machine.specs.Story.{committed};
 ghost use Rattle.trace_file.specs.Spelling.{outcomes, spelling};
 ghost use Rattle.elide_lab.specs.Files.{HoldsNamed, KeepsBut, trace_of_run};
 ghost use Rattle.elide_lab.specs.Runs.{GoesBy};

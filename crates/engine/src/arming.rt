@@ -2,7 +2,6 @@
 
 ghost use Rattle.std.specs.Prelude.{◌≡◌};
 ghost use Rattle.el_model.specs.Plain.{Arms, by_plain_rule};
-ghost use Rattle.el_model.specs.State.{ModelState};
 ghost use Rattle.engine.specs.Acting.{ActsOutside, next_action};
 ghost use Rattle.engine.specs.Outside.{FindsWord, IsItsRule, OutsideSomewhere};
 ghost use Rattle.engine.specs.Parts.{parts};

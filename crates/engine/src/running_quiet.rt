@@ -2,7 +2,6 @@
 
 ghost use Rattle.std.specs.Prelude.{◌≡◌, is_none, true};
 ghost use Rattle.el_model.specs.Plain.{plain_turn};
-ghost use Rattle.el_model.specs.State.{ModelState};
 ghost use Rattle.engine.specs.Acting.{ActsOutside, next_action};
 ghost use Rattle.engine.specs.Outside.{OutsideSomewhere};
 ghost use Rattle.engine.specs.Parts.{own_at, parts};

@@ -1,6 +1,6 @@
 //! Words from the assembler `riscv64-unknown-elf-as -march=rv32ia -mabi=ilp32` of GNU binutils 2.40, each with
 //! the line that it was given.
-ghost use Rattle.std.specs.Prelude.{◌≡◌, ◌+◌, ◌<◌, ◌≤◌, [], length, IfOk, OnOk};
+ghost use Rattle.std.specs.Prelude.{◌≡◌, ◌+◌, ◌<◌, ◌≤◌, [], length, OnOk};
 
 use self::Row::{Branch, Jump};
 use el_base::NoMemory;

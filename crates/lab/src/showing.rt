@@ -1,12 +1,12 @@
 //! What one event did.
 
-ghost use Rattle.std.specs.Prelude.{◌≡◌, ◌<◌, ◌≤◌, ◌∷◌, ◌==◌, ℕ, [], length, slice_get, slice_index_or};
+ghost use Rattle.std.specs.Prelude.{◌≡◌, ◌<◌, ◌≤◌, ◌∷◌, ◌==◌, ℕ, [], length, slice_index_or};
 ghost use Rattle.std.specs.List.{position};
 ghost use Rattle.std.specs.Option.{option_map};
 ghost use Rattle.bus_order.specs.Order as order;
 ghost use Rattle.residency.specs.Cache.{letter_of};
 ghost use Rattle.el_model.specs.Next.{next};
-ghost use Rattle.el_model.specs.State.{cache_of, hart_of, ordered_of, raised_of};
+ghost use Rattle.el_model.specs.State.{cache_of, ordered_of, raised_of};
 ghost use Rattle.lab.specs.Shown.{AreLetters, IsSightOf, Tells, about_of};
 ghost use Rattle.machine.specs.Story.{continued, left_of, state_of};
 ghost use Rattle.mail.specs.Mailbox as mailbox;

@@ -1,6 +1,6 @@
 //! Addresses with their nearest symbols.
 
-ghost use Rattle.std.specs.Prelude.{◌≡◌, ◌+◌, ◌≤◌, MatchOption, None, is_none};
+ghost use Rattle.std.specs.Prelude.{◌≡◌, ◌+◌, MatchOption, None};
 ghost use Rattle.elf_symbols.specs.Known.{nearest};
 
 use elf_symbols::{Symbol, Symbols};

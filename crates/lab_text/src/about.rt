@@ -1,7 +1,6 @@
 //! Which events did something, and which have to do with an address.
 
 ghost use Rattle.std.specs.Prelude.{◌≡◌};
-ghost use Rattle.el_base.specs.Line.{line_number};
 ghost use Rattle.lab_text.specs.About as about;
 ghost use Rattle.lab_text.specs.Items.{is_deed};
 ghost use Rattle.rv_alu.specs.Footprint.{footprint};

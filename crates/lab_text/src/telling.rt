@@ -1,6 +1,6 @@
 //! The items of an event, by what it was about and by its outcome.
 
-ghost use Rattle.std.specs.Prelude.{◌≡◌, ◌≤◌, ◌+◌, ◌++◌, [], length, slice_index_or};
+ghost use Rattle.std.specs.Prelude.{◌≡◌, ◌≤◌, ◌+◌, ◌++◌, [], slice_index_or};
 ghost use Rattle.arrayvec.specs.ArrayVec.{array_vec_len};
 ghost use Rattle.el_base.specs.Freed.{count_in};
 ghost use Rattle.el_base.specs.Losers.{beaten_by};

@@ -10,7 +10,8 @@ use Rattle.line_pool.specs.Calls.{IsGiven, IsPooled, IsTaken, IsWritten}
 use Rattle.line_pool.specs.Keeping.{Keeps, same_slot, times_among}
 use Rattle.line_pool.specs.Pooled.{Pooled, Share, bytes_of, has_slot, index_by, is_out, out_of, owner_of, quota_of, quotas_of, share_of, no_share}
 use Rattle.line_pool.proofs.Counting.{outs-counted, outs_below}
-use Rattle.line_pool.proofs.Places.{apart_by, has_by, out-has}
+use Rattle.line_pool.proofs.Places.{apart_by, has_by}
+pub use Rattle.line_pool.proofs.Places.{has-out}
 use Rattle.line_pool.proofs.Steps.{same_slots}
 
 -- the quota of an owner is that of its share
@@ -25,10 +26,7 @@ pub out-counted : (pool : Pooled) (owner : ℕ) → IsPooled pool → outs_below
 out-counted pool owner is =
     ap (outs_below (share_of pool owner)) (quota-share pool owner) ∙ outs-counted (share_of pool owner) (is.each owner)
 
--- a slot that is out is one of the pool, and slots of a pool lie apart
-pub has-out : (pool : Pooled) (slot : Slot) → is_out pool slot ≡ true → has_slot pool slot ≡ true
-has-out pool slot out = out-has pool slot out
-
+-- slots of a pool lie apart
 pub indexes_apart : (pool : Pooled) (slot other : Slot) → has_slot pool slot ≡ true → has_slot pool other ≡ true → other ≢ slot
     → index_by (quotas_of pool) other ≢ index_by (quotas_of pool) slot
 indexes_apart pool slot other has other_has apart =

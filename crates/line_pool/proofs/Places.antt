@@ -52,8 +52,8 @@ pub has_by : (pool : Pooled) (slot : Slot) → has_slot pool slot ≡ true → H
 has_by pool slot has = grind (arith, nat_tests)
 
 -- a slot that is out is one of the pool
-pub out-has : (pool : Pooled) (slot : Slot) → is_out pool slot ≡ true → has_slot pool slot ≡ true
-out-has pool slot out =
+pub has-out : (pool : Pooled) (slot : Slot) → is_out pool slot ≡ true → has_slot pool slot ≡ true
+has-out pool slot out =
     let quota : quota_of pool slot.owner ≡ (share_of pool slot.owner).quota =
     get_or-map (λ (share : Share). share.quota) pool.shares slot.owner no_share 0 (out_there pool slot out) in
     grind (arith, nat_tests, quota, out)
@@ -98,7 +98,7 @@ module _ (shares : List code.Share) (lines : List (List ℕ)) (stands : PoolStan
 
   pub line_within : index < length lines
   line_within =
-      let within = index_within (quotas_of pool) slot (has_by pool slot (out-has pool slot out)) in
+      let within = index_within (quotas_of pool) slot (has_by pool slot (has-out pool slot out)) in
       omega (arith, within, index_is, pool_total, ap length lines_are)
 
   pub line_read : (bytes : List ℕ) → bytes ≡ slice_index_or lines index bytes → bytes ≡ bytes_of pool slot
@@ -112,4 +112,4 @@ module _ (shares : List code.Share) (lines : List (List ℕ)) (stands : PoolStan
       ∙ ap (λ p. with_bytes p slot bytes) is
 
   pub line_written : (bytes : List ℕ) → IsWritten pool (with_bytes pool slot bytes) slot bytes
-  line_written bytes = is_written pool pool_total slot (out-has pool slot out) bytes
+  line_written bytes = is_written pool pool_total slot (has-out pool slot out) bytes

@@ -3,8 +3,6 @@ ghost use Rattle.std.specs.Prelude.{
   ◌≡◌,
   ◌<◌,
   ◌≤◌,
-  ◌+◌,
-  ◌++◌,
   ◌∷◌,
   [],
   ◌↔◌,

@@ -1,6 +1,6 @@
 //! What each letter permits, and what becomes of it.
 ghost use Rattle.std.specs.Prelude.{◌≡◌};
-ghost use Rattle.moesi.specs.Letters.{may_of, on_read_of, on_write_of, on_served, filled_of};
+ghost use Rattle.moesi.specs.Letters.{may_of, on_read_of, on_write_of, filled_of};
 ghost use Rattle.moesi.specs.Letters as letters;
 
 use crate::letter::Letter;

@@ -230,7 +230,8 @@ buffered_retains state h line section next cache live bits is = (
 
 touch_bits : (state : ModelState) (h : ℕ) (section next : Section) (touch : Option Touch) → IsCoverable state h section touch → (head : Request) →
     head_of state head.line ≡ Some head → head.hart ≢ h →
-    meets_bit (record (hart_of state h) { section = Some next; cache = covered (hart_of state h).cache touch; held_line = None }) head.line head.need ≡ true →
+    meets_bit (record (hart_of state h) { section = Some next; cache = covered (hart_of state h).cache touch; held_line = None })
+    head.line head.need ≡ true →
     meets_bit (hart_of state h) head.line head.need ≡ true
 touch_bits state h section next None coverable head is apart bit =
     meets_no_more (hart_of state h) (record (hart_of state h) { section = Some next; held_line = None }) head.line head.need

@@ -1,4 +1,4 @@
-ghost use Rattle.std.specs.Prelude.{◌≡◌, ◌++◌, ◌∷◌, [], map};
+ghost use Rattle.std.specs.Prelude.{◌≡◌, ◌++◌, [], map};
 ghost use Rattle.std.specs.List.{flat_map};
 ghost use Rattle.report.specs.Line.{bytes_of, eight_digits, hex_digit, line, number_line, spaced};
 ghost use Rattle.report.specs.Puts.{Puts};

@@ -1,9 +1,8 @@
 //! The certificate of a history and of what a run reached.
 
-ghost use Rattle.std.specs.Prelude.{◌≡◌, ℕ, ◌+◌, ◌*◌, ◌/◌, ◌<◌, ◌≤◌, ◌↔◌, IfOk, true, length, slice_index_or};
+ghost use Rattle.std.specs.Prelude.{◌≡◌, ℕ, ◌+◌, ◌*◌, ◌/◌, ◌<◌, ◌≤◌, IfOk, length, slice_index_or};
 ghost use Rattle.std.specs.Str.{bytes_eq};
 ghost use Rattle.el_base.specs.declared.line.TheConstants.{LINE_BYTES};
-ghost use Rattle.elf_image.specs.Program.{IsProgram};
 ghost use Rattle.rv_flat.specs.FlatState.{no_hart};
 ghost use Rattle.run_check.specs.Certified.{certificate_of, changed_lines, line_of_memory, IsHistoryOf, IsStateOf, StandsAtTrap};
 ghost use Rattle.run_check.specs.Spelling.{IsView};

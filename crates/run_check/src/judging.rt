@@ -1,6 +1,6 @@
 //! The faults of a file, read from left to right.
 
-ghost use Rattle.std.specs.Prelude.{◌≡◌, ℕ, ◌+◌, ◌*◌, ◌<◌, ◌≤◌, ◌||◌, None, Some, false, length, slice_index, IfErr, IfOk, OnOk};
+ghost use Rattle.std.specs.Prelude.{◌≡◌, ℕ, ◌+◌, ◌*◌, ◌<◌, ◌≤◌, ◌||◌, None, Some, false, length, IfErr, IfOk, OnOk};
 ghost use Rattle.file_numbers.specs.Numbers.{number_at};
 ghost use Rattle.rv_flat.specs.FlatState.{output_limit};
 ghost use Rattle.run_check.specs.Faults.{

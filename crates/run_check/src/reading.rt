@@ -1,12 +1,11 @@
 //! From bytes to a certificate.
 
-ghost use Rattle.std.specs.Prelude.{◌≡◌, ℕ, List, ◌+◌, ◌*◌, ◌<◌, ◌≤◌, None, Some, Err, false, length, take, drop, IfOk, OnOk};
+ghost use Rattle.std.specs.Prelude.{◌≡◌, ℕ, ◌+◌, ◌*◌, ◌<◌, ◌≤◌, None, Some, Err, false, length, take, drop, IfOk};
 ghost use Rattle.el_base.specs.declared.hart_id.TheConstants.{MAX_HARTS};
 ghost use Rattle.run_check.specs.Content.{Content};
 ghost use Rattle.run_check.specs.Faults.{
   certificate_fault,
   content_of,
-  count_at,
   hart_at,
   harts_of,
   line_at,

@@ -1,6 +1,6 @@
 //! The serial order of a history in stretches.
 
-ghost use Rattle.std.specs.Prelude.{◌≡◌, ℕ, ◌+◌, ◌++◌, ◌≤◌, IfOk, length, replicate};
+ghost use Rattle.std.specs.Prelude.{◌≡◌, ◌+◌, ◌++◌, ◌≤◌, IfOk, length, replicate};
 ghost use Rattle.chronicle.specs.Serial.{serial, taking_effect};
 ghost use Rattle.el_base.specs.Freed.{order_of};
 ghost use Rattle.run_check.specs.Certified.{stretches_of, with_pending, IsGrowing};

@@ -1,4 +1,4 @@
-ghost use Rattle.std.specs.Prelude.{◌≡◌, ℕ, ◌<◌, List, slice_index, replicate};
+ghost use Rattle.std.specs.Prelude.{◌≡◌, ℕ, List, slice_index, replicate};
 ghost use Rattle.rv_alu.specs.Regs.{get, set};
 
 use rv_word::Reg;

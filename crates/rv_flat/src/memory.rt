@@ -1,4 +1,4 @@
-ghost use Rattle.std.specs.Prelude.{◌≡◌, ◌+◌, ◌++◌, ◌≤◌, ◌⊎◌, drop, length, take};
+ghost use Rattle.std.specs.Prelude.{◌≡◌, ◌+◌, ◌++◌, ◌≤◌, drop, length, take};
 ghost use Rattle.byteorder.specs.Endian.{little_from};
 ghost use Rattle.rv_alu.specs.Footprint.{IsSize};
 ghost use Rattle.rv_flat.specs.Memory.{put_bytes};

@@ -1,6 +1,6 @@
 //! The words that an instruction is written with.
 
-ghost use Rattle.std.specs.Prelude.{◌≡◌, IfSome, length, slice_index};
+ghost use Rattle.std.specs.Prelude.{◌≡◌};
 ghost use Rattle.rv_text.specs.Mnemonics as names;
 
 use crate::pseudos::ZeroTest;

@@ -1,7 +1,6 @@
 //! What `decode` and `encode` are to each other.
 ghost use Rattle.std.specs.Prelude.{◌≡◌, ◌≢◌, None, Some};
 ghost use Rattle.rv_word.specs.Decoding.{decoded};
-ghost use Rattle.rv_word.specs.Meaning.{Means};
 ghost use Rattle.rv_word.specs.Validity.{Valid};
 ghost use Rattle.rv_word.specs.declared.insn.Insn.{Insn};
 

@@ -3,7 +3,6 @@ ghost use Rattle.residency.specs.Cache.{write_bits_of};
 ghost use Rattle.cache_sets.specs.Cached.{cached_byte};
 ghost use Rattle.cache_sets.specs.Slotted as caches;
 ghost use Rattle.core_step.specs.Run.{IsAligned, ended_of, lacking, store_when, view_when};
-ghost use Rattle.el_base.specs.Line.{line_number};
 ghost use Rattle.el_model.specs.Upcoming.{touch_of};
 ghost use Rattle.line_pool.specs.Others.{LeavesOthers};
 ghost use Rattle.line_pool.specs.Pooled.{Pooled};

@@ -63,7 +63,8 @@ plain_unmet bus state head h ready shows plain =
 
 -- so where one does, the policy answers as the definition does
 pub wins_where_met : (bus : BusState) (state : ModelState) (head : Request) (h : ℕ)
-    (beats : Option Stamp → Option Stamp → Bool) → IsReady bus → Shows bus state → DecidesIn bus.mode beats → conflicts head h (hart_of state h) ≡ true →
+    (beats : Option Stamp → Option Stamp → Bool) → IsReady bus → Shows bus state → DecidesIn bus.mode beats →
+    conflicts head h (hart_of state h) ≡ true →
     beats head.stamp (agent_at bus.agents h).attempt ≡ wins_over state.config.mode head.stamp (hart_of state h)
 wins_where_met bus state head h beats ready shows decides met =
     decides (λ plain. true_false (sym met ∙ plain_unmet bus state head h ready shows plain)) head.stamp

@@ -148,7 +148,8 @@ posted_count Sle known to agents = refl
 posted_count Plain known to agents = refl
 
 -- messages ask nothing of the bus
-pub sent_ready : (bus : BusState) (known : List fates.Fate) (to : ℕ) → IsReady bus → IsReady (record bus { agents = sent_in bus.mode known to bus.agents })
+pub sent_ready : (bus : BusState) (known : List fates.Fate) (to : ℕ) → IsReady bus
+    → IsReady (record bus { agents = sent_in bus.mode known to bus.agents })
 sent_ready bus known to ready = ready_after bus (record bus { agents = sent_in bus.mode known to bus.agents }) ready (record {
   mode = refl;
   agent_each = posted_count bus.mode known to bus.agents;

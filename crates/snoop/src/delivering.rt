@@ -1,6 +1,6 @@
 //! A hart takes the oldest message of its mailbox.
 
-ghost use Rattle.std.specs.Prelude.{◌≡◌, ◌<◌, ◌≤◌, ◌&&◌, ℕ, Bool, true, Option, None, Some};
+ghost use Rattle.std.specs.Prelude.{◌≡◌, ◌<◌, ◌≤◌, ◌&&◌, Option, None, Some};
 ghost use Rattle.std.specs.Prelude.{is_some, length, if◌then◌else◌};
 ghost use Rattle.std.specs.Option.{option_map};
 ghost use Rattle.bus_order.specs.Order.{numbered, request_of};
@@ -10,7 +10,7 @@ ghost use Rattle.el_model.specs.Deliver as delivery;
 ghost use Rattle.el_model.specs.State.{ModelState, for_line, hart_of, ordered_of, with_hart};
 ghost use Rattle.mail.specs.Mailbox as mailbox;
 ghost use Rattle.mail.specs.Mailbox.{Marker, Probe};
-ghost use Rattle.snoop.specs.Agent.{agent_at, agent_behind, agent_told, with_agent};
+ghost use Rattle.snoop.specs.Agent.{agent_at, with_agent};
 ghost use Rattle.snoop.specs.Delivering.{
   AreForwarded,
   IsForwarded,

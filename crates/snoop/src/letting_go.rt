@@ -5,7 +5,7 @@ ghost use Rattle.bus_order.specs.Order.{numbered};
 ghost use Rattle.el_base.specs.Freed.{count_in};
 ghost use Rattle.el_model.specs.Armed as model;
 ghost use Rattle.el_model.specs.State.{ModelState};
-ghost use Rattle.snoop.specs.LettingGo.{AreLetGo, IsLetGo, KeepsBytes, freed_at, frees, goes, with_committed};
+ghost use Rattle.snoop.specs.LettingGo.{AreLetGo, IsLetGo, KeepsBytes, freed_at, frees, with_committed};
 ghost use Rattle.snoop.specs.Shows.{IsReady, Shows, StaysTold, bus_state};
 
 use crate::agents::note_armed;

@@ -1,6 +1,6 @@
 //! Where a request meets the sections of other harts.
 
-ghost use Rattle.std.specs.Prelude.{◌≡◌, ◌<◌, ◌==◌, ◌&&◌, not, length};
+ghost use Rattle.std.specs.Prelude.{◌≡◌, ◌<◌, ◌==◌, ◌&&◌, length};
 ghost use Rattle.bus_order.specs.Order.{numbered};
 ghost use Rattle.cache_sets.specs.Bits.{has_need};
 ghost use Rattle.coherence.specs.Lent.{slotted_at};

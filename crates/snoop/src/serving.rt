@@ -1,10 +1,9 @@
 //! An ordered request is served, or something is in its way.
 
 ghost use Rattle.std.specs.Prelude.{◌≡◌, ◌<◌, ℕ, List, Some, length, true};
-ghost use Rattle.std.specs.Option.{option_map};
-ghost use Rattle.bus_order.specs.Order.{numbered, removed, request_of};
+ghost use Rattle.bus_order.specs.Order.{numbered, request_of};
 ghost use Rattle.coherence.specs.Lent.{IsLentTo, LeavesHolds};
-ghost use Rattle.coherence.specs.Served.{HasLine, IsCoherent, IsServed, caches_of, has_room, lines_after, shown_copies};
+ghost use Rattle.coherence.specs.Served.{HasLine, IsCoherent, caches_of, has_room, lines_after, shown_copies};
 ghost use Rattle.el_model.specs.Serve as serving;
 ghost use Rattle.el_model.specs.Serve.{Free};
 ghost use Rattle.el_model.specs.Face.{freed_if, met_if, met_losers_if};
@@ -12,7 +11,7 @@ ghost use Rattle.el_model.specs.State.{ModelState, head_of};
 ghost use Rattle.snoop.specs.Deciding.{DecidesIn};
 ghost use Rattle.snoop.specs.LettingGo.{KeepsBytes};
 ghost use Rattle.snoop.specs.MainMemory.{lines_served};
-ghost use Rattle.snoop.specs.Serving.{AgentsServe, CopiesClaim, CopiesServe, Serves};
+ghost use Rattle.snoop.specs.Serving.{CopiesServe, Serves};
 ghost use Rattle.snoop.specs.Shows.{IsReady, IsTold, Shows, StaysTold, Tells, bus_state, lent_copies};
 
 use crate::agents::{claim, forget};

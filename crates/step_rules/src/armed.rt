@@ -1,6 +1,6 @@
 //! The rule of a hart with an armed section.
 
-ghost use Rattle.std.specs.Prelude.{◌≡◌, ◌&&◌, ℕ, Some, if◌then◌else◌, nat_lt, suc};
+ghost use Rattle.std.specs.Prelude.{◌≡◌, ◌&&◌, ℕ, Some};
 ghost use Rattle.el_model.specs.Armed as model;
 ghost use Rattle.el_model.specs.State.{ModelState};
 ghost use Rattle.rv_flat.specs.FlatState.{FlatState};

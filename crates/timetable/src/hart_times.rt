@@ -2,7 +2,7 @@
 ghost use Rattle.std.specs.Prelude.{◌≡◌, ℕ, ◌+◌, ◌<◌, ◌≤◌, ◌^◌, []};
 ghost use Rattle.el_base.specs.Freed.{count_in};
 ghost use Rattle.el_base.specs.Winners.{winner_over};
-ghost use Rattle.timetable.specs.Costs.{cost, loss_charge};
+ghost use Rattle.timetable.specs.Costs.{cost};
 ghost use Rattle.timetable.specs.Counting.{Follows, IsWithin, after_loss, after_others, after_own, most_events};
 ghost use Rattle.timetable.specs.Rows.{losses_at};
 ghost use Rattle.timetable.specs.Table.{row_of};

@@ -12,7 +12,7 @@ ghost use Rattle.machine.specs.Story.{continued, left_of};
 ghost use Rattle.run_check.specs.Faults.{harts_of};
 ghost use Rattle.trace_file.specs.Faults.{config_at};
 ghost use Rattle.trace_file.specs.Spelling.{listed, outcomes};
-ghost use Rattle.tool.specs.Answer.{CanBeTold, answer_of, ended, judged};
+ghost use Rattle.tool.specs.Answer.{CanBeTold, answer_of};
 ghost use Rattle.tool.specs.Causes.{FileRead, IsWithin, ListsOne, MayWrite, StopReads, calls_of, certificate_read, image_read, puts_out, puts_of, reads_of, reads_under, run_writes, trace_read, writes_of};
 ghost use Rattle.tool.specs.Jobs.{DriversMade, FollowAnswer, IsAnswer, IsCheckAnswer, IsReplayAnswer, IsRunAnswer, MakesRun, RanAnswer, VerdictAnswer, besides_replay, besides_run, first_story};
 ghost use Rattle.tool.specs.Differing.{CameAsRecorded, DiffersFrom, IsDifference};

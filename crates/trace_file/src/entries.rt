@@ -1,6 +1,6 @@
 //! The entries of a trace that tells outcomes.
 
-ghost use Rattle.std.specs.Prelude.{◌≡◌, ℕ, ◌+◌, ◌*◌, ◌^◌, ◌<◌, ◌≤◌, List, [], None, Some, IsTrue, length, map, drop, slice_index, IfErr, IfOk, IfSome, OnOk, OnSome};
+ghost use Rattle.std.specs.Prelude.{◌≡◌, ℕ, ◌+◌, ◌^◌, ◌<◌, ◌≤◌, List, [], None, Some, length, slice_index, IfErr, IfOk, IfSome, OnOk, OnSome};
 ghost use Rattle.chronicle.specs.Chronicle.{events};
 ghost use Rattle.el_base.specs.declared.config.TheConstants.{MAX_STEPS};
 ghost use Rattle.trace_file.specs.Faults.{entries_fault, entry_fault, field_fault, fields_fault};

@@ -2,13 +2,11 @@
 //!
 //! Each function is given the bytes of the file from the field on, and the field's place in the file.
 
-ghost use Rattle.std.specs.Prelude.{◌≡◌, ℕ, ◌+◌, ◌/◌, ◌%◌, ◌^◌, ◌<◌, ◌≤◌, ◌==◌, None, Some, not, if◌then◌else◌, length, slice_index, IfErr, IfOk, OnOk};
+ghost use Rattle.std.specs.Prelude.{◌≡◌, ℕ, ◌+◌, ◌/◌, ◌%◌, ◌^◌, ◌<◌, ◌≤◌, ◌==◌, None, Some, length, slice_index, IfErr, IfOk, OnOk};
 ghost use Rattle.byteorder.specs.Endian.{little_number};
 ghost use Rattle.el_base.specs.Config.{within};
 ghost use Rattle.el_base.specs.HartId.{hart_id};
 ghost use Rattle.el_base.specs.LineAddr.{line_addr};
-ghost use Rattle.el_base.specs.Losers.{beaten_by, decoded_winner};
-ghost use Rattle.el_base.specs.Freed.{count_in};
 ghost use Rattle.el_base.specs.NibblePairs.{nibble_in};
 ghost use Rattle.trace_file.specs.FaultKinds.{fault_of};
 ghost use Rattle.trace_file.specs.Faults.{field_fault};

@@ -1,6 +1,6 @@
 //! From a history to bytes.
 
-ghost use Rattle.std.specs.Prelude.{◌≡◌, ◌≢◌, ◌+◌, ◌-◌, ◌++◌, ◌<◌, ◌≤◌, ◌*◌, ◌∷◌, [], Err, Some, length, map, vec_capacity, All, IfOk, OnOk};
+ghost use Rattle.std.specs.Prelude.{◌≡◌, ◌≢◌, ◌+◌, ◌-◌, ◌++◌, ◌<◌, ◌≤◌, ◌*◌, ◌∷◌, [], Err, Some, length, vec_capacity, All, IfOk, OnOk};
 ghost use Rattle.chronicle.specs.Chronicle.{events};
 ghost use Rattle.el_base.specs.Config.{IsInRange};
 ghost use Rattle.el_io.specs.Shelf.{Holds, KeepsOthers, Records};

@@ -281,7 +281,8 @@ beaten_is mode winner own hart has =
     lost_is mode own hart (beaten mode winner hart) has (beaten_stands mode winner hart) same.predictor same.armed same.last_lr
 
 -- a hart that an event leaves as it stood
-pub stays_is : (own : OwnState) (hart after : Hart) → HasOwn own hart → standing_of after ≡ standing_of hart → IsUntaught hart after → HasOwn own after
+pub stays_is : (own : OwnState) (hart after : Hart) → HasOwn own hart → standing_of after ≡ standing_of hart → IsUntaught hart after
+    → HasOwn own after
 stays_is own hart after has standing same = record {
   section = has.section ∙ sym (ap (λ s. s.section) standing);
   armed = has.armed ∙ sym same.armed;

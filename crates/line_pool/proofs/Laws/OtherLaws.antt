@@ -1,5 +1,5 @@
 -- Laws of what one owner's calls leave to the others, for who keeps slots of a pool.
-use Rattle.std.proofs.Common.{◌≡◌, ◌≢◌, ℕ, ◌<◌, ◌≤◌, nat_lt, Bool, true, List, length, slice_index, refl, ap, sym, ◌∙◌, inl, inr, arith}
+use Rattle.std.proofs.Common.{◌≡◌, ◌≢◌, ℕ, ◌<◌, ◌≤◌, nat_lt, true, List, length, slice_index, refl, ap, sym, ◌∙◌, inl, inr, arith}
 use Rattle.std.proofs.lemmas.Bool.{cases_eq, cases_lt}
 use Rattle.std.proofs.lemmas.Bool.Decides.{nat_tests}
 use Rattle.std.proofs.lemmas.List.{get_or_past}
@@ -7,7 +7,7 @@ use Rattle.line_pool.specs.declared.slot.Slot.{Slot}
 use Rattle.line_pool.specs.Calls.{IsGiven, IsTaken, IsWritten}
 use Rattle.line_pool.specs.Keeping.{Keeps, times_among}
 use Rattle.line_pool.specs.Others.{LeavesOthers}
-use Rattle.line_pool.specs.Pooled.{Pooled, bytes_of, has_slot, is_out, out_of, owner_of, quota_of, quotas_of}
+use Rattle.line_pool.specs.Pooled.{Pooled, bytes_of, has_slot, owner_of, quota_of, quotas_of}
 use Rattle.line_pool.proofs.Laws.{has-out, kept-out, kept-owner, owners_apart}
 
 -- a call that does nothing, and one after another

@@ -4,7 +4,7 @@ ghost use Rattle.std.specs.Prelude.{◌≡◌, ◌<◌, ◌≤◌, ◌+◌, ◌-
 ghost use Rattle.std.specs.Option.{unwrap_or};
 ghost use Rattle.el_base.specs.Harts.{has_hart};
 ghost use Rattle.rv_alu.specs.Regs.{set};
-ghost use Rattle.rv_flat.specs.Change.{Holds, IsChangeOf, IsLeftBy, four_bytes, register_of, reserved_in, written_from, written_len, written_register};
+ghost use Rattle.rv_flat.specs.Change.{Holds, IsChangeOf, IsLeftBy, four_bytes, reserved_in, written_from, written_len, written_register};
 ghost use Rattle.rv_flat.specs.FlatState.{FlatState, no_hart};
 ghost use Rattle.rv_flat.specs.Step.{flat};
 

@@ -3,7 +3,7 @@ use Rattle.std.specs.List.{range_with_len}
 use Rattle.std.specs.Prelude.{ℕ, ◌*◌, ◌-◌, ◌/◌, List, drop, length, map, take}
 use Rattle.el_base.specs.declared.line.TheConstants.{LINE_BYTES}
 use Rattle.elf_image.specs.Program.{Program}
-use Rattle.rv_flat.specs.FlatState.{FlatState}
+use Rattle.el_model.specs.FlatState.{FlatState}
 
 -- the line at a place of memory, which is a list of its bytes
 abbrev pub line_in : List ℕ → ℕ → List ℕ

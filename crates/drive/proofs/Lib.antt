@@ -1,3 +1,4 @@
+pub mod Laws
 mod GoingRound
 mod NextHart
 mod Recordings

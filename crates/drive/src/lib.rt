@@ -14,6 +14,7 @@ mod theorems;
 mod threads;
 
 pub use following::{follow, follow_recorded};
+pub use machine::{Machine, MakeFault};
 pub use rounds::round_robin;
 pub use theorems::one_round_robin;
 pub use threads::by_threads;

@@ -7,7 +7,7 @@ use Rattle.el_base.specs.declared.events.Event.{Event}
 use Rattle.el_base.specs.declared.events.Kind.TheVariants as kinds
 use Rattle.el_base.specs.declared.outcomes.Outcome.{Outcome}
 use Rattle.el_base.specs.declared.outcomes.Outcome.TheVariants as outcomes
-use Rattle.elf_image.specs.Program.{Program}
+use Rattle.rv_flat.specs.Program.{Program}
 use Rattle.el_model.specs.BusEvent.{IsBusEvent}
 use Rattle.el_model.specs.Causes.{ComesWhere}
 use Rattle.el_model.specs.Deed.{IsDeed}

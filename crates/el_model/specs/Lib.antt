@@ -17,3 +17,4 @@ pub mod Deed
 pub mod BusEvent
 pub mod Quiet
 pub mod Laws
+pub use Rattle.rv_flat.specs.FlatState

@@ -15,7 +15,7 @@ use Rattle.el_model.specs.Order.{order_turn}
 use Rattle.el_model.specs.Plain.{plain_turn}
 use Rattle.el_model.specs.Serve.{serve_turn}
 use Rattle.el_model.specs.State.{Armed, ModelState, Section, Turn, armed_of, begin, has_request, idle, section_of}
-use Rattle.elf_image.specs.Program.{Program}
+use Rattle.rv_flat.specs.Program.{Program}
 use Rattle.rv_alu.specs.declared.view.HartStatus.{HartStatus}
 use Rattle.rv_alu.specs.declared.view.HartStatus.TheVariants.{Running, Exited, Trapped}
 use Rattle.rv_alu.specs.declared.view.HartView.{HartView}

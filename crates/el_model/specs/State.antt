@@ -6,7 +6,7 @@ use Rattle.residency.specs.Residency.{Way}
 use Rattle.el_base.specs.declared.config.Config.{Config}
 use Rattle.el_base.specs.declared.outcomes.Outcome.{Outcome}
 use Rattle.el_base.specs.declared.outcomes.Outcome.TheVariants.{Idle}
-use Rattle.elf_image.specs.Program.{Program}
+use Rattle.rv_flat.specs.Program.{Program}
 use Rattle.mail.specs.Mailbox.{Message, posted}
 use Rattle.pair_table.specs.Predictor.{Predictor, unseen}
 use Rattle.rv_flat.specs.FlatState.{FlatState, start}

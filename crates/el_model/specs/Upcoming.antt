@@ -1,6 +1,6 @@
 -- what the next instruction of a hart is to the rules, in a state of plain shared memory
 use Rattle.std.specs.Prelude.{ℕ, ◌+◌, Bool, true, false, ◌&&◌, ◌||◌, Option, None, Some, not, ◌==◌, nat_lt, if◌then◌else◌}
-use Rattle.elf_image.specs.Program.{code_word}
+use Rattle.rv_flat.specs.Program.{code_word}
 use Rattle.el_base.specs.Line.{line_number}
 use Rattle.el_base.specs.declared.outcomes.Need.{Need}
 use Rattle.el_base.specs.declared.outcomes.Need.TheVariants as needs

@@ -4,3 +4,16 @@ pub mod NothingFound
 pub mod Places
 pub mod Swaps
 pub mod Waiting
+pub use Rattle.run_laws.proofs.Laws.Reachable
+pub use Rattle.run_laws.proofs.Laws.Releasing
+pub use Rattle.section_laws.proofs.Laws.ArmedCounts
+pub use Rattle.section_laws.proofs.Laws.Bounds
+pub use Rattle.section_laws.proofs.Laws.Lengths
+pub use Rattle.section_laws.proofs.Laws.LetGone
+pub use Rattle.section_laws.proofs.Laws.Numbered
+pub use Rattle.section_laws.proofs.Laws.OrderedHarts
+pub use Rattle.section_laws.proofs.Laws.SectionSteps
+pub use Rattle.section_view.proofs.Laws.ShownBytes
+pub use Rattle.step_laws.proofs.Laws.Losing
+pub use Rattle.step_laws.proofs.Laws.Short
+pub use Rattle.step_laws.proofs.Laws.Survivors

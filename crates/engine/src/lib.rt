@@ -35,3 +35,6 @@ mod running_quiet;
 mod step;
 
 pub use engine::Engine;
+pub use hart_state::HartState;
+pub use section_ctl::{Armed, Live, Section};
+pub use snoop::{Asked, Bus};

@@ -20,8 +20,8 @@ ghost use Rattle.section_ctl.specs.Lent.{LeavesBeside, LendsBoth};
 ghost use Rattle.section_ctl.specs.PrivateRuns.{ArmsRun, BeginsRun, CommitsRun, ContinuesRun, ElidesRun, GoesOnRun};
 ghost use Rattle.section_ctl.specs.PrivateRuns.{LetsGoRun};
 ghost use Rattle.section_ctl.specs.State.{hold_in};
-ghost use Rattle.section_view.specs.KeptRun.{HoldsMarked};
-ghost use Rattle.section_view.specs.Release.{IsReleaseAction};
+ghost use Rattle.section_ctl.specs.KeptRun.{HoldsMarked};
+ghost use Rattle.section_ctl.specs.Release.{IsReleaseAction};
 ghost use Rattle.step_rules.specs.Actions.{IsNext, numbered_swap};
 ghost use Rattle.write_hold.specs.Slotted as holds;
 

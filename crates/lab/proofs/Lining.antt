@@ -32,7 +32,7 @@ use Rattle.el_base.proofs.Laws.ListLaws.{range_more}
 use Rattle.el_model.proofs.Laws.Coming.{by_their_rules}
 use Rattle.el_model.specs.Next.{next}
 use Rattle.el_model.specs.State.{ModelState, cache_of, ordered_of}
-use Rattle.engine.specs.MainMemory.{back_by, back_for, if_dirty, leaving_line, line_written_back}
+use Rattle.machine.specs.EngineMemory.{back_by, back_for, if_dirty, leaving_line, line_written_back}
 use Rattle.lab.proofs.Firsting.{firsts_push, or_flip}
 use Rattle.lab.proofs.Noting.{line_back}
 use Rattle.lab.specs.Firsts.{firsts}

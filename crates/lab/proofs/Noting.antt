@@ -20,8 +20,8 @@ use Rattle.lab.specs.declared.tries.Ended.TheVariants.{Live, LostTo}
 use Rattle.lab.specs.declared.tries.Try.{Try}
 use Rattle.rv_alu.specs.declared.view.HartView.{HartView}
 use Rattle.rv_flat.specs.FlatState.{view_of}
-use Rattle.section_ctl.specs.State as sections
-use Rattle.section_ctl.specs.declared.live.Live as lives
+use Rattle.machine.specs.SectionState as sections
+use Rattle.machine.specs.LiveSection as lives
 
 pub map_same : (f g : Try → Try) → ((try : Try) → f try ≡ g try) → (tries : List Try) → map f tries ≡ map g tries
 map_same f g same [] = refl

@@ -13,9 +13,9 @@ use Rattle.el_model.proofs.Laws.FromStart.{kept_after, next_config}
 use Rattle.el_model.specs.Next.{next, shown_of, view_in, view_outside}
 use Rattle.el_model.specs.State.{ModelState, armed_of, begin, hart_of, section_of}
 use Rattle.el_model.specs.Upcoming as model
-use Rattle.engine.proofs.Laws.Places.{keeps_place}
-use Rattle.engine.proofs.Laws.Swaps.{swap_action}
-use Rattle.hart_state.specs.Own.{HasOwn, OwnState}
+use Rattle.machine.proofs.Laws.Places.{keeps_place}
+use Rattle.machine.proofs.Laws.Swaps.{swap_action}
+use Rattle.machine.specs.OwnState.{HasOwn, OwnState}
 use Rattle.lab.specs.Swaps.{as_plain, first_no, if_ran, next_plain, swaps_in, why_not}
 use Rattle.lab.specs.declared.swaps.NotElided.{NotElided}
 use Rattle.lab.specs.declared.swaps.PlainSwap.{PlainSwap}

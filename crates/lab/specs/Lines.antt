@@ -13,7 +13,7 @@ use Rattle.el_base.specs.declared.outcomes.Outcome.{Outcome}
 use Rattle.el_base.specs.declared.outcomes.Outcome.TheVariants as outcomes
 use Rattle.el_model.specs.Next.{next}
 use Rattle.el_model.specs.State.{ModelState, cache_of, ordered_of}
-use Rattle.engine.specs.MainMemory.{line_written_back}
+use Rattle.machine.specs.EngineMemory.{line_written_back}
 use Rattle.lab.specs.Told.{told_from}
 use Rattle.lab.specs.Tries.{line_waited_for}
 use Rattle.lab.specs.declared.lines.Fact.{Fact}

@@ -20,7 +20,7 @@ use Rattle.moesi.specs.declared.letter.Letter.{Letter}
 use Rattle.moesi.specs.declared.letter.Letter.TheVariants.{I}
 use Rattle.rv_alu.specs.declared.action.Action.{Action}
 use Rattle.rv_flat.specs.Step.{action_of}
-use Rattle.section_ctl.specs.State as sections
+use Rattle.machine.specs.SectionState as sections
 
 -- what a hart sees, with its live or armed section
 pub record IsSightOf (state : ModelState) (h : ℕ) (sight : Sight) : Type 0 where

@@ -24,6 +24,7 @@ pub use line_rows::{LineCount, LineCounts, line_counts, lines_of};
 pub use lines::{Fact, LineFact};
 pub use lock_rows::{AcquireCounts, Tallies, losses_to, lost_instr, plain_swaps, tally_acquires};
 pub use locks::acquires_of;
+pub use machine::Machine;
 pub use releases::{Parted, part_releases};
 pub use showing::{Letters, Shown, Sight, What, show};
 pub use swaps::{NotElided, PlainSwap};

@@ -7,7 +7,7 @@ ghost use Rattle.el_base.specs.Losers.{beaten_by};
 ghost use Rattle.el_base.specs.declared.events.Kind.TheVariants as kinds;
 ghost use Rattle.el_base.specs.declared.outcomes.Outcome.TheVariants as outcomes;
 ghost use Rattle.el_model.specs.State.{cache_of, ordered_of};
-ghost use Rattle.engine.specs.MainMemory.{back_for, if_dirty, leaving_line};
+ghost use Rattle.machine.specs.EngineMemory.{back_for, if_dirty, leaving_line};
 ghost use Rattle.lab.specs.Asked.{numbered_asking};
 ghost use Rattle.lab.specs.Lines.{asked_in, back_facts, facts_by, if_served, losses_below, owner_facts, owner_in, owns, same_owner, served_facts};
 ghost use Rattle.machine.specs.Story.{state_of};

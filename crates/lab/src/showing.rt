@@ -14,11 +14,10 @@ ghost use Rattle.moesi.specs.declared.letter.Letter.TheVariants as letters;
 
 use bus_order::Request;
 use el_base::{Chronicled, Event, HartId, Kind, LineAddr, MAX_HARTS, Outcome};
-use machine::{Asked, Machine};
+use machine::{Armed, Asked, Live, Machine};
 use mail::Message;
 use moesi::Letter;
 use rv_alu::{Action, HartView};
-use section_ctl::{Armed, Live};
 
 /// What a hart sees itself: in a live or an armed section what the section shows, else its committed view; and that
 /// section.

@@ -31,7 +31,7 @@ use Rattle.rv_flat.specs.Laws.{KeepsShape}
 use Rattle.rv_flat.specs.Memory.{AreBytes}
 use Rattle.rv_flat.specs.Run.{run}
 use Rattle.rv_flat.proofs.Laws.StepLaws.{start_harts}
-use Rattle.snoop.specs.Shows.{IsReady}
+use Rattle.engine.specs.Shows.{IsReady}
 
 -- a machine stands before its first event
 pub first : (program : Program) (config : Config) (parts : Parts) (entries : List Entry) (room : ℕ) → IsProgram program →

@@ -4,7 +4,7 @@ use Rattle.std.specs.Prelude.{IsSome, find, option_map}
 use Rattle.chronicle.specs.Chronicle.{events}
 use Rattle.el_model.specs.State.{Armed, ModelState, Section, armed_of, cache_of, section_of}
 use Rattle.engine.specs.Parts.{IsInState, IsOfHart, KeepsReserved, KeepsSection, KeepsSectionOf, Parts, StandsAs, own_at}
-use Rattle.hart_state.specs.Own.{OwnState}
+use Rattle.engine.specs.OwnState.{OwnState}
 use Rattle.line_pool.specs.Pooled.{Pooled}
 use Rattle.machine.proofs.GoesOn.{reached_committed}
 use Rattle.machine.specs.Lending.{LendsSection, LendsState, TellsRun}
@@ -12,18 +12,18 @@ use Rattle.machine.specs.Stands.{IsGiven, MachineStands}
 use Rattle.machine.specs.Story.{Story, committed, state_of}
 use Rattle.reg_mark.specs.declared.marked.Marked.{Marked}
 use Rattle.residency.specs.Residency.{Way}
-use Rattle.run_laws.proofs.Laws.Reachable.{armed_sections_run_covered, live_sections_run_covered}
-use Rattle.run_laws.specs.PrivateRun.{IsArmedRun, IsCoveredRun}
-use Rattle.section_ctl.specs.State as section_ctl
-use Rattle.section_ctl.specs.State.{Reserved, SectionState, hold_in}
-use Rattle.section_ctl.specs.declared.armed.Armed as armed_sections
-use Rattle.section_laws.proofs.Laws.ArmedCounts.{armed_sections_are_short}
-use Rattle.section_laws.proofs.Laws.LetGone.{no_hart_is_live_and_armed}
-use Rattle.section_laws.specs.EachHart.{IsShortArmed}
-use Rattle.section_view.proofs.Laws.ShownBytes.{shows_bytes}
-use Rattle.section_view.specs.KeptRun.{HoldsMarked, KeepsArmed, KeepsRun}
-use Rattle.step_laws.proofs.Laws.Short.{sections_are_short}
-use Rattle.step_laws.specs.Counts.{IsSectionShort}
+use Rattle.engine.proofs.Laws.Reachable.{armed_sections_run_covered, live_sections_run_covered}
+use Rattle.engine.specs.PrivateRun.{IsArmedRun, IsCoveredRun}
+use Rattle.engine.specs.SectionState as section_ctl
+use Rattle.engine.specs.SectionState.{Reserved, SectionState, hold_in}
+use Rattle.engine.specs.ArmedSection as armed_sections
+use Rattle.engine.proofs.Laws.ArmedCounts.{armed_sections_are_short}
+use Rattle.engine.proofs.Laws.LetGone.{no_hart_is_live_and_armed}
+use Rattle.engine.specs.EachHart.{IsShortArmed}
+use Rattle.engine.proofs.Laws.ShownBytes.{shows_bytes}
+use Rattle.engine.specs.KeptRun.{HoldsMarked, KeepsArmed, KeepsRun}
+use Rattle.engine.proofs.Laws.Short.{sections_are_short}
+use Rattle.engine.specs.Counts.{IsSectionShort}
 use Rattle.write_hold.specs.Held.{holds}
 use Rattle.write_hold.specs.Slotted.{Place, Slotted, lent_entry}
 

@@ -1,3 +1,5 @@
 -- the laws that are offered to the crates above; every other file here is private
 pub mod Continued
 pub mod Recording
+pub use Rattle.engine.proofs.Laws.Places
+pub use Rattle.engine.proofs.Laws.Swaps

@@ -14,13 +14,13 @@ use Rattle.machine.specs.Promises.{Change, EndsAreNamed, EndsIt, HeadOfLeastIsSe
 use Rattle.machine.specs.Stands.{IsGiven, MachineStands}
 use Rattle.machine.specs.Story.{Story, continued, state_of}
 use Rattle.progress_laws.proofs.Laws.LineOfLeast.{line_of_least_stamp_moves_on}
-use Rattle.removal_laws.proofs.Laws.Beating.{losers_lose_to_earlier}
-use Rattle.removal_laws.proofs.Laws.Clocks.{stamps_are_kept}
-use Rattle.removal_laws.proofs.Laws.Promises.{least_stamp_never_loses}
-use Rattle.run_laws.proofs.Laws.Releasing.{releases_commit}
-use Rattle.step_laws.proofs.Laws.Losing.{what_ends_a_section}
-use Rattle.step_laws.proofs.Laws.Survivors.{survivors_keep_what_they_show}
-use Rattle.step_laws.specs.Losing.{EndsItself, IsBeaten}
+use Rattle.progress_laws.proofs.Laws.Beating.{losers_lose_to_earlier}
+use Rattle.progress_laws.proofs.Laws.Clocks.{stamps_are_kept}
+use Rattle.progress_laws.proofs.Laws.Promises.{least_stamp_never_loses}
+use Rattle.engine.proofs.Laws.Releasing.{releases_commit}
+use Rattle.engine.proofs.Laws.Losing.{what_ends_a_section}
+use Rattle.engine.proofs.Laws.Survivors.{survivors_keep_what_they_show}
+use Rattle.engine.specs.Losing.{EndsItself, IsBeaten}
 
 -- an event made where a story has come to, as the definition makes it
 abbrev made : Story → Event → Change

@@ -29,8 +29,8 @@ use Rattle.progress_laws.specs.Ready.{events_of, gets_on, is_progress, ready_eve
 use Rattle.rv_alu.specs.declared.view.HartStatus.TheVariants.{Running}
 use Rattle.rv_flat.specs.FlatState.{status_of}
 use Rattle.rv_flat.proofs.Laws.StepLaws.{start_harts}
-use Rattle.section_laws.proofs.Laws.Lengths.{AsMany}
-use Rattle.snoop.specs.Readiness.{is_delivered, is_served}
+use Rattle.engine.proofs.Laws.Lengths.{AsMany}
+use Rattle.engine.specs.Readiness.{is_delivered, is_served}
 
 -- a hart's event of a kind
 abbrev pub of_hart : HartId → Kind → Event

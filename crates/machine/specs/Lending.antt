@@ -6,9 +6,9 @@ use Rattle.engine.specs.Parts.{KeepsSectionOf, hold_owner}
 use Rattle.line_pool.specs.Pooled.{Pooled}
 use Rattle.machine.specs.Promises.{ShowsStoresOverMemory}
 use Rattle.rv_flat.specs.FlatState.{FlatState}
-use Rattle.section_ctl.specs.State.{SectionState, hold_in}
-use Rattle.section_view.specs.KeptRun.{KeepsRun}
-use Rattle.snoop.specs.Shows.{BusState, Shows, Tells}
+use Rattle.engine.specs.SectionState.{SectionState, hold_in}
+use Rattle.engine.specs.KeptRun.{KeepsRun}
+use Rattle.engine.specs.Shows.{BusState, Shows, Tells}
 use Rattle.write_hold.specs.Slotted.{IsLent}
 
 -- the section of a hart, its stores being in slots of the pool: as many as are out of their owner

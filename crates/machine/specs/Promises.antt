@@ -13,14 +13,14 @@ use Rattle.el_model.specs.State.{ModelState, Section, has_request, head_of, is_l
 use Rattle.el_model.specs.Upcoming.{is_release}
 use Rattle.machine.specs.Story.{Story, state_of}
 use Rattle.progress_laws.specs.LeastStamp.{LeastWaits}
-use Rattle.removal_laws.specs.Laws.{HasLeast, IsLocked, LosesToEarlier, attempt_of, is_served}
-use Rattle.run_laws.specs.Laws.{IsUntouched}
+use Rattle.progress_laws.specs.RemovalLaws.{HasLeast, IsLocked, LosesToEarlier, attempt_of, is_served}
+use Rattle.engine.specs.RunLaws.{IsUntouched}
 use Rattle.rv_flat.specs.Memory.{byte_in}
 use Rattle.rv_flat.specs.Run.{alone}
-use Rattle.section_laws.specs.Sections.{is_committed, is_rolled_back}
-use Rattle.section_view.specs.KeptRun.{section_byte}
+use Rattle.engine.specs.Sections.{is_committed, is_rolled_back}
+use Rattle.engine.specs.KeptRun.{section_byte}
 use Rattle.stamp.specs.Stamps.{Stamp}
-use Rattle.step_laws.specs.Survivors.{IsNoStepOf}
+use Rattle.engine.specs.Survivors.{IsNoStepOf}
 use Rattle.write_hold.specs.Held.{Entry}
 
 -- one event: the states before and after it, and what came of it

@@ -9,7 +9,7 @@ use Rattle.engine.specs.Parts.{IsInState, Parts}
 use Rattle.machine.specs.MainMemory.{main_lines}
 use Rattle.machine.specs.Story.{Story, state_of}
 use Rattle.rv_flat.specs.Memory.{AreBytes}
-use Rattle.snoop.specs.Shows.{IsReady}
+use Rattle.engine.specs.Shows.{IsReady}
 
 -- a machine was made of a program, whose memory is bytes, and a configuration for as many harts, and was given events of its harts,
 -- no more than that allows, with a place in its history for each step

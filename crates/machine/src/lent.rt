@@ -1,6 +1,5 @@
+use engine::{Bus, Section};
 use line_pool::Pool;
-use section_ctl::Section;
-use snoop::Bus;
 
 /// What a machine keeps of a hart, lent together: the bus, with main memory and the caches; the hart's section, with its
 /// buffered stores; and the pool in whose slots the lines of both have their bytes.

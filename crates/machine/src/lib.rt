@@ -16,11 +16,10 @@ mod machine;
 mod ready;
 mod theorems;
 
+pub use engine::{Armed, Asked, Live};
 pub use fault::MakeFault;
 pub use lent::Lent;
 pub use machine::Machine;
-pub use section_ctl::Armed;
-pub use snoop::Asked;
 pub use theorems::{
     continued_story_reaches_the_state_after, openings_tell_beginnings, outcomes_can_be_recorded,
     stories_go_on_event_by_event,

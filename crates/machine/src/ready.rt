@@ -12,8 +12,8 @@ ghost use Rattle.rv_flat.specs.FlatState.{status_of};
 
 use crate::machine::Machine;
 use el_base::{Event, HartId, Kind};
+use engine::Asked;
 use rv_alu::HartStatus;
-use snoop::Asked;
 
 impl Machine {
     /// The first event that is progress, by ascending hart and then as `Step`, `Order`, `Serve`, `Deliver`: one with

@@ -5,9 +5,9 @@ use el_base::{
     Need, Outcome, Why, line_of,
 };
 use elf_image::{Image, load};
+use engine::Live;
 use rv_alu::HartStatus;
 use rv_word::Reg;
-use section_ctl::Live;
 use std::alloc::Global;
 use std::process::Abort;
 use std::test::Fail;

@@ -3,3 +3,8 @@ pub mod GettingOn
 pub mod LineOfLeast
 pub mod EveryMode
 pub mod Over
+pub use Rattle.removal_laws.proofs.Laws.Beating
+pub use Rattle.removal_laws.proofs.Laws.Clocks
+pub use Rattle.removal_laws.proofs.Laws.Delivering
+pub use Rattle.removal_laws.proofs.Laws.Facing
+pub use Rattle.removal_laws.proofs.Laws.Promises

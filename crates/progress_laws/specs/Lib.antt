@@ -1,3 +1,4 @@
 pub mod Ready
 pub mod LeastStamp
 pub mod Laws
+pub use Rattle.removal_laws.specs.Laws as RemovalLaws

@@ -8,7 +8,7 @@ use Rattle.chronicle.specs.declared.tally.Tally.{Tally}
 use Rattle.el_base.specs.declared.config.Config.{Config}
 use Rattle.el_base.specs.declared.entries.Entry.{Entry}
 use Rattle.el_io.specs.declared.sink.Failed.{Failed}
-use Rattle.machine.specs.Story.{Story, committed}
+use Rattle.step_back.specs.Story.{Story, committed}
 use Rattle.report.proofs.Putting.{put_stopped, put_then, put_then_part, same_part}
 use Rattle.report.proofs.Laws.Puts.{same_puts}
 use Rattle.report.specs.Line.{line}

@@ -8,7 +8,7 @@ use Rattle.chronicle.specs.declared.tally.Tally.{Tally}
 use Rattle.el_base.specs.Modes.{mode_word}
 use Rattle.el_base.specs.declared.config.Config.{Config}
 use Rattle.el_base.specs.declared.entries.Entry.{Entry}
-use Rattle.machine.specs.Story.{Story, committed}
+use Rattle.step_back.specs.Story.{Story, committed}
 use Rattle.report.specs.Line.{eight_digits, line}
 use Rattle.rv_alu.specs.declared.view.HartStatus.{HartStatus}
 use Rattle.rv_alu.specs.declared.view.HartStatus.TheVariants.{Running, Exited, Trapped}

@@ -2,7 +2,7 @@ ghost use Rattle.std.specs.Prelude.{◌≡◌, ◌<◌, ◌≤◌, ◌∷◌, �
 ghost use Rattle.std.specs.Fmt.{decimal};
 ghost use Rattle.el_io.specs.Counts.{one_more};
 ghost use Rattle.el_io.specs.Sink.{TookAll, TookPart};
-ghost use Rattle.machine.specs.Story.{committed};
+ghost use Rattle.step_back.specs.Story.{committed};
 ghost use Rattle.chronicle.specs.Tally.{tally_of};
 ghost use Rattle.report.specs.Line.{bytes_of, line};
 ghost use Rattle.report.specs.Puts.{Puts};
@@ -13,8 +13,8 @@ use crate::word::{Word, put_line};
 use chronicle::Tally;
 use el_base::{Chronicled, Config, HartId};
 use el_io::{Failed, Sink};
-use machine::Machine;
 use rv_alu::HartStatus;
+use step_back::Machine;
 
 /// Puts the report of a machine: a first line with the mode and the numbers of harts and events, a line
 /// for each hart in ascending order, and a last line with the lengths of the serial order and of the

@@ -4,11 +4,11 @@ use chronicle::{History, Tally};
 use el_base::{Config, Entry, Event, Freed, HartId, Kind, Losers, Mode, Outcome};
 use el_io::{Failed, MemSink, SureSink};
 use elf_image::load;
-use machine::Machine;
 use rv_alu::HartStatus;
 use std::alloc::Global;
 use std::process::Abort;
 use std::test::Fail;
+use step_back::Machine;
 use timetable::{Times, tabulate};
 use worked_files::HELLO;
 

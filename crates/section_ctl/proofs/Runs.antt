@@ -16,7 +16,7 @@ use Rattle.core_step.specs.declared.ended.Ended.{Ended}
 use Rattle.core_step.proofs.Laws.Bytes.{stored_inside, stored_outside}
 use Rattle.el_base.specs.declared.outcomes.Need.{Need}
 use Rattle.el_model.specs.Upcoming.{Touch, touch_of}
-use Rattle.run_laws.specs.PrivateRun.{HasItsBit}
+use Rattle.section_view.specs.PrivateRun.{HasItsBit}
 use Rattle.rv_alu.specs.Execution.{Execution, Goes, Stops, Store, store_in, view_after}
 use Rattle.rv_alu.specs.declared.footprint.Access.{Access}
 use Rattle.rv_alu.specs.declared.footprint.Access.TheVariants as accesses

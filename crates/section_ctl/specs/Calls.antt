@@ -10,7 +10,7 @@ use Rattle.el_model.specs.Upcoming.{Touch, overlaps, touch_of}
 use Rattle.line_pool.specs.Pooled.{Pooled}
 use Rattle.moesi.specs.declared.letter.Letter.TheVariants.{M}
 use Rattle.reg_mark.specs.Marks.{back_of, kept_of, unmarked}
-use Rattle.run_laws.specs.PrivateRun.{HasItsBit}
+use Rattle.section_view.specs.PrivateRun.{HasItsBit}
 use Rattle.rv_alu.specs.Execution.{Execution, perform, put_of, release_of, store_in, view_after}
 use Rattle.rv_alu.specs.Footprint.{footprint}
 use Rattle.rv_alu.specs.declared.action.Action.{Action}

@@ -1,7 +1,7 @@
 -- the slots that a hart's section and its cache have of one pool
 use Rattle.std.specs.Prelude.{ℕ, ◌≡◌, ◌≢◌, Option, MatchOption}
 use Rattle.cache_sets.specs.Slotted as caches
-use Rattle.coherence.specs.Lent.{LeavesOwner}
+use Rattle.section_view.specs.Lent.{LeavesOwner}
 use Rattle.line_pool.specs.Others.{LeavesOthers}
 use Rattle.line_pool.specs.Pooled.{Pooled}
 use Rattle.rv_alu.specs.Execution.{Store}

@@ -6,3 +6,6 @@ pub mod Lending
 pub mod Lent
 pub mod PrivateRuns
 pub mod Releases
+pub use Rattle.section_view.specs.ArmedLaws
+pub use Rattle.section_view.specs.KeptRun
+pub use Rattle.section_view.specs.Release

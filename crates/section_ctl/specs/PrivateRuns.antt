@@ -10,7 +10,7 @@ use Rattle.el_model.specs.Armed.{is_quiet}
 use Rattle.el_model.specs.State.{Section}
 use Rattle.el_model.specs.Upcoming.{is_release, next_conditional, next_swap}
 use Rattle.reg_mark.specs.Marks.{unmarked}
-use Rattle.run_laws.specs.PrivateRun.{IsArmedRun, IsCoveredRun, IsCoveredStep}
+use Rattle.section_view.specs.PrivateRun.{IsArmedRun, IsCoveredRun, IsCoveredStep}
 use Rattle.rv_alu.specs.Loaded.{loaded}
 use Rattle.rv_alu.specs.declared.action.Action.{Action}
 use Rattle.rv_alu.specs.declared.action.Action.TheVariants as actions

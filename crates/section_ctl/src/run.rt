@@ -6,7 +6,7 @@ ghost use Rattle.core_step.specs.Run.{IsAligned, ended_of, lacking, store_when, 
 ghost use Rattle.el_model.specs.Upcoming.{touch_of};
 ghost use Rattle.line_pool.specs.Others.{LeavesOthers};
 ghost use Rattle.line_pool.specs.Pooled.{Pooled};
-ghost use Rattle.run_laws.specs.PrivateRun.{HasItsBit};
+ghost use Rattle.section_view.specs.PrivateRun.{HasItsBit};
 ghost use Rattle.rv_alu.specs.Execution.{perform, store_in, view_after};
 ghost use Rattle.rv_alu.specs.Footprint.{footprint};
 ghost use Rattle.rv_alu.specs.declared.view.HartStatus.TheVariants.{Running};

@@ -9,3 +9,5 @@ pub mod Surviving
 pub mod Releasing
 pub mod Committing
 pub mod OfProgram
+pub use Rattle.coherence.proofs.Laws.Offered
+pub use Rattle.run_laws.proofs.Laws.Touches

@@ -15,6 +15,7 @@ mod theorems;
 mod timeline;
 mod trail;
 
+pub use drive::Machine;
 pub use theorems::shows_what_a_machine_has_committed;
 pub use timeline::Timeline;
 

@@ -8,10 +8,9 @@ ghost use Rattle.el_model.specs.State.{begin};
 use crate::copies::copy_of;
 use crate::timeline::Timeline;
 use chronicle::History;
-use drive::follow;
+use drive::{Machine, follow};
 use el_base::{Config, NoMemory};
 use elf_image::Image;
-use machine::Machine;
 use std::alloc::Global;
 use trace_file::Trace;
 

@@ -11,7 +11,7 @@ use Rattle.el_base.specs.declared.events.Event.{Event}
 use Rattle.el_base.specs.declared.outcomes.Outcome.{Outcome}
 use Rattle.el_model.proofs.Laws.Folds.{length-outcomes_from, outcomes-entries_from}
 use Rattle.el_model.specs.Next.{entries_from, outcomes_from}
-use Rattle.machine.specs.Story.{Story, continued, state_of}
+use Rattle.drive.specs.Story.{Story, continued, state_of}
 use Rattle.trace_file.specs.Spelling.{outcomes}
 use Rattle.tool.specs.Differing.{IsDifference}
 use Rattle.tool.specs.declared.difference.Difference.{Difference}

@@ -7,7 +7,7 @@ use Rattle.el_io.specs.Sink.{TookAll, TookPart}
 use Rattle.el_io.specs.declared.shelf.Call.TheVariants.{Write}
 use Rattle.chronicle.specs.Chronicle.{Chronicle}
 use Rattle.el_base.specs.declared.config.Config.{Config}
-use Rattle.machine.specs.Story.{Story, history_of}
+use Rattle.drive.specs.Story.{Story, history_of}
 use Rattle.el_io.proofs.Laws.{took_then_part}
 use Rattle.report.specs.Text.{report_of}
 use Rattle.report.specs.TimesText.{times_text}

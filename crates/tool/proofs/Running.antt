@@ -3,7 +3,7 @@ use Rattle.std.proofs.Common.{◌≡◌, ◌∙◌, ℕ, Bool, List, Option, Non
 use Rattle.std.specs.Prelude.{IfSome}
 use Rattle.elf_image.specs.Program.{Program}
 use Rattle.el_base.specs.declared.config.Config.{Config}
-use Rattle.machine.specs.Story.{Story}
+use Rattle.drive.specs.Story.{Story}
 use Rattle.tool.specs.declared.made.Certified.{Certified}
 use Rattle.tool.specs.Answer.{ended}
 use Rattle.tool.specs.Jobs.{DriversMade, MakesRun, first_story}

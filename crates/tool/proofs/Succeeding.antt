@@ -2,7 +2,7 @@
 use Rattle.std.proofs.Common.{◌≡◌, ℕ, ◌+◌, ◌<◌, true, false, ◌&&◌, length, take, ◌∙◌, ap, take_all, ◌≤◌, sym, arith}
 use Rattle.std.proofs.lemmas.List.Folds.{list_all_at, list_all_more}
 use Rattle.chronicle.specs.Serial.{serial}
-use Rattle.machine.specs.Story.{Story, committed}
+use Rattle.drive.specs.Story.{Story, committed}
 use Rattle.rv_flat.proofs.Laws.StepLaws.{harts-run, start_harts}
 use Rattle.rv_flat.specs.FlatState.{FlatState, no_hart, start, view_of}
 use Rattle.tool.specs.Ending.{all_succeeded, has_succeeded}

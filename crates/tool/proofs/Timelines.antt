@@ -12,7 +12,7 @@ use Rattle.elf_image.specs.Program.{Program}
 use Rattle.el_model.proofs.Laws.Folds.{length-entries_from}
 use Rattle.el_model.specs.Next.{entries_from}
 use Rattle.el_model.specs.State.{begin}
-use Rattle.machine.specs.Story.{continued}
+use Rattle.drive.specs.Story.{continued}
 use Rattle.trace_file.proofs.Laws.OutcomeLaws.{number_again}
 use Rattle.elf_image.specs.Faults.{fault}
 use Rattle.elf_image.proofs.Laws.Loading.{loaded_harts}

@@ -4,7 +4,7 @@ use Rattle.std.specs.Option.{option_map, option_to_list}
 use Rattle.chronicle.specs.Chronicle.{events}
 use Rattle.el_base.specs.declared.entries.Entry.{Entry}
 use Rattle.elf_image.specs.Program.{Program}
-use Rattle.machine.specs.Story.{Story, committed}
+use Rattle.drive.specs.Story.{Story, committed}
 use Rattle.run_check.specs.Certified.{certificate_of}
 use Rattle.run_check.specs.Spelling as certificates
 use Rattle.run_check.specs.declared.verdict.Verdict.{Verdict}

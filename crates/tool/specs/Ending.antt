@@ -2,7 +2,7 @@
 use Rattle.std.specs.Prelude.{Bool, false, not, ◌==◌, List, if◌then◌else◌}
 use Rattle.std.specs.List.{list_all}
 use Rattle.el_model.specs.Next.{is_over}
-use Rattle.machine.specs.Story.{Story, committed, state_of}
+use Rattle.drive.specs.Story.{Story, committed, state_of}
 use Rattle.rv_alu.specs.declared.view.HartStatus.{HartStatus}
 use Rattle.rv_alu.specs.declared.view.HartStatus.TheVariants.{Running, Exited, Trapped}
 use Rattle.rv_alu.specs.declared.view.HartView.{HartView}

@@ -11,7 +11,7 @@ use Rattle.elf_image.specs.Faults.{IsFaultless}
 use Rattle.elf_image.specs.Limits.{file_limit}
 use Rattle.elf_image.specs.Loaded.{program_of}
 use Rattle.elf_image.specs.Program.{Program}
-use Rattle.machine.specs.Story.{Story, continued}
+use Rattle.drive.specs.Story.{Story, continued}
 use Rattle.run_check.specs.Check.{IsVerdict}
 use Rattle.run_check.specs.Content.{Content}
 use Rattle.run_check.specs.Spelling as certificates

@@ -12,8 +12,8 @@ use Rattle.el_io.specs.declared.shelf.ShelfFault.{ShelfFault}
 use Rattle.el_io.specs.declared.shelf.ShelfFault.TheVariants as shelf_faults
 use Rattle.elf_image.specs.declared.loader.ImageFault.{ImageFault}
 use Rattle.elf_image.specs.declared.loader.ImageFault.TheVariants as image_faults
-use Rattle.machine.specs.declared.fault.MakeFault.{MakeFault}
-use Rattle.machine.specs.declared.fault.MakeFault.TheVariants as make_faults
+use Rattle.drive.specs.MakeFault.{MakeFault}
+use Rattle.drive.specs.MakeFault.TheVariants as make_faults
 use Rattle.run_check.specs.Content.{Content}
 use Rattle.run_check.specs.Faults.{certificate_fault, harts_of}
 use Rattle.run_check.specs.Spelling as certificates

@@ -1,7 +1,7 @@
 //! A machine whose run has ended, as what a certificate is written of.
 
+use drive::Machine;
 use el_base::HartId;
-use machine::Machine;
 use run_check::Reached;
 use rv_alu::HartView;
 
@@ -12,7 +12,7 @@ pub(crate) struct Ended<'a> {
 }
 
 impl Reached for Ended<'_> {
-    ghost use Rattle.machine.specs.Story.{committed};
+    ghost use Rattle.drive.specs.Story.{committed};
 
     ghost state = { λ ended. committed ended.machine.now };
 

@@ -1,11 +1,11 @@
 //! How a run ends.
 ghost use Rattle.std.specs.Prelude.{◌≡◌};
-ghost use Rattle.machine.specs.Story.{committed};
+ghost use Rattle.drive.specs.Story.{committed};
 ghost use Rattle.tool.specs.Ending as words;
 
 use crate::status::Status;
+use drive::Machine;
 use el_base::HartId;
-use machine::Machine;
 use rv_alu::HartStatus;
 
 /// How a run ends.

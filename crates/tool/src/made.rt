@@ -1,9 +1,9 @@
 //! What `doing` hands on to `telling`.
 
 use crate::difference::Difference;
+use drive::Machine;
 use el_base::HartId;
 use elf_image::Image;
-use machine::Machine;
 use run_check::Verdict;
 use step_back::Timeline;
 

@@ -3,10 +3,10 @@ ghost use Rattle.std.specs.Prelude.{◌≡◌};
 
 use crate::refusal::Refusal;
 use command_line::WordsFault;
+use drive::{Machine, MakeFault};
 use el_base::{ConfigFault, FileFault, Kept, NoMemory};
 use el_io::{Failed, ShelfFault};
 use elf_image::ImageFault;
-use machine::{Machine, MakeFault};
 use run_check::CertFault;
 use std::alloc::AllocError;
 use trace_file::TraceFault;

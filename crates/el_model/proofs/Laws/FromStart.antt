@@ -3,7 +3,7 @@ use Rattle.std.proofs.Common.{◌≡◌, ◌∙◌, false, List, [], ◌∷◌, 
 use Rattle.el_base.specs.declared.config.Config.{Config}
 use Rattle.el_base.specs.declared.config.Mode.TheVariants.{Plain}
 use Rattle.el_base.specs.declared.events.Event.{Event}
-use Rattle.elf_image.specs.Program.{Program}
+use Rattle.rv_flat.specs.Program.{Program}
 use Rattle.el_model.specs.Laws.{PlainStaysPlain, StepsAreDeeds, StamplessStaysSilent}
 use Rattle.el_model.specs.Next.{after, next, state_after}
 use Rattle.el_model.specs.Quiet.{IsPlain, IsSilent, has_stamps}

@@ -24,7 +24,7 @@ use Rattle.rv_alu.specs.declared.view.HartView.{HartView}
 use Rattle.rv_flat.specs.FlatState.{view_of}
 use Rattle.rv_flat.specs.Laws.{next_insn}
 use Rattle.section_ctl.specs.State.{Reserved, SectionState}
-use Rattle.section_view.specs.ArmedLaws.{elided}
+use Rattle.section_ctl.specs.ArmedLaws.{elided}
 use Rattle.stamp.specs.Stamps.{Stamp}
 
 -- a hart before its first event

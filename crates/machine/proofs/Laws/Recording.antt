@@ -54,18 +54,18 @@ use Rattle.el_model.specs.State.{ordered_of, ordered_on, raised_of, section_of}
 use Rattle.elf_image.specs.Program.{Program}
 use Rattle.machine.specs.Recording.{AreAmong, AreFreedAmong, CanBeRecorded, OutcomesCanBeRecorded}
 use Rattle.mail.specs.Mailbox.{Marker, Message, Probe}
-use Rattle.section_laws.proofs.Laws.ArmedCounts.{armed_sections_are_short}
-use Rattle.removal_laws.proofs.Laws.Delivering.{own_line}
-use Rattle.removal_laws.proofs.Laws.Facing.{least_passes}
-use Rattle.section_laws.proofs.Laws.Bounds.{Bounded, always_bounded}
-use Rattle.section_laws.proofs.Laws.Numbered.{next_count, one_ordered_request_each, raised_exists}
-use Rattle.section_laws.proofs.Laws.OrderedHarts.{AreBelow, below_kept}
-use Rattle.section_laws.proofs.Laws.SectionSteps.{live_exists}
-use Rattle.section_laws.specs.EachHart.{IsShortArmed}
+use Rattle.engine.proofs.Laws.ArmedCounts.{armed_sections_are_short}
+use Rattle.progress_laws.proofs.Laws.Delivering.{own_line}
+use Rattle.progress_laws.proofs.Laws.Facing.{least_passes}
+use Rattle.engine.proofs.Laws.Bounds.{Bounded, always_bounded}
+use Rattle.engine.proofs.Laws.Numbered.{next_count, one_ordered_request_each, raised_exists}
+use Rattle.engine.proofs.Laws.OrderedHarts.{AreBelow, below_kept}
+use Rattle.engine.proofs.Laws.SectionSteps.{live_exists}
+use Rattle.engine.specs.EachHart.{IsShortArmed}
 use Rattle.stamp.specs.Stamps.{Stamp, is_before}
-use Rattle.step_laws.proofs.Laws.Losing.{only_live_sections_lose}
-use Rattle.step_laws.proofs.Laws.Short.{sections_are_short}
-use Rattle.step_laws.specs.Counts.{IsSectionShort}
+use Rattle.engine.proofs.Laws.Losing.{only_live_sections_lose}
+use Rattle.engine.proofs.Laws.Short.{sections_are_short}
+use Rattle.engine.specs.Counts.{IsSectionShort}
 
 -- a number that may be there is below a limit
 abbrev IsBelow : ℕ → Option ℕ → Type 0

@@ -2,7 +2,7 @@
 use Rattle.std.proofs.Common.{◌≡◌, ◌≢◌, ℕ, sym, subst}
 use Rattle.cache_sets.specs.Slotted as caches
 use Rattle.cache_sets.proofs.Laws as cache_laws
-use Rattle.coherence.proofs.Laws.Offered.{leaves_owner, leaves_owner-same, leaves_owner-then}
+use Rattle.section_view.proofs.Laws.Offered.{leaves_owner, leaves_owner-same, leaves_owner-then}
 use Rattle.line_pool.specs.Others.{LeavesOthers}
 use Rattle.line_pool.specs.Pooled.{Pooled}
 use Rattle.section_ctl.specs.Lent.{LeavesBeside, LendsBoth}

@@ -14,8 +14,8 @@ use Rattle.el_base.specs.declared.line.TheConstants.{LINE_BYTES}
 use Rattle.el_base.specs.declared.outcomes.Need.TheVariants.{Write}
 use Rattle.el_model.specs.State.{Section}
 use Rattle.el_model.specs.Upcoming.{Touch, is_release, touch_of}
-use Rattle.run_laws.proofs.Laws.Touches.{on_bit, touched_on_bit}
-use Rattle.run_laws.specs.PrivateRun.{HasItsBit, IsCoveredStep}
+use Rattle.section_view.proofs.Laws.Touches.{on_bit, touched_on_bit}
+use Rattle.section_view.specs.PrivateRun.{HasItsBit, IsCoveredStep}
 use Rattle.rv_alu.specs.declared.action.Action.{Action}
 use Rattle.rv_flat.proofs.Laws.StepLaws.{one_line-touched}
 use Rattle.rv_flat.specs.FlatState.{FlatState, span_of}

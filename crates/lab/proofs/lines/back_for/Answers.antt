@@ -1,6 +1,6 @@
 -- what would be written back
 use Rattle.std.proofs.Common.{◌∙◌, ◌<◌, ap, subst, sym}
-use Rattle.engine.specs.MainMemory.{if_dirty}
+use Rattle.machine.specs.EngineMemory.{if_dirty}
 use Rattle.lab.proofs.Lining.{leaving_told}
 use Rattle.lab.proofs.lines.back_for.Goals as goal
 use Rattle.machine.specs.Story.{state_of}

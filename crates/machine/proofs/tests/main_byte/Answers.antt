@@ -2,7 +2,7 @@
 use Rattle.std.proofs.Common.{ap, is_some}
 use Rattle.machine.proofs.There.{there_by_byte}
 use Rattle.machine.proofs.tests.main_byte.Goals as goal
-use Rattle.snoop.specs.Shows.{bus_state, lent_copies}
+use Rattle.engine.specs.Shows.{bus_state, lent_copies}
 
 pub main_byte-requires : goal.main_byte-requires
 main_byte-requires g c =

@@ -1,6 +1,6 @@
 use Rattle.std.proofs.Common.{ap, arith}
 use Rattle.el_base.specs.declared.config.Config.{Config}
-use Rattle.machine.specs.Story.{committed}
+use Rattle.step_back.specs.Story.{committed}
 use Rattle.report.proofs.EachHart.{each_done, each_failed, each_more}
 use Rattle.report.proofs.Putting.{failed_puts}
 use Rattle.report.proofs.Reporting.{line_at}

@@ -1,7 +1,7 @@
 use Rattle.std.proofs.Common.{take}
 use Rattle.std.specs.List.{flat_map, range_with_len}
 use Rattle.chronicle.specs.Tally.{tally_of}
-use Rattle.machine.specs.Story.{committed}
+use Rattle.step_back.specs.Story.{committed}
 use Rattle.report.specs.Puts.{PutAll}
 use Rattle.report.specs.Text.{hart_line}
 use Rattle.rv_flat.specs.FlatState.{status_of}

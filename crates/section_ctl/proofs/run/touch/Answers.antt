@@ -7,7 +7,7 @@ use Rattle.el_base.specs.declared.outcomes.Need.TheVariants as needs
 use Rattle.el_base.specs.Line.{line_number}
 use Rattle.el_model.specs.Upcoming.{touch_of}
 use Rattle.line_pool.specs.Pooled.{Pooled}
-use Rattle.run_laws.specs.PrivateRun.{HasItsBit}
+use Rattle.section_view.specs.PrivateRun.{HasItsBit}
 use Rattle.rv_alu.specs.Footprint.{footprint}
 use Rattle.rv_alu.specs.declared.footprint.Access.{Access}
 use Rattle.section_ctl.proofs.Runs.{covered_touch}

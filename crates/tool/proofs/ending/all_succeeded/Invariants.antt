@@ -1,5 +1,5 @@
 use Rattle.std.proofs.Common.{◌≡◌, true, take}
-use Rattle.machine.specs.Story.{committed}
+use Rattle.drive.specs.Story.{committed}
 use Rattle.tool.specs.Ending.{all_succeeded}
 use Rattle.tool.proofs.ending.all_succeeded.Given as goal
 

@@ -3,7 +3,7 @@ use Rattle.std.proofs.Common.{◌∙◌, ap, length, subst, sym}
 use Rattle.machine.proofs.GoesOn.{as_many, now_in, now_lines}
 use Rattle.machine.proofs.machine.Machine.bus.Goals as goal
 use Rattle.machine.specs.Story.{state_of}
-use Rattle.snoop.specs.Shows.{IsReady, Shows}
+use Rattle.engine.specs.Shows.{IsReady, Shows}
 
 pub returns-clause-harts : goal.returns-clause-harts
 returns-clause-harts c =

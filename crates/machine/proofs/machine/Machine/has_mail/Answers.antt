@@ -5,7 +5,7 @@ use Rattle.machine.proofs.GoesOn.{hart_there, now_in, parts_stand}
 use Rattle.machine.proofs.Readiness.{deliver_goes}
 use Rattle.machine.proofs.machine.Machine.has_mail.Goals as goal
 use Rattle.machine.specs.Story.{state_of}
-use Rattle.snoop.specs.Shows.{Shows}
+use Rattle.engine.specs.Shows.{Shows}
 
 pub has_mail-requires : goal.has_mail-requires
 has_mail-requires c =

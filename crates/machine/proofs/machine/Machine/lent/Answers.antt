@@ -7,7 +7,7 @@ use Rattle.machine.proofs.InSections.{lent_here, tells_run}
 use Rattle.machine.proofs.machine.Machine.lent.Goals as goal
 use Rattle.machine.specs.Lending.{LendsSection, TellsRun}
 use Rattle.machine.specs.Story.{committed, state_of}
-use Rattle.snoop.specs.Shows.{IsReady, Shows, Tells, bus_state}
+use Rattle.engine.specs.Shows.{IsReady, Shows, Tells, bus_state}
 
 pub section_state-requires : goal.section_state-requires
 section_state-requires c = hart_there _ _ _ _ _ c.self.invariant c.self.view_is c.requires

@@ -5,7 +5,7 @@ use Rattle.machine.proofs.GoesOn.{hart_there, now_in, parts_stand}
 use Rattle.machine.proofs.Readiness.{serve_goes}
 use Rattle.machine.proofs.machine.Machine.serves.Goals as goal
 use Rattle.machine.specs.Story.{state_of}
-use Rattle.snoop.specs.Shows.{IsReady, Shows}
+use Rattle.engine.specs.Shows.{IsReady, Shows}
 
 pub serves-requires-clause-hart_exists : goal.serves-requires-clause-hart_exists
 serves-requires-clause-hart_exists c =

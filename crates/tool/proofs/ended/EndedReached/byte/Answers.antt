@@ -1,7 +1,7 @@
 -- main memory lies where the program's does
 use Rattle.std.proofs.Common.{◌≡◌, ℕ, false, sym, subst}
 use Rattle.std.specs.Prelude.{◌↔◌, IfSome, IsNone}
-use Rattle.machine.specs.Story.{committed}
+use Rattle.drive.specs.Story.{committed}
 use Rattle.rv_alu.specs.Span.{holds}
 use Rattle.rv_alu.specs.declared.span.Span.{Span}
 use Rattle.rv_flat.specs.Memory.{byte_in}

@@ -53,6 +53,8 @@ def make_scratch(folder):
         new = [name for name in uses[waiting.pop()] if name in uses and name not in needed]
         needed.update(new)
         waiting.extend(new)
+    # A run's file names crates whose words el_model has from others.
+    uses["el_model"] += [name for name in uses["computed_runs"] if name in needed - {"el_model", *uses["el_model"]}]
     (folder / "crates.txt").write_text("".join(f"{name}: {' '.join(uses[name])}\n" for name in uses if name in needed))
     for crate in needed - {"el_model"}:
         shutil.copytree(ROOT / "crates" / crate, folder / "crates" / crate, ignore=shutil.ignore_patterns("out"))

@@ -1,8 +1,6 @@
 pub mod Laws
 mod GoingRound
 mod NextHart
-mod Recordings
-mod SameOutcomes
 mod RoundRobins
 mod Turning
 mod Ending

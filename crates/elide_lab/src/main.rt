@@ -1,31 +1,15 @@
 //! The program `elide-lab`: its words, done over the files and streams of the system.
 //!
-//! It stands on the devices of `el_io`, the words of `lab_words`, what `lab` tells of a run, its text in `lab_text`,
-//! `lab_tables` and `lab_page`, and the schedules of `lab_run`. [`laboratory`] does what the words ask for, over any shelf
-//! of files and any two sinks, and its contract is what this crate promises; no contract speaks of [`main`], which ends with
-//! the number of that call's status.
-//!
-//! Where a doc comment names no other source, its rule is this project's profile.
+//! It stands on `lab_tool` and `el_io`, and no contract speaks of it. It ends with the number of the top call's status.
 #![tactic(auto)]
 
-mod files;
-mod recorded;
-mod refusal;
-mod running;
-mod shows;
-mod status;
-mod stop;
-mod tables;
 #[cfg(test)]
 mod tests;
-mod top_call;
-mod waiting;
 
 use el_io::{FolderShelf, StreamSink};
-use status::Status;
+use lab_tool::{Status, laboratory};
 use std::process::ExitCode;
 use std::{env, io};
-use top_call::laboratory;
 
 fn main(rt: HostRuntime) -> ExitCode {
     let words = match words(&rt) {

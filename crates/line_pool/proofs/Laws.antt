@@ -1,4 +1,4 @@
--- Laws of a pool for the crates above, and of the slots that one of its keepers has.
+-- the laws that are offered to the crates above, some of them passed on from below; every other file here is private
 pub mod OtherLaws
 use Rattle.std.proofs.Common.{◌≡◌, ◌≢◌, ◌⊎◌, ℕ, zero, suc, ◌+◌, ◌<◌, ◌≤◌, if◌then◌else◌, Bool, true, false, List, ◌∷◌, [], length, slice_index_or, refl, ap, sym, ◌∙◌, subst, inl, inr, arith}
 use Rattle.std.proofs.Math.ListN.{get_or-map}

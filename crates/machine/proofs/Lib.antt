@@ -7,3 +7,5 @@ mod InSections
 mod There
 mod Readiness
 mod MainLines
+mod Compared
+mod SameOutcomes

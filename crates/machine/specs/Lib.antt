@@ -1,3 +1,4 @@
+pub mod FirstDifference
 pub mod Lending
 pub mod MainMemory
 pub mod Opening

@@ -1,4 +1,4 @@
 pub mod Track
 pub mod Standing
 pub mod Effect
-pub use Rattle.drive.specs.Story
+pub use Rattle.machine.specs.Story

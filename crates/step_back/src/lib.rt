@@ -8,14 +8,13 @@
 //! Where a doc comment names no other source, its rule is this project's profile.
 #![tactic(auto)]
 
-mod copies;
 mod effect;
 mod making;
 mod theorems;
 mod timeline;
 mod trail;
 
-pub use drive::Machine;
+pub use machine::Machine;
 pub use theorems::shows_what_a_machine_has_committed;
 pub use timeline::Timeline;
 

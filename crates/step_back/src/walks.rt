@@ -8,9 +8,9 @@ ghost use Rattle.trace_file.specs.Spelling.{IsTrace, listed};
 
 use super::*;
 use chronicle::History;
-use drive::{Machine, follow};
 use el_base::{Chronicled, Entry, Freed, HartId, MAX_HARTS, Outcome};
 use elf_image::{Image, load};
+use machine::{Machine, follow};
 use rv_flat::Flat;
 use schedule::{draw, drawn_at};
 use std::alloc::Global;

@@ -12,7 +12,7 @@ use Rattle.el_model.proofs.Laws.Folds.{events-entries_from, outcomes-entries_fro
 use Rattle.el_model.specs.Next.{entries_from}
 use Rattle.el_model.specs.State.{begin}
 use Rattle.elf_image.specs.Program.{Program}
-use Rattle.drive.specs.StepRecording.{CanBeRecorded}
+use Rattle.drive.specs.Recording.{CanBeRecorded}
 use Rattle.drive.specs.Story.{IsOneRun, Story, committed, history_of, memory_of}
 use Rattle.run_check.proofs.Laws.ReachedStates.{reached_is_state}
 use Rattle.run_check.specs.Certified.{IsHistoryOf, IsStateOf}

@@ -26,7 +26,7 @@ use Rattle.elf_image.specs.Program.{Program}
 use Rattle.elf_image.proofs.Laws.Loading.{loaded_harts}
 use Rattle.drive.proofs.Laws.Continued.{continued_twice, left_of_continued, nothing_more}
 use Rattle.drive.proofs.Laws.Recording.{outcomes_can_be_recorded}
-use Rattle.drive.specs.StepRecording.{CanBeRecorded}
+use Rattle.drive.specs.Recording.{CanBeRecorded}
 use Rattle.drive.specs.Story.{Story, committed, continued, left_of, state_of}
 use Rattle.trace_file.specs.Faults.{config_at, trace_fault}
 use Rattle.trace_file.specs.Outcomes.{most_committed}

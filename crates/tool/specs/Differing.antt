@@ -1,6 +1,6 @@
 -- Where a replay differs from what its trace records.
 use Rattle.std.specs.Prelude.{◌≡◌, List, Option, None, Some, slice_get}
-use Rattle.drive.specs.Recording.{IsFirstDifference}
+use Rattle.drive.specs.FirstDifference.{IsFirstDifference}
 use Rattle.el_base.specs.declared.outcomes.Outcome.{Outcome}
 use Rattle.tool.specs.declared.difference.Difference.{Difference}
 

@@ -1,9 +1,8 @@
 //! The top call over files in memory. What a run of the worked image comes to is worked by hand: nine instructions, of which
 //! the sixth, a write of two bytes, misses its line.
 
-use crate::status::Status;
-use crate::top_call::laboratory;
 use el_io::{SureShelf, SureSink};
+use lab_tool::{Status, laboratory};
 use std::alloc::Global;
 use std::test::Fail;
 use worked_files::{HELLO, TRACE};

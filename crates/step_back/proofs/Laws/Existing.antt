@@ -14,8 +14,8 @@ use Rattle.el_model.proofs.Laws.Folds.{events-entries_from, outcomes-entries_fro
 use Rattle.el_model.specs.Next.{entries_from}
 use Rattle.el_model.specs.State.{begin}
 use Rattle.elf_image.specs.Program.{Program}
-use Rattle.drive.proofs.Laws.Recording.{outcomes_can_be_recorded}
-use Rattle.drive.specs.StepRecording.{CanBeRecorded}
+use Rattle.machine.proofs.Laws.Recording.{outcomes_can_be_recorded}
+use Rattle.machine.specs.Recording.{CanBeRecorded}
 use Rattle.step_back.proofs.Freed.{order_exists}
 use Rattle.trace_file.specs.Spelling.{outcomes}
 

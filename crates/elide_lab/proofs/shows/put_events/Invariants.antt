@@ -1,6 +1,0 @@
-use Rattle.std.proofs.Common.{◌≡◌, take}
-use Rattle.drive.specs.Story.{continued}
-use Rattle.elide_lab.proofs.shows.put_events.Given as goal
-
-abbrev pub invariant-loop-event : goal.invariant-loop-event
-invariant-loop-event g l = l.machine ≡ continued l.initial.machine (take l.event-index l.events)

@@ -15,7 +15,7 @@ build() {
     started=$(mktemp) || return 1
     # What is refused there is said once more, and in full, by the build.
     "$root/tools/prove_below.py" "$1" >&2
-    (cd "$root/crates/$1" && rt run -- $2) >&2 && touch -r "$started" "$root/crates/$1/out/$1"
+    (cd "$root/crates/$1" && rt run --jobs "$(nproc 2>/dev/null || echo 2)" -- $2) >&2 && touch -r "$started" "$root/crates/$1/out/$1"
     built=$?
     rm -f "$started"
     return $built

@@ -5,7 +5,7 @@
 runner has a copy of the sources, in which it proves a library over links to those that are built. A library is begun once those
 that it stands on are built, and of these first the one with the most work on its longest way up. It is proved in `out` of this
 checkout, which is lent to the copy meanwhile, so what was built before is taken as it is where nothing changed, and what is built
-stays. Processors for which no library can be begun help with the first of those that are.
+stays. A library that holds up all the rest gets two processors, and more where others have nothing to do.
 
 It ends with status 1 where a library is refused. A build of what stands on it says why.
 """
@@ -28,6 +28,8 @@ ROOT = Path(__file__).resolve().parent.parent
 PARTS = ("src", "specs", "proofs")
 # What the proof of a library takes at most, in bytes.
 MEMORY_OF_ONE = 3_500_000_000
+# A library whose way up is this part of the longest one that is left holds up all that is above it.
+NEAR_LONGEST = 0.97
 
 
 @dataclass(eq=False)
@@ -113,25 +115,26 @@ class Runner:
 
 
 def prove_all(libraries, runners):
-    """Whether all are proved."""
+    """Whether all are proved and built."""
     ways, order = ways_up(libraries), TopologicalSorter({it: it.uses for it in libraries})
     order.prepare()
-    idle, ready, running, proved = [*runners], [], {}, 0
+    idle, ready, running, left = [*runners], [], {}, {*libraries}
     with ThreadPoolExecutor(len(runners)) as pool:
         while order.is_active():
             ready = sorted([*ready, *order.get_ready()], key=ways.get)
             while ready and idle:
                 free = len(runners) - sum(jobs for _, _, jobs in running.values())
-                jobs = max(free - len(ready) + 1, 1)
                 library, runner = ready.pop(), idle.pop()
+                holds_up = ways[library] >= NEAR_LONGEST * max(ways[it] for it in left)
+                jobs = max(free - len(ready), 2 if holds_up else 1)
                 running[pool.submit(runner.prove, library, jobs)] = library, runner, jobs
             for it in wait(running, return_when=FIRST_COMPLETED).done:
                 library, runner, _ = running.pop(it)
                 if not it.result():
                     print(f"{library.name}: refused", flush=True)
                     return False
-                proved += 1
-                print(f"{library.name}: proved, {proved} of {len(libraries)}", flush=True)
+                left.remove(library)
+                print(f"{library.name}: proved, {len(libraries) - len(left)} of {len(libraries)}", flush=True)
                 idle.append(runner)
                 order.done(library)
     return True

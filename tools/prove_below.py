@@ -1,7 +1,7 @@
 #!/usr/bin/env python3
 """Proves and builds the libraries of this repository below a crate, side by side: prove_below.py NAME.
 
-`rt` proves one library after another, since it keeps other runs out of the folders of a crate and of those below it. So here each
+`rt run` proves one library after another, and keeps other runs out of the folders of a crate and of those below it. So here each
 runner has a copy of the sources, in which it proves a library over links to those that are built. A library is begun once those
 that it stands on are built, and of these first the one with the most work on its longest way up. It is proved in `out` of this
 checkout, which is lent to the copy meanwhile, so what was built before is taken as it is where nothing changed, and what is built

@@ -7,7 +7,7 @@ that it stands on are built, and of these first the one with the most work on it
 checkout, which is lent to the copy meanwhile, so what was built before is taken as it is where nothing changed, and what is built
 stays. A library that holds up all the rest gets two processors, and more where others have nothing to do.
 
-It ends with status 1 where a library is refused. A build of what stands on it says why.
+It ends with status 1 where a library is not proved, be it refused or killed. A build of what stands on it says why.
 """
 
 import fcntl
@@ -26,7 +26,7 @@ from pathlib import Path
 
 ROOT = Path(__file__).resolve().parent.parent
 PARTS = ("src", "specs", "proofs")
-# What the proof of a library takes at most, in bytes.
+# What the proof of a library takes, in bytes: less has been seen of each.
 MEMORY_OF_ONE = 3_500_000_000
 # A library whose way up is this part of the longest one that is left holds up all that is above it.
 NEAR_LONGEST = 0.97
@@ -131,7 +131,7 @@ def prove_all(libraries, runners):
             for it in wait(running, return_when=FIRST_COMPLETED).done:
                 library, runner, _ = running.pop(it)
                 if not it.result():
-                    print(f"{library.name}: refused", flush=True)
+                    print(f"{library.name}: not proved", flush=True)
                     return False
                 left.remove(library)
                 print(f"{library.name}: proved, {len(libraries) - len(left)} of {len(libraries)}", flush=True)
@@ -147,6 +147,8 @@ def runners_that_fit():
 
 
 def main():
+    if len(sys.argv) != 2 or not (ROOT / "crates" / sys.argv[1] / "src").is_dir():
+        sys.exit("usage: prove_below.py NAME, of a folder of crates")
     top = sys.argv[1]
     signal.signal(signal.SIGTERM, lambda *_: sys.exit(1))
     libraries = libraries_below(top)

@@ -18,7 +18,7 @@ use Rattle.engine.proofs.Misses.{freed_here}
 use Rattle.engine.proofs.Others.{IsSeenAs, seen_same}
 use Rattle.engine.proofs.Outsiders.{step_is}
 use Rattle.engine.proofs.StandsOutside.{action_is, has_own, idle, inside, is_own, runs, runs_there, view_is}
-use Rattle.engine.proofs.Stepped.{HasStepped, IsBetween, IsCacheOf, IsNoted, after_turn, freed_between, marked_cache, marked_formed, noted_between}
+use Rattle.engine.proofs.Stepped.{HasStepped, IsBetween, IsCacheOf, after_turn, freed_between, marked_cache, marked_formed, noted_between}
 use Rattle.engine.proofs.Stepped.{ready_between, shows_between, stays_in_place}
 use Rattle.engine.specs.Acting.{ActsOutside, next_action, sets_in}
 use Rattle.engine.specs.Beginning.{IsReadMarked}
@@ -34,6 +34,7 @@ use Rattle.section_view.proofs.Laws.Arming.{arms}
 use Rattle.section_view.specs.ArmedLaws.{reserved_view}
 use Rattle.section_view.specs.KeptRun.{KeepsArmed}
 use Rattle.snoop.proofs.Laws.Living.{lives_armed}
+use Rattle.snoop.specs.Leaving.{LeavesNoted}
 use Rattle.snoop.specs.Returned.{returned}
 use Rattle.snoop.specs.Shows.{IsReady, BusState}
 
@@ -49,7 +50,7 @@ abbrev noted_of : ModelState → ℕ → ℕ → Hart
 noted_of from h word = record (hart_of from h) { held_line = None; armed = Some (record { count = 1; word = word }) }
 
 module _ (old : Parts) (bus : BusState) (hart : HartId) (from : ModelState) (acts : ActsOutside old hart.number from) (word : ℕ)
-    (noted : IsNoted old.bus bus hart.number 1) where
+    (noted : LeavesNoted hart.number 1 old.bus bus) where
   abbrev h : ℕ
   h = hart.number
 
@@ -132,7 +133,7 @@ module _ (old : Parts) (bus : BusState) (hart : HartId) (from : ModelState) (act
             output = refl;
             shows = shows_between bus from _ h cache (noted_of from h word) (now_of from h word) inside_bus noted_armed refl refl is_cache;
             told =
-                told_same old.pool bus h cache _ (told_copies old.pool old.bus bus _ noted.copies acts.may.is_in.told) inside_bus marks.keeps;
+                told_same old.pool bus h cache _ (told_copies old.pool old.bus bus _ noted.copies_stay acts.may.is_in.told) inside_bus marks.keeps;
             beside = beside_same h old.pool;
             each = length-set old.harts h own;
             own = subst (IsOfHart old.pool state h) (sym (get_or-set_same old.harts h own none acts.may.exists)) own_now;

@@ -22,7 +22,7 @@ use Rattle.engine.proofs.Framed.{IsClearedThere, beside_same, told_copies, told_
 use Rattle.engine.proofs.KeptPrivate.{keeps_private}
 use Rattle.engine.proofs.PrivateCalls.{untouched}
 use Rattle.engine.proofs.Others.{IsSeenAs, seen_same}
-use Rattle.engine.proofs.Stepped.{HasStepped, IsBetween, IsCacheOf, IsNoted, StaysInPlace, after_turn, armed_turn_is, freed_between, noted_between}
+use Rattle.engine.proofs.Stepped.{HasStepped, IsBetween, IsCacheOf, StaysInPlace, after_turn, armed_turn_is, freed_between, noted_between}
 use Rattle.engine.proofs.Stepped.{ready_between, returned_between, runs, shows_committed, stays_in_place, told_committed}
 use Rattle.engine.specs.Acting.{MayAct, next_action, sets_in}
 use Rattle.engine.specs.Armed.{FollowsArmed}
@@ -47,6 +47,7 @@ use Rattle.section_view.proofs.Laws.Arming.{armed_goes}
 use Rattle.section_view.specs.KeptRun.{KeepsArmed}
 use Rattle.snoop.proofs.Laws.Living.{lives_armed, lives_unarmed}
 use Rattle.snoop.specs.Agent.{agent_of}
+use Rattle.snoop.specs.Leaving.{LeavesNoted}
 use Rattle.snoop.specs.Returned.{returned}
 use Rattle.snoop.specs.Shows.{IsReady, BusState, Shows, Tells}
 
@@ -135,7 +136,7 @@ module _ (old : Parts) (hart : HartId) (armed : Armed) (from : ModelState) (foll
   abbrev state : ModelState
   state = with_hart from h now
 
-  module _ (bus : BusState) (noted : IsNoted (returned old.bus h cache) bus h (armed.count + 1)) where
+  module _ (bus : BusState) (noted : LeavesNoted h (armed.count + 1) (returned old.bus h cache) bus) where
     abbrev own : OwnState
     own = buffered_own section (own_at old.harts h)
 
@@ -225,7 +226,7 @@ module _ (old : Parts) (hart : HartId) (armed : Armed) (from : ModelState) (foll
           code = refl;
           output = refl;
           shows = noted_now;
-          told = told_copies pool (returned old.bus h cache) bus _ noted.copies continued_told;
+          told = told_copies pool (returned old.bus h cache) bus _ noted.copies_stay continued_told;
           beside = still_beside old h from pool cache section.hold may over.still;
           each = length-set old.harts h own;
           own = subst (IsOfHart pool state h) (sym (get_or-set_same old.harts h own (new_own no_hart 0 0) may.exists)) own_now;
@@ -282,7 +283,7 @@ module _ (old : Parts) (hart : HartId) (armed : Armed) (from : ModelState) (foll
   keeps_rest : KeepsAllButAView g from.committed (alone from.committed g armed.count)
   keeps_rest = armed_runs_keep_all_but_a_view from.committed g _ armed (keeps_private old g from armed follows.acts).run
 
-  module _ (bus : BusState) (noted : IsNoted (returned old.bus g cache) bus g 0) where
+  module _ (bus : BusState) (noted : LeavesNoted g 0 (returned old.bus g cache) bus) where
     abbrev freed_own_now : OwnState
     freed_own_now = let_go_own (own_at old.harts g)
 
@@ -342,7 +343,7 @@ module _ (old : Parts) (hart : HartId) (armed : Armed) (from : ModelState) (foll
           told =
               told_committed old.pool bus from.committed (alone from.committed g armed.count)
               (record { base = keeps_rest.rest.base; bytes = keeps_rest.rest.bytes })
-              (told_copies old.pool (returned old.bus g cache) bus _ noted.copies
+              (told_copies old.pool (returned old.bus g cache) bus _ noted.copies_stay
               (told_same old.pool old.bus g cache _ may.is_in.told (inside_caches old g from may) clears.keeps));
           beside = beside_same g old.pool;
           each = length-set old.harts g freed_own_now;

@@ -21,7 +21,7 @@ use Rattle.engine.proofs.LentThere.{inside_caches}
 use Rattle.engine.proofs.Framed.{holds_none, told_copies, told_same}
 use Rattle.engine.proofs.KeptLive.{same_action}
 use Rattle.engine.proofs.KeptPrivate.{keeps_private, next_private, word_line_there}
-use Rattle.engine.proofs.Stepped.{IsBetween, IsCacheOf, IsNoted, free_between, freed_between, marked_cache, marked_formed, noted_between}
+use Rattle.engine.proofs.Stepped.{IsBetween, IsCacheOf, free_between, freed_between, marked_cache, marked_formed, noted_between}
 use Rattle.engine.proofs.Stepped.{read_not_plain, ready_between, returned_between, stays_in_place}
 use Rattle.engine.proofs.Laws.Swaps.{IsConditionalOf, conditional_action}
 use Rattle.engine.specs.Acting.{next_action, sets_in}
@@ -42,6 +42,7 @@ use Rattle.section_view.specs.ArmedLaws.{elided}
 use Rattle.section_view.specs.KeptRun.{KeepsRun}
 use Rattle.snoop.proofs.Laws.Living.{lives_unarmed}
 use Rattle.snoop.specs.Asking.{HasNoRequest}
+use Rattle.snoop.specs.Leaving.{LeavesNoted}
 use Rattle.snoop.specs.Returned.{returned}
 use Rattle.snoop.specs.Shows.{IsReady, BusState, Shows}
 use Rattle.step_rules.proofs.Laws.NextAction.{next_conditional}
@@ -121,7 +122,7 @@ module _ (old : Parts) (hart : HartId) (armed : Armed) (swap : Swap) (from : Mod
         (has_bit_now (sets_in old h).ways (line_number swap.word) (sets_in old h).residency
         (follows.acts.may.ready.well_formed h inside_cache) line_there)
 
-    module _ (mid : BusState) (noted : IsNoted (returned old.bus h cache) mid h 0) where
+    module _ (mid : BusState) (noted : LeavesNoted h 0 (returned old.bus h cache) mid) where
       noted_back : IsBetween mid from (with_hart from h (entered swap (hart_of from h))) h (entered swap (hart_of from h))
       noted_back =
           noted_between (returned old.bus h cache) mid from _ h 0 (marked_of from h swap) (entered swap (hart_of from h)) marked_back noted refl refl
@@ -209,6 +210,6 @@ module _ (old : Parts) (hart : HartId) (armed : Armed) (swap : Swap) (from : Mod
             stepped_armed old _ hart from armed (Elides swap) (state_began from h swap) follows (by_elides from h armed swap)
             (stays_in_place from.committed)
             (began_stepped old h from swap bus own follows.acts.may shown
-            (told_copies old.pool (returned old.bus h cache) bus _ (same ∙ noted.copies)
+            (told_copies old.pool (returned old.bus h cache) bus _ (same ∙ noted.copies_stay)
             (told_same old.pool old.bus h cache _ follows.acts.may.is_in.told inside_cache marks.keeps))
             own_now)

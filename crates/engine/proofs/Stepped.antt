@@ -41,7 +41,8 @@ use Rattle.snoop.proofs.Laws.Living.{lives_armed}
 use Rattle.snoop.proofs.Laws.Returning.{ready_returned, shows_returned, unasked_returned}
 use Rattle.snoop.specs.Agent.{agent_noted, agent_of}
 use Rattle.snoop.specs.Asking.{HasNoRequest}
-use Rattle.snoop.specs.LettingGo.{IsNotedAs, KeepsBytes}
+use Rattle.snoop.specs.Leaving.{LeavesNoted}
+use Rattle.snoop.specs.LettingGo.{KeepsBytes}
 use Rattle.snoop.specs.Returned.{returned}
 use Rattle.snoop.specs.Shows.{IsReady, BusState, Shows, Tells, lives}
 use Rattle.step_laws.proofs.Laws.Frames.{steps_keep_others}
@@ -264,15 +265,9 @@ pub returned_between : (bus : BusState) (from between : ModelState) (h : ℕ) (c
 returned_between bus from between h cache hart now inside is agent armed same =
     became bus (returned bus h cache) from between h hart now is (shows_between bus from between h cache hart now inside is agent armed same)
 
--- a hart's count was noted at the bus
-pub record IsNoted (old bus : BusState) (h count : ℕ) : Type 0 where
-  pub ready : IsReady bus
-  pub copies : bus.copies ≡ old.copies
-  pub shows : (state : ModelState) (now : Hart) → Shows old state → IsNotedAs state h count now → Shows bus (with_hart state h now)
-
--- as the hart has become another
+-- a hart's count was noted at the bus, as the hart has become another
 pub noted_between : (old bus : BusState) (from between : ModelState) (h count : ℕ) (hart now : Hart) → IsBetween old from between h hart →
-    IsNoted old bus h count →
+    LeavesNoted h count old bus →
     agent_of now ≡ agent_noted count (agent_of hart) → now.cache ≡ hart.cache → is_some now.armed ≡ not (count == 0) →
     is_some now.section ≡ lives now.cache count → IsBetween bus from (with_hart from h now) h now
 noted_between old bus from between h count hart now is noted agent cache armed live =

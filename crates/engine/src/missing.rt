@@ -2,12 +2,12 @@
 
 ghost use Rattle.std.specs.Prelude.{◌≡◌};
 ghost use Rattle.el_model.specs.Plain.{missed, missed_hart};
-ghost use Rattle.el_model.specs.State.{ModelState, hart_of, with_hart};
+ghost use Rattle.el_model.specs.State.{hart_of, with_hart};
 ghost use Rattle.engine.specs.Acting.{MayAct};
 ghost use Rattle.engine.specs.Missing.{MayMiss};
 ghost use Rattle.engine.specs.Parts.{parts};
 ghost use Rattle.engine.specs.Turns.{TakesTurn};
-ghost use Rattle.snoop.specs.Shows.{IsReady, Shows};
+ghost use Rattle.snoop.specs.Leaving.{LeavesCopies};
 
 use crate::engine::Engine;
 use el_base::{HartId, LineAddr, Need, Outcome};
@@ -26,11 +26,9 @@ impl Engine {
     /// Raises the request for the line. Nothing else changes.
     fn ask(&mut self, hart: HartId, line: LineAddr, need: Need)
         requires may { MayMiss (parts self.old) hart.number line.number }
-        ensures ready { IsReady (parts self.new).bus }
-        ensures shows { (state : ModelState) → Shows (parts self.old).bus state → Shows (parts self.new).bus
-            (with_hart state hart.number (missed_hart hart.number line.number need (hart_of state hart.number))) }
+        ensures leaves { LeavesCopies (λ state. with_hart state hart.number
+            (missed_hart hart.number line.number need (hart_of state hart.number))) (parts self.old).bus (parts self.new).bus }
         ensures rest_stays { parts self.new ≡ record (parts self.old) { bus = (parts self.new).bus } }
-        ensures copies_stay { (parts self.new).bus.copies ≡ (parts self.old).bus.copies }
     {
         self.bus.raise(hart, line, need);
     }

@@ -9,6 +9,7 @@ ghost use Rattle.el_model.specs.State.{ModelState};
 ghost use Rattle.engine.specs.MainMemory.{lines_from};
 ghost use Rattle.engine.specs.Parts.{IsInState, parts};
 ghost use Rattle.engine.specs.Reached.{IsReached, EngineStands};
+ghost use Rattle.engine.specs.Turns.{TakesEvent};
 ghost use Rattle.snoop.specs.Shows.{IsReady, Shows, Tells};
 
 use crate::engine::Engine;
@@ -54,13 +55,7 @@ impl Engine {
         requires hart_exists { event.hart.number < length (parts self.old).harts }
         requires stands { EngineStands (parts self.old) }
         requires no_step { event.kind ≢ Step }
-        ensures ready { IsReady (parts self.new).bus }
-        ensures state { (state : ModelState) → IsReached state → IsInState (parts self.old) state →
-            IsInState (parts self.new) (next state event).state }
-        ensures outcome { (state : ModelState) → IsReached state → IsInState (parts self.old) state →
-            result ≡ (next state event).outcome }
-        ensures memory { (state : ModelState) → IsReached state → IsInState (parts self.old) state →
-            (parts self.new).bus.copies.lines ≡ lines_from state event (parts self.old).bus.copies.lines }
+        ensures { TakesEvent event (parts self.old) (parts self.new) result }
     {
         let outcome = self.pass_to_bus(event);
         restore_by(&mut self.pool, &mut self.harts, self.config.mode, outcome);

@@ -1,16 +1,15 @@
 //! One event.
 
 ghost use Rattle.std.specs.Prelude.{◌≡◌, ◌<◌, ◌↔◌, length, true, false};
-ghost use Rattle.el_model.specs.Next.{going_turn, next, step_turn};
+ghost use Rattle.el_model.specs.Next.{going_turn, step_turn};
 ghost use Rattle.el_model.specs.State.{ModelState, has_request, section_of};
 ghost use Rattle.engine.specs.Acting.{MayAct, MayActSomewhere, next_action};
-ghost use Rattle.engine.specs.MainMemory.{lines_from};
 ghost use Rattle.engine.specs.Parts.{IsInState, committed_at, parts, room_in};
 ghost use Rattle.engine.specs.Reached.{IsReached, EngineStands};
-ghost use Rattle.engine.specs.Turns.{TakesTurn};
+ghost use Rattle.engine.specs.Turns.{TakesEvent, TakesTurn};
 ghost use Rattle.rv_alu.specs.Footprint.{IsInPlace};
 ghost use Rattle.rv_alu.specs.declared.view.HartStatus.TheVariants.{Running};
-ghost use Rattle.snoop.specs.Shows.{IsReady, Shows};
+ghost use Rattle.snoop.specs.Shows.{Shows};
 
 use crate::engine::Engine;
 use el_base::{Event, HartId, Kind, Outcome};
@@ -21,17 +20,10 @@ impl Engine {
     /// One event: whatever state that a program reaches the parts are in, they are in the state after the event then,
     /// with its outcome. It takes no memory.
     #[inline(always)]
-    #[tactic(auto, using(crate::proofs::Laws::NothingFound::resting_outcome, crate::proofs::Laws::NothingFound::resting_lines))]
     pub fn step(&mut self, event: Event) -> Outcome
         requires hart_exists { event.hart.number < length (parts self.old).harts }
         requires stands { EngineStands (parts self.old) }
-        ensures ready { IsReady (parts self.new).bus }
-        ensures state { (state : ModelState) → IsReached state → IsInState (parts self.old) state →
-            IsInState (parts self.new) (next state event).state }
-        ensures outcome { (state : ModelState) → IsReached state → IsInState (parts self.old) state →
-            result ≡ (next state event).outcome }
-        ensures memory { (state : ModelState) → IsReached state → IsInState (parts self.old) state →
-            (parts self.new).bus.copies.lines ≡ lines_from state event (parts self.old).bus.copies.lines }
+        ensures { TakesEvent event (parts self.old) (parts self.new) result }
     {
         if self.finds_nothing(event) {
             Outcome::Idle
@@ -46,13 +38,7 @@ impl Engine {
     fn turn(&mut self, event: Event) -> Outcome
         requires hart_exists { event.hart.number < length (parts self.old).harts }
         requires stands { EngineStands (parts self.old) }
-        ensures ready { IsReady (parts self.new).bus }
-        ensures state { (state : ModelState) → IsReached state → IsInState (parts self.old) state →
-            IsInState (parts self.new) (next state event).state }
-        ensures outcome { (state : ModelState) → IsReached state → IsInState (parts self.old) state →
-            result ≡ (next state event).outcome }
-        ensures memory { (state : ModelState) → IsReached state → IsInState (parts self.old) state →
-            (parts self.new).bus.copies.lines ≡ lines_from state event (parts self.old).bus.copies.lines }
+        ensures { TakesEvent event (parts self.old) (parts self.new) result }
     {
         match event.kind {
             Kind::Step => self.step_of(event.hart),

@@ -1,6 +1,6 @@
 //! Histories of their own.
 
-ghost use Rattle.std.specs.Prelude.{◌≡◌, IfOk};
+ghost use Rattle.std.specs.Prelude.{◌≡◌, IfOk, length};
 
 use chronicle::History;
 use el_base::{Chronicled, NoMemory};
@@ -8,7 +8,8 @@ use std::alloc::Global;
 
 /// A history of the same events with their outcomes, and no more places.
 pub fn copy_of(alloc: Global, history: &History) -> Result<History, NoMemory>
-    ensures { IfOk result (λ copy. copy.entries ≡ history.now.entries) }
+    ensures { IfOk result (λ copy. copy ≡
+        record { entries = history.now.entries; places = length history.now.entries }) }
 {
     let mut copy = History::make(alloc, history.length())?;
     for place in 0..history.length() {

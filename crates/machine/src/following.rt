@@ -88,7 +88,8 @@ pub fn history_of_run(
     requires one_hart_each { image.harts ≡ config.harts }
     requires enough_steps { length events.now ≤ config.steps }
     requires harts_exist { All (λ event. event.hart.number < config.harts) events.now }
-    ensures { IfOk result (λ history. history.entries ≡ entries_from (begin image config) events.now) }
+    ensures { IfOk result (λ history. history ≡
+        record { entries = entries_from (begin image config) events.now; places = length events.now }) }
 {
     let mut machine = machine_of(alloc, image, config)?;
     follow(&mut machine, events);

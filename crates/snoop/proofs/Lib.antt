@@ -7,6 +7,7 @@ mod Facing
 mod Changes
 mod Settles
 mod LosersBelow
+mod Leaves
 mod AfterFate
 mod Noting
 mod Freeing

@@ -5,8 +5,8 @@ use Rattle.bus_order.proofs.Laws.LookUps.{request_of_appended_other, request_of_
 use Rattle.bus_order.proofs.Laws.Orders.{one_each_appended, one_each_in_front_of}
 use Rattle.bus_order.specs.Order.{IsOneEach, Request, appended, in_front_of, request_of}
 use Rattle.el_model.specs.Order.{unraised}
-use Rattle.el_model.specs.State.{ModelState, hart_of}
-use Rattle.mail.specs.Mailbox.{Marker}
+use Rattle.el_model.specs.State.{ModelState, hart_of, with_hart}
+use Rattle.mail.specs.Mailbox.{Marker, posted}
 use Rattle.snoop.proofs.Ready.{few_armed_yet, ready_agent, served_yet}
 use Rattle.snoop.proofs.Showing.{agent_other, agent_past, agent_same, count_with_agent, shows_agent}
 use Rattle.snoop.specs.Agent.{Agent, agent_at, agent_posted, with_agent}
@@ -123,3 +123,10 @@ with_marker bus from to = record bus { agents = with_agent bus.agents to (agent_
 
 pub ready_marker : (bus : BusState) (from to : ℕ) → IsReady bus → IsReady (with_marker bus from to)
 ready_marker bus from to ready = ready_agent bus to (agent_posted (Marker from) (agent_at bus.agents to)) ready (λ request is. is) (ready.few_armed to)
+
+pub shows_marker : (bus : BusState) (state : ModelState) (from to : ℕ) → Shows bus state →
+    Shows (with_marker bus from to) (with_hart state to (record (hart_of state to) { mail = posted (hart_of state to).mail (Marker from) }))
+shows_marker bus state from to shows =
+    shows_agent bus state to (agent_posted (Marker from) (agent_at bus.agents to))
+    (record (hart_of state to) { mail = posted (hart_of state to).mail (Marker from) }) shows
+    (ap (agent_posted (Marker from)) (shows.agents to)) refl refl refl

@@ -1,19 +1,21 @@
 -- what the bus shows after one hart has changed, and after each has
-use Rattle.std.proofs.Common.{◌≡◌, ◌≢◌, ◌∙◌, ℕ, zero, suc, ◌*◌, ◌<◌, ◌≤◌, List, [], ◌∷◌, length, refl, ap, sym, subst, inl, inr, arith}
+use Rattle.std.proofs.Common.{◌≡◌, ◌≢◌, ◌∙◌, ℕ, zero, suc, ◌*◌, ◌<◌, ◌≤◌, List, [], ◌∷◌, Option, None, Some, length, refl, ap, sym, subst, inl, inr, arith}
 use Rattle.std.specs.Prelude.{slice_set}
 use Rattle.std.proofs.lemmas.Bool.{cases_eq, cases_lt}
 use Rattle.std.proofs.lemmas.List.{get_or-set_same, get_or-set_other, length-set}
 use Rattle.coherence.specs.Lent.{slotted_at}
 use Rattle.el_base.specs.declared.line.TheConstants.{LINE_BYTES}
+use Rattle.el_model.specs.Attempts.{close_attempt, closed_clock}
 use Rattle.el_model.specs.State.{Hart, ModelState, armed_of, cache_of, each_from, each_hart, hart_of, new_hart, section_of, with_hart}
 use Rattle.el_model.proofs.Laws.Harts.{hart_of-each_hart, hart_of-each_hart_past, hart_of-past, hart_of-with_hart_same, hart_of-with_hart_other, with_hart_kept}
 use Rattle.el_model.proofs.Laws.Keeps.{length-each_from}
 use Rattle.snoop.proofs.Lent.{beyond}
 use Rattle.snoop.proofs.Laws.Living.{TellsSection, tells, tells_nothing, tells_yet}
-use Rattle.snoop.specs.Agent.{Agent, agent_at, agent_of, new_agent, with_agent}
+use Rattle.snoop.specs.Agent.{Agent, agent_at, agent_closed, agent_of, clock_after, new_agent, with_agent}
 use Rattle.rv_flat.specs.FlatState.{FlatState}
 use Rattle.snoop.specs.LettingGo.{KeepsBytes, with_committed}
 use Rattle.snoop.specs.Shows.{Holding, BusState, LiesWhere, Shows}
+use Rattle.stamp.specs.Stamps.{Stamp}
 
 -- main memory that has not moved lies where it did
 pub lies_yet : (old new : Holding) (flat : FlatState) → new.first ≡ old.first → length new.lines ≡ length old.lines → LiesWhere old flat →
@@ -103,6 +105,14 @@ pub shows_agent : (bus : BusState) (state : ModelState) (h : ℕ) (agent : Agent
     Shows (record bus { agents = with_agent bus.agents h agent }) (with_hart state h hart)
 shows_agent bus state h agent hart shows is section armed cache =
     shows_told bus state h agent hart shows is cache (tells_yet (hart_of state h) hart section armed cache (tells shows h))
+
+-- the agent of a hart whose attempt has closed
+closed_at : (hart : Hart) (attempt : Option Stamp) → clock_after hart.clock hart.seen attempt ≡ closed_clock hart attempt
+closed_at hart None = refl
+closed_at hart (Some stamp) = refl
+
+pub closed_agent : (hart : Hart) → agent_closed (agent_of hart) ≡ agent_of (close_attempt hart)
+closed_agent hart = ap (λ clock. record (agent_of hart) { attempt = None; clock = clock }) (closed_at hart hart.attempt)
 
 -- what each hart has become, as the bus shows it
 pub record ShowsEach (bus new : BusState) (state : ModelState) (becomes : ℕ → Hart → Hart) : Type 0 where

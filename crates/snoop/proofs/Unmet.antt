@@ -6,7 +6,7 @@ use Rattle.el_base.specs.Losers.{losers_of}
 use Rattle.el_base.specs.declared.config.Mode.{Mode}
 use Rattle.el_base.specs.declared.config.Mode.TheVariants.{Plain, Sle, Tlr}
 use Rattle.el_model.specs.Conflicts.{wins_over}
-use Rattle.el_model.specs.Face.{Fate, LosesTo, Unmet, deferring_fate, fate_at, face_losers, faced, winner_in}
+use Rattle.el_model.specs.Face.{LosesTo, Unmet, deferring_fate, fate_at, face_losers, faced, winner_in}
 use Rattle.el_model.specs.State.{ModelState, hart_of}
 use Rattle.snoop.proofs.Changes.{nobody_changed}
 use Rattle.snoop.proofs.Faced.{faced_losers, faced_shows}

@@ -5,6 +5,7 @@ pub mod Deciding
 pub mod Shows
 pub mod Changing
 pub mod LettingGo
+pub mod Leaving
 pub mod Meets
 pub mod Obstacles
 pub mod Serving

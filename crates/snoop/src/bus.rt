@@ -11,11 +11,11 @@ ghost use Rattle.el_base.specs.Line.{line_number};
 ghost use Rattle.el_base.specs.declared.line.TheConstants.{LINE_BYTES};
 ghost use Rattle.el_model.specs.Attempts as attempts;
 ghost use Rattle.el_model.specs.Plain.{missed_hart};
-ghost use Rattle.el_model.specs.State.{Hart, ModelState, begin, cache_of, hart_of, ordered_of, raised_of, with_hart};
+ghost use Rattle.el_model.specs.State.{ModelState, begin, cache_of, hart_of, ordered_of, raised_of, with_hart};
 ghost use Rattle.line_pool.specs.Pooled.{Pooled};
 ghost use Rattle.snoop.specs.Agent.{agent_at};
 ghost use Rattle.snoop.specs.Asking.{HasNoRequest, asking, numbered_asked};
-ghost use Rattle.snoop.specs.LettingGo.{IsNotedAs};
+ghost use Rattle.snoop.specs.Leaving.{LeavesCopies, LeavesNoted};
 ghost use Rattle.snoop.specs.Shows.{IsReady, IsTold, LiesIn, Shows, Tells, has_room_in, bus_state};
 
 use crate::agent::Agent;
@@ -109,10 +109,8 @@ impl Bus {
         requires holds_nothing { (agent_at (bus_state self.old).agents hart.number).held_line ≡ None }
         requires in_memory { LiesIn (bus_state self.old).copies line.number }
         requires room { has_room_in (bus_state self.old).copies hart.number line.number ≡ true }
-        ensures ready { IsReady (bus_state self.new) }
-        ensures shows { (state : ModelState) → Shows (bus_state self.old) state → Shows (bus_state self.new)
-            (with_hart state hart.number (missed_hart hart.number line.number need (hart_of state hart.number))) }
-        ensures copies_stay { (bus_state self.new).copies ≡ (bus_state self.old).copies }
+        ensures { LeavesCopies (λ state. with_hart state hart.number
+            (missed_hart hart.number line.number need (hart_of state hart.number))) (bus_state self.old) (bus_state self.new) }
     {
         let stamp = self.agent(hart).attempt();
         raise(
@@ -130,10 +128,8 @@ impl Bus {
     pub fn give_up(&mut self, hart: HartId)
         requires hart_exists { hart.number < length (bus_state self.old).agents }
         requires ready { IsReady (bus_state self.old) }
-        ensures ready { IsReady (bus_state self.new) }
-        ensures shows { (state : ModelState) → Shows (bus_state self.old) state → Shows (bus_state self.new)
-            (with_hart state hart.number (record (hart_of state hart.number) { held_line = None })) }
-        ensures copies_stay { (bus_state self.new).copies ≡ (bus_state self.old).copies }
+        ensures { LeavesCopies (λ state. with_hart state hart.number
+            (record (hart_of state hart.number) { held_line = None })) (bus_state self.old) (bus_state self.new) }
     {
         give_up(&mut self.agents, hart);
     }
@@ -146,10 +142,7 @@ impl Bus {
         requires hart_exists { hart.number < length (bus_state self.old).agents }
         requires ready { IsReady (bus_state self.old) }
         requires few { count ≤ 15 }
-        ensures ready { IsReady (bus_state self.new) }
-        ensures shows { (state : ModelState) (now : Hart) → Shows (bus_state self.old) state →
-            IsNotedAs state hart.number count now → Shows (bus_state self.new) (with_hart state hart.number now) }
-        ensures copies_stay { (bus_state self.new).copies ≡ (bus_state self.old).copies }
+        ensures { LeavesNoted hart.number count (bus_state self.old) (bus_state self.new) }
     {
         note_armed(&mut self.agents, hart, count);
     }
@@ -160,11 +153,8 @@ impl Bus {
         requires hart_exists { hart.number < length (bus_state self.old).agents }
         requires ready { IsReady (bus_state self.old) }
         requires no_request { HasNoRequest (bus_state self.old) hart.number }
-        ensures ready { IsReady (bus_state self.new) }
-        ensures shows { (state : ModelState) → Shows (bus_state self.old) state → Shows (bus_state self.new)
-            (with_hart state hart.number
-            (attempts.open_attempt state.config.mode hart.number (hart_of state hart.number))) }
-        ensures copies_stay { (bus_state self.new).copies ≡ (bus_state self.old).copies }
+        ensures { LeavesCopies (λ state. with_hart state hart.number
+            (attempts.open_attempt state.config.mode hart.number (hart_of state hart.number))) (bus_state self.old) (bus_state self.new) }
     {
         open_attempt(&mut self.agents, self.mode, hart);
     }
@@ -177,10 +167,8 @@ impl Bus {
         requires no_request { HasNoRequest (bus_state self.old) hart.number }
         requires clock_below_the_last { (agent_at (bus_state self.old).agents hart.number).clock < u64.MAX }
         requires seen_below_the_last { (agent_at (bus_state self.old).agents hart.number).seen < u64.MAX }
-        ensures ready { IsReady (bus_state self.new) }
-        ensures shows { (state : ModelState) → Shows (bus_state self.old) state → Shows (bus_state self.new)
-            (with_hart state hart.number (attempts.close_attempt (hart_of state hart.number))) }
-        ensures copies_stay { (bus_state self.new).copies ≡ (bus_state self.old).copies }
+        ensures { LeavesCopies (λ state. with_hart state hart.number
+            (attempts.close_attempt (hart_of state hart.number))) (bus_state self.old) (bus_state self.new) }
     {
         close_attempt(&mut self.agents, hart);
     }

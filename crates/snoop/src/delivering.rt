@@ -23,8 +23,9 @@ ghost use Rattle.snoop.specs.Delivering.{
   probe_sent,
   probes_sent,
 };
+ghost use Rattle.snoop.specs.Leaving.{LeavesCopies, LosesSections};
 ghost use Rattle.snoop.specs.Settled.{in_removal};
-ghost use Rattle.snoop.specs.Shows.{IsReady, Shows, StaysTold, bus_state};
+ghost use Rattle.snoop.specs.Shows.{IsReady, Shows, bus_state};
 ghost use Rattle.stamp.specs.Stamps as stamps;
 
 use crate::agent::Agent;
@@ -49,13 +50,10 @@ impl Bus {
     pub fn deliver(&mut self, hart: HartId) -> Outcome
         requires hart_exists { hart.number < length (bus_state self.old).agents }
         requires ready { IsReady (bus_state self.old) }
-        ensures ready { IsReady (bus_state self.new) }
-        ensures state { (state : ModelState) → Shows (bus_state self.old) state →
-            Shows (bus_state self.new) (delivery.deliver_turn state hart.number).state }
+        ensures leaves { LosesSections (λ state. (delivery.deliver_turn state hart.number).state)
+            (bus_state self.old) (bus_state self.new) }
         ensures outcome { (state : ModelState) → Shows (bus_state self.old) state →
             result ≡ (delivery.deliver_turn state hart.number).outcome }
-        ensures memory_stays { (bus_state self.new).copies.lines ≡ (bus_state self.old).copies.lines }
-        ensures told { StaysTold (bus_state self.old) (bus_state self.new) }
     {
         match self.take_message(hart) {
             Some(message) => Outcome::Delivered {
@@ -69,13 +67,12 @@ impl Bus {
     fn take_message(&mut self, hart: HartId) -> Option<Message>
         requires hart_exists { hart.number < length (bus_state self.old).agents }
         requires ready { IsReady (bus_state self.old) }
-        ensures ready { IsReady (bus_state self.new) }
+        ensures leaves { LeavesCopies
+            (λ state. delivery.taken state hart.number (mailbox.without_oldest (hart_of state hart.number).mail))
+            (bus_state self.old) (bus_state self.new) }
         ensures hart_exists { hart.number < length (bus_state self.new).agents }
         ensures message { (state : ModelState) → Shows (bus_state self.old) state →
             option_map mailbox.numbered result ≡ mailbox.oldest (hart_of state hart.number).mail }
-        ensures shows { (state : ModelState) → Shows (bus_state self.old) state → Shows (bus_state self.new)
-            (delivery.taken state hart.number (mailbox.without_oldest (hart_of state hart.number).mail)) }
-        ensures copies_stay { (bus_state self.new).copies ≡ (bus_state self.old).copies }
     {
         take_message(&mut self.agents, hart)
     }
@@ -85,13 +82,10 @@ impl Bus {
     fn take_effect(&mut self, hart: HartId, message: Message) -> Losers
         requires hart_exists { hart.number < length (bus_state self.old).agents }
         requires ready { IsReady (bus_state self.old) }
-        ensures ready { IsReady (bus_state self.new) }
-        ensures shows { (state : ModelState) → Shows (bus_state self.old) state →
-            Shows (bus_state self.new) (delivery.delivered state hart.number (mailbox.numbered message)) }
+        ensures leaves { LosesSections (λ state. delivery.delivered state hart.number (mailbox.numbered message))
+            (bus_state self.old) (bus_state self.new) }
         ensures losers { (state : ModelState) → Shows (bus_state self.old) state →
             result ≡ delivery.losers_by state hart.number (mailbox.numbered message) }
-        ensures memory_stays { (bus_state self.new).copies.lines ≡ (bus_state self.old).copies.lines }
-        ensures told { StaysTold (bus_state self.old) (bus_state self.new) }
     {
         match message {
             Message::Marker { from } => {
@@ -106,10 +100,8 @@ impl Bus {
     fn take_marker(&mut self, hart: HartId, sender: HartId)
         requires hart_exists { hart.number < length (bus_state self.old).agents }
         requires ready { IsReady (bus_state self.old) }
-        ensures ready { IsReady (bus_state self.new) }
-        ensures shows { (state : ModelState) → Shows (bus_state self.old) state →
-            Shows (bus_state self.new) (delivery.after_marker state hart.number sender.number) }
-        ensures copies_stay { (bus_state self.new).copies ≡ (bus_state self.old).copies }
+        ensures { LeavesCopies (λ state. delivery.after_marker state hart.number sender.number)
+            (bus_state self.old) (bus_state self.new) }
     {
         self.answer_marker(hart, sender);
     }
@@ -164,15 +156,13 @@ impl Bus {
     fn take_probe(&mut self, hart: HartId, origin: HartId) -> Losers
         requires hart_exists { hart.number < length (bus_state self.old).agents }
         requires ready { IsReady (bus_state self.old) }
-        ensures ready { IsReady (bus_state self.new) }
-        ensures shows { (state : ModelState) → Shows (bus_state self.old) state → Shows (bus_state self.new)
-            (if has (hart_of state hart.number).told origin.number then state
-            else delivery.after_probe state hart.number origin.number (ordered_of state origin.number)) }
+        ensures leaves { LosesSections
+            (λ state. if has (hart_of state hart.number).told origin.number then state
+            else delivery.after_probe state hart.number origin.number (ordered_of state origin.number))
+            (bus_state self.old) (bus_state self.new) }
         ensures losers { (state : ModelState) → Shows (bus_state self.old) state → result
             ≡ (if has (hart_of state hart.number).told origin.number then delivery.nobody
             else delivery.probe_losers state hart.number origin.number (ordered_of state origin.number)) }
-        ensures memory_stays { (bus_state self.new).copies.lines ≡ (bus_state self.old).copies.lines }
-        ensures told { StaysTold (bus_state self.old) (bus_state self.new) }
     {
         if self.agent(hart).knows(origin) {
             return Losers::none();
@@ -187,15 +177,13 @@ impl Bus {
     fn hear_of(&mut self, hart: HartId, origin: HartId, request: Option<Request>) -> Losers
         requires hart_exists { hart.number < length (bus_state self.old).agents }
         requires ready { IsReady (bus_state self.old) }
-        ensures ready { IsReady (bus_state self.new) }
-        ensures hart_exists { hart.number < length (bus_state self.new).agents }
-        ensures shows { (state : ModelState) → Shows (bus_state self.old) state → Shows (bus_state self.new)
-            (with_hart state hart.number
-            (delivery.told_of state hart.number origin.number (option_map numbered request))) }
+        ensures leaves { LosesSections
+            (λ state. with_hart state hart.number
+            (delivery.told_of state hart.number origin.number (option_map numbered request)))
+            (bus_state self.old) (bus_state self.new) }
         ensures losers { (state : ModelState) → Shows (bus_state self.old) state →
             result ≡ delivery.probe_losers state hart.number origin.number (option_map numbered request) }
-        ensures memory_stays { (bus_state self.new).copies.lines ≡ (bus_state self.old).copies.lines }
-        ensures told { StaysTold (bus_state self.old) (bus_state self.new) }
+        ensures hart_exists { hart.number < length (bus_state self.new).agents }
     {
         if self.loses_to_origin(hart, request) {
             self.lose_to(hart, origin, request);

@@ -8,9 +8,9 @@ ghost use Rattle.el_model.specs.Armed.{freed_by};
 ghost use Rattle.el_model.specs.Face.{face_losers, faced, met, met_losers};
 ghost use Rattle.el_model.specs.State.{ModelState};
 ghost use Rattle.snoop.specs.Deciding.{DecidesIn};
-ghost use Rattle.snoop.specs.LettingGo.{KeepsBytes};
+ghost use Rattle.snoop.specs.Leaving.{EndsSections, LosesSections};
 ghost use Rattle.snoop.specs.Settled.{sent_in};
-ghost use Rattle.snoop.specs.Shows.{IsReady, Shows, StaysTold, bus_state};
+ghost use Rattle.snoop.specs.Shows.{IsReady, Shows, bus_state};
 
 use crate::bus::Bus;
 use crate::fates::{Fate, nobody_met};
@@ -46,16 +46,11 @@ impl Bus {
     pub(crate) fn meet<P: Policy>(&mut self, head: Request, policy: &P) -> Met
         requires ready { IsReady (bus_state self.old) }
         requires policy { DecidesIn (bus_state self.old).mode (P.beats policy.now) }
-        ensures ready { IsReady (bus_state self.new) }
-        ensures shows { (state : ModelState) → Shows (bus_state self.old) state →
-            KeepsBytes state.committed (met state (numbered head)).committed →
-            Shows (bus_state self.new) (met state (numbered head)) }
+        ensures leaves { EndsSections (λ state. met state (numbered head)) (bus_state self.old) (bus_state self.new) }
         ensures losers { (state : ModelState) → Shows (bus_state self.old) state →
             result.losers ≡ met_losers state (numbered head) }
         ensures freed { (state : ModelState) → Shows (bus_state self.old) state →
             result.freed ≡ freed_by state (numbered head) }
-        ensures memory_stays { (bus_state self.new).copies.lines ≡ (bus_state self.old).copies.lines }
-        ensures told { StaysTold (bus_state self.old) (bus_state self.new) }
     {
         let freed = self.let_go(head);
         let losers = self.face(head, policy);
@@ -79,13 +74,10 @@ impl Bus {
     fn face<P: Policy>(&mut self, head: Request, policy: &P) -> Losers
         requires ready { IsReady (bus_state self.old) }
         requires policy { DecidesIn (bus_state self.old).mode (P.beats policy.now) }
-        ensures ready { IsReady (bus_state self.new) }
-        ensures shows { (state : ModelState) → Shows (bus_state self.old) state →
-            Shows (bus_state self.new) (faced state (numbered head)) }
+        ensures leaves { LosesSections (λ state. faced state (numbered head))
+            (bus_state self.old) (bus_state self.new) }
         ensures losers { (state : ModelState) → Shows (bus_state self.old) state →
             result ≡ face_losers state (numbered head) }
-        ensures memory_stays { (bus_state self.new).copies.lines ≡ (bus_state self.old).copies.lines }
-        ensures told { StaysTold (bus_state self.old) (bus_state self.new) }
     {
         match self.mode {
             Mode::Plain => Losers::none(),
@@ -101,13 +93,10 @@ impl Bus {
     fn face_live<P: Policy>(&mut self, head: Request, policy: &P) -> Losers
         requires ready { IsReady (bus_state self.old) }
         requires policy { DecidesIn (bus_state self.old).mode (P.beats policy.now) }
-        ensures ready { IsReady (bus_state self.new) }
-        ensures shows { (state : ModelState) → Shows (bus_state self.old) state →
-            Shows (bus_state self.new) (faced state (numbered head)) }
+        ensures leaves { LosesSections (λ state. faced state (numbered head))
+            (bus_state self.old) (bus_state self.new) }
         ensures losers { (state : ModelState) → Shows (bus_state self.old) state →
             result ≡ face_losers state (numbered head) }
-        ensures memory_stays { (bus_state self.new).copies.lines ≡ (bus_state self.old).copies.lines }
-        ensures told { StaysTold (bus_state self.old) (bus_state self.new) }
     {
         let fates = self.fates(head, policy);
         if nobody_met(&fates) {

@@ -5,8 +5,9 @@ ghost use Rattle.bus_order.specs.Order.{numbered};
 ghost use Rattle.el_base.specs.Freed.{count_in};
 ghost use Rattle.el_model.specs.Armed as model;
 ghost use Rattle.el_model.specs.State.{ModelState};
-ghost use Rattle.snoop.specs.LettingGo.{AreLetGo, IsLetGo, KeepsBytes, freed_at, frees, with_committed};
-ghost use Rattle.snoop.specs.Shows.{IsReady, Shows, StaysTold, bus_state};
+ghost use Rattle.snoop.specs.Leaving.{EndsSections};
+ghost use Rattle.snoop.specs.LettingGo.{AreLetGo, IsLetGo, freed_at, frees, with_committed};
+ghost use Rattle.snoop.specs.Shows.{IsReady, Shows, bus_state};
 
 use crate::agents::note_armed;
 use crate::bus::Bus;
@@ -104,17 +105,12 @@ impl Bus {
     /// state over the committed part of before.
     pub(crate) fn let_go(&mut self, head: Request) -> Freed
         requires ready { IsReady (bus_state self.old) }
-        ensures ready { IsReady (bus_state self.new) }
+        ensures leaves { EndsSections (λ state. model.let_go state (numbered head)) (bus_state self.old) (bus_state self.new) }
         ensures mode { (bus_state self.new).mode ≡ (bus_state self.old).mode }
         ensures parts { (state : ModelState) → Shows (bus_state self.old) state →
             Shows (bus_state self.new) (with_committed state.committed (model.let_go state (numbered head))) }
-        ensures state { (state : ModelState) → Shows (bus_state self.old) state →
-            KeepsBytes state.committed (model.let_go state (numbered head)).committed →
-            Shows (bus_state self.new) (model.let_go state (numbered head)) }
         ensures freed { (state : ModelState) → Shows (bus_state self.old) state →
             result ≡ model.freed_by state (numbered head) }
-        ensures memory_stays { (bus_state self.new).copies.lines ≡ (bus_state self.old).copies.lines }
-        ensures told { StaysTold (bus_state self.old) (bus_state self.new) }
     {
         let freed = self.freed_by(head);
         self.let_each_go(freed);

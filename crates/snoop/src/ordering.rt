@@ -19,9 +19,9 @@ ghost use Rattle.el_model.specs.Order.{
 ghost use Rattle.el_model.specs.State.{ModelState};
 ghost use Rattle.snoop.specs.Agent.{agent_at};
 ghost use Rattle.snoop.specs.Deciding.{DecidesIn};
-ghost use Rattle.snoop.specs.LettingGo.{KeepsBytes};
+ghost use Rattle.snoop.specs.Leaving.{EndsSections, LeavesCopies};
 ghost use Rattle.snoop.specs.Places.{definition_place};
-ghost use Rattle.snoop.specs.Shows.{IsReady, Shows, StaysTold, bus_state};
+ghost use Rattle.snoop.specs.Shows.{IsReady, Shows, bus_state};
 
 use crate::agents::{post, unraise};
 use crate::bus::Bus;
@@ -63,11 +63,8 @@ impl Bus {
     /// In lock removal a hart sends another a marker.
     fn send_marker(&mut self, from: HartId, to: HartId)
         requires { IsReady (bus_state self.old) }
-        ensures ready { IsReady (bus_state self.new) }
-        ensures mode { (bus_state self.new).mode ≡ (bus_state self.old).mode }
-        ensures shows { (state : ModelState) → Shows (bus_state self.old) state →
-            Shows (bus_state self.new) (marked_from state.config.mode state from.number to.number) }
-        ensures copies_stay { (bus_state self.new).copies ≡ (bus_state self.old).copies }
+        ensures { LeavesCopies (λ state. marked_from state.config.mode state from.number to.number)
+            (bus_state self.old) (bus_state self.new) }
     {
         match self.mode {
             Mode::Tlr => post(&mut self.agents, to, Message::Marker { from }),
@@ -79,11 +76,8 @@ impl Bus {
     fn put_in_front(&mut self, request: Request)
         requires ready { IsReady (bus_state self.old) }
         requires raised { (agent_at (bus_state self.old).agents request.hart.number).raised ≡ Some (numbered request) }
-        ensures ready { IsReady (bus_state self.new) }
-        ensures mode { (bus_state self.new).mode ≡ (bus_state self.old).mode }
-        ensures shows { (state : ModelState) → Shows (bus_state self.old) state →
-            Shows (bus_state self.new) (placed_in_front state (numbered request)) }
-        ensures copies_stay { (bus_state self.new).copies ≡ (bus_state self.old).copies }
+        ensures { LeavesCopies (λ state. placed_in_front state (numbered request))
+            (bus_state self.old) (bus_state self.new) }
     {
         unraise(&mut self.agents, request.hart);
         self.order.in_front(request);
@@ -93,11 +87,8 @@ impl Bus {
     fn put_last(&mut self, request: Request)
         requires ready { IsReady (bus_state self.old) }
         requires raised { (agent_at (bus_state self.old).agents request.hart.number).raised ≡ Some (numbered request) }
-        ensures ready { IsReady (bus_state self.new) }
-        ensures mode { (bus_state self.new).mode ≡ (bus_state self.old).mode }
-        ensures shows { (state : ModelState) → Shows (bus_state self.old) state →
-            Shows (bus_state self.new) (placed_last state (numbered request)) }
-        ensures copies_stay { (bus_state self.new).copies ≡ (bus_state self.old).copies }
+        ensures { LeavesCopies (λ state. placed_last state (numbered request))
+            (bus_state self.old) (bus_state self.new) }
     {
         unraise(&mut self.agents, request.hart);
         self.order.append(request);
@@ -107,11 +98,8 @@ impl Bus {
     fn go_in_front(&mut self, request: Request)
         requires ready { IsReady (bus_state self.old) }
         requires raised { (agent_at (bus_state self.old).agents request.hart.number).raised ≡ Some (numbered request) }
-        ensures ready { IsReady (bus_state self.new) }
-        ensures mode { (bus_state self.new).mode ≡ (bus_state self.old).mode }
-        ensures shows { (state : ModelState) → Shows (bus_state self.old) state →
-            Shows (bus_state self.new) (before_face state (numbered request) InFront) }
-        ensures copies_stay { (bus_state self.new).copies ≡ (bus_state self.old).copies }
+        ensures { LeavesCopies (λ state. before_face state (numbered request) InFront)
+            (bus_state self.old) (bus_state self.new) }
     {
         let former = self.order.first_of(request.line);
         self.put_in_front(request);
@@ -124,11 +112,8 @@ impl Bus {
     fn go_behind(&mut self, request: Request)
         requires ready { IsReady (bus_state self.old) }
         requires raised { (agent_at (bus_state self.old).agents request.hart.number).raised ≡ Some (numbered request) }
-        ensures ready { IsReady (bus_state self.new) }
-        ensures mode { (bus_state self.new).mode ≡ (bus_state self.old).mode }
-        ensures shows { (state : ModelState) → Shows (bus_state self.old) state →
-            Shows (bus_state self.new) (before_face state (numbered request) Behind) }
-        ensures copies_stay { (bus_state self.new).copies ≡ (bus_state self.old).copies }
+        ensures { LeavesCopies (λ state. before_face state (numbered request) Behind)
+            (bus_state self.old) (bus_state self.new) }
     {
         let last = self.order.tail_of(request.line);
         self.put_last(request);
@@ -143,16 +128,12 @@ impl Bus {
         requires ready { IsReady (bus_state self.old) }
         requires raised { (agent_at (bus_state self.old).agents request.hart.number).raised ≡ Some (numbered request) }
         requires policy { DecidesIn (bus_state self.old).mode (P.beats policy.now) }
-        ensures ready { IsReady (bus_state self.new) }
-        ensures shows { (state : ModelState) → Shows (bus_state self.old) state →
-            KeepsBytes state.committed (placed state (numbered request) (place_for state (numbered request))).committed →
-            Shows (bus_state self.new) (placed state (numbered request) (place_for state (numbered request))) }
+        ensures leaves { EndsSections (λ state. placed state (numbered request) (place_for state (numbered request)))
+            (bus_state self.old) (bus_state self.new) }
         ensures losers { (state : ModelState) → Shows (bus_state self.old) state →
             result.losers ≡ order_losers state (numbered request) }
         ensures freed { (state : ModelState) → Shows (bus_state self.old) state →
             result.freed ≡ order_freed state (numbered request) }
-        ensures memory_stays { (bus_state self.new).copies.lines ≡ (bus_state self.old).copies.lines }
-        ensures told { StaysTold (bus_state self.old) (bus_state self.new) }
     {
         match self.place_for(request) {
             Place::InFront => {
@@ -184,14 +165,10 @@ impl Bus {
         requires hart_exists { hart.number < length (bus_state self.old).agents }
         requires ready { IsReady (bus_state self.old) }
         requires policy { DecidesIn (bus_state self.old).mode (P.beats policy.now) }
-        ensures ready { IsReady (bus_state self.new) }
-        ensures state { (state : ModelState) → Shows (bus_state self.old) state →
-            KeepsBytes state.committed (order_turn state hart.number).state.committed →
-            Shows (bus_state self.new) (order_turn state hart.number).state }
+        ensures leaves { EndsSections (λ state. (order_turn state hart.number).state)
+            (bus_state self.old) (bus_state self.new) }
         ensures outcome { (state : ModelState) → Shows (bus_state self.old) state →
             result ≡ (order_turn state hart.number).outcome }
-        ensures memory_stays { (bus_state self.new).copies.lines ≡ (bus_state self.old).copies.lines }
-        ensures told { StaysTold (bus_state self.old) (bus_state self.new) }
     {
         match self.agent(hart).raised() {
             Some(request) => {

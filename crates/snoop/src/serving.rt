@@ -1,6 +1,6 @@
 //! An ordered request is served, or something is in its way.
 
-ghost use Rattle.std.specs.Prelude.{◌≡◌, ◌<◌, ℕ, List, Some, length, true};
+ghost use Rattle.std.specs.Prelude.{◌≡◌, ◌<◌, Some, length, true};
 ghost use Rattle.bus_order.specs.Order.{numbered, request_of};
 ghost use Rattle.coherence.specs.Lent.{IsLentTo, LeavesHolds};
 ghost use Rattle.coherence.specs.Served.{HasLine, IsCoherent, caches_of, has_room, lines_after, shown_copies};
@@ -9,10 +9,10 @@ ghost use Rattle.el_model.specs.Serve.{Free};
 ghost use Rattle.el_model.specs.Face.{freed_if, met_if, met_losers_if};
 ghost use Rattle.el_model.specs.State.{ModelState, head_of};
 ghost use Rattle.snoop.specs.Deciding.{DecidesIn};
-ghost use Rattle.snoop.specs.LettingGo.{KeepsBytes};
+ghost use Rattle.snoop.specs.Leaving.{EndsSections, LeavesTold, MovesAndEnds};
 ghost use Rattle.snoop.specs.MainMemory.{lines_served};
 ghost use Rattle.snoop.specs.Serving.{CopiesServe, Serves};
-ghost use Rattle.snoop.specs.Shows.{IsReady, IsTold, Shows, StaysTold, Tells, bus_state, lent_copies};
+ghost use Rattle.snoop.specs.Shows.{IsReady, IsTold, Shows, bus_state, lent_copies};
 
 use crate::agents::{claim, forget};
 use crate::bus::Bus;
@@ -38,13 +38,8 @@ impl Bus {
         requires ready { IsReady (bus_state self.old) }
         requires told { IsTold pool.old (bus_state self.old) }
         requires policy { DecidesIn (bus_state self.old).mode (P.beats policy.now) }
-        ensures ready { IsReady (bus_state self.new) }
-        ensures told { (bytes : ℕ → List ℕ) →
-            Tells pool.old (bus_state self.old) bytes → Tells pool.new (bus_state self.new) bytes }
-        ensures holds { LeavesHolds pool.old pool.new }
-        ensures state { (state : ModelState) → Shows (bus_state self.old) state →
-            KeepsBytes state.committed (serving.serve_turn state hart.number).state.committed →
-            Shows (bus_state self.new) (serving.serve_turn state hart.number).state }
+        ensures leaves { MovesAndEnds (λ state. (serving.serve_turn state hart.number).state) pool.old pool.new
+            (bus_state self.old) (bus_state self.new) }
         ensures outcome { (state : ModelState) → Shows (bus_state self.old) state →
             result ≡ (serving.serve_turn state hart.number).outcome }
         ensures memory { (bus_state self.new).copies.lines ≡ lines_served pool.old (bus_state self.old) hart.number result }
@@ -61,15 +56,9 @@ impl Bus {
         requires told { IsTold pool.old (bus_state self.old) }
         requires ordered { request_of (bus_state self.old).order request.hart.number ≡ Some (numbered request) }
         requires policy { DecidesIn (bus_state self.old).mode (P.beats policy.now) }
-        ensures ready { IsReady (bus_state self.new) }
-        ensures told { (bytes : ℕ → List ℕ) →
-            Tells pool.old (bus_state self.old) bytes → Tells pool.new (bus_state self.new) bytes }
-        ensures holds { LeavesHolds pool.old pool.new }
-        ensures state { (state : ModelState) → Shows (bus_state self.old) state → KeepsBytes state.committed
-            (serving.serve_past state (numbered request)
-            (serving.obstacle_to state (numbered request))).state.committed →
-            Shows (bus_state self.new)
-            (serving.serve_past state (numbered request) (serving.obstacle_to state (numbered request))).state }
+        ensures leaves { MovesAndEnds
+            (λ state. (serving.serve_past state (numbered request) (serving.obstacle_to state (numbered request))).state)
+            pool.old pool.new (bus_state self.old) (bus_state self.new) }
         ensures outcome { (state : ModelState) → Shows (bus_state self.old) state → result
             ≡ (serving.serve_past state (numbered request) (serving.obstacle_to state (numbered request))).outcome }
         ensures memory { (bus_state self.new).copies.lines ≡ lines_served pool.old (bus_state self.old) request.hart.number result }
@@ -91,13 +80,8 @@ impl Bus {
         requires free { (state : ModelState) → Shows (bus_state self.old) state →
             serving.obstacle_to state (numbered request) ≡ Free }
         requires policy { DecidesIn (bus_state self.old).mode (P.beats policy.now) }
-        ensures ready { IsReady (bus_state self.new) }
-        ensures told { (bytes : ℕ → List ℕ) →
-            Tells pool.old (bus_state self.old) bytes → Tells pool.new (bus_state self.new) bytes }
-        ensures holds { LeavesHolds pool.old pool.new }
-        ensures state { (state : ModelState) → Shows (bus_state self.old) state →
-            KeepsBytes state.committed (serving.served_turn state (numbered request)).state.committed →
-            Shows (bus_state self.new) (serving.served_turn state (numbered request)).state }
+        ensures leaves { MovesAndEnds (λ state. (serving.served_turn state (numbered request)).state)
+            pool.old pool.new (bus_state self.old) (bus_state self.new) }
         ensures losers { (state : ModelState) → Shows (bus_state self.old) state →
             result.losers ≡ serving.serve_losers state (numbered request) }
         ensures freed { (state : ModelState) → Shows (bus_state self.old) state →
@@ -113,16 +97,12 @@ impl Bus {
     fn meet_head<P: Policy>(&mut self, line: LineAddr, policy: &P) -> Met
         requires ready { IsReady (bus_state self.old) }
         requires policy { DecidesIn (bus_state self.old).mode (P.beats policy.now) }
-        ensures ready { IsReady (bus_state self.new) }
-        ensures state { (state : ModelState) → Shows (bus_state self.old) state →
-            KeepsBytes state.committed (met_if state (head_of state line.number)).committed →
-            Shows (bus_state self.new) (met_if state (head_of state line.number)) }
+        ensures leaves { EndsSections (λ state. met_if state (head_of state line.number))
+            (bus_state self.old) (bus_state self.new) }
         ensures losers { (state : ModelState) → Shows (bus_state self.old) state →
             result.losers ≡ met_losers_if state (head_of state line.number) }
         ensures freed { (state : ModelState) → Shows (bus_state self.old) state →
             result.freed ≡ freed_if state (head_of state line.number) }
-        ensures memory_stays { (bus_state self.new).copies.lines ≡ (bus_state self.old).copies.lines }
-        ensures told { StaysTold (bus_state self.old) (bus_state self.new) }
     {
         match self.order.first_of(line) {
             Some(head) => self.meet(head, policy),
@@ -138,13 +118,9 @@ impl Bus {
         requires ordered { request_of (bus_state self.old).order request.hart.number ≡ Some (numbered request) }
         requires free { (state : ModelState) → Shows (bus_state self.old) state →
             serving.obstacle_to state (numbered request) ≡ Free }
-        ensures ready { IsReady (bus_state self.new) }
-        ensures told { (bytes : ℕ → List ℕ) →
-            Tells pool.old (bus_state self.old) bytes → Tells pool.new (bus_state self.new) bytes }
-        ensures holds { LeavesHolds pool.old pool.new }
+        ensures leaves { LeavesTold (Shows (bus_state self.old)) (λ state. serving.served state (numbered request))
+            pool.old pool.new (bus_state self.old) (bus_state self.new) }
         ensures mode { (bus_state self.new).mode ≡ (bus_state self.old).mode }
-        ensures shows { (state : ModelState) → Shows (bus_state self.old) state →
-            Shows (bus_state self.new) (serving.served state (numbered request)) }
         ensures memory { (bus_state self.new).copies.lines ≡
             lines_after request.hart.number request.line.number (lent_copies pool.old (bus_state self.old).copies) }
     {

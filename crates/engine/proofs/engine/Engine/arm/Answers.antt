@@ -9,7 +9,7 @@ use Rattle.el_model.specs.Plain.{Arms, by_plain_rule}
 use Rattle.engine.proofs.AfterArmed.{armed_in, armed_ready, arms_outcome, inside_bus, still_there}
 use Rattle.engine.proofs.Chosen.{arms_not_plain, reserved_there, reserves_next}
 use Rattle.engine.proofs.StandsOutside.{no_armed, no_live, runs}
-use Rattle.engine.proofs.Stepped.{IsNoted, set_in}
+use Rattle.engine.proofs.Stepped.{set_in}
 use Rattle.engine.proofs.Laws.Swaps.{reserve_aligned, same_reserve}
 use Rattle.engine.proofs.engine.Engine.arm.Goals as goal
 use Rattle.engine.specs.Beginning.{IsReadMarked}
@@ -22,8 +22,7 @@ use Rattle.snoop.specs.Shows.{IsReady, bus_state}
 
 pub mark_read-requires-clause-cache_exists : goal.mark_read-requires-clause-cache_exists
 mark_read-requires-clause-cache_exists c =
-    inside_bus (parts c.args.self.now) (bus_state c.note_armed.new.self) c.args.hart c.requires.some.from c.requires.some.acts c.args.word
-    (record { ready = c.note_armed.ensures.ready; copies = c.note_armed.ensures.copies_stay; shows = c.note_armed.ensures.shows })
+    inside_bus (parts c.args.self.now) (bus_state c.note_armed.new.self) c.args.hart c.requires.some.from c.requires.some.acts c.args.word c.note_armed.ensures
 
 pub mark_read-requires-clause-resident : goal.mark_read-requires-clause-resident
 mark_read-requires-clause-resident c =
@@ -32,8 +31,7 @@ mark_read-requires-clause-resident c =
     let acts = c.requires.some.acts in
     subst (λ line. is_resident (slotted_at (bus_state c.note_armed.new.self).copies.caches c.args.hart.number).residency line ≡ true)
     (sym c.line_of.ensures)
-    (still_there old (bus_state c.note_armed.new.self) c.args.hart from acts c.args.word
-    (record { ready = c.note_armed.ensures.ready; copies = c.note_armed.ensures.copies_stay; shows = c.note_armed.ensures.shows })
+    (still_there old (bus_state c.note_armed.new.self) c.args.hart from acts c.args.word c.note_armed.ensures
     (reserved_there old c.args.hart.number from c.args.action acts c.requires.action c.args.word (c.requires.arms from acts)))
 
 -- what the hart keeps is as it was
@@ -79,8 +77,7 @@ returns c =
     let h = c.args.hart.number in
     let bus = bus_state c.note_armed.new.self in
     let cache = c.mark_read.ensures.cache in
-    let noted : IsNoted old.bus bus h 1 =
-    record { ready = c.note_armed.ensures.ready; copies = c.note_armed.ensures.copies_stay; shows = c.note_armed.ensures.shows } in
+    let noted = c.note_armed.ensures in
     let marks = subst (λ line. IsReadMarked (slotted_at bus.copies.caches h) cache line) c.line_of.ensures c.mark_read.ensures.marked in
     let same = ap (λ p. p.harts) c.mark_read.ensures.new_is in
     let inside : c.from.result < length (parts c.mark_read.new.self).harts =

@@ -7,7 +7,7 @@ use Rattle.engine.proofs.ArmedRules.{elides_outcome}
 use Rattle.engine.proofs.Eliding.{agent_there, conditional_there, elided_in, marked_for, marked_ready, waits_not}
 use Rattle.engine.proofs.KeptPrivate.{keeps_private, word_line_there}
 use Rattle.engine.proofs.PrivateCalls.{armed_some, of_armed}
-use Rattle.engine.proofs.Stepped.{IsNoted, put_in}
+use Rattle.engine.proofs.Stepped.{put_in}
 use Rattle.engine.proofs.engine.Engine.elide.Goals as goal
 use Rattle.engine.specs.Acting.{sets_in}
 use Rattle.engine.specs.Beginning.{IsReadMarked}
@@ -16,6 +16,7 @@ use Rattle.hart_state.specs.Deeds.{elided_own}
 use Rattle.hart_state.specs.Own.{new_own}
 use Rattle.rv_flat.specs.FlatState.{no_hart}
 use Rattle.section_ctl.specs.State.{Reserved, armed_of}
+use Rattle.snoop.specs.Leaving.{LeavesNoted}
 use Rattle.snoop.specs.Returned.{returned}
 use Rattle.snoop.specs.Shows.{IsReady, bus_state}
 use Rattle.step_rules.specs.Actions.{numbered_swap}
@@ -55,8 +56,7 @@ open_attempt-requires-clause-hart_exists c =
     agent_there old c.args.hart (armed_of c.args.armed) (numbered_swap c.args.swap) c.requires.follows.from c.requires.follows.follows cache
     (marked_for old c.args.hart (armed_of c.args.armed) (numbered_swap c.args.swap) c.requires.follows.from c.requires.follows.follows cache
     (subst (λ line. IsReadMarked (sets_in old h) cache line) c.line_of.ensures c.mark_read.ensures.marked)) (bus_state c.note_armed.new.self)
-    (subst (λ bus. IsNoted bus (bus_state c.note_armed.new.self) h 0) (ap (λ p. p.bus) c.mark_read.ensures.new_is)
-    (record { ready = c.note_armed.ensures.ready; copies = c.note_armed.ensures.copies_stay; shows = c.note_armed.ensures.shows }))
+    (subst (λ bus. LeavesNoted h 0 bus (bus_state c.note_armed.new.self)) (ap (λ p. p.bus) c.mark_read.ensures.new_is) c.note_armed.ensures)
 
 pub open_attempt-requires-clause-no_request : goal.open_attempt-requires-clause-no_request
 open_attempt-requires-clause-no_request c =
@@ -66,8 +66,7 @@ open_attempt-requires-clause-no_request c =
     waits_not old c.args.hart (armed_of c.args.armed) (numbered_swap c.args.swap) c.requires.follows.from c.requires.follows.follows cache
     (marked_for old c.args.hart (armed_of c.args.armed) (numbered_swap c.args.swap) c.requires.follows.from c.requires.follows.follows cache
     (subst (λ line. IsReadMarked (sets_in old h) cache line) c.line_of.ensures c.mark_read.ensures.marked)) (bus_state c.note_armed.new.self)
-    (subst (λ bus. IsNoted bus (bus_state c.note_armed.new.self) h 0) (ap (λ p. p.bus) c.mark_read.ensures.new_is)
-    (record { ready = c.note_armed.ensures.ready; copies = c.note_armed.ensures.copies_stay; shows = c.note_armed.ensures.shows }))
+    (subst (λ bus. LeavesNoted h 0 bus (bus_state c.note_armed.new.self)) (ap (λ p. p.bus) c.mark_read.ensures.new_is) c.note_armed.ensures)
 
 pub unreachable-requires : goal.unreachable-requires
 unreachable-requires c =
@@ -86,8 +85,7 @@ returns c =
     let bus = bus_state c.open_attempt.new.self in
     let marks = marked_for old c.args.hart armed swap c.requires.follows.from c.requires.follows.follows cache
     (subst (λ line. IsReadMarked (sets_in old h) cache line) c.line_of.ensures c.mark_read.ensures.marked) in
-    let noted = subst (λ b. IsNoted b (bus_state c.note_armed.new.self) h 0) (ap (λ p. p.bus) c.mark_read.ensures.new_is)
-    (record { ready = c.note_armed.ensures.ready; copies = c.note_armed.ensures.copies_stay; shows = c.note_armed.ensures.shows }) in
+    let noted = subst (λ b. LeavesNoted h 0 b (bus_state c.note_armed.new.self)) (ap (λ p. p.bus) c.mark_read.ensures.new_is) c.note_armed.ensures in
     let same = ap (λ p. p.harts) c.mark_read.ensures.new_is in
     let inside : c.from.result < length mid.harts =
     omega (arith, c.from.ensures, ap length same, c.requires.follows.follows.acts.may.exists) in

@@ -4,10 +4,10 @@ use Rattle.el_model.specs.Armed.{armed_turn}
 use Rattle.engine.proofs.ArmedRules.{continues_at, continues_outcome}
 use Rattle.engine.proofs.ArmedSteps.{continued_in, continued_ready}
 use Rattle.engine.proofs.PrivateCalls.{may_run}
-use Rattle.engine.proofs.Stepped.{IsNoted}
 use Rattle.engine.proofs.engine.Engine.keep_private.Goals as goal
 use Rattle.engine.specs.Parts.{IsInState, parts}
 use Rattle.section_ctl.specs.State.{armed_of}
+use Rattle.snoop.specs.Leaving.{LeavesNoted}
 use Rattle.snoop.specs.Returned.{returned}
 use Rattle.snoop.specs.Shows.{IsReady, bus_state}
 
@@ -44,9 +44,8 @@ returns c =
     let bus = bus_state c.note_armed.new.self in
     let ran = c.run_privately.ensures in
     let noted =
-    subst (IsNoted (returned old.bus h ran.cache) bus h) c.one_more.ensures
-    (subst (λ b. IsNoted b bus h c.one_more.result) (ap (λ p. p.bus) ran.new_is)
-    (record { ready = c.note_armed.ensures.ready; copies = c.note_armed.ensures.copies_stay; shows = c.note_armed.ensures.shows })) in
+    subst (λ n. LeavesNoted h n (returned old.bus h ran.cache) bus) c.one_more.ensures
+    (subst (λ b. LeavesNoted h c.one_more.result b bus) (ap (λ p. p.bus) ran.new_is) c.note_armed.ensures) in
     record {
       ready = c.note_armed.ensures.ready;
       state = λ from follows.

@@ -37,8 +37,7 @@ returns c =
       ready = c.note_armed.ensures.ready;
       state = λ from follows.
           subst (λ list. IsInState (record old { bus = bus; harts = list }) (armed_turn from h armed).state) (sym harts)
-          (let_go_in old c.args.hart armed from follows c.clear_bits.new.self clears bus
-          (record { ready = c.note_armed.ensures.ready; copies = c.note_armed.ensures.copies_stay; shows = c.note_armed.ensures.shows }));
+          (let_go_in old c.args.hart armed from follows c.clear_bits.new.self clears bus c.note_armed.ensures);
       outcome = λ from follows. lets_go_outcome from h armed follows.rule_is;
       memory_stays = ap (λ copies. copies.lines) c.note_armed.ensures.copies_stay;
     }

@@ -12,11 +12,11 @@ returns c =
     let h = c.args.hart.number in
     let line = c.args.line in
     record {
-      ready = c.ask.ensures.ready;
+      ready = c.ask.ensures.leaves.ready;
       state = λ from may.
           subst (λ new. IsInState new (missed from h line.number c.args.need).state) (sym c.ask.ensures.rest_stays)
           (after_missed (parts c.args.self.now) (parts c.ask.new.self).bus from h line.number c.args.need may
-          c.ask.ensures.copies_stay c.ask.ensures.shows);
+          c.ask.ensures.leaves.copies_stay c.ask.ensures.leaves.shows);
       outcome = λ from may. ap (λ l. Missed l c.args.need) (sym (line_addr-of_line line));
-      memory_stays = ap (λ copies. copies.lines) c.ask.ensures.copies_stay;
+      memory_stays = ap (λ copies. copies.lines) c.ask.ensures.leaves.copies_stay;
     }

@@ -21,14 +21,23 @@ restore_by-requires-clause-armed c g inside some =
     (subst (λ freed. 1 ≤ count_in freed g)
     (ap freed_of_outcome (c.pass_to_bus-outcome.ensures.outcome c.requires.stands.state c.requires.stands.is_in)) some)
 
-pub returns-clause-state : goal.returns-clause-state
-returns-clause-state c state reached is =
-    after_bus (parts c.args.self.now) (parts c.pass_to_bus-outcome.new.self) _ state c.args.event
-    (winner_over c.pass_to_bus-outcome.result) (freed_of_outcome c.pass_to_bus-outcome.result) c.requires.no_step
-    reached is c.pass_to_bus-outcome.ensures.rest_stays refl (c.pass_to_bus-outcome.ensures.shows state reached is)
-    (c.pass_to_bus-outcome.ensures.told state reached is) c.pass_to_bus-outcome.ensures.holds c.restore_by.ensures.lent c.restore_by.ensures.kept
-    (λ g. ap (λ outcome. winner_over outcome g) (sym (c.pass_to_bus-outcome.ensures.outcome state is)))
-    (ap freed_of_outcome (c.pass_to_bus-outcome.ensures.outcome state is)) c.restore_by.ensures.restored
+pub returns : goal.returns
+returns c =
+    let old = parts c.args.self.now in
+    let passed = c.pass_to_bus-outcome.ensures in
+    let restored = c.restore_by.ensures in
+    record {
+      ready = passed.ready;
+      state = λ from reached is.
+          after_bus old (parts c.pass_to_bus-outcome.new.self) _ from c.args.event
+          (winner_over c.pass_to_bus-outcome.result) (freed_of_outcome c.pass_to_bus-outcome.result) c.requires.no_step
+          reached is passed.rest_stays refl (passed.shows from reached is)
+          (passed.told from reached is) passed.holds restored.lent restored.kept
+          (λ g. ap (λ outcome. winner_over outcome g) (sym (passed.outcome from is)))
+          (ap freed_of_outcome (passed.outcome from is)) restored.restored;
+      outcome = λ from reached is. passed.outcome from is;
+      memory = λ from reached is. passed.memory from is;
+    }
 
 pub restore_by-requires-clause-lent : goal.restore_by-requires-clause-lent
 restore_by-requires-clause-lent c =

@@ -26,20 +26,20 @@ delivers kind is serves = by (sym is ∙ serves)
 pub returns-in-Order-clause-shows : goal.returns-in-Order-clause-shows
 returns-in-Order-clause-shows c state reached is =
     shown_after (bus_state c.order.new.self) state c.args.event _ (order_is state c.args.event c.in-Order.is) reached c.requires.no_step
-    (c.order.ensures.state state is.shows)
+    (λ keeps. c.order.ensures.leaves.shows state (record { shows = is.shows; keeps = keeps }))
 
 pub returns-in-Serve-clause-shows : goal.returns-in-Serve-clause-shows
 returns-in-Serve-clause-shows c state reached is =
     shown_after (bus_state c.serve.new.self) state c.args.event _ (serve_is state c.args.event c.in-Serve.is) reached c.requires.no_step
-    (c.serve.ensures.state state is.shows)
+    (λ keeps. c.serve.ensures.leaves.shows state (record { shows = is.shows; keeps = keeps }))
 
 pub returns-in-Order-clause-memory : goal.returns-in-Order-clause-memory
 returns-in-Order-clause-memory c state is =
-    c.order.ensures.memory_stays ∙ kept_lines state c.args.event _ (orders c.args.event.kind c.in-Order.is)
+    c.order.ensures.leaves.memory_stays ∙ kept_lines state c.args.event _ (orders c.args.event.kind c.in-Order.is)
 
 pub returns-in-Deliver-clause-memory : goal.returns-in-Deliver-clause-memory
 returns-in-Deliver-clause-memory c state is =
-    c.deliver.ensures.memory_stays ∙ kept_lines state c.args.event _ (delivers c.args.event.kind c.in-Deliver.is)
+    c.deliver.ensures.leaves.memory_stays ∙ kept_lines state c.args.event _ (delivers c.args.event.kind c.in-Deliver.is)
 
 pub returns-in-Serve-clause-memory : goal.returns-in-Serve-clause-memory
 returns-in-Serve-clause-memory c state is =
@@ -55,17 +55,17 @@ serve-requires-clause-told c = record { bytes = _; tells = c.requires.stands.is_
 pub returns-in-Order-clause-told : goal.returns-in-Order-clause-told
 returns-in-Order-clause-told c state reached is =
     told_committed c.args.self.now.pool (bus_state c.order.new.self) state.committed (next state c.args.event).state.committed
-    (bytes_kept state c.args.event reached c.requires.no_step) (c.order.ensures.told _ _ is.told)
+    (bytes_kept state c.args.event reached c.requires.no_step) (c.order.ensures.leaves.told _ _ is.told)
 
 pub returns-in-Deliver-clause-told : goal.returns-in-Deliver-clause-told
 returns-in-Deliver-clause-told c state reached is =
     told_committed c.args.self.now.pool (bus_state c.deliver.new.self) state.committed (next state c.args.event).state.committed
-    (bytes_kept state c.args.event reached c.requires.no_step) (c.deliver.ensures.told _ _ is.told)
+    (bytes_kept state c.args.event reached c.requires.no_step) (c.deliver.ensures.leaves.told _ _ is.told)
 
 pub returns-in-Serve-clause-told : goal.returns-in-Serve-clause-told
 returns-in-Serve-clause-told c state reached is =
     told_committed c.serve.new.pool (bus_state c.serve.new.self) state.committed (next state c.args.event).state.committed
-    (bytes_kept state c.args.event reached c.requires.no_step) (c.serve.ensures.told _ is.told)
+    (bytes_kept state c.args.event reached c.requires.no_step) (c.serve.ensures.leaves.told _ is.told)
 
 pub returns-in-Order-clause-holds : goal.returns-in-Order-clause-holds
 returns-in-Order-clause-holds c = leaves_holds-same c.args.self.now.pool

@@ -20,18 +20,14 @@ step_is : (state : ModelState) (event : Event) → event.kind ≡ Step →
 unfolding next
 step_is state event is = ap (kind_turn state event.hart.number) is
 
-pub returns-in-Step-clause-ready : goal.returns-in-Step-clause-ready
-returns-in-Step-clause-ready c = c.step_of.ensures.ready
-
-pub returns-in-Step-clause-state : goal.returns-in-Step-clause-state
-returns-in-Step-clause-state c state reached is =
-    subst (λ t. IsInState (parts c.step_of.new.self) t.state) (sym (step_is state c.args.event c.in-Step.is))
-    (c.step_of.ensures.state state (reached, is))
-
-pub returns-in-Step-clause-outcome : goal.returns-in-Step-clause-outcome
-returns-in-Step-clause-outcome c state reached is =
-    c.step_of.ensures.outcome state (reached, is) ∙ ap (λ t. t.outcome) (sym (step_is state c.args.event c.in-Step.is))
-
-pub returns-in-Step-clause-memory : goal.returns-in-Step-clause-memory
-returns-in-Step-clause-memory c state reached is =
-    c.step_of.ensures.memory_stays ∙ kept_lines state c.args.event _ (steps c.args.event.kind c.in-Step.is)
+pub returns-in-Step : goal.returns-in-Step
+returns-in-Step c =
+    let event = c.args.event in
+    let step = c.step_of.ensures in
+    record {
+      ready = step.ready;
+      state = λ from reached is.
+          subst (λ t. IsInState (parts c.step_of.new.self) t.state) (sym (step_is from event c.in-Step.is)) (step.state from (reached, is));
+      outcome = λ from reached is. step.outcome from (reached, is) ∙ ap (λ t. t.outcome) (sym (step_is from event c.in-Step.is));
+      memory = λ from reached is. step.memory_stays ∙ kept_lines from event _ (steps event.kind c.in-Step.is);
+    }

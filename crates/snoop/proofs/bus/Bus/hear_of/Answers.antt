@@ -1,31 +1,34 @@
-use Rattle.std.proofs.Common.{◌∙◌, ap, subst, sym, if◌then◌else◌}
+-- the hart was told of the origin, and has lost its section where it loses to it
+use Rattle.std.proofs.Common.{◌∙◌, ap, refl, subst, sym, if◌then◌else◌}
 use Rattle.std.proofs.Common.{◌==◌, Some, option_map}
 use Rattle.bus_order.specs.Order.{numbered}
 use Rattle.el_model.specs.Deliver.{nobody, one_lost, told_of}
-use Rattle.el_model.specs.State.{with_hart}
-use Rattle.snoop.specs.Shows.{IsReady, Shows, bus_state}
+use Rattle.el_model.specs.State.{ModelState, with_hart}
+use Rattle.snoop.specs.Leaving.{LosesSections}
+use Rattle.snoop.specs.Shows.{bus_state}
 use Rattle.snoop.proofs.Hears.{heard_ready, heard_shows, lost_ready, lost_shows, one_loser}
+use Rattle.snoop.proofs.Leaves.{told_same}
 use Rattle.snoop.proofs.Lent.{clears_one}
 use Rattle.snoop.proofs.LosersBelow.{nobody_lost}
 use Rattle.snoop.proofs.bus.Bus.hear_of.Goals as goal
 
-pub returns-then-loses_to_origin-clause-ready : goal.returns-then-loses_to_origin-clause-ready
-returns-then-loses_to_origin-clause-ready c =
-    lost_ready (bus_state c.args.self.now) (bus_state c.lose_to.new.self) c.args.hart.number c.args.origin.number (option_map numbered c.args.request)
-    c.requires.ready c.requires.hart_exists c.lose_to.ensures
-
-pub returns-then-loses_to_origin-clause-shows : goal.returns-then-loses_to_origin-clause-shows
-returns-then-loses_to_origin-clause-shows c = λ state shows.
-    lost_shows (bus_state c.args.self.now) (bus_state c.lose_to.new.self) state c.args.hart.number c.args.origin.number (option_map numbered c.args.request)
-    shows c.requires.hart_exists (sym (c.loses_to_origin.ensures state shows) ∙ c.if-loses_to_origin.true) c.lose_to.ensures
-
-pub returns-then-loses_to_origin-clause-memory_stays : goal.returns-then-loses_to_origin-clause-memory_stays
-returns-then-loses_to_origin-clause-memory_stays c =
-    (clears_one c.args.hart.number (bus_state c.args.self.now).copies (bus_state c.lose_to.new.self).copies c.lose_to.ensures.copies).lines
-
-pub returns-then-loses_to_origin-clause-told : goal.returns-then-loses_to_origin-clause-told
-returns-then-loses_to_origin-clause-told c =
-    (clears_one c.args.hart.number (bus_state c.args.self.now).copies (bus_state c.lose_to.new.self).copies c.lose_to.ensures.copies).stays.told
+pub returns-then-loses_to_origin-clause-leaves : goal.returns-then-loses_to_origin-clause-leaves
+returns-then-loses_to_origin-clause-leaves c =
+    let old = bus_state c.args.self.now in
+    let new = bus_state c.lose_to.new.self in
+    let h = c.args.hart.number in
+    let origin = c.args.origin.number in
+    let request = option_map numbered c.args.request in
+    let is = c.requires in
+    let cleared = clears_one h old.copies new.copies c.lose_to.ensures.copies in
+    record {
+      ready = lost_ready old new h origin request is.ready is.hart_exists c.lose_to.ensures;
+      shows = λ state shows.
+          lost_shows old new state h origin request shows is.hart_exists
+          (sym (c.loses_to_origin.ensures state shows) ∙ c.if-loses_to_origin.true) c.lose_to.ensures;
+      memory_stays = cleared.lines;
+      told = cleared.stays.told;
+    }
 
 pub returns-then-loses_to_origin-clause-losers : goal.returns-then-loses_to_origin-clause-losers
 returns-then-loses_to_origin-clause-losers c = λ state shows.
@@ -34,17 +37,21 @@ returns-then-loses_to_origin-clause-losers c = λ state shows.
     ∙ ap (λ loses. if loses then one_lost c.args.hart.number c.args.origin.number else nobody)
     (sym c.if-loses_to_origin.true ∙ c.loses_to_origin.ensures state shows)
 
-pub returns-else-loses_to_origin-clause-ready : goal.returns-else-loses_to_origin-clause-ready
-returns-else-loses_to_origin-clause-ready c =
-    subst (λ agents. IsReady (record (bus_state c.args.self.now) { agents = agents })) (sym c.hear.ensures)
-    (heard_ready (bus_state c.args.self.now) c.args.hart.number c.args.origin.number c.requires.ready)
-
-pub returns-else-loses_to_origin-clause-shows : goal.returns-else-loses_to_origin-clause-shows
-returns-else-loses_to_origin-clause-shows c = λ state shows.
-    let told = with_hart state c.args.hart.number (told_of state c.args.hart.number c.args.origin.number (option_map numbered c.args.request)) in
-    subst (λ agents. Shows (record (bus_state c.args.self.now) { agents = agents }) told) (sym c.hear.ensures)
-    (heard_shows (bus_state c.args.self.now) state c.args.hart.number c.args.origin.number (option_map numbered c.args.request) shows
-    (sym (c.loses_to_origin.ensures state shows) ∙ c.if-loses_to_origin.false))
+pub returns-else-loses_to_origin-clause-leaves : goal.returns-else-loses_to_origin-clause-leaves
+returns-else-loses_to_origin-clause-leaves c =
+    let bus = bus_state c.args.self.now in
+    let h = c.args.hart.number in
+    let origin = c.args.origin.number in
+    let request = option_map numbered c.args.request in
+    let told : ModelState → ModelState = λ state. with_hart state h (told_of state h origin request) in
+    subst (λ agents. LosesSections told bus (record bus { agents = agents })) (sym c.hear.ensures)
+    (record {
+      ready = heard_ready bus h origin c.requires.ready;
+      shows = λ state shows.
+          heard_shows bus state h origin request shows (sym (c.loses_to_origin.ensures state shows) ∙ c.if-loses_to_origin.false);
+      memory_stays = refl;
+      told = told_same bus;
+    })
 
 pub returns-else-loses_to_origin-clause-losers : goal.returns-else-loses_to_origin-clause-losers
 returns-else-loses_to_origin-clause-losers c = λ state shows.

@@ -7,12 +7,20 @@ use Rattle.snoop.proofs.bus.Bus.meet_head.Goals as goal
 use Rattle.snoop.specs.LettingGo.{KeepsBytes}
 use Rattle.snoop.specs.Shows.{Shows, bus_state}
 
-pub returns-in-Some-clause-state : goal.returns-in-Some-clause-state
-returns-in-Some-clause-state g c = λ state shows keeps.
-    let head : Some (numbered c.in-Some.head) ≡ head_of state c.args.line.number =
-    c.in-Some.ensures ∙ ap (λ order. first_of order c.args.line.number) shows.order in
-    subst (λ found. Shows (bus_state c.meet.new.self) (met_if state found)) head
-    (c.meet.ensures.shows state shows (subst (λ found. KeepsBytes state.committed (met_if state found).committed) (sym head) keeps))
+pub returns-in-Some-clause-leaves : goal.returns-in-Some-clause-leaves
+returns-in-Some-clause-leaves g c =
+    let met = c.meet.ensures.leaves in
+    record {
+      ready = met.ready;
+      shows = λ state starts.
+          let head : Some (numbered c.in-Some.head) ≡ head_of state c.args.line.number =
+          c.in-Some.ensures ∙ ap (λ order. first_of order c.args.line.number) starts.shows.order in
+          let keeps = subst (λ found. KeepsBytes state.committed (met_if state found).committed) (sym head) starts.keeps in
+          subst (λ found. Shows (bus_state c.meet.new.self) (met_if state found)) head
+          (met.shows state (record { shows = starts.shows; keeps = keeps }));
+      memory_stays = met.memory_stays;
+      told = met.told;
+    }
 
 pub returns-in-Some-clause-losers : goal.returns-in-Some-clause-losers
 returns-in-Some-clause-losers g c = λ state shows.

@@ -6,9 +6,17 @@ use Rattle.el_model.specs.State.{head_of}
 use Rattle.snoop.proofs.LettingGo.{served_bytes}
 use Rattle.snoop.proofs.bus.Bus.serve_free.Goals as goal
 
-pub returns-clause-state : goal.returns-clause-state
-returns-clause-state g c = λ state shows keeps.
+pub returns-clause-leaves : goal.returns-clause-leaves
+returns-clause-leaves g c =
     let request = numbered c.args.request in
-    let after = served state request in
-    c.meet_head.ensures.state after (c.give_line.ensures.shows state shows)
-    (served_bytes state request (met_if after (head_of after request.line)).committed keeps)
+    let given = c.give_line.ensures.leaves in
+    let met = c.meet_head.ensures.leaves in
+    record {
+      ready = met.ready;
+      shows = λ state starts.
+          let after = served state request in
+          let keeps = served_bytes state request (met_if after (head_of after request.line)).committed starts.keeps in
+          met.shows after (record { shows = given.shows state starts.shows; keeps = keeps });
+      told = λ bytes tells. met.told c.give_line.new.pool bytes (given.told bytes tells);
+      holds = given.holds;
+    }

@@ -2,7 +2,8 @@
 """Proves and builds a program of this repository, its libraries side by side: build_program.py NAME.
 
 `rt run` proves one library after another, each over the proofs of those below it. Here the kit's compiler is called as the gate calls
-it: it proves a library from nothing, and reads of those below their statements alone. A library is begun once those that it stands on
+it, but for the gate's search for contracts that no call can meet: it proves a library from nothing, and reads of those below their
+statements alone. A library is begun once those that it stands on
 are built, and of these first the one with the most work on its longest way up. One that holds up all the rest is proved in as many
 processes as there are processors, and the others give way to it.
 

@@ -28,6 +28,8 @@ from graphlib import TopologicalSorter
 from pathlib import Path
 
 ROOT = Path(__file__).resolve().parent.parent
+if not shutil.which("rt"):
+    sys.exit("rt is not found: README.md names the kit that it is of")
 # `rt doc` names a page at the top of the kit.
 KIT = Path(subprocess.run(["rt", "doc"], stdout=subprocess.PIPE, text=True, check=True).stdout.strip()).parent
 CACHE = Path(os.environ.get("XDG_CACHE_HOME") or Path.home() / ".cache") / "elide"

@@ -4,8 +4,8 @@
 `rt run` proves one library after another, each over the proofs of those below it. Here the kit's compiler is called as the gate calls
 it, but for the gate's search for contracts that no call can meet: it proves a library from nothing, and reads of those below their
 statements alone. A library is begun once those that it stands on
-are built, and of these first the one with the most work on its longest way up. One that holds up all the rest is proved in as many
-processes as there are processors, and the others give way to it.
+are built, and of these first the one with the most work on its longest way up. One that holds up nearly all the rest is proved by two
+processes, and by more where processors would be idle: each process of a library beyond its first does some work again.
 
 What is built is kept in the user's cache, under a sum of all that it stands on, so it is taken as it is where nothing of that has
 changed, in other checkouts too; of each crate what was built or taken last, four times over.
@@ -37,8 +37,8 @@ KEPT_OF_EACH = 4
 PROCESSORS = len(os.sched_getaffinity(0))
 # What the proof of a library takes, in bytes: less has been seen of each.
 MEMORY_OF_ONE = 2_500_000_000
-# A library whose way up is this part of the longest one that is left holds up all that is above it.
-NEAR_LONGEST = 0.9
+# A library whose way up is this part of the longest one that is left holds up nearly all the rest.
+NEAR_LONGEST = 0.85
 # What runs, to be stopped where this script is.
 RUNNING = set()
 
@@ -80,9 +80,8 @@ class Crate:
 
     @cached_property
     def work(self):
-        """What its proof takes, in a measure of its own: most is the functions, then what is loaded first, then the lemmas."""
-        code, lemmas = (sum(it.stat().st_size for it in (self.folder / part).rglob("*.*")) for part in ("src", "proofs"))
-        return 30_000 + 8 * code + lemmas
+        """What its proof takes, as bytes of code: that of its functions, and of what is loaded first."""
+        return 5_000 + sum(it.stat().st_size for it in (self.folder / "src").rglob("*.rt"))
 
     def libraries(self):
         """The compiler's words for the libraries that the crate names, and for where those below these are found."""
@@ -98,8 +97,7 @@ class Crate:
             self.kept.touch()
             return True
         logic = ["--antt-project", KIT / "rattle" / "logic" / "antt-project.json", "--logic-built", KIT / "logic_built"]
-        # What holds up nothing gives way to what does.
-        compiler = [*["nice"] * (jobs == 1), KIT / "bin" / "rattle", "build", "--crate-name", self.name]
+        compiler = [KIT / "bin" / "rattle", "build", "--crate-name", self.name]
         with tempfile.TemporaryDirectory(dir=CACHE) as room:
             new = Path(room) / self.name
             new.mkdir()
@@ -162,10 +160,12 @@ def build_all(libraries):
         while order.is_active():
             ready = sorted([*ready, *order.get_ready()], key=ways.get)
             while ready and len(running) < at_once:
-                library = ready.pop()
                 free = PROCESSORS - sum(jobs for _, jobs in running.values())
+                if free < 1:
+                    break
+                library = ready.pop()
                 holds_up = ways[library] >= NEAR_LONGEST * max(ways[it] for it in left)
-                jobs = PROCESSORS if holds_up else max(free - len(ready), 1)
+                jobs = min(max(free - len(ready), 1 + holds_up), PROCESSORS)
                 running[pool.submit(library.build_library, jobs)] = library, jobs
             for it in wait(running, return_when=FIRST_COMPLETED).done:
                 library, _ = running.pop(it)

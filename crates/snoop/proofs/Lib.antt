@@ -10,6 +10,7 @@ mod LosersBelow
 mod Leaves
 mod AfterFate
 mod Noting
+mod OneAgent
 mod Freeing
 mod LettingGo
 mod Wanted
@@ -20,6 +21,7 @@ mod Sent
 mod Faced
 mod Unmet
 mod Placing
+mod PlacedMet
 mod AtFirst
 mod Raising
 mod Delivers

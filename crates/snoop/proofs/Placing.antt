@@ -10,6 +10,7 @@ use Rattle.mail.specs.Mailbox.{Marker, posted}
 use Rattle.snoop.proofs.Ready.{few_armed_yet, ready_agent, served_yet}
 use Rattle.snoop.proofs.Showing.{agent_other, agent_past, agent_same, count_with_agent, shows_agent}
 use Rattle.snoop.specs.Agent.{Agent, agent_at, agent_posted, with_agent}
+use Rattle.snoop.specs.Leaving.{LeavesCopies}
 use Rattle.snoop.specs.Shows.{CanBeServed, IsReady, BusState, Shows}
 
 -- a request is no more a raised one, and this is the order
@@ -67,7 +68,7 @@ other_raised bus request h raised is =
     not_both None first second = absurd (cc)
     not_both (Some other) first second = absurd (cc)
 
-pub ready_ordered : (bus : BusState) (request : Request) (order : List Request) → IsReady bus →
+ready_ordered : (bus : BusState) (request : Request) (order : List Request) → IsReady bus →
     (agent_at bus.agents request.hart).raised ≡ Some request → HasPlaced bus.order order request → IsReady (ordered_as bus request order)
 ready_ordered bus request order ready raised placed = record {
   few = omega (arith, count, ready.few);
@@ -97,7 +98,7 @@ ready_ordered bus request order ready raised placed = record {
     still h other can = served_yet bus (ordered_as bus request order) h other count (λ inside. inside) (λ room. room) can
 
 -- it is shown so where the state's order is this one
-pub shows_ordered : (bus : BusState) (state : ModelState) (request : Request) (order told : List Request) → Shows bus state → order ≡ told →
+shows_ordered : (bus : BusState) (state : ModelState) (request : Request) (order told : List Request) → Shows bus state → order ≡ told →
     Shows (ordered_as bus request order) (record (unraised state request.hart) { order = told })
 shows_ordered bus state request order told shows is =
     let quiet : Agent → Agent = λ agent. record agent { raised = None } in
@@ -116,6 +117,20 @@ shows_ordered bus state request order told shows is =
       order = is;
       memory = shown.memory;
     }
+
+-- so it is left, whichever place the request gets
+pub leaves_ordered : (places : List Request → List Request) (bus : BusState) (request : Request) →
+    ((order : List Request) → IsOneEach order → request_of order request.hart ≡ None → HasPlaced order (places order) request) →
+    IsReady bus → (agent_at bus.agents request.hart).raised ≡ Some request →
+    LeavesCopies (λ state. record (unraised state request.hart) { order = places state.order }) bus
+    (ordered_as bus request (places bus.order))
+leaves_ordered places bus request placed ready raised = record {
+  ready = ready_ordered bus request (places bus.order) ready raised
+      (placed bus.order ready.once (ready.one_request request.hart request raised));
+  mode = refl;
+  shows = λ state shows. shows_ordered bus state request (places bus.order) (places state.order) shows (ap places shows.order);
+  copies_stay = refl;
+}
 
 -- a marker that is sent
 abbrev pub with_marker : BusState → ℕ → ℕ → BusState

@@ -38,12 +38,14 @@ pub record ShowsKept (becomes : ModelState → ModelState) (bus : BusState) (sta
   pub shows : Shows bus state
   pub keeps : KeepsBytes state.committed (becomes state).committed
 
--- a call by which live sections may be lost, and one by which armed ones may be let go as well; the latter may move a line first
+-- a call that moves no line and by which live sections may be lost
 abbrev pub LosesSections : (ModelState → ModelState) → BusState → BusState → Type 0
 LosesSections becomes old new = LeavesLines (Shows old) becomes old new
 
+-- one that moves no line either, and by which armed sections may be let go as well
 abbrev pub EndsSections : (ModelState → ModelState) → BusState → BusState → Type 0
 EndsSections becomes old new = LeavesLines (ShowsKept becomes old) becomes old new
 
+-- the same of a call that may move a line first
 abbrev pub MovesAndEnds : (ModelState → ModelState) → Pooled → Pooled → BusState → BusState → Type 0
 MovesAndEnds becomes before after old new = LeavesTold (ShowsKept becomes old) becomes before after old new

@@ -20,5 +20,3 @@ pub use timeline::Timeline;
 
 #[cfg(test)]
 mod tests;
-#[cfg(test)]
-mod walks;

@@ -2,8 +2,7 @@
 use Rattle.std.proofs.Common.{◌∙◌, ap, refl}
 use Rattle.el_model.specs.Attempts.{open_attempt}
 use Rattle.el_model.specs.State.{hart_of}
-use Rattle.snoop.proofs.Ready.{ready_agent}
-use Rattle.snoop.proofs.Showing.{shows_agent}
+use Rattle.snoop.proofs.OneAgent.{leaves_agent}
 use Rattle.snoop.proofs.bus.Bus.open_attempt.Goals as goal
 use Rattle.snoop.specs.Agent.{agent_at, agent_of, agent_opened}
 use Rattle.snoop.specs.Shows.{bus_state}
@@ -12,15 +11,12 @@ pub returns : goal.returns
 returns c =
     let bus = bus_state c.args.self.now in
     let h = c.args.hart.number in
-    let agent = agent_opened bus.mode h (agent_at bus.agents h) in
-    let ready = c.requires.ready in
-    record {
-      ready = rw c.open_attempt.ensures (ready_agent bus h agent ready (λ request is. is) (ready.few_armed h));
-      mode = refl;
-      shows = λ state shows.
-          let hart = hart_of state h in
-          rw c.open_attempt.ensures
-          (shows_agent bus state h agent (open_attempt state.config.mode h hart) shows
-          (ap (agent_opened bus.mode h) (shows.agents h) ∙ ap (λ mode. agent_opened mode h (agent_of hart)) shows.mode) refl refl refl);
-      copies_stay = refl;
-    }
+    rw c.open_attempt.ensures
+    (leaves_agent bus h (agent_opened bus.mode h (agent_at bus.agents h)) (λ state. open_attempt state.config.mode h (hart_of state h))
+    c.requires.ready refl refl
+    (λ state shows. record {
+      shown = ap (agent_opened bus.mode h) (shows.agents h) ∙ ap (λ mode. agent_opened mode h (agent_of (hart_of state h))) shows.mode;
+      section_stays = refl;
+      armed_stays = refl;
+      cache_stays = refl;
+    }))

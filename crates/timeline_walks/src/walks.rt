@@ -6,7 +6,6 @@
 ghost use Rattle.std.specs.Prelude.{◌≤◌, IfOk};
 ghost use Rattle.trace_file.specs.Spelling.{IsTrace, listed};
 
-use super::*;
 use chronicle::History;
 use el_base::{Chronicled, Entry, Freed, HartId, MAX_HARTS, Outcome};
 use elf_image::{Image, load};
@@ -16,6 +15,7 @@ use schedule::{draw, drawn_at};
 use std::alloc::Global;
 use std::process::Abort;
 use std::test::Fail;
+use step_back::Timeline;
 use trace_file::{Trace, read_trace};
 use workload::{Work, build};
 

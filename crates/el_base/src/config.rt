@@ -1,5 +1,5 @@
 ghost use Rattle.std.specs.Prelude.{◌≡◌, None, IfErr, OnOk, Some};
-ghost use Rattle.el_base.specs.Config.{allows, config_fault, field_fault, usual};
+ghost use Rattle.el_base.specs.Config.{allows, config_fault, field_fault, usual, within};
 ghost use Rattle.el_base.specs.Modes.{mode_number, mode_of, mode_word};
 
 use crate::hart_id::MAX_HARTS;
@@ -115,18 +115,25 @@ impl Config {
     }
 }
 
+/// Whether a number is from `low` to `high`, both included.
+fn is_within(low: u32, high: u32, number: u32) -> bool
+    ensures { result ≡ within low high number }
+{
+    (low..=high).contains(&number)
+}
+
 impl ConfigFault {
     /// Whether the field that this fault names may have this number.
     pub fn allows(self, number: u32) -> bool
         ensures { result ≡ allows self number }
     {
         match self {
-            ConfigFault::Harts => (1..=MAX_HARTS.into()).contains(&number),
+            ConfigFault::Harts => is_within(1, MAX_HARTS.into(), number),
             ConfigFault::Sets => matches!(number, 1 | 2 | 4 | 8 | 16 | 32 | 64),
-            ConfigFault::Ways => (1..=8).contains(&number),
-            ConfigFault::Lines => (1..=32).contains(&number),
-            ConfigFault::Long => (2..=65_536).contains(&number),
-            ConfigFault::Steps => (1..=MAX_STEPS).contains(&number),
+            ConfigFault::Ways => is_within(1, 8, number),
+            ConfigFault::Lines => is_within(1, 32, number),
+            ConfigFault::Long => is_within(2, 65_536, number),
+            ConfigFault::Steps => is_within(1, MAX_STEPS, number),
         }
     }
 

@@ -118,7 +118,7 @@ impl Action {
     /// and 'A Standard Extension for Atomic Instructions'; causes as in the privileged manual's
     /// `mcause`; the order of the checks and the calls are this project's profile.)
     #[inline(always)]
-    #[tactic(auto, using(crate::proofs::Laws::Footprints::fits), unfolding(crate::specs::Action::action_of))]
+    #[tactic(auto, using(crate::proofs::Laws::Footprints::fits))]
     pub fn of(
         insn: &Insn,
         pc: u32,
@@ -130,6 +130,22 @@ impl Action {
         ensures value { result ≡ action_of insn.now pc regs.now reserved span room }
         ensures in_place { IsInPlace span room result }
         ensures footprint { IsFootprint insn.now span room (footprint result) }
+    {
+        Action::decide(insn, pc, regs, reserved, span, room)
+    }
+
+    /// What an instruction does, by its row.
+    #[inline(always)]
+    #[tactic(auto, unfolding(crate::specs::Action::action_of))]
+    fn decide(
+        insn: &Insn,
+        pc: u32,
+        regs: &Regs,
+        reserved: Option<u32>,
+        span: Span,
+        room: u32,
+    ) -> Action
+        ensures { result ≡ action_of insn.now pc regs.now reserved span room }
     {
         match *insn {
             Insn::Lui { rd, imm } => Action::Put { rd, value: imm },

@@ -79,17 +79,21 @@ line_at file place index = number_at file (line_place place index)
 abbrev pub wrong : List ℕ → ℕ → ℕ → FaultKind → Option FileFault
 wrong file place wanted kind = some_if (not (slice_index file place == wanted)) (fault_of kind place)
 
--- the four magic bytes, the version, the number of harts, and the number of stretches, which may be any
-unfoldable pub head_fault : List ℕ → Option FileFault
-head_fault file =
+-- the four magic bytes
+abbrev pub magic_fault : List ℕ → Option FileFault
+magic_fault file =
     first_of
-    (field file 4
-    (first_of
     (wrong file 0 0x45 kinds.Magic
     ∷ wrong file 1 0x4c kinds.Magic
     ∷ wrong file 2 0x43 kinds.Magic
     ∷ wrong file 3 0x54 kinds.Magic
-    ∷ []))
+    ∷ [])
+
+-- these, the version, the number of harts, and the number of stretches, which may be any
+unfoldable pub head_fault : List ℕ → Option FileFault
+head_fault file =
+    first_of
+    (field file 4 (magic_fault file)
     ∷ field file 5 (wrong file 4 1 kinds.Version)
     ∷ field file 6 (some_if (not (within 1 MAX_HARTS (harts_of file))) (fault_of kinds.Harts 5))
     ∷ field file 10 None

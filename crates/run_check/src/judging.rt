@@ -16,6 +16,7 @@ ghost use Rattle.run_check.specs.Faults.{
   line_fault,
   line_place,
   lines_place,
+  magic_fault,
   output_fault,
   output_length,
   output_place,
@@ -80,6 +81,18 @@ pub struct Counts {
     pub lines: u32,
 }
 
+/// The first four bytes, of a file that has as many.
+fn check_magic(file: &[u8]) -> Result<(), FileFault>
+    requires { 4 ≤ length file.now }
+    ensures accepted { OnOk result (magic_fault file.now ≡ None) }
+    ensures refused { IfErr result (λ fault. magic_fault file.now ≡ Some fault) }
+{
+    expect(file[0] != MAGIC[0], FaultKind::Magic, 0)?;
+    expect(file[1] != MAGIC[1], FaultKind::Magic, 1)?;
+    expect(file[2] != MAGIC[2], FaultKind::Magic, 2)?;
+    expect(file[3] != MAGIC[3], FaultKind::Magic, 3)
+}
+
 /// The fields before the stretches. Gives the number of harts.
 #[tactic(auto, unfolding(crate::specs::Faults::field, crate::specs::Faults::head_fault))]
 fn check_head(file: &[u8]) -> Result<u8, FileFault>
@@ -89,10 +102,7 @@ fn check_head(file: &[u8]) -> Result<u8, FileFault>
     ensures whole { OnOk result (10 ≤ length file.now) }
 {
     reaches(file, 4)?;
-    expect(file[0] != MAGIC[0], FaultKind::Magic, 0)?;
-    expect(file[1] != MAGIC[1], FaultKind::Magic, 1)?;
-    expect(file[2] != MAGIC[2], FaultKind::Magic, 2)?;
-    expect(file[3] != MAGIC[3], FaultKind::Magic, 3)?;
+    check_magic(file)?;
     reaches(file, 5)?;
     expect(file[4] != VERSION, FaultKind::Version, 4)?;
     reaches(file, 6)?;

@@ -92,23 +92,23 @@ class Crate:
         yield from (word for path in folders for word in ("-L", f"dependency={path}"))
 
     def build(self, made, jobs, *words):
-        """Whether the crate is proved and kept as `made`."""
+        """Has the crate proved and kept as `made`: says whether that is done now, or was before. It says nothing where it fails."""
         if self.kept.is_dir():
             self.kept.touch()
-            return True
+            return "kept"
         logic = ["--antt-project", KIT / "rattle" / "logic" / "antt-project.json", "--logic-built", KIT / "logic_built"]
         compiler = [KIT / "bin" / "rattle", "build", "--crate-name", self.name]
         with tempfile.TemporaryDirectory(dir=CACHE) as room:
             new = Path(room) / self.name
             new.mkdir()
             if not self.call(*compiler, *words, *self.libraries(), *logic, "--jobs", str(jobs), "-o", new / made):
-                return False
+                return None
             # Where another build was faster, what it made is as good.
             with suppress(OSError):
                 new.rename(self.kept)
         for it in sorted(CACHE.glob(f"{self.name}-*"), key=lambda it: -it.stat().st_mtime)[KEPT_OF_EACH:]:
             shutil.rmtree(it, ignore_errors=True)
-        return True
+        return "proved"
 
     def build_library(self, jobs):
         return self.build(self.library.name, jobs, "src/lib.rt", "--statements")
@@ -123,12 +123,13 @@ class Crate:
         return self.call(*linker, "-o", program, self.kept / code, KIT / "c" / "libos_c.a", KIT / "c" / "liblibc_c.a")
 
     def call(self, *words):
-        """Whether a command of the kit ends well. What it says is shown where it does not."""
+        """Whether a command of the kit ends well. What it says is shown where it does not, unless it was stopped here."""
         with tempfile.TemporaryFile("w+", errors="replace") as said:
             with subprocess.Popen(words, cwd=self.folder, stdin=subprocess.DEVNULL, stdout=said, stderr=subprocess.STDOUT) as process:
                 RUNNING.add(process)
-            RUNNING.remove(process)
-            if process.returncode:
+            stopped = process not in RUNNING
+            RUNNING.discard(process)
+            if process.returncode and not stopped:
                 said.seek(0)
                 print(f"{said.read()}{self.name}: not built", flush=True)
             return process.returncode == 0
@@ -170,9 +171,10 @@ def build_all(libraries):
             for it in wait(running, return_when=FIRST_COMPLETED).done:
                 library, _ = running.pop(it)
                 if not it.result():
+                    stop_running()
                     return False
                 left.remove(library)
-                print(f"{library.name}: proved, {len(libraries) - len(left)} of {len(libraries)}", flush=True)
+                print(f"{library.name}: {it.result()}, {len(libraries) - len(left)} of {len(libraries)}", flush=True)
                 order.done(library)
     return True
 
@@ -183,9 +185,13 @@ def as_many_as_fit():
     return max(min(PROCESSORS, free // MEMORY_OF_ONE), 1)
 
 
+def stop_running():
+    while RUNNING:
+        RUNNING.pop().kill()
+
+
 def stop(*_):
-    for it in [*RUNNING]:
-        it.kill()
+    stop_running()
     sys.exit(1)
 
 

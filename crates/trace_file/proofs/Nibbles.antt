@@ -238,13 +238,6 @@ losers_pass harts losers rest few below =
         let named = below h w is in
         rw (most_inside harts harts h named.0) (grind (arith, nat_tests))
 
--- losers that were gathered hart by hart
-pub losers_made : (losers : Losers) (bytes : List ℕ) (n : ℕ) → 8 ≤ n → ((h : ℕ) → h < 8 → nibble_in bytes h ≤ 8) →
-    ((h : ℕ) → beaten_by losers h ≡ (if nat_lt h n then decoded_winner (nibble_in bytes h) else None)) →
-    losers ≡ losers_in bytes
-losers_made losers bytes n all small alike =
-    losers_are losers bytes small (λ h low. alike h ∙ rw (lt-ltb h n (omega arith)) refl)
-
 -- ---- freed harts
 
 -- freed harts with the counts that the bytes say are those of the bytes
@@ -307,9 +300,3 @@ freed_pass harts freed rest below =
     by : (h : ℕ) (inside : Bool) → nat_lt h harts ≡ inside → min (count_in freed h) 15 ≤ (if inside then 15 else 0)
     by h true is = omega arith
     by h false is = let nothing = below h (ltb-false h harts is) in omega (arith, nothing)
-
--- freed harts that were gathered hart by hart
-pub freed_made : (freed : Freed) (bytes : List ℕ) (n : ℕ) → 8 ≤ n → ((h : ℕ) → h < 8 → nibble_in bytes h ≤ 15) →
-    ((h : ℕ) → count_in freed h ≡ (if nat_lt h n then nibble_in bytes h else 0)) → freed ≡ freed_in bytes
-freed_made freed bytes n all small alike =
-    freed_are freed bytes small (λ h low. alike h ∙ rw (lt-ltb h n (omega arith)) refl)

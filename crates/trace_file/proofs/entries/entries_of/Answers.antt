@@ -1,5 +1,5 @@
-use Rattle.std.proofs.Common.{◌≡◌, ℕ, ◌+◌, ◌-◌, ◌<◌, List, ◌++◌, length, ap, ◌∙◌, arith}
-use Rattle.std.proofs.lemmas.List.{length_push}
+use Rattle.std.proofs.Common.{◌≡◌, ℕ, ◌+◌, ◌-◌, ◌<◌, List, ◌++◌, length, ap, sym, ◌∙◌, arith}
+use Rattle.std.proofs.lemmas.List.{append-nil, length_push}
 use Rattle.chronicle.specs.Chronicle.{events}
 use Rattle.el_base.specs.declared.entries.Entry.{Entry}
 use Rattle.trace_file.specs.Faults.{entries_fault}
@@ -37,3 +37,17 @@ loop-preserved c =
       room = omega (arith, c.push_reserved.ensures.capacity, c.loop.invariant.room);
       as_much_room = omega (arith, c.push_reserved-in-loop.ensures.capacity, c.loop.invariant.as_much_room);
     }
+
+pub returns-clause-events : goal.returns-clause-events
+returns-clause-events c =
+    let done : 0 ≡ c.args.count - c.loop.counter = omega (arith, c.loop-test.false) in
+    sym (append-nil c.loop.made.items)
+    ∙ ap (λ (n : ℕ). c.loop.made.items ++ events (entries_in c.args.harts n c.loop.rest.now)) done
+    ∙ c.loop.invariant.events
+
+pub returns-clause-outcomes : goal.returns-clause-outcomes
+returns-clause-outcomes c =
+    let done : 0 ≡ c.args.count - c.loop.counter = omega (arith, c.loop-test.false) in
+    sym (append-nil c.loop.recorded.items)
+    ∙ ap (λ (n : ℕ). c.loop.recorded.items ++ outcomes (entries_in c.args.harts n c.loop.rest.now)) done
+    ∙ c.loop.invariant.outcomes

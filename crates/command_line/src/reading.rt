@@ -1,8 +1,9 @@
 //! What the words mean.
 
-ghost use Rattle.std.specs.Prelude.{◌≡◌, None, Some, true, IfOk, MatchResult, option_map};
+ghost use Rattle.std.specs.Prelude.{◌≡◌, ℕ, List, None, Some, true, IfOk, option_map};
 ghost use Rattle.el_base.specs.Modes.{mode_of};
-ghost use Rattle.command_line.specs.Words.{are_apart, check_of, finding_of, gen_of, is_traced, job_of, kind_of, looking_of, meaning, names_command, optional, replay_of, run_meaning, run_of, texts, turns_of};
+ghost use Rattle.command_line.specs.Simple.{HasFields};
+ghost use Rattle.command_line.specs.Words.{are_apart, check_form, check_of, find_form, finding_of, gen_form, gen_of, is_traced, job_of, kind_of, look_form, looking_of, meaning, names_command, optional, replay_form, replay_of, run_form, run_meaning, run_of, texts, turns_of};
 ghost use Rattle.command_line.specs.Numbers.{number_of};
 
 use crate::command::{Command, FindCommand, LookCommand, MAX_TURNS, ReplayCommand, RunCommand};
@@ -41,24 +42,30 @@ fn read_run(alloc: Global, words: &[String]) -> Result<Command<'_>, WordsFault>
     ensures refused { result ≡ Err WordsFault.Usage → run_of (texts words.now) ≡ None }
 {
     let given = Given::by_form(alloc, RUN, words)?;
+    run_in(&given).ok_or(WordsFault::Usage)
+}
+
+fn run_in<'a>(given: &Given<'a>) -> Option<Command<'a>>
+    ensures { (words : List (List ℕ)) → HasFields run_form words given.now → option_map meaning result ≡ run_of words }
+{
     let command = RunCommand {
-        image: given.value("image").ok_or(WordsFault::Usage)?,
-        mode: read_optional_mode(given.value("mode"))?,
-        harts: read_optional_number(given.value("harts"))?,
-        sets: read_optional_number(given.value("sets"))?,
-        ways: read_optional_number(given.value("ways"))?,
-        lines: read_optional_number(given.value("lines"))?,
-        long: read_optional_number(given.value("long"))?,
-        steps: read_optional_number(given.value("steps"))?,
-        threads: read_optional_turns(given.value("threads"))?,
+        image: given.value("image")?,
+        mode: optional_mode(given.value("mode"))?,
+        harts: optional_number(given.value("harts"))?,
+        sets: optional_number(given.value("sets"))?,
+        ways: optional_number(given.value("ways"))?,
+        lines: optional_number(given.value("lines"))?,
+        long: optional_number(given.value("long"))?,
+        steps: optional_number(given.value("steps"))?,
+        threads: optional_turns(given.value("threads"))?,
         trace: given.value("trace"),
         certificate: given.value("cert"),
         times: given.flag("times"),
     };
     if command.is_traced() && are_apart(command.trace, command.certificate) {
-        Ok(Command::Run(command))
+        Some(Command::Run(command))
     } else {
-        Err(WordsFault::Usage)
+        None
     }
 }
 
@@ -86,9 +93,15 @@ fn read_replay(alloc: Global, words: &[String]) -> Result<Command<'_>, WordsFaul
     ensures refused { result ≡ Err WordsFault.Usage → replay_of (texts words.now) ≡ None }
 {
     let given = Given::by_form(alloc, REPLAY, words)?;
-    Ok(Command::Replay(ReplayCommand {
-        image: given.value("image").ok_or(WordsFault::Usage)?,
-        trace: given.value("recorded").ok_or(WordsFault::Usage)?,
+    replay_in(&given).ok_or(WordsFault::Usage)
+}
+
+fn replay_in<'a>(given: &Given<'a>) -> Option<Command<'a>>
+    ensures { (words : List (List ℕ)) → HasFields replay_form words given.now → option_map meaning result ≡ replay_of words }
+{
+    Some(Command::Replay(ReplayCommand {
+        image: given.value("image")?,
+        trace: given.value("recorded")?,
         written: given.value("trace"),
         times: given.flag("times"),
     }))
@@ -99,12 +112,17 @@ fn read_look(alloc: Global, words: &[String]) -> Result<Command<'_>, WordsFault>
     ensures refused { result ≡ Err WordsFault.Usage → looking_of (texts words.now) ≡ None }
 {
     let given = Given::by_form(alloc, LOOK, words)?;
-    let place = given.value("place").ok_or(WordsFault::Usage)?;
-    Ok(Command::Look(LookCommand {
-        image: given.value("image").ok_or(WordsFault::Usage)?,
-        trace: given.value("trace").ok_or(WordsFault::Usage)?,
-        place: read_number(place).ok_or(WordsFault::Usage)?,
-        back: read_optional_number(given.value("back"))?.unwrap_or(0),
+    look_in(&given).ok_or(WordsFault::Usage)
+}
+
+fn look_in<'a>(given: &Given<'a>) -> Option<Command<'a>>
+    ensures { (words : List (List ℕ)) → HasFields look_form words given.now → option_map meaning result ≡ looking_of words }
+{
+    Some(Command::Look(LookCommand {
+        image: given.value("image")?,
+        trace: given.value("trace")?,
+        place: read_number(given.value("place")?)?,
+        back: optional_number(given.value("back"))?.unwrap_or(0),
     }))
 }
 
@@ -113,13 +131,17 @@ fn read_find(alloc: Global, words: &[String]) -> Result<Command<'_>, WordsFault>
     ensures refused { result ≡ Err WordsFault.Usage → finding_of (texts words.now) ≡ None }
 {
     let given = Given::by_form(alloc, FIND, words)?;
-    let hart = given.value("hart").ok_or(WordsFault::Usage)?;
-    let pc = given.value("pc").ok_or(WordsFault::Usage)?;
-    Ok(Command::Find(FindCommand {
-        image: given.value("image").ok_or(WordsFault::Usage)?,
-        trace: given.value("trace").ok_or(WordsFault::Usage)?,
-        hart: read_number(hart).ok_or(WordsFault::Usage)?,
-        pc: read_number(pc).ok_or(WordsFault::Usage)?,
+    find_in(&given).ok_or(WordsFault::Usage)
+}
+
+fn find_in<'a>(given: &Given<'a>) -> Option<Command<'a>>
+    ensures { (words : List (List ℕ)) → HasFields find_form words given.now → option_map meaning result ≡ finding_of words }
+{
+    Some(Command::Find(FindCommand {
+        image: given.value("image")?,
+        trace: given.value("trace")?,
+        hart: read_number(given.value("hart")?)?,
+        pc: read_number(given.value("pc")?)?,
     }))
 }
 
@@ -128,9 +150,15 @@ fn read_check(alloc: Global, words: &[String]) -> Result<Command<'_>, WordsFault
     ensures refused { result ≡ Err WordsFault.Usage → check_of (texts words.now) ≡ None }
 {
     let given = Given::by_form(alloc, CHECK, words)?;
-    Ok(Command::Check {
-        image: given.value("image").ok_or(WordsFault::Usage)?,
-        certificate: given.value("cert").ok_or(WordsFault::Usage)?,
+    check_in(&given).ok_or(WordsFault::Usage)
+}
+
+fn check_in<'a>(given: &Given<'a>) -> Option<Command<'a>>
+    ensures { (words : List (List ℕ)) → HasFields check_form words given.now → option_map meaning result ≡ check_of words }
+{
+    Some(Command::Check {
+        image: given.value("image")?,
+        certificate: given.value("cert")?,
     })
 }
 
@@ -139,36 +167,36 @@ fn read_gen(alloc: Global, words: &[String]) -> Result<Command<'_>, WordsFault>
     ensures refused { result ≡ Err WordsFault.Usage → gen_of (texts words.now) ≡ None }
 {
     let given = Given::by_form(alloc, GEN, words)?;
-    let kind = given.value("kind").ok_or(WordsFault::Usage)?;
-    let number = given.value("number").ok_or(WordsFault::Usage)?;
-    Ok(Command::Gen {
-        kind: read_kind(kind).ok_or(WordsFault::Usage)?,
-        number: read_number(number).ok_or(WordsFault::Usage)?,
-        file: given.value("file").ok_or(WordsFault::Usage)?,
+    gen_in(&given).ok_or(WordsFault::Usage)
+}
+
+fn gen_in<'a>(given: &Given<'a>) -> Option<Command<'a>>
+    ensures { (words : List (List ℕ)) → HasFields gen_form words given.now → option_map meaning result ≡ gen_of words }
+{
+    Some(Command::Gen {
+        kind: read_kind(given.value("kind")?)?,
+        number: read_number(given.value("number")?)?,
+        file: given.value("file")?,
     })
 }
 
 /// The number of an option, where it is given.
-fn read_optional_number(word: Option<&str>) -> Result<Option<u32>, WordsFault>
-    ensures { MatchResult result
-        (λ number. optional number_of (option_map (λ word. word.now) word.entry) ≡ Some number)
-        (λ fault. (fault ≡ WordsFault.Usage) × (optional number_of (option_map (λ word. word.now) word.entry) ≡ None)) }
+fn optional_number(word: Option<&str>) -> Option<Option<u32>>
+    ensures { result ≡ optional number_of (option_map (λ word. word.now) word.entry) }
 {
     match word {
-        Some(word) => Ok(Some(read_number(word).ok_or(WordsFault::Usage)?)),
-        None => Ok(None),
+        Some(word) => Some(Some(read_number(word)?)),
+        None => Some(None),
     }
 }
 
 /// The turns of each driver, where they are given.
-fn read_optional_turns(word: Option<&str>) -> Result<Option<u32>, WordsFault>
-    ensures { MatchResult result
-        (λ turns. optional turns_of (option_map (λ word. word.now) word.entry) ≡ Some turns)
-        (λ fault. (fault ≡ WordsFault.Usage) × (optional turns_of (option_map (λ word. word.now) word.entry) ≡ None)) }
+fn optional_turns(word: Option<&str>) -> Option<Option<u32>>
+    ensures { result ≡ optional turns_of (option_map (λ word. word.now) word.entry) }
 {
     match word {
-        Some(word) => Ok(Some(read_turns(word).ok_or(WordsFault::Usage)?)),
-        None => Ok(None),
+        Some(word) => Some(Some(read_turns(word)?)),
+        None => Some(None),
     }
 }
 
@@ -184,14 +212,12 @@ fn read_turns(word: &str) -> Option<u32>
 }
 
 /// The mode of an option, where it is given.
-fn read_optional_mode(word: Option<&str>) -> Result<Option<Mode>, WordsFault>
-    ensures { MatchResult result
-        (λ mode. optional mode_of (option_map (λ word. word.now) word.entry) ≡ Some mode)
-        (λ fault. (fault ≡ WordsFault.Usage) × (optional mode_of (option_map (λ word. word.now) word.entry) ≡ None)) }
+fn optional_mode(word: Option<&str>) -> Option<Option<Mode>>
+    ensures { result ≡ optional mode_of (option_map (λ word. word.now) word.entry) }
 {
     match word {
-        Some(word) => Ok(Some(Mode::with_word(word).ok_or(WordsFault::Usage)?)),
-        None => Ok(None),
+        Some(word) => Some(Some(Mode::with_word(word)?)),
+        None => Some(None),
     }
 }
 

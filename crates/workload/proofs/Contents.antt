@@ -1,5 +1,5 @@
 -- How long the data of a workload is, and where its number stands.
-use Rattle.std.proofs.Common.{◌≡◌, ◌<◌, ◌≤◌, ℕ, zero, suc, ◌+◌, ◌*◌, ◌^◌, List, [], ◌++◌, length, refl, arith, add-one, append_assoc, length-append, sym}
+use Rattle.std.proofs.Common.{◌≡◌, ◌<◌, ◌≤◌, ℕ, zero, suc, ◌+◌, ◌*◌, ◌^◌, List, ◌++◌, length, refl, arith, add-one, append_assoc, length-append, sym}
 use Rattle.std.proofs.lemmas.List.{append-nil, length-replicate}
 use Rattle.std.specs.Prelude.{codes}
 use Rattle.byteorder.specs.Numbers.{little_number-reads_back}

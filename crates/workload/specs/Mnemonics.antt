@@ -1,5 +1,5 @@
 -- Instructions by the names that assemblers give them, with their operands in the same order.
-use Rattle.std.specs.Prelude.{ℕ, ℤ, pos, true, false}
+use Rattle.std.specs.Prelude.{ℕ, ℤ, true, false}
 use Rattle.rv_word.specs.declared.insn.Alu.TheVariants as alu
 use Rattle.rv_word.specs.declared.insn.AmoOp.TheVariants as amo
 use Rattle.rv_word.specs.declared.insn.Insn.{Insn}

@@ -9,7 +9,7 @@ use Rattle.workload.specs.declared.work.Work.{Work}
 use Rattle.workload.specs.declared.work.Work.TheVariants.{Bank, Buckets, Counter, Locks, Overflow, Pairs}
 use Rattle.workload.specs.Mnemonics.{addi, address, li}
 use Rattle.workload.specs.Parts.{add_to_word, again, draw_line, give_lock, seed, take, take_lock}
-use Rattle.workload.specs.Putting.{here, next_label, put, ◌▸◌, ◌▹◌}
+use Rattle.workload.specs.Putting.{here, next_label, ◌▸◌, ◌▹◌}
 
 -- 100 times: take the lock, in one way or the other, and add 1 to the word
 unfoldable pub counter : Taking → Assembly → Assembly

@@ -49,8 +49,7 @@ fn balances(bytes: &mut Vec<u8>) -> Result<(), NoMemory>
     ensures { OnOk result (bytes.new.items ≡ bytes.old.items ++ contents.balances) }
 {
     bytes.extend_from_slice(&[0; 1_152])?;
-    accounts(bytes)?;
-    Ok(())
+    accounts(bytes)
 }
 
 /// The 64 accounts.

@@ -31,8 +31,7 @@ pub fn ending(program: &mut Program, words: i32, leave: Label) -> Result<(), NoM
     wait_for_all(program)?;
     sum_words(program, words)?;
     tell_sum(program)?;
-    program.jump(Zero, leave)?;
-    Ok(())
+    program.jump(Zero, leave)
 }
 
 /// Counts the hart as done.
@@ -44,8 +43,7 @@ fn say_done(program: &mut Program) -> Result<(), NoMemory>
 {
     data_address(program, T0, DONE)?;
     small(program, T1, 1)?;
-    program.put(amoadd_w_rl(Zero, T1, T0))?;
-    Ok(())
+    program.put(amoadd_w_rl(Zero, T1, T0))
 }
 
 /// Waits until all harts are done.
@@ -58,8 +56,7 @@ fn wait_for_all(program: &mut Program) -> Result<(), NoMemory>
     let wait = program.here()?;
     program.put(lw(T0, DONE, Data))?;
     program.branch(Test::Ne, T0, Harts, wait)?;
-    program.put(Insn::Fence)?;
-    Ok(())
+    program.put(Insn::Fence)
 }
 
 /// Adds so many words up.
@@ -77,8 +74,7 @@ fn sum_words(program: &mut Program, words: i32) -> Result<(), NoMemory>
     program.put(lw(T0, 0, Word))?;
     program.put(add(Sum, Sum, T0))?;
     program.put(addi(Word, Word, 64))?;
-    again(program, Left, next)?;
-    Ok(())
+    again(program, Left, next)
 }
 
 /// Puts the sum out: eight lower-case hexadecimal digits and a newline.
@@ -100,8 +96,7 @@ fn tell_sum(program: &mut Program) -> Result<(), NoMemory>
     again(program, T1, next)?;
     small(program, T2, 10)?;
     program.put(sb(T2, 0, T0))?;
-    write_text(program)?;
-    Ok(())
+    write_text(program)
 }
 
 /// The system call that writes the text.
@@ -115,6 +110,5 @@ fn write_text(program: &mut Program) -> Result<(), NoMemory>
     data_address(program, A1, TEXT)?;
     small(program, A2, 9)?;
     small(program, A7, 64)?;
-    program.put(Insn::Ecall)?;
-    Ok(())
+    program.put(Insn::Ecall)
 }

@@ -25,8 +25,7 @@ pub fn small(program: &mut Program, rd: Register, number: i32) -> Result<(), NoM
     ensures size { OnOk result (extent program.new ≡ grown (extent program.old) 1 0) }
     ensures listed { OnOk result (program.new ≡ listed.put (li rd number) program.old) }
 {
-    program.put(addi(rd, Zero, number))?;
-    Ok(())
+    program.put(addi(rd, Zero, number))
 }
 
 /// The address of a place in the data into a register.
@@ -36,8 +35,7 @@ pub fn data_address(program: &mut Program, rd: Register, place: i32) -> Result<(
     ensures size { OnOk result (extent program.new ≡ grown (extent program.old) 1 0) }
     ensures listed { OnOk result (program.new ≡ listed.put (address rd place) program.old) }
 {
-    program.put(addi(rd, Data, place))?;
-    Ok(())
+    program.put(addi(rd, Data, place))
 }
 
 /// Counts a register down by 1, and goes back to the label unless that gives 0.
@@ -49,8 +47,7 @@ pub fn again(program: &mut Program, left: Register, label: Label) -> Result<(), 
     ensures listed { OnOk result (program.new ≡ parts.again left label program.old) }
 {
     program.put(addi(left, left, -1))?;
-    program.branch(Test::Ne, left, Zero, label)?;
-    Ok(())
+    program.branch(Test::Ne, left, Zero, label)
 }
 
 /// The end of every hart: it exits with 0. Gives the label that a hart goes back to for that.
@@ -76,8 +73,7 @@ pub fn start(program: &mut Program) -> Result<(), NoMemory>
     ensures size { OnOk result (extent program.new ≡ grown (extent program.old) 1 0) }
     ensures listed { OnOk result (program.new ≡ parts.start program.old) }
 {
-    program.put(lui(Data, DATA_START))?;
-    Ok(())
+    program.put(lui(Data, DATA_START))
 }
 
 /// Takes the lock at an address: the spinlock that the RISC-V unprivileged manual gives as an example in
@@ -93,8 +89,7 @@ pub fn take_lock(program: &mut Program, lock: Register) -> Result<(), NoMemory>
     program.put(lw(T1, 0, lock))?;
     program.branch(Test::Ne, T1, Zero, held)?;
     program.put(amoswap_w_aq(T1, T0, lock))?;
-    program.branch(Test::Ne, T1, Zero, held)?;
-    Ok(())
+    program.branch(Test::Ne, T1, Zero, held)
 }
 
 /// Takes the lock at an address by a pair of LR.W and SC.W (the same chapter, 'Load-Reserved/Store-Conditional
@@ -111,8 +106,7 @@ pub fn take_lock_by_pair(program: &mut Program, lock: Register) -> Result<(), No
     program.put(lr_w(T1, lock))?;
     program.branch(Test::Ne, T1, Zero, held)?;
     program.put(sc_w(T1, T0, lock))?;
-    program.branch(Test::Ne, T1, Zero, held)?;
-    Ok(())
+    program.branch(Test::Ne, T1, Zero, held)
 }
 
 /// How a lock is taken.
@@ -143,8 +137,7 @@ pub fn give_lock(program: &mut Program, lock: Register) -> Result<(), NoMemory>
     ensures size { OnOk result (extent program.new ≡ grown (extent program.old) 1 0) }
     ensures listed { OnOk result (program.new ≡ parts.give_lock lock program.old) }
 {
-    program.put(amoswap_w_rl(Zero, Zero, lock))?;
-    Ok(())
+    program.put(amoswap_w_rl(Zero, Zero, lock))
 }
 
 /// Adds a number to the word at an address.
@@ -157,8 +150,7 @@ pub fn add_to_word(program: &mut Program, word: Register, number: i32) -> Result
 {
     program.put(lw(T0, 0, word))?;
     program.put(addi(T0, T0, number))?;
-    program.put(sw(T0, 0, word))?;
-    Ok(())
+    program.put(sw(T0, 0, word))
 }
 
 /// What a hart draws from first: the number of the workload, exclusive or the hart's number and 1 times
@@ -179,8 +171,7 @@ pub fn seed(program: &mut Program) -> Result<(), NoMemory>
     program.put(lw(T0, NUMBER, Data))?;
     program.put(xor(State, State, T0))?;
     program.put(sltiu(T0, State, 1))?;
-    program.put(add(State, State, T0))?;
-    Ok(())
+    program.put(add(State, State, T0))
 }
 
 /// Draws the next number, by Marsaglia's xorshift, of which the mask says the bits that are kept, and makes it the
@@ -200,6 +191,5 @@ pub fn draw_line(program: &mut Program, rd: Register, mask: i32) -> Result<(), N
     program.put(xor(State, State, T2))?;
     program.put(andi(rd, State, mask))?;
     program.put(slli(rd, rd, 6))?;
-    program.put(add(rd, rd, Data))?;
-    Ok(())
+    program.put(add(rd, rd, Data))
 }

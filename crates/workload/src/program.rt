@@ -51,8 +51,7 @@ impl Program {
         ensures size { OnOk result (extent self.new ≡ grown (extent self.old) 1 0) }
         ensures listed { OnOk result (self.new ≡ listed.put insn self.old) }
     {
-        self.asm.insn(insn)?;
-        Ok(())
+        self.asm.insn(insn)
     }
 
     /// A label at the next word.
@@ -83,8 +82,7 @@ impl Program {
         ensures size { OnOk result (extent self.new ≡ grown (extent self.old) 1 0) }
         ensures listed { OnOk result (self.new ≡ listed.branch test rs1 rs2 label self.old) }
     {
-        self.asm.branch(test, rs1.reg(), rs2.reg(), label)?;
-        Ok(())
+        self.asm.branch(test, rs1.reg(), rs2.reg(), label)
     }
 
     /// Jumps back to the label.
@@ -95,8 +93,7 @@ impl Program {
         ensures size { OnOk result (extent self.new ≡ grown (extent self.old) 1 0) }
         ensures listed { OnOk result (self.new ≡ listed.jump rd label self.old) }
     {
-        self.asm.jump(rd.reg(), label)?;
-        Ok(())
+        self.asm.jump(rd.reg(), label)
     }
 
     /// The words in order.

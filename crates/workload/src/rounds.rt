@@ -44,8 +44,7 @@ fn counter(program: &mut Program, taking: Taking) -> Result<(), NoMemory>
     take(program, taking, Lock)?;
     add_to_word(program, Word, 1)?;
     give_lock(program, Lock)?;
-    again(program, RoundsLeft, round)?;
-    Ok(())
+    again(program, RoundsLeft, round)
 }
 
 /// 200 times: draw two accounts, take the lock, move 1 from the one to the other.
@@ -67,8 +66,7 @@ fn bank(program: &mut Program) -> Result<(), NoMemory>
     add_to_word(program, Word, -1)?;
     add_to_word(program, OtherWord, 1)?;
     give_lock(program, Lock)?;
-    again(program, RoundsLeft, round)?;
-    Ok(())
+    again(program, RoundsLeft, round)
 }
 
 /// 200 times: draw a bucket, take its lock, add 1 to it.
@@ -87,8 +85,7 @@ fn buckets(program: &mut Program) -> Result<(), NoMemory>
     take_lock(program, Lock)?;
     add_to_word(program, Word, 1)?;
     give_lock(program, Lock)?;
-    again(program, RoundsLeft, round)?;
-    Ok(())
+    again(program, RoundsLeft, round)
 }
 
 /// 100 times: take both locks, add 1 to both words, give the locks back, the later one first.
@@ -110,8 +107,7 @@ fn locks(program: &mut Program) -> Result<(), NoMemory>
     add_to_word(program, OtherWord, 1)?;
     give_lock(program, OtherLock)?;
     give_lock(program, Lock)?;
-    again(program, RoundsLeft, round)?;
-    Ok(())
+    again(program, RoundsLeft, round)
 }
 
 /// 20 times: take the lock, add 1 to each of the words.
@@ -132,6 +128,5 @@ fn overflow(program: &mut Program) -> Result<(), NoMemory>
     program.put(addi(Word, Word, 64))?;
     again(program, Left, next)?;
     give_lock(program, Lock)?;
-    again(program, RoundsLeft, round)?;
-    Ok(())
+    again(program, RoundsLeft, round)
 }

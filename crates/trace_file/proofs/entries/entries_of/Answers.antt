@@ -1,4 +1,4 @@
-use Rattle.std.proofs.Common.{◌≡◌, ℕ, ◌+◌, ◌-◌, ◌<◌, List, ◌++◌, length, ap, sym, ◌∙◌, arith}
+use Rattle.std.proofs.Common.{◌≡◌, ℕ, ◌+◌, ◌-◌, ◌<◌, List, [], ◌++◌, length, ap, refl, sym, ◌∙◌, arith}
 use Rattle.std.proofs.lemmas.List.{append-nil, length_push}
 use Rattle.chronicle.specs.Chronicle.{events}
 use Rattle.el_base.specs.declared.entries.Entry.{Entry}
@@ -38,16 +38,19 @@ loop-preserved c =
       as_much_room = omega (arith, c.push_reserved-in-loop.ensures.capacity, c.loop.invariant.as_much_room);
     }
 
+-- with nothing left to be read, all is read
+nothing_left : {A : Type 0} (made : List A) (more : ℕ → List A) (left : ℕ) → more 0 ≡ [] → 0 ≡ left → made ≡ made ++ more left
+nothing_left made more left none done =
+    sym (append-nil made) ∙ ap (λ list. made ++ list) (sym none) ∙ ap (λ (n : ℕ). made ++ more n) done
+
 pub returns-clause-events : goal.returns-clause-events
 returns-clause-events c =
-    let done : 0 ≡ c.args.count - c.loop.counter = omega (arith, c.loop-test.false) in
-    sym (append-nil c.loop.made.items)
-    ∙ ap (λ (n : ℕ). c.loop.made.items ++ events (entries_in c.args.harts n c.loop.rest.now)) done
+    nothing_left c.loop.made.items (λ (n : ℕ). events (entries_in c.args.harts n c.loop.rest.now)) (c.args.count - c.loop.counter) refl
+    (omega (arith, c.loop-test.false))
     ∙ c.loop.invariant.events
 
 pub returns-clause-outcomes : goal.returns-clause-outcomes
 returns-clause-outcomes c =
-    let done : 0 ≡ c.args.count - c.loop.counter = omega (arith, c.loop-test.false) in
-    sym (append-nil c.loop.recorded.items)
-    ∙ ap (λ (n : ℕ). c.loop.recorded.items ++ outcomes (entries_in c.args.harts n c.loop.rest.now)) done
+    nothing_left c.loop.recorded.items (λ (n : ℕ). outcomes (entries_in c.args.harts n c.loop.rest.now)) (c.args.count - c.loop.counter)
+    refl (omega (arith, c.loop-test.false))
     ∙ c.loop.invariant.outcomes

@@ -4,8 +4,9 @@
 `rt run` proves one library after another, each over the proofs of those below it. Here the kit's compiler is called as the gate calls
 it, but for the gate's search for contracts that no call can meet: it proves a library from nothing, and reads of those below their
 statements alone. A library is begun once those that it stands on
-are built, and of these first the one with the most work on its longest way up. One that holds up nearly all the rest is proved by two
-processes, and by more where processors would be idle: each process of a library beyond its first does some work again.
+are built, and of these first the one with the most work on its longest way up. One that holds up nearly all the rest does not wait for a
+processor, and is proved by two processes where one is free. Where processors would be idle a library is proved by more: each process
+beyond the first does some work again.
 
 What is built is kept in the user's cache, under a sum of all that it stands on, so it is taken as it is where nothing of that has
 changed, in other checkouts too; of each crate what was built or taken last, four times over.
@@ -38,7 +39,9 @@ PROCESSORS = len(os.sched_getaffinity(0))
 # What the proof of a library takes, in bytes: less has been seen of each.
 MEMORY_OF_ONE = 2_500_000_000
 # A library whose way up is this part of the longest one that is left holds up nearly all the rest.
-NEAR_LONGEST = 0.85
+NEAR_LONGEST = 0.8
+# How many processes such libraries may have beyond the number of processors.
+BEYOND = 2
 # What runs, to be stopped where this script is.
 RUNNING = set()
 
@@ -162,11 +165,11 @@ def build_all(libraries):
             ready = sorted([*ready, *order.get_ready()], key=ways.get)
             while ready and len(running) < at_once:
                 free = PROCESSORS - sum(jobs for _, jobs in running.values())
-                if free < 1:
+                holds_up = ways[ready[-1]] >= NEAR_LONGEST * max(ways[it] for it in left)
+                if free + BEYOND * holds_up < 1:
                     break
                 library = ready.pop()
-                holds_up = ways[library] >= NEAR_LONGEST * max(ways[it] for it in left)
-                jobs = min(max(free - len(ready), 1 + holds_up), PROCESSORS)
+                jobs = max(1, min(2, free + 1) if holds_up else 1, min(free - len(ready), PROCESSORS))
                 running[pool.submit(library.build_library, jobs)] = library, jobs
             for it in wait(running, return_when=FIRST_COMPLETED).done:
                 library, _ = running.pop(it)
@@ -180,9 +183,9 @@ def build_all(libraries):
 
 
 def as_many_as_fit():
-    """How many libraries are proved at once: one a processor, as many as free memory holds."""
+    """How many libraries are proved at once: as many as processes may run, and as free memory holds."""
     free = next(int(it.split()[1]) << 10 for it in open("/proc/meminfo", encoding="ascii") if it.startswith("MemAvailable:"))
-    return max(min(PROCESSORS, free // MEMORY_OF_ONE), 1)
+    return max(min(PROCESSORS + BEYOND, free // MEMORY_OF_ONE), 1)
 
 
 def stop_running():

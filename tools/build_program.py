@@ -4,8 +4,9 @@
 `rt run` proves one library after another, each over the proofs of those below it. Here the kit's compiler is called as the gate calls
 it, but for the gate's search for contracts that no call can meet: it proves a library from nothing, and reads of those below their
 statements alone. A library is begun once those that it stands on
-are built, and of these first the one with the most work on its longest way up. One that holds up all the rest is proved in as many
-processes as there are processors, and the others give way to it.
+are built, and of these first the one with the most work on its longest way up. One that holds up nearly all the rest does not wait for a
+processor, and is proved by two processes where one is free. Where processors would be idle a library is proved by more: each process
+beyond the first does some work again.
 
 What is built is kept in the user's cache, under a sum of all that it stands on, so it is taken as it is where nothing of that has
 changed, in other checkouts too; of each crate what was built or taken last, four times over.
@@ -37,8 +38,10 @@ KEPT_OF_EACH = 4
 PROCESSORS = len(os.sched_getaffinity(0))
 # What the proof of a library takes, in bytes: less has been seen of each.
 MEMORY_OF_ONE = 2_500_000_000
-# A library whose way up is this part of the longest one that is left holds up all that is above it.
-NEAR_LONGEST = 0.9
+# A library whose way up is this part of the longest one that is left holds up nearly all the rest.
+NEAR_LONGEST = 0.8
+# How many processes such libraries may have beyond the number of processors.
+BEYOND = 2
 # What runs, to be stopped where this script is.
 RUNNING = set()
 
@@ -80,9 +83,8 @@ class Crate:
 
     @cached_property
     def work(self):
-        """What its proof takes, in a measure of its own: most is the functions, then what is loaded first, then the lemmas."""
-        code, lemmas = (sum(it.stat().st_size for it in (self.folder / part).rglob("*.*")) for part in ("src", "proofs"))
-        return 30_000 + 8 * code + lemmas
+        """What its proof takes, as bytes of code: that of its functions, and of what is loaded first."""
+        return 5_000 + sum(it.stat().st_size for it in (self.folder / "src").rglob("*.rt"))
 
     def libraries(self):
         """The compiler's words for the libraries that the crate names, and for where those below these are found."""
@@ -93,24 +95,23 @@ class Crate:
         yield from (word for path in folders for word in ("-L", f"dependency={path}"))
 
     def build(self, made, jobs, *words):
-        """Whether the crate is proved and kept as `made`."""
+        """Has the crate proved and kept as `made`: says whether that is done now, or was before. It says nothing where it fails."""
         if self.kept.is_dir():
             self.kept.touch()
-            return True
+            return "kept"
         logic = ["--antt-project", KIT / "rattle" / "logic" / "antt-project.json", "--logic-built", KIT / "logic_built"]
-        # What holds up nothing gives way to what does.
-        compiler = [*["nice"] * (jobs == 1), KIT / "bin" / "rattle", "build", "--crate-name", self.name]
+        compiler = [KIT / "bin" / "rattle", "build", "--crate-name", self.name]
         with tempfile.TemporaryDirectory(dir=CACHE) as room:
             new = Path(room) / self.name
             new.mkdir()
             if not self.call(*compiler, *words, *self.libraries(), *logic, "--jobs", str(jobs), "-o", new / made):
-                return False
+                return None
             # Where another build was faster, what it made is as good.
             with suppress(OSError):
                 new.rename(self.kept)
         for it in sorted(CACHE.glob(f"{self.name}-*"), key=lambda it: -it.stat().st_mtime)[KEPT_OF_EACH:]:
             shutil.rmtree(it, ignore_errors=True)
-        return True
+        return "proved"
 
     def build_library(self, jobs):
         return self.build(self.library.name, jobs, "src/lib.rt", "--statements")
@@ -125,12 +126,13 @@ class Crate:
         return self.call(*linker, "-o", program, self.kept / code, KIT / "c" / "libos_c.a", KIT / "c" / "liblibc_c.a")
 
     def call(self, *words):
-        """Whether a command of the kit ends well. What it says is shown where it does not."""
+        """Whether a command of the kit ends well. What it says is shown where it does not, unless it was stopped here."""
         with tempfile.TemporaryFile("w+", errors="replace") as said:
             with subprocess.Popen(words, cwd=self.folder, stdin=subprocess.DEVNULL, stdout=said, stderr=subprocess.STDOUT) as process:
                 RUNNING.add(process)
-            RUNNING.remove(process)
-            if process.returncode:
+            stopped = process not in RUNNING
+            RUNNING.discard(process)
+            if process.returncode and not stopped:
                 said.seek(0)
                 print(f"{said.read()}{self.name}: not built", flush=True)
             return process.returncode == 0
@@ -162,30 +164,37 @@ def build_all(libraries):
         while order.is_active():
             ready = sorted([*ready, *order.get_ready()], key=ways.get)
             while ready and len(running) < at_once:
-                library = ready.pop()
                 free = PROCESSORS - sum(jobs for _, jobs in running.values())
-                holds_up = ways[library] >= NEAR_LONGEST * max(ways[it] for it in left)
-                jobs = PROCESSORS if holds_up else max(free - len(ready), 1)
+                holds_up = ways[ready[-1]] >= NEAR_LONGEST * max(ways[it] for it in left)
+                if free + BEYOND * holds_up < 1:
+                    break
+                library = ready.pop()
+                jobs = max(1, min(2, free + 1) if holds_up else 1, min(free - len(ready), PROCESSORS))
                 running[pool.submit(library.build_library, jobs)] = library, jobs
             for it in wait(running, return_when=FIRST_COMPLETED).done:
                 library, _ = running.pop(it)
                 if not it.result():
+                    stop_running()
                     return False
                 left.remove(library)
-                print(f"{library.name}: proved, {len(libraries) - len(left)} of {len(libraries)}", flush=True)
+                print(f"{library.name}: {it.result()}, {len(libraries) - len(left)} of {len(libraries)}", flush=True)
                 order.done(library)
     return True
 
 
 def as_many_as_fit():
-    """How many libraries are proved at once: one a processor, as many as free memory holds."""
+    """How many libraries are proved at once: as many as processes may run, and as free memory holds."""
     free = next(int(it.split()[1]) << 10 for it in open("/proc/meminfo", encoding="ascii") if it.startswith("MemAvailable:"))
-    return max(min(PROCESSORS, free // MEMORY_OF_ONE), 1)
+    return max(min(PROCESSORS + BEYOND, free // MEMORY_OF_ONE), 1)
+
+
+def stop_running():
+    while RUNNING:
+        RUNNING.pop().kill()
 
 
 def stop(*_):
-    for it in [*RUNNING]:
-        it.kill()
+    stop_running()
     sys.exit(1)
 
 

@@ -3,10 +3,9 @@
 
 `rt run` proves one library after another, each over the proofs of those below it. Here the kit's compiler is called as the gate calls
 it, but for the gate's search for contracts that no call can meet: it proves a library from nothing, and reads of those below their
-statements alone. A library is begun once those that it stands on
-are built, and of these first the one with the most work on its longest way up. One that holds up nearly all the rest does not wait for a
-processor, and is proved by two processes where one is free. Where processors would be idle a library is proved by more: each process
-beyond the first does some work again.
+statements alone. A library is begun once those that it stands on are built, and of these first the one with the most work on its
+longest way up. One that holds up nearly all the rest does not wait for a processor, and is proved by two processes where one is free.
+Where processors would be idle a library is proved by more: each process beyond the first does some work again.
 
 What is built is kept in the user's cache, under a sum of all that it stands on, so it is taken as it is where nothing of that has
 changed, in other checkouts too; of each crate what was built or taken last, four times over.

@@ -1,8 +1,10 @@
 -- The words of the order as std's words on the list of requests that the code keeps.
-use Rattle.std.proofs.Common.{◌≡◌, ℕ, ◌+◌, ◌≤◌, ◌==◌, not, Bool, true, false, cond, List, [], ◌∷◌, length, map, reverse, Some, None, refl, ap, sym, ◌∙◌, one-add, arith}
+use Rattle.std.proofs.Common.{◌≡◌, ℕ, ◌+◌, ◌≤◌, ◌==◌, not, Bool, true, false, cond, List, [], ◌∷◌, length, map, reverse, Some, None, refl, ap, sym}
+use Rattle.std.proofs.Common.{◌∙◌, one-add, arith}
 use Rattle.std.specs.List.{find, insert, remove, position, position_or_len}
 use Rattle.std.specs.Option.{option_map, unwrap_or}
-use Rattle.el_base.proofs.Laws.ListLaws.{find_of_map, prefix_of_map, insert_of_map, remove_of_map, reverse_of_map, place_or_length, place_within, place_by_position, find_by_no_position}
+use Rattle.el_base.proofs.Laws.ListLaws.{find_of_map, prefix_of_map, insert_of_map, remove_of_map, reverse_of_map, place_or_length, place_within}
+use Rattle.el_base.proofs.Laws.ListLaws.{place_by_position, find_by_no_position}
 use Rattle.std.proofs.lemmas.Bool.Decides.{nat_tests}
 use Rattle.bus_order.proofs.Words.{first_of_find, request_of_find, tail_of_find}
 use Rattle.bus_order.proofs.Laws.Orders.{one_each_rest, alone_in_front, removed_absent}

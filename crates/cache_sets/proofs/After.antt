@@ -14,10 +14,12 @@ use Rattle.cache_sets.specs.declared.set.Set.{Set}
 use Rattle.residency.specs.Cache.{is_resident, marked, without_line, write_bits_of}
 use Rattle.cache_sets.specs.Calls.{IsLettered, IsMarked, IsTouched, IsWithout}
 use Rattle.residency.specs.Keyed.{changed, found, fronted, without}
-use Rattle.cache_sets.specs.Kept.{HasRoom, IsGivenBack, IsSound, CacheStands, lettered_way, line_at, lines_of, marked_way, number_of, residency_of, set_at, shown_cache, with_lines, with_way}
+use Rattle.cache_sets.specs.Kept.{HasRoom, IsGivenBack, IsSound, CacheStands, lettered_way, line_at, lines_of, marked_way, number_of, residency_of}
+use Rattle.cache_sets.specs.Kept.{set_at, shown_cache, with_lines, with_way}
 use Rattle.residency.specs.Cache.{marks_of}
 use Rattle.cache_sets.specs.Slotted.{IsLent, Slotted, lent}
-use Rattle.cache_sets.proofs.Changes.{is_lettered, is_marked, is_touched, slots-lettered, slots-marked, slots-touched, some, sound-lettered, sound-marked, sound-touched, sound-without}
+use Rattle.cache_sets.proofs.Changes.{is_lettered, is_marked, is_touched, slots-lettered, slots-marked, slots-touched, some, sound-lettered}
+use Rattle.cache_sets.proofs.Changes.{sound-marked, sound-touched, sound-without}
 use Rattle.cache_sets.proofs.Drops.{is_dropped, leaves-dropped, lent-dropped}
 use Rattle.cache_sets.proofs.Loans.{resident-at}
 use Rattle.cache_sets.proofs.Reached.{Reaches, lines-after, lines-reached, room-after}

@@ -1,5 +1,6 @@
 -- A line is touched, its way changes, or it leaves: the cache after it.
-use Rattle.std.proofs.Common.{◌≡◌, ◌≢◌, ℕ, ◌≤◌, ◌<◌, false, ltb, List, ◌∷◌, length, map, Option, None, Some, option_map, refl, ap, sym, subst, inl, inr, ◌∙◌, arith}
+use Rattle.std.proofs.Common.{◌≡◌, ◌≢◌, ℕ, ◌≤◌, ◌<◌, false, ltb, List, ◌∷◌, length, map, Option, None, Some, option_map, refl, ap, sym, subst, inl}
+use Rattle.std.proofs.Common.{inr, ◌∙◌, arith}
 use Rattle.std.specs.Option.{option_map_or}
 use Rattle.std.proofs.lemmas.Bool.{cases_eq}
 use Rattle.std.proofs.lemmas.Bool.Decides.{nat_tests}
@@ -13,16 +14,19 @@ use Rattle.residency.specs.Cache.{lettered, marked, set_of, touched, with_set, w
 use Rattle.cache_sets.specs.Cached.{Copy, copy_in, copy_with_letter}
 use Rattle.cache_sets.specs.Calls.{IsLettered, IsMarked, IsTouched, IsWithout}
 use Rattle.residency.specs.Keyed.{changed, count_of, found, fronted, without}
-use Rattle.cache_sets.specs.Kept.{IsSound, lettered_way, line_at, marked_way, number_of, residency_of, set_at, shown_cache, shown_line, shown_way, total, with_lines, with_way}
+use Rattle.cache_sets.specs.Kept.{IsSound, lettered_way, line_at, marked_way, number_of, residency_of, set_at, shown_cache, shown_line, shown_way}
+use Rattle.cache_sets.specs.Kept.{total, with_lines, with_way}
 use Rattle.residency.specs.Cache.{marks_of}
 use Rattle.residency.specs.Residency.{Way, changed_in, dropped, to_front, touched_in, with_bit, with_letter}
 use Rattle.cache_sets.specs.Slotted.{lent}
 use Rattle.residency.specs.WellFormed.{IsWellFormed}
 use Rattle.cache_sets.proofs.BitLemmas.{named-with_need, shown_marked}
-use Rattle.residency.proofs.Laws.KeyedLemmas.{changed-map, found-changed_other, found-changed_same, found-fronted, found-without_other, found-without_same, without-map}
+use Rattle.residency.proofs.Laws.KeyedLemmas.{changed-map, found-changed_other, found-changed_same, found-fronted, found-without_other}
+use Rattle.residency.proofs.Laws.KeyedLemmas.{found-without_same, without-map}
 use Rattle.residency.proofs.Laws.MarkLemmas.{mark_of, one_if, total-lettered, total-touched, write_of}
 use Rattle.residency.proofs.Laws.ResidencyLemmas.{changed_in-changed, dropped-without, line_of}
-use Rattle.cache_sets.proofs.Shown.{copy_of, copy_shown, length-with, line_at-with_other, line_at-with_same, once_at, residency-with, set_of_shown, some_set, way_in_shown}
+use Rattle.cache_sets.proofs.Shown.{copy_of, copy_shown, length-with, line_at-with_other, line_at-with_same, once_at, residency-with, set_of_shown}
+use Rattle.cache_sets.proofs.Shown.{some_set, way_in_shown}
 use Rattle.cache_sets.proofs.Slots.{SameSlots}
 use Rattle.cache_sets.proofs.Totals.{part-at, total-changed, total-fronted, total-kept, total-without}
 use Rattle.residency.proofs.Laws.WellFormedLemmas.{well_formed-lettered, well_formed-marked, well_formed-touched, well_formed-without_line}

@@ -1,6 +1,7 @@
 -- A step that changes the way of every line of a cache, and leaves no bits.
 use Rattle.std.specs.Int.{IsPowerOfTwo}
-use Rattle.std.proofs.Common.{◌≡◌, ℕ, suc, ◌%◌, ◌<◌, Bool, true, false, cond, ltb, List, [], ◌∷◌, length, map, get_or, Option, None, Some, option_map, refl, ap, sym, subst, ◌∙◌, arith}
+use Rattle.std.proofs.Common.{◌≡◌, ℕ, suc, ◌%◌, ◌<◌, Bool, true, false, cond, ltb, List, [], ◌∷◌, length, map, get_or, Option, None, Some, option_map}
+use Rattle.std.proofs.Common.{refl, ap, sym, subst, ◌∙◌, arith}
 use Rattle.std.specs.Prelude.{Vec}
 use Rattle.std.specs.Vec.{with_items}
 use Rattle.std.specs.declared.alloc.Global.{Global}
@@ -16,7 +17,8 @@ use Rattle.residency.specs.Cache.{bit_in, cleared, committed, committed_way as s
 use Rattle.cache_sets.specs.Cached.{copy_in, copy_with_letter}
 use Rattle.cache_sets.specs.Calls.{IsCleared, IsCommitted}
 use Rattle.residency.specs.Keyed.{found}
-use Rattle.cache_sets.specs.Kept.{AreChanged, HaveRoom, IsSound, CacheStands, cleared_way, committed_way, line_at, lines_of, number_of, residency_of, set_at, shown_cache, shown_line, shown_way, with_way}
+use Rattle.cache_sets.specs.Kept.{AreChanged, HaveRoom, IsSound, CacheStands, cleared_way, committed_way, line_at, lines_of, number_of, residency_of}
+use Rattle.cache_sets.specs.Kept.{set_at, shown_cache, shown_line, shown_way, with_way}
 use Rattle.residency.specs.Cache.{marks_of}
 use Rattle.residency.specs.Residency.{Way, without_bits}
 use Rattle.cache_sets.specs.Slotted.{IsLent, Slotted, lent}

@@ -1,5 +1,6 @@
 -- The fields of a cache as a line comes, and after it came.
-use Rattle.std.proofs.Common.{◌≡◌, ◌≢◌, ℕ, ◌+◌, ◌*◌, ◌≤◌, ◌<◌, true, false, not, ltb, List, [], ◌∷◌, length, map, Option, None, Some, option_map, is_some, vec_capacity, refl, ap, sym, subst, ◌∙◌, arith}
+use Rattle.std.proofs.Common.{◌≡◌, ◌≢◌, ℕ, ◌+◌, ◌*◌, ◌≤◌, ◌<◌, true, false, not, ltb, List, [], ◌∷◌, length, map, Option, None, Some, option_map}
+use Rattle.std.proofs.Common.{is_some, vec_capacity, refl, ap, sym, subst, ◌∙◌, arith}
 use Rattle.std.specs.Prelude.{◌↔◌, IsNone, slice_set}
 use Rattle.std.specs.List.{sum_by}
 use Rattle.std.specs.Option.{option_map_or}
@@ -22,7 +23,8 @@ use Rattle.cache_sets.specs.declared.way.Way as known
 use Rattle.residency.specs.Cache.{is_resident, room_of, set_of, way_of}
 use Rattle.cache_sets.specs.Calls.{IsFilledWith}
 use Rattle.residency.specs.Keyed.{found}
-use Rattle.cache_sets.specs.Kept.{HasRoom, IsSound, IsVacated, MakesRoom, MayVacate, CacheStands, left_by, lines_of, new_way, number_of, residency_of, set_at, shown_cache, shown_line, total}
+use Rattle.cache_sets.specs.Kept.{HasRoom, IsSound, IsVacated, MakesRoom, MayVacate, CacheStands, left_by, lines_of, new_way, number_of, residency_of}
+use Rattle.cache_sets.specs.Kept.{set_at, shown_cache, shown_line, total}
 use Rattle.residency.specs.Residency.{Way, evicted_in, room_in, way_in}
 use Rattle.cache_sets.specs.Slotted.{IsLent, Slotted, lent}
 use Rattle.cache_sets.proofs.After.{after_is, between, stands-after}

@@ -1,5 +1,6 @@
 -- What a cache shows of a line by its slot, and the cache after the bytes of a slot of it were written.
-use Rattle.std.proofs.Common.{◌≡◌, ◌≢◌, ℕ, zero, suc, ◌%◌, ◌<◌, true, cond, eqb, List, [], ◌∷◌, length, map, get_or, Option, None, Some, option_map, is_some, refl, ap, sym, subst, inl, inr, ◌∙◌, arith}
+use Rattle.std.proofs.Common.{◌≡◌, ◌≢◌, ℕ, zero, suc, ◌%◌, ◌<◌, true, cond, eqb, List, [], ◌∷◌, length, map, get_or, Option, None, Some, option_map}
+use Rattle.std.proofs.Common.{is_some, refl, ap, sym, subst, inl, inr, ◌∙◌, arith}
 use Rattle.std.specs.Option.{option_map_or}
 use Rattle.std.specs.Prelude.{slice_index, slice_set}
 use Rattle.std.proofs.lemmas.Bool.{cases_eq}

@@ -1,5 +1,6 @@
 -- What the lines of a cache show: the residency, each line's way and slot, and the copies that a pool's bytes make of them.
-use Rattle.std.proofs.Common.{◌≡◌, ◌≢◌, ℕ, zero, suc, ◌+◌, ◌%◌, ◌≤◌, ◌<◌, cond, eqb, List, [], ◌∷◌, length, map, get_or, Option, None, Some, option_map, is_some, refl, ap, sym, inl, inr, ◌∙◌, arith}
+use Rattle.std.proofs.Common.{◌≡◌, ◌≢◌, ℕ, zero, suc, ◌+◌, ◌%◌, ◌≤◌, ◌<◌, cond, eqb, List, [], ◌∷◌, length, map, get_or, Option, None, Some}
+use Rattle.std.proofs.Common.{option_map, is_some, refl, ap, sym, inl, inr, ◌∙◌, arith}
 use Rattle.std.specs.Option.{option_map_or}
 use Rattle.std.specs.List.{position, sum_by}
 use Rattle.std.specs.Prelude.{slice_set}

@@ -2,7 +2,8 @@ ghost use Rattle.std.specs.Prelude.{◌≡◌, ℕ, ◌≤◌, ◌<◌, ◌==◌
 ghost use Rattle.std.specs.List.{remove};
 ghost use Rattle.cache_sets.specs.declared.line.Line as code;
 ghost use Rattle.residency.specs.Keyed.{changed, count_of, found, fronted, without};
-ghost use Rattle.cache_sets.specs.Kept.{HasRoom, IsEmpty, IsVictimPlace, MakesRoom, cleared_way, committed_way, lettered_way, marked_way, number_of, shown_set, with_way};
+ghost use Rattle.cache_sets.specs.Kept.{HasRoom, IsEmpty, IsVictimPlace, MakesRoom, cleared_way, committed_way, lettered_way, marked_way, number_of};
+ghost use Rattle.cache_sets.specs.Kept.{shown_set, with_way};
 ghost use Rattle.residency.specs.Residency.{evicted_in, has_unmarked, room_in, way_in};
 
 use crate::line::Line;

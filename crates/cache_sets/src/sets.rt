@@ -12,7 +12,8 @@ ghost use Rattle.residency.specs.Cache.{evicted_by, has_marks, is_resident, lett
 ghost use Rattle.cache_sets.specs.Cached.{bytes_of};
 ghost use Rattle.cache_sets.specs.Calls.{IsCached, IsCleared, IsCommitted, IsFilledWith, IsLettered, IsMarked, IsTouched, IsWithout};
 ghost use Rattle.cache_sets.specs.declared.line.Line as code;
-ghost use Rattle.cache_sets.specs.Kept.{AreChanged, AreEmpty, IsGivenBack, IsVacated, MayVacate, cleared_way, committed_way, line_at, lines_of, set_at, slot_in_use};
+ghost use Rattle.cache_sets.specs.Kept.{AreChanged, AreEmpty, IsGivenBack, IsVacated, MayVacate, cleared_way, committed_way, line_at, lines_of};
+ghost use Rattle.cache_sets.specs.Kept.{set_at, slot_in_use};
 ghost use Rattle.cache_sets.specs.Slotted.{IsLent, IsWrittenIn, empty_slotted, lent, slot_of};
 ghost use Rattle.std.specs.Borrow.{sem};
 ghost use Rattle.std.specs.Int.{IsPowerOfTwo};

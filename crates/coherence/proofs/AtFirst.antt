@@ -1,5 +1,6 @@
 -- before the first event no cache has a line, and main memory has the program's bytes
-use Rattle.std.proofs.Common.{◌≡◌, ◌∙◌, ◌<◌, ◌≤◌, ◌+◌, ◌-◌, ◌/◌, ◌%◌, arith, zero-add, ℕ, zero, suc, false, List, [], length, map, replicate, Option, None, is_some, ap, refl, sym}
+use Rattle.std.proofs.Common.{◌≡◌, ◌∙◌, ◌<◌, ◌≤◌, ◌+◌, ◌-◌, ◌/◌, ◌%◌, arith, zero-add, ℕ, zero, suc, false, List, [], length, map, replicate, Option}
+use Rattle.std.proofs.Common.{None, is_some, ap, refl, sym}
 use Rattle.std.specs.List.{range_with_len}
 use Rattle.std.specs.Prelude.{slice_index_or}
 use Rattle.std.proofs.lemmas.List.FromFn.{get_or-map-range_with_len, length-map-range_with_len}

@@ -1,5 +1,6 @@
 -- a line is fetched: the others give it up, it comes into the hart's cache, and the line that leaves is written back
-use Rattle.std.proofs.Common.{◌≡◌, ◌≢◌, ◌∙◌, ◌<◌, ◌≤◌, ◌+◌, arith, ℕ, Bool, true, false, not, ◌==◌, ◌&&◌, ◌||◌, suc, zero, List, [], ◌∷◌, length, Option, None, Some, option_map, ap, refl, sym, subst, inl, inr, if◌then◌else◌}
+use Rattle.std.proofs.Common.{◌≡◌, ◌≢◌, ◌∙◌, ◌<◌, ◌≤◌, ◌+◌, arith, ℕ, Bool, true, false, not, ◌==◌, ◌&&◌, ◌||◌, suc, zero, List, [], ◌∷◌, length}
+use Rattle.std.proofs.Common.{Option, None, Some, option_map, ap, refl, sym, subst, inl, inr, if◌then◌else◌}
 use Rattle.std.specs.Prelude.{slice_set}
 use Rattle.std.proofs.lemmas.Bool.{cases_eq, cases_lt}
 use Rattle.std.proofs.lemmas.Bool.Decides.{nat_tests}

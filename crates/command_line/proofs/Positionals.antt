@@ -10,7 +10,8 @@ use Rattle.command_line.specs.Pieces.{Piece, Positional, Plain, and_then}
 use Rattle.command_line.proofs.Looks.{LooksLike}
 use Rattle.command_line.proofs.Rules.{IsKnown, Reads, built_rules, next_place, single}
 use Rattle.command_line.proofs.Uses.{Fails, IsKnownLast, Repeats, Settles, holds, with_last}
-use Rattle.command_line.proofs.Walking.{Continues, Gives, after_word, at, built_shape, by_settling, gives_as, goes_on, named, next_word, stops, turn, word_too_many}
+use Rattle.command_line.proofs.Walking.{Continues, Gives, after_word, at, built_shape, by_settling, gives_as, goes_on, named, next_word, stops, turn}
+use Rattle.command_line.proofs.Walking.{word_too_many}
 
 -- the word goes to a positional, whatever it looks like
 pub record IsWord (form : Form) (held : Held) (place : ℕ) (trailing : Bool) (word : Text) : Type 0 where

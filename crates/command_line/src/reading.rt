@@ -3,7 +3,9 @@
 ghost use Rattle.std.specs.Prelude.{◌≡◌, ℕ, List, None, Some, true, IfOk, option_map};
 ghost use Rattle.el_base.specs.Modes.{mode_of};
 ghost use Rattle.command_line.specs.Simple.{HasFields};
-ghost use Rattle.command_line.specs.Words.{are_apart, check_form, check_of, find_form, finding_of, gen_form, gen_of, is_traced, job_of, kind_of, look_form, looking_of, meaning, names_command, optional, replay_form, replay_of, run_form, run_meaning, run_of, texts, turns_of};
+ghost use Rattle.command_line.specs.Words.{are_apart, check_form, check_of, find_form, finding_of, gen_form, gen_of, is_traced, job_of, kind_of};
+ghost use Rattle.command_line.specs.Words.{look_form, looking_of, meaning, names_command, optional, replay_form, replay_of, run_form, run_meaning};
+ghost use Rattle.command_line.specs.Words.{run_of, texts, turns_of};
 ghost use Rattle.command_line.specs.Numbers.{number_of};
 
 use crate::command::{Command, FindCommand, LookCommand, MAX_TURNS, ReplayCommand, RunCommand};

@@ -1,5 +1,6 @@
 -- drivers that have no more turn to make, and what that says of the machine after all of them
-use Rattle.std.proofs.Common.{◌≡◌, ℕ, zero, suc, ◌+◌, ◌-◌, ◌<◌, ◌≤◌, ◌⊎◌, true, false, List, [], ◌∷◌, ◌++◌, length, drop, take, sym, refl, ap, ◌∙◌, subst, inl, inr, arith, length-append}
+use Rattle.std.proofs.Common.{◌≡◌, ℕ, zero, suc, ◌+◌, ◌-◌, ◌<◌, ◌≤◌, ◌⊎◌, true, false, List, [], ◌∷◌, ◌++◌, length, drop, take, sym, refl, ap, ◌∙◌}
+use Rattle.std.proofs.Common.{subst, inl, inr, arith, length-append}
 use Rattle.std.proofs.Math.Seq.{take-append_seam}
 use Rattle.std.proofs.lemmas.List.{append-nil, length-drop, length-map}
 use Rattle.std.proofs.lemmas.List.Elements.{filter-append}
@@ -11,7 +12,8 @@ use Rattle.bus_lock.proofs.Laws.Beginnings.{prefix_length, prefix_onward, prefix
 use Rattle.chronicle.specs.Chronicle.{events}
 use Rattle.drive.proofs.Turning.{before_on, made_on}
 use Rattle.drive.specs.Drivers.{MakesTurns}
-use Rattle.drive.specs.Turns.{GoesByTurns, HasEnded, IsAtItsEnd, IsRound, RoundStory, WasEnded, WereEnded, before_of, made_in, of_hart, round_at, round_opening, turns_of}
+use Rattle.drive.specs.Turns.{GoesByTurns, HasEnded, IsAtItsEnd, IsRound, RoundStory, WasEnded, WereEnded, before_of, made_in, of_hart, round_at}
+use Rattle.drive.specs.Turns.{round_opening, turns_of}
 use Rattle.el_base.specs.declared.config.Config.{Config}
 use Rattle.el_base.specs.declared.entries.Entry.{Entry}
 use Rattle.el_base.specs.declared.events.Event.{Event}

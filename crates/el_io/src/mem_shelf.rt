@@ -1,6 +1,7 @@
 ghost use Rattle.std.specs.Prelude.{◌≡◌, ℕ, List, [], length, Some, IfOk, OnOk, OnErr};
 ghost use Rattle.el_io.specs.Files.{file_given};
-ghost use Rattle.el_io.specs.MemShelf.{file as file_told, contents as contents_told, plan as plan_of, failed_calls, SameFiles, OneFileWritten, ReadAnswers, WriteAnswers, Counts};
+ghost use Rattle.el_io.specs.MemShelf.{file as file_told, contents as contents_told, plan as plan_of, failed_calls, SameFiles, OneFileWritten};
+ghost use Rattle.el_io.specs.MemShelf.{ReadAnswers, WriteAnswers, Counts};
 ghost use Rattle.el_io.specs.Shelf.{KeepsOthers, Records};
 
 use crate::failure_list::FailureList;

@@ -7,7 +7,8 @@ use Rattle.residency.proofs.Laws.Unmarked.{unmarked-cleared, unmarked-empty, unm
 use Rattle.el_base.specs.declared.config.Mode.{Mode}
 use Rattle.el_base.specs.declared.config.Mode.TheVariants.{Plain, Sle, Tlr}
 use Rattle.el_base.specs.declared.events.Event.{Event}
-use Rattle.el_model.specs.Deed.{Arms, Begins, Buffers, Commits, Continues, Deed, DoesWhere, Elides, IsArmed, IsInside, LetsGo, Misses, Rests, RollsBack, Runs, Waits, hart_after}
+use Rattle.el_model.specs.Deed.{Arms, Begins, Buffers, Commits, Continues, Deed, DoesWhere, Elides, IsArmed, IsInside, LetsGo, Misses, Rests}
+use Rattle.el_model.specs.Deed.{RollsBack, Runs, Waits, hart_after}
 use Rattle.el_model.specs.BusEvent.{Becomes, IsAbsent, IsLetGo, IsSent, LosesIt, Nothing, Places, Sees, Serves, Start, Starts, Takes, having_taken, started}
 use Rattle.el_model.specs.Next.{next, step_turn}
 use Rattle.el_model.specs.Plain.{after_candidate, candidate_of, if_candidate, may_elide, watched}

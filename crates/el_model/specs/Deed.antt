@@ -15,7 +15,8 @@ use Rattle.el_model.specs.InSection.{buffered_hart, committed_hart, is_covered, 
 use Rattle.el_model.specs.Plain.{arming_hart, began_hart, may_elide, missed_hart, ran_hart}
 use Rattle.el_model.specs.RollBack.{rolled_back}
 use Rattle.el_model.specs.State.{Armed, Hart, ModelState, Section, Turn, armed_of, cache_of, has_request, hart_of, section_of, with_hart}
-use Rattle.el_model.specs.Upcoming.{Swap, Touch, calls_or_stops, changes_word, is_release, next_conditional, next_reserved, next_swap, next_touch, stores_to_word}
+use Rattle.el_model.specs.Upcoming.{Swap, Touch, calls_or_stops, changes_word, is_release, next_conditional, next_reserved, next_swap, next_touch}
+use Rattle.el_model.specs.Upcoming.{stores_to_word}
 use Rattle.moesi.specs.Letters.{may_of, may_read}
 use Rattle.rv_alu.specs.declared.view.HartStatus.TheVariants.{Running}
 use Rattle.rv_flat.specs.FlatState.{FlatState, status_of, view_of}

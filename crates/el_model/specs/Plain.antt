@@ -12,7 +12,8 @@ use Rattle.el_base.specs.declared.outcomes.Outcome.TheVariants as outcomes
 use Rattle.el_model.specs.Attempts.{open_attempt}
 use Rattle.el_model.specs.Conflicts.{is_wanted_to_write}
 use Rattle.el_model.specs.State.{Armed, Hart, ModelState, Turn, cache_of, hart_of, with_hart}
-use Rattle.el_model.specs.Upcoming.{Swap, Touch, calls_or_stops, changes_word, is_load_reserved, is_release, is_store_conditional, next_exchange, next_reserved, next_swap, next_touch, stores_to_word}
+use Rattle.el_model.specs.Upcoming.{Swap, Touch, calls_or_stops, changes_word, is_load_reserved, is_release, is_store_conditional, next_exchange}
+use Rattle.el_model.specs.Upcoming.{next_reserved, next_swap, next_touch, stores_to_word}
 use Rattle.moesi.specs.Letters.{may_of, may_read}
 use Rattle.moesi.specs.declared.letter.Letter.TheVariants.{M}
 use Rattle.pair_table.specs.Predictor.{Predictor, Watch, confidence_of, saw_of, unwatched, watching}

@@ -1,5 +1,6 @@
 -- What a file without a fault is known to have.
-use Rattle.std.proofs.Common.{◌≡◌, ◌≤◌, ◌<◌, ℕ, ◌+◌, ◌*◌, ◌^◌, min, max, Bool, true, false, ◌&&◌, not, nat_lt, List, [], ◌∷◌, length, map, refl, arith, ltb-true, ltb-false}
+use Rattle.std.proofs.Common.{◌≡◌, ◌≤◌, ◌<◌, ℕ, ◌+◌, ◌*◌, ◌^◌, min, max, Bool, true, false, ◌&&◌, not, nat_lt, List, [], ◌∷◌, length, map, refl}
+use Rattle.std.proofs.Common.{arith, ltb-true, ltb-false}
 use Rattle.std.specs.Prelude.{Option, Some, None, All, fold, option_map}
 use Rattle.std.specs.Option.{option_or}
 use Rattle.std.proofs.lemmas.Bool.{not-false}
@@ -16,7 +17,9 @@ use Rattle.elf_image.specs.Header.{file_header, program_headers}
 use Rattle.elf_image.specs.Limits.{end_limit, header_limit, memory_limit, stack_size}
 use Rattle.elf_image.specs.Layout.{is_segment, segment_end, segments_of, first_overlap, memory_base, memory_end, layout_of, size_of}
 use Rattle.elf_image.specs.FaultKinds.{fault_of}
-use Rattle.elf_image.specs.Faults.{fault, ident_fault, header_fault, headers_fault, memory_fault, differs, header_version_fault, file_kind_fault, machine_fault, flags_fault, table_fault, dynamic_fault, load_fault, segments_fault, overlap_fault, too_wide_fault, too_high_fault, entry_fault, empty_fault, has_segment, is_entry}
+use Rattle.elf_image.specs.Faults.{fault, ident_fault, header_fault, headers_fault, memory_fault, differs, header_version_fault, file_kind_fault}
+use Rattle.elf_image.specs.Faults.{machine_fault, flags_fault, table_fault, dynamic_fault, load_fault, segments_fault, overlap_fault, too_wide_fault}
+use Rattle.elf_image.specs.Faults.{too_high_fault, entry_fault, empty_fault, has_segment, is_entry}
 use Rattle.elf_image.specs.Loaded.{Fits, IsLoadable}
 
 -- Parts of what is none

@@ -6,7 +6,8 @@ use Rattle.byteorder.specs.Endian.{big_bytes}
 use Rattle.el_base.specs.declared.file_fault.FileFault.{FileFault}
 use Rattle.elf_image.specs.declared.limits.TheConstants as code
 use Rattle.elf_image.specs.declared.program_header.ProgramHeader.{ProgramHeader}
-use Rattle.elf_image.specs.declared.fault.FaultKind.TheVariants.{Short, Magic, Class, ByteOrder, Version, FileKind, Machine, Flags, Table, Dynamic, Segment, TooHigh, Entry, Empty}
+use Rattle.elf_image.specs.declared.fault.FaultKind.TheVariants.{Short, Magic, Class, ByteOrder, Version, FileKind, Machine, Flags, Table, Dynamic}
+use Rattle.elf_image.specs.declared.fault.FaultKind.TheVariants.{Segment, TooHigh, Entry, Empty}
 use Rattle.elf_image.specs.Header.{file_header, program_header, headers_at, program_headers}
 use Rattle.elf_image.specs.Layout.{segments_of, first_overlap, memory_base, memory_end}
 use Rattle.elf_image.specs.FaultKinds.{fault_of}

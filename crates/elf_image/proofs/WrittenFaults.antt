@@ -7,7 +7,8 @@ use Rattle.std.proofs.lemmas.List.{length-append}
 use Rattle.elf_image.specs.declared.built.Built.{Built}
 use Rattle.elf_image.specs.declared.layout.Layout.{Layout}
 use Rattle.elf_image.specs.Built.{IsBuildable, words_len, data_len, words_end, data_start, data_end, built_header, words_header, data_header, image_file}
-use Rattle.elf_image.specs.Faults.{IsFaultless, fault, magic_fault, class_fault, byte_order_fault, ident_version_fault, ident_fault, header_fault, headers_fault, memory_fault}
+use Rattle.elf_image.specs.Faults.{IsFaultless, fault, magic_fault, class_fault, byte_order_fault, ident_version_fault, ident_fault, header_fault}
+use Rattle.elf_image.specs.Faults.{headers_fault, memory_fault}
 use Rattle.elf_image.specs.Header.{file_header_bytes, program_header_bytes}
 use Rattle.elf_image.specs.Layout.{round_up, memory_base, memory_end, layout_of, size_of}
 use Rattle.elf_image.specs.Limits.{end_limit, line_size, memory_limit, stack_size}

@@ -1,5 +1,6 @@
 -- The program that a written image loads is the one that was built.
-use Rattle.std.proofs.Common.{◌≡◌, ◌≤◌, ◌<◌, ℕ, ◌+◌, ◌-◌, ◌*◌, Bool, true, false, cond, ◌&&◌, nat_le, nat_lt, List, [], ◌∷◌, ◌++◌, length, get_or, slice_index, slice_range, inl, inr, refl, sym, ◌∙◌, ap, arith}
+use Rattle.std.proofs.Common.{◌≡◌, ◌≤◌, ◌<◌, ℕ, ◌+◌, ◌-◌, ◌*◌, Bool, true, false, cond, ◌&&◌, nat_le, nat_lt, List, [], ◌∷◌, ◌++◌, length, get_or}
+use Rattle.std.proofs.Common.{slice_index, slice_range, inl, inr, refl, sym, ◌∙◌, ap, arith}
 use Rattle.std.specs.Prelude.{None, Some, replicate}
 use Rattle.std.specs.Option.{option_map_or}
 use Rattle.std.proofs.lemmas.Bool.{cases_lt, le-leb}
@@ -8,7 +9,8 @@ use Rattle.std.proofs.lemmas.List.{places, append_assoc, length-append, get_or-a
 use Rattle.std.proofs.lemmas.List.Edits.{length-between, get_or-between}
 use Rattle.elf_image.specs.declared.built.Built.{Built}
 use Rattle.elf_image.specs.declared.program_header.ProgramHeader.{ProgramHeader}
-use Rattle.elf_image.specs.Built.{IsBuildable, words_len, words_end, data_start, data_end, built_header, words_header, data_header, image_file, built_memory, built_program}
+use Rattle.elf_image.specs.Built.{IsBuildable, words_len, words_end, data_start, data_end, built_header, words_header, data_header, image_file}
+use Rattle.elf_image.specs.Built.{built_memory, built_program}
 use Rattle.elf_image.specs.Header.{file_header_bytes, program_header_bytes}
 use Rattle.elf_image.specs.Layout.{round_up, layout_of, size_of}
 use Rattle.elf_image.specs.Limits.{line_size, stack_size}

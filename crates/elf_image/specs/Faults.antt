@@ -1,10 +1,12 @@
 -- The grammar of images: the first of sixteen faults, or none. Above each fault stands what a file that does not
 -- have it keeps to.
-use Rattle.std.specs.Prelude.{◌≡◌, ◌≤◌, ℕ, ◌+◌, ◌*◌, ◌%◌, Bool, not, ◌&&◌, ◌==◌, nat_lt, nat_le, if◌then◌else◌, List, [], ◌∷◌, map, length, slice_index, Option, None, find, position, zip, option_map}
+use Rattle.std.specs.Prelude.{◌≡◌, ◌≤◌, ℕ, ◌+◌, ◌*◌, ◌%◌, Bool, not, ◌&&◌, ◌==◌, nat_lt, nat_le, if◌then◌else◌, List, [], ◌∷◌, map, length}
+use Rattle.std.specs.Prelude.{slice_index, Option, None, find, position, zip, option_map}
 use Rattle.std.specs.List.{list_any}
 use Rattle.el_base.specs.Firsts.{first_of, some_if}
 use Rattle.el_base.specs.declared.file_fault.FileFault.{FileFault}
-use Rattle.elf_image.specs.declared.fault.FaultKind.TheVariants.{Short, Magic, Class, ByteOrder, Version, FileKind, Machine, Flags, Table, Dynamic, Segment, Overlap, TooWide, TooHigh, Entry, Empty}
+use Rattle.elf_image.specs.declared.fault.FaultKind.TheVariants.{Short, Magic, Class, ByteOrder, Version, FileKind, Machine, Flags, Table, Dynamic}
+use Rattle.elf_image.specs.declared.fault.FaultKind.TheVariants.{Segment, Overlap, TooWide, TooHigh, Entry, Empty}
 use Rattle.elf_image.specs.declared.header.FileHeader.{FileHeader}
 use Rattle.elf_image.specs.declared.program_header.ProgramHeader.{ProgramHeader}
 use Rattle.elf_image.specs.declared.layout.Layout.{Layout}

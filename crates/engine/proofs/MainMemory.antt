@@ -1,5 +1,6 @@
 -- main memory after an event of the bus
-use Rattle.std.proofs.Common.{◌≡◌, ◌≢◌, ◌∙◌, ◌<◌, ◌-◌, ◌/◌, arith, ℕ, Bool, true, false, List, length, Option, None, Some, option_map, ap, refl, sym, if◌then◌else◌}
+use Rattle.std.proofs.Common.{◌≡◌, ◌≢◌, ◌∙◌, ◌<◌, ◌-◌, ◌/◌, arith, ℕ, Bool, true, false, List, length, Option, None, Some, option_map, ap, refl, sym}
+use Rattle.std.proofs.Common.{if◌then◌else◌}
 use Rattle.std.specs.Prelude.{slice_set}
 use Rattle.bus_order.specs.Order.{Request, request_of}
 use Rattle.residency.specs.Cache.{letter_in, letter_of, way_of}

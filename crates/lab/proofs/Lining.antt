@@ -1,5 +1,6 @@
 -- lines that are put behind others, and what an event tells of lines
-use Rattle.std.proofs.Common.{◌≡◌, ◌∙◌, ℕ, suc, ◌+◌, ◌<◌, ◌≤◌, ◌==◌, ◌||◌, nat_eq, Bool, true, false, cond, List, [], ◌∷◌, ◌++◌, Option, Some, None, length, take, get_or, refl, ap, subst, sym, arith, append-nil, append_assoc, eq-eqb}
+use Rattle.std.proofs.Common.{◌≡◌, ◌∙◌, ℕ, suc, ◌+◌, ◌<◌, ◌≤◌, ◌==◌, ◌||◌, nat_eq, Bool, true, false, cond, List, [], ◌∷◌, ◌++◌, Option, Some, None}
+use Rattle.std.proofs.Common.{length, take, get_or, refl, ap, subst, sym, arith, append-nil, append_assoc, eq-eqb}
 use Rattle.std.specs.Prelude.{filter_map}
 use Rattle.std.specs.Cmp.{IsEquivalence}
 use Rattle.cache_sets.specs.Slotted.{Slotted}

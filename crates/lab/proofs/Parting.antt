@@ -1,5 +1,6 @@
 -- sections parted by whether they give a lock back
-use Rattle.std.proofs.Common.{◌≡◌, ◌∙◌, ℕ, suc, ◌+◌, ◌<◌, ◌≤◌, nat_eq, nat_lt, Bool, true, false, cond, not, List, [], ◌∷◌, ◌++◌, Option, Some, None, length, take, get_or, filter, refl, ap, sym, subst, arith}
+use Rattle.std.proofs.Common.{◌≡◌, ◌∙◌, ℕ, suc, ◌+◌, ◌<◌, ◌≤◌, nat_eq, nat_lt, Bool, true, false, cond, not, List, [], ◌∷◌, ◌++◌, Option, Some, None}
+use Rattle.std.proofs.Common.{length, take, get_or, filter, refl, ap, sym, subst, arith}
 use Rattle.std.specs.Prelude.{sum_by}
 use Rattle.std.specs.HashMap.{get}
 use Rattle.std.specs.List.{prefix_len}

@@ -1,5 +1,6 @@
 -- the bars of more and more pieces
-use Rattle.std.proofs.Common.{◌≡◌, ◌∙◌, ◌==◌, ◌&&◌, ◌≢◌, ℕ, ◌+◌, ◌<◌, ◌≤◌, ◌^◌, Bool, true, false, cond, List, [], ◌∷◌, ◌++◌, get_or, length, refl, ap, set, sym, subst, arith, get_or-set_same, get_or-set_other, length-set, replicate, take}
+use Rattle.std.proofs.Common.{◌≡◌, ◌∙◌, ◌==◌, ◌&&◌, ◌≢◌, ℕ, ◌+◌, ◌<◌, ◌≤◌, ◌^◌, Bool, true, false, cond, List, [], ◌∷◌, ◌++◌, get_or, length, refl}
+use Rattle.std.proofs.Common.{ap, set, sym, subst, arith, get_or-set_same, get_or-set_other, length-set, replicate, take}
 use Rattle.std.specs.Prelude.{count_by, max, slice_index}
 use Rattle.std.proofs.lemmas.Bool.Decides.{nat_tests}
 use Rattle.std.proofs.lemmas.List.{get_or-replicate, length-replicate, length-take-le, take_more}

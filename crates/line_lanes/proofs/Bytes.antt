@@ -1,5 +1,6 @@
 -- The bytes of numbers that are chosen bit by bit.
-use Rattle.std.proofs.Common.{◌≡◌, ℕ, zero, suc, ◌+◌, ◌*◌, ◌/◌, ◌%◌, ◌^◌, ◌<◌, ◌==◌, if◌then◌else◌, Bool, true, false, bit_and, bit_xor, refl, ap, sym, ◌∙◌, lit<, arith}
+use Rattle.std.proofs.Common.{◌≡◌, ℕ, zero, suc, ◌+◌, ◌*◌, ◌/◌, ◌%◌, ◌^◌, ◌<◌, ◌==◌, if◌then◌else◌, Bool, true, false, bit_and, bit_xor, refl, ap}
+use Rattle.std.proofs.Common.{sym, ◌∙◌, lit<, arith}
 use Rattle.std.specs.Int.{bit_at, byte_at}
 use Rattle.std.specs.Int.Bits.{and_zero_r, xor_zero_r}
 use Rattle.std.proofs.Math.Nat.{pow-suc}

@@ -1,5 +1,6 @@
 -- Eight bytes that were put into a line, merged ones among them, and the bytes of a merged word.
-use Rattle.std.proofs.Common.{◌≡◌, ℕ, zero, suc, ◌+◌, ◌-◌, ◌/◌, ◌%◌, ◌^◌, ◌<◌, ◌≤◌, List, ◌++◌, drop, length, take, slice_index, ap, sym, subst, ◌∙◌, lit<, add-zero, arith}
+use Rattle.std.proofs.Common.{◌≡◌, ℕ, zero, suc, ◌+◌, ◌-◌, ◌/◌, ◌%◌, ◌^◌, ◌<◌, ◌≤◌, List, ◌++◌, drop, length, take, slice_index, ap, sym, subst, ◌∙◌}
+use Rattle.std.proofs.Common.{lit<, add-zero, arith}
 use Rattle.std.specs.Int.{bit_at, byte_at, bytes_low_first, to_le_bytes, w64}
 use Rattle.std.proofs.lemmas.Nat.{shr-shr}
 use Rattle.std.proofs.lemmas.Grind.{common_steps}

@@ -1,5 +1,6 @@
 -- how the fields of a pool show it, and what they keep
-use Rattle.std.specs.Prelude.{ℕ, true, ◌≡◌, ◌≤◌, ◌<◌, ◌++◌, ◌∷◌, [], nat_lt, if◌then◌else◌, List, Option, length, map, option_to_list, slice_index_or, slice_set, sum, take, vec_capacity}
+use Rattle.std.specs.Prelude.{ℕ, true, ◌≡◌, ◌≤◌, ◌<◌, ◌++◌, ◌∷◌, [], nat_lt, if◌then◌else◌, List, Option, length, map, option_to_list, slice_index_or}
+use Rattle.std.specs.Prelude.{slice_set, sum, take, vec_capacity}
 use Rattle.line_pool.specs.declared.share.Share as code
 use Rattle.line_pool.specs.declared.slot.Slot.{Slot}
 use Rattle.line_pool.specs.Pooled.{Pooled, Share, index_by, is_out_in, times_in}

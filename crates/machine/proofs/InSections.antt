@@ -1,5 +1,6 @@
 -- what holds of the live and armed sections of a machine
-use Rattle.std.proofs.Common.{◌≡◌, ◌∙◌, ℕ, ◌<◌, ◌==◌, length, Bool, true, false, List, [], ◌∷◌, map, Option, None, Some, is_some, if◌then◌else◌, refl, subst, sym, arith}
+use Rattle.std.proofs.Common.{◌≡◌, ◌∙◌, ℕ, ◌<◌, ◌==◌, length, Bool, true, false, List, [], ◌∷◌, map, Option, None, Some, is_some, if◌then◌else◌, refl}
+use Rattle.std.proofs.Common.{subst, sym, arith}
 use Rattle.std.specs.Prelude.{IsSome, find, option_map}
 use Rattle.chronicle.specs.Chronicle.{events}
 use Rattle.el_model.specs.State.{Armed, ModelState, Section, armed_of, cache_of, section_of}

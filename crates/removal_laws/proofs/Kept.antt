@@ -1,5 +1,6 @@
 -- which changes keep what is in mailboxes and sets, and what sections have to do with requests
-use Rattle.std.proofs.Common.{◌≡◌, ◌≢◌, ◌∙◌, ◌≤◌, ℕ, true, false, List, [], ◌∷◌, length, Option, None, Some, is_some, refl, ap, sym, inl, inr, ◌⊎◌, arith, subst}
+use Rattle.std.proofs.Common.{◌≡◌, ◌≢◌, ◌∙◌, ◌≤◌, ℕ, true, false, List, [], ◌∷◌, length, Option, None, Some, is_some, refl, ap, sym, inl, inr, ◌⊎◌}
+use Rattle.std.proofs.Common.{arith, subst}
 use Rattle.bus_order.specs.Order.{Request, first_of, queue_of, request_of}
 use Rattle.residency.specs.Cache.{has_bit}
 use Rattle.defer_list.specs.HartSet.{has}

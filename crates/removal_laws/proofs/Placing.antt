@@ -1,12 +1,14 @@
 -- what holds still holds after a request is ordered, with its marker and its face
-use Rattle.std.proofs.Common.{◌≡◌, ◌≢◌, ◌∙◌, ◌<◌, ◌++◌, ◌&&◌, ℕ, true, false, [], ◌∷◌, length, Option, None, Some, is_some, refl, ap, sym, inl, inr, ◌⊎◌, subst, if◌then◌else◌}
+use Rattle.std.proofs.Common.{◌≡◌, ◌≢◌, ◌∙◌, ◌<◌, ◌++◌, ◌&&◌, ℕ, true, false, [], ◌∷◌, length, Option, None, Some, is_some, refl, ap, sym, inl, inr}
+use Rattle.std.proofs.Common.{◌⊎◌, subst, if◌then◌else◌}
 use Rattle.std.specs.Option.{option_or}
 use Rattle.std.proofs.Math.ListN.{length-set}
 use Rattle.std.proofs.lemmas.Bool.{and_from, cases_eq}
 use Rattle.std.proofs.lemmas.Option.{same_Some}
 use Rattle.bus_order.specs.Order.{Request, appended, first_of, queue_of, request_of, tail_of}
 use Rattle.bus_order.proofs.Laws.LookUps.{first_of_appended_other, first_of_appended_own, first_of_in_front_of_other, first_of_in_front_of_own}
-use Rattle.bus_order.proofs.Laws.Queues.{hart_of_request_of, queue_of_appended_other, queue_of_appended_own, queue_of_in_front_of_other, queue_of_in_front_of_own, request_of_first_of, request_of_tail_of}
+use Rattle.bus_order.proofs.Laws.Queues.{hart_of_request_of, queue_of_appended_other, queue_of_appended_own, queue_of_in_front_of_other}
+use Rattle.bus_order.proofs.Laws.Queues.{queue_of_in_front_of_own, request_of_first_of, request_of_tail_of}
 use Rattle.residency.specs.Cache.{has_bit}
 use Rattle.el_base.specs.declared.config.Mode.{Mode}
 use Rattle.el_base.specs.declared.config.Mode.TheVariants.{Plain, Sle, Tlr}
@@ -29,7 +31,8 @@ use Rattle.removal_laws.proofs.Faced.{Facing, FirstOn, Other, all_let_go, met_fe
 use Rattle.removal_laws.proofs.Laws.Facing.{faced_retains}
 use Rattle.removal_laws.proofs.Grounds.{Grounds, Standing}
 use Rattle.removal_laws.proofs.Kept.{AllPosted, chained_kept, messages_moved, moved_by_post, retaining_posted}
-use Rattle.removal_laws.proofs.Ordering.{Ordering, base, base_below, base_messages, base_retaining, linked_still, mask, other_ordered, own_ordered, same_bits, same_count, waits_still}
+use Rattle.removal_laws.proofs.Ordering.{Ordering, base, base_below, base_messages, base_retaining, linked_still, mask, other_ordered, own_ordered}
+use Rattle.removal_laws.proofs.Ordering.{same_bits, same_count, waits_still}
 use Rattle.removal_laws.proofs.Posting.{Posted, is_marked, marked, unchanged}
 use Rattle.removal_laws.proofs.Queues.{chained_before, chained_more, head_is, no_queue, tail_is}
 use Rattle.removal_laws.proofs.Requests.{raised_own}

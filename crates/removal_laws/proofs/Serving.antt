@@ -1,11 +1,13 @@
 -- what holds still holds after a request is served, with the face of the next head
-use Rattle.std.proofs.Common.{◌≡◌, ◌≢◌, ◌∙◌, ◌==◌, ℕ, Bool, true, false, List, [], ◌∷◌, length, Option, None, Some, is_some, refl, ap, sym, inl, inr, ◌⊎◌, arith, subst, if◌then◌else◌}
+use Rattle.std.proofs.Common.{◌≡◌, ◌≢◌, ◌∙◌, ◌==◌, ℕ, Bool, true, false, List, [], ◌∷◌, length, Option, None, Some, is_some, refl, ap, sym, inl, inr}
+use Rattle.std.proofs.Common.{◌⊎◌, arith, subst, if◌then◌else◌}
 use Rattle.std.proofs.lemmas.Bool.{cases_eq}
 use Rattle.std.proofs.lemmas.Option.{same_Some}
 use Rattle.bus_order.specs.Order.{IsOneEach, Request, first_of, queue_of, removed, request_of}
 use Rattle.bus_order.proofs.Laws.LookUps.{request_of_removed_other, request_of_removed_own}
 use Rattle.bus_order.proofs.Laws.Orders.{one_each_removed}
-use Rattle.bus_order.proofs.Laws.Queues.{first_of_removed_other, hart_of_request_of, queue_of_removed, queue_of_removed_other, queue_of_removed_own, request_of_first_of}
+use Rattle.bus_order.proofs.Laws.Queues.{first_of_removed_other, hart_of_request_of, queue_of_removed, queue_of_removed_other, queue_of_removed_own}
+use Rattle.bus_order.proofs.Laws.Queues.{request_of_first_of}
 use Rattle.residency.specs.Cache.{has_bit}
 use Rattle.el_base.specs.declared.outcomes.Why.TheVariants.{Behind}
 use Rattle.el_base.proofs.Laws.Cases.{clash, some_none}

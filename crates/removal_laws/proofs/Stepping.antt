@@ -1,5 +1,6 @@
 -- what holds still holds after a step: it posts nothing, and a section that retains no line does not begin to
-use Rattle.std.proofs.Common.{◌≡◌, ◌≢◌, ◌∙◌, ◌≤◌, ◌+◌, ◌==◌, ◌&&◌, ◌||◌, ℕ, Bool, true, false, not, List, [], ◌∷◌, length, Option, None, Some, is_some, refl, ap, sym, inl, inr, ◌⊎◌, subst, if◌then◌else◌}
+use Rattle.std.proofs.Common.{◌≡◌, ◌≢◌, ◌∙◌, ◌≤◌, ◌+◌, ◌==◌, ◌&&◌, ◌||◌, ℕ, Bool, true, false, not, List, [], ◌∷◌, length, Option, None, Some}
+use Rattle.std.proofs.Common.{is_some, refl, ap, sym, inl, inr, ◌⊎◌, subst, if◌then◌else◌}
 use Rattle.std.proofs.Math.ListN.{length-set}
 use Rattle.std.proofs.lemmas.Bool.{cases_eq}
 use Rattle.std.proofs.lemmas.Option.{same_Some}
@@ -15,7 +16,8 @@ use Rattle.el_base.specs.declared.outcomes.Need.TheVariants.{Read, Write}
 use Rattle.el_base.proofs.Laws.Cases.{clash, some_none}
 use Rattle.el_base.proofs.Laws.Tests.{other_test, second_not}
 use Rattle.el_model.specs.Conflicts.{conflicts_with, is_asked, is_wanted, is_wanted_to_write, is_write, meets_bit}
-use Rattle.el_model.specs.Deed.{Arms, Begins, Buffers, Commits, Continues, Deed, DoesWhere, Elides, IsCoverable, LetsGo, MayElide, Misses, Rests, RollsBack, Runs, Waits, done, hart_after, permits}
+use Rattle.el_model.specs.Deed.{Arms, Begins, Buffers, Commits, Continues, Deed, DoesWhere, Elides, IsCoverable, LetsGo, MayElide, Misses, Rests}
+use Rattle.el_model.specs.Deed.{RollsBack, Runs, Waits, done, hart_after, permits}
 use Rattle.el_model.specs.InSection.{covered, is_covered}
 use Rattle.el_model.specs.Next.{step_turn}
 use Rattle.el_model.specs.Plain.{after_candidate, candidate_of}

@@ -14,7 +14,8 @@ use Rattle.rv_alu.specs.declared.action.Action.{Action}
 use Rattle.rv_alu.specs.declared.action.Action.TheVariants.{Trap, Put, JumpAndLink, Go, Load, LoadReserved, Store, StoreConditional, Fail, Amo}
 use Rattle.rv_alu.specs.declared.span.Span.{Span}
 use Rattle.rv_alu.specs.declared.view.HartView.{HartView}
-use Rattle.rv_alu.specs.Cause.{breakpoint, illegal_instruction, instruction_access_fault, instruction_address_misaligned, load_access_fault, load_address_misaligned, store_access_fault, store_address_misaligned}
+use Rattle.rv_alu.specs.Cause.{breakpoint, illegal_instruction, instruction_access_fault, instruction_address_misaligned, load_access_fault}
+use Rattle.rv_alu.specs.Cause.{load_address_misaligned, store_access_fault, store_address_misaligned}
 use Rattle.rv_alu.specs.Operation.{alu_of, moved_of, plus, taken_of}
 use Rattle.rv_alu.specs.Regs.{get}
 use Rattle.rv_alu.specs.Span.{holds}

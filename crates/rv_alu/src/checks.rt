@@ -1,5 +1,6 @@
 ghost use Rattle.std.specs.Prelude.{◌≡◌, ◌≤◌};
-ghost use Rattle.rv_alu.specs.Action.{branch_of, checked_of, conditional_of, has_reserved_of, indirect_of, jump_of, load_of, load_size_of, next_pc_of, store_of, store_size_of, store_value_of, update_of};
+ghost use Rattle.rv_alu.specs.Action.{branch_of, checked_of, conditional_of, has_reserved_of, indirect_of, jump_of, load_of, load_size_of};
+ghost use Rattle.rv_alu.specs.Action.{next_pc_of, store_of, store_size_of, store_value_of, update_of};
 ghost use Rattle.rv_alu.specs.Execution.{touched};
 ghost use Rattle.rv_alu.specs.Footprint.{IsFootprint, access_of};
 

@@ -1,5 +1,6 @@
 ghost use Rattle.std.specs.Prelude.{◌≡◌, ◌*◌, ◌^◌, ◌<◌, pos, ◌*ℤ◌};
-ghost use Rattle.rv_alu.specs.Operation.{alu_of, amo_of, extend_of, moved_of, sign_extended_of, signed, signed_quotient_of, signed_remainder_of, taken_of, upper_word_of};
+ghost use Rattle.rv_alu.specs.Operation.{alu_of, amo_of, extend_of, moved_of, sign_extended_of, signed, signed_quotient_of, signed_remainder_of};
+ghost use Rattle.rv_alu.specs.Operation.{taken_of, upper_word_of};
 
 use rv_word::{Alu, AmoOp, LoadWidth, Test};
 

@@ -7,7 +7,8 @@ ghost use Rattle.elf_image.specs.Program.{Program};
 ghost use Rattle.rv_alu.specs.declared.view.HartStatus.TheVariants.{Running};
 ghost use Rattle.rv_alu.specs.Footprint.{IsNoCall};
 ghost use Rattle.rv_flat.specs.FlatState.{FlatState, span_of, start, status_of, view_of};
-ghost use Rattle.rv_flat.specs.Laws.{AreSameTo, DidTheSame, HasRegs, IsInOneLine, KeepsShape, MakesNoStoreConditional, Writes, footprint_of, next_insn, seen_after, with_output, with_reserved, written_line};
+ghost use Rattle.rv_flat.specs.Laws.{AreSameTo, DidTheSame, HasRegs, IsInOneLine, KeepsShape, MakesNoStoreConditional, Writes, footprint_of};
+ghost use Rattle.rv_flat.specs.Laws.{next_insn, seen_after, with_output, with_reserved, written_line};
 ghost use Rattle.rv_flat.specs.Run.{alone, run};
 ghost use Rattle.rv_flat.specs.Step.{flat};
 

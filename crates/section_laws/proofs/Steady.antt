@@ -1,10 +1,14 @@
 -- what a change of a cache may do to its ways without harm to other caches
-use Rattle.std.proofs.Common.{◌≡◌, ◌≢◌, ◌∙◌, ◌<◌, ℕ, Bool, true, false, List, [], ◌∷◌, length, Option, None, Some, option_map, refl, ap, sym, inl, inr, ◌⊎◌, arith}
+use Rattle.std.proofs.Common.{◌≡◌, ◌≢◌, ◌∙◌, ◌<◌, ℕ, Bool, true, false, List, [], ◌∷◌, length, Option, None, Some, option_map, refl, ap, sym, inl}
+use Rattle.std.proofs.Common.{inr, ◌⊎◌, arith}
 use Rattle.std.proofs.lemmas.Bool.{cases_eq}
 use Rattle.std.proofs.lemmas.Option.{same_Some}
-use Rattle.residency.specs.Cache.{cleared, committed, committed_way, evicted_by, filled_with, lettered, marked, set_number, set_of, touched, way_of, without_line}
+use Rattle.residency.specs.Cache.{cleared, committed, committed_way, evicted_by, filled_with, lettered, marked, set_number, set_of, touched, way_of}
+use Rattle.residency.specs.Cache.{without_line}
 use Rattle.residency.specs.Residency.{Way, filled_in, way_in, with_bit, with_letter, without_bits}
-use Rattle.residency.proofs.Laws.CacheLemmas.{set_of-with_set_other, way_of-cleared, way_of-committed, way_of-filled_with_evicted, way_of-filled_with_other, way_of-lettered_other, way_of-lettered_same, way_of-marked_other, way_of-marked_same, way_of-touched, way_of-without_line_other, way_of-without_line_same}
+use Rattle.residency.proofs.Laws.CacheLemmas.{set_of-with_set_other, way_of-cleared, way_of-committed, way_of-filled_with_evicted}
+use Rattle.residency.proofs.Laws.CacheLemmas.{way_of-filled_with_other, way_of-lettered_other, way_of-lettered_same, way_of-marked_other}
+use Rattle.residency.proofs.Laws.CacheLemmas.{way_of-marked_same, way_of-touched, way_of-without_line_other, way_of-without_line_same}
 use Rattle.el_base.specs.declared.outcomes.Need.{Need}
 use Rattle.el_base.proofs.Laws.Cases.{none_some}
 use Rattle.moesi.specs.Letters.{may_write}

@@ -1,5 +1,6 @@
 -- A row beside the history that it was counted from.
-use Rattle.std.proofs.Common.{◌≡◌, ℕ, ◌+◌, ◌<◌, ◌≤◌, ◌==◌, ◌&&◌, ◌||◌, Bool, true, false, cond, lit≤, List, [], ◌∷◌, ◌++◌, length, map, take, take_all, get_or, Option, None, Some, refl, ap, subst, sym, ◌∙◌, arith}
+use Rattle.std.proofs.Common.{◌≡◌, ℕ, ◌+◌, ◌<◌, ◌≤◌, ◌==◌, ◌&&◌, ◌||◌, Bool, true, false, cond, lit≤, List, [], ◌∷◌, ◌++◌, length, map, take}
+use Rattle.std.proofs.Common.{take_all, get_or, Option, None, Some, refl, ap, subst, sym, ◌∙◌, arith}
 use Rattle.std.specs.Prelude.{is_some, nat_lt, slice_get}
 use Rattle.std.specs.List.{range_with_len}
 use Rattle.std.proofs.lemmas.List.{ext_get_or, get_or-replicate}

@@ -5,7 +5,8 @@ use Rattle.command_line.specs.Words.{Job, Run, Replay, Look, Find, Check, Gen, R
 use Rattle.el_base.specs.Config.{config_fault}
 use Rattle.el_base.specs.declared.config.ConfigFault.{ConfigFault}
 use Rattle.el_io.specs.Shelf.{Contents, NamedCall}
-use Rattle.tool.specs.Causes.{Failures, FileRead, IsWithin, ListsOne, MayWrite, ReadFailed, calls_of, calls_under, certificate_read, image_read, read_call, reads_of, reads_under, run_writes, trace_read, writes_of, writes_to}
+use Rattle.tool.specs.Causes.{Failures, FileRead, IsWithin, ListsOne, MayWrite, ReadFailed, calls_of, calls_under, certificate_read, image_read}
+use Rattle.tool.specs.Causes.{read_call, reads_of, reads_under, run_writes, trace_read, writes_of, writes_to}
 use Rattle.tool.specs.Jobs.{besides_run}
 use Rattle.tool.specs.Answer.{Answer}
 use Rattle.tool.specs.Comes.{Told}

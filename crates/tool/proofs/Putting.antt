@@ -1,5 +1,6 @@
 -- What was put and written of an answer.
-use Rattle.std.proofs.Common.{◌≡◌, ℕ, List, [], ◌∷◌, ◌++◌, length, map, take, take_all, Bool, Option, None, Some, Result, Ok, Err, true, refl, ap, subst, sym, ◌∙◌, inl, inr, arith}
+use Rattle.std.proofs.Common.{◌≡◌, ℕ, List, [], ◌∷◌, ◌++◌, length, map, take, take_all, Bool, Option, None, Some, Result, Ok, Err, true, refl, ap}
+use Rattle.std.proofs.Common.{subst, sym, ◌∙◌, inl, inr, arith}
 use Rattle.std.specs.Result.{OnErr}
 use Rattle.std.proofs.lemmas.List.{map-append}
 use Rattle.el_io.specs.Shelf.{Contents, NamedCall}

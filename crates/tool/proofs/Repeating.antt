@@ -1,5 +1,6 @@
 -- A replay of the trace that a run wrote says what the run said.
-use Rattle.std.proofs.Common.{◌≡◌, ◌≢◌, ℕ, ◌+◌, ◌*◌, ◌/◌, ◌<◌, ◌≤◌, ◌-◌, false, nat_lt, List, [], ◌++◌, length, get_or, Option, None, Some, refl, ap, sym, subst, ◌∙◌, inl, inr, arith}
+use Rattle.std.proofs.Common.{◌≡◌, ◌≢◌, ℕ, ◌+◌, ◌*◌, ◌/◌, ◌<◌, ◌≤◌, ◌-◌, false, nat_lt, List, [], ◌++◌, length, get_or, Option, None, Some, refl, ap}
+use Rattle.std.proofs.Common.{sym, subst, ◌∙◌, inl, inr, arith}
 use Rattle.std.specs.Prelude.{All, Bool, true, not, if◌then◌else◌, slice_get}
 use Rattle.std.proofs.lemmas.List.Elements.{All-append}
 use Rattle.std.specs.Option.{option_map, option_map_or, option_or}
@@ -38,7 +39,8 @@ use Rattle.tool.specs.declared.status.Status.TheVariants.{Differs, Done, HartFai
 use Rattle.tool.specs.Ending.{all_succeeded, ending}
 use Rattle.el_model.specs.Next.{is_over}
 use Rattle.tool.specs.Answer.{Answer, Besides, WrittenFile, certified_by, ended, files_of, times_if, where_named, written_by}
-use Rattle.tool.specs.Jobs.{DriversMade, FollowAnswer, IsReplayed, MakesRun, RanAnswer, ReplayAnswer, RunAnswer, UnlessRefused, besides_replay, besides_run, first_story}
+use Rattle.tool.specs.Jobs.{DriversMade, FollowAnswer, IsReplayed, MakesRun, RanAnswer, ReplayAnswer, RunAnswer, UnlessRefused, besides_replay}
+use Rattle.tool.specs.Jobs.{besides_run, first_story}
 use Rattle.tool.specs.Laws.{SaysTheSame}
 use Rattle.tool.proofs.Files.{spelled_harts}
 use Rattle.step_back.proofs.Laws.Recording.{are_recordable}

@@ -1,5 +1,6 @@
 //! What a command puts and writes at its end.
-ghost use Rattle.std.specs.Prelude.{◌≡◌, ℕ, ◌<◌, ◌++◌, if◌then◌else◌, is_ok, true, false, List, [], ◌∷◌, Option, Some, IfOk, IfSome, MatchResult, OnErr, OnOk, string_bytes};
+ghost use Rattle.std.specs.Prelude.{◌≡◌, ℕ, ◌<◌, ◌++◌, if◌then◌else◌, is_ok, true, false, List, [], ◌∷◌, Option, Some, IfOk, IfSome, MatchResult};
+ghost use Rattle.std.specs.Prelude.{OnErr, OnOk, string_bytes};
 ghost use Rattle.std.specs.Option.{option_map};
 ghost use Rattle.el_io.specs.Sink.{TookAll, TookPart};
 ghost use Rattle.el_io.specs.Counts.{one_more};

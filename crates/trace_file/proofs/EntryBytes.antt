@@ -5,7 +5,8 @@ use Rattle.std.proofs.lemmas.List.{append-nil, drop-append-le, drop_all, length-
 use Rattle.std.proofs.lemmas.Option.{slice_get_within}
 use Rattle.el_base.specs.declared.entries.Entry.{Entry}
 use Rattle.el_base.specs.declared.outcomes.Outcome.{Outcome}
-use Rattle.el_base.specs.declared.outcomes.Outcome.TheVariants.{Idle, Stalled, Missed, Ran, Began, Buffered, Committed, RolledBack, Ordered, Served, Blocked, Delivered, Armed, LetGo}
+use Rattle.el_base.specs.declared.outcomes.Outcome.TheVariants.{Idle, Stalled, Missed, Ran, Began, Buffered, Committed, RolledBack, Ordered, Served}
+use Rattle.el_base.specs.declared.outcomes.Outcome.TheVariants.{Blocked, Delivered, Armed, LetGo}
 use Rattle.el_base.proofs.Laws.ListLaws.{take_next}
 use Rattle.trace_file.specs.Outcomes.{outcome_spelling}
 use Rattle.trace_file.specs.Spelling.{entry_bytes}

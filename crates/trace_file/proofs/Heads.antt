@@ -1,5 +1,6 @@
 -- A head without a fault is spelled by what stands in it.
-use Rattle.std.proofs.Common.{◌≡◌, ℕ, ◌+◌, ◌≤◌, ◌<◌, Bool, true, not, ◌==◌, ltb, List, [], ◌∷◌, ◌++◌, length, get_or, drop, zero, suc, Option, None, refl, sym, ap, ◌∙◌, arith}
+use Rattle.std.proofs.Common.{◌≡◌, ℕ, ◌+◌, ◌≤◌, ◌<◌, Bool, true, not, ◌==◌, ltb, List, [], ◌∷◌, ◌++◌, length, get_or, drop, zero, suc, Option, None}
+use Rattle.std.proofs.Common.{refl, sym, ap, ◌∙◌, arith}
 use Rattle.std.proofs.Math.Seq.{drop-cons}
 use Rattle.std.proofs.lemmas.Bool.{ltb-false, not-false}
 use Rattle.std.proofs.lemmas.List.{drop-drop, take-append-drop}

@@ -1,5 +1,6 @@
 -- A file without a fault is the spelling of what is read of it.
-use Rattle.std.proofs.Common.{◌≡◌, ◌≢◌, ℕ, ◌+◌, ◌≤◌, ◌<◌, Bool, true, false, not, ◌==◌, ltb, List, [], ◌∷◌, ◌++◌, length, map, get_or, take, drop, Option, Some, None, IsTrue, refl, sym, ap, ◌∙◌, arith}
+use Rattle.std.proofs.Common.{◌≡◌, ◌≢◌, ℕ, ◌+◌, ◌≤◌, ◌<◌, Bool, true, false, not, ◌==◌, ltb, List, [], ◌∷◌, ◌++◌, length, map, get_or, take, drop}
+use Rattle.std.proofs.Common.{Option, Some, None, IsTrue, refl, sym, ap, ◌∙◌, arith}
 use Rattle.std.specs.Prelude.{All}
 use Rattle.std.specs.Option.{option_map}
 use Rattle.std.proofs.lemmas.Bool.{ltb-false, not-false}
@@ -22,7 +23,8 @@ use Rattle.trace_file.specs.declared.fault.FaultKind.TheVariants.{Event as event
 use Rattle.trace_file.specs.Spelling.{head, spelling, event_byte, outcomes, IsTrace}
 use Rattle.trace_file.specs.FaultKinds.{fault_of}
 use Rattle.trace_file.specs.Fields.{is_event}
-use Rattle.trace_file.specs.Faults.{byte_fault, magic_fault, version_fault, settings_fault, number_fault, head_fault, config_at, is_mode, is_few, is_version, event_fault, end_fault, events_fault, entries_fault, body_fault, trace_fault}
+use Rattle.trace_file.specs.Faults.{byte_fault, magic_fault, version_fault, settings_fault, number_fault, head_fault, config_at, is_mode, is_few}
+use Rattle.trace_file.specs.Faults.{is_version, event_fault, end_fault, events_fault, entries_fault, body_fault, trace_fault}
 use Rattle.trace_file.specs.Reading.{entries_at, event_in, events_at, recorded_at}
 use Rattle.trace_file.proofs.EventBytes.{none_fails, all_taken}
 use Rattle.trace_file.proofs.EntryLaws.{entries_spelled, event_spelled}

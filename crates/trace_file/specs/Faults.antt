@@ -1,6 +1,7 @@
 -- The faults of a trace: the file is read from left to right, each field is judged as soon as it is
 -- whole, and the first fault is the answer.
-use Rattle.std.specs.Prelude.{ℕ, zero, suc, ◌+◌, Bool, not, ◌==◌, nat_lt, nat_le, if◌then◌else◌, List, [], ◌∷◌, length, take, drop, slice_index, Option, Some, None, position}
+use Rattle.std.specs.Prelude.{ℕ, zero, suc, ◌+◌, Bool, not, ◌==◌, nat_lt, nat_le, if◌then◌else◌, List, [], ◌∷◌, length, take, drop, slice_index}
+use Rattle.std.specs.Prelude.{Option, Some, None, position}
 use Rattle.std.specs.Option.{option_map, option_or}
 use Rattle.el_base.specs.Config.{allows, within}
 use Rattle.el_base.specs.Firsts.{first_of, some_if}

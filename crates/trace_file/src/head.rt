@@ -3,7 +3,8 @@
 ghost use Rattle.std.specs.Prelude.{◌≡◌, ◌≤◌, None, Some, length, slice_index, IfErr, IfOk, OnOk};
 ghost use Rattle.el_base.specs.Config.{IsInRange};
 ghost use Rattle.file_numbers.specs.Numbers.{number_at};
-ghost use Rattle.trace_file.specs.Faults.{byte_fault, config_at, head_fault, is_few, is_mode, magic_fault, mode_at, number_fault, settings_fault, version_fault};
+ghost use Rattle.trace_file.specs.Faults.{byte_fault, config_at, head_fault, is_few, is_mode, magic_fault, mode_at, number_fault, settings_fault};
+ghost use Rattle.trace_file.specs.Faults.{version_fault};
 
 use crate::fault::FaultKind;
 use crate::fields::{expect, reaches, setting_byte, setting_number};

@@ -1,6 +1,7 @@
 //! From bytes to a trace.
 
-ghost use Rattle.std.specs.Prelude.{◌≡◌, ◌≢◌, ℕ, List, ◌+◌, ◌<◌, ◌≤◌, Option, None, Some, Err, IsTrue, not, position, length, map, slice_index, take, drop, All, IfErr, IfNone, IfOk, OnOk};
+ghost use Rattle.std.specs.Prelude.{◌≡◌, ◌≢◌, ℕ, List, ◌+◌, ◌<◌, ◌≤◌, Option, None, Some, Err, IsTrue, not, position, length, map, slice_index, take};
+ghost use Rattle.std.specs.Prelude.{drop, All, IfErr, IfNone, IfOk, OnOk};
 ghost use Rattle.el_base.specs.HartId.{hart_id};
 ghost use Rattle.el_base.specs.declared.config.Config.{Config};
 ghost use Rattle.el_base.specs.declared.config.TheConstants.{MAX_STEPS};

@@ -18,7 +18,8 @@ use Rattle.write_hold.specs.Held.{laid, stored_at}
 use Rattle.write_hold.specs.Slotted.{IsLent, Slotted, lent}
 use Rattle.write_hold.proofs.Finds.{found_at_position}
 use Rattle.write_hold.proofs.Shown.{full, full_shown, shown_drained, shown_full, shown_put}
-use Rattle.write_hold.proofs.Slots.{entry-out, leaves-given_entry, leaves-stored, leaves-written_entry, lent-given, lent-stored, lent-written, out-counted, stay-taken, stay-written}
+use Rattle.write_hold.proofs.Slots.{entry-out, leaves-given_entry, leaves-stored, leaves-written_entry, lent-given, lent-stored, lent-written}
+use Rattle.write_hold.proofs.Slots.{out-counted, stay-taken, stay-written}
 use Rattle.write_hold.proofs.Steps.{finds_pushed, finds_removed, finds_set, found, is_of, stands_pushed, stands_removed, stands_set}
 
 module _ {limit owner room : ℕ} {entries : List code.Entry} {v : Slotted} (stands : HoldStands limit room entries) (is : hold_of limit owner entries ≡ v)

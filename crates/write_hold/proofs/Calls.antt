@@ -1,5 +1,6 @@
 -- A hold and its pool after each call.
-use Rattle.std.proofs.Common.{◌≡◌, ℕ, ◌+◌, ◌==◌, if◌then◌else◌, ◌&&◌, nat_le, nat_lt, Bool, true, false, List, length, slice_index, None, Some, bit_or, refl, ap, sym, subst, ◌∙◌, arith}
+use Rattle.std.proofs.Common.{◌≡◌, ℕ, ◌+◌, ◌==◌, if◌then◌else◌, ◌&&◌, nat_le, nat_lt, Bool, true, false, List, length, slice_index, None, Some}
+use Rattle.std.proofs.Common.{bit_or, refl, ap, sym, subst, ◌∙◌, arith}
 use Rattle.std.specs.Int.{bit_at}
 use Rattle.std.specs.Option.{unwrap_or}
 use Rattle.line_lanes.specs.Merged.{merged_byte, word_at}

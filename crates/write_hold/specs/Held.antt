@@ -1,5 +1,6 @@
 -- a hold: lines, each with the bytes that were stored in it
-use Rattle.std.specs.Prelude.{ℕ, ◌+◌, ◌-◌, ◌%◌, Bool, ◌==◌, ◌&&◌, ◌||◌, nat_le, nat_lt, if◌then◌else◌, List, find, length, slice_index, Option, None, Some, is_some, option_and_then, unwrap_or}
+use Rattle.std.specs.Prelude.{ℕ, ◌+◌, ◌-◌, ◌%◌, Bool, ◌==◌, ◌&&◌, ◌||◌, nat_le, nat_lt, if◌then◌else◌, List, find, length, slice_index, Option, None}
+use Rattle.std.specs.Prelude.{Some, is_some, option_and_then, unwrap_or}
 use Rattle.std.specs.Int.{bit_at}
 use Rattle.el_base.specs.Line.{line_number}
 use Rattle.el_base.specs.declared.line.TheConstants.{LINE_BYTES}

@@ -1,4 +1,5 @@
-ghost use Rattle.std.specs.Prelude.{◌≡◌, ◌≤◌, ◌<◌, ◌+◌, ◌==◌, ◌↔◌, ℕ, [], length, position, slice_index, true, vec_capacity, IfErr, IfOk, IfSome, IsErr, IsNone, OnOk};
+ghost use Rattle.std.specs.Prelude.{◌≡◌, ◌≤◌, ◌<◌, ◌+◌, ◌==◌, ◌↔◌, ℕ, [], length, position, slice_index, true, vec_capacity, IfErr, IfOk, IfSome};
+ghost use Rattle.std.specs.Prelude.{IsErr, IsNone, OnOk};
 ghost use Rattle.line_pool.specs.Others.{LeavesOthers};
 ghost use Rattle.line_pool.specs.Pooled.{Pooled};
 ghost use Rattle.rv_alu.specs.Loaded.{loaded};

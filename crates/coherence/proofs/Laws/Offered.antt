@@ -1,5 +1,6 @@
 -- Laws of caches that a pool lends, offered to the layers above: what is left of a pool, and a cache that is given back to it.
-use Rattle.std.proofs.Common.{◌≡◌, ◌≢◌, ◌∙◌, ◌≤◌, ◌<◌, ◌*◌, ℕ, zero, suc, zero-add, arith, if◌then◌else◌, List, [], ◌∷◌, length, map, replicate, slice_index, refl, ap, sym, subst, inl, inr}
+use Rattle.std.proofs.Common.{◌≡◌, ◌≢◌, ◌∙◌, ◌≤◌, ◌<◌, ◌*◌, ℕ, zero, suc, zero-add, arith, if◌then◌else◌, List, [], ◌∷◌, length, map, replicate}
+use Rattle.std.proofs.Common.{slice_index, refl, ap, sym, subst, inl, inr}
 use Rattle.std.specs.List.{range_with_len}
 use Rattle.std.specs.Prelude.{slice_set}
 use Rattle.std.proofs.lemmas.Bool.{cases_eq}

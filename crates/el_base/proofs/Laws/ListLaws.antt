@@ -1,5 +1,6 @@
 -- Look-ups, filters, places and counts of lists: what std's lemmas leave out.
-use Rattle.std.proofs.Common.{◌≡◌, ℕ, zero, suc, ◌+◌, ◌<◌, ◌≤◌, ◌==◌, nat_lt, Bool, true, false, not, cond, List, [], ◌∷◌, ◌++◌, length, map, reverse, take, drop, None, Some, refl, ap, sym, ◌∙◌, le_refl, arith}
+use Rattle.std.proofs.Common.{◌≡◌, ℕ, zero, suc, ◌+◌, ◌<◌, ◌≤◌, ◌==◌, nat_lt, Bool, true, false, not, cond, List, [], ◌∷◌, ◌++◌, length, map, reverse}
+use Rattle.std.proofs.Common.{take, drop, None, Some, refl, ap, sym, ◌∙◌, le_refl, arith}
 use Rattle.std.proofs.Common.{◌⊎◌, inl, inr, get_or}
 use Rattle.std.specs.List.{find, filter, list_any, count_by, prefix_len, position, position_or_len, slice_get, insert, remove}
 use Rattle.std.specs.List.{range_with_len}

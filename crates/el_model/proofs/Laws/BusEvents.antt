@@ -26,14 +26,18 @@ use Rattle.el_model.specs.BusEvent.{IsPassed, IsPosted, IsSent, IsToldOn, LosesI
 use Rattle.el_model.specs.BusEvent.{Starts, Takes, TellsOn, as_faced, as_met, faced_head, freed_in, having_taken, started}
 use Rattle.el_model.specs.Armed.{freed_by, freed_hart, is_freed, let_go, let_go_hart}
 use Rattle.el_model.specs.Conflicts.{conflicts_with, stamp_in}
-use Rattle.el_model.specs.Deliver.{after_probe, deliver_next, deliver_turn, delivered, forwarded, forwards_on, losers_by, loses_to_origin, nobody, one_lost, post_to, probe_losers, taken, told_of, told_on}
-use Rattle.el_model.specs.Face.{Fate, LosesTo, Stays, Unmet, after_fate, deferring, face_losers, faced, faced_hart, fate_at, freed_if, markers_for, met, met_if, met_losers_if, stays, winner_in, winning_stamp}
+use Rattle.el_model.specs.Deliver.{after_probe, deliver_next, deliver_turn, delivered, forwarded, forwards_on, losers_by, loses_to_origin, nobody}
+use Rattle.el_model.specs.Deliver.{one_lost, post_to, probe_losers, taken, told_of, told_on}
+use Rattle.el_model.specs.Face.{Fate, LosesTo, Stays, Unmet, after_fate, deferring, face_losers, faced, faced_hart, fate_at, freed_if, markers_for}
+use Rattle.el_model.specs.Face.{met, met_if, met_losers_if, stays, winner_in, winning_stamp}
 use Rattle.el_model.specs.Laws.{BusEventsAreToldOnce}
 use Rattle.el_model.specs.Next.{kind_turn, next, step_turn}
-use Rattle.el_model.specs.Order.{Alone, Behind, InFront, Place, before_face, freed_at, losers_at, marked_by, marked_from, marking, order_raised, order_turn, place_for, placed, placed_in_front, placed_last, unraised}
+use Rattle.el_model.specs.Order.{Alone, Behind, InFront, Place, before_face, freed_at, losers_at, marked_by, marked_from, marking, order_raised}
+use Rattle.el_model.specs.Order.{order_turn, place_for, placed, placed_in_front, placed_last, unraised}
 use Rattle.el_model.specs.RollBack.{beaten}
 use Rattle.el_model.specs.Serve.{Blocks, Free, Obstacle, obstacle_to, serve_ordered, serve_past, serve_turn, served}
-use Rattle.el_model.specs.State.{Hart, ModelState, Turn, count_up, each_hart, hart_of, head_of, idle, new_hart, ordered_of, ordered_on, post_all, raised_of, with_hart}
+use Rattle.el_model.specs.State.{Hart, ModelState, Turn, count_up, each_hart, hart_of, head_of, idle, new_hart, ordered_of, ordered_on, post_all}
+use Rattle.el_model.specs.State.{raised_of, with_hart}
 use Rattle.el_model.proofs.Laws.EachHart.{Each, each_after, each_but_below, each_with}
 use Rattle.el_model.proofs.Laws.Harts.{hart_of-each_hart, hart_of-each_hart_past, hart_of-past, hart_of-with_hart_other, hart_of-with_hart_same, with_hart_kept}
 use Rattle.el_model.proofs.Laws.Keeps.{Frame, Keeps, frame_let_go, frame_met, frame_of, frame_placed, frame_twice, keeps_all, keeps_before_face}

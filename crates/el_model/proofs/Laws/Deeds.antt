@@ -1,5 +1,6 @@
 -- a step is one deed of its hart, in the frame
-use Rattle.std.proofs.Common.{◌≡◌, ◌≢◌, ◌∙◌, ℕ, zero, suc, Bool, true, false, not, List, [], ◌∷◌, Option, None, Some, is_some, refl, ap, sym, inl, inr, if◌then◌else◌, ◌==◌, ◌&&◌}
+use Rattle.std.proofs.Common.{◌≡◌, ◌≢◌, ◌∙◌, ℕ, zero, suc, Bool, true, false, not, List, [], ◌∷◌, Option, None, Some, is_some, refl, ap, sym, inl}
+use Rattle.std.proofs.Common.{inr, if◌then◌else◌, ◌==◌, ◌&&◌}
 use Rattle.std.specs.Prelude.{◌⊎◌, slice_index_or, slice_set}
 use Rattle.std.proofs.lemmas.Option.{same_Some}
 use Rattle.std.proofs.lemmas.Bool.{and_parts, not-false, not-true}
@@ -13,14 +14,16 @@ use Rattle.el_model.specs.Armed as rules
 use Rattle.el_model.specs.Armed.{ArmedRule, armed_turn, by_armed_rule, completes, exchange_rule, is_quiet, may_grow, quiet_rule, shown_armed}
 use Rattle.el_model.specs.Conflicts.{is_wanted_to_write}
 use Rattle.el_model.specs.Deed as deeds
-use Rattle.el_model.specs.Deed.{GoesFurther, GoesOn, HasRoom, IsArmed, IsDeed, IsElidable, IsInside, IsOutside, IsReserving, IsShort, MustRollBack, WantsBit, is_open, is_refused, permits}
+use Rattle.el_model.specs.Deed.{GoesFurther, GoesOn, HasRoom, IsArmed, IsDeed, IsElidable, IsInside, IsOutside, IsReserving, IsShort, MustRollBack}
+use Rattle.el_model.specs.Deed.{WantsBit, is_open, is_refused, permits}
 use Rattle.el_model.specs.InSection as inside
 use Rattle.el_model.specs.InSection.{SectionRule, bit_rule, by_section_rule, is_covered, is_full, section_turn, shown_in}
 use Rattle.el_model.specs.Next.{going_turn, outside_turn, stalled, status_turn, step_turn}
 use Rattle.el_model.specs.Plain as outside
 use Rattle.el_model.specs.Plain.{PlainRule, by_plain_rule, elidable_reserve, elidable_swap, may_elide, plain_turn, reserve_rule, swap_rule}
 use Rattle.el_model.specs.State.{Armed, Hart, ModelState, Section, armed_of, cache_of, has_request, hart_of, idle, new_hart, section_of}
-use Rattle.el_model.specs.Upcoming.{Swap, Touch, calls_or_stops, changes_word, is_load_reserved, is_release, is_store_conditional, is_swap, next_conditional, next_reserved, next_swap, next_touch, stores_to_word}
+use Rattle.el_model.specs.Upcoming.{Swap, Touch, calls_or_stops, changes_word, is_load_reserved, is_release, is_store_conditional, is_swap}
+use Rattle.el_model.specs.Upcoming.{next_conditional, next_reserved, next_swap, next_touch, stores_to_word}
 use Rattle.el_model.proofs.Laws.Tests.{by_test}
 use Rattle.moesi.specs.Letters.{may_read}
 use Rattle.rv_alu.specs.declared.view.HartStatus.{HartStatus}

@@ -9,7 +9,8 @@ use Rattle.el_base.specs.Winners.{winner_over}
 use Rattle.el_base.specs.declared.events.Event.{Event}
 use Rattle.el_base.specs.declared.events.Kind.TheVariants as kinds
 use Rattle.el_base.proofs.Laws.Tests.{false_between}
-use Rattle.el_model.specs.BusEvent.{AtFace, AtProbe, Becomes, IsAbsent, IsBusEvent, IsLetGo, IsSent, LosesIt, LosesWhere, Nothing, Places, Sees, Serves, Start, Starts, StartsWhere, Takes}
+use Rattle.el_model.specs.BusEvent.{AtFace, AtProbe, Becomes, IsAbsent, IsBusEvent, IsLetGo, IsSent, LosesIt, LosesWhere, Nothing, Places, Sees}
+use Rattle.el_model.specs.BusEvent.{Serves, Start, Starts, StartsWhere, Takes}
 use Rattle.el_model.specs.BusEvent.{as_faced, faced_head, having_taken, started}
 use Rattle.el_model.specs.Conflicts.{conflicts_with, meets_bit}
 use Rattle.el_model.specs.Deliver.{loses_to_origin}

@@ -1,5 +1,6 @@
 -- what holds still holds after a message is delivered
-use Rattle.std.proofs.Common.{◌≡◌, ◌≢◌, ◌∙◌, ◌<◌, ◌==◌, ◌&&◌, ℕ, Bool, true, false, not, List, ◌∷◌, length, map, Option, None, Some, is_some, refl, ap, sym, inl, inr, ◌⊎◌, arith, subst, if◌then◌else◌}
+use Rattle.std.proofs.Common.{◌≡◌, ◌≢◌, ◌∙◌, ◌<◌, ◌==◌, ◌&&◌, ℕ, Bool, true, false, not, List, ◌∷◌, length, map, Option, None, Some, is_some, refl}
+use Rattle.std.proofs.Common.{ap, sym, inl, inr, ◌⊎◌, arith, subst, if◌then◌else◌}
 use Rattle.std.proofs.Math.ListN.{length-set}
 use Rattle.std.proofs.lemmas.Bool.{cases_eq, and_from}
 use Rattle.std.proofs.lemmas.Option.{same_Some}

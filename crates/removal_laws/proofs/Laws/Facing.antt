@@ -1,5 +1,6 @@
 -- a head is faced, in lock removal: what becomes of each section, and what may retain the line from then on
-use Rattle.std.proofs.Common.{◌≡◌, ◌∙◌, ◌<◌, ◌≤◌, ◌+◌, ◌==◌, ◌&&◌, ℕ, zero, suc, Bool, true, false, List, [], ◌∷◌, length, filter, Option, None, Some, is_some, refl, ap, sym, inl, inr, ◌⊎◌, arith, subst, if◌then◌else◌}
+use Rattle.std.proofs.Common.{◌≡◌, ◌∙◌, ◌<◌, ◌≤◌, ◌+◌, ◌==◌, ◌&&◌, ℕ, zero, suc, Bool, true, false, List, [], ◌∷◌, length, filter, Option, None, Some}
+use Rattle.std.proofs.Common.{is_some, refl, ap, sym, inl, inr, ◌⊎◌, arith, subst, if◌then◌else◌}
 use Rattle.std.specs.Prelude.{nat_lt}
 use Rattle.std.proofs.lemmas.Bool.{ltb-true, ltb-false}
 use Rattle.std.proofs.lemmas.Option.{same_Some}
@@ -10,7 +11,8 @@ use Rattle.el_base.proofs.Laws.Cases.{clash, some_none}
 use Rattle.el_base.proofs.Laws.Tests.{number_of_test, own_test}
 use Rattle.el_model.specs.Attempts.{see, seen_after}
 use Rattle.el_model.specs.Conflicts.{conflicts, conflicts_with, earlier, least_such, retains, stamp_in, told_winner, wins_over}
-use Rattle.el_model.specs.Face.{Fate, LosesTo, Stays, Unmet, after_fate, deferring, deferring_fate, faced, faced_hart, fate_at, fate_of, markers_for, stays, told_fate, winning_stamp}
+use Rattle.el_model.specs.Face.{Fate, LosesTo, Stays, Unmet, after_fate, deferring, deferring_fate, faced, faced_hart, fate_at, fate_of, markers_for}
+use Rattle.el_model.specs.Face.{stays, told_fate, winning_stamp}
 use Rattle.el_model.specs.RollBack.{beaten, out_of_section}
 use Rattle.el_model.specs.State.{Hart, ModelState, count_up, for_line, hart_of, head_of, numbers_of, ordered_of, ordered_on, post_all}
 use Rattle.el_model.proofs.Laws.Harts.{hart_of-each_hart, hart_of-each_hart_past, hart_of-past}

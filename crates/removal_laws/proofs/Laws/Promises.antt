@@ -20,7 +20,8 @@ use Rattle.el_model.proofs.Laws.BusEvents.{by_event}
 use Rattle.el_model.proofs.Laws.Orders.{head_line}
 use Rattle.el_model.proofs.Laws.Conflicts.{first_passes, none_first}
 use Rattle.removal_laws.specs.Facts.{Everywhere, Facts}
-use Rattle.removal_laws.specs.Laws.{HasLeast, HeadIsServed, IsLocked, LaterThanDeferredHeads, LaterThanWinners, LeastStampNeverLoses, LosesToEarlier, attempt_of, is_served}
+use Rattle.removal_laws.specs.Laws.{HasLeast, HeadIsServed, IsLocked, LaterThanDeferredHeads, LaterThanWinners, LeastStampNeverLoses, LosesToEarlier}
+use Rattle.removal_laws.specs.Laws.{attempt_of, is_served}
 use Rattle.removal_laws.proofs.Laws.Beating.{next_beats, same_attempts, step_names}
 use Rattle.removal_laws.proofs.Laws.Climbing.{least_stamp_is_not_retained}
 use Rattle.removal_laws.proofs.Laws.Clocks.{later_from}

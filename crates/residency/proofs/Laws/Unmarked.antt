@@ -4,7 +4,8 @@ use Rattle.std.specs.List.{list_any}
 use Rattle.std.specs.Prelude.{map, slice_index_or, slice_set}
 use Rattle.std.proofs.lemmas.Bool.{or_from}
 use Rattle.moesi.specs.declared.letter.Letter.{Letter}
-use Rattle.residency.specs.Residency.{Way, changed_in, dropped, evicted_in, filled_in, is_marked, left_in, to_front, touched_in, way_in, with_letter, without_bits}
+use Rattle.residency.specs.Residency.{Way, changed_in, dropped, evicted_in, filled_in, is_marked, left_in, to_front, touched_in, way_in, with_letter}
+use Rattle.residency.specs.Residency.{without_bits}
 use Rattle.residency.specs.Cache.{cleared, empty_cache, filled_with, has_marks, lettered, set_number, set_of, touched, without_line}
 use Rattle.el_base.proofs.Laws.Tests.{first_not, second_not}
 

@@ -1,12 +1,14 @@
 -- which changes of a cache keep the bits of a section, and a covered run is covered by more bits too
-use Rattle.std.proofs.Common.{◌≡◌, ◌≢◌, ◌∙◌, ◌==◌, ◌||◌, ℕ, zero, suc, Bool, true, false, List, [], ◌∷◌, Option, None, Some, is_some, refl, ap, sym, inl, inr, ◌⊎◌, if◌then◌else◌, option_map}
+use Rattle.std.proofs.Common.{◌≡◌, ◌≢◌, ◌∙◌, ◌==◌, ◌||◌, ℕ, zero, suc, Bool, true, false, List, [], ◌∷◌, Option, None, Some, is_some, refl, ap, sym}
+use Rattle.std.proofs.Common.{inl, inr, ◌⊎◌, if◌then◌else◌, option_map}
 use Rattle.std.specs.Prelude.{slice_index_or}
 use Rattle.std.specs.Option.{option_or}
 use Rattle.std.proofs.lemmas.Bool.{cases_eq, or_right}
 use Rattle.bus_order.specs.Order.{Request}
 use Rattle.residency.specs.Cache.{bit_in, evicted_by, filled_with, is_resident, lettered, marked, set_number, set_of, touched, way_of}
 use Rattle.residency.specs.Residency.{Way, filled_in, is_marked, victim_in, way_in, with_bit, with_letter}
-use Rattle.residency.proofs.Laws.CacheLemmas.{set_of-with_set_other, way_of-filled_with_other, way_of-lettered_other, way_of-lettered_same, way_of-marked_other, way_of-marked_same, way_of-touched, way_of-without_line_other}
+use Rattle.residency.proofs.Laws.CacheLemmas.{set_of-with_set_other, way_of-filled_with_other, way_of-lettered_other, way_of-lettered_same}
+use Rattle.residency.proofs.Laws.CacheLemmas.{way_of-marked_other, way_of-marked_same, way_of-touched, way_of-without_line_other}
 use Rattle.residency.proofs.Laws.ResidencyLemmas.{evicted_in-victim, victim_in-unmarked}
 use Rattle.el_base.specs.declared.outcomes.Need.{Need}
 use Rattle.el_base.specs.declared.outcomes.Need.TheVariants.{Read, Write}

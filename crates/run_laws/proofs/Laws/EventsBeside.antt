@@ -4,7 +4,8 @@ use Rattle.residency.specs.Cache.{bit_in, has_bit, letter_in, way_of, write_bit}
 use Rattle.residency.specs.Residency.{Way}
 use Rattle.el_base.specs.declared.outcomes.Need.TheVariants.{Read, Write}
 use Rattle.el_base.proofs.Laws.Cases.{not_both}
-use Rattle.el_model.specs.Deed.{Arms, Begins, Buffers, Commits, Continues, Deed, DoesWhere, Elides, IsPermitted, LetsGo, MayRun, Misses, Rests, RollsBack, Runs, Waits, committed_after}
+use Rattle.el_model.specs.Deed.{Arms, Begins, Buffers, Commits, Continues, Deed, DoesWhere, Elides, IsPermitted, LetsGo, MayRun, Misses, Rests}
+use Rattle.el_model.specs.Deed.{RollsBack, Runs, Waits, committed_after}
 use Rattle.el_model.specs.State.{Armed, Hart, ModelState, Section, cache_of}
 use Rattle.el_model.specs.Upcoming.{Touch}
 use Rattle.moesi.specs.Letters.{may_write}

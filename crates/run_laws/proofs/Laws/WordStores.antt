@@ -2,7 +2,8 @@
 use Rattle.std.proofs.Common.{◌≡◌, ◌∙◌, ℕ, ℤ, Bool, true, false, ◌||◌, Option, None, Some, refl, ap, sym, if◌then◌else◌, ◌==◌}
 use Rattle.std.specs.Prelude.{MatchOption}
 use Rattle.elf_image.specs.Program.{code_word}
-use Rattle.el_model.specs.Upcoming.{Swap, calls, calls_or_stops, gives_back, is_release, is_swap, is_word, is_word_store, next_access, next_execution, next_store, next_swap, stops, swap_of}
+use Rattle.el_model.specs.Upcoming.{Swap, calls, calls_or_stops, gives_back, is_release, is_swap, is_word, is_word_store, next_access, next_execution}
+use Rattle.el_model.specs.Upcoming.{next_store, next_swap, stops, swap_of}
 use Rattle.rv_alu.proofs.Laws.Executions.{amo-action, store-action}
 use Rattle.rv_alu.specs.Execution.{Execution, Goes, Stops, Store, insn_at, store_in}
 use Rattle.rv_alu.specs.Footprint.{IsNoWrite}

@@ -1,5 +1,6 @@
 -- the laws of a step
-use Rattle.std.proofs.Common.{◌≡◌, ◌≢◌, ◌≤◌, ◌<◌, ℕ, ◌+◌, ◌-◌, ◌%◌, List, [], ◌∷◌, ◌++◌, length, Option, None, Some, refl, arith, ◌*◌, zero-add, ap, sym, ◌∙◌, inl, inr, ◌⊎◌}
+use Rattle.std.proofs.Common.{◌≡◌, ◌≢◌, ◌≤◌, ◌<◌, ℕ, ◌+◌, ◌-◌, ◌%◌, List, [], ◌∷◌, ◌++◌, length, Option, None, Some, refl, arith, ◌*◌, zero-add, ap}
+use Rattle.std.proofs.Common.{sym, ◌∙◌, inl, inr, ◌⊎◌}
 use Rattle.std.specs.Prelude.{MatchOption, map, replicate, slice_index, slice_index_or, slice_set}
 use Rattle.std.proofs.lemmas.List.{append-nil, get_or-set_other, get_or-set_same, length-map, length-set, replicate-append-replicate}
 use Rattle.std.proofs.lemmas.Bool.{cases_eq}

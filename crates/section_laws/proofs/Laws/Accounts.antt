@@ -1,12 +1,14 @@
 -- each section that began has ended once, or is live
-use Rattle.std.proofs.Common.{◌≡◌, ◌≢◌, ◌∙◌, ◌+◌, ◌<◌, ◌==◌, ℕ, Bool, true, false, ◌&&◌, List, [], ◌∷◌, Option, None, Some, is_some, length, refl, ap, sym, inl, inr, ◌⊎◌, arith, if◌then◌else◌}
+use Rattle.std.proofs.Common.{◌≡◌, ◌≢◌, ◌∙◌, ◌+◌, ◌<◌, ◌==◌, ℕ, Bool, true, false, ◌&&◌, List, [], ◌∷◌, Option, None, Some, is_some, length, refl, ap}
+use Rattle.std.proofs.Common.{sym, inl, inr, ◌⊎◌, arith, if◌then◌else◌}
 use Rattle.std.proofs.lemmas.Bool.{cases_eq}
 use Rattle.el_base.specs.declared.config.Mode.{Mode}
 use Rattle.el_base.specs.declared.events.Event.{Event}
 use Rattle.el_base.specs.declared.outcomes.Outcome.{Outcome}
 use Rattle.el_base.specs.declared.outcomes.Outcome.TheVariants as outcomes
 use Rattle.el_model.specs.BusEvent.{IsBusEvent, IsOfBus}
-use Rattle.el_model.specs.Deed.{Arms, Begins, Buffers, Commits, Continues, Deed, DoesWhere, Elides, LetsGo, Misses, Rests, RollsBack, Runs, Waits, done, hart_after, outcome_of}
+use Rattle.el_model.specs.Deed.{Arms, Begins, Buffers, Commits, Continues, Deed, DoesWhere, Elides, LetsGo, Misses, Rests, RollsBack, Runs, Waits}
+use Rattle.el_model.specs.Deed.{done, hart_after, outcome_of}
 use Rattle.el_base.specs.Winners.{winner_over}
 use Rattle.el_base.proofs.Laws.Tests.{other_test, own_test}
 use Rattle.el_model.specs.Losses.{Standing, restored, standing_of}

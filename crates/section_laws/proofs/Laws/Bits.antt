@@ -1,10 +1,13 @@
 -- which sections meet a request, and how a change of a cache leaves no bit more
-use Rattle.std.proofs.Common.{◌≡◌, ◌≢◌, ◌∙◌, ◌≤◌, ◌==◌, ◌&&◌, ◌||◌, ℕ, Bool, true, false, not, List, [], ◌∷◌, Option, None, Some, is_some, option_map, refl, ap, sym, inl, inr, ◌⊎◌, arith}
+use Rattle.std.proofs.Common.{◌≡◌, ◌≢◌, ◌∙◌, ◌≤◌, ◌==◌, ◌&&◌, ◌||◌, ℕ, Bool, true, false, not, List, [], ◌∷◌, Option, None, Some, is_some, option_map}
+use Rattle.std.proofs.Common.{refl, ap, sym, inl, inr, ◌⊎◌, arith}
 use Rattle.std.proofs.lemmas.Bool.{and_from, cases_eq, or_left, or_right}
 use Rattle.bus_order.specs.Order.{Request}
 use Rattle.residency.specs.Cache.{bit_in, cleared, filled_with, has_bit, is_resident, letter_of, lettered, marked, touched, way_of, without_line}
 use Rattle.residency.specs.Residency.{Way, with_bit, with_letter, without_bits}
-use Rattle.residency.proofs.Laws.CacheLemmas.{way_of-cleared, way_of-filled_with_same, way_of-lettered_other, way_of-lettered_same, way_of-marked_other, way_of-marked_same, way_of-touched, way_of-without_line_other, way_of-without_line_same}
+use Rattle.residency.proofs.Laws.CacheLemmas.{way_of-cleared, way_of-filled_with_same, way_of-lettered_other, way_of-lettered_same}
+use Rattle.residency.proofs.Laws.CacheLemmas.{way_of-marked_other, way_of-marked_same, way_of-touched, way_of-without_line_other}
+use Rattle.residency.proofs.Laws.CacheLemmas.{way_of-without_line_same}
 use Rattle.el_base.specs.declared.outcomes.Need.{Need}
 use Rattle.el_base.specs.declared.outcomes.Need.TheVariants.{Read, Write}
 use Rattle.el_base.proofs.Laws.Tests.{first_of_both, other_test, own_test, second_of_both}

@@ -27,7 +27,8 @@ use Rattle.el_base.proofs.Laws.Cases.{none_some, some_none}
 use Rattle.elf_image.specs.Program.{Program}
 use Rattle.el_model.specs.BusEvent.{IsBusEvent, Nothing, Places, Serves, Start, StartsWhere, Takes, having_taken}
 use Rattle.el_model.specs.BusEvent.{order_after, order_at, started}
-use Rattle.el_model.specs.Deed.{Arms, Begins, Buffers, Commits, Continues, Deed, DoesWhere, Elides, HasRoom, IsCoverable, LetsGo, Misses, Rests, RollsBack, Runs, Waits, hart_after}
+use Rattle.el_model.specs.Deed.{Arms, Begins, Buffers, Commits, Continues, Deed, DoesWhere, Elides, HasRoom, IsCoverable, LetsGo, Misses, Rests}
+use Rattle.el_model.specs.Deed.{RollsBack, Runs, Waits, hart_after}
 use Rattle.el_model.specs.InSection.{is_full}
 use Rattle.el_model.specs.Next.{after, next, step_turn}
 use Rattle.el_model.specs.Plain.{after_candidate, candidate_of}

@@ -19,7 +19,8 @@ use Rattle.el_base.proofs.Laws.Tests.{number_of_test, other_test}
 use Rattle.elf_image.specs.Program.{Program}
 use Rattle.el_model.specs.BusEvent.{Becomes, IsBusEvent, Nothing, Places, Serves, Start, StartsWhere, Takes}
 use Rattle.el_model.specs.BusEvent.{having_taken, started}
-use Rattle.el_model.specs.Deed.{Arms, Begins, Buffers, Commits, Continues, Deed, DoesWhere, Elides, IsCoverable, IsPermitted, LetsGo, Misses, Rests, RollsBack, Runs, Waits, hart_after, is_refused, permits}
+use Rattle.el_model.specs.Deed.{Arms, Begins, Buffers, Commits, Continues, Deed, DoesWhere, Elides, IsCoverable, IsPermitted, LetsGo, Misses, Rests}
+use Rattle.el_model.specs.Deed.{RollsBack, Runs, Waits, hart_after, is_refused, permits}
 use Rattle.el_model.specs.InSection.{covered}
 use Rattle.el_model.specs.Next.{after, next, step_turn}
 use Rattle.el_model.specs.Plain.{after_access, after_touch, candidate_of}
@@ -46,7 +47,8 @@ use Rattle.section_laws.proofs.Laws.Moves.{Moves, moved, step_keeps, taken_keeps
 use Rattle.section_laws.proofs.Laws.Numbered.{Once, first_once, next_once}
 use Rattle.section_laws.proofs.OnlyInside as inside
 use Rattle.section_laws.proofs.Serving.{IsModified, own_owned, own_together, steady_others, steady_own, steady_owned, together_none, write_copy}
-use Rattle.section_laws.proofs.Steady.{IsSteady, Steady, same_way, steady_cleared, steady_committed, steady_lettered, steady_marked, steady_touched, together_kept, way_twice}
+use Rattle.section_laws.proofs.Steady.{IsSteady, Steady, same_way, steady_cleared, steady_committed, steady_lettered, steady_marked, steady_touched}
+use Rattle.section_laws.proofs.Steady.{together_kept, way_twice}
 
 -- harts of which each has only steady changes
 abbrev SteadySince : ModelState → ℕ → Hart → Type 0

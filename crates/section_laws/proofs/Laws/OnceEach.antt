@@ -2,7 +2,8 @@
 use Rattle.std.proofs.Common.{◌≡◌, ◌∙◌, ◌==◌, ℕ, zero, suc, Bool, true, false, List, [], ◌∷◌, Option, None, Some, is_some, map, refl, ap, if◌then◌else◌}
 use Rattle.std.specs.Prelude.{slice_index_or, slice_set}
 use Rattle.bus_order.specs.Order.{Request}
-use Rattle.residency.specs.Cache.{committed_way, empty_cache, filled_with, is_resident, lettered, marked, set_number, set_of, touched, way_of, with_set, without_line}
+use Rattle.residency.specs.Cache.{committed_way, empty_cache, filled_with, is_resident, lettered, marked, set_number, set_of, touched, way_of}
+use Rattle.residency.specs.Cache.{with_set, without_line}
 use Rattle.residency.specs.Residency.{Way, changed_in, dropped, evicted_in, left_in, to_front, touched_in, way_in, with_bit, with_letter, without_bits}
 use Rattle.residency.proofs.Laws.ResidencyLemmas.{way_in-dropped_same, way_in-line}
 use Rattle.residency.proofs.Laws.CacheLemmas.{line-with_bit}

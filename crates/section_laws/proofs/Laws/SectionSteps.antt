@@ -1,5 +1,6 @@
 -- how the steps of a section come out, and that none begins while its hart has the fallback flag
-use Rattle.std.proofs.Common.{◌≡◌, ◌≢◌, ◌∙◌, ◌≤◌, ◌<◌, ℕ, Bool, true, false, ◌&&◌, not, List, [], ◌∷◌, Option, None, Some, is_some, length, refl, ap, sym, subst, inl, inr, ◌⊎◌}
+use Rattle.std.proofs.Common.{◌≡◌, ◌≢◌, ◌∙◌, ◌≤◌, ◌<◌, ℕ, Bool, true, false, ◌&&◌, not, List, [], ◌∷◌, Option, None, Some, is_some, length, refl, ap}
+use Rattle.std.proofs.Common.{sym, subst, inl, inr, ◌⊎◌}
 use Rattle.std.specs.Prelude.{nat_le, nat_lt}
 use Rattle.std.proofs.lemmas.Bool.{cases_eq, ltb-true, ltb-false}
 use Rattle.bus_order.specs.Order.{Request}
@@ -10,7 +11,8 @@ use Rattle.el_base.specs.declared.events.Kind.TheVariants as kinds
 use Rattle.el_base.specs.declared.outcomes.Cause.{Cause}
 use Rattle.el_base.specs.declared.outcomes.Outcome.TheVariants as outcomes
 use Rattle.el_model.specs.BusEvent.{IsOfBus}
-use Rattle.el_model.specs.Deed.{Arms, Begins, Buffers, Commits, Continues, Deed, DoesWhere, Elides, LetsGo, Misses, Rests, RollsBack, Runs, Waits, done, hart_after, outcome_of}
+use Rattle.el_model.specs.Deed.{Arms, Begins, Buffers, Commits, Continues, Deed, DoesWhere, Elides, LetsGo, Misses, Rests, RollsBack, Runs, Waits}
+use Rattle.el_model.specs.Deed.{done, hart_after, outcome_of}
 use Rattle.el_model.specs.Next.{after, kind_turn, next, state_after, step_turn}
 use Rattle.el_model.specs.Plain.{after_candidate, candidate_of, elides, least_confidence, may_elide}
 use Rattle.el_model.specs.Serve.{with_claim}

@@ -17,7 +17,8 @@ use Rattle.elf_image.specs.Program.{Program}
 use Rattle.el_model.specs.Armed.{freed_by, freed_count, freed_hart, is_freed, let_go, let_go_hart}
 use Rattle.el_model.specs.BusEvent.{Becomes, IsBusEvent, Nothing, Places, Serves, Start, Takes, as_met, faced_head, freed_in, having_taken}
 use Rattle.el_model.specs.BusEvent.{started}
-use Rattle.el_model.specs.Deed.{Arms, Begins, Buffers, Commits, Continues, Deed, DoesWhere, Elides, LetsGo, Misses, Rests, RollsBack, Runs, Waits, hart_after, outcome_of}
+use Rattle.el_model.specs.Deed.{Arms, Begins, Buffers, Commits, Continues, Deed, DoesWhere, Elides, LetsGo, Misses, Rests, RollsBack, Runs, Waits}
+use Rattle.el_model.specs.Deed.{hart_after, outcome_of}
 use Rattle.el_model.specs.Face.{freed_if, met}
 use Rattle.el_model.specs.Next.{entries_from, next, state_after, step_turn}
 use Rattle.el_model.specs.Plain.{after_candidate, armed_count, candidate_of}

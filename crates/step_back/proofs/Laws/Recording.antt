@@ -6,7 +6,8 @@ use Rattle.el_base.proofs.Laws.Ranges.{at_most, ranges}
 use Rattle.el_base.specs.Config.{IsInRange}
 use Rattle.el_base.specs.declared.config.Config.{Config}
 use Rattle.el_base.specs.declared.outcomes.Outcome.{Outcome}
-use Rattle.el_base.specs.declared.outcomes.Outcome.TheVariants.{Idle, Stalled, Missed, Ran, Began, Buffered, Committed, RolledBack, Ordered, Served, Blocked, Delivered, Armed, LetGo}
+use Rattle.el_base.specs.declared.outcomes.Outcome.TheVariants.{Idle, Stalled, Missed, Ran, Began, Buffered, Committed, RolledBack, Ordered, Served}
+use Rattle.el_base.specs.declared.outcomes.Outcome.TheVariants.{Blocked, Delivered, Armed, LetGo}
 use Rattle.machine.specs.Recording.{CanBeRecorded}
 use Rattle.machine.specs.Story.{Story, history_of}
 use Rattle.trace_file.specs.Outcomes.{IsRecordable, most_committed}

@@ -1,5 +1,6 @@
 -- A trace that is spelled has no fault, and is read again.
-use Rattle.std.proofs.Common.{◌≡◌, ℕ, ◌+◌, ◌^◌, ◌≤◌, ◌<◌, Bool, true, false, not, ltb, List, [], ◌∷◌, ◌++◌, length, map, get_or, take, Option, Some, None, IsTrue, refl, sym, ap, ◌∙◌, inl, inr, arith}
+use Rattle.std.proofs.Common.{◌≡◌, ℕ, ◌+◌, ◌^◌, ◌≤◌, ◌<◌, Bool, true, false, not, ltb, List, [], ◌∷◌, ◌++◌, length, map, get_or, take, Option, Some}
+use Rattle.std.proofs.Common.{None, IsTrue, refl, sym, ap, ◌∙◌, inl, inr, arith}
 use Rattle.std.specs.Prelude.{All}
 use Rattle.std.specs.List.{position, position_or_len}
 use Rattle.std.proofs.lemmas.Bool.{cases_lt, le-ltb}
@@ -30,7 +31,8 @@ use Rattle.trace_file.specs.Spelling.{head, spelling, event_byte, outcomes, reco
 use Rattle.trace_file.specs.FaultKinds.{fault_of}
 use Rattle.trace_file.specs.Fields.{is_event}
 use Rattle.file_numbers.specs.Numbers.{number_at}
-use Rattle.trace_file.specs.Faults.{field, byte_fault, magic_fault, version_fault, settings_fault, number_fault, head_fault, mode_at, is_mode, is_few, is_version, event_fault, end_fault, events_fault, entries_fault, body_fault, trace_fault, config_at}
+use Rattle.trace_file.specs.Faults.{field, byte_fault, magic_fault, version_fault, settings_fault, number_fault, head_fault, mode_at, is_mode, is_few}
+use Rattle.trace_file.specs.Faults.{is_version, event_fault, end_fault, events_fault, entries_fault, body_fault, trace_fault, config_at}
 use Rattle.trace_file.specs.Reading.{entries_in, event_in, events_at, recorded_at}
 use Rattle.trace_file.proofs.EntryLaws.{entries_again, event_back, event_passes}
 

@@ -6,9 +6,8 @@ use Rattle.el_base.specs.declared.events.Event.{Event}
 use Rattle.el_base.proofs.Laws.ListLaws.{slice_get_push}
 use Rattle.el_model.specs.Next.{is_over, state_after}
 use Rattle.lab_run.specs.Drawn.{MakesDrawn}
-use Rattle.drive.proofs.Laws.Continued.{continued_more, left_of_continued, nothing_more, state_of_continued}
-use Rattle.drive.proofs.Laws.Continued.{going_more}
-use Rattle.drive.specs.Story.{Story, continued, left_of, state_of}
+use Rattle.machine.proofs.Laws.Continued.{continued_more, going_more, left_of_continued, nothing_more, state_of_continued}
+use Rattle.machine.specs.Story.{Story, continued, left_of, state_of}
 use Rattle.schedule.specs.Drawn.{IsDrawnAt}
 
 -- so many drawn events were made, and it may still go on

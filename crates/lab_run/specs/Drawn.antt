@@ -3,7 +3,7 @@ use Rattle.std.specs.Prelude.{ℕ, ◌≡◌, ◌<◌, ◌≤◌, ◌⊎◌, IsT
 use Rattle.el_base.specs.declared.events.Event.{Event}
 use Rattle.el_model.specs.Next.{is_over, state_after}
 use Rattle.el_model.specs.State.{ModelState}
-use Rattle.drive.specs.Story.{Story, continued, left_of, state_of}
+use Rattle.machine.specs.Story.{Story, continued, left_of, state_of}
 use Rattle.schedule.specs.Drawn.{IsDrawnAt}
 
 -- the events that a seed draws for so many harts, from a state on, with so many steps left: each is the one of its place, and they end at

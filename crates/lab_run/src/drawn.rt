@@ -2,9 +2,9 @@
 
 ghost use Rattle.std.specs.Prelude.{◌≡◌, ◌≤◌};
 ghost use Rattle.lab_run.specs.Drawn.{MakesDrawn};
-ghost use Rattle.drive.specs.Story.{left_of};
+ghost use Rattle.machine.specs.Story.{left_of};
 
-use drive::Machine;
+use machine::Machine;
 use schedule::drawn_at;
 
 /// Makes the events that a seed draws, from its first on, until every hart has stopped or no step is left.

@@ -1,10 +1,10 @@
 //! The events of a list.
 
 ghost use Rattle.std.specs.Prelude.{◌≡◌, ◌<◌, All, take};
-ghost use Rattle.drive.specs.Story.{continued, left_of};
+ghost use Rattle.machine.specs.Story.{continued, left_of};
 
-use drive::{Machine, follow};
 use el_base::Event;
+use machine::{Machine, follow};
 
 /// Makes the events of a list, in their order, as many of them as there are steps left.
 pub fn run_listed(machine: &mut Machine, events: &[Event])

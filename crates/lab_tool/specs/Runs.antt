@@ -14,7 +14,7 @@ use Rattle.lab_run.specs.Drawn.{MakesDrawn}
 use Rattle.lab_words.specs.declared.command.Schedule.{Schedule}
 use Rattle.lab_words.specs.declared.command.Schedule.TheVariants.{Random, Order}
 use Rattle.lab_words.specs.declared.command.Traced.{Traced}
-use Rattle.drive.specs.Story.{Story, continued, left_of, state_of}
+use Rattle.machine.specs.Story.{Story, continued, left_of, state_of}
 use Rattle.trace_file.specs.Spelling.{IsTrace, listed, spelling}
 use Rattle.lab_tool.specs.declared.files.Recorded.{Recorded}
 use Rattle.lab_tool.specs.declared.tables.Followed.{Followed}

@@ -1,7 +1,7 @@
 -- How the program ends.
 use Rattle.std.specs.Prelude.{ℕ, Bool, true, false}
 use Rattle.el_model.specs.Next.{is_over}
-use Rattle.drive.specs.Story.{Story, state_of}
+use Rattle.machine.specs.Story.{Story, state_of}
 use Rattle.lab_tool.specs.declared.refusal.Refusal.{Refusal}
 use Rattle.lab_tool.specs.declared.refusal.Refusal.TheVariants as refusals
 use Rattle.lab_tool.specs.declared.status.Status.{Status}

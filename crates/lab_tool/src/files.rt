@@ -5,18 +5,18 @@ ghost use Rattle.el_base.specs.Config.{IsInRange};
 ghost use Rattle.el_io.specs.Shelf.{Holds};
 ghost use Rattle.elf_image.specs.Limits.{file_limit};
 ghost use Rattle.elf_image.specs.Loaded.{program_of};
-ghost use Rattle.drive.specs.Story.{left_of};
+ghost use Rattle.machine.specs.Story.{left_of};
 ghost use Rattle.trace_file.specs.Spelling.{IsTrace, listed, spelling};
 ghost use Rattle.lab_tool.specs.Runs.{AreNamed, AreOfFiles};
 
 use crate::refusal::Refusal;
 use crate::stop::Stop;
-use drive::Machine;
 use el_base::FileFault;
 use el_io::{Shelf, ShelfFault, Sink, put_all};
 use elf_image::{IMAGE_FILE_LIMIT, Image, ImageFault, load};
 use elf_symbols::{Symbols, SymbolsFault, read_symbols};
 use lab_words::Traced;
+use machine::Machine;
 use std::alloc::Global;
 use trace_file::{MAX_FILE_BYTES, Trace, TraceFault, read_trace};
 

@@ -2,8 +2,8 @@
 
 use crate::refusal::Refusal;
 use crate::stop::Stop;
-use drive::Machine;
 use el_base::{Chronicled, Outcome};
+use machine::Machine;
 use trace_file::Trace;
 
 /// Refuses a run whose outcomes are not those that its trace records, where it records them.

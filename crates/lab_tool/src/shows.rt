@@ -2,18 +2,18 @@
 
 ghost use Rattle.std.specs.Prelude.{◌≡◌, ◌<◌, ◌≤◌, ◌∷◌, ◌||◌, [], All, IfSome, IsTrue, OnOk, length, take};
 ghost use Rattle.lab_text.specs.Items.{is_deed};
-ghost use Rattle.drive.specs.Story.{continued, left_of};
+ghost use Rattle.machine.specs.Story.{continued, left_of};
 
 use crate::files::{Recorded, read_recorded};
 use crate::recorded::check_outcomes;
 use crate::refusal::Refusal;
 use crate::stop::Stop;
-use drive::{Machine, follow};
 use el_base::Event;
 use el_io::{Shelf, Sink, put_all};
 use lab::{Shown, show};
 use lab_text::{Names, did_something, is_about, write_event, write_event_json, write_state};
 use lab_words::{Range, ShowCommand, Traced};
+use machine::{Machine, follow};
 use std::alloc::Global;
 use trace_file::Trace;
 

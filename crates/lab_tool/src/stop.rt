@@ -2,10 +2,10 @@
 
 use crate::refusal::Refusal;
 use crate::status::Status;
-use drive::{Machine, MakeFault};
 use el_base::{Kept, NoMemory};
 use el_io::{Failed, ShelfFault};
 use lab_words::WordsFault;
+use machine::{Machine, MakeFault};
 use std::alloc::{AllocError, AllocFailed};
 
 /// What stops a command.

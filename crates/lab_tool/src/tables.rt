@@ -3,14 +3,13 @@
 ghost use Rattle.std.specs.Prelude.{◌≡◌, ◌<◌, ◌≤◌, ◌+◌, ◌^◌, All, IfOk, [], length};
 ghost use Rattle.el_base.specs.declared.config.TheConstants.{MAX_STEPS};
 ghost use Rattle.el_io.specs.Shelf.{KeepsOthers};
-ghost use Rattle.drive.specs.Story.{left_of};
+ghost use Rattle.machine.specs.Story.{left_of};
 ghost use Rattle.lab_tool.specs.Runs.{IsFollowed};
 
 use crate::files::{Recorded, read_file, read_recorded, trace_of};
 use crate::recorded::check_outcomes;
 use crate::stop::Stop;
 use crate::waiting::put_waits;
-use drive::Machine;
 use el_base::{Chronicled, NoMemory};
 use el_io::{Shelf, Sink, put_all};
 use elf_symbols::Symbols;
@@ -18,6 +17,7 @@ use lab::{Fact, Parted, PlainSwap, part_releases, watch};
 use lab_page::{Run, write_page};
 use lab_tables::{LockKind, LockRow, line_rows, lock_rows, write_info, write_lines, write_locks};
 use lab_words::{Layout, Traced};
+use machine::Machine;
 use std::alloc::Global;
 use trace_file::MAX_FILE_BYTES;
 

@@ -1,12 +1,12 @@
 //! What the harts stand at that still run.
 
 use crate::stop::Stop;
-use drive::Machine;
 use el_base::{Chronicled, HartId};
 use el_io::{Sink, put_all};
 use elf_symbols::Symbols;
 use lab::{tabulate, wait_of};
 use lab_text::write_wait;
+use machine::Machine;
 use rv_alu::HartStatus;
 use std::alloc::Global;
 

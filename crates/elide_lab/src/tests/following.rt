@@ -4,11 +4,11 @@ mod reserves;
 
 use bus_order::Request;
 use chronicle::Tally;
-use drive::Machine;
 use el_base::{Cause, Config, Event, HartId, Kind, LineAddr, Mode, Need, Outcome};
 use elf_image::load;
 use lab::LineFact::{Lost, Missed, Owner, Served, WroteBack};
 use lab::*;
+use machine::Machine;
 use moesi::Letter;
 use section_ctl::Live;
 use std::alloc::Global;

@@ -1,7 +1,7 @@
-use drive::Machine;
 use el_base::{Chronicled, Config, Event, HartId, Kind, Mode};
 use elf_image::load;
 use lab_run::*;
+use machine::Machine;
 use std::alloc::Global;
 use std::process::Abort;
 use std::test::Fail;

@@ -2,7 +2,6 @@
 
 use bus_order::Request;
 use chronicle::History;
-use drive::Machine;
 use el_base::{
     Cause, Config, Entry, Event, Freed, HartId, Kind, LineAddr, Losers, Need, Outcome, Stamped, Why,
 };
@@ -12,6 +11,7 @@ use lab::{Letters, Shown, Sight, Wait, What, tabulate};
 use lab_text::{
     Item, Member, Names, Phrase, is_about, write_event, write_event_json, write_state, write_wait,
 };
+use machine::Machine;
 use mail::Message;
 use moesi::Letter;
 use rv_alu::{Action, HartStatus, HartView, Regs};

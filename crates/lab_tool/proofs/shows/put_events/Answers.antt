@@ -1,5 +1,5 @@
 use Rattle.lab_tool.proofs.shows.put_events.Goals as goal
-use Rattle.drive.proofs.Laws.Continued.{one_followed, one_left}
+use Rattle.machine.proofs.Laws.Continued.{one_followed, one_left}
 
 pub make-requires-clause-step_left : goal.make-requires-clause-step_left
 make-requires-clause-step_left g c =

@@ -1,5 +1,5 @@
 use Rattle.std.proofs.Common.{◌≡◌, take}
-use Rattle.drive.specs.Story.{continued}
+use Rattle.machine.specs.Story.{continued}
 use Rattle.lab_tool.proofs.shows.put_events.Given as goal
 
 abbrev pub invariant-loop-event : goal.invariant-loop-event
